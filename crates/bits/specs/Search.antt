@@ -1,0 +1,18 @@
+-- Tests over a run of numbers: whether all pass, and the lowest that fails.
+use mathlib.Core.Bool.{Bool, true, false, _&&_}
+use Prim.Native.Nat.{ℕ, zero, suc}
+use Rattle.bits.specs.Choice.{pick}
+
+-- whether every number below n passes the test
+abbrev pub every : (ℕ → Bool) → ℕ → Bool
+every test zero = true
+every test (suc n) = test n && every test n
+
+pub data Found : Type 0 where
+  at : ℕ → Found
+  none : Found
+
+-- the lowest of the n numbers from k on that fails the test
+unfoldable pub lowest : (ℕ → Bool) → ℕ → ℕ → Found
+lowest test k zero = none
+lowest test k (suc n) = pick (test k) (lowest test (suc k) n) (at k)

@@ -1,0 +1,29 @@
+-- The answer for any bytes: document 01's checks in order, then the table. `pages` in words: s is the list of the page bytes.
+use mathlib.Core.Bool.{Bool, not}
+use mathlib.Core.List.{List}
+use Prim.Native.Nat.{ℕ}
+use Rattle.pages.specs.Layout.{badLength, countsFit}
+use Rattle.results.specs.declared.Refusal.the-variants.{PagesLength, PageCount}
+use Rattle.results.specs.declared.Verdict.{Verdict}
+use Rattle.results.specs.Refusal.{andThen}
+use Rattle.results.specs.Checks.{demand, rowsVerdict}
+use Rattle.results.specs.Table.{tableFor}
+use Rattle.build.specs.declared.Built.{Built}
+use Rattle.build.specs.Rows.{rowsOf}
+
+-- 1, then 2
+unfoldable pub lengthVerdict : List ℕ → Verdict
+lengthVerdict s = demand (not (badLength s)) PagesLength
+
+unfoldable pub countsVerdict : List ℕ → Verdict
+countsVerdict s = demand (countsFit s) PageCount
+
+-- "Length and counts are lawful where neither 1 nor 2 applies"
+unfoldable pub lawfulVerdict : List ℕ → Verdict
+lawfulVerdict s = andThen (lengthVerdict s) (countsVerdict s)
+
+unfoldable pub verdictOf : Bool → List ℕ → Verdict
+verdictOf avic s = andThen (lawfulVerdict s) (rowsVerdict (rowsOf avic s))
+
+unfoldable pub answer : Bool → List ℕ → Built
+answer avic s = record { verdict = verdictOf avic s; table = tableFor (verdictOf avic s) (rowsOf avic s) }

@@ -1,0 +1,5 @@
+pub mod Masks
+pub mod Kept
+pub mod Place
+pub mod MasksLaws
+pub mod KeptLaws

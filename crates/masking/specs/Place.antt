@@ -1,0 +1,43 @@
+-- The 88 places by name. `KeptLaws` shows that each is the place that the table of kept leaves gives.
+use Prim.Native.Nat.{ℕ, _+_}
+
+abbrev pub vendorAndMaxFunction : ℕ
+vendorAndMaxFunction = 0
+
+abbrev pub versionAndFeatures : ℕ
+versionAndFeatures = 1
+
+abbrev pub monitorMwait : ℕ
+monitorMwait = 2
+
+abbrev pub extendedFeatures : ℕ
+extendedFeatures = 3
+
+-- B.0, the level of threads, and B.1, the level of cores
+abbrev pub threadLevel : ℕ
+threadLevel = 4
+
+abbrev pub coreLevel : ℕ
+coreLevel = 5
+
+-- D.k
+abbrev pub extendedState : ℕ → ℕ
+extendedState k = 6 + k
+
+abbrev pub extendedMaxFunction : ℕ
+extendedMaxFunction = 70
+
+abbrev pub extendedVersionAndFeatures : ℕ
+extendedVersionAndFeatures = 71
+
+abbrev pub extendedAddressSpaceSizes : ℕ
+extendedAddressSpaceSizes = 78
+
+abbrev pub extendedOptimizationIdentifiers : ℕ
+extendedOptimizationIdentifiers = 81
+
+abbrev pub processorTopologyDefinition : ℕ
+processorTopologyDefinition = 86
+
+abbrev pub extendedSevFeatures : ℕ
+extendedSevFeatures = 87

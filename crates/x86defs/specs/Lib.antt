@@ -1,0 +1,15 @@
+pub mod Functions
+pub mod Fields
+pub mod VersionAndFeaturesEcx
+pub mod VersionAndFeaturesEdx
+pub mod ExtendedFeatureSubleaf0Ebx
+pub mod ExtendedFeatureSubleaf0Ecx
+pub mod ExtendedFeatureSubleaf0Edx
+pub mod ExtendedStateEnumerationSubleaf0Eax
+pub mod ExtendedStateEnumerationSubleaf1Eax
+pub mod ExtendedStateEnumerationSubleaf1Ecx
+pub mod ExtendedVersionAndFeaturesEcx
+pub mod ExtendedVersionAndFeaturesEdx
+pub mod ExtendedAddressSpaceSizesEbx
+pub mod ExtendedOptimizationIdentifiersEax
+pub mod ExtendedSevFeaturesEax
