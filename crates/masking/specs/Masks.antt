@@ -87,10 +87,10 @@ unfolding signature
 extendedVersionAndFeatures =
     combine
     (result
-      signature
-      (fieldsMask (brand-id ∷ pkg-type ∷ []))
-      (maskOf ExtendedVersionAndFeaturesEcx.place ExtendedVersionAndFeaturesEcx.kept)
-      (maskOf ExtendedVersionAndFeaturesEdx.place ExtendedVersionAndFeaturesEdx.kept))
+    signature
+    (fieldsMask (brand-id ∷ pkg-type ∷ []))
+    (maskOf ExtendedVersionAndFeaturesEcx.place ExtendedVersionAndFeaturesEcx.kept)
+    (maskOf ExtendedVersionAndFeaturesEdx.place ExtendedVersionAndFeaturesEdx.kept))
     (result 0 0 0 (maskOf ExtendedVersionAndFeaturesEdx.place ExtendedVersionAndFeaturesEdx.keptBySnp))
 
 -- 80000008h: masking.rs, and snp.rs
@@ -99,10 +99,10 @@ extendedAddressSpaceSizes =
     combine
     (result (fieldsMask (physical-address-size ∷ virtual-address-size ∷ [])) 0 0 0)
     (result
-      0
-      (maskOf ExtendedAddressSpaceSizesEbx.place ExtendedAddressSpaceSizesEbx.kept)
-      (fieldsMask (nc ∷ apic-core-id-size ∷ []))
-      (fieldsMask (invlpgb-count-max ∷ rdpru-max-ecx ∷ [])))
+    0
+    (maskOf ExtendedAddressSpaceSizesEbx.place ExtendedAddressSpaceSizesEbx.kept)
+    (fieldsMask (nc ∷ apic-core-id-size ∷ []))
+    (fieldsMask (invlpgb-count-max ∷ rdpru-max-ecx ∷ [])))
 
 -- 8000000Ah
 unfoldable pub extendedSvm : Masks

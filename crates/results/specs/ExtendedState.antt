@@ -17,7 +17,7 @@ unfoldable pub xss : Rows → ℕ
 xss m =
     let eax : ℕ = m (Place.extendedState 1) .result .eax in
     pick (has (Subleaf1Eax.place Subleaf1Eax.ExtendedStateEnumerationSubleaf1Eax.xsave-c) eax
-      && has (Subleaf1Eax.place Subleaf1Eax.ExtendedStateEnumerationSubleaf1Eax.xsave-s) eax)
+    && has (Subleaf1Eax.place Subleaf1Eax.ExtendedStateEnumerationSubleaf1Eax.xsave-s) eax)
     (m (Place.extendedState 1) .result .ecx)
     0
 

@@ -33,13 +33,13 @@ unfoldable pub topologyOf : Inputs → Topology
 topologyOf i =
     pick (eqb (i .s) 0)
     (pick (eqb (i .mt) 0)
-      (pick (eqb (i .nc) 0 && leb (i .lps) 1) (threadsIn 1 (i .t)) (Inconsistent (Hyperthreading (i .s))))
-      (pick (eqb (i .lps) (i .nc + 1)) (threadsIn (i .lps) (i .t)) (Inconsistent (ProcessorCount (i .s)))))
+    (pick (eqb (i .nc) 0 && leb (i .lps) 1) (threadsIn 1 (i .t)) (Inconsistent (Hyperthreading (i .s))))
+    (pick (eqb (i .lps) (i .nc + 1)) (threadsIn (i .lps) (i .t)) (Inconsistent (ProcessorCount (i .s)))))
     (pick (ltb (i .s) 8)
-      (pick (leb (i .nc + 1) (2 ^ i .s) && eqb (i .lps) (2 ^ i .s))
-        (pick (eqb (i .mt) 1) (threadsIn (2 ^ i .s) (i .t)) (Inconsistent (Hyperthreading (i .s))))
-        (Inconsistent (ProcessorCount (i .s))))
-      (threadsIn (2 ^ i .s) (i .t)))
+    (pick (leb (i .nc + 1) (2 ^ i .s) && eqb (i .lps) (2 ^ i .s))
+    (pick (eqb (i .mt) 1) (threadsIn (2 ^ i .s) (i .t)) (Inconsistent (Hyperthreading (i .s))))
+    (Inconsistent (ProcessorCount (i .s))))
+    (threadsIn (2 ^ i .s) (i .t)))
 
 -- v, the number of processors, where the topology is consistent; else 0
 abbrev pub processors : Topology → ℕ
