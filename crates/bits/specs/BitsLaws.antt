@@ -1,6 +1,6 @@
 -- Laws of bits, of fields and of "at least".
 use mathlib.Core.Path.{_≡_, refl, sym, ap, _∙_, subst}
-use mathlib.Core.Bool.{Bool, true, false}
+use mathlib.Core.Bool.{Bool, true, false, _&&_}
 use Prim.Native.Nat.{ℕ, zero, suc, _+_, _-_, _*_, _/_, _%_, _^_, _≤_, _<_, min, max}
 use native.Mathlib.Nat.{le-refl, le-trans, le-of-eq, mod-lt, zero-lt-suc, zero-div}
 use native.Mathlib.Numerals.{add-one}
@@ -9,7 +9,7 @@ use lib.Arith.{bin-ind}
 use lib.Dec.{eqb}
 use lib.Pow.{shr-shr, mod-pow-add}
 use lib.Bits.{bitAnd, bitOr, and-shr, or-shr, and-step, or-step, and-zero-l, and-le-r, and-mask}
-use borrow.Author.Tests.{eq-eqb, eqb-true, eqb-false}
+use borrow.Author.Tests.{eq-eqb, ne-eqb, eqb-true, eqb-false}
 use Rattle.bits.specs.Choice.{pick}
 use Rattle.bits.specs.Bits.{bit, has, field, fieldMask, clear, clearUnless, Within}
 
@@ -67,6 +67,10 @@ has-not k n e = let h : bit k n ≡ 1 → ⊥ = eqb-false (bit k n) 1 e in omega
 pub bit-has : (k n : ℕ) → bit k n ≡ 1 → has k n ≡ true
 unfolding has
 bit-has k n e = eq-eqb (bit k n) 1 e
+
+pub bit-has-not : (k n : ℕ) → bit k n ≡ 0 → has k n ≡ false
+unfolding has
+bit-has-not k n e = ne-eqb (bit k n) 1 (λ f. omega arith)
 
 -- ---- fields, tied to shift and mask
 
@@ -142,6 +146,14 @@ clear-unless-within false m x = clear-within m x
 
 -- ---- and, by bits
 
+pub has-and : (k a b : ℕ) → has k (bitAnd a b) ≡ (has k a && has k b)
+has-and k a b = go (has k a) (has k b) refl refl
+  where
+    go : (p q : Bool) → has k a ≡ p → has k b ≡ q → has k (bitAnd a b) ≡ (p && q)
+    go true true e f = bit-has k _ (omega (arith, bit-and k a b, has-bit k a e, has-bit k b f))
+    go true false e f = bit-has-not k _ (omega (arith, bit-and k a b, has-not k b f))
+    go false q e f = bit-has-not k _ (omega (arith, bit-and k a b, has-not k a e))
+
 pub and-idem : (a : ℕ) → bitAnd a a ≡ a
 and-idem a = bits-ext _ _ (λ k. omega (arith, bit-and k a a))
 
@@ -157,3 +169,12 @@ and-both a b m =
 pub or-and : (a b m : ℕ) → bitOr (bitAnd a b) m ≡ bitAnd (bitOr a m) (bitOr b m)
 or-and a b m =
     bits-ext _ _ (λ k. omega (arith, bit-or k (bitAnd a b) m, bit-and k a b, bit-and k (bitOr a m) (bitOr b m), bit-or k a m, bit-or k b m))
+
+-- clearing, too, goes through an and
+pub clear-unless-and : (p q : Bool) (m x y : ℕ) → clearUnless (p && q) m (bitAnd x y) ≡ bitAnd (clearUnless p m x) (clearUnless q m y)
+unfolding clearUnless clear
+clear-unless-and true true m x y = refl
+clear-unless-and true false m x y = and-assoc x y (2 ^ 32 - 1 - m)
+clear-unless-and false true m x y =
+    bits-ext _ _ (λ k. omega (arith, bit-and k (bitAnd x y) (2 ^ 32 - 1 - m), bit-and k x y, bit-and k (bitAnd x (2 ^ 32 - 1 - m)) y, bit-and k x (2 ^ 32 - 1 - m)))
+clear-unless-and false false m x y = and-both x y (2 ^ 32 - 1 - m)

@@ -1,6 +1,6 @@
 -- Document 01, "Corners of mod.rs": what becomes of each row. A row's final value depends on its masked entry and on one record of what
 -- rows need from each other.
-use mathlib.Core.Bool.{Bool, _&&_}
+use mathlib.Core.Bool.{Bool, true, _&&_}
 use mathlib.Core.List.{List, [], _∷_}
 use Prim.Native.Nat.{ℕ, _-_}
 use lib.Dec.{eqb, ltb, leb}
@@ -46,33 +46,42 @@ ruleAt i =
     (pick (eqb i Place.extendedOptimizationIdentifiers) featureEax
     (pick (eqb i Place.extendedSevFeatures) featureEax untouched))))))
 
--- what rows need from each other
-pub record Settings : Type 0 where
+-- what decides over feature bits of other rows: the two state masks, and whether TSC_AUX is virtualised
+pub record Enabled : Type 0 where
   pub xfem : ℕ
   pub xss : ℕ
+  pub tscAux : Bool
+
+-- what rows need from each other
+pub record Settings : Type 0 where
+  pub enabled : Enabled
   pub saveArea : ℕ
   pub threads : CpuidResult
   pub cores : CpuidResult
-  pub tscAux : Bool
 
-unfoldable pub settings : Rows → Settings
-settings m = record {
+unfoldable pub enabledBy : Rows → Enabled
+enabledBy m = record {
   xfem = xfem m;
   xss = xss m;
-  saveArea = saveArea m (xfem m);
-  threads = threadLevel (inputsOf m .t);
-  cores = coreLevel (processors (topologyOf (inputsOf m)));
   tscAux = has (Sev.place Sev.ExtendedSevFeaturesEax.tsc-aux-virtualization) (m Place.extendedSevFeatures .result .eax);
 }
 
+unfoldable pub settings : Rows → Settings
+settings m = record {
+  enabled = enabledBy m;
+  saveArea = saveArea m (xfem m);
+  threads = threadLevel (inputsOf m .t);
+  cores = coreLevel (processors (topologyOf (inputsOf m)));
+}
+
 -- XFEM has bit 2; it has bits 2, 5, 6 and 7; XSS has bits 11 and 12 both
-abbrev pub hasYmm : Settings → Bool
+abbrev pub hasYmm : Enabled → Bool
 hasYmm c = has 2 (c .xfem)
 
-abbrev pub hasAvx512 : Settings → Bool
+abbrev pub hasAvx512 : Enabled → Bool
 hasAvx512 c = has 2 (c .xfem) && (has 5 (c .xfem) && (has 6 (c .xfem) && has 7 (c .xfem)))
 
-abbrev pub hasCet : Settings → Bool
+abbrev pub hasCet : Enabled → Bool
 hasCet c = has 11 (c .xss) && has 12 (c .xss)
 
 -- the clear masks, by named bits
@@ -131,21 +140,21 @@ unfoldable pub hypervisorPresent : ℕ
 hypervisorPresent = maskOf Version.place (Version.VersionAndFeaturesEcx.hypervisor-present ∷ [])
 
 -- the registers of each feature leaf, each a function of its masked value
-unfoldable pub versionEcx : Settings → ℕ → ℕ
+unfoldable pub versionEcx : Enabled → ℕ → ℕ
 versionEcx c x = bitOr (clearUnless (hasYmm c) ymmVersionEcx x) hypervisorPresent
 
-unfoldable pub featuresEbx : Settings → ℕ → ℕ
+unfoldable pub featuresEbx : Enabled → ℕ → ℕ
 featuresEbx c x = clearUnless (hasAvx512 c) avx512FeaturesEbx (clearUnless (hasYmm c) ymmFeaturesEbx x)
 
-unfoldable pub featuresEcx : Settings → ℕ → ℕ
+unfoldable pub featuresEcx : Enabled → ℕ → ℕ
 featuresEcx c x =
     clearUnless (c .tscAux) rdPid
     (clearUnless (hasAvx512 c) avx512FeaturesEcx (clearUnless (hasYmm c) ymmFeaturesEcx (clearUnless (hasCet c) cetSs x)))
 
-unfoldable pub featuresEdx : Settings → ℕ → ℕ
+unfoldable pub featuresEdx : Enabled → ℕ → ℕ
 featuresEdx c x = clearUnless (hasAvx512 c) avx512FeaturesEdx x
 
-unfoldable pub extendedVersionEdx : Settings → ℕ → ℕ
+unfoldable pub extendedVersionEdx : Enabled → ℕ → ℕ
 extendedVersionEdx c x = clearUnless (c .tscAux) rdtscp x
 
 -- without IBPB (bit 12) neither IBRS nor STIBP; BTC_NO is always set
@@ -153,20 +162,20 @@ unfoldable pub addressSizesEbx : ℕ → ℕ
 addressSizesEbx x = clearUnless (has (Sizes.place Sizes.ExtendedAddressSpaceSizesEbx.ibpb) x) ibrsAndStibp (bitOr x btcNo)
 
 -- "If XSS is 0, D.1.ECX and D.1.EDX become 0"
-unfoldable pub unlessNoXss : Settings → ℕ → ℕ
+unfoldable pub unlessNoXss : Enabled → ℕ → ℕ
 unlessNoXss c x = pick (eqb (c .xss) 0) 0 x
 
 -- the registers of a row under its rule
 abbrev pub finish : Settings → Rule → CpuidResult → CpuidResult
 finish c vendorAndMaxFunction r = result AmdMaximum vendorEbx vendorEcx vendorEdx
 finish c extendedMaxFunction r = result ExtendedAmdMaximum vendorEbx vendorEcx vendorEdx
-finish c versionAndFeatures r = result (r .eax) (r .ebx) (versionEcx c (r .ecx)) (r .edx)
-finish c extendedFeatures r = result (r .eax) (featuresEbx c (r .ebx)) (featuresEcx c (r .ecx)) (featuresEdx c (r .edx))
+finish c versionAndFeatures r = result (r .eax) (r .ebx) (versionEcx (c .enabled) (r .ecx)) (r .edx)
+finish c extendedFeatures r = result (r .eax) (featuresEbx (c .enabled) (r .ebx)) (featuresEcx (c .enabled) (r .ecx)) (featuresEdx (c .enabled) (r .edx))
 finish c threadLevelRow r = c .threads
 finish c coreLevelRow r = c .cores
 finish c extendedState0 r = result (r .eax) (r .ebx) (c .saveArea) (r .edx)
-finish c extendedState1 r = result (r .eax) (r .ebx) (unlessNoXss c (r .ecx)) (unlessNoXss c (r .edx))
-finish c extendedVersionAndFeatures r = result (r .eax) (r .ebx) (r .ecx) (extendedVersionEdx c (r .edx))
+finish c extendedState1 r = result (r .eax) (r .ebx) (unlessNoXss (c .enabled) (r .ecx)) (unlessNoXss (c .enabled) (r .edx))
+finish c extendedVersionAndFeatures r = result (r .eax) (r .ebx) (r .ecx) (extendedVersionEdx (c .enabled) (r .edx))
 finish c extendedAddressSpaceSizes r = result (r .eax) (addressSizesEbx (r .ebx)) (r .ecx) (r .edx)
 finish c featureEax r = r
 finish c untouched r = r
@@ -175,8 +184,8 @@ finish c (component k) r = r
 -- whether a row is in the table, from whether its entry was there: rows 0 and 80000000h always; "subleaves from 2 up without their bit
 -- are dropped"
 abbrev pub remains : Settings → Rule → Bool → Bool
-remains c vendorAndMaxFunction p = mathlib.Core.Bool.true
-remains c extendedMaxFunction p = mathlib.Core.Bool.true
+remains c vendorAndMaxFunction p = true
+remains c extendedMaxFunction p = true
 remains c versionAndFeatures p = p
 remains c extendedFeatures p = p
 remains c threadLevelRow p = p
@@ -187,7 +196,7 @@ remains c extendedVersionAndFeatures p = p
 remains c extendedAddressSpaceSizes p = p
 remains c featureEax p = p
 remains c untouched p = p
-remains c (component k) p = has k (bitOr (c .xfem) (c .xss)) && p
+remains c (component k) p = has k (bitOr (c .enabled .xfem) (c .enabled .xss)) && p
 
 -- a row of the table; one that is not there is all zeros
 abbrev pub finishRow : Settings → Rule → Row → Row

@@ -6,3 +6,5 @@ pub mod Topology
 pub mod Finish
 pub mod Checks
 pub mod Table
+pub mod Kinds
+pub mod FeatureLaws
