@@ -8,3 +8,6 @@ pub mod Checks
 pub mod Table
 pub mod Kinds
 pub mod FeatureLaws
+pub mod ExtendedStateLaws
+pub mod PlaceLaws
+pub mod ChecksLaws

@@ -1,0 +1,4 @@
+pub mod Rise
+pub mod RuleLaws
+pub mod RowsRise
+pub mod Proof
