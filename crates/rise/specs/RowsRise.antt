@@ -1,1 +1,251 @@
--- laws
+-- The rise, of masked first entries: from an accepted A and entries of B that compare with A's.
+use mathlib.Core.Path.{_≡_, refl, sym, ap, ap₂, _∙_, subst}
+use mathlib.Core.Bool.{Bool, true, false, _&&_}
+use mathlib.Core.Logic.{_⊎_, inl, inr}
+use Prim.Native.Nat.{ℕ, _+_, _≤_, _<_}
+use native.Mathlib.Omega.{arith}
+use lib.Dec.{eqb, lit<}
+use lib.Bits.{bitOr}
+use Rattle.bits.specs.Choice.{pick}
+use borrow.Author.Tests.{eqb-true}
+use Rattle.bits.specs.ChoiceLaws.{never-both, and-left, and-right, and-both, pick-true, if-holds}
+use Rattle.bits.specs.Search.{every}
+use Rattle.bits.specs.SearchLaws.{every-at}
+use Rattle.bits.specs.Bits.{bit, has, Within}
+use Rattle.bits.specs.BitsLaws.{has-mono, within-or}
+use Rattle.x86defs.specs.declared.CpuidResult.{CpuidResult}
+use Rattle.topology.specs.Topology.{Inputs, topologyOf}
+use Rattle.masking.specs.Kept.{places}
+use Rattle.masking.specs.Place
+use Rattle.results.specs.declared.Refusal.the-variants.{InvlpgbUnavailable}
+use Rattle.results.specs.declared.Verdict.{Verdict}
+use Rattle.results.specs.declared.Verdict.the-variants.{Accepted, Refused}
+use Rattle.results.specs.Refusal.{andThen}
+use Rattle.results.specs.Rows.{Row, Rows, row, vacant}
+use Rattle.results.specs.Required.{requiredCount, placeRequired}
+use Rattle.results.specs.ExtendedState.{xfem, xss, combinedMask, saveArea}
+use Rattle.results.specs.ExtendedStateLaws.{sumAt, area-mono, xss-mono, xsaves-ecx, in-combined}
+use Rattle.results.specs.Topology.{inputsOf}
+use Rattle.results.specs.Finish.{Rule, Settings, ruleAt, enabledBy, settings, finish, remains, finishRow, finished, unlessNoXss}
+use Rattle.results.specs.Finish.Rule.{vendorAndMaxFunction, versionAndFeatures, extendedFeatures, threadLevelRow, coreLevelRow, extendedState0, extendedState1, extendedMaxFunction, extendedVersionAndFeatures, extendedAddressSpaceSizes, featureEax, untouched, component}
+use Rattle.results.specs.Kinds.{EntryAtLeast, TableAtLeast, Registers, kindsOf, fromEntry}
+use Rattle.results.specs.Checks.{requiredVerdict, invlpgbVerdict, componentsVerdict, areaVerdict, topologyVerdict, topologyRefusal, rowsVerdict, demand}
+use Rattle.results.specs.ChecksLaws.{AllPass, all-pass, required-present, present-required, component-present, demanded, then-accepted, then-skips}
+use Rattle.results.specs.PlaceLaws.{always, always-from-entry, required-place, position, always-required, component-rule, Sort, sort}
+use Rattle.results.specs.PlaceLaws.Sort.{made, required, subleaf}
+use Rattle.rise.specs.Rise.{EntryRises}
+use Rattle.rise.specs.RuleLaws.{SettingsRise, XsavesRow, finish-rises, remains-rises}
+
+-- ---- which rows remain
+
+-- a row of the finished rows is there exactly where its rule lets it remain
+pub finished-present : (m : Rows) (i : ℕ) → finished m i .present ≡ remains (settings m) (ruleAt i) (m i .present)
+unfolding finished
+finished-present m i = go (remains (settings m) (ruleAt i) (m i .present))
+  where
+    go : (b : Bool) → pick b (row (finish (settings m) (ruleAt i) (m i .result))) vacant .present ≡ b
+    go true = refl
+    go false = refl
+
+pub finished-result : (m : Rows) (i : ℕ) → finished m i .present ≡ true → finished m i .result ≡ finish (settings m) (ruleAt i) (m i .result)
+unfolding finished
+finished-result m i e = go (remains (settings m) (ruleAt i) (m i .present)) e
+  where
+    go : (b : Bool) → pick b (row (finish (settings m) (ruleAt i) (m i .result))) vacant .present ≡ true
+        → pick b (row (finish (settings m) (ruleAt i) (m i .result))) vacant .result ≡ finish (settings m) (ruleAt i) (m i .result)
+    go true e = refl
+    go false e = absurd (never-both e refl)
+
+-- made here: always
+pub made-remains : (c : Settings) (t : Rule) (p : Bool) → fromEntry t ≡ false → remains c t p ≡ true
+made-remains c vendorAndMaxFunction p e = refl
+made-remains c extendedMaxFunction p e = refl
+made-remains c versionAndFeatures p e = absurd (never-both refl e)
+made-remains c extendedFeatures p e = absurd (never-both refl e)
+made-remains c threadLevelRow p e = absurd (never-both refl e)
+made-remains c coreLevelRow p e = absurd (never-both refl e)
+made-remains c extendedState0 p e = absurd (never-both refl e)
+made-remains c extendedState1 p e = absurd (never-both refl e)
+made-remains c extendedVersionAndFeatures p e = absurd (never-both refl e)
+made-remains c extendedAddressSpaceSizes p e = absurd (never-both refl e)
+made-remains c featureEax p e = absurd (never-both refl e)
+made-remains c untouched p e = absurd (never-both refl e)
+made-remains c (component k) p e = absurd (never-both refl e)
+
+-- the others that an accepted table always has: with their entry
+pub always-remains : (c : Settings) (t : Rule) (p : Bool) → always t ≡ true → p ≡ true → remains c t p ≡ true
+always-remains c vendorAndMaxFunction p e h = refl
+always-remains c extendedMaxFunction p e h = refl
+always-remains c versionAndFeatures p e h = h
+always-remains c extendedFeatures p e h = h
+always-remains c threadLevelRow p e h = h
+always-remains c coreLevelRow p e h = h
+always-remains c extendedState0 p e h = h
+always-remains c extendedState1 p e h = h
+always-remains c extendedVersionAndFeatures p e h = h
+always-remains c extendedAddressSpaceSizes p e h = h
+always-remains c featureEax p e h = h
+always-remains c untouched p e h = h
+always-remains c (component k) p e h = absurd (never-both e refl)
+
+-- a D subleaf from 2 up: with its bit and its entry
+pub component-finished : (m : Rows) (k : ℕ) → 2 ≤ k → k < 64
+    → finished m (Place.extendedState k) .present ≡ (has k (combinedMask m) && m (Place.extendedState k) .present)
+unfolding combinedMask settings enabledBy
+component-finished m k l u =
+    finished-present m (Place.extendedState k)
+    ∙ ap (λ (t : Rule). remains (settings m) t (m (Place.extendedState k) .present)) (component-rule k l u)
+
+-- ---- what is asked of row D.1, from masked rows
+
+-- D.1.EDX is 0
+abbrev pub XsavesEdx : Rows → Type 0
+XsavesEdx m = m (Place.extendedState 1) .result .edx ≡ 0
+
+xsaves-row : (m : Rows) → XsavesEdx m → XsavesRow (settings m) (m (Place.extendedState 1) .result)
+unfolding settings enabledBy unlessNoXss
+xsaves-row m z = record { ecx = xsaves-ecx m; edx = z }
+
+-- the only place under that rule
+abbrev isXsaves : Rule → Bool
+isXsaves vendorAndMaxFunction = false
+isXsaves versionAndFeatures = false
+isXsaves extendedFeatures = false
+isXsaves threadLevelRow = false
+isXsaves coreLevelRow = false
+isXsaves extendedState0 = false
+isXsaves extendedState1 = true
+isXsaves extendedMaxFunction = false
+isXsaves extendedVersionAndFeatures = false
+isXsaves extendedAddressSpaceSizes = false
+isXsaves featureEax = false
+isXsaves untouched = false
+isXsaves (component k) = false
+
+abbrev xsavesTest : ℕ → Bool
+xsavesTest i = pick (isXsaves (ruleAt i)) (eqb i (Place.extendedState 1)) true
+
+only-xsaves : every xsavesTest places ≡ true
+only-xsaves = refl
+
+xsaves-at : (m : Rows) → XsavesEdx m → (i : ℕ) → i < places → ruleAt i ≡ extendedState1 → XsavesRow (settings m) (m i .result)
+xsaves-at m z i l e =
+    let p : i ≡ Place.extendedState 1 =
+    eqb-true i (Place.extendedState 1) (if-holds (isXsaves (ruleAt i)) _ (every-at xsavesTest places only-xsaves i l) (ap isXsaves e)) in
+    subst (λ (n : ℕ). XsavesRow (settings m) (m n .result)) (sym p) (xsaves-row m z)
+
+-- ---- the theorem on rows
+
+module _ (A B : Rows) (zeroA : XsavesEdx A) (zeroB : XsavesEdx B) (accepted : rowsVerdict A ≡ Accepted)
+    (entries : (i : ℕ) → i < places → fromEntry (ruleAt i) ≡ true → finished A i .present ≡ true → EntryRises i (A i) (B i)) where
+  pass : AllPass A
+  pass = all-pass A accepted
+
+  presentA : (i : ℕ) → i < places → always (ruleAt i) ≡ true → A i .present ≡ true
+  presentA i l e =
+      subst (λ (n : ℕ). A n .present ≡ true) (always-required i l e .1)
+      (required-present A (pass .required) (position i) (always-required i l e .0))
+
+  inTableA : (i : ℕ) → i < places → always (ruleAt i) ≡ true → finished A i .present ≡ true
+  inTableA i l e = finished-present A i ∙ always-remains (settings A) (ruleAt i) (A i .present) e (presentA i l e)
+
+  entry : (i : ℕ) → i < places → always (ruleAt i) ≡ true → EntryRises i (A i) (B i)
+  entry i l e = entries i l (always-from-entry (ruleAt i) e) (inTableA i l e)
+
+  componentInTableA : (k : ℕ) → 2 ≤ k → k < 64 → has k (combinedMask A) ≡ true → finished A (Place.extendedState k) .present ≡ true
+  componentInTableA k l u h = component-finished A k l u ∙ and-both h (component-present A (pass .components) k l u h)
+
+  componentEntry : (k : ℕ) → 2 ≤ k → k < 64 → has k (combinedMask A) ≡ true
+      → Registers EntryAtLeast (kindsOf (component k)) (A (Place.extendedState k) .result) (B (Place.extendedState k) .result)
+  componentEntry k l u h =
+      subst (λ (t : Rule). Registers EntryAtLeast (kindsOf t) (A (Place.extendedState k) .result) (B (Place.extendedState k) .result))
+      (component-rule k l u)
+      (entries (Place.extendedState k) (omega arith) (ap fromEntry (component-rule k l u)) (componentInTableA k l u h) .registers)
+
+  sameInputs : inputsOf A ≡ inputsOf B
+  unfolding inputsOf
+  sameInputs =
+      cc (entry Place.extendedAddressSpaceSizes (lit< tt) refl .registers .ecx,
+        entry Place.versionAndFeatures (lit< tt) refl .registers .ebx,
+        entry Place.versionAndFeatures (lit< tt) refl .registers .edx .1,
+        entry Place.processorTopologyDefinition (lit< tt) refl .registers .ebx)
+
+  xfemRises : Within (xfem A) (xfem B)
+  unfolding xfem
+  xfemRises = entry (Place.extendedState 0) (lit< tt) refl .registers .eax
+
+  xssRises : Within (xss A) (xss B)
+  xssRises =
+      xss-mono A B (entry (Place.extendedState 1) (lit< tt) refl .registers .eax) (entry (Place.extendedState 1) (lit< tt) refl .registers .ecx)
+
+  sums : (k : ℕ) → 2 ≤ k → k < 64 → has k (xfem A) ≡ true → sumAt A k ≡ sumAt B k
+  sums k l u h =
+      let e : Registers EntryAtLeast (kindsOf (component k)) (A (Place.extendedState k) .result) (B (Place.extendedState k) .result) =
+      componentEntry k l u (in-combined A k h) in
+      ap₂ _+_ (e .eax) (e .ebx)
+
+  settingsRise : SettingsRise (settings A) (settings B)
+  unfolding settings enabledBy
+  settingsRise = record {
+    enabled = record { xfem = xfemRises; xss = xssRises; tscAux = has-mono 9 (entry Place.extendedSevFeatures (lit< tt) refl .registers .eax) };
+    saveArea = area-mono A B 64 xfemRises sums;
+    threads = cc sameInputs;
+    cores = cc sameInputs;
+  }
+
+  -- every row of A's, with its registers
+  pub present-rises : (i : ℕ) → i < places → finished A i .present ≡ true → finished B i .present ≡ true
+  present-rises i l h =
+      finished-present B i
+      ∙ go (fromEntry (ruleAt i)) refl
+    where
+      go : (b : Bool) → fromEntry (ruleAt i) ≡ b → remains (settings B) (ruleAt i) (B i .present) ≡ true
+      go true e = remains-rises settingsRise (ruleAt i) (A i .present) (B i .present) (λ _. entries i l e h .present) (sym (finished-present A i) ∙ h)
+      go false e = made-remains (settings B) (ruleAt i) (B i .present) e
+
+  pub registers-rise : (i : ℕ) → i < places → finished A i .present ≡ true
+      → Registers TableAtLeast (kindsOf (ruleAt i)) (finished A i .result) (finished B i .result)
+  registers-rise i l h =
+      rw (finished-result A i h, finished-result B i (present-rises i l h))
+      (finish-rises settingsRise (ruleAt i) (A i .result) (B i .result) (λ e. entries i l e h .registers)
+        (xsaves-at A zeroA i l) (xsaves-at B zeroB i l))
+
+  -- beyond these only the subleaves of further bits
+  pub others-further : (i : ℕ) → i < places → finished B i .present ≡ true
+      → (finished A i .present ≡ true) ⊎ ((k : ℕ) × (i ≡ Place.extendedState k) × (2 ≤ k) × (k < 64) × (has k (combinedMask B) ≡ true) × (has k (combinedMask A) ≡ false))
+  others-further i l h = go (sort i l)
+    where
+      go : Sort i → (finished A i .present ≡ true) ⊎ ((k : ℕ) × (i ≡ Place.extendedState k) × (2 ≤ k) × (k < 64) × (has k (combinedMask B) ≡ true) × (has k (combinedMask A) ≡ false))
+      go (made e) = inl (finished-present A i ∙ made-remains (settings A) (ruleAt i) (A i .present) e)
+      go (required e) = inl (inTableA i l e)
+      go (subleaf k e p q) = inMask (has k (combinedMask A)) refl
+        where
+          inB : has k (combinedMask B) ≡ true
+          inB = and-left _ _ (sym (component-finished B k p q) ∙ subst (λ (n : ℕ). finished B n .present ≡ true) e h)
+
+          inMask : (b : Bool) → has k (combinedMask A) ≡ b
+              → (finished A i .present ≡ true) ⊎ ((k : ℕ) × (i ≡ Place.extendedState k) × (2 ≤ k) × (k < 64) × (has k (combinedMask B) ≡ true) × (has k (combinedMask A) ≡ false))
+          inMask true f = inl (subst (λ (n : ℕ). finished A n .present ≡ true) (sym e) (componentInTableA k p q f))
+          inMask false f = inr (k, e, p, q, inB, f)
+
+  pub mask-rises : Within (combinedMask A) (combinedMask B)
+  unfolding combinedMask
+  mask-rises = within-or xfemRises xssRises
+
+  invlpgbB : invlpgbVerdict B ≡ Accepted
+  unfolding invlpgbVerdict
+  invlpgbB =
+      pick-true Accepted (Refused InvlpgbUnavailable)
+      (has-mono 3 (entry Place.extendedAddressSpaceSizes (lit< tt) refl .registers .ebx) (demanded _ InvlpgbUnavailable (pass .invlpgb)))
+
+  topologyB : topologyVerdict B ≡ Accepted
+  unfolding topologyVerdict
+  topologyB = ap (λ (i : Inputs). topologyRefusal (topologyOf i)) (sym sameInputs) ∙ pass .topology
+
+  -- only the extended state can refuse B
+  pub verdict-rises : rowsVerdict B ≡ andThen (componentsVerdict B) (areaVerdict B)
+  unfolding rowsVerdict
+  verdict-rises =
+      then-skips (present-required B (λ j l. entry (placeRequired j) (required-place j l .0) (required-place j l .1) .present))
+      ∙ then-skips invlpgbB
+      ∙ ap (andThen (componentsVerdict B)) (ap (andThen (areaVerdict B)) topologyB ∙ then-accepted (areaVerdict B))

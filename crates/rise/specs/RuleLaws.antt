@@ -27,21 +27,6 @@ pub record XsavesRow (c : Settings) (r : CpuidResult) : Type 0 where
   pub ecx : unlessNoXss (c .enabled) (r .ecx) ≡ c .enabled .xss
   pub edx : r .edx ≡ 0
 
-abbrev pub XsavesAt : Rule → Settings → CpuidResult → Type 0
-XsavesAt vendorAndMaxFunction c r = Unit {0}
-XsavesAt versionAndFeatures c r = Unit {0}
-XsavesAt extendedFeatures c r = Unit {0}
-XsavesAt threadLevelRow c r = Unit {0}
-XsavesAt coreLevelRow c r = Unit {0}
-XsavesAt extendedState0 c r = Unit {0}
-XsavesAt extendedState1 c r = XsavesRow c r
-XsavesAt extendedMaxFunction c r = Unit {0}
-XsavesAt extendedVersionAndFeatures c r = Unit {0}
-XsavesAt extendedAddressSpaceSizes c r = Unit {0}
-XsavesAt featureEax c r = Unit {0}
-XsavesAt untouched c r = Unit {0}
-XsavesAt (component k) c r = Unit {0}
-
 -- a row made here is the same
 made-registers : {a b : CpuidResult} → a ≡ b → Registers TableAtLeast (kindsOf threadLevelRow) a b
 made-registers e = record {
@@ -65,7 +50,7 @@ addressSizesEbx-mono {x} {y} h = within-of-and (sym (addressSizesEbx-and x y) �
 module _ {c d : Settings} (s : SettingsRise c d) where
   -- each register of each rule
   pub finish-rises : (t : Rule) (a b : CpuidResult) → (fromEntry t ≡ true → Registers EntryAtLeast (kindsOf t) a b)
-      → XsavesAt t c a → XsavesAt t d b → Registers TableAtLeast (kindsOf t) (finish c t a) (finish d t b)
+      → (t ≡ extendedState1 → XsavesRow c a) → (t ≡ extendedState1 → XsavesRow d b) → Registers TableAtLeast (kindsOf t) (finish c t a) (finish d t b)
   finish-rises vendorAndMaxFunction a b h p q = made-registers refl
   finish-rises extendedMaxFunction a b h p q = made-registers refl
   finish-rises versionAndFeatures a b h p q = record {
@@ -86,8 +71,8 @@ module _ {c d : Settings} (s : SettingsRise c d) where
   finish-rises extendedState1 a b h p q = record {
     eax = h refl .eax;
     ebx = h refl .ebx;
-    ecx = rw (p .ecx, q .ecx) (s .enabled .xss);
-    edx = zero-unless (c .enabled) (p .edx) ∙ sym (zero-unless (d .enabled) (q .edx));
+    ecx = rw (p refl .ecx, q refl .ecx) (s .enabled .xss);
+    edx = zero-unless (c .enabled) (p refl .edx) ∙ sym (zero-unless (d .enabled) (q refl .edx));
   }
   finish-rises extendedVersionAndFeatures a b h p q = record {
     eax = h refl .eax;
