@@ -7,6 +7,7 @@ pub mod Finish
 pub mod Checks
 pub mod Table
 pub mod Kinds
+pub mod FinishLaws
 pub mod FeatureLaws
 pub mod ExtendedStateLaws
 pub mod PlaceLaws

@@ -1,4 +1,5 @@
 pub mod Rise
 pub mod RuleLaws
 pub mod RowsRise
+pub mod Decide
 pub mod Proof

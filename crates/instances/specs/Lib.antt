@@ -1,0 +1,4 @@
+pub mod PageSets
+pub mod Evaluation
+pub mod Computed
+pub mod MarkedRows
