@@ -30,6 +30,10 @@ and-both p q = rw (p, q)
 pub and-mono : (a b : Bool) {c d : Bool} → (a ≡ true → c ≡ true) → (b ≡ true → d ≡ true) → (a && b) ≡ true → (c && d) ≡ true
 and-mono a b f g e = and-both (f (and-left a b e)) (g (and-right a b e))
 
+pub and-implied : (a b : Bool) → (a ≡ true → b ≡ true) → (a && b) ≡ a
+and-implied true b f = f refl
+and-implied false b f = refl
+
 -- (a && b) && (c && d), joined the other way round
 pub and-swap : (a b c d : Bool) → ((a && b) && (c && d)) ≡ ((a && c) && (b && d))
 and-swap true true c d = refl

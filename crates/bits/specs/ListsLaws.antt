@@ -25,6 +25,10 @@ pub tabulated {ℓ} : {A : Type ℓ} (n : ℕ) (f : ℕ → A) (l : List A) (d :
 tabulated n f l d e h =
     ext-getD d l (tabulate n f) (e ∙ sym (length-tabulate n f)) (λ i u. h i (omega arith) ∙ sym (getD-tabulate n f i d (omega arith)))
 
+-- two lists of n elements that are equal are equal element by element: a law over a whole table is one equation
+pub tabulate-at {ℓ} : {A : Type ℓ} (n : ℕ) (f g : ℕ → A) → tabulate n f ≡ tabulate n g → (i : ℕ) → i < n → f i ≡ g i
+tabulate-at n f g e i h = sym (getD-tabulate n f i (f i) h) ∙ ap (λ l. getD l i (f i)) e ∙ getD-tabulate n g i (f i) h
+
 pub sum-ext : (f g : ℕ → ℕ) (n : ℕ) → ((i : ℕ) → i < n → f i ≡ g i) → sumTo f n ≡ sumTo g n
 unfolding sumTo
 sum-ext f g zero h = refl

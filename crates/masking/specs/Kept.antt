@@ -82,7 +82,7 @@ within whole k = 0
 within (subleaves first last) k = k - first
 
 -- the place of a page entry's leaf and subleaf among the rows of the table from place i on; 88 where it is filtered
-abbrev placeFrom : List Kept → ℕ → CpuidFunction → ℕ → ℕ
+abbrev pub placeFrom : List Kept → ℕ → CpuidFunction → ℕ → ℕ
 placeFrom [] i l k = places
 placeFrom (r ∷ rs) i l k =
     pick (sameFunction (r .leaf) l && takes (r .span) k) (i + within (r .span) k) (placeFrom rs (i + placesOf (r .span)) l k)
@@ -98,7 +98,7 @@ pub record Slot : Type 0 where
   pub subleaf : ℕ
   pub masks : Masks
 
-abbrev slotIn : List Kept → ℕ → Slot
+abbrev pub slotIn : List Kept → ℕ → Slot
 slotIn [] i = record { leaf = function 0; indexed = false; subleaf = 0; masks = result 0 0 0 0 }
 slotIn (r ∷ rs) i =
     pick (ltb i (placesOf (r .span)))

@@ -4,7 +4,7 @@ use mathlib.Core.Path.{_≡_, refl, sym, ap, ap₂, _∙_}
 use mathlib.Core.Bool.{Bool, true, false, _&&_}
 use Prim.Native.Nat.{ℕ, _-_, _^_}
 use lib.Bits.{bitAnd, bitOr}
-use Rattle.bits.specs.ChoiceLaws.{and-left, and-right, and-swap}
+use Rattle.bits.specs.ChoiceLaws.{and-implied, and-swap}
 use Rattle.bits.specs.Bits.{has, clearUnless, Within}
 use Rattle.bits.specs.BitsLaws.{has-and, or-and, and-of-within, within-of-and, clear-unless-and}
 use Rattle.results.specs.Finish.{Enabled, hasYmm, hasAvx512, hasCet, versionEcx, featuresEbx, featuresEcx, featuresEdx, extendedVersionEdx, addressSizesEbx, hypervisorPresent, ymmVersionEcx, ibrsAndStibp, btcNo}
@@ -83,10 +83,6 @@ pub record EnablesAtLeast (c d : Enabled) : Type 0 where
   pub xfem : Within (c .xfem) (d .xfem)
   pub xss : Within (c .xss) (d .xss)
   pub tscAux : c .tscAux ≡ true → d .tscAux ≡ true
-
-and-implied : (p q : Bool) → (p ≡ true → q ≡ true) → (p && q) ≡ p
-and-implied true q f = f refl
-and-implied false q f = refl
 
 pub both-enable-less : {c d : Enabled} → EnablesAtLeast c d → bothEnable c d ≡ c
 both-enable-less {c} {d} h i = record {

@@ -12,3 +12,4 @@ pub mod FeatureLaws
 pub mod ExtendedStateLaws
 pub mod PlaceLaws
 pub mod ChecksLaws
+pub mod RemainsLaws

@@ -32,69 +32,10 @@ use Rattle.results.specs.Kinds.{EntryAtLeast, TableAtLeast, Registers, kindsOf,
 use Rattle.results.specs.Checks.{requiredVerdict, invlpgbVerdict, componentsVerdict, areaVerdict, topologyVerdict, topologyRefusal, rowsVerdict, demand}
 use Rattle.results.specs.ChecksLaws.{AllPass, all-pass, required-present, present-required, component-present, demanded, then-accepted, then-skips}
 use Rattle.results.specs.PlaceLaws.{always, always-from-entry, required-place, position, always-required, component-rule, Sort, sort}
+use Rattle.results.specs.RemainsLaws.{finished-present, finished-result, made-remains, always-remains, component-finished}
 use Rattle.results.specs.PlaceLaws.Sort.{made, required, subleaf}
 use Rattle.rise.specs.Rise.{EntryRises}
 use Rattle.rise.specs.RuleLaws.{SettingsRise, XsavesRow, finish-rises, remains-rises}
-
--- ---- which rows remain
-
--- a row of the finished rows is there exactly where its rule lets it remain
-pub finished-present : (m : Rows) (i : ℕ) → finished m i .present ≡ remains (settings m) (ruleAt i) (m i .present)
-unfolding finished
-finished-present m i = go (remains (settings m) (ruleAt i) (m i .present))
-  where
-    go : (b : Bool) → pick b (row (finish (settings m) (ruleAt i) (m i .result))) vacant .present ≡ b
-    go true = refl
-    go false = refl
-
-pub finished-result : (m : Rows) (i : ℕ) → finished m i .present ≡ true → finished m i .result ≡ finish (settings m) (ruleAt i) (m i .result)
-unfolding finished
-finished-result m i e = go (remains (settings m) (ruleAt i) (m i .present)) e
-  where
-    go : (b : Bool) → pick b (row (finish (settings m) (ruleAt i) (m i .result))) vacant .present ≡ true
-        → pick b (row (finish (settings m) (ruleAt i) (m i .result))) vacant .result ≡ finish (settings m) (ruleAt i) (m i .result)
-    go true e = refl
-    go false e = absurd (never-both e refl)
-
--- made here: always
-pub made-remains : (c : Settings) (t : Rule) (p : Bool) → fromEntry t ≡ false → remains c t p ≡ true
-made-remains c vendorAndMaxFunction p e = refl
-made-remains c extendedMaxFunction p e = refl
-made-remains c versionAndFeatures p e = absurd (never-both refl e)
-made-remains c extendedFeatures p e = absurd (never-both refl e)
-made-remains c threadLevelRow p e = absurd (never-both refl e)
-made-remains c coreLevelRow p e = absurd (never-both refl e)
-made-remains c extendedState0 p e = absurd (never-both refl e)
-made-remains c extendedState1 p e = absurd (never-both refl e)
-made-remains c extendedVersionAndFeatures p e = absurd (never-both refl e)
-made-remains c extendedAddressSpaceSizes p e = absurd (never-both refl e)
-made-remains c featureEax p e = absurd (never-both refl e)
-made-remains c untouched p e = absurd (never-both refl e)
-made-remains c (component k) p e = absurd (never-both refl e)
-
--- the others that an accepted table always has: with their entry
-pub always-remains : (c : Settings) (t : Rule) (p : Bool) → always t ≡ true → p ≡ true → remains c t p ≡ true
-always-remains c vendorAndMaxFunction p e h = refl
-always-remains c extendedMaxFunction p e h = refl
-always-remains c versionAndFeatures p e h = h
-always-remains c extendedFeatures p e h = h
-always-remains c threadLevelRow p e h = h
-always-remains c coreLevelRow p e h = h
-always-remains c extendedState0 p e h = h
-always-remains c extendedState1 p e h = h
-always-remains c extendedVersionAndFeatures p e h = h
-always-remains c extendedAddressSpaceSizes p e h = h
-always-remains c featureEax p e h = h
-always-remains c untouched p e h = h
-always-remains c (component k) p e h = absurd (never-both e refl)
-
--- a D subleaf from 2 up: with its bit and its entry
-pub component-finished : (m : Rows) (k : ℕ) → 2 ≤ k → k < 64
-    → finished m (Place.extendedState k) .present ≡ (has k (combinedMask m) && m (Place.extendedState k) .present)
-unfolding combinedMask settings enabledBy
-component-finished m k l u =
-    finished-present m (Place.extendedState k)
-    ∙ ap (λ (t : Rule). remains (settings m) t (m (Place.extendedState k) .present)) (component-rule k l u)
 
 -- ---- what is asked of row D.1, from masked rows
 
@@ -147,7 +88,7 @@ module _ (A B : Rows) (zeroA : XsavesEdx A) (zeroB : XsavesEdx B) (accepted : ro
       (required-present A (pass .required) (position i) (always-required i l e .0))
 
   inTableA : (i : ℕ) → i < places → always (ruleAt i) ≡ true → finished A i .present ≡ true
-  inTableA i l e = finished-present A i ∙ always-remains (settings A) (ruleAt i) (A i .present) e (presentA i l e)
+  inTableA i l e = finished-present A i ∙ always-remains (settings A) (λ j. A j .present) i l e ∙ presentA i l e
 
   entry : (i : ℕ) → i < places → always (ruleAt i) ≡ true → EntryRises i (A i) (B i)
   entry i l e = entries i l (always-from-entry (ruleAt i) e) (inTableA i l e)
@@ -201,7 +142,7 @@ module _ (A B : Rows) (zeroA : XsavesEdx A) (zeroB : XsavesEdx B) (accepted : ro
     where
       go : (b : Bool) → fromEntry (ruleAt i) ≡ b → remains (settings B) (ruleAt i) (B i .present) ≡ true
       go true e = remains-rises settingsRise (ruleAt i) (A i .present) (B i .present) (λ _. entries i l e h .present) (sym (finished-present A i) ∙ h)
-      go false e = made-remains (settings B) (ruleAt i) (B i .present) e
+      go false e = made-remains (settings B) (λ j. B j .present) i l e
 
   pub registers-rise : (i : ℕ) → i < places → finished A i .present ≡ true
       → Registers TableAtLeast (kindsOf (ruleAt i)) (finished A i .result) (finished B i .result)
@@ -216,7 +157,7 @@ module _ (A B : Rows) (zeroA : XsavesEdx A) (zeroB : XsavesEdx B) (accepted : ro
   others-further i l h = go (sort i l)
     where
       go : Sort i → (finished A i .present ≡ true) ⊎ ((k : ℕ) × (i ≡ Place.extendedState k) × (2 ≤ k) × (k < 64) × (has k (combinedMask B) ≡ true) × (has k (combinedMask A) ≡ false))
-      go (made e) = inl (finished-present A i ∙ made-remains (settings A) (ruleAt i) (A i .present) e)
+      go (made e) = inl (finished-present A i ∙ made-remains (settings A) (λ j. A j .present) i l e)
       go (required e) = inl (inTableA i l e)
       go (subleaf k e p q) = inMask (has k (combinedMask A)) refl
         where
