@@ -19,6 +19,16 @@ every-at test (suc n) e i h =
       | inr q ↦ every-at test n (and-right (test n) (every test n) e) i (omega arith)
     ]
 
+-- of a test that not every number below n passes, one fails
+pub every-fails : (test : ℕ → Bool) (n : ℕ) → every test n ≡ false → (i : ℕ) × (i < n) × (test i ≡ false)
+every-fails test zero e = absurd (let z : _≡_ {A = ℕ} 0 1 = cc in omega arith)
+every-fails test (suc n) e = go (every-fails test n) (test n) refl e
+  where
+    go : (every test n ≡ false → (i : ℕ) × (i < n) × (test i ≡ false))
+        → (b : Bool) → test n ≡ b → (b && every test n) ≡ false → (i : ℕ) × (i < suc n) × (test i ≡ false)
+    go ih true p f = let (i, l, g) = ih f in (i, omega arith, g)
+    go ih false p f = (n, omega arith, p)
+
 -- nothing found: all pass
 pub lowest-none : (test : ℕ → Bool) (k n : ℕ) → lowest test k n ≡ none → (j : ℕ) → k ≤ j → j < k + n → test j ≡ true
 unfolding lowest

@@ -3,13 +3,13 @@ use mathlib.Core.Path.{_≡_}
 use mathlib.Core.Bool.{Bool, true, false}
 use mathlib.Core.List.{List}
 use mathlib.Core.Logic.{_⊎_, _≢_}
-use Prim.Native.Nat.{ℕ, _+_, _%_, _^_, _≤_, _<_}
+use Prim.Native.Nat.{ℕ, _+_, _/_, _%_, _^_, _≤_, _<_}
 use lib.Dec.{eqb}
 use lib.ListN.{length}
 use Rattle.bits.specs.Choice.{pick}
 use Rattle.bits.specs.Bits.{bit}
 use Rattle.x86defs.specs.Functions.{ExtendedStateEnumeration}
-use Rattle.pages.specs.Layout.{pageSize, mostEntries, pagesIn, countOf}
+use Rattle.pages.specs.Layout.{countOf}
 use Rattle.topology.specs.declared.TopologyError.the-variants.{Hyperthreading, ProcessorCount, ThreadsPerUnit}
 use Rattle.topology.specs.Topology.{Inputs}
 use Rattle.masking.specs.Place
@@ -24,13 +24,13 @@ use Rattle.build.specs.Rows.{rowsOf}
 
 -- 1. length: "0, or not a multiple of 4,096"
 abbrev pub LengthFault : List ℕ → Type 0
-LengthFault s = (length s ≡ 0) ⊎ (length s % pageSize ≢ 0)
+LengthFault s = (length s ≡ 0) ⊎ (length s % 4096 ≢ 0)
 
 -- 2. counts: "some page's count is above 64"
 pub record CountFault (s : List ℕ) : Type 0 where
   pub page : ℕ
-  pub inside : page < pagesIn s
-  pub above : mostEntries < countOf s page
+  pub inside : page < length s / 4096
+  pub above : 64 < countOf s page
 
 -- 3. required leaves, in list order: "no such row; names leaf and subleaf". The j-th of the two lists has no row, and all before it have.
 pub record RequiredFault (m : Rows) (j : ℕ) : Type 0 where

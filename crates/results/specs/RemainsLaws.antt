@@ -1,9 +1,9 @@
 -- Which rows remain in a table, place by place, from which entries were there.
-use mathlib.Core.Path.{_≡_, refl, sym, ap, _∙_}
+use mathlib.Core.Path.{_≡_, refl, sym, ap, _∙_, subst}
 use mathlib.Core.Bool.{Bool, true, false, _&&_}
 use Prim.Native.Nat.{ℕ, _≤_, _<_}
 use Rattle.bits.specs.Choice.{pick}
-use Rattle.bits.specs.ChoiceLaws.{never-both, pick-true, pick-false}
+use Rattle.bits.specs.ChoiceLaws.{never-both, and-right, pick-true, pick-false}
 use Rattle.bits.specs.Lists.{tabulate}
 use Rattle.bits.specs.ListsLaws.{tabulate-at}
 use Rattle.bits.specs.Bits.{has}
@@ -14,7 +14,8 @@ use Rattle.results.specs.Rows.{Row, Rows, row, vacant}
 use Rattle.results.specs.ExtendedState.{combinedMask}
 use Rattle.results.specs.Finish.{Rule, Settings, ruleAt, enabledBy, settings, finish, remains, finished}
 use Rattle.results.specs.Kinds.{fromEntry}
-use Rattle.results.specs.PlaceLaws.{always, component-rule}
+use Rattle.results.specs.PlaceLaws.{always, component-rule, Sort, sort}
+use Rattle.results.specs.PlaceLaws.Sort.{made, required, subleaf}
 
 present-picked : (b : Bool) (r : CpuidResult) → pick b (row r) vacant .present ≡ b
 present-picked true r = refl
@@ -58,3 +59,14 @@ unfolding combinedMask settings enabledBy
 component-finished m k l u =
     finished-present m (Place.extendedState k)
     ∙ ap (λ (t : Rule). remains (settings m) t (m (Place.extendedState k) .present)) (component-rule k l u)
+
+-- a row of the table that comes from an entry had that entry
+pub finished-entry : (m : Rows) (i : ℕ) → i < places → fromEntry (ruleAt i) ≡ true → finished m i .present ≡ true → m i .present ≡ true
+finished-entry m i l f e = go (sort i l)
+  where
+    go : Sort i → m i .present ≡ true
+    go (made g) = absurd (never-both f g)
+    go (required g) = sym (finished-present m i ∙ always-remains (settings m) (λ j. m j .present) i l g) ∙ e
+    go (subleaf k p q r) =
+        subst (λ (n : ℕ). m n .present ≡ true) (sym p)
+        (and-right (has k (combinedMask m)) _ (sym (component-finished m k q r) ∙ subst (λ (n : ℕ). finished m n .present ≡ true) p e))

@@ -2,4 +2,4 @@ pub mod Rise
 pub mod RuleLaws
 pub mod RowsRise
 pub mod Decide
-
+pub mod Proof

@@ -1,5 +1,5 @@
 -- Demand 3 over page bytes: the rise of masked first entries, carried to the answers.
-use mathlib.Core.Path.{_≡_, refl, sym, ap, _∙_, subst₂}
+use mathlib.Core.Path.{_≡_, refl, sym, ap, _∙_, subst, subst₂}
 use mathlib.Core.Bool.{Bool, true, false}
 use mathlib.Core.List.{List}
 use mathlib.Core.Logic.{_⊎_, inl, inr, ⊎-elim}
@@ -7,10 +7,12 @@ use Prim.Native.Nat.{ℕ, _<_}
 use lib.Dec.{eqb}
 use lib.Bits.{bitAnd, bitOr, and-zero-r}
 use lib.ListN.{getD}
+use borrow.Author.Tests.{eqb-true}
 use Rattle.bits.specs.Choice.{pick}
+use Rattle.bits.specs.ChoiceLaws.{never-both, pick-true, pick-false}
 use Rattle.bits.specs.ListsLaws.{getD-tabulate}
-use Rattle.bits.specs.Bits.{bit, Within}
-use Rattle.bits.specs.BitsLaws.{within-or, within-refl}
+use Rattle.bits.specs.Bits.{bit, has, Within}
+use Rattle.bits.specs.BitsLaws.{bit-has, within-or, within-refl}
 use Rattle.x86defs.specs.declared.CpuidResult.{CpuidResult}
 use Rattle.x86defs.specs.Functions.{result}
 use Rattle.pages.specs.Entries.{counted}
@@ -18,23 +20,26 @@ use Rattle.masking.specs.Masks.{applyMask, extendedState1}
 use Rattle.masking.specs.Kept.{places, keptLeaves, slot, masksAt}
 use Rattle.masking.specs.Place
 use Rattle.results.specs.declared.Refusal.{Refusal}
+use Rattle.results.specs.declared.Refusal.the-variants.{SaveAreaOverflow}
 use Rattle.results.specs.declared.Verdict.{Verdict}
 use Rattle.results.specs.declared.Verdict.the-variants.{Accepted, Refused}
 use Rattle.results.specs.Refusal.{andThen}
 use Rattle.results.specs.Rows.{Row, Rows, row, vacant}
 use Rattle.results.specs.ExtendedState.{combinedMask}
 use Rattle.results.specs.Finish.{Rule, ruleAt, finished}
+use Rattle.results.specs.Finish.Rule.{extendedState0}
+use Rattle.results.specs.RemainsLaws.{finished-entry}
 use Rattle.results.specs.Kinds.{Kind, EntryAtLeast, TableAtLeast, Registers, kindsOf, fromEntry}
 use Rattle.results.specs.Kinds.Kind.{feature, featureBut28, area, made, other}
-use Rattle.results.specs.Checks.{componentsVerdict, areaVerdict, rowsVerdict}
-use Rattle.results.specs.ChecksLaws.{then-right, then-skips}
+use Rattle.results.specs.Checks.{missingComponent, componentsVerdict, areaVerdict, rowsVerdict}
+use Rattle.results.specs.ChecksLaws.{component-present, then-right, then-skips}
 use Rattle.results.specs.Table.{tableFor, tableOf, rowIn}
 use Rattle.build.specs.Rows.{firstAt, maskRow, maskedAt, setLegacy, legacyFeatures, rowsOf}
 use Rattle.build.specs.Build.{lawfulVerdict, verdictOf, answer}
 use Rattle.exactly.specs.Conditions.{Lacking, ComponentFault, AreaFault}
 use Rattle.exactly.specs.Decides.{Decides}
 use Rattle.exactly.specs.Decides.Decides.{passes, refuses}
-use Rattle.exactly.specs.RowsLaws.{components-decide, area-decides, lowest-lacking}
+use Rattle.exactly.specs.ExtendedStateLaws.{components-decide, area-decides}
 use Rattle.rise.specs.Rise.{EntryRises, FirstEntryRises, Rises, RisesByTheLetter, Outcome, Further, TableRises, Risen, Demand3, Demand3ByTheLetter}
 use Rattle.rise.specs.Rise.Outcome.{missing, overflow, accepted}
 use Rattle.rise.specs.RowsRise.{XsavesEdx, present-rises, registers-rise, others-further, mask-rises, verdict-rises}
@@ -80,10 +85,143 @@ xsaves-edx avic s = mask-row-edx avic (Place.extendedState 1) (firstAt (Place.ex
 
 -- ---- what the checks of the extended state say
 
+none-lacking : (m : Rows) → componentsVerdict m ≡ Accepted → (k : ℕ) → Lacking m k → ⊥
+none-lacking m e k l =
+    never-both (component-present m e k (l .from) (l .below) (bit-has k (combinedMask m) (l .needed))) (l .absent)
+
 outcome-of : (m : Rows) → Outcome m (andThen (componentsVerdict m) (areaVerdict m))
-outcome-of m = go (componentsVerdict m) (areaVerdict m) (components-decide m) (area-decides m)
+outcome-of m = go (components-decide m) (area-decides m)
   where
-    go : (u v : Verdict) → Decides _ u → Decides _ v → Outcome m (andThen u v)
-    go u v (refuses r e (k, f, p) one) d = missing k f (rw e (ap Refused p))
-    go u v (passes e none) (refuses r f (g, p) one) = overflow ? g (rw (e, f) (ap Refused p))
-    go u v (passes e none) (passes f no-sum) = accepted ? (λ g. no-sum _ (g, refl)) (rw (e, f))
+    go : Decides (λ q. (k : ℕ) × ComponentFault m k × (q ≡ missingComponent k)) (componentsVerdict m)
+        → Decides (λ q. AreaFault m × (q ≡ SaveAreaOverflow)) (areaVerdict m) → Outcome m (andThen (componentsVerdict m) (areaVerdict m))
+    go (refuses r e (k, f, p) one) d = missing k f (rw (e, p))
+    go (passes e none) (refuses r f (g, p) one) = overflow (none-lacking m e) g (rw (e, f, p))
+    go (passes e none) (passes f no-sum) = accepted (none-lacking m e) (λ g. no-sum SaveAreaOverflow (g, refl)) (rw (e, f))
+
+-- ---- demand 3
+
+module _ (avic : Bool) (a b : List ℕ) (rises : Rises avic a b) where
+  entriesAB : (i : ℕ) → i < places → fromEntry (ruleAt i) ≡ true → finished (rowsOf avic a) i .present ≡ true
+      → EntryRises i (rowsOf avic a i) (rowsOf avic b i)
+  entriesAB i l f p = rises .entries i l f (ap (λ (r : Row). r .present) (answer-row avic a (rises .accepted) i l) ∙ p)
+
+  rowsA : rowsVerdict (rowsOf avic a) ≡ Accepted
+  rowsA = accepted-rows avic a (rises .accepted)
+
+  verdictB : answer avic b .verdict ≡ andThen (componentsVerdict (rowsOf avic b)) (areaVerdict (rowsOf avic b))
+  unfolding answer verdictOf
+  verdictB =
+      then-skips (rises .lawful)
+      ∙ verdict-rises (rowsOf avic a) (rowsOf avic b) (xsaves-edx avic a) (xsaves-edx avic b) rowsA entriesAB
+
+  -- the rows of both answers are the finished rows
+  module _ (e : answer avic b .verdict ≡ Accepted) where
+    rowA : (i : ℕ) → i < places → rowIn (answer avic a .table) i ≡ finished (rowsOf avic a) i
+    rowA = answer-row avic a (rises .accepted)
+
+    rowB : (i : ℕ) → i < places → rowIn (answer avic b .table) i ≡ finished (rowsOf avic b) i
+    rowB = answer-row avic b e
+
+    toA : (i : ℕ) → i < places → rowIn (answer avic a .table) i .present ≡ true → finished (rowsOf avic a) i .present ≡ true
+    toA i l p = sym (ap (λ (r : Row). r .present) (rowA i l)) ∙ p
+
+    rowsAB : (i : ℕ) → i < places → rowIn (answer avic a .table) i .present ≡ true → rowIn (answer avic b .table) i .present ≡ true
+    rowsAB i l p =
+        ap (λ (r : Row). r .present) (rowB i l)
+        ∙ present-rises (rowsOf avic a) (rowsOf avic b) (xsaves-edx avic a) (xsaves-edx avic b) rowsA entriesAB i l (toA i l p)
+
+    registersAB : (i : ℕ) → i < places → rowIn (answer avic a .table) i .present ≡ true
+        → Registers TableAtLeast (kindsOf (ruleAt i)) (rowIn (answer avic a .table) i .result) (rowIn (answer avic b .table) i .result)
+    registersAB i l p =
+        subst₂ (λ (x y : Row). Registers TableAtLeast (kindsOf (ruleAt i)) (x .result) (y .result)) (sym (rowA i l)) (sym (rowB i l))
+        (registers-rise (rowsOf avic a) (rowsOf avic b) (xsaves-edx avic a) (xsaves-edx avic b) rowsA entriesAB i l (toA i l p))
+
+    othersAB : (i : ℕ) → i < places → rowIn (answer avic b .table) i .present ≡ true
+        → (rowIn (answer avic a .table) i .present ≡ true) ⊎ Further (answer avic a .table) (answer avic b .table) i
+    othersAB i l p =
+        ⊎-elim (λ q. inl (ap (λ (r : Row). r .present) (rowA i l) ∙ q))
+        (λ (k, at, low, high, inB, notInA). inr (record {
+          subleaf = k;
+          place = at;
+          from = low;
+          below = high;
+          inB = ap (has k) (answer-mask avic b e) ∙ inB;
+          notInA = ap (has k) (answer-mask avic a (rises .accepted)) ∙ notInA;
+        }))
+        (others-further (rowsOf avic a) (rowsOf avic b) (xsaves-edx avic a) (xsaves-edx avic b) rowsA entriesAB i l
+        (sym (ap (λ (r : Row). r .present) (rowB i l)) ∙ p))
+
+    maskAB : Within (answer avic a .table .«max_extended_state») (answer avic b .table .«max_extended_state»)
+    maskAB =
+        subst₂ Within (sym (answer-mask avic a (rises .accepted))) (sym (answer-mask avic b e))
+        (mask-rises (rowsOf avic a) (rowsOf avic b) (xsaves-edx avic a) (xsaves-edx avic b) rowsA entriesAB)
+
+    tableAB : TableRises (answer avic a .table) (answer avic b .table)
+    tableAB = record { rows = rowsAB; registers = registersAB; others = othersAB; mask = maskAB }
+
+pub demand-3 : Demand3
+demand-3 avic a b rises = record {
+  outcome = rw (verdictB avic a b rises) (outcome-of (rowsOf avic b));
+  table = tableAB avic a b rises;
+}
+
+-- ---- by the letter: entries compared as masked compare with D.0.EAX's bits 0 and 1 set, too
+
+-- at D.0 itself, where two bits are set in both
+letter-state : (avic : Bool) (x y : CpuidResult)
+    → Registers EntryAtLeast (kindsOf extendedState0) (applyMask (masksAt avic (Place.extendedState 0)) x) (applyMask (masksAt avic (Place.extendedState 0)) y)
+    → Registers EntryAtLeast (kindsOf extendedState0) (maskedAt avic (Place.extendedState 0) x) (maskedAt avic (Place.extendedState 0) y)
+letter-state avic x y h = record { eax = within-or (h .eax) (within-refl legacyFeatures); ebx = h .ebx; ecx = h .ecx; edx = h .edx }
+
+letter-registers : (avic : Bool) (x y : CpuidResult) (i : ℕ)
+    → Registers EntryAtLeast (kindsOf (ruleAt i)) (applyMask (masksAt avic i) x) (applyMask (masksAt avic i) y)
+    → Registers EntryAtLeast (kindsOf (ruleAt i)) (maskedAt avic i x) (maskedAt avic i y)
+letter-registers avic x y i = go (eqb i (Place.extendedState 0)) refl
+  where
+    go : (b : Bool) → eqb i (Place.extendedState 0) ≡ b
+        → Registers EntryAtLeast (kindsOf (ruleAt i)) (applyMask (masksAt avic i) x) (applyMask (masksAt avic i) y)
+        → Registers EntryAtLeast (kindsOf (ruleAt i)) (maskedAt avic i x) (maskedAt avic i y)
+    go true e =
+        subst
+        (λ (n : ℕ). Registers EntryAtLeast (kindsOf (ruleAt n)) (applyMask (masksAt avic n) x) (applyMask (masksAt avic n) y)
+        → Registers EntryAtLeast (kindsOf (ruleAt n)) (maskedAt avic n x) (maskedAt avic n y))
+        (sym (eqb-true i (Place.extendedState 0) e)) (letter-state avic x y)
+    go false e = λ h. record {
+      eax = subst₂ (EntryAtLeast (kindsOf (ruleAt i) .eax)) (sym (pick-false _ _ e)) (sym (pick-false _ _ e)) (h .eax);
+      ebx = h .ebx;
+      ecx = h .ecx;
+      edx = h .edx;
+    }
+
+mask-row-present : (avic : Bool) (i : ℕ) (r : Row) → maskRow avic i r .present ≡ r .present
+mask-row-present avic i r = go (r .present)
+  where
+    go : (b : Bool) → pick b (row (maskedAt avic i (r .result))) vacant .present ≡ b
+    go true = refl
+    go false = refl
+
+mask-row-result : (avic : Bool) (i : ℕ) (r : Row) → r .present ≡ true → maskRow avic i r .result ≡ maskedAt avic i (r .result)
+mask-row-result avic i r e = ap (λ (q : Row). q .result) (pick-true (row (maskedAt avic i (r .result))) vacant e)
+
+letter-entry : (avic : Bool) (i : ℕ) (x y : Row) → x .present ≡ true → FirstEntryRises avic i x y → EntryRises i (maskRow avic i x) (maskRow avic i y)
+letter-entry avic i x y e h = record {
+  present = mask-row-present avic i y ∙ h .present;
+  registers =
+      subst₂ (Registers EntryAtLeast (kindsOf (ruleAt i))) (sym (mask-row-result avic i x e)) (sym (mask-row-result avic i y (h .present)))
+      (letter-registers avic (x .result) (y .result) i (h .registers));
+}
+
+letter-rises : (avic : Bool) (a b : List ℕ) → RisesByTheLetter avic a b → Rises avic a b
+unfolding rowsOf
+letter-rises avic a b h = record {
+  accepted = h .accepted;
+  lawful = h .lawful;
+  entries = λ i l f p.
+      letter-entry avic i (firstAt i (counted a)) (firstAt i (counted b))
+      (sym (mask-row-present avic i (firstAt i (counted a)))
+      ∙ finished-entry (rowsOf avic a) i l f (sym (ap (λ (r : Row). r .present) (answer-row avic a (h .accepted) i l)) ∙ p))
+      (h .entries i l f p);
+}
+
+pub demand-3-by-the-letter : Demand3ByTheLetter
+demand-3-by-the-letter avic a b rises = demand-3 avic a b (letter-rises avic a b rises)

@@ -106,10 +106,12 @@ module _ (A B : Rows) (zeroA : XsavesEdx A) (zeroB : XsavesEdx B) (accepted : ro
   sameInputs : inputsOf A ≡ inputsOf B
   unfolding inputsOf
   sameInputs =
-      cc (entry Place.extendedAddressSpaceSizes (lit< tt) refl .registers .ecx,
+      cc (
+        entry Place.extendedAddressSpaceSizes (lit< tt) refl .registers .ecx,
         entry Place.versionAndFeatures (lit< tt) refl .registers .ebx,
         entry Place.versionAndFeatures (lit< tt) refl .registers .edx .1,
-        entry Place.processorTopologyDefinition (lit< tt) refl .registers .ebx)
+        entry Place.processorTopologyDefinition (lit< tt) refl .registers .ebx,
+      )
 
   xfemRises : Within (xfem A) (xfem B)
   unfolding xfem
@@ -149,7 +151,7 @@ module _ (A B : Rows) (zeroA : XsavesEdx A) (zeroB : XsavesEdx B) (accepted : ro
   registers-rise i l h =
       rw (finished-result A i h, finished-result B i (present-rises i l h))
       (finish-rises settingsRise (ruleAt i) (A i .result) (B i .result) (λ e. entries i l e h .registers)
-        (xsaves-at A zeroA i l) (xsaves-at B zeroB i l))
+      (xsaves-at A zeroA i l) (xsaves-at B zeroB i l))
 
   -- beyond these only the subleaves of further bits
   pub others-further : (i : ℕ) → i < places → finished B i .present ≡ true
