@@ -56,6 +56,11 @@ bits-ext a =
     bin-ind (λ (n : ℕ). (b : ℕ) → ((k : ℕ) → bit k n ≡ bit k b) → n ≡ b) (λ b h. sym (none-set b (λ k. sym (h k) ∙ zero-bit k)))
     (λ n ih b h. join n b (ih (b / 2) (λ k. sym (bit-suc k n) ∙ h (suc k) ∙ bit-suc k b)) (sym (bit-zero n) ∙ h 0 ∙ bit-zero b)) a
 
+-- a bit by shift and mask, as code cuts it out
+pub has-shift-mask : (k n : ℕ) → eqb (bitAnd (n / 2 ^ k) 1) 1 ≡ has k n
+unfolding has bit
+has-shift-mask k n = ap (λ (x : ℕ). eqb x 1) (and-mask (n / 2 ^ k) 1)
+
 pub has-bit : (k n : ℕ) → has k n ≡ true → bit k n ≡ 1
 unfolding has
 has-bit k n e = eqb-true (bit k n) 1 e

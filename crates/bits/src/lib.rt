@@ -1,2 +1,27 @@
-// Bits of registers. What comes in is a number; what goes out is a bit of it, a field of it, or the number with bits cleared.
-// The definitions are in specs/; the layers above cite them.
+// Bits of registers. What comes in is a number; what goes out is a bit of it, or the number with bits cleared.
+ghost use mathlib.Core.Path.{_≡_};
+ghost use Prim.Native.Nat.{_<_};
+ghost use Rattle.bits.specs.Bits.{has, clearUnless};
+
+// Whether bit `k` of `x` is set.
+pub fn has_bit(x: u32, k: u32) -> bool
+    requires { ⌜ k < 32 ⌝ }
+    ensures { λ r. ⌜ r ≡ has k x ⌝ }
+{
+    (x >> k) & 1 == 1
+}
+
+// The same of a 64-bit mask.
+pub fn has_bit64(x: u64, k: u32) -> bool
+    requires { ⌜ k < 64 ⌝ }
+    ensures { λ r. ⌜ r ≡ has k x ⌝ }
+{
+    (x >> k) & 1 == 1
+}
+
+// `x` where it is to be kept, else `x` with the bits of `m` cleared.
+pub fn clear_unless(keep: bool, m: u32, x: u32) -> u32
+    ensures { λ r. ⌜ r ≡ clearUnless keep m x ⌝ }
+{
+    if keep { x } else { x & !m }
+}

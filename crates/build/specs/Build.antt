@@ -8,7 +8,7 @@ use Rattle.results.specs.declared.Verdict.{Verdict}
 use Rattle.results.specs.Refusal.{andThen}
 use Rattle.results.specs.Checks.{demand, rowsVerdict}
 use Rattle.results.specs.Table.{tableFor}
-use Rattle.build.specs.declared.Built.{Built}
+use Rattle.results.specs.declared.Built.{Built}
 use Rattle.build.specs.Rows.{rowsOf}
 
 -- 1, then 2

@@ -11,7 +11,7 @@ use Rattle.results.specs.declared.Subleaf.the-variants.{None, Some}
 use Rattle.results.specs.declared.Verdict.{Verdict}
 use Rattle.results.specs.declared.Verdict.the-variants.{Accepted, Refused}
 use Rattle.results.specs.Refusal.{Details, details}
-use Rattle.build.specs.declared.Built.{Built}
+use Rattle.results.specs.declared.Built.{Built}
 use Rattle.build.specs.Build.{answer}
 use Rattle.image.specs.Image.{bytesOf, image}
 

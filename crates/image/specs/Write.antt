@@ -9,7 +9,7 @@ use Rattle.bits.specs.Choice.{pick}
 use Rattle.results.specs.declared.Refusal.the-variants.{BufferTooShort}
 use Rattle.results.specs.declared.Verdict.{Verdict}
 use Rattle.results.specs.declared.Verdict.the-variants.{Accepted, Refused as NotBuilt}
-use Rattle.build.specs.declared.Built.{Built}
+use Rattle.results.specs.declared.Built.{Built}
 use Rattle.build.specs.Build.{answer}
 use Rattle.image.specs.declared.Written.{Written}
 use Rattle.image.specs.declared.Written.the-variants.{Bytes, Refused}

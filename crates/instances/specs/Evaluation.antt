@@ -18,7 +18,7 @@ use Rattle.results.specs.Topology.{inputsOf}
 use Rattle.results.specs.Finish.{finished, settings, enabledBy, versionEcx, featuresEbx, featuresEcx, featuresEdx, extendedVersionEdx, addressSizesEbx, unlessNoXss, ymmVersionEcx, ymmFeaturesEbx, ymmFeaturesEcx, avx512FeaturesEbx, avx512FeaturesEcx, avx512FeaturesEdx, cetSs, rdPid, rdtscp, ibrsAndStibp, btcNo, hypervisorPresent}
 use Rattle.results.specs.Checks.{requiredVerdict, invlpgbVerdict, componentsVerdict, areaVerdict, topologyVerdict, rowsVerdict}
 use Rattle.results.specs.Table.{countRows}
-use Rattle.build.specs.declared.Built.{Built}
+use Rattle.results.specs.declared.Built.{Built}
 use Rattle.build.specs.Rows.{firstAt, legacyFeatures, rowsOf}
 use Rattle.build.specs.Build.{lengthVerdict, countsVerdict, lawfulVerdict, verdictOf, answer}
 

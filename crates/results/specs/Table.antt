@@ -6,12 +6,14 @@ use lib.ListN.{getD, replicate}
 use Rattle.bits.specs.Lists.{tabulate, sumTo, one}
 use Rattle.x86defs.specs.Functions.{result}
 use Rattle.masking.specs.Kept.{places}
+use Rattle.results.specs.declared.Built.{Built}
 use Rattle.results.specs.declared.CpuidResults.{CpuidResults}
 use Rattle.results.specs.declared.Verdict.{Verdict}
 use Rattle.results.specs.declared.Verdict.the-variants.{Accepted, Refused}
 use Rattle.results.specs.Rows.{Row, Rows}
 use Rattle.results.specs.ExtendedState.{combinedMask}
 use Rattle.results.specs.Finish.{finished}
+use Rattle.results.specs.Checks.{rowsVerdict}
 
 -- the rows that are there, counted
 unfoldable pub countRows : Rows → ℕ
@@ -37,7 +39,15 @@ emptyTable = record {
 abbrev pub rowIn : CpuidResults → ℕ → Row
 rowIn t i = record { present = getD (t .present) i false; result = getD (t .results) i (result 0 0 0 0) }
 
+-- all rows of a table
+abbrev pub rowsIn : CpuidResults → Rows
+rowsIn t i = rowIn t i
+
 -- the table that goes with a verdict on masked first entries
 abbrev pub tableFor : Verdict → Rows → CpuidResults
 tableFor Accepted m = tableOf (finished m) (combinedMask m)
 tableFor (Refused r) m = emptyTable
+
+-- the answer to masked first entries, once length and counts are lawful
+unfoldable pub builtFrom : Rows → Built
+builtFrom m = record { verdict = rowsVerdict m; table = tableFor (rowsVerdict m) m }

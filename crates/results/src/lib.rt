@@ -32,3 +32,9 @@ pub struct CpuidResults {
     pub row_count: usize,
     pub max_extended_state: u64,
 }
+
+// What building gives: accepted with its table, or refused with an empty one.
+pub struct Built {
+    pub verdict: Verdict,
+    pub table: CpuidResults,
+}
