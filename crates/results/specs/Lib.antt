@@ -7,8 +7,10 @@ pub mod Finish
 pub mod Checks
 pub mod Table
 pub mod Kinds
+pub mod AgainstMisreadings
 pub mod FinishLaws
 pub mod FeatureLaws
+pub mod JoinLaws
 pub mod ExtendedStateLaws
 pub mod PlaceLaws
 pub mod ChecksLaws
