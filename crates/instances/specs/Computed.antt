@@ -1,6 +1,7 @@
 -- Not empty words: a whole page set that is accepted, and a pair for each outcome of demand 3, all by computation.
 use mathlib.Core.Path.{_≡_, refl}
 use mathlib.Core.Bool.{Bool, true, false}
+use mathlib.Core.List.{List, [], _∷_}
 use Prim.Native.Nat.{ℕ}
 use lib.ListN.{length}
 use Rattle.x86defs.specs.Functions.{ExtendedStateEnumeration}
@@ -42,13 +43,9 @@ pub serverB-accepted : answer false serverB .verdict ≡ Accepted
 unfolding evaluated serverB
 serverB-accepted = refl
 
-pub serverA-mask : answer false serverA .table .«max_extended_state» ≡ 0x7
-unfolding evaluated serverA
-serverA-mask = refl
-
-pub serverB-mask : answer false serverB .table .«max_extended_state» ≡ 0x18E7
-unfolding evaluated serverB
-serverB-mask = refl
+pub masks : answer false serverA .table .«max_extended_state» ∷ answer false serverB .table .«max_extended_state» ∷ [] ≡ 0x7 ∷ 0x18E7 ∷ []
+unfolding evaluated serverA serverB
+masks = refl
 
 -- without D.12: the hypothesis holds, and B is refused by 3
 lawful-without : lawfulVerdict serverWithoutD12 ≡ Accepted

@@ -1,0 +1,110 @@
+-- What is proved, statement by statement: the page to open first. Each names the file where its words are defined.
+-- `answer avic s` is the answer of the definition (crates/build/specs/Build.antt) to the page bytes s under the secure-AVIC choice avic.
+use mathlib.Core.Path.{_≡_}
+use mathlib.Core.Bool.{Bool, false}
+use mathlib.Core.List.{List, [], _∷_}
+use Prim.Native.Nat.{ℕ}
+use lib.ListN.{length}
+use Rattle.x86defs.specs.Functions.{ExtendedStateEnumeration}
+use Rattle.results.specs.declared.Subleaf.the-variants.{Some}
+use Rattle.results.specs.declared.Refusal.the-variants.{MissingRequiredResult, SaveAreaOverflow}
+use Rattle.results.specs.declared.Verdict.the-variants.{Accepted, Refused}
+use Rattle.build.specs.Build.{answer}
+use Rattle.image.specs.Image.{leafOrder}
+use Rattle.exactly.specs.Exactly.{BuildsExactly, WritesExactly}
+use Rattle.exactly.specs.Proof.{builds-exactly, writes-exactly}
+use Rattle.counting.specs.Counting.{Counted, LeafOrder}
+use Rattle.counting.specs.Proof.{rows-counted, single-page-refused, leaf-order}
+use Rattle.rise.specs.Rise.{Rises, RisesByTheLetter, Risen}
+use Rattle.rise.specs.Proof.{demand-3, demand-3-by-the-letter}
+use Rattle.instances.specs.PageSets.{serverA, serverB, serverWithoutD12, serverWithLargeD6}
+use Rattle.instances.specs.Computed as Computed
+use Rattle.instances.specs.MarkedRows.{Shown, marked, marked-rows}
+use Rattle.instances.specs.MarkedRows.Shown.{core, refusal, area, supervisor}
+
+-- ---- Demand 1. crates/exactly/specs/Conditions.antt has each condition by itself, Exactly.antt the two records.
+
+-- For each refusal 1 to 8: given if and only if its condition holds and no earlier one does; accepted if and only if none holds.
+pub each-refusal-exactly : (avic : Bool) (s : List ℕ) → BuildsExactly avic s
+each-refusal-exactly = builds-exactly
+
+-- Refusal 9 likewise; every lent byte as it was for all nine; an accepted write leaves the bytes beyond the image.
+pub each-write-exactly : (avic : Bool) (s buffer : List ℕ) → WritesExactly avic s buffer
+each-write-exactly = writes-exactly
+
+-- ---- Demand 3. crates/rise/specs/Rise.antt has the hypothesis, the three outcomes and what B's table then has.
+
+-- B is refused exactly by 3 or 5, or accepted, and then its table rises from A's
+pub rise : (avic : Bool) (a b : List ℕ) → Rises avic a b → Risen avic a b
+rise = demand-3
+
+-- the hypothesis by the letter: first counted entries, compared as masked
+pub rise-by-the-letter : (avic : Bool) (a b : List ℕ) → RisesByTheLetter avic a b → Risen avic a b
+rise-by-the-letter = demand-3-by-the-letter
+
+-- ---- The fourteen marked rows of document 01, T1 to T10, X1 to X3 (two figures) and C1. crates/instances/specs/MarkedRows.antt.
+
+pub fourteen-rows : marked
+    ≡ core 0 1
+    ∷ refusal 6
+    ∷ core 1 3
+    ∷ refusal 7
+    ∷ core 7 128
+    ∷ refusal 7
+    ∷ refusal 6
+    ∷ core 8 256
+    ∷ core 15 32768
+    ∷ refusal 8
+    ∷ area 576
+    ∷ area 832
+    ∷ refusal 5
+    ∷ area 0xFFFFFFFF
+    ∷ supervisor 0 false
+    ∷ []
+fourteen-rows = marked-rows
+
+-- ---- Counts. crates/counting/specs/Counting.antt.
+
+-- 26 rows and one for each combined bit from 2 up, at most 32; an image of 582 bytes and 25 for each such bit
+pub counts : (avic : Bool) (s : List ℕ) → answer avic s .verdict ≡ Accepted → Counted avic s
+counts = rows-counted
+
+-- page 1 is missing, and with it Dh
+pub single-page-never-accepted : (avic : Bool) (s : List ℕ) → length s ≡ 4096 → answer avic s .verdict ≡ Accepted → ⊥
+single-page-never-accepted = single-page-refused
+
+-- what holds of the one free part, the order of the image's leaves
+pub leaf-order-lawful : LeafOrder leafOrder
+leaf-order-lawful = leaf-order
+
+-- ---- Not empty words. crates/instances/specs/PageSets.antt has four page sets, byte by byte.
+
+-- two whole pages
+pub a-whole-set : length serverA ≡ 8192
+a-whole-set = Computed.serverA-length
+
+pub a-accepted : answer false serverA .verdict ≡ Accepted
+a-accepted = Computed.serverA-accepted
+
+-- B meets the hypothesis with more features, and is accepted with a larger mask
+pub b-rises : Rises false serverA serverB
+b-rises = Computed.serverB-rises
+
+pub b-accepted : answer false serverB .verdict ≡ Accepted
+b-accepted = Computed.serverB-accepted
+
+pub b-richer : answer false serverA .table .«max_extended_state» ∷ answer false serverB .table .«max_extended_state» ∷ [] ≡ 0x7 ∷ 0x18E7 ∷ []
+b-richer = Computed.masks
+
+-- two more that meet it, one refused by 3 and one by 5
+pub without-d12-rises : Rises false serverA serverWithoutD12
+without-d12-rises = Computed.without-rises
+
+pub without-d12-refused : answer false serverWithoutD12 .verdict ≡ Refused (MissingRequiredResult ExtendedStateEnumeration (Some 12))
+without-d12-refused = Computed.without-refused
+
+pub large-d6-rises : Rises false serverA serverWithLargeD6
+large-d6-rises = Computed.large-rises
+
+pub large-d6-refused : answer false serverWithLargeD6 .verdict ≡ Refused SaveAreaOverflow
+large-d6-refused = Computed.large-refused

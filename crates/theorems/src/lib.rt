@@ -1,0 +1,1 @@
+// Every headline statement, in specs/Theorems.antt. There is no code here.
