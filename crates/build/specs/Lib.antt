@@ -1,3 +1,4 @@
 pub mod Rows
 pub mod RowsLaws
 pub mod Build
+pub mod Collect
