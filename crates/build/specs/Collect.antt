@@ -1,31 +1,47 @@
 -- Collecting entry by entry, where the first at a place wins, gives the masked first entry of every place.
 use mathlib.Core.Path.{_≡_, refl, sym, ap, ap₂, _∙_, subst}
-use mathlib.Core.Bool.{Bool, true, false, not, _&&_}
+use mathlib.Core.Bool.{Bool, true, false, not, _||_}
 use mathlib.Core.List.{List, [], _∷_}
 use mathlib.Core.Logic.{_≢_}
-use Prim.Native.Nat.{ℕ, _<_}
+use Prim.Native.Nat.{ℕ, _≤_, _<_}
 use native.Mathlib.Omega.{arith}
 use lib.Dec.{eqb, ltb}
-use lib.ListN.{length, getD, set, length-set, replicate, length-replicate, getD-replicate}
-use lib.Seq.{getD-set-same, getD-set-other}
+use lib.ListN.{length, getD, set, length-set, replicate, length-replicate, getD-replicate, List·getD-eq-default}
+use lib.Seq.{getD-set-same, getD-set-other, set-out}
 use borrow.Author.Tests.{eqb-true, eqb-false, ne-eqb}
 use Rattle.bits.specs.Choice.{pick}
 use Rattle.bits.specs.ChoiceLaws.{never-both, pick-same, pick-true, pick-false}
 use Rattle.bits.specs.Lists.{tabulate, keepIf}
 use Rattle.bits.specs.ListsLaws.{tabulated}
 use Rattle.x86defs.specs.declared.CpuidResult.{CpuidResult}
-use Rattle.x86defs.specs.Functions.{result}
-use Rattle.pages.specs.Layout.{Entry}
+use Rattle.x86defs.specs.Functions.{result, sameFunction, ExtendedStateEnumeration}
+use Rattle.pages.specs.declared.ParsedCpuidEntry.{ParsedCpuidEntry}
+use Rattle.pages.specs.declared.CpuidPageIndex.{CpuidPageIndex}
+use Rattle.pages.specs.Layout.{Entry, entryAt, pagesIn}
+use Rattle.pages.specs.Walk.{parsed, firstIndex, incremented, rest}
+use Rattle.pages.specs.WalkLaws.{Valid, Turn, turn, first-valid, rest-first, rest-end}
 use Rattle.pages.specs.Entries.{entries, counts, counted}
-use Rattle.masking.specs.Kept.{places}
+use Rattle.masking.specs.declared.KeptLeaf.{KeptLeaf}
+use Rattle.masking.specs.Masks.{Masks, applyMask}
+use Rattle.masking.specs.Kept.{places, placeOf}
+use Rattle.masking.specs.Table.{table, noRow, masksOf, rowOfPlace}
+use Rattle.masking.specs.TableLaws.{masks-of-row}
 use Rattle.results.specs.declared.CpuidResults.{CpuidResults}
 use Rattle.results.specs.Rows.{Row, Rows, row, vacant}
 use Rattle.results.specs.Table.{emptyTable, rowIn}
-use Rattle.build.specs.Rows.{placeOfEntry, firstAt, maskedAt, maskRow, rowsOf}
+use Rattle.build.specs.Rows.{placeOfEntry, firstAt, setLegacy, maskedAt, maskRow, rowsOf}
 
 -- where an entry is stored: its place if it counts, else 88, past the last
 unfoldable pub storedAt : Entry → ℕ
 storedAt e = pick (counts e) (placeOfEntry e) places
+
+-- the same from what the code takes of an entry, and its page
+unfoldable pub countedPlace : ℕ → ParsedCpuidEntry → ℕ
+countedPlace p e = pick (not (sameFunction (e .leaf) ExtendedStateEnumeration) || eqb p 1) (placeOf (e .leaf) (e .subleaf)) places
+
+pub counted-place-stored : (s : List ℕ) (p q : ℕ) → countedPlace p (parsed (entryAt s p q)) ≡ storedAt (entryAt s p q)
+unfolding countedPlace storedAt counts entryAt
+counted-place-stored s p q = refl
 
 -- a table with a row stored at place i; past the last nothing changes
 abbrev pub store : CpuidResults → ℕ → CpuidResult → CpuidResults
@@ -203,3 +219,73 @@ collect-all avic s k = record {
   «row_count» = rest-all avic (entries s) emptyTable .0 k;
   «max_extended_state» = rest-all avic (entries s) emptyTable .1 k;
 }
+
+-- ---- a turn of the loop, by what it finds at the entry's place
+
+pub insert-kept : (avic : Bool) (t : CpuidResults) (e : Entry) → getD (t .present) (storedAt e) false ≡ true → t ≡ insert avic t e
+unfolding insert
+insert-kept avic t e p = sym (pick-true _ _ p)
+
+pub insert-new : (avic : Bool) (t : CpuidResults) (e : Entry) → getD (t .present) (storedAt e) false ≡ false
+    → store t (storedAt e) (maskedAt avic (storedAt e) (e .registers)) ≡ insert avic t e
+unfolding insert
+insert-new avic t e p = sym (pick-false _ _ p)
+
+-- past the last place nothing is stored
+pub insert-none : (avic : Bool) (t : CpuidResults) (e : Entry) → Whole t → places ≤ storedAt e → t ≡ insert avic t e
+unfolding insert
+insert-none avic t e w h =
+    let p : length (t .present) ≤ storedAt e = omega (arith, w .present) in
+    let q : length (t .results) ≤ storedAt e = omega (arith, w .results) in
+    sym (pick-false _ _ (List·getD-eq-default (t .present) false p)
+    ∙ (λ k. record {
+      present = set-out (t .present) (storedAt e) true p k;
+      results = set-out (t .results) (storedAt e) (maskedAt avic (storedAt e) (e .registers)) q k;
+      «row_count» = t .«row_count»;
+      «max_extended_state» = t .«max_extended_state»;
+    }))
+
+-- the same in the code's terms: the place found, and the table after the turn
+module _ (avic : Bool) (t u : CpuidResults) (e : Entry) (place : ℕ) (at : place ≡ storedAt e) where
+  pub turn-kept : getD (t .present) place false ≡ true → u ≡ t → u ≡ insert avic t e
+  turn-kept p q = q ∙ insert-kept avic t e (rw at at p)
+
+  pub turn-new : (r : CpuidResult) → getD (t .present) place false ≡ false → u ≡ store t place r → r ≡ maskedAt avic place (e .registers) → u ≡ insert avic t e
+  turn-new r p q m = q ∙ ap₂ (store t) at m ∙ rw at (insert-new avic t e (rw at at p))
+
+  pub turn-none : Whole t → places ≤ place → u ≡ t → u ≡ insert avic t e
+  turn-none w l q = q ∙ insert-none avic t e w (rw at at l)
+
+-- a row of the code's table of kept leaves masks as its place does
+pub row-masks : (avic : Bool) (place row : ℕ) (kept : List KeptLeaf) (r : CpuidResult) → kept ≡ table avic → row ≡ rowOfPlace place
+    → setLegacy place (applyMask (masksOf (getD kept row noRow)) r) ≡ maskedAt avic place r
+row-masks avic place row kept r p q = rw (p, q) (ap (λ (m : Masks). setLegacy place (applyMask m r)) (masks-of-row avic place))
+
+-- what holds before each turn: the entries that are left give what all give
+pub record Collecting (avic : Bool) (s : List ℕ) (t : CpuidResults) (i : CpuidPageIndex) : Type 0 where
+  pub whole : Whole t
+  pub valid : Valid s i
+  pub left : insertAll avic t (rest s i) ≡ collected avic s
+
+pub collecting-first : (avic : Bool) (s : List ℕ) → Collecting avic s emptyTable (firstIndex s)
+collecting-first avic s = record {
+  whole = empty-whole;
+  valid = first-valid s;
+  left = ap (insertAll avic emptyTable) (rest-first s) ∙ collect-all avic s;
+}
+
+pub collecting-next : (avic : Bool) (s : List ℕ) (t u : CpuidResults) (i : CpuidPageIndex) → Collecting avic s t i → i .«page_index» < pagesIn s
+    → u ≡ insert avic t (entryAt s (i .«page_index») (i .«function_index»)) → Collecting avic s u (incremented s i)
+unfolding insertAll
+collecting-next avic s t u i c h e =
+    let turn-i : Turn s i = turn s i (c .valid) h in
+    record {
+      whole = subst Whole (sym e) (whole-insert avic t (entryAt s (i .«page_index») (i .«function_index»)) (c .whole));
+      valid = turn-i .valid;
+      left = ap (λ (x : CpuidResults). insertAll avic x (rest s (incremented s i))) e ∙ sym (ap (insertAll avic t) (turn-i .taken)) ∙ c .left;
+    }
+
+pub collecting-last : (avic : Bool) (s : List ℕ) (t : CpuidResults) (i : CpuidPageIndex) → Collecting avic s t i → pagesIn s ≤ i .«page_index»
+    → t ≡ collected avic s
+unfolding insertAll
+collecting-last avic s t i c h = sym (ap (insertAll avic t) (rest-end s i h)) ∙ c .left

@@ -1,1 +1,97 @@
 // Pages in, one table or one refusal out.
+use masking::KeptLeaf;
+use pages::ParsedCpuidEntry;
+use results::CpuidResults;
+use x86defs::CpuidResult;
+ghost use mathlib.Core.Path.{_≡_};
+ghost use mathlib.Core.Bool.{true};
+ghost use Prim.Native.Nat.{_<_};
+ghost use Rattle.pages.specs.Layout.{countsFit};
+ghost use Rattle.masking.specs.Masks.{applyMask};
+ghost use Rattle.masking.specs.Table.{masksOf};
+ghost use Rattle.results.specs.Table.{emptyTable};
+ghost use Rattle.build.specs.Rows.{setLegacy};
+ghost use Rattle.build.specs.Collect.{collected, countedPlace};
+
+const PLACES: usize = 88;
+
+const EXTENDED_STATE: u32 = 0xD;
+
+const EXTENDED_STATE_PLACE: usize = 6;
+
+const LEGACY_FEATURES: u32 = 3;
+
+// No rows at all.
+fn empty_table() -> CpuidResults
+    ensures { λ r. ⌜ r ≡ emptyTable ⌝ }
+{
+    let zero = CpuidResult {
+        eax: 0,
+        ebx: 0,
+        ecx: 0,
+        edx: 0,
+    };
+    CpuidResults {
+        present: [false; 88],
+        results: [zero; 88],
+        row_count: 0,
+        max_extended_state: 0,
+    }
+}
+
+// The place of an entry, or 88 where its leaf is filtered or, for leaf Dh, it does not stand on page 1.
+fn counted_place(page: usize, entry: ParsedCpuidEntry) -> usize
+    ensures { λ r. ⌜ r ≡ countedPlace page entry ⌝ }
+{
+    let leaf = entry.leaf;
+    if leaf.0 == EXTENDED_STATE {
+        if page == 1 {
+            return masking::place_of(leaf, entry.subleaf);
+        }
+        return PLACES;
+    }
+    masking::place_of(leaf, entry.subleaf)
+}
+
+// An entry's registers at its place: masked, and for D.0 with bits 0 and 1 of EAX set.
+fn masked_at(kept: KeptLeaf, place: usize, r: CpuidResult) -> CpuidResult
+    ensures { λ q. ⌜ q ≡ setLegacy place (applyMask (masksOf kept) r) ⌝ }
+{
+    let masked = masking::apply_mask(kept, r);
+    if place == EXTENDED_STATE_PLACE {
+        return CpuidResult {
+            eax: masked.eax | LEGACY_FEATURES,
+            ebx: masked.ebx,
+            ecx: masked.ecx,
+            edx: masked.edx,
+        };
+    }
+    masked
+}
+
+// The masked first entry of every place, from pages whose counts are lawful.
+fn collect(pages: &[u8], secure_avic: bool) -> CpuidResults
+    requires { ⌜ countsFit (now pages) ≡ true ⌝ }
+    ensures { λ r. ⌜ r ≡ collected «secure_avic» (now (pages .entry)) ⌝ }
+{
+    let kept = masking::kept_leaves(secure_avic);
+    let n = pages::page_count(pages);
+    let mut t = empty_table();
+    let mut index = pages::first_index(pages);
+    while index.page_index < n {
+        let entry = pages::entry_at(pages, index);
+        let place = counted_place(index.page_index, entry);
+        if place < PLACES {
+            if t.present[place] {} else {
+                let row = masking::mask_row(place);
+                let r = entry.result;
+                let masked = masked_at(kept[row], place, r);
+                t.present[place] = true;
+                t.results[place] = masked;
+            }
+        }
+        let next = pages::increment(pages, index);
+        index = next;
+    }
+    t
+}

@@ -1,3 +1,6 @@
 pub mod Layout
+pub mod LayoutLaws
 pub mod Entries
 pub mod EntriesLaws
+pub mod Walk
+pub mod WalkLaws

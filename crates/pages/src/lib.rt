@@ -1,1 +1,173 @@
 // The CPUID pages of the SEV-SNP firmware. Page bytes come in; the entries that count go out, in order.
+use x86defs::CpuidFunction;
+use x86defs::CpuidResult;
+ghost use mathlib.Core.Path.{_≡_};
+ghost use Prim.Native.Nat.{_+_, _≤_, _<_};
+ghost use lib.ListN.{length, getD};
+ghost use Rattle.pages.specs.Layout.{word, pagesIn, countOf, badLength, countsFit, entryAt, mostEntries};
+ghost use Rattle.pages.specs.Walk.{firstIndex, nextValid, incremented, firstFrom, parsed};
+
+const PAGE_SIZE: usize = 4096;
+
+const FIRST_ENTRY: usize = 16;
+
+const ENTRY_SIZE: usize = 48;
+
+const MOST_ENTRIES: u32 = 64;
+
+// Where the walk stands: a page, and a position on it. At the end it is the page after the last, position 0.
+pub struct CpuidPageIndex {
+    pub page_index: usize,
+    pub function_index: usize,
+}
+
+// What is read of an entry.
+pub struct ParsedCpuidEntry {
+    pub leaf: CpuidFunction,
+    pub subleaf: u32,
+    pub result: CpuidResult,
+}
+
+// The four bytes at `o`, the lowest first.
+pub fn word(pages: &[u8], o: usize) -> u32
+    requires { ⌜ o + 4 ≤ length (now pages) ⌝ }
+    ensures { λ r. ⌜ r ≡ word (now (pages .entry)) o ⌝ }
+{
+    byte(pages, o)
+        + 256 * byte(pages, o + 1)
+        + 65536 * byte(pages, o + 2)
+        + 16777216 * byte(pages, o + 3)
+}
+
+// How many whole pages there are.
+pub fn page_count(pages: &[u8]) -> usize
+    ensures { λ r. ⌜ r ≡ pagesIn (now (pages .entry)) ⌝ }
+{
+    pages.len() / PAGE_SIZE
+}
+
+// The count that page `p` gives of its entries.
+pub fn count_of(pages: &[u8], p: usize) -> u32
+    requires { ⌜ p < pagesIn (now pages) ⌝ }
+    ensures { λ r. ⌜ r ≡ countOf (now (pages .entry)) p ⌝ }
+{
+    word(pages, PAGE_SIZE * p)
+}
+
+// Refusal 1: whether there is no byte, or a part of a page.
+pub fn bad_length(pages: &[u8]) -> bool
+    ensures { λ r. ⌜ r ≡ badLength (now (pages .entry)) ⌝ }
+{
+    if pages.len() == 0 {
+        return true;
+    }
+    pages.len() % PAGE_SIZE != 0
+}
+
+// Whether no count is above 64; where one is, that is refusal 2. Bytes after the last whole page are not read.
+pub fn counts_fit(pages: &[u8]) -> bool
+    ensures { λ r. ⌜ r ≡ countsFit (now (pages .entry)) ⌝ }
+{
+    let n = page_count(pages);
+    for p in 0..n {
+        if count_of(pages, p) > MOST_ENTRIES {
+            return false;
+        }
+    }
+    true
+}
+
+// The index of the first entry, or the end. The source's `CpuidPageIndex::new`.
+pub fn first_index(pages: &[u8]) -> CpuidPageIndex
+    ensures { λ r. ⌜ r ≡ firstIndex (now (pages .entry)) ⌝ }
+{
+    let start = CpuidPageIndex {
+        page_index: 0,
+        function_index: 0,
+    };
+    next_valid_index(pages, start)
+}
+
+// The index as it is where it stands below its page's count; else the first entry of a later page, or the end.
+pub fn next_valid_index(pages: &[u8], index: CpuidPageIndex) -> CpuidPageIndex
+    ensures { λ r. ⌜ r ≡ nextValid (now (pages .entry)) index ⌝ }
+{
+    let n = page_count(pages);
+    let page = index.page_index;
+    if page < n {
+        let position = index.function_index;
+        if position < count_of(pages, page) as usize {
+            return index;
+        }
+        let later = page + 1;
+        return skip_empty(pages, later, n - later);
+    }
+    CpuidPageIndex {
+        page_index: n,
+        function_index: 0,
+    }
+}
+
+// The index of the entry after this one, or the end; past the last page the index stays as it is.
+// A position at or above its page's count goes to a later page, as the next position would.
+pub fn increment(pages: &[u8], index: CpuidPageIndex) -> CpuidPageIndex
+    ensures { λ r. ⌜ r ≡ incremented (now (pages .entry)) index ⌝ }
+{
+    let page = index.page_index;
+    if page < page_count(pages) {
+        let position = index.function_index;
+        if position < count_of(pages, page) as usize {
+            let after = CpuidPageIndex {
+                page_index: page,
+                function_index: position + 1,
+            };
+            return next_valid_index(pages, after);
+        }
+        return next_valid_index(pages, index);
+    }
+    index
+}
+
+// The entry at an index.
+pub fn entry_at(pages: &[u8], index: CpuidPageIndex) -> ParsedCpuidEntry
+    requires { ⌜ (index .«page_index» < pagesIn (now pages)) × (index .«function_index» < mostEntries) ⌝ }
+    ensures { λ r. ⌜ r ≡ parsed (entryAt (now (pages .entry)) (index .«page_index») (index .«function_index»)) ⌝ }
+{
+    let o = PAGE_SIZE * index.page_index + FIRST_ENTRY + ENTRY_SIZE * index.function_index;
+    ParsedCpuidEntry {
+        leaf: CpuidFunction(word(pages, o)),
+        subleaf: word(pages, o + 4),
+        result: CpuidResult {
+            eax: word(pages, o + 24),
+            ebx: word(pages, o + 28),
+            ecx: word(pages, o + 32),
+            edx: word(pages, o + 36),
+        },
+    }
+}
+
+// The first entry of the `left` pages from `page` on, or the end. Past an empty page it calls itself on the pages left.
+fn skip_empty(pages: &[u8], page: usize, left: usize) -> CpuidPageIndex
+    requires { ⌜ page + left ≡ pagesIn (now pages) ⌝ }
+    ensures { λ r. ⌜ r ≡ firstFrom (now (pages .entry)) page ⌝ }
+{
+    let start = CpuidPageIndex {
+        page_index: page,
+        function_index: 0,
+    };
+    if left == 0 {
+        return start;
+    }
+    if count_of(pages, page) == 0 {
+        return skip_empty(pages, page + 1, left - 1);
+    }
+    start
+}
+
+// The byte at `i`.
+fn byte(s: &[u8], i: usize) -> u32
+    requires { ⌜ i < length (now s) ⌝ }
+    ensures { λ r. ⌜ (r ≡ getD (now (s .entry)) i 0) × (r < 256) ⌝ }
+{
+    s[i] as u32
+}

@@ -1,5 +1,6 @@
 pub mod Functions
 pub mod Fields
+pub mod FieldsLaws
 pub mod VersionAndFeaturesEcx
 pub mod VersionAndFeaturesEdx
 pub mod ExtendedFeatureSubleaf0Ebx

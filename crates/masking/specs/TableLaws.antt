@@ -1,0 +1,42 @@
+-- The table of the code gives each of the 88 places its masks, and takes from pages what the definition takes.
+use mathlib.Core.Path.{_≡_, refl, sym, ap, _∙_}
+use mathlib.Core.Bool.{Bool, true, false, _&&_}
+use mathlib.Core.List.{List, [], _∷_, map}
+use Prim.Native.Nat.{ℕ, zero, suc, _+_, _-_, _^_, _≤_, _<_}
+use native.Mathlib.Omega.{arith}
+use lib.Dec.{ltb, leb}
+use lib.ListN.{getD}
+use borrow.Author.Tests.{le-leb, lt-leb}
+use Rattle.bits.specs.Choice.{pick}
+use Rattle.bits.specs.ChoiceLaws.{and-both}
+use Rattle.bits.specs.Lists.{tabulate}
+use Rattle.bits.specs.ListsLaws.{tabulate-at}
+use Rattle.x86defs.specs.declared.CpuidResult.{CpuidResult}
+use Rattle.masking.specs.Masks.{Masks, ones, applyMask}
+use Rattle.masking.specs.Kept.{Span, Kept, keptLeaves, placesOf, places, takes, slotIn, slot, masksAt}
+use Rattle.masking.specs.Kept.Span.{made, whole, subleaves}
+use Rattle.masking.specs.Table.{firstOf, lastOf, keptLeaf, rows, table, noRow, rowAt, masksOf, rowIn, rowOfPlace}
+
+-- a row takes the subleaves from its first to its last
+pub takes-between : (t : Span) (k : ℕ) → k < 2 ^ 32 → takes t k ≡ (leb (firstOf t) k && leb k (lastOf t))
+takes-between made zero h = refl
+takes-between made (suc k) h = rw (le-leb 1 (suc k) (omega arith), lt-leb (suc k) 0 (omega arith))
+takes-between whole k h = sym (and-both (le-leb 0 k (omega arith)) (le-leb k ones (omega arith)))
+takes-between (subleaves first last) k h = refl
+
+masks-in : (rs : List Kept) (i : ℕ) → masksOf (getD (map keptLeaf rs) (rowIn rs i) noRow) ≡ slotIn rs i .masks
+masks-in [] i = refl
+masks-in (r ∷ rs) i = go (masks-in rs (i - n)) (ltb i n) refl
+  where
+    n : ℕ
+    n = placesOf (r .span)
+
+    go : masksOf (getD (map keptLeaf rs) (rowIn rs (i - n)) noRow) ≡ slotIn rs (i - n) .masks → (b : Bool) → ltb i n ≡ b
+        → masksOf (getD (map keptLeaf (r ∷ rs)) (rowIn (r ∷ rs) i) noRow) ≡ slotIn (r ∷ rs) i .masks
+    go ih true e = rw e
+    go ih false e = rw e ih
+
+-- the masks of a place are those of its row
+pub masks-of-row : (avic : Bool) (i : ℕ) → masksOf (rowAt avic (rowOfPlace i)) ≡ masksAt avic i
+unfolding table rowOfPlace slot keptLeaves
+masks-of-row avic i = masks-in (keptLeaves avic) i

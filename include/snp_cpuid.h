@@ -1,0 +1,79 @@
+/* snp_cpuid.h: the proved CPUID table of SEV-SNP guests, from C.
+ *
+ * Link with target/staticlib/libsnp_cpuid.a (`rt staticlib snp_cpuid`). Every function may be called with any arguments that fit its
+ * types: there is nothing that a caller must establish first. The functions keep no state, allocate nothing and may be called from
+ * several threads at once.
+ *
+ * Pages are the CPUID pages of the SEV-SNP firmware, 4,096 bytes each, end to end. A pointer may be null where its length is 0.
+ */
+#ifndef SNP_CPUID_H
+#define SNP_CPUID_H
+
+#include <stdbool.h>
+#include <stddef.h>
+#include <stdint.h>
+
+#ifdef __cplusplus
+extern "C" {
+#endif
+
+/* The number of an answer: 0 where accepted, else the refusal.
+ *   1 the length is 0 or no multiple of 4,096       6 topology: hyperthreading (names s)
+ *   2 a page's count is above 64                    7 topology: processor count (names s)
+ *   3 a required result is missing (names leaf      8 topology: threads per unit
+ *     and, where the leaf has them, subleaf)        9 the buffer is shorter than the image
+ *   4 INVLPGB is unavailable
+ *   5 a save-area size overflows
+ * A leaf, subleaf or s that the number does not name is 0. */
+
+/* What building gives. A refused table has row_count 0 and max_extended_state 0. */
+struct snp_cpuid_built {
+    uint32_t number;
+    uint32_t leaf;
+    uint32_t has_subleaf; /* 1 where the refusal names a subleaf */
+    uint32_t subleaf;
+    uint32_t s;
+    uint32_t row_count;          /* 26 to 32 */
+    uint64_t max_extended_state; /* the combined mask, XFEM or XSS */
+};
+
+/* What a lookup gives: found is 1 and the four registers, or all zeros. */
+struct snp_cpuid_found {
+    uint32_t found;
+    uint32_t eax;
+    uint32_t ebx;
+    uint32_t ecx;
+    uint32_t edx;
+};
+
+/* What a write gives: number 0 and the image's length, or a refusal and length 0. */
+struct snp_cpuid_written {
+    uint32_t number;
+    uint32_t leaf;
+    uint32_t has_subleaf;
+    uint32_t subleaf;
+    uint32_t s;
+    uint32_t length;
+};
+
+/* The most bytes that an image can have. */
+#define SNP_CPUID_MOST_IMAGE_BYTES 732
+
+/* Builds the table of the given pages. secure_avic adds one bit to the mask of 8000001Fh.EAX. */
+struct snp_cpuid_built snp_cpuid_build(const uint8_t *pages, size_t length, bool secure_avic);
+
+/* Builds, and looks a row up as leaf_result_ref does. subleaf is read only where has_subleaf is true. A leaf without subleaves is found
+ * where no subleaf is given or enforce_subleaf is false; one with subleaves only under a subleaf that the table has. Nothing is found
+ * where building refuses. */
+struct snp_cpuid_found snp_cpuid_lookup(const uint8_t *pages, size_t length, bool secure_avic, uint32_t leaf, bool has_subleaf,
+                                        uint32_t subleaf, bool enforce_subleaf);
+
+/* Builds, and writes the image at the front of out: for each row byte 1, leaf, EAX, EBX, ECX, EDX, or byte 2, leaf, subleaf and the
+ * four, each number 4 bytes little-endian. Where it refuses, out is as it was; bytes beyond the image are as they were. */
+struct snp_cpuid_written snp_cpuid_write_image(const uint8_t *pages, size_t length, bool secure_avic, uint8_t *out, size_t room);
+
+#ifdef __cplusplus
+}
+#endif
+
+#endif
