@@ -245,21 +245,25 @@ insert-none avic t e w h =
       «max_extended_state» = t .«max_extended_state»;
     }))
 
+-- a row of the code's table of kept leaves masks as its place does
+pub row-masks : (avic : Bool) (place row : ℕ) (kept : List KeptLeaf) (r : CpuidResult) → kept ≡ table avic → row ≡ rowOfPlace place
+    → setLegacy place (applyMask (masksOf (getD kept row noRow)) r) ≡ maskedAt avic place r
+row-masks avic place row kept r p q = rw (p, q) (ap (λ (m : Masks). setLegacy place (applyMask m r)) (masks-of-row avic place))
+
 -- the same in the code's terms: the place found, and the table after the turn
 module _ (avic : Bool) (t u : CpuidResults) (e : Entry) (place : ℕ) (at : place ≡ storedAt e) where
   pub turn-kept : getD (t .present) place false ≡ true → u ≡ t → u ≡ insert avic t e
   turn-kept p q = q ∙ insert-kept avic t e (rw at at p)
 
-  pub turn-new : (r : CpuidResult) → getD (t .present) place false ≡ false → u ≡ store t place r → r ≡ maskedAt avic place (e .registers) → u ≡ insert avic t e
-  turn-new r p q m = q ∙ ap₂ (store t) at m ∙ rw at (insert-new avic t e (rw at at p))
+  pub turn-new : (kept : List KeptLeaf) (row : ℕ) (p : ParsedCpuidEntry) (r : CpuidResult) → kept ≡ table avic → row ≡ rowOfPlace place → p ≡ parsed e
+      → getD (t .present) place false ≡ false → r ≡ setLegacy place (applyMask (masksOf (getD kept row noRow)) (p .result)) → u ≡ store t place r
+      → u ≡ insert avic t e
+  turn-new kept row p r k n parse free m q =
+      q ∙ ap₂ (store t) at (m ∙ row-masks avic place row kept (p .result) k n ∙ ap₂ (maskedAt avic) at (ap (λ (x : ParsedCpuidEntry). x .result) parse))
+      ∙ insert-new avic t e (rw at at free)
 
   pub turn-none : Whole t → places ≤ place → u ≡ t → u ≡ insert avic t e
   turn-none w l q = q ∙ insert-none avic t e w (rw at at l)
-
--- a row of the code's table of kept leaves masks as its place does
-pub row-masks : (avic : Bool) (place row : ℕ) (kept : List KeptLeaf) (r : CpuidResult) → kept ≡ table avic → row ≡ rowOfPlace place
-    → setLegacy place (applyMask (masksOf (getD kept row noRow)) r) ≡ maskedAt avic place r
-row-masks avic place row kept r p q = rw (p, q) (ap (λ (m : Masks). setLegacy place (applyMask m r)) (masks-of-row avic place))
 
 -- what holds before each turn: the entries that are left give what all give
 pub record Collecting (avic : Bool) (s : List ℕ) (t : CpuidResults) (i : CpuidPageIndex) : Type 0 where

@@ -5,11 +5,9 @@ use mathlib.Core.Path.{_≡_, sym, ap, _∙_}
 use mathlib.Core.Logic.{⊎-elim}
 use Prim.Native.Nat.{_<_}
 use lib.ListN.{length}
-use Rattle.pages.specs.declared.ParsedCpuidEntry.{ParsedCpuidEntry}
 use Rattle.pages.specs.Walk.{rest}
 use Rattle.pages.specs.WalkLaws.{turn}
-use Rattle.build.specs.Rows.{maskedAt}
-use Rattle.build.specs.Collect.{countedPlace, counted-place-stored, turn-kept, turn-new, turn-none, row-masks, Collecting, collecting-first, collecting-next, collecting-last}
+use Rattle.build.specs.Collect.{countedPlace, counted-place-stored, turn-kept, turn-new, turn-none, Collecting, collecting-first, collecting-next, collecting-last}
 use Rattle.build.proofs.collect.Statement.{statement}
 use Rattle.build.proofs.collect.Tie as tie
 
@@ -45,13 +43,12 @@ loop-again c =
     rw (c .increment .ensures)
     (collecting-next _ _ (l .loop .t) _ _ (l .loop .inv) h
     (⊎-elim
-    (λ w. turn-kept _ _ _ _ _ at (w .2 .taken) (w .3))
+    (λ w. turn-kept _ (l .loop .t) _ _ _ at (w .2 .taken) (w .3))
     (⊎-elim
-    (λ w. turn-new _ _ _ _ _ at (w .6 .result) (w .2 .left) (w .7)
-    (w .6 .ensures
-    ∙ row-masks _ _ _ _ _ (l .before .before .before .before .kept-leaves .ensures) (w .3 .ensures .0)
-    ∙ ap (λ (x : ParsedCpuidEntry). maskedAt _ _ (x .result)) (k .before .entry-at .ensures)))
-    (λ w. turn-none _ _ _ _ _ at (l .loop .inv .whole) (w .0 .left) (w .1)))
+    (λ w.
+      turn-new _ (l .loop .t) _ _ _ at _ _ _ (w .6 .result) (l .before .before .before .before .kept-leaves .ensures) (w .3 .ensures .0)
+      (k .before .entry-at .ensures) (w .2 .left) (w .6 .ensures) (w .7))
+    (λ w. turn-none _ (l .loop .t) _ _ _ at (l .loop .inv .whole) (w .0 .left) (w .1)))
     (c .before .if2 .came)))
 
 returns : tie.Need-returns Inv-loop μ-loop
