@@ -1,5 +1,5 @@
 -- Collecting entry by entry, where the first at a place wins, gives the masked first entry of every place.
-use mathlib.Core.Path.{_≡_, refl, sym, ap, ap₂, _∙_, subst}
+use mathlib.Core.Path.{_≡_, refl, sym, ap, ap₂, _∙_, subst, fun-ext}
 use mathlib.Core.Bool.{Bool, true, false, not, _||_}
 use mathlib.Core.List.{List, [], _∷_}
 use mathlib.Core.Logic.{_≢_}
@@ -8,11 +8,11 @@ use native.Mathlib.Omega.{arith}
 use lib.Dec.{eqb, ltb}
 use lib.ListN.{length, getD, set, length-set, replicate, length-replicate, getD-replicate, List·getD-eq-default}
 use lib.Seq.{getD-set-same, getD-set-other, set-out}
-use borrow.Author.Tests.{eqb-true, eqb-false, ne-eqb}
+use borrow.Author.Tests.{eqb-true, eqb-false, ne-eqb, ltb-true, ltb-false}
 use Rattle.bits.specs.Choice.{pick}
 use Rattle.bits.specs.ChoiceLaws.{never-both, pick-same, pick-true, pick-false}
 use Rattle.bits.specs.Lists.{tabulate, keepIf}
-use Rattle.bits.specs.ListsLaws.{tabulated}
+use Rattle.bits.specs.ListsLaws.{tabulated, getD-tabulate, length-tabulate}
 use Rattle.x86defs.specs.declared.CpuidResult.{CpuidResult}
 use Rattle.x86defs.specs.Functions.{result, sameFunction, ExtendedStateEnumeration}
 use Rattle.pages.specs.declared.ParsedCpuidEntry.{ParsedCpuidEntry}
@@ -28,7 +28,8 @@ use Rattle.masking.specs.Table.{table, noRow, masksOf, rowOfPlace}
 use Rattle.masking.specs.TableLaws.{masks-of-row}
 use Rattle.results.specs.declared.CpuidResults.{CpuidResults}
 use Rattle.results.specs.Rows.{Row, Rows, row, vacant}
-use Rattle.results.specs.Table.{emptyTable, rowIn}
+use Rattle.results.specs.Table.{emptyTable, rowIn, rowsIn}
+use Rattle.build.specs.RowsLaws.{row-of-place, row-beyond}
 use Rattle.build.specs.Rows.{placeOfEntry, firstAt, setLegacy, maskedAt, maskRow, rowsOf}
 
 -- where an entry is stored: its place if it counts, else 88, past the last
@@ -203,10 +204,12 @@ empty-whole : Whole emptyTable
 empty-whole = record { present = length-replicate places false; results = length-replicate places (result 0 0 0 0) }
 
 collected-row : (avic : Bool) (s : List ℕ) (i : ℕ) → i < places → rowIn (insertAll avic emptyTable (entries s)) i ≡ rowsOf avic s i
-unfolding rowsOf counted
+unfolding counted
 collected-row avic s i l =
     let e : rowIn emptyTable i ≡ vacant = empty-row i l in
-    insertAll-row avic (entries s) emptyTable empty-whole i l (λ _. e) ∙ pick-false _ _ (ap (λ (x : Row). x .present) e)
+    insertAll-row avic (entries s) emptyTable empty-whole i l (λ _. e)
+    ∙ pick-false _ _ (ap (λ (x : Row). x .present) e)
+    ∙ sym (row-of-place avic s i l)
 
 -- all entries of a page set, inserted into the empty table
 pub collect-all : (avic : Bool) (s : List ℕ) → insertAll avic emptyTable (entries s) ≡ collected avic s
@@ -293,3 +296,22 @@ pub collecting-last : (avic : Bool) (s : List ℕ) (t : CpuidResults) (i : Cpuid
     → t ≡ collected avic s
 unfolding insertAll
 collecting-last avic s t i c h = sym (ap (insertAll avic t) (rest-end s i h)) ∙ c .left
+
+-- the collected table's rows are the masked first entries, at every number
+pub collected-rows : (avic : Bool) (s : List ℕ) → rowsIn (collected avic s) ≡ rowsOf avic s
+unfolding collected
+collected-rows avic s = fun-ext (λ i. go i (ltb i places) refl)
+  where
+    go : (i : ℕ) (b : Bool) → ltb i places ≡ b → rowIn (collected avic s) i ≡ rowsOf avic s i
+    go i true e = λ k. record {
+      present = getD-tabulate places (λ j. rowsOf avic s j .present) i false (ltb-true i places e) k;
+      result = getD-tabulate places (λ j. rowsOf avic s j .result) i (result 0 0 0 0) (ltb-true i places e) k;
+    }
+    go i false e =
+        let p : length (tabulate places (λ j. rowsOf avic s j .present)) ≤ i = omega (arith, length-tabulate places (λ j. rowsOf avic s j .present), ltb-false i places e) in
+        let q : length (tabulate places (λ j. rowsOf avic s j .result)) ≤ i = omega (arith, length-tabulate places (λ j. rowsOf avic s j .result), ltb-false i places e) in
+        (λ k. record {
+          present = List·getD-eq-default (tabulate places (λ j. rowsOf avic s j .present)) false p k;
+          result = List·getD-eq-default (tabulate places (λ j. rowsOf avic s j .result)) (result 0 0 0 0) q k;
+        })
+        ∙ sym (row-beyond avic s i (ltb-false i places e))

@@ -3,7 +3,7 @@
 use mathlib.Core.Bool.{Bool}
 use mathlib.Core.List.{List, [], _∷_}
 use Prim.Native.Nat.{ℕ}
-use lib.Dec.{eqb}
+use lib.Dec.{eqb, ltb}
 use lib.Bits.{bitOr}
 use Rattle.bits.specs.Choice.{pick}
 use Rattle.bits.specs.Bits.{maskOf}
@@ -13,7 +13,7 @@ use Rattle.x86defs.specs.ExtendedStateEnumerationSubleaf0Eax as Subleaf0Eax
 use Rattle.pages.specs.Layout.{Entry}
 use Rattle.pages.specs.Entries.{counted}
 use Rattle.masking.specs.Masks.{applyMask}
-use Rattle.masking.specs.Kept.{placeOf, masksAt}
+use Rattle.masking.specs.Kept.{placeOf, masksAt, places}
 use Rattle.masking.specs.Place
 use Rattle.results.specs.Rows.{Row, Rows, row, vacant}
 
@@ -41,6 +41,6 @@ maskedAt avic i r = setLegacy i (applyMask (masksAt avic i) r)
 abbrev pub maskRow : Bool → ℕ → Row → Row
 maskRow avic i r = pick (r .present) (row (maskedAt avic i (r .result))) vacant
 
--- the masked first entries of a page set
+-- the masked first entries of a page set; there are 88 places
 unfoldable pub rowsOf : Bool → List ℕ → Rows
-rowsOf avic s i = maskRow avic i (firstAt i (counted s))
+rowsOf avic s i = pick (ltb i places) (maskRow avic i (firstAt i (counted s))) vacant

@@ -5,6 +5,7 @@ use mathlib.Core.List.{List}
 use Prim.Native.Nat.{ℕ, _+_, _≤_}
 use native.Mathlib.Nat.{le-refl}
 use native.Mathlib.Omega.{arith}
+use lib.Dec.{ltb}
 use Rattle.bits.specs.Choice.{pick}
 use Rattle.bits.specs.Lists.{sumTo, one}
 use Rattle.bits.specs.Bits.{bit, has, maskOf, Within}
@@ -12,7 +13,7 @@ use Rattle.bits.specs.BitsLaws.{within-refl, within-trans, within-of-and, withi
 use Rattle.x86defs.specs.declared.CpuidResult.{CpuidResult}
 use Rattle.pages.specs.Entries.{counted}
 use Rattle.masking.specs.Masks.{extendedState0, extendedState1}
-use Rattle.masking.specs.Kept.{keptLeaves, slot}
+use Rattle.masking.specs.Kept.{keptLeaves, slot, places}
 use Rattle.masking.specs.Place
 use Rattle.results.specs.Rows.{Row, Rows, vacant}
 use Rattle.results.specs.ExtendedState.{xfem, xss, combinedMask}
@@ -26,14 +27,15 @@ use Rattle.counting.specs.Sums.{sum-mono}
 register-within : (register : CpuidResult → ℕ) (avic : Bool) (s : List ℕ) (i : ℕ) {x : ℕ} → ((r : CpuidResult) → Within (register (maskedAt avic i r)) x)
     → Within (register (vacant .result)) x → Within (register (rowsOf avic s i .result)) x
 unfolding rowsOf
-register-within register avic s i {x} masked absent = go (first .present)
+register-within register avic s i {x} masked absent = go (ltb i places) (first .present)
   where
     first : Row
     first = firstAt i (counted s)
 
-    go : (b : Bool) → Within (register (maskRow avic i (record { present = b; result = first .result }) .result)) x
-    go true = masked (first .result)
-    go false = absent
+    go : (inside b : Bool) → Within (register (pick inside (maskRow avic i (record { present = b; result = first .result })) vacant .result)) x
+    go true true = masked (first .result)
+    go true false = absent
+    go false b = absent
 
 -- D.0.EAX, with bits 0 and 1 set, and D.1.ECX
 xfem-within : (avic : Bool) (s : List ℕ) → Within (xfem (rowsOf avic s)) (extendedState0 .eax)

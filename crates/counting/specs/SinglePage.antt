@@ -17,6 +17,7 @@ use Rattle.masking.specs.KeptLaws.{entry-belongs}
 use Rattle.masking.specs.Place
 use Rattle.results.specs.Required.{requiredAt, placeRequired}
 use Rattle.results.specs.ChecksLaws.{AllPass, required-present}
+use Rattle.build.specs.RowsLaws.{row-of-place}
 use Rattle.build.specs.Rows.{placeOfEntry, firstAt, rowsOf}
 
 -- an entry off page 1 that goes to a D subleaf does not count
@@ -47,8 +48,7 @@ module _ (avic : Bool) (s : List ℕ) (single : length s ≡ pageSize) where
   counted-on-page-0 = rw single (ap (keepIf counts) (append-nil (onPage s 0 0 (countOf s 0))))
 
   row-absent : (i : ℕ) → i < places → leafAt i ≡ ExtendedStateEnumeration → rowsOf avic s i .present ≡ false
-  unfolding rowsOf
-  row-absent i h leaf = rw (counted-on-page-0, first-absent s 0 i refl h leaf 0 (countOf s 0))
+  row-absent i h leaf = rw (row-of-place avic s i h, counted-on-page-0, first-absent s 0 i refl h leaf 0 (countOf s 0))
 
   -- D.0 stands at position 13 of the required leaves
   pub single-refused : AllPass (rowsOf avic s) → ⊥

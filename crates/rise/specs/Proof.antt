@@ -35,6 +35,7 @@ use Rattle.results.specs.Checks.{missingComponent, componentsVerdict, areaVerdi
 use Rattle.results.specs.ChecksLaws.{component-present, then-right, then-skips}
 use Rattle.results.specs.Table.{tableFor, tableOf, rowIn}
 use Rattle.build.specs.Rows.{firstAt, maskRow, maskedAt, setLegacy, legacyFeatures, rowsOf}
+use Rattle.build.specs.RowsLaws.{row-of-place}
 use Rattle.build.specs.Build.{lawfulVerdict, verdictOf, answer}
 use Rattle.exactly.specs.Conditions.{Lacking, ComponentFault, AreaFault}
 use Rattle.exactly.specs.Decides.{Decides}
@@ -212,15 +213,15 @@ letter-entry avic i x y e h = record {
 }
 
 letter-rises : (avic : Bool) (a b : List ℕ) → RisesByTheLetter avic a b → Rises avic a b
-unfolding rowsOf
 letter-rises avic a b h = record {
   accepted = h .accepted;
   lawful = h .lawful;
   entries = λ i l f p.
-      letter-entry avic i (firstAt i (counted a)) (firstAt i (counted b))
-      (sym (mask-row-present avic i (firstAt i (counted a)))
+      subst₂ (EntryRises i) (sym (row-of-place avic a i l)) (sym (row-of-place avic b i l))
+      (letter-entry avic i (firstAt i (counted a)) (firstAt i (counted b))
+      (sym (ap (λ (r : Row). r .present) (row-of-place avic a i l) ∙ mask-row-present avic i (firstAt i (counted a)))
       ∙ finished-entry (rowsOf avic a) i l f (sym (ap (λ (r : Row). r .present) (answer-row avic a (h .accepted) i l)) ∙ p))
-      (h .entries i l f p);
+      (h .entries i l f p));
 }
 
 pub demand-3-by-the-letter : Demand3ByTheLetter

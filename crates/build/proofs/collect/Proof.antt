@@ -46,8 +46,8 @@ loop-again c =
     (λ w. turn-kept _ (l .loop .t) _ _ _ at (w .2 .taken) (w .3))
     (⊎-elim
     (λ w.
-      turn-new _ (l .loop .t) _ _ _ at _ _ _ (w .6 .result) (l .before .before .before .before .kept-leaves .ensures) (w .3 .ensures .0)
-      (k .before .entry-at .ensures) (w .2 .left) (w .6 .ensures) (w .7))
+    turn-new _ (l .loop .t) _ _ _ at _ _ _ (w .6 .result) (l .before .before .before .before .kept-leaves .ensures) (w .3 .ensures .0)
+    (k .before .entry-at .ensures) (w .2 .left) (w .6 .ensures) (w .7))
     (λ w. turn-none _ (l .loop .t) _ _ _ at (l .loop .inv .whole) (w .0 .left) (w .1)))
     (c .before .if2 .came)))
 
