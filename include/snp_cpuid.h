@@ -33,7 +33,7 @@ struct snp_cpuid_built {
     uint32_t has_subleaf; /* 1 where the refusal names a subleaf */
     uint32_t subleaf;
     uint32_t s;
-    uint32_t row_count;          /* 26 to 32 */
+    uint64_t row_count;          /* 26 to 32 */
     uint64_t max_extended_state; /* the combined mask, XFEM or XSS */
 };
 
@@ -53,7 +53,7 @@ struct snp_cpuid_written {
     uint32_t has_subleaf;
     uint32_t subleaf;
     uint32_t s;
-    uint32_t length;
+    uint64_t length;
 };
 
 /* The most bytes that an image can have. */

@@ -1,4 +1,5 @@
 pub mod Rows
 pub mod RowsLaws
 pub mod Build
+pub mod BuildLaws
 pub mod Collect

@@ -1,7 +1,9 @@
 // Pages in, one table or one refusal out.
 use masking::KeptLeaf;
 use pages::ParsedCpuidEntry;
+use results::Built;
 use results::CpuidResults;
+use results::Refusal;
 use x86defs::CpuidResult;
 ghost use mathlib.Core.Path.{_≡_};
 ghost use mathlib.Core.Bool.{true};
@@ -9,9 +11,9 @@ ghost use Prim.Native.Nat.{_<_};
 ghost use Rattle.pages.specs.Layout.{countsFit};
 ghost use Rattle.masking.specs.Masks.{applyMask};
 ghost use Rattle.masking.specs.Table.{masksOf};
-ghost use Rattle.results.specs.Table.{emptyTable};
 ghost use Rattle.build.specs.Rows.{setLegacy};
 ghost use Rattle.build.specs.Collect.{collected, countedPlace};
+ghost use Rattle.build.specs.Build.{answer};
 
 const PLACES: usize = 88;
 
@@ -20,24 +22,6 @@ const EXTENDED_STATE: u32 = 0xD;
 const EXTENDED_STATE_PLACE: usize = 6;
 
 const LEGACY_FEATURES: u32 = 3;
-
-// No rows at all.
-fn empty_table() -> CpuidResults
-    ensures { λ r. ⌜ r ≡ emptyTable ⌝ }
-{
-    let zero = CpuidResult {
-        eax: 0,
-        ebx: 0,
-        ecx: 0,
-        edx: 0,
-    };
-    CpuidResults {
-        present: [false; 88],
-        results: [zero; 88],
-        row_count: 0,
-        max_extended_state: 0,
-    }
-}
 
 // The place of an entry, or 88 where its leaf is filtered or, for leaf Dh, it does not stand on page 1.
 fn counted_place(page: usize, entry: ParsedCpuidEntry) -> usize
@@ -76,7 +60,7 @@ fn collect(pages: &[u8], secure_avic: bool) -> CpuidResults
 {
     let kept = masking::kept_leaves(secure_avic);
     let n = pages::page_count(pages);
-    let mut t = empty_table();
+    let mut t = results::empty_table();
     let mut index = pages::first_index(pages);
     while index.page_index < n {
         let entry = pages::entry_at(pages, index);
@@ -94,4 +78,17 @@ fn collect(pages: &[u8], secure_avic: bool) -> CpuidResults
         index = next;
     }
     t
+}
+
+// Pages of any length, count and content: one table, or one refusal.
+pub fn build(pages: &[u8], secure_avic: bool) -> Built
+    ensures { λ r. ⌜ r ≡ answer «secure_avic» (now (pages .entry)) ⌝ }
+{
+    if pages::bad_length(pages) {
+        return results::refused(Refusal::PagesLength);
+    }
+    if pages::counts_fit(pages) {
+        return results::update_results(collect(pages, secure_avic));
+    }
+    results::refused(Refusal::PageCount)
 }

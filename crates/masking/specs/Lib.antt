@@ -5,4 +5,5 @@ pub mod Table
 pub mod MasksLaws
 pub mod KeptLaws
 pub mod TableLaws
+pub mod RunLaws
 pub mod PlaceOfLaws

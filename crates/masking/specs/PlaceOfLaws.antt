@@ -1,9 +1,10 @@
--- Where an entry goes, as code decides it: by runs of leaves, of subleaves and of places that one computed test ties to the table.
-use mathlib.Core.Path.{_≡_, refl, sym, ap, subst, _∙_}
+-- Where an entry goes, as code decides it: a leaf with subleaves by a run of them, and what no row takes by the leaves that are listed.
+-- One computed test ties each to the table.
+use mathlib.Core.Path.{_≡_, refl, sym, ap, _∙_}
 use mathlib.Core.Bool.{Bool, true, false, not, _&&_, _||_, false≢true}
 use mathlib.Core.List.{List, [], _∷_}
 use mathlib.Core.Logic.{_⊎_, inl, inr}
-use Prim.Native.Nat.{ℕ, _+_, _-_, _≤_, _<_}
+use Prim.Native.Nat.{ℕ, _+_, _≤_, _<_}
 use native.Mathlib.Omega.{arith}
 use lib.Dec.{ltb, leb, eqb}
 use borrow.Author.Tests.{eqb-true, ltb-true, ltb-false, lt-ltb, le-ltb, lt-leb, eq-eqb, ne-eqb}
@@ -19,13 +20,6 @@ use Rattle.masking.specs.Kept.Span.{made, whole, subleaves}
 and-right-false : (a : Bool) {b : Bool} → b ≡ false → (a && b) ≡ false
 and-right-false true e = e
 and-right-false false e = refl
-
--- two functions that agree on the n numbers from a on, as one computed equation, agree at each of them
-pub on-run {ℓ} : {A : Type ℓ} (f g : ℕ → A) (a n : ℕ) → tabulate n (λ j. f (a + j)) ≡ tabulate n (λ j. g (a + j))
-    → (i : ℕ) → a ≤ i → i < a + n → f i ≡ g i
-on-run f g a n e i low high =
-    let back : a + (i - a) ≡ i = omega arith in
-    subst (λ (j : ℕ). f j ≡ g j) back (tabulate-at n (λ j. f (a + j)) (λ j. g (a + j)) e (i - a) (omega arith))
 
 -- ---- what no row takes
 
@@ -45,6 +39,7 @@ past-end made n k e h = refl
 past-end whole n k e h = absurd (false≢true e)
 past-end (subleaves first last) n k e h = let l : last < n = ltb-true last n e in and-right-false (leb first k) (lt-leb k last (omega arith))
 
+-- so an entry of such a leaf and subleaf is filtered
 filtered-from : (test : ℕ → Bool) (n : ℕ) (rs : List Kept) (i : ℕ) (l : CpuidFunction) (k : ℕ)
     → allEndBy test n rs ≡ true → test (l .0) ≡ true → n ≤ k → placeFrom rs i l k ≡ places
 filtered-from test n [] i l k e p h = refl
@@ -59,12 +54,12 @@ filtered-from test n (r ∷ rs) i l k e p h =
 
 -- ---- a leaf with subleaves
 
--- leaf n, whose subleaves below count have the places from first on, and no other a place
-pub subleaf-run : (n first count : ℕ) → tabulate count (λ j. first + j) ≡ tabulate count (placeOf (function n))
-    → allEndBy (eqb n) count (keptLeaves false) ≡ true
-    → {l : CpuidFunction} {r : ℕ} (k : ℕ) → l .0 ≡ n → r ≡ pick (ltb k count) (first + k) places → r ≡ placeOf l k
+-- the place of subleaf k of leaf n, whose subleaves below count have the places from first on, and no other subleaf a place
+pub subleaf-run : (first count k : ℕ) {n r : ℕ} {l : CpuidFunction} → l .0 ≡ n → r ≡ pick (ltb k count) (first + k) places
+    → tabulate count (λ j. first + j) ≡ tabulate count (placeOf (function n)) → allEndBy (eqb n) count (keptLeaves false) ≡ true
+    → r ≡ placeOf l k
 unfolding placeOf
-subleaf-run n first count e f {l} k p q = q ∙ go (ltb k count) refl ∙ ap (λ (m : ℕ). placeOf (function m) k) (sym p)
+subleaf-run first count k {n} p q e f = q ∙ go (ltb k count) refl ∙ ap (λ (m : ℕ). placeOf (function m) k) (sym p)
   where
     go : (b : Bool) → ltb k count ≡ b → pick b (first + k) places ≡ placeOf (function n) k
     go true u = tabulate-at count (λ j. first + j) (placeOf (function n)) e k (ltb-true k count u)
@@ -97,6 +92,7 @@ outside : (n : ℕ) → (n < 0x80000001) ⊎ (0x80000008 < n) → (ltb n 0x80000
 outside n (inl h) = rw (lt-ltb n 0x80000001 h)
 outside n (inr h) = rw (le-ltb n 0x80000001 (omega arith), lt-ltb 0x80000008 n h)
 
+-- an entry of a leaf that is not listed is filtered
 pub filtered : (l : CpuidFunction) (k : ℕ) → NoneOf singleLeaves (l .0) → (l .0 < 0x80000001) ⊎ (0x80000008 < l .0) → places ≡ placeOf l k
 unfolding placeOf keptLeaves
 filtered l k none out =

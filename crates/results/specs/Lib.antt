@@ -6,6 +6,14 @@ pub mod Topology
 pub mod Finish
 pub mod Checks
 pub mod Table
+pub mod Stages
+pub mod MaskLaws
+pub mod ScanLaws
+pub mod SaveAreaLaws
+pub mod DropLaws
+pub mod CountLaws
+pub mod TableLaws
+pub mod StageLaws
 pub mod Kinds
 pub mod AgainstMisreadings
 pub mod FinishLaws

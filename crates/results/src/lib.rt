@@ -1,7 +1,27 @@
 // The rows of a table. Masked first entries of the 88 places come in; finished rows, or the first check that fails, go out.
+use extended_state::Size;
+use topology::Topology;
 use topology::TopologyError;
+use topology::extended_topology;
 use x86defs::CpuidFunction;
 use x86defs::CpuidResult;
+use x86defs::apic_core_id_size;
+use x86defs::invlpgb;
+use x86defs::lps_per_package;
+use x86defs::mt_per_socket;
+use x86defs::nc;
+use x86defs::threads_per_compute_unit;
+ghost use mathlib.Core.Path.{_≡_};
+ghost use Rattle.results.specs.ExtendedState.{xfem, saveArea};
+ghost use Rattle.results.specs.Checks.{requiredVerdict, topologyVerdict};
+ghost use Rattle.results.specs.Table.{emptyTable, rowsIn, builtFrom};
+ghost use Rattle.results.specs.Stages.{invlpgbOf, refusedBuilt, answer, fromInvlpgb, fromComponents, fromArea};
+
+mod extended_state;
+mod features;
+mod finish;
+mod place;
+mod required;
 
 // A subleaf, where a leaf has them.
 pub enum Subleaf {
@@ -37,4 +57,125 @@ pub struct CpuidResults {
 pub struct Built {
     pub verdict: Verdict,
     pub table: CpuidResults,
+}
+
+// The answer to the masked first entries of the 88 places: the checks of required leaves, and those below, one function a check.
+pub fn update_results(t: CpuidResults) -> Built
+    ensures { λ r. ⌜ r ≡ builtFrom (rowsIn t) ⌝ }
+{
+    let present = t.present;
+    let verdict = required::validate_required(present);
+    if let Verdict::Refused(r) = verdict {
+        return refused(r);
+    }
+    check_invlpgb(t)
+}
+
+// No rows at all.
+pub fn empty_table() -> CpuidResults
+    ensures { λ r. ⌜ r ≡ emptyTable ⌝ }
+{
+    let none = CpuidResult {
+        eax: 0,
+        ebx: 0,
+        ecx: 0,
+        edx: 0,
+    };
+    CpuidResults {
+        present: [false; 88],
+        results: [none; 88],
+        row_count: 0,
+        max_extended_state: 0,
+    }
+}
+
+// A refused answer holds an empty table.
+pub fn refused(r: Refusal) -> Built
+    ensures { λ q. ⌜ q ≡ refusedBuilt r ⌝ }
+{
+    let table = empty_table();
+    Built {
+        verdict: Verdict::Refused(r),
+        table,
+    }
+}
+
+// Whether 80000008h.EBX has INVLPGB.
+fn validate_invlpgb(sizes: CpuidResult) -> Verdict
+    ensures { λ r. ⌜ r ≡ invlpgbOf sizes ⌝ }
+{
+    if invlpgb(sizes.ebx) {
+        return Verdict::Accepted;
+    }
+    Verdict::Refused(Refusal::InvlpgbUnavailable)
+}
+
+// From the check of INVLPGB on.
+fn check_invlpgb(t: CpuidResults) -> Built
+    requires { ⌜ requiredVerdict (rowsIn t) ≡ Verdict.Accepted ⌝ }
+    ensures { λ r. ⌜ r ≡ answer (fromInvlpgb (rowsIn t)) (rowsIn t) ⌝ }
+{
+    let sizes = t.results[place::EXTENDED_ADDRESS_SPACE_SIZES];
+    let verdict = validate_invlpgb(sizes);
+    if let Verdict::Refused(r) = verdict {
+        return refused(r);
+    }
+    update_extended_state(t)
+}
+
+// From the check of D subleaves on.
+fn update_extended_state(t: CpuidResults) -> Built
+    requires { ⌜ requiredVerdict (rowsIn t) ≡ Verdict.Accepted ⌝ }
+    ensures { λ r. ⌜ r ≡ answer (fromComponents (rowsIn t)) (rowsIn t) ⌝ }
+{
+    let subleaf0 = t.results[place::EXTENDED_STATE_0];
+    let subleaf1 = t.results[place::EXTENDED_STATE_1];
+    let mask = extended_state::max_extended_state(subleaf0.eax, extended_state::max_xss(subleaf1));
+    let present = t.present;
+    let verdict = extended_state::process_extended_state_subleaves(present, mask);
+    if let Verdict::Refused(r) = verdict {
+        return refused(r);
+    }
+    update_save_area(t)
+}
+
+// From the size of the save area on, which is over XFEM alone.
+fn update_save_area(t: CpuidResults) -> Built
+    requires { ⌜ requiredVerdict (rowsIn t) ≡ Verdict.Accepted ⌝ }
+    ensures { λ r. ⌜ r ≡ answer (fromArea (rowsIn t)) (rowsIn t) ⌝ }
+{
+    let subleaf0 = t.results[place::EXTENDED_STATE_0];
+    let results = t.results;
+    let size = extended_state::xsave_size(results, subleaf0.eax as u64);
+    let Size::Bytes(bytes) = size else {
+        return refused(Refusal::SaveAreaOverflow);
+    };
+    update_extended_topology(t, bytes)
+}
+
+// From the topology on, to the table.
+fn update_extended_topology(t: CpuidResults, size: u32) -> Built
+    requires { ⌜ (requiredVerdict (rowsIn t) ≡ Verdict.Accepted) × (size ≡ saveArea (rowsIn t) (xfem (rowsIn t))) ⌝ }
+    ensures { λ r. ⌜ r ≡ answer (topologyVerdict (rowsIn t)) (rowsIn t) ⌝ }
+{
+    let version = t.results[place::VERSION_AND_FEATURES];
+    let sizes = t.results[place::EXTENDED_ADDRESS_SPACE_SIZES];
+    let definition = t.results[place::PROCESSOR_TOPOLOGY_DEFINITION];
+    let topology = extended_topology(
+        apic_core_id_size(sizes.ecx),
+        nc(sizes.ecx),
+        lps_per_package(version.ebx),
+        mt_per_socket(version.edx),
+        threads_per_compute_unit(definition.ebx),
+    );
+    match topology {
+        Topology::Processors(processors) => {
+            let table = finish::finish(t, size, processors);
+            Built {
+                verdict: Verdict::Accepted,
+                table,
+            }
+        }
+        Topology::Inconsistent(e) => refused(Refusal::TopologyInconsistent(e)),
+    }
 }

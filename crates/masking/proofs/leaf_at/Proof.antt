@@ -1,11 +1,11 @@
 -- `masking::leaf_at` meets its contract, by computation over each run of places.
 use mathlib.Core.Path.{refl}
-use Prim.Native.Nat.{_+_, _-_}
+use Prim.Native.Nat.{_+_, _-_, zero-le}
 use borrow.Author.Needs.{needs}
 use Rattle.bits.specs.Lists.{tabulate}
 use Rattle.x86defs.specs.Functions.{function}
 use Rattle.masking.specs.Kept.{keptLeaves, slot, leafAt}
-use Rattle.masking.specs.PlaceOfLaws.{on-run}
+use Rattle.masking.specs.RunLaws.{on-run}
 use Rattle.masking.proofs.leaf_at.Statement.{statement}
 use Rattle.masking.proofs.leaf_at.Tie as tie
 
@@ -19,13 +19,13 @@ leaf-at-spec =
     (λ c. search needs)
     (λ c. search needs)
     (λ c. search needs)
-    (λ c. on-run (λ i. function 0x5) leafAt 2 1 refl (c .before .args .place) (search needs) (search needs))
-    (λ c. on-run (λ i. function 0x7) leafAt 3 1 refl (c .before .args .place) (search needs) (search needs))
-    (λ c. on-run (λ i. function 0x8000000A) leafAt 79 1 refl (c .before .args .place) (search needs) (search needs))
-    (λ c. on-run (λ i. function i) leafAt 0 2 refl (c .before .before .args .place) (search needs) (search needs))
-    (λ c. on-run (λ i. function 0xB) leafAt 4 2 refl (c .before .before .before .args .place) (search needs) (search needs))
-    (λ c. on-run (λ i. function 0xD) leafAt 6 64 refl (c .before .before .before .before .args .place) (search needs) (search needs))
-    (λ c. on-run (λ i. function (0x80000000 + (i - 70))) leafAt 70 9 refl (c .before .before .before .before .before .args .place) (search needs) (search needs))
-    (λ c. on-run (λ i. function (0x80000019 + (i - 80))) leafAt 80 2 refl (c .before .before .before .before .before .before .args .place) (search needs) (search needs))
-    (λ c. on-run (λ i. function 0x8000001D) leafAt 82 4 refl (c .before .before .before .before .before .before .before .args .place) (search needs) (search needs))
-    (λ c. on-run (λ i. function (0x8000001E + (i - 86))) leafAt 86 2 refl (c .before .before .before .before .before .before .before .args .place) (search needs) (search needs)))
+    (λ c. rw (c .match .keys1))
+    (λ c. rw (c .match .keys2))
+    (λ c. rw (c .match .keys3))
+    (λ c. on-run (λ i. function i) leafAt zero-le (c .if1 .taken) refl)
+    (λ c. on-run (λ i. function 0xB) leafAt {a = 4} (search needs) (c .if2 .taken) refl)
+    (λ c. on-run (λ i. function 0xD) leafAt (c .before .if2 .left) (c .if3 .taken) refl)
+    (λ c. on-run (λ i. function (0x80000000 + (i - 70))) leafAt (c .before .if3 .left) (c .if4 .taken) refl)
+    (λ c. on-run (λ i. function (0x80000019 + (i - 80))) leafAt {a = 80} (search needs) (c .if5 .taken) refl)
+    (λ c. on-run (λ i. function 0x8000001D) leafAt (c .before .if5 .left) (c .if6 .taken) refl)
+    (λ c. on-run (λ i. function (0x8000001E + (i - 86))) leafAt (c .if6 .left) (c .before .before .before .before .before .before .before .pre) refl))

@@ -1,11 +1,11 @@
 -- `masking::mask_row` meets its contract: in each run of places the row that the code gives is the table's, by computation over the run.
 use mathlib.Core.Path.{refl}
-use Prim.Native.Nat.{_-_}
+use Prim.Native.Nat.{_-_, zero-le}
 use borrow.Author.Needs.{needs}
 use Rattle.bits.specs.Lists.{tabulate}
 use Rattle.masking.specs.Kept.{keptLeaves}
 use Rattle.masking.specs.Table.{rowOfPlace}
-use Rattle.masking.specs.PlaceOfLaws.{on-run}
+use Rattle.masking.specs.RunLaws.{on-run}
 use Rattle.masking.proofs.mask_row.Statement.{statement}
 use Rattle.masking.proofs.mask_row.Tie as tie
 
@@ -17,9 +17,9 @@ mask-row-spec =
     (λ c. search needs)
     (λ c. search needs)
     (λ c. search needs)
-    (λ c. (on-run (λ i. i) rowOfPlace 0 5 refl _ (search needs) (search needs), search needs))
-    (λ c. (on-run (λ i. i - 1) rowOfPlace 5 3 refl _ (search needs) (search needs), search needs))
-    (λ c. (on-run (λ i. 7) rowOfPlace 8 62 refl (c .before .before .before .args .place) (search needs) (search needs), search needs))
-    (λ c. (on-run (λ i. i - 62) rowOfPlace 70 12 refl _ (search needs) (search needs), search needs))
-    (λ c. (on-run (λ i. 20) rowOfPlace 82 4 refl (c .before .before .before .before .before .args .place) (search needs) (search needs), search needs))
-    (λ c. (on-run (λ i. i - 65) rowOfPlace 86 2 refl _ (search needs) (search needs), search needs)))
+    (λ c. (on-run (λ i. i) rowOfPlace zero-le (c .if1 .taken) refl, search needs))
+    (λ c. (on-run (λ i. i - 1) rowOfPlace (c .before .if1 .left) (c .if2 .taken) refl, search needs))
+    (λ c. (on-run (λ i. 7) rowOfPlace (c .before .if2 .left) (c .if3 .taken) refl, search needs))
+    (λ c. (on-run (λ i. i - 62) rowOfPlace (c .before .if3 .left) (c .if4 .taken) refl, search needs))
+    (λ c. (on-run (λ i. 20) rowOfPlace (c .before .if4 .left) (c .if5 .taken) refl, search needs))
+    (λ c. (on-run (λ i. i - 65) rowOfPlace (c .if5 .left) (c .before .before .before .before .before .pre) refl, search needs)))

@@ -8,7 +8,8 @@ use borrow.Author.Needs.{needs}
 use Rattle.bits.specs.Lists.{tabulate}
 use Rattle.x86defs.specs.Functions.{function}
 use Rattle.masking.specs.Kept.{keptLeaves, placeOf}
-use Rattle.masking.specs.PlaceOfLaws.{on-run, subleaf-run, filtered}
+use Rattle.masking.specs.RunLaws.{on-run}
+use Rattle.masking.specs.PlaceOfLaws.{subleaf-run, filtered}
 use Rattle.masking.proofs.place_of.Statement.{statement}
 use Rattle.masking.proofs.place_of.Tie as tie
 
@@ -25,15 +26,15 @@ place-of-spec =
     (λ c. record { fits = omega (arith, c .if2 .taken) })
     (λ c. (rw (c .match .keys1), search needs))
     (λ c. (rw (c .match .keys2), search needs))
-    (λ c. (subleaf-run 0x7 3 1 refl refl (c .before .before .args .subleaf) (c .before .match .keys3) (c .subleaf-place .ensures .0), c .subleaf-place .ensures .1))
-    (λ c. (subleaf-run 0xB 4 2 refl refl (c .before .before .args .subleaf) (c .before .match .keys4) (c .subleaf-place2 .ensures .0), c .subleaf-place2 .ensures .1))
-    (λ c. (subleaf-run 0xD 6 64 refl refl (c .before .before .args .subleaf) (c .before .match .keys5) (c .subleaf-place3 .ensures .0), c .subleaf-place3 .ensures .1))
+    (λ c. (subleaf-run _ _ (c .before .before .args .subleaf) (c .before .match .keys3) (c .subleaf-place .ensures .0) refl refl, c .subleaf-place .ensures .1))
+    (λ c. (subleaf-run _ _ (c .before .before .args .subleaf) (c .before .match .keys4) (c .subleaf-place2 .ensures .0) refl refl, c .subleaf-place2 .ensures .1))
+    (λ c. (subleaf-run _ _ (c .before .before .args .subleaf) (c .before .match .keys5) (c .subleaf-place3 .ensures .0) refl refl, c .subleaf-place3 .ensures .1))
     (λ c. (rw (c .match .keys6), search needs))
     (λ c. (rw (c .match .keys7), search needs))
     (λ c. (rw (c .match .keys8), search needs))
-    (λ c. (subleaf-run 0x8000001D 82 4 refl refl (c .before .before .args .subleaf) (c .before .match .keys9) (c .subleaf-place4 .ensures .0), c .subleaf-place4 .ensures .1))
+    (λ c. (subleaf-run _ _ (c .before .before .args .subleaf) (c .before .match .keys9) (c .subleaf-place4 .ensures .0) refl refl, c .subleaf-place4 .ensures .1))
     (λ c. (rw (c .match .keys10), search needs))
     (λ c. (rw (c .match .keys11), search needs))
-    (λ c. (on-run (λ n. 71 + (n - 0x80000001)) (λ n. placeOf (function n) (c .before .before .before .args .subleaf)) 0x80000001 8 refl _ (search needs) (search needs), omega (arith, c .if2 .taken)))
+    (λ c. (on-run (λ n. 71 + (n - 0x80000001)) (λ n. placeOf (function n) (c .before .before .before .args .subleaf)) (c .before .if1 .left) (c .if2 .taken) refl, omega (arith, c .if2 .taken)))
     (λ c. (filtered _ (c .before .before .args .subleaf) (c .before .match .rest) (inl (c .if1 .taken)), search needs))
     (λ c. (filtered _ (c .before .before .before .args .subleaf) (c .before .before .match .rest) (inr (c .if2 .left)), search needs)))

@@ -1,0 +1,31 @@
+-- The answer, case by case, in the terms of the code's three returns.
+use mathlib.Core.Path.{_≡_, refl, sym, ap, _∙_}
+use mathlib.Core.Bool.{Bool, true, false, not}
+use mathlib.Core.List.{List}
+use Prim.Native.Nat.{ℕ}
+use Rattle.bits.specs.Choice.{pick}
+use Rattle.pages.specs.Layout.{badLength, countsFit}
+use Rattle.results.specs.declared.Built.{Built}
+use Rattle.results.specs.declared.Refusal.the-variants.{PagesLength, PageCount}
+use Rattle.results.specs.declared.Verdict.{Verdict}
+use Rattle.results.specs.declared.Verdict.the-variants.{Accepted, Refused}
+use Rattle.results.specs.Rows.{Rows}
+use Rattle.results.specs.Checks.{rowsVerdict}
+use Rattle.results.specs.Table.{tableFor, builtFrom}
+use Rattle.results.specs.Stages.{refusedBuilt}
+use Rattle.build.specs.Rows.{rowsOf}
+use Rattle.build.specs.Build.{lengthVerdict, countsVerdict, lawfulVerdict, verdictOf, answer}
+
+built-with : (avic : Bool) (s : List ℕ) {v : Verdict} → verdictOf avic s ≡ v → answer avic s ≡ record { verdict = v; table = tableFor v (rowsOf avic s) }
+unfolding answer
+built-with avic s e = ap (λ (x : Verdict). record { verdict = x; table = tableFor x (rowsOf avic s) }) e
+
+pub answer-bad-length : (avic : Bool) (s : List ℕ) → badLength s ≡ true → refusedBuilt PagesLength ≡ answer avic s
+answer-bad-length avic s e = sym (built-with avic s (unfold verdictOf lawfulVerdict lengthVerdict in rw e))
+
+pub answer-bad-count : (avic : Bool) (s : List ℕ) → badLength s ≡ false → countsFit s ≡ false → refusedBuilt PageCount ≡ answer avic s
+answer-bad-count avic s e f = sym (built-with avic s (unfold verdictOf lawfulVerdict lengthVerdict countsVerdict in rw (e, f)))
+
+pub answer-lawful : (avic : Bool) (s : List ℕ) → badLength s ≡ false → countsFit s ≡ true → builtFrom (rowsOf avic s) ≡ answer avic s
+unfolding builtFrom
+answer-lawful avic s e f = sym (built-with avic s (unfold verdictOf lawfulVerdict lengthVerdict countsVerdict in rw (e, f)))

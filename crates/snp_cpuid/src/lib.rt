@@ -1,0 +1,151 @@
+// The library's functions for C and Rust: numbers and byte slices in, plain numbers out. include/snp_cpuid.h documents each call.
+use image::Written;
+use lookup::LeafResult;
+use results::Subleaf;
+use x86defs::CpuidFunction;
+ghost use mathlib.Core.Path.{_≡_};
+ghost use Rattle.build.specs.Build.{answer};
+ghost use Rattle.lookup.specs.Lookup.{lookup};
+ghost use Rattle.image.specs.Write.{write};
+ghost use Rattle.snp_cpuid.specs.Exports.{builtNumbers, foundNumbers, writtenNumbers, subleafOf};
+
+#[repr(C)]
+pub struct SnpCpuidBuilt {
+    pub number: u32,
+    pub leaf: u32,
+    pub has_subleaf: u32,
+    pub subleaf: u32,
+    pub s: u32,
+    pub row_count: u64,
+    pub max_extended_state: u64,
+}
+
+#[repr(C)]
+pub struct SnpCpuidFound {
+    pub found: u32,
+    pub eax: u32,
+    pub ebx: u32,
+    pub ecx: u32,
+    pub edx: u32,
+}
+
+#[repr(C)]
+pub struct SnpCpuidWritten {
+    pub number: u32,
+    pub leaf: u32,
+    pub has_subleaf: u32,
+    pub subleaf: u32,
+    pub s: u32,
+    pub length: u64,
+}
+
+// Builds the table of the given pages.
+#[no_mangle]
+pub extern "C" fn snp_cpuid_build(pages: &[u8], secure_avic: bool) -> SnpCpuidBuilt
+    ensures { λ r. ⌜ r ≡ builtNumbers (answer «secure_avic» (now (pages .entry))) ⌝ }
+{
+    let built = build::build(pages, secure_avic);
+    let verdict = built.verdict;
+    let table = built.table;
+    let numbers = answers::answer_numbers(verdict);
+    SnpCpuidBuilt {
+        number: numbers.number,
+        leaf: numbers.leaf,
+        has_subleaf: numbers.has_subleaf,
+        subleaf: numbers.subleaf,
+        s: numbers.s,
+        row_count: table.row_count as u64,
+        max_extended_state: table.max_extended_state,
+    }
+}
+
+// The subleaf that a caller names, or none.
+fn subleaf_of(has_subleaf: bool, subleaf: u32) -> Subleaf
+    ensures { λ r. ⌜ r ≡ subleafOf «has_subleaf» subleaf ⌝ }
+{
+    if has_subleaf {
+        return Subleaf::Some(subleaf);
+    }
+    Subleaf::None
+}
+
+// A lookup's answer as numbers.
+fn found_numbers(result: LeafResult) -> SnpCpuidFound
+    ensures { λ r. ⌜ r ≡ foundNumbers result ⌝ }
+{
+    match result {
+        LeafResult::Some(q) => SnpCpuidFound {
+            found: 1,
+            eax: q.eax,
+            ebx: q.ebx,
+            ecx: q.ecx,
+            edx: q.edx,
+        },
+        LeafResult::None => SnpCpuidFound {
+            found: 0,
+            eax: 0,
+            ebx: 0,
+            ecx: 0,
+            edx: 0,
+        },
+    }
+}
+
+// Builds, and looks a row up as leaf_result_ref does.
+#[no_mangle]
+pub extern "C" fn snp_cpuid_lookup(
+    pages: &[u8],
+    secure_avic: bool,
+    leaf: u32,
+    has_subleaf: bool,
+    subleaf: u32,
+    enforce_subleaf: bool,
+) -> SnpCpuidFound
+    ensures { λ r. ⌜ r ≡ foundNumbers (lookup (answer «secure_avic» (now (pages .entry)) .table) (record { 0 = leaf }) (subleafOf «has_subleaf» subleaf) «enforce_subleaf») ⌝ }
+{
+    let built = build::build(pages, secure_avic);
+    let table = built.table;
+    let named = subleaf_of(has_subleaf, subleaf);
+    let result = lookup::leaf_result(table, CpuidFunction(leaf), named, enforce_subleaf);
+    found_numbers(result)
+}
+
+// A write's answer as numbers.
+fn written_numbers(written: Written) -> SnpCpuidWritten
+    ensures { λ r. ⌜ r ≡ writtenNumbers written ⌝ }
+{
+    match written {
+        Written::Bytes(n) => SnpCpuidWritten {
+            number: 0,
+            leaf: 0,
+            has_subleaf: 0,
+            subleaf: 0,
+            s: 0,
+            length: n as u64,
+        },
+        Written::Refused(refusal) => {
+            let numbers = answers::refusal_numbers(refusal);
+            SnpCpuidWritten {
+                number: numbers.number,
+                leaf: numbers.leaf,
+                has_subleaf: numbers.has_subleaf,
+                subleaf: numbers.subleaf,
+                s: numbers.s,
+                length: 0,
+            }
+        }
+    }
+}
+
+// Builds, and writes the image at the front of `out`.
+#[no_mangle]
+pub extern "C" fn snp_cpuid_write_image(
+    pages: &[u8],
+    secure_avic: bool,
+    out: &mut [u8],
+) -> SnpCpuidWritten
+    ensures { λ r. ⌜ r ≡ writtenNumbers (write «secure_avic» (now (pages .entry)) (now (out .entry)) .answer) ⌝ }
+    ensures { λ _. ⌜ now (out .exit) ≡ write «secure_avic» (now (pages .entry)) (now (out .entry)) .buffer ⌝ }
+{
+    written_numbers(image::write_image(pages, secure_avic, out))
+}

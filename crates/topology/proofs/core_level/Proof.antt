@@ -1,0 +1,7 @@
+-- `topology::core_level` meets its contract, by what `x2_apic_shift` ensures.
+use borrow.Author.Needs.{needs}
+use Rattle.topology.proofs.core_level.Statement.{statement}
+use Rattle.topology.proofs.core_level.Tie as tie
+
+pub core-level-spec : {M : Type 1} → statement M
+core-level-spec = tie.close (tie.spec (λ c κs. search needs) (λ c. rw (c .x2-apic-shift .ensures)))
