@@ -1,7 +1,81 @@
 // Lookup in a table, as the source's leaf_result_ref: a leaf, a subleaf or none, and whether to enforce come in; a result or nothing goes out.
+ghost use mathlib.Core.Path.{_≡_};
+ghost use Prim.Native.Nat.{_≤_};
+ghost use Rattle.masking.specs.Kept.{places};
+ghost use Rattle.lookup.specs.Lookup.{withSubleaves, placeWhole, lookup};
+ghost use Rattle.lookup.specs.LookupLaws.{placeAsked};
+use results::CpuidResults;
+use results::Subleaf;
+use x86defs::CpuidFunction;
 use x86defs::CpuidResult;
 
 pub enum LeafResult {
     Some(CpuidResult),
     None,
+}
+
+// The result of a leaf, with or without a subleaf. A leaf without subleaves is found under any subleaf, unless the caller enforces.
+pub fn leaf_result(
+    t: CpuidResults,
+    leaf: CpuidFunction,
+    subleaf: Subleaf,
+    enforce_subleaf: bool,
+) -> LeafResult
+    ensures { λ r. ⌜ r ≡ lookup t leaf subleaf «enforce_subleaf» ⌝ }
+{
+    let i = place_asked(leaf, subleaf, enforce_subleaf);
+    if i < 88 {
+        if t.present[i] {
+            let r = t.results[i];
+            return LeafResult::Some(r);
+        }
+    }
+    LeafResult::None
+}
+
+// The place that is asked for, or 88 where the question has no answer.
+fn place_asked(leaf: CpuidFunction, subleaf: Subleaf, enforce_subleaf: bool) -> usize
+    ensures { λ r. ⌜ (r ≡ placeAsked leaf subleaf «enforce_subleaf») × (r ≤ places) ⌝ }
+{
+    let indexed = with_subleaves(leaf);
+    match subleaf {
+        Subleaf::Some(k) => {
+            if indexed {
+                return masking::place_of(leaf, k);
+            }
+            if enforce_subleaf {
+                return 88;
+            }
+            place_whole(leaf)
+        }
+        Subleaf::None => {
+            if indexed {
+                return 88;
+            }
+            place_whole(leaf)
+        }
+    }
+}
+
+// Whether a leaf has subleaves.
+fn with_subleaves(leaf: CpuidFunction) -> bool
+    ensures { λ r. ⌜ r ≡ withSubleaves leaf ⌝ }
+{
+    let n = leaf.0;
+    match n {
+        0x7 | 0xB | 0xD | 0x8000_001D => true,
+        _ => false,
+    }
+}
+
+// The place of a leaf without subleaves, the two made here included; 88 where no table has it.
+fn place_whole(leaf: CpuidFunction) -> usize
+    ensures { λ r. ⌜ (r ≡ placeWhole leaf) × (r ≤ places) ⌝ }
+{
+    let n = leaf.0;
+    match n {
+        0x0 => 0,
+        0x8000_0000 => 70,
+        _ => masking::place_of(leaf, 0),
+    }
 }

@@ -1,0 +1,176 @@
+-- The pieces put together: stores one after another are one run of stores, a run gives each of its places its row, and the rows from
+-- place 0 on are the image.
+use mathlib.Core.Path.{_≡_, refl, ap, _∙_}
+use mathlib.Core.Bool.{Bool, true, false, not}
+use mathlib.Core.List.{List, [], _∷_, _++_}
+use Prim.Native.Nat.{ℕ, suc, _+_, _-_, _^_, _≤_, _<_}
+use native.Mathlib.Nat.{add-zero, zero-add}
+use native.Mathlib.Numerals.{add-one, towards-suc}
+use native.Mathlib.Omega.{arith}
+use lib.Dec.{eqb, leb, ltb}
+use lib.ListN.{length, set, drop, length-append}
+use lib.Seq.{sets, sets-eq, length-sets, drop-cons}
+use borrow.Author.Tests.{eqb-true, leb-true, ltb-true, not-true, le-leb, lt-leb}
+use Rattle.bits.specs.Choice.{pick}
+use Rattle.bits.specs.ChoiceLaws.{and-left, and-right}
+use Rattle.bits.specs.Lists.{tabulate}
+use Rattle.bits.specs.ListsLaws.{length-tabulate, getD-tabulate}
+use Rattle.bits.specs.SearchLaws.{every-at}
+use Rattle.x86defs.specs.declared.CpuidResult.{CpuidResult}
+use Rattle.masking.specs.Kept.{places, leafAt, indexedAt, subleafAt}
+use Rattle.results.specs.declared.CpuidResults.{CpuidResults}
+use Rattle.results.specs.declared.Refusal.the-variants.{BufferTooShort}
+use Rattle.results.specs.Rows.{Row}
+use Rattle.results.specs.Table.{rowIn}
+use Rattle.image.specs.declared.Run.{Run}
+use Rattle.image.specs.declared.Written.the-variants.{Bytes, Refused}
+use Rattle.image.specs.Image.{placeBytes, imageIn, leafOrder, image}
+use Rattle.image.specs.Write.{place}
+use Rattle.image.specs.Pieces.{word, registers, indexedRow, wholeRow, rowsFrom, runRow, stands, lawful}
+
+-- ---- stores one after another
+
+pub sets-append : (xs ys l : List ℕ) (i : ℕ) → sets (sets l i xs) (i + length xs) ys ≡ sets l i (xs ++ ys)
+sets-append [] ys l i = rw add-zero
+sets-append (x ∷ xs) ys l i = let e : i + suc (length xs) ≡ suc i + length xs = omega arith in rw e (sets-append xs ys (set l i x) (suc i))
+
+module _ (out : List ℕ) (at : ℕ) where
+  nine : at + 9 ≡ suc (at + 8)
+  nine = omega arith
+
+  twelve : at + 12 ≡ suc (suc (suc (suc (at + 8))))
+  twelve = omega arith
+
+  pub registers-sets : (r : CpuidResult)
+      → sets (sets (sets (sets out at (word (r .eax))) (at + 4) (word (r .ebx))) (at + 8) (word (r .ecx))) (at + 12) (word (r .edx))
+      ≡ sets out at (registers r)
+  unfolding word registers
+  registers-sets r = simp (twelve, towards-suc)
+
+  pub indexed-sets : (leaf subleaf : ℕ) (r : CpuidResult)
+      → sets (sets (sets (set out at 2) (at + 1) (word leaf)) (at + 5) (word subleaf)) (at + 9) (registers r)
+      ≡ sets out at (indexedRow leaf subleaf r)
+  unfolding word registers indexedRow
+  indexed-sets leaf subleaf r = simp (nine, towards-suc)
+
+  pub whole-sets : (leaf : ℕ) (r : CpuidResult)
+      → sets (sets (set out at 1) (at + 1) (word leaf)) (at + 5) (registers r) ≡ sets out at (wholeRow leaf r)
+  unfolding word registers wholeRow
+  whole-sets leaf r = simp towards-suc
+
+-- ---- runs
+
+-- the row of a present place, and of an absent one
+module _ (g : Run) (k : ℕ) (r : CpuidResult) where
+  pub run-indexed : {present : Bool} → present ≡ true → g .indexed ≡ true → runRow g k present r ≡ indexedRow (g .leaf) k r
+  unfolding runRow
+  run-indexed p q = rw (p, q)
+
+  pub run-whole : {present : Bool} → present ≡ true → g .indexed ≡ false → runRow g k present r ≡ wholeRow (g .leaf + k) r
+  unfolding runRow
+  run-whole p q = rw (p, q)
+
+  pub run-absent : {present : Bool} → present ≡ false → runRow g k present r ≡ []
+  unfolding runRow
+  run-absent p = rw p
+
+pub indexed-length : (leaf subleaf : ℕ) (r : CpuidResult) → length (indexedRow leaf subleaf r) ≡ 25
+unfolding indexedRow
+indexed-length leaf subleaf r = refl
+
+pub whole-length : (leaf : ℕ) (r : CpuidResult) → length (wholeRow leaf r) ≡ 21
+unfolding wholeRow
+whole-length leaf r = refl
+
+-- a place's own row, by the run in which it stands
+stands-row : (b : Bool) (leaf k i : ℕ) (r : Row) → stands b leaf k i ≡ true
+    → placeBytes i r ≡ pick (r .present) (pick b (indexedRow leaf k (r .result)) (wholeRow (leaf + k) (r .result))) []
+unfolding indexedRow wholeRow
+stands-row true leaf k i r e =
+    let f = and-right (indexedAt i) _ e in
+    rw (and-left (indexedAt i) _ e, eqb-true (leafAt i .0) leaf (and-left _ _ f), eqb-true (subleafAt i) k (and-right (eqb (leafAt i .0) leaf) _ f))
+stands-row false leaf k i r e =
+    rw (not-true (indexedAt i) (and-left _ _ e), eqb-true (leafAt i .0) (leaf + k) (and-right (not (indexedAt i)) _ e))
+
+module _ (g : Run) (lawfully : lawful g ≡ true) where
+  pub run-end : g .end ≤ places
+  unfolding lawful
+  run-end = leb-true _ _ (and-left _ _ lawfully)
+
+  pub run-leaf : g .leaf + places < 2 ^ 32
+  unfolding lawful
+  run-leaf = ltb-true _ _ (and-left _ _ (and-right (leb (g .end) places) _ lawfully))
+
+  pub run-row : (i : ℕ) (r : Row) → g .first ≤ i → i < g .end → placeBytes i r ≡ runRow g (i - g .first) (r .present) (r .result)
+  unfolding lawful runRow
+  run-row i r low high =
+      let all = and-right (ltb (g .leaf + places) (2 ^ 32)) _ (and-right (leb (g .end) places) _ lawfully) in
+      let e : g .first + (i - g .first) ≡ i = omega arith in
+      stands-row (g .indexed) (g .leaf) (i - g .first) i r (rw e at (every-at _ (g .end - g .first) all (i - g .first) (omega arith)))
+
+-- ---- the rows from a place on
+
+pub rows-more : (t : CpuidResults) (i : ℕ) → i < places → rowsFrom t i ≡ placeBytes i (rowIn t i) ++ rowsFrom t (i + 1)
+unfolding rowsFrom imageIn leafOrder
+rows-more t i h =
+    let d : drop i leafOrder ≡ i ∷ drop (i + 1) leafOrder =
+    rw add-one (drop-cons leafOrder i 0 (rw length-tabulate h) ∙ ap (λ n. n ∷ drop (suc i) leafOrder) (getD-tabulate places (λ i. i) i 0 h)) in
+    ap (λ l. imageIn l t) d
+
+pub rows-all : (t : CpuidResults) → rowsFrom t 0 ≡ image t
+unfolding rowsFrom image
+rows-all t = refl
+
+pub rows-none : (t : CpuidResults) → rowsFrom t places ≡ []
+unfolding rowsFrom imageIn leafOrder tabulate
+rows-none t = refl
+
+-- ---- writing from place to place
+
+-- Writing stood at index at₀ and place i₀ of a buffer, and stands at index at and place i: what is left to write comes to the same.
+pub record Onward (t : CpuidResults) (out₀ : List ℕ) (at₀ i₀ : ℕ) (out : List ℕ) (at i : ℕ) : Type 0 where
+  pub kept : length out ≡ length out₀
+  pub room : at + length (rowsFrom t i) ≡ at₀ + length (rowsFrom t i₀)
+  pub bytes : sets out at (rowsFrom t i) ≡ sets out₀ at₀ (rowsFrom t i₀)
+
+module _ (t : CpuidResults) where
+  pub onward-none : (out : List ℕ) (at i : ℕ) → Onward t out at i out at i
+  onward-none out at i = record { kept = refl; room = refl; bytes = refl }
+
+  pub onward-join : {out₀ out out′ : List ℕ} {at₀ i₀ at i at′ i′ : ℕ}
+      → Onward t out₀ at₀ i₀ out at i → Onward t out at i out′ at′ i′ → Onward t out₀ at₀ i₀ out′ at′ i′
+  onward-join p q = record { kept = q .kept ∙ p .kept; room = q .room ∙ p .room; bytes = q .bytes ∙ p .bytes }
+
+  -- the row of a place is the first of what is left
+  pub row-room : (i : ℕ) (row : List ℕ) → i < places → placeBytes i (rowIn t i) ≡ row → length row ≤ length (rowsFrom t i)
+  row-room i row h e =
+      omega (arith, ap length (rows-more t i h), ap length e, length-append (placeBytes i (rowIn t i)) (rowsFrom t (i + 1)))
+
+  -- one place further
+  pub onward-row : (out out′ row : List ℕ) (at i : ℕ) → i < places → placeBytes i (rowIn t i) ≡ row → out′ ≡ sets out at row
+      → Onward t out at i out′ (at + length row) (i + 1)
+  onward-row out out′ row at i h e w =
+      let more : rowsFrom t i ≡ row ++ rowsFrom t (i + 1) = rows-more t i h ∙ ap (λ l. l ++ rowsFrom t (i + 1)) e in
+      record {
+        kept = ap length w ∙ length-sets out at row;
+        room = omega (arith, ap length more, length-append row (rowsFrom t (i + 1)));
+        bytes = rw (w, sets-append row (rowsFrom t (i + 1)) out at, ← more);
+      }
+
+  -- from the first place to past the last
+  pub onward-all : (out₀ out : List ℕ) (at i : ℕ) → i ≡ places → Onward t out₀ 0 0 out at i → out ≡ sets out₀ 0 (image t)
+  onward-all out₀ out at i e p =
+      let none : rowsFrom t i ≡ [] = ap (rowsFrom t) e ∙ rows-none t in
+      rw (none, rows-all t) at (p .bytes)
+
+-- ---- the lent buffer
+
+pub place-short : (bytes buffer : List ℕ) → length buffer < length bytes
+    → place bytes buffer ≡ record { answer = Refused BufferTooShort; buffer = buffer }
+unfolding place
+place-short bytes buffer h = rw (lt-leb (length bytes) (length buffer) h)
+
+pub place-whole : (bytes buffer : List ℕ) → length bytes ≤ length buffer
+    → place bytes buffer ≡ record { answer = Bytes (length bytes); buffer = sets buffer 0 bytes }
+unfolding place
+place-whole bytes buffer h = rw (le-leb (length bytes) (length buffer) h, sets-eq bytes buffer 0 (rw zero-add h), zero-add)
