@@ -7,17 +7,16 @@ ghost use mathlib.Core.Path.{_≡_};
 ghost use Rattle.answers.specs.Answers.{numbersOf, topologyNumbers, missingNumbers, refusalNumbers};
 
 // Number 0 means accepted. A leaf, subleaf or s that the number does not name is 0; `has_subleaf` is 1 where a subleaf is named.
-#[repr(C)]
 pub struct AnswerNumbers {
-    pub number: u32,
+    pub number: u8,
     pub leaf: u32,
     pub has_subleaf: u32,
     pub subleaf: u32,
-    pub s: u32,
+    pub s: u8,
 }
 
 // A number by itself, or with s.
-fn sized(number: u32, s: u32) -> AnswerNumbers
+fn sized(number: u8, s: u8) -> AnswerNumbers
     ensures { λ r. ⌜ r ≡ record { number = number; leaf = 0; «has_subleaf» = 0; subleaf = 0; s = s } ⌝ }
 {
     AnswerNumbers {
@@ -33,8 +32,8 @@ fn topology_numbers(e: TopologyError) -> AnswerNumbers
     ensures { λ r. ⌜ r ≡ topologyNumbers e ⌝ }
 {
     match e {
-        TopologyError::Hyperthreading(s) => sized(6, s as u32),
-        TopologyError::ProcessorCount(s) => sized(7, s as u32),
+        TopologyError::Hyperthreading(s) => sized(6, s),
+        TopologyError::ProcessorCount(s) => sized(7, s),
         TopologyError::ThreadsPerUnit => sized(8, 0),
     }
 }

@@ -36,7 +36,7 @@ among-more p first i h =
 -- ---- how many bytes
 
 -- 25 bytes of a row with a subleaf, 21 of one without
-width : ℕ → ℕ
+abbrev pub width : ℕ → ℕ
 width i = pick (indexedAt i) 25 21
 
 picked-length : (p q : Bool) (a b : List ℕ) → length a ≡ 25 → length b ≡ 21 → length (pick p (pick q a b) []) ≡ pick q 25 21 * one p
@@ -45,8 +45,7 @@ picked-length true false a b e f = f
 picked-length false true a b e f = refl
 picked-length false false a b e f = refl
 
-place-length : (i : ℕ) (r : Row) → length (placeBytes i r) ≡ width i * one (r .present)
-unfolding width
+pub place-length : (i : ℕ) (r : Row) → length (placeBytes i r) ≡ width i * one (r .present)
 place-length i r = picked-length (r .present) (indexedAt i) _ _ refl refl
 
 module _ (t : CpuidResults) where
@@ -71,7 +70,7 @@ module _ (t : CpuidResults) where
       length (image t)
       ≡ 21 * (rowsAmong (t .present) 0 3 + rowsAmong (t .present) 70 82 + rowsAmong (t .present) 86 88)
       + 25 * (rowsAmong (t .present) 3 70 + rowsAmong (t .present) 82 86)
-  unfolding rowsAmong width slot keptLeaves
+  unfolding rowsAmong slot keptLeaves
   image-length =
       omega (
         arith,

@@ -30,7 +30,11 @@ subleaves-listed l (inr (inr (inr e))) = rw e
 pub subleaves-not-listed : (l : CpuidFunction) → (Listed (l .0) → ⊥) → false ≡ withSubleaves l
 unfolding withSubleaves
 subleaves-not-listed l h =
-    rw (ne-eqb (l .0) 0x7 (λ e. h (inl e)), ne-eqb (l .0) 0xB (λ e. h (inr (inl e))), ne-eqb (l .0) 0xD (λ e. h (inr (inr (inl e)))), ne-eqb (l .0) 0x8000001D (λ e. h (inr (inr (inr e)))))
+    let a = ne-eqb (l .0) 0x7 (λ e. h (inl e)) in
+    let b = ne-eqb (l .0) 0xB (λ e. h (inr (inl e))) in
+    let c = ne-eqb (l .0) 0xD (λ e. h (inr (inr (inl e)))) in
+    let d = ne-eqb (l .0) 0x8000001D (λ e. h (inr (inr (inr e)))) in
+    rw (a, b, c, d)
 
 -- ---- the place that is asked for
 

@@ -49,11 +49,11 @@ pub extern "C" fn snp_cpuid_build(pages: &[u8], secure_avic: bool) -> SnpCpuidBu
     let table = built.table;
     let numbers = answers::answer_numbers(verdict);
     SnpCpuidBuilt {
-        number: numbers.number,
+        number: numbers.number as u32,
         leaf: numbers.leaf,
         has_subleaf: numbers.has_subleaf,
         subleaf: numbers.subleaf,
-        s: numbers.s,
+        s: numbers.s as u32,
         row_count: table.row_count as u64,
         max_extended_state: table.max_extended_state,
     }
@@ -126,11 +126,11 @@ fn written_numbers(written: Written) -> SnpCpuidWritten
         Written::Refused(refusal) => {
             let numbers = answers::refusal_numbers(refusal);
             SnpCpuidWritten {
-                number: numbers.number,
+                number: numbers.number as u32,
                 leaf: numbers.leaf,
                 has_subleaf: numbers.has_subleaf,
                 subleaf: numbers.subleaf,
-                s: numbers.s,
+                s: numbers.s as u32,
                 length: 0,
             }
         }

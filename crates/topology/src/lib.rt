@@ -59,7 +59,7 @@ fn one_processor(nc: u32, lps: u32) -> bool
     nc == 0 && lps <= 1
 }
 
-// Whether the older fields tell of v processors, of which nc + 1 may be fewer.
+// Whether the older fields agree with v processors: lps is v, and nc + 1 at most v.
 fn counts_agree(nc: u32, lps: u32, v: u32) -> bool
     requires { ⌜ nc < 256 ⌝ }
     ensures { λ r. ⌜ r ≡ (leb (nc + 1) v && eqb lps v) ⌝ }
@@ -90,7 +90,7 @@ pub fn x2_apic_shift(v: u32) -> u32
     31 - u32::leading_zeros(v)
 }
 
-// Level 0, of type 1: threads. Level 1, of type 2: cores.
+// ECX of leaf Bh: the number of the level, and from bit 8 on its type, 1 for threads and 2 for cores.
 const LEVEL_SMT: u32 = 0x100;
 
 const LEVEL_CORE: u32 = 0x201;

@@ -34,11 +34,12 @@ put-place-requires c κs =
     let inner = c .before .before .before .before in
     let call = inner .before .run-at in
     let outer = inner .before .before .before .loop in
-    let a = inner .before .before .before .before .before .args in
+    let t = inner .before .before .before .before .before .args .t1 in
+    let i = inner .loop2 .i in
     let high = run-end (call .result) (call .ensures .0) in
-    let e = run-row (call .result) (call .ensures .0) (inner .loop2 .i) (rowIn (a .t1) (inner .loop2 .i)) (omega arith) (omega arith) in (
+    let e = run-row (call .result) (call .ensures .0) i (rowIn t i) (omega arith) (omega arith) in (
       omega (arith, run-leaf (call .result) (call .ensures .0)),
-      omega (arith, row-room (a .t1) (inner .loop2 .i) _ (omega arith) e, inner .loop2 .inv .2 .room, outer .inv .1 .room, ap length (rows-all (a .t1))),
+      omega (arith, row-room t i _ (omega arith) e, inner .loop2 .inv .2 .room, outer .inv .1 .room, ap length (rows-all t)),
     )
 
 loop2-again : tie.Need-loop2-again Inv-loop2 μ-loop2 Inv-loop μ-loop
@@ -49,11 +50,9 @@ loop2-again c =
     let t = inner .before .before .before .before .before .args .t1 in
     let i = inner .loop2 .i in
     let high = run-end (call .result) (call .ensures .0) in
-    let e = run-row (call .result) (call .ensures .0) i (rowIn t i) (omega arith) (omega arith) in (
-      omega arith,
-      omega arith,
-      onward-join _ (inner .loop2 .inv .2) (rw (put .ensures .0) (onward-row t (inner .loop2 .out) (put .last .0) _ (inner .loop2 .at) i (omega arith) e (put .ensures .1))),
-    )
+    let e = run-row (call .result) (call .ensures .0) i (rowIn t i) (omega arith) (omega arith) in
+    let further = onward-row t (inner .loop2 .out) (put .last .0) _ (inner .loop2 .at) i (omega arith) e (put .ensures .1) in
+    (omega arith, omega arith, onward-join _ (inner .loop2 .inv .2) (rw (put .ensures .0) further))
 
 returns : tie.Need-returns Inv-loop2 μ-loop2 Inv-loop μ-loop
 returns c = onward-all _ _ _ _ _ (omega arith) (c .before .loop .inv .1)

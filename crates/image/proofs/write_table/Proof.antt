@@ -17,7 +17,8 @@ returns-2 : tie.Need-returns-2
 returns-2 c =
     let put = c .before .before in
     let a = put .before .before .before .before .before .args in
-    rw (place-whole (image (a .t)) (a .out .now) (omega arith)) (ap Bytes (put .before .before .before .image-length .ensures), put .put-rows .ensures)
+    let long = put .before .before .before .image-length .ensures in
+    rw (place-whole (image (a .t)) (a .out .now) (omega arith)) (ap Bytes long, put .put-rows .ensures)
 
 pub write-table-spec : {M : Type 1} → statement M
 write-table-spec = tie.close (tie.spec (λ c κs. search needs) returns (λ c κs. search needs) (λ c. search needs) returns-2)

@@ -8,33 +8,37 @@ returns : tie.Need-returns
 unfolding placeAsked
 returns c =
     let some = c .before .before .before in
-    (rw (some .subleaf .given .1, ← some .before .before .with-subleaves .ensures, c .before .if1 .taken) (c .place-of .ensures .0), c .place-of .ensures .1)
+    let test = some .before .before .with-subleaves .ensures in
+    (rw (some .subleaf .given .1, ← test, c .before .if1 .taken) (c .place-of .ensures .0), c .place-of .ensures .1)
 
 returns-2 : tie.Need-returns-2
 unfolding placeAsked
 returns-2 c =
     let some = c .before .before .before in
-    (rw (some .subleaf .given .1, ← some .before .before .with-subleaves .ensures, c .before .if1 .left, c .if2 .taken), search needs)
+    let test = some .before .before .with-subleaves .ensures in
+    (rw (some .subleaf .given .1, ← test, c .before .if1 .left, c .if2 .taken), search needs)
 
 returns-3 : tie.Need-returns-3
 unfolding placeAsked
 returns-3 c =
     let none = c .before in
-    (rw (none .enum-told .given .1, ← none .before .before .with-subleaves .ensures, c .if3 .taken), search needs)
+    let test = none .before .before .with-subleaves .ensures in
+    (rw (none .enum-told .given .1, ← test, c .if3 .taken), search needs)
 
 returns-4 : tie.Need-returns-4
 unfolding placeAsked
 returns-4 c =
-    let some = c .before .before .before .before in (
-      rw (some .subleaf .given .1, ← some .before .before .with-subleaves .ensures, c .before .before .if1 .left, c .before .if2 .left) (c .place-whole .ensures .0),
-      c .place-whole .ensures .1,
-    )
+    let some = c .before .before .before .before in
+    let test = some .before .before .with-subleaves .ensures in
+    let place = c .place-whole .ensures in
+    (rw (some .subleaf .given .1, ← test, c .before .before .if1 .left, c .before .if2 .left) (place .0), place .1)
 
 returns-5 : tie.Need-returns-5
 unfolding placeAsked
 returns-5 c =
     let none = c .before .before in
-    (rw (none .enum-told .given .1, ← none .before .before .with-subleaves .ensures, c .before .if3 .left) (c .place-whole2 .ensures .0), c .place-whole2 .ensures .1)
+    let test = none .before .before .with-subleaves .ensures in
+    (rw (none .enum-told .given .1, ← test, c .before .if3 .left) (c .place-whole2 .ensures .0), c .place-whole2 .ensures .1)
 
 pub place-asked-spec : {M : Type 1} → statement M
 place-asked-spec =

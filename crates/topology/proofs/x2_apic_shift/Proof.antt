@@ -9,5 +9,5 @@ x2-apic-shift-spec =
     tie.close
     (tie.spec
     (λ c. rw (c .if1 .taken, shift-of-zero))
-    (λ c. shift-by-zeros _ (omega (arith, c .if1 .left)) (c .before .fits .v .fits) .0)
+    (λ c. omega (arith, shift-by-zeros _ (omega (arith, c .if1 .left)) (c .before .fits .v .fits) .0))
     (λ c. shift-by-zeros _ (omega (arith, c .if1 .left)) (c .before .fits .v .fits) .1))
