@@ -12,19 +12,22 @@ use Rattle.bits.specs.SearchLaws.{lowest-all}
 use Rattle.bits.specs.Lists.{tabulate}
 use Rattle.bits.specs.ListsLaws.{getD-tabulate}
 use Rattle.bits.specs.Bits.{has}
+use Rattle.x86defs.specs.Functions.{function}
 use Rattle.masking.specs.Kept.{places}
 use Rattle.masking.specs.Place
 use Rattle.results.specs.declared.Refusal.{Refusal}
 use Rattle.results.specs.declared.Refusal.the-variants.{MissingRequiredResult}
+use Rattle.results.specs.declared.Subleaf.{Subleaf}
+use Rattle.results.specs.declared.Subleaf.the-variants.{None, Some}
 use Rattle.results.specs.declared.Verdict.{Verdict}
 use Rattle.results.specs.declared.Verdict.the-variants.{Accepted, Refused}
 use Rattle.results.specs.declared.required.RequiredLeaf.{RequiredLeaf}
 use Rattle.results.specs.Rows.{Rows}
-use Rattle.results.specs.Required.{requiredAt, requiredCount, placeRequired}
+use Rattle.results.specs.Required.{subleafNumber, requiredAt, requiredCount, placeRequired}
 use Rattle.results.specs.Checks.{refuseAt, missingRequired, missingComponent}
 use Rattle.results.specs.PlaceLaws.{required-place}
 use Rattle.results.specs.MaskLaws.{none-from}
-use Rattle.results.specs.Stages.{suppliedFor}
+use Rattle.results.specs.Stages.{subleafWith, suppliedFor}
 
 -- refused at the first of the numbers from k up to n that fails the test
 unfoldable pub refuseFrom : (ℕ → Bool) → (ℕ → Refusal) → ℕ → ℕ → Verdict
@@ -45,8 +48,21 @@ module _ (test : ℕ → Bool) (reason : ℕ → Refusal) (n k : ℕ) where
 
 -- ---- the required leaves, as the code's table has them
 
+abbrev indexed : Subleaf → Bool
+indexed None = false
+indexed (Some k) = true
+
+subleaf-again : (s : Subleaf) → subleafWith (indexed s) (subleafNumber s) ≡ s
+subleaf-again None = refl
+subleaf-again (Some k) = refl
+
 abbrev pub requiredRow : ℕ → RequiredLeaf
-requiredRow j = record { 0 = requiredAt j .leaf; 1 = requiredAt j .subleaf; 2 = placeRequired j }
+requiredRow j = record {
+  0 = requiredAt j .leaf .0;
+  1 = indexed (requiredAt j .subleaf);
+  2 = subleafNumber (requiredAt j .subleaf);
+  3 = placeRequired j;
+}
 
 unfoldable pub requiredRows : List RequiredLeaf
 requiredRows = tabulate requiredCount requiredRow
@@ -61,15 +77,16 @@ module _ (p : List Bool) {l : List RequiredLeaf} (j : ℕ) (d : RequiredLeaf) (e
   unfolding requiredRows
   row = rw e (getD-tabulate requiredCount requiredRow j d h)
 
-  pub required-row-place : getD l j d .2 < places
+  pub required-row-place : getD l j d .3 < places
   required-row-place = rw row (required-place j h .0)
 
-  pub required-passes : getD p (getD l j d .2) false ≡ true → requiredFrom p j ≡ requiredFrom p (j + 1)
+  pub required-passes : getD p (getD l j d .3) false ≡ true → requiredFrom p j ≡ requiredFrom p (j + 1)
   required-passes t = scan-passes _ missingRequired requiredCount j h (rw row at t)
 
-  pub required-stops : getD p (getD l j d .2) false ≡ false
-      → Refused (MissingRequiredResult (getD l j d .0) (getD l j d .1)) ≡ requiredFrom p j
-  required-stops t = rw row (sym (scan-stops _ missingRequired requiredCount j h (rw row at t)))
+  pub required-stops : {s : Subleaf} → getD p (getD l j d .3) false ≡ false → s ≡ subleafWith (getD l j d .1) (getD l j d .2)
+      → Refused (MissingRequiredResult (function (getD l j d .0)) s) ≡ requiredFrom p j
+  required-stops t f =
+      rw (f, row, subleaf-again (requiredAt j .subleaf)) (sym (scan-stops _ missingRequired requiredCount j h (rw row at t)))
 
 pub required-ends : (p : List Bool) (j : ℕ) → requiredCount ≤ j → Accepted ≡ requiredFrom p j
 required-ends p j h = sym (scan-ends _ missingRequired requiredCount j (λ i l u. absurd (omega arith)))

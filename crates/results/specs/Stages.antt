@@ -21,6 +21,8 @@ use Rattle.results.specs.declared.Built.{Built}
 use Rattle.results.specs.declared.CpuidResults.{CpuidResults}
 use Rattle.results.specs.declared.Refusal.{Refusal}
 use Rattle.results.specs.declared.Refusal.the-variants.{InvlpgbUnavailable}
+use Rattle.results.specs.declared.Subleaf.{Subleaf}
+use Rattle.results.specs.declared.Subleaf.the-variants.{None, Some}
 use Rattle.results.specs.declared.Verdict.{Verdict}
 use Rattle.results.specs.declared.Verdict.the-variants.{Accepted, Refused}
 use Rattle.results.specs.declared.extended_state.Size.{Size}
@@ -37,6 +39,10 @@ use Rattle.results.specs.Table.{emptyTable, rowsIn, tableFor}
 -- rows of which only the presence matters
 abbrev pub presentIn : List Bool → Rows
 presentIn p i = record { present = getD p i false; result = result 0 0 0 0 }
+
+-- a subleaf of a leaf that has them
+abbrev pub subleafWith : Bool → ℕ → Subleaf
+subleafWith indexed k = pick indexed (Some k) None
 
 -- rows of which only the registers matter
 abbrev pub resultsIn : List CpuidResult → Rows

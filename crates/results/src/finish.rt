@@ -126,7 +126,8 @@ pub fn finish(t: CpuidResults, size: u32, processors: u32) -> CpuidResults
     );
     out.results[place::EXTENDED_ADDRESS_SPACE_SIZES] = update_extended_address_space_sizes(sizes);
     let present = out.present;
-    out.row_count = count_rows(present);
+    let count = count_rows(present);
+    out.row_count = count;
     out.max_extended_state = mask;
     out
 }

@@ -33,7 +33,7 @@ loop-again c =
 returns : tie.Need-returns Inv-loop μ-loop
 returns c =
     let s = c .before .before .before .before in
-    required-stops (s .before .args .t1) (s .loop .j) _ (s .loop .inv .1) (search needs) (c .before .if1 .left) ∙ sym (s .loop .inv .2)
+    required-stops (s .before .args .t1) (s .loop .j) _ (s .loop .inv .1) (search needs) (c .before .if1 .left) (c .subleaf-of .ensures) ∙ sym (s .loop .inv .2)
 
 returns-2 : tie.Need-returns-2 Inv-loop μ-loop
 returns-2 c = let s = c .before in required-ends (s .before .args .t1) (s .loop .j) (search needs) ∙ sym (s .loop .inv .2)
@@ -51,5 +51,6 @@ validate-required-spec =
     (λ c. search needs)
     (λ c. search needs)
     loop-again
+    (λ c κs. search needs)
     returns
     returns-2)
