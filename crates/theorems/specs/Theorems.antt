@@ -17,6 +17,7 @@ use Rattle.counting.specs.Counting.{Counted, LeafOrder}
 use Rattle.counting.specs.Proof.{rows-counted, single-page-refused, leaf-order}
 use Rattle.rise.specs.Rise.{Rises, RisesByTheLetter, Risen}
 use Rattle.rise.specs.Proof.{demand-3, demand-3-by-the-letter}
+use Rattle.theorems.specs.Exported.{ExportsRise, exports-rise}
 use Rattle.instances.specs.PageSets.{serverA, serverB, serverWithoutD12, serverWithLargeD6}
 use Rattle.instances.specs.Computed as Computed
 use Rattle.instances.specs.MarkedRows.{Shown, marked, marked-rows}
@@ -41,6 +42,10 @@ rise = demand-3
 -- the hypothesis by the letter: first counted entries, compared as masked
 pub rise-by-the-letter : (avic : Bool) (a b : List ℕ) → RisesByTheLetter avic a b → Risen avic a b
 rise-by-the-letter = demand-3-by-the-letter
+
+-- the same of what the exported functions return. crates/theorems/specs/Exported.antt
+pub rise-of-exports : (avic : Bool) (a b : List ℕ) → Rises avic a b → ExportsRise avic a b
+rise-of-exports = exports-rise
 
 -- ---- The fourteen marked rows of document 01, T1 to T10, X1 to X3 (two figures) and C1. crates/instances/specs/MarkedRows.antt.
 

@@ -1,0 +1,171 @@
+-- Demand 3 of what the exported functions return: snp_cpuid_build, snp_cpuid_lookup and snp_cpuid_write_image give `builtNumbers`,
+-- `foundNumbers` and `writtenNumbers` of the definition's answers (crates/snp_cpuid/src/lib.rt), and these rise from A to B.
+use mathlib.Core.Path.{_≡_, refl, sym, ap, _∙_, subst, subst₂}
+use mathlib.Core.Bool.{Bool, true, false}
+use mathlib.Core.List.{List}
+use Prim.Native.Nat.{ℕ, _≤_, _<_}
+use native.Mathlib.Nat.{le-of-eq}
+use native.Mathlib.Omega.{arith}
+use lib.Dec.{ltb}
+use lib.ListN.{length, List·getD-eq-default, length-replicate}
+use borrow.Author.Tests.{ltb-true, ltb-false}
+use Rattle.bits.specs.Choice.{pick}
+use Rattle.bits.specs.ChoiceLaws.{never-both, pick-true}
+use Rattle.bits.specs.ListsLaws.{length-tabulate}
+use Rattle.bits.specs.Bits.{Within}
+use Rattle.x86defs.specs.declared.CpuidFunction.{CpuidFunction}
+use Rattle.x86defs.specs.declared.CpuidResult.{CpuidResult}
+use Rattle.x86defs.specs.Functions.{result}
+use Rattle.masking.specs.Kept.{places}
+use Rattle.results.specs.declared.CpuidResults.{CpuidResults}
+use Rattle.results.specs.declared.Subleaf.{Subleaf}
+use Rattle.topology.specs.declared.TopologyError.{TopologyError}
+use Rattle.topology.specs.declared.TopologyError.the-variants.{Hyperthreading, ProcessorCount, ThreadsPerUnit}
+use Rattle.results.specs.declared.Refusal.{Refusal}
+use Rattle.results.specs.declared.Refusal.the-variants.{PagesLength, PageCount, MissingRequiredResult, InvlpgbUnavailable, SaveAreaOverflow, TopologyInconsistent, BufferTooShort}
+use Rattle.results.specs.Refusal.{details, topologyDetails}
+use Rattle.results.specs.declared.Verdict.{Verdict}
+use Rattle.results.specs.declared.Verdict.the-variants.{Accepted, Refused}
+use Rattle.results.specs.Rows.{Row, Rows}
+use Rattle.results.specs.Finish.{ruleAt}
+use Rattle.results.specs.Kinds.{TableAtLeast, Registers, kindsOf}
+use Rattle.results.specs.Table.{rowIn, tableFor}
+use Rattle.build.specs.Rows.{rowsOf}
+use Rattle.build.specs.Build.{answer}
+use Rattle.lookup.specs.declared.LeafResult.the-variants.{Some as Found, None as Nothing}
+use Rattle.lookup.specs.Lookup.{lookup, rowResult}
+use Rattle.lookup.specs.LookupLaws.{placeAsked, lookup-at}
+use Rattle.exactly.specs.Conditions.{Lacking, ComponentFault, AreaFault}
+use Rattle.exactly.specs.Proof.{builds-exactly}
+use Rattle.rise.specs.Rise.{Rises, Outcome, Risen, TableRises}
+use Rattle.rise.specs.Rise.Outcome.{missing, overflow, accepted}
+use Rattle.rise.specs.Proof.{demand-3}
+use Rattle.answers.specs.Answers.{numbersOf}
+use Rattle.snp_cpuid.specs.declared.SnpCpuidBuilt.{SnpCpuidBuilt}
+use Rattle.snp_cpuid.specs.declared.SnpCpuidFound.{SnpCpuidFound}
+use Rattle.snp_cpuid.specs.Exports.{builtNumbers, foundNumbers}
+
+-- what snp_cpuid_build gives a page set, and snp_cpuid_lookup
+abbrev pub built : Bool → List ℕ → SnpCpuidBuilt
+built avic s = builtNumbers (answer avic s)
+
+abbrev pub found : Bool → List ℕ → CpuidFunction → Subleaf → Bool → SnpCpuidFound
+found avic s leaf subleaf enforce = foundNumbers (lookup (answer avic s .table) leaf subleaf enforce)
+
+abbrev pub registersOf : SnpCpuidFound → CpuidResult
+registersOf f = result (f .eax) (f .ebx) (f .ecx) (f .edx)
+
+-- number, leaf, subleaf and s of a refusal, with no rows and no mask
+abbrev pub refusedNumbers : ℕ → ℕ → ℕ → ℕ → SnpCpuidBuilt
+refusedNumbers number leaf named subleaf = record {
+  number = number;
+  leaf = leaf;
+  «has_subleaf» = named;
+  subleaf = subleaf;
+  s = 0;
+  «row_count» = 0;
+  «max_extended_state» = 0;
+}
+
+-- B's answer is one of three, as its own rows decide
+pub data BuiltRises (m : Rows) (n : SnpCpuidBuilt) : Type 0 where
+  refused-3 : (k : ℕ) → ComponentFault m k → n ≡ refusedNumbers 3 0xD 1 k → BuiltRises m n
+  refused-5 : ((k : ℕ) → Lacking m k → ⊥) → AreaFault m → n ≡ refusedNumbers 5 0 0 0 → BuiltRises m n
+  accepted-0 : ((k : ℕ) → Lacking m k → ⊥) → (AreaFault m → ⊥) → n .number ≡ 0 → BuiltRises m n
+
+pub record ExportsRise (avic : Bool) (a b : List ℕ) : Type 0 where
+  pub answers : BuiltRises (rowsOf avic b) (built avic b)
+  -- where B is accepted: at least A's mask, and whatever is found in A's table is found in B's with registers that compare
+  pub mask : built avic b .number ≡ 0 → Within (built avic a .«max_extended_state») (built avic b .«max_extended_state»)
+  pub rows : built avic b .number ≡ 0 → (leaf : CpuidFunction) (subleaf : Subleaf) (enforce : Bool) → found avic a leaf subleaf enforce .found ≡ 1
+      → (found avic b leaf subleaf enforce .found ≡ 1)
+      × Registers TableAtLeast (kindsOf (ruleAt (placeAsked leaf subleaf enforce))) (registersOf (found avic a leaf subleaf enforce)) (registersOf (found avic b leaf subleaf enforce))
+
+-- ---- the proof
+
+-- an answer with number 0 is accepted: a refusal's number is at least 1
+topology-numbered : (e : TopologyError) → topologyDetails e .number ≡ 0 → ⊥
+topology-numbered (Hyperthreading s) e = omega arith
+topology-numbered (ProcessorCount s) e = omega arith
+topology-numbered ThreadsPerUnit e = omega arith
+
+refusal-numbered : (r : Refusal) → details r .number ≡ 0 → ⊥
+refusal-numbered PagesLength e = omega arith
+refusal-numbered PageCount e = omega arith
+refusal-numbered (MissingRequiredResult leaf subleaf) e = omega arith
+refusal-numbered InvlpgbUnavailable e = omega arith
+refusal-numbered SaveAreaOverflow e = omega arith
+refusal-numbered (TopologyInconsistent t) e = topology-numbered t e
+refusal-numbered BufferTooShort e = omega arith
+
+verdict-numbered : (v : Verdict) → numbersOf v .number ≡ 0 → v ≡ Accepted
+verdict-numbered Accepted e = refl
+verdict-numbered (Refused r) e = absurd (refusal-numbered r e)
+
+-- a table has 88 places
+table-whole : (avic : Bool) (s : List ℕ) → length (answer avic s .table .present) ≤ places
+unfolding answer
+table-whole avic s = go (Rattle.build.specs.Build.verdictOf avic s)
+  where
+    go : (v : Verdict) → length (tableFor v (rowsOf avic s) .present) ≤ places
+    go Accepted = le-of-eq (length-tabulate places _)
+    go (Refused r) = le-of-eq (length-replicate places false)
+
+rise-answers : (avic : Bool) (b : List ℕ) → Outcome (rowsOf avic b) (answer avic b .verdict) → BuiltRises (rowsOf avic b) (built avic b)
+rise-answers avic b (missing k f e) = refused-3 k f (rw (builds-exactly avic b .empty _ e, e))
+rise-answers avic b (overflow n f e) = refused-5 n f (rw (builds-exactly avic b .empty _ e, e))
+rise-answers avic b (accepted n f e) = accepted-0 n f (rw e)
+
+-- what is found is the row of the place that is asked for
+found-numbers : (r : Row) → r .present ≡ true → foundNumbers (rowResult r) ≡ record { found = 1; eax = r .result .eax; ebx = r .result .ebx; ecx = r .result .ecx; edx = r .result .edx }
+found-numbers r e = ap foundNumbers (pick-true _ _ e)
+
+found-present : (r : Row) → foundNumbers (rowResult r) .found ≡ 1 → r .present ≡ true
+found-present r e = go (r .present) e
+  where
+    go : (b : Bool) → foundNumbers (pick b (Found (r .result)) Nothing) .found ≡ 1 → b ≡ true
+    go true e = refl
+    go false e = absurd (omega arith)
+
+-- a row that is there stands at one of the 88 places
+present-inside : (avic : Bool) (s : List ℕ) (i : ℕ) → rowIn (answer avic s .table) i .present ≡ true → i < places
+present-inside avic s i e = go (ltb i places) refl
+  where
+    go : (b : Bool) → ltb i places ≡ b → i < places
+    go true f = ltb-true i places f
+    go false f =
+        let h : length (answer avic s .table .present) ≤ i = omega (arith, table-whole avic s, ltb-false i places f) in
+        absurd (never-both e (List·getD-eq-default (answer avic s .table .present) false h))
+
+module _ (avic : Bool) (a b : List ℕ) (rises : Rises avic a b) where
+  risen : Risen avic a b
+  risen = demand-3 avic a b rises
+
+  rowsFound : TableRises (answer avic a .table) (answer avic b .table) → (leaf : CpuidFunction) (subleaf : Subleaf) (enforce : Bool)
+      → found avic a leaf subleaf enforce .found ≡ 1
+      → (found avic b leaf subleaf enforce .found ≡ 1)
+      × Registers TableAtLeast (kindsOf (ruleAt (placeAsked leaf subleaf enforce))) (registersOf (found avic a leaf subleaf enforce)) (registersOf (found avic b leaf subleaf enforce))
+  rowsFound t leaf subleaf enforce e =
+      let i : ℕ = placeAsked leaf subleaf enforce in
+      let ra : Row = rowIn (answer avic a .table) i in
+      let rb : Row = rowIn (answer avic b .table) i in
+      let fa : foundNumbers (rowResult ra) ≡ found avic a leaf subleaf enforce =
+      ap foundNumbers (lookup-at (answer avic a .table) (table-whole avic a) leaf subleaf enforce i refl) in
+      let fb : foundNumbers (rowResult rb) ≡ found avic b leaf subleaf enforce =
+      ap foundNumbers (lookup-at (answer avic b .table) (table-whole avic b) leaf subleaf enforce i refl) in
+      let pa : ra .present ≡ true = found-present ra (ap (λ (f : SnpCpuidFound). f .found) fa ∙ e) in
+      let l : i < places = present-inside avic a i pa in
+      let pb : rb .present ≡ true = t .rows i l pa in
+      let na = found-numbers ra pa in
+      let nb = found-numbers rb pb in (
+        sym (ap (λ (f : SnpCpuidFound). f .found) fb) ∙ ap (λ (f : SnpCpuidFound). f .found) nb,
+        subst₂ (λ (x y : SnpCpuidFound). Registers TableAtLeast (kindsOf (ruleAt i)) (registersOf x) (registersOf y)) (sym na ∙ fa) (sym nb ∙ fb)
+            (t .registers i l pa),
+      )
+
+  pub exports-rise : ExportsRise avic a b
+  exports-rise = record {
+    answers = rise-answers avic b (risen .outcome);
+    mask = λ n. risen .table (verdict-numbered (answer avic b .verdict) n) .mask;
+    rows = λ n. rowsFound (risen .table (verdict-numbered (answer avic b .verdict) n));
+  }
