@@ -1,9 +1,15 @@
-# make        prove every crate and print what is proved
+# make        prove the program, run it on the shipped page set and print the table that it wrote
+# make proved print what is proved
 # make test   the whole gate: proofs from nothing, must-fail edits, programs, and the tests in tests/
-.PHONY: all test clean
+# make bench  build and image against plain C, as a ratio
+.PHONY: all proved test bench clean
 
 all:
-	@rt check | grep '^rt:'
+	@rt check snp_cpuid_image | grep '^rt: '
+	@target/bin/snp_cpuid_image < tests/epyc-milan.pages > target/epyc-milan.image
+	@tests/show_image target/epyc-milan.image
+
+proved:
 	@tests/proved
 
 test:
@@ -11,3 +17,11 @@ test:
 
 clean:
 	rm -rf target
+
+# the library for C and Rust
+target/staticlib/libsnp_cpuid.a: crates.txt $(wildcard crates/*/src/*.rt)
+	@rt staticlib snp_cpuid | tail -n 1
+
+bench: target/staticlib/libsnp_cpuid.a
+	@gcc -O2 -o target/bench bench/bench.c bench/plain.c target/staticlib/libsnp_cpuid.a
+	@target/bench tests/epyc-milan.pages

@@ -34,7 +34,7 @@ unfoldable pub imageIn : List ℕ → CpuidResults → List ℕ
 imageIn [] t = []
 imageIn (i ∷ is) t = placeBytes i (rowIn t i) ++ imageIn is t
 
--- The free part: the order of the leaves. What holds of it is `LeafOrder`, in ImageLaws.
+-- The free part: the order of the leaves. What holds of it is `LeafOrder`, crates/counting/specs/Counting.antt.
 unfoldable pub leafOrder : List ℕ
 leafOrder = tabulate places (λ i. i)
 

@@ -1,17 +1,21 @@
 -- A lookup is one read, of the place that is asked for.
-use mathlib.Core.Path.{_≡_, refl, sym}
+use mathlib.Core.Path.{_≡_, refl, sym, _∙_}
 use mathlib.Core.Bool.{Bool, true, false}
 use mathlib.Core.Logic.{_⊎_, inl, inr}
 use Prim.Native.Nat.{ℕ, _≤_}
-use lib.ListN.{length, List·getD-eq-default}
-use borrow.Author.Tests.{ne-eqb}
+use lib.Dec.{ltb}
+use lib.ListN.{length, replicate, length-replicate, getD-replicate, List·getD-eq-default}
+use native.Mathlib.Nat.{le-of-eq}
+use native.Mathlib.Omega.{arith}
+use borrow.Author.Tests.{ne-eqb, ltb-true, ltb-false}
 use Rattle.bits.specs.Choice.{pick}
+use Rattle.bits.specs.ChoiceLaws.{pick-false}
 use Rattle.x86defs.specs.declared.CpuidFunction.{CpuidFunction}
 use Rattle.masking.specs.Kept.{places, placeOf}
 use Rattle.results.specs.declared.CpuidResults.{CpuidResults}
 use Rattle.results.specs.declared.Subleaf.{Subleaf}
 use Rattle.results.specs.declared.Subleaf.the-variants.{None, Some}
-use Rattle.results.specs.Table.{rowIn}
+use Rattle.results.specs.Table.{rowIn, emptyTable}
 use Rattle.lookup.specs.declared.LeafResult.the-variants.{None as Nothing}
 use Rattle.lookup.specs.Lookup.{withSubleaves, placeWhole, rowResult, lookup}
 
@@ -67,3 +71,20 @@ module _ (t : CpuidResults) (whole : length (t .present) ≤ places) where
   pub lookup-at : (l : CpuidFunction) (sub : Subleaf) (enforce : Bool) (i : ℕ) → i ≡ placeAsked l sub enforce
       → rowResult (rowIn t i) ≡ lookup t l sub enforce
   lookup-at l sub enforce i e = rw e (sym (lookup-asked l sub enforce))
+
+-- ---- a refused table
+
+empty-absent : (i : ℕ) → rowIn emptyTable i .present ≡ false
+empty-absent i = go (ltb i places) refl
+  where
+    go : (b : Bool) → ltb i places ≡ b → rowIn emptyTable i .present ≡ false
+    go true e = getD-replicate places i false false (ltb-true i places e)
+    go false e =
+        let past : length (replicate places false) ≤ i = omega (arith, length-replicate places false, ltb-false i places e) in
+        List·getD-eq-default (replicate places false) false past
+
+-- "in a refused table it finds nothing"
+pub empty-finds-nothing : (l : CpuidFunction) (sub : Subleaf) (enforce : Bool) → lookup emptyTable l sub enforce ≡ Nothing
+empty-finds-nothing l sub enforce =
+    sym (lookup-at emptyTable (le-of-eq (length-replicate places false)) l sub enforce (placeAsked l sub enforce) refl)
+    ∙ pick-false _ _ (empty-absent (placeAsked l sub enforce))

@@ -6,10 +6,16 @@ use mathlib.Core.List.{List, [], _∷_}
 use Prim.Native.Nat.{ℕ}
 use lib.ListN.{length}
 use Rattle.x86defs.specs.Functions.{ExtendedStateEnumeration}
+use Rattle.x86defs.specs.declared.CpuidFunction.{CpuidFunction}
+use Rattle.results.specs.declared.Subleaf.{Subleaf}
 use Rattle.results.specs.declared.Subleaf.the-variants.{Some}
+use Rattle.results.specs.declared.Refusal.{Refusal}
 use Rattle.results.specs.declared.Refusal.the-variants.{MissingRequiredResult, SaveAreaOverflow}
 use Rattle.results.specs.declared.Verdict.the-variants.{Accepted, Refused}
 use Rattle.build.specs.Build.{answer}
+use Rattle.lookup.specs.declared.LeafResult.the-variants.{None as Nothing}
+use Rattle.lookup.specs.Lookup.{lookup}
+use Rattle.lookup.specs.LookupLaws.{empty-finds-nothing}
 use Rattle.image.specs.Image.{leafOrder}
 use Rattle.exactly.specs.Exactly.{BuildsExactly, WritesExactly}
 use Rattle.exactly.specs.Proof.{builds-exactly, writes-exactly}
@@ -32,6 +38,11 @@ each-refusal-exactly = builds-exactly
 -- Refusal 9 likewise; every lent byte as it was for all nine; an accepted write leaves the bytes beyond the image.
 pub each-write-exactly : (avic : Bool) (s buffer : List ℕ) → WritesExactly avic s buffer
 each-write-exactly = writes-exactly
+
+-- a refused table has no row to find, whatever is asked. crates/lookup/specs/Lookup.antt
+pub refused-finds-nothing : (avic : Bool) (s : List ℕ) (r : Refusal) → answer avic s .verdict ≡ Refused r
+    → (leaf : CpuidFunction) (sub : Subleaf) (enforce : Bool) → lookup (answer avic s .table) leaf sub enforce ≡ Nothing
+refused-finds-nothing avic s r e leaf sub enforce = rw (builds-exactly avic s .empty r e) (empty-finds-nothing leaf sub enforce)
 
 -- ---- Demand 3. crates/rise/specs/Rise.antt has the hypothesis, the three outcomes and what B's table then has.
 
