@@ -1,0 +1,40 @@
+//! Links the proved static library. `SNP_CPUID_LIB` names a folder that has libsnp_cpuid.a; without it the repository's own is taken, and built by
+//! `rt staticlib snp_cpuid` where it is not there yet.
+
+use std::path::{Path, PathBuf};
+use std::process::{Command, exit};
+
+fn fail(text: String) -> ! {
+    eprintln!("snp-cpuid: {text}");
+    exit(1)
+}
+
+fn build(repository: &Path) {
+    match Command::new("rt").args(["staticlib", "snp_cpuid"]).current_dir(repository).status() {
+        Ok(status) if status.success() => {}
+        Ok(status) => fail(format!("`rt staticlib snp_cpuid` ended with {status}")),
+        Err(error) => fail(format!("`rt` cannot be started ({error}): install the Rattle kit, or set SNP_CPUID_LIB to a folder with libsnp_cpuid.a")),
+    }
+}
+
+fn main() {
+    println!("cargo::rerun-if-env-changed=SNP_CPUID_LIB");
+    let folder = match std::env::var_os("SNP_CPUID_LIB") {
+        Some(given) => PathBuf::from(given),
+        None => {
+            let repository = Path::new(env!("CARGO_MANIFEST_DIR")).join("..");
+            let folder = repository.join("target/staticlib");
+            if !folder.join("libsnp_cpuid.a").exists() {
+                build(&repository);
+            }
+            folder
+        }
+    };
+    let library = folder.join("libsnp_cpuid.a");
+    if !library.exists() {
+        fail(format!("{} is not there", library.display()));
+    }
+    println!("cargo::rerun-if-changed={}", library.display());
+    println!("cargo::rustc-link-search=native={}", folder.display());
+    println!("cargo::rustc-link-lib=static=snp_cpuid");
+}

@@ -1,0 +1,61 @@
+//! The CPUID table of an AMD SEV-SNP guest, over a library proved right for every input.
+//!
+//! ```
+//! let pages = std::fs::read("../tests/epyc-milan.pages").unwrap();
+//! let table = snp_cpuid::build(&pages, false).unwrap();
+//! // leaf 1, EDX bit 28: hyperthreading
+//! assert_eq!(table.row(1, None).unwrap().edx >> 28 & 1, 1);
+//!
+//! // no pages at all
+//! let refusal = snp_cpuid::build(&[], false).unwrap_err();
+//! assert_eq!(refusal, snp_cpuid::Refusal::PagesLength);
+//! println!("refusal {}: {refusal}", refusal.number());
+//! ```
+//!
+//! What is proved is what the library's exported functions return (the repository's README has the statements). This crate turns their numbers into
+//! Rust's types and reads rows from the image; its tests hold every lookup in a table against the library's own.
+
+mod exports;
+mod refusal;
+mod table;
+
+pub use refusal::{Refusal, TopologyError};
+pub use table::{CpuidResult, Row, Rows, Table};
+
+/// The bytes of a CPUID page.
+pub const PAGE_BYTES: usize = 4096;
+
+/// The most bytes that an image can have.
+pub const MOST_IMAGE_BYTES: usize = 732;
+
+/// Builds the table of CPUID pages that stand end to end. `secure_avic` adds one bit to the mask of 8000001Fh.EAX.
+pub fn build(pages: &[u8], secure_avic: bool) -> Result<Table, Refusal> {
+    // SAFETY: the pointer and length are those of a slice, which the function only reads
+    let built = unsafe { exports::snp_cpuid_build(pages.as_ptr(), pages.len(), secure_avic) };
+    if let Some(refusal) = Refusal::from_numbers(built.number, built.leaf, built.has_subleaf, built.subleaf, built.s) {
+        return Err(refusal);
+    }
+    let mut image = [0; MOST_IMAGE_BYTES];
+    let length = write_image(pages, secure_avic, &mut image)?;
+    Ok(Table::new(image, length, built.max_extended_state))
+}
+
+/// Writes the image of CPUID pages to the front of `out` and gives its length. Where it refuses, `out` is as it was; bytes beyond the image are as
+/// they were.
+pub fn write_image(pages: &[u8], secure_avic: bool, out: &mut [u8]) -> Result<usize, Refusal> {
+    // SAFETY: both pointers and lengths are those of slices; the function reads the first and writes within the second
+    let written = unsafe { exports::snp_cpuid_write_image(pages.as_ptr(), pages.len(), secure_avic, out.as_mut_ptr(), out.len()) };
+    match Refusal::from_numbers(written.number, written.leaf, written.has_subleaf, written.subleaf, written.s) {
+        Some(refusal) => Err(refusal),
+        None => Ok(written.length as usize),
+    }
+}
+
+/// Builds and looks one row up, both in the library. [`Table::lookup`] gives the same and builds once.
+pub fn lookup(pages: &[u8], secure_avic: bool, leaf: u32, subleaf: Option<u32>, enforce_subleaf: bool) -> Option<CpuidResult> {
+    // SAFETY: the pointer and length are those of a slice, which the function only reads
+    let found = unsafe {
+        exports::snp_cpuid_lookup(pages.as_ptr(), pages.len(), secure_avic, leaf, subleaf.is_some(), subleaf.unwrap_or(0), enforce_subleaf)
+    };
+    (found.found != 0).then_some(CpuidResult { eax: found.eax, ebx: found.ebx, ecx: found.ecx, edx: found.edx })
+}

@@ -1,0 +1,97 @@
+//! The declarations in src/exports.rs are those of include/snp_cpuid.h: each struct field by field, each function parameter by parameter.
+
+use std::collections::BTreeMap;
+
+type Declarations = BTreeMap<String, Vec<(String, String)>>;
+
+fn read(path: &str) -> String {
+    std::fs::read_to_string(path).unwrap_or_else(|e| panic!("{path}: {e}"))
+}
+
+fn without_comments(c: &str) -> String {
+    let mut text = String::new();
+    let mut rest = c;
+    while let Some(start) = rest.find("/*") {
+        text.push_str(&rest[..start]);
+        rest = &rest[start + rest[start..].find("*/").expect("a comment ends") + 2..];
+    }
+    text + rest
+}
+
+/// "const uint8_t *pages" is the name "pages" with the type "const uint8_t *".
+fn c_pair(declaration: &str) -> (String, String) {
+    let declaration = declaration.trim();
+    let at = declaration.rfind([' ', '*']).expect("a type and a name") + 1;
+    let kind = declaration[..at].trim();
+    let rust = match kind {
+        "uint32_t" => "u32",
+        "uint64_t" => "u64",
+        "size_t" => "usize",
+        "bool" => "bool",
+        "const uint8_t *" => "*const u8",
+        "uint8_t *" => "*mut u8",
+        other => panic!("a type that this test does not know: {other}"),
+    };
+    (declaration[at..].to_string(), rust.to_string())
+}
+
+/// "snp_cpuid_built" is `Built` in Rust.
+fn rust_name(c: &str) -> String {
+    let tail = c.trim().strip_prefix("snp_cpuid_").expect("names start with snp_cpuid_");
+    tail[..1].to_uppercase() + &tail[1..]
+}
+
+fn of_header() -> Declarations {
+    let text = without_comments(&read("../include/snp_cpuid.h"));
+    let mut all = Declarations::new();
+    for part in text.split("struct ").skip(1) {
+        let (head, rest) = part.split_at(part.find(['{', '(', ';']).expect("a struct or a function"));
+        if let Some(fields) = rest.strip_prefix('{') {
+            let fields = &fields[..fields.find('}').expect("a struct ends")];
+            all.insert(rust_name(head), fields.split(';').filter(|f| !f.trim().is_empty()).map(c_pair).collect());
+        } else if let Some(parameters) = rest.strip_prefix('(') {
+            let (answer, name) = head.split_once(' ').expect("an answer and a name");
+            let parameters = &parameters[..parameters.find(')').expect("a function ends")];
+            let mut pairs: Vec<_> = parameters.split(',').map(c_pair).collect();
+            pairs.push(("returns".into(), rust_name(answer)));
+            all.insert(name.trim().to_string(), pairs);
+        }
+    }
+    all
+}
+
+fn of_rust() -> Declarations {
+    let text = read("src/exports.rs");
+    let pair = |declaration: &str| {
+        let (name, kind) = declaration.split_once(':').expect("a name and a type");
+        (name.trim().trim_start_matches("pub(crate) ").to_string(), kind.trim().to_string())
+    };
+    let mut all = Declarations::new();
+    for part in text.split("struct ").skip(1) {
+        let (name, rest) = part.split_once('{').expect("fields");
+        let fields = &rest[..rest.find('}').expect("a struct ends")];
+        all.insert(name.trim().to_string(), fields.split(',').filter(|f| !f.trim().is_empty()).map(pair).collect());
+    }
+    for part in text.split(" fn ").skip(1) {
+        let (name, rest) = part.split_once('(').expect("parameters");
+        let (parameters, rest) = rest.split_once(") -> ").expect("an answer");
+        let mut pairs: Vec<_> = parameters.split(',').filter(|p| !p.trim().is_empty()).map(pair).collect();
+        pairs.push(("returns".into(), rest[..rest.find(';').expect("a function ends")].to_string()));
+        all.insert(name.to_string(), pairs);
+    }
+    all
+}
+
+#[test]
+fn declarations_are_the_headers() {
+    let header = of_header();
+    assert_eq!(header.len(), 6, "three structs and three functions");
+    assert_eq!(of_rust(), header);
+}
+
+#[test]
+fn the_constant_is_the_headers() {
+    let text = read("../include/snp_cpuid.h");
+    let line = text.lines().find_map(|l| l.strip_prefix("#define SNP_CPUID_MOST_IMAGE_BYTES ")).expect("the constant");
+    assert_eq!(line.trim().parse(), Ok(snp_cpuid::MOST_IMAGE_BYTES));
+}
