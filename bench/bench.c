@@ -1,5 +1,6 @@
-/* Build and image, by the proved library and by plain C, in one run: prints ratios, not a verdict.
- * Each round times both on the same input, in turns; the median of the rounds' ratios is printed with their spread. */
+/* Build and image, by the proved library, by plain C and, with WITH_RUST, by the Rust of differential/oracle, in one run: prints ratios, not a
+ * verdict. Each round times all on the same input, in turns; the median of the rounds' ratios is printed with their spread. The Rust builds
+ * its set of leaves, and writes no image. */
 #include "../include/snp_cpuid.h"
 #include "plain.h"
 
@@ -48,6 +49,19 @@ static double plain_ns(const uint8_t *pages, size_t n, int calls)
     return (now() - t) / calls;
 }
 
+#ifdef WITH_RUST
+/* differential/oracle/src/lib.rs: the rows of the table, or 0 where the Rust refuses */
+size_t oracle_rows(const uint8_t *pages, size_t length);
+
+static double rust_ns(const uint8_t *pages, size_t n, int calls)
+{
+    double t = now();
+    for (int i = 0; i < calls; i++)
+        sink += (uint32_t)oracle_rows(pages, n);
+    return (now() - t) / calls;
+}
+#endif
+
 /* both give the same answer and bytes, or nothing here means anything */
 static void compare(const char *name, const uint8_t *pages, size_t n)
 {
@@ -61,21 +75,47 @@ static void compare(const char *name, const uint8_t *pages, size_t n)
     }
 }
 
+struct times {
+    double ns[ROUNDS], ratio[ROUNDS];
+};
+
+static void print_times(const char *what, const char *ratio, struct times *t)
+{
+    qsort(t->ns, ROUNDS, sizeof *t->ns, by_value);
+    qsort(t->ratio, ROUNDS, sizeof *t->ratio, by_value);
+    printf("  %s %6.0f ns  %s %.2f (%.2f to %.2f)", what, t->ns[ROUNDS / 2], ratio, t->ratio[ROUNDS / 2], t->ratio[2], t->ratio[ROUNDS - 3]);
+}
+
 static void measure(const char *name, const uint8_t *pages, size_t n)
 {
-    double ratio[ROUNDS], port[ROUNDS], plain[ROUNDS];
+    double port[ROUNDS];
+    struct times c;
     compare(name, pages, n);
     int calls = 20000;
-    for (int i = 0; i < ROUNDS; i++) {
-        plain[i] = plain_ns(pages, n, calls);
-        port[i] = port_ns(pages, n, calls);
-        ratio[i] = port[i] / plain[i];
+#ifdef WITH_RUST
+    struct times rust;
+    if (oracle_rows(pages, n) != snp_cpuid_build(pages, n, false).row_count) {
+        fprintf(stderr, "%s: the Rust has another number of rows\n", name);
+        exit(1);
     }
-    qsort(ratio, ROUNDS, sizeof *ratio, by_value);
+    calls = 2000;
+#endif
+    for (int i = 0; i < ROUNDS; i++) {
+        c.ns[i] = plain_ns(pages, n, calls);
+        port[i] = port_ns(pages, n, calls);
+        c.ratio[i] = port[i] / c.ns[i];
+#ifdef WITH_RUST
+        rust.ns[i] = rust_ns(pages, n, calls);
+        rust.ratio[i] = rust.ns[i] / port[i];
+#endif
+    }
     qsort(port, ROUNDS, sizeof *port, by_value);
-    qsort(plain, ROUNDS, sizeof *plain, by_value);
-    printf("%-28s port %7.0f ns   plain C %7.0f ns   ratio %.2f (%.2f to %.2f)\n", name, port[ROUNDS / 2], plain[ROUNDS / 2],
-           ratio[ROUNDS / 2], ratio[2], ratio[ROUNDS - 3]);
+    printf("%-28s port %6.0f ns", name, port[ROUNDS / 2]);
+    print_times("C", "port/C", &c);
+#ifdef WITH_RUST
+    print_times("Rust", "Rust/port", &rust);
+#endif
+    putchar('\n');
 }
 
 /* the set in the file, with both pages filled up to 64 entries by leaves that are filtered or already there */

@@ -1,4 +1,5 @@
-"""Makes crates/vectors/stdin and stdout: the vectors of vector_groups.py as commands, and the answers of model.py.
+"""Makes crates/vectors/stdin and stdout: the vectors of vector_groups.py as commands with the answers of model.py, then the page sets of
+differential/list.txt with the answers of the Rust, which the model must give too.
 
 make_vectors.py           writes both files
 make_vectors.py --check   compares the two files with what it makes
@@ -12,6 +13,7 @@ import struct
 import sys
 
 import model
+import rust_list
 import vector_groups
 
 FOLDER = Path(__file__).resolve().parent.parent / 'crates' / 'vectors'
@@ -97,8 +99,13 @@ def summed(kind, answer):
 
 
 def main(words):
-    vectors = list(vector_groups.vectors())
+    listed, answers = zip(*rust_list.listed())
+    vectors = [*vector_groups.vectors(), *listed]
     sums, lines = zip(*map(line, vectors))
+    for vector, by_model, by_rust in zip(listed, lines[-len(listed):], answers):
+        if by_model != by_rust:
+            print(f'{vector.name}: the model gives {by_model}, the Rust {by_rust}')
+            return 1
     if words == ['--names']:
         for number, vector in enumerate(vectors, 1):
             print(number, vector.name)

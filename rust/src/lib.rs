@@ -15,7 +15,7 @@
 //! What is proved is what the library's exported functions return (the repository's README has the statements). This crate turns their numbers into
 //! Rust's types and reads rows from the image; its tests hold every lookup in a table against the library's own.
 
-mod exports;
+pub mod exports;
 mod refusal;
 mod table;
 

@@ -64,7 +64,7 @@ fn of_rust() -> Declarations {
     let text = read("src/exports.rs");
     let pair = |declaration: &str| {
         let (name, kind) = declaration.split_once(':').expect("a name and a type");
-        (name.trim().trim_start_matches("pub(crate) ").to_string(), kind.trim().to_string())
+        (name.trim().trim_start_matches("pub ").to_string(), kind.trim().to_string())
     };
     let mut all = Declarations::new();
     for part in text.split("struct ").skip(1) {

@@ -1,0 +1,243 @@
+//! One page set, through the Rust and through the port. Any disagreement is an `Err` that says which.
+
+use oracle::Answer;
+use oracle::Refusal;
+use oracle::Row;
+use port::Asked;
+use port::Built;
+use port::Found;
+use port::Written;
+
+use crate::random::Random;
+
+/// The functions that are held against the Rust; a test puts wrong ones in their place.
+#[derive(Clone, Copy)]
+pub struct Port {
+    pub build: fn(&[u8], bool) -> Built,
+    pub lookup: fn(&[u8], bool, Asked) -> Found,
+    pub write_image: fn(&[u8], bool, &mut [u8]) -> Written,
+}
+
+pub const PORT: Port = Port { build: port::build, lookup: port::lookup, write_image: port::write_image };
+
+/// How much is asked besides the answer and one image.
+#[derive(Clone, Copy, Default)]
+pub enum Depth {
+    #[default]
+    Answer,
+    /// Buffers of every interesting length, and some lookups, picked by this seed.
+    Sampled(u64),
+    /// The same with every lookup of `LEAVES` and `SUBLEAVES`.
+    Every,
+}
+
+#[derive(Clone, Default)]
+pub struct Case {
+    pub pages: Vec<u8>,
+    pub secure_avic: bool,
+    pub depth: Depth,
+}
+
+/// What was asked and answered.
+#[derive(Clone, Copy, Default)]
+pub struct Seen {
+    /// 0 where accepted.
+    pub refusal: Refusal,
+    pub lookups: u64,
+    pub writes: u64,
+    pub short_buffers: u64,
+}
+
+/// More room than the longest image, 732 bytes, needs.
+const ROOM: usize = 800;
+
+/// Leaves to look up: kept ones, their neighbours, the hypervisor's, and the ends.
+const LEAVES: [u32; 40] = [
+    0, 1, 2, 4, 5, 6, 7, 8, 0xa, 0xb, 0xc, 0xd, 0xe, 0x40000000, 0x40000003, 0x7fffffff, 0x80000000, 0x80000001, 0x80000002, 0x80000003,
+    0x80000004, 0x80000005, 0x80000006, 0x80000007, 0x80000008, 0x80000009, 0x8000000a, 0x8000000b, 0x80000018, 0x80000019, 0x8000001a,
+    0x8000001b, 0x8000001c, 0x8000001d, 0x8000001e, 0x8000001f, 0x80000020, 0x8000000d, 0xfffffffe, 0xffffffff,
+];
+
+const SUBLEAVES: [u32; 18] = [0, 1, 2, 3, 4, 5, 6, 7, 8, 9, 11, 12, 13, 62, 63, 64, 0x80000000, 0xffffffff];
+
+pub fn check(port: &Port, case: &Case) -> Result<Seen, String> {
+    let answer = oracle::answer(&case.pages, case.secure_avic);
+    let mut seen = Seen {
+        refusal: match &answer {
+            Answer::Table { .. } => Refusal::default(),
+            Answer::Refusal(refusal) => *refusal,
+            Answer::Unknown(text) => return Err(format!("the Rust gave no answer known to document 01: {text}")),
+        },
+        ..Seen::default()
+    };
+    let built = (port.build)(&case.pages, case.secure_avic);
+    same("build", &expected_built(&answer), &built)?;
+    check_writes(port, case, &answer, &mut seen)?;
+    check_lookups(port, case, &answer, &mut seen)?;
+    Ok(seen)
+}
+
+fn same<T: PartialEq + std::fmt::Debug>(what: &str, rust: &T, port: &T) -> Result<(), String> {
+    if rust == port {
+        return Ok(());
+    }
+    Err(format!("{what}\n  by the Rust: {rust:x?}\n  by the port: {port:x?}"))
+}
+
+fn expected_built(answer: &Answer) -> Built {
+    match answer {
+        Answer::Table { rows, mask } => Built { row_count: rows.len() as u64, max_extended_state: *mask, ..Built::default() },
+        Answer::Refusal(Refusal { number, leaf, subleaf, s }) => Built {
+            number: *number,
+            leaf: *leaf,
+            has_subleaf: subleaf.is_some().into(),
+            subleaf: subleaf.unwrap_or(0),
+            s: *s,
+            ..Built::default()
+        },
+        Answer::Unknown(_) => unreachable!("returned before"),
+    }
+}
+
+/// What a write into this much room gives. Refusals of building come before 9.
+fn expected_written(answer: &Answer, room: usize) -> Written {
+    let built = expected_built(answer);
+    let length = image_length(answer);
+    let written =
+        Written { number: built.number, leaf: built.leaf, has_subleaf: built.has_subleaf, subleaf: built.subleaf, s: built.s, length: 0 };
+    match answer {
+        Answer::Table { .. } if room < length => Written { number: 9, ..written },
+        _ => Written { length: length as u64, ..written },
+    }
+}
+
+/// 21 bytes for a row without subleaf and 25 for one with; 0 where refused.
+fn image_length(answer: &Answer) -> usize {
+    match answer {
+        Answer::Table { rows, .. } => rows.iter().map(|row| if row.subleaf.is_some() { 25 } else { 21 }).sum(),
+        _ => 0,
+    }
+}
+
+fn check_writes(port: &Port, case: &Case, answer: &Answer, seen: &mut Seen) -> Result<(), String> {
+    check_write(port, case, answer, ROOM, 0x5a, seen)?;
+    if matches!(case.depth, Depth::Answer) {
+        return Ok(());
+    }
+    // The other pattern tells a byte written from one that happened to be the same.
+    check_write(port, case, answer, ROOM, 0xa5, seen)?;
+    let length = image_length(answer);
+    for room in [length, length.saturating_sub(1), length / 2, 1, 0] {
+        check_write(port, case, answer, room, 0x5a, seen)?;
+    }
+    Ok(())
+}
+
+fn check_write(port: &Port, case: &Case, answer: &Answer, room: usize, fill: u8, seen: &mut Seen) -> Result<(), String> {
+    let before: [u8; ROOM] = std::array::from_fn(|at| fill ^ at as u8);
+    let mut lent = before;
+    let written = (port.write_image)(&case.pages, case.secure_avic, &mut lent[..room]);
+    let expected = expected_written(answer, room);
+    same(&format!("write into {room} bytes"), &expected, &written)?;
+    let length = expected.length as usize;
+    if lent[length..] != before[length..] {
+        return Err(format!("write into {room} bytes: a byte from {length} up was changed"));
+    }
+    if let (Answer::Table { rows, .. }, 1..) = (answer, length) {
+        check_image(rows, &lent[..length])?;
+    }
+    seen.writes += 1;
+    seen.short_buffers += u64::from(written.number == 9);
+    Ok(())
+}
+
+/// The image against the rows: leaves in any order, a leaf's subleaves together and rising, as in `to_leaves`.
+fn check_image(rows: &[Row], image: &[u8]) -> Result<(), String> {
+    let mut found = parse(image)?;
+    for pair in found.windows(2) {
+        if pair[0].leaf == pair[1].leaf && pair[0].subleaf >= pair[1].subleaf {
+            return Err(format!("image: the subleaves of {:x} don't rise", pair[0].leaf));
+        }
+    }
+    let groups = found.chunk_by(|a, b| a.leaf == b.leaf).count();
+    found.sort();
+    if groups != found.chunk_by(|a, b| a.leaf == b.leaf).count() {
+        return Err("image: the rows of a leaf don't stand together".into());
+    }
+    for (rust, port) in rows.iter().zip(&found) {
+        same("image", rust, port)?;
+    }
+    same("rows in the image", &rows.len(), &found.len())
+}
+
+fn parse(image: &[u8]) -> Result<Vec<Row>, String> {
+    let mut rows = Vec::with_capacity(32);
+    let mut at = 0;
+    while at < image.len() {
+        let with_subleaf = match image[at] {
+            1 => false,
+            2 => true,
+            other => return Err(format!("image: byte {other} at {at} begins no row")),
+        };
+        let words = if with_subleaf { 6 } else { 5 };
+        let end = at + 1 + 4 * words;
+        let bytes = image.get(at + 1..end).ok_or("image: the last row is cut")?;
+        let word = |number: usize| u32::from_le_bytes(std::array::from_fn(|byte| bytes[4 * number + byte]));
+        rows.push(Row {
+            leaf: word(0),
+            subleaf: with_subleaf.then(|| word(1)),
+            registers: std::array::from_fn(|register| word(words - 4 + register)),
+        });
+        at = end;
+    }
+    Ok(rows)
+}
+
+/// `leaf_result_ref` is private to the Rust's module; this is its rule over the rows that the Rust built.
+fn expected_found(answer: &Answer, asked: Asked) -> Found {
+    let Answer::Table { rows, .. } = answer else {
+        return Found::default();
+    };
+    let subleaf = asked.has_subleaf.then_some(asked.subleaf);
+    let row = rows.iter().find(|row| {
+        row.leaf == asked.leaf
+            && match row.subleaf {
+                None => !asked.enforce || subleaf.is_none(),
+                some => some == subleaf,
+            }
+    });
+    row.map_or(Found::default(), |row| {
+        let [eax, ebx, ecx, edx] = row.registers;
+        Found { found: 1, eax, ebx, ecx, edx }
+    })
+}
+
+fn check_lookups(port: &Port, case: &Case, answer: &Answer, seen: &mut Seen) -> Result<(), String> {
+    let mut one = |asked| {
+        seen.lookups += 1;
+        let found = (port.lookup)(&case.pages, case.secure_avic, asked);
+        same(&format!("{asked:x?}"), &expected_found(answer, asked), &found)
+    };
+    match case.depth {
+        Depth::Answer => Ok(()),
+        Depth::Sampled(seed) => {
+            let mut random = Random::new(seed);
+            (0..12).try_for_each(|_| {
+                one(Asked {
+                    leaf: random.pick(&LEAVES),
+                    has_subleaf: random.below(4) > 0,
+                    subleaf: random.pick(&SUBLEAVES),
+                    enforce: random.below(2) > 0,
+                })
+            })
+        }
+        Depth::Every => (0..LEAVES.len() * SUBLEAVES.len() * 4).try_for_each(|number| {
+            one(Asked {
+                leaf: LEAVES[number / 4 / SUBLEAVES.len()],
+                has_subleaf: number & 1 > 0,
+                subleaf: SUBLEAVES[number / 4 % SUBLEAVES.len()],
+                enforce: number & 2 > 0,
+            })
+        }),
+    }
+}

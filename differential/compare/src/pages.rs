@@ -1,0 +1,151 @@
+//! Page sets (document 01, "Page bytes"), from single entries up to whole sets.
+
+pub const PAGE: usize = 4096;
+pub const MOST: usize = 64;
+pub const STATE: u32 = 0xd;
+
+/// Registers by their place in a result.
+pub const EAX: usize = 0;
+pub const EBX: usize = 1;
+pub const ECX: usize = 2;
+pub const EDX: usize = 3;
+
+#[derive(Clone, Copy, Debug, PartialEq, Eq)]
+pub struct Entry {
+    pub leaf: u32,
+    pub subleaf: u32,
+    pub registers: [u32; 4],
+}
+
+/// A list of entries for each page.
+pub type Set = Vec<Vec<Entry>>;
+
+/// Rows that building asks for, in the order of `COMMON_REQUIRED_LEAVES` and `SNP_REQUIRED_LEAVES`.
+pub const REQUIRED: [(u32, u32); 24] = [
+    (1, 0),
+    (5, 0),
+    (7, 0),
+    (0xb, 0),
+    (0xb, 1),
+    (0x80000001, 0),
+    (0x80000005, 0),
+    (0x80000006, 0),
+    (0x80000007, 0),
+    (0x80000008, 0),
+    (0x80000002, 0),
+    (0x80000003, 0),
+    (0x80000004, 0),
+    (STATE, 0),
+    (STATE, 1),
+    (0x8000001f, 0),
+    (0x8000000a, 0),
+    (0x80000019, 0),
+    (0x8000001a, 0),
+    (0x8000001d, 0),
+    (0x8000001d, 1),
+    (0x8000001d, 2),
+    (0x8000001d, 3),
+    (0x8000001e, 0),
+];
+
+/// Components that a combined mask can have from 2 up.
+pub const COMPONENTS: [u32; 6] = [2, 5, 6, 7, 11, 12];
+
+pub fn minimal() -> Set {
+    let entries =
+        REQUIRED.map(|(leaf, subleaf)| Entry { leaf, subleaf, registers: [0, if leaf == 0x80000008 { 1 << 3 } else { 0 }, 0, 0] });
+    spread(&entries)
+}
+
+/// Every bit reported: AVX-512 and CET with their states at AMD's sizes and places, 128 processors, two a core.
+pub fn rich() -> Set {
+    let mut entries = REQUIRED.map(|(leaf, subleaf)| Entry { leaf, subleaf, registers: [u32::MAX; 4] }).to_vec();
+    let sizes = [(2, 256, 576), (5, 64, 832), (6, 512, 896), (7, 1024, 1408), (9, 8, 2432), (11, 16, 0), (12, 24, 0)];
+    entries.extend(sizes.map(|(subleaf, size, start)| Entry { leaf: STATE, subleaf, registers: [size, start, (subleaf > 9).into(), 0] }));
+    let mut set = spread(&entries);
+    set_topology(&mut set, [7, 127, 128, 1, 1]);
+    set
+}
+
+/// The pages of an EPYC Milan.
+pub fn milan() -> Set {
+    read(include_bytes!("../../../tests/epyc-milan.pages"))
+}
+
+/// Two pages; leaf Dh counts only on page 1.
+pub fn spread(entries: &[Entry]) -> Set {
+    let (state, others) = entries.iter().partition(|entry| entry.leaf == STATE);
+    vec![others, state]
+}
+
+pub fn entry(set: &mut Set, leaf: u32, subleaf: u32) -> &mut Entry {
+    set.iter_mut().flatten().find(|entry| (entry.leaf, entry.subleaf) == (leaf, subleaf)).expect("the set has this entry")
+}
+
+pub fn remove(set: &mut Set, leaf: u32, subleaf: u32) {
+    for page in set {
+        page.retain(|entry| (entry.leaf, entry.subleaf) != (leaf, subleaf));
+    }
+}
+
+/// s, nc, lps, mt and t of document 01, "Corners of snp.rs"; all other bits stay.
+pub fn set_topology(set: &mut Set, [s, nc, lps, mt, t]: [u32; 5]) {
+    let mut place = |leaf, register: usize, fields: u32, value: u32| {
+        let old = &mut entry(set, leaf, 0).registers[register];
+        *old = *old & !fields | value;
+    };
+    place(0x80000008, ECX, 0xf0ff, s << 12 | nc);
+    place(1, EBX, 0xff << 16, lps << 16);
+    place(1, EDX, 1 << 28, mt << 28);
+    place(0x8000001e, EBX, 0xff << 8, t << 8);
+}
+
+/// Where an entry of a page begins.
+pub fn place(page: usize, position: usize) -> usize {
+    page * PAGE + 16 + 48 * position
+}
+
+/// The words of an entry that are read, by their place in it: the two IN numbers and the four results.
+pub const WORDS: [usize; 6] = [0, 4, 24, 28, 32, 36];
+
+/// The pages as bytes; `fill` stands wherever nothing is read.
+pub fn write(set: &Set, fill: u8, bytes: &mut Vec<u8>) {
+    bytes.clear();
+    bytes.resize(set.len() * PAGE, fill);
+    for (number, page) in set.iter().enumerate() {
+        set_count(bytes, number, page.len() as u32);
+        for (position, entry) in page.iter().enumerate().take(MOST) {
+            let [eax, ebx, ecx, edx] = entry.registers;
+            let words = [entry.leaf, entry.subleaf, eax, ebx, ecx, edx];
+            for (at, word) in WORDS.iter().zip(words) {
+                set_word(bytes, place(number, position) + at, word);
+            }
+        }
+    }
+}
+
+pub fn read(bytes: &[u8]) -> Set {
+    (0..bytes.len() / PAGE)
+        .map(|page| {
+            let count = (word(bytes, page * PAGE) as usize).min(MOST);
+            (0..count)
+                .map(|position| {
+                    let [leaf, subleaf, registers @ ..] = WORDS.map(|at| word(bytes, place(page, position) + at));
+                    Entry { leaf, subleaf, registers }
+                })
+                .collect()
+        })
+        .collect()
+}
+
+pub fn word(bytes: &[u8], at: usize) -> u32 {
+    u32::from_le_bytes(std::array::from_fn(|byte| bytes[at + byte]))
+}
+
+pub fn set_word(bytes: &mut [u8], at: usize, word: u32) {
+    bytes[at..at + 4].copy_from_slice(&word.to_le_bytes());
+}
+
+pub fn set_count(bytes: &mut [u8], page: usize, count: u32) {
+    set_word(bytes, page * PAGE, count);
+}

@@ -1,0 +1,175 @@
+//! Runs the families over all cores, and sums up.
+
+use std::collections::BTreeSet;
+use std::fmt;
+use std::sync::atomic::AtomicU64;
+use std::sync::atomic::Ordering::Relaxed;
+use std::thread;
+use std::time::Duration;
+use std::time::Instant;
+
+use crate::check;
+use crate::check::Case;
+use crate::check::Port;
+use crate::check::Seen;
+use crate::families::FAMILIES;
+use crate::families::Family;
+use crate::pages;
+use crate::random::Random;
+use crate::shrink;
+
+/// Counts over some cases.
+#[derive(Clone, Default)]
+pub struct Counts {
+    /// By answer: 0 where accepted, else the refusal.
+    answers: [u64; 9],
+    /// The rows that refusal 3 named.
+    missing: BTreeSet<(u32, Option<u32>)>,
+    lookups: u64,
+    writes: u64,
+    short_buffers: u64,
+}
+
+impl Counts {
+    fn add(&mut self, seen: &Seen) {
+        self.answers[seen.refusal.number as usize] += 1;
+        if seen.refusal.number == 3 {
+            self.missing.insert((seen.refusal.leaf, seen.refusal.subleaf));
+        }
+        self.lookups += seen.lookups;
+        self.writes += seen.writes;
+        self.short_buffers += seen.short_buffers;
+    }
+
+    fn join(&mut self, other: &Self) {
+        for (sum, more) in self.answers.iter_mut().zip(other.answers) {
+            *sum += more;
+        }
+        self.missing.extend(&other.missing);
+        self.lookups += other.lookups;
+        self.writes += other.writes;
+        self.short_buffers += other.short_buffers;
+    }
+}
+
+/// The counts of each family.
+pub struct Summary(Vec<(&'static str, Counts, Duration)>);
+
+impl fmt::Display for Summary {
+    fn fmt(&self, f: &mut fmt::Formatter<'_>) -> fmt::Result {
+        let line = |f: &mut fmt::Formatter<'_>, name: &str, counts: &Counts, time: Duration| {
+            write!(f, "{name:24}{:>9}", counts.answers.iter().sum::<u64>())?;
+            counts.answers.iter().try_for_each(|count| write!(f, "{count:>9}"))?;
+            writeln!(f, "{:>7.1} s", time.as_secs_f64())
+        };
+        writeln!(f, "{:24}{:>9}{:>9}{:>9}{:>9}{:>9}{:>9}{:>9}{:>9}{:>9}{:>9}", "", "sets", "accepted", 1, 2, 3, 4, 5, 6, 7, 8)?;
+        let mut all = Counts::default();
+        let mut time = Duration::ZERO;
+        for (name, counts, taken) in &self.0 {
+            line(f, name, counts, *taken)?;
+            all.join(counts);
+            time += *taken;
+        }
+        line(f, "all", &all, time)?;
+        writeln!(
+            f,
+            "{} writes, of which {} refused with 9; {} lookups; refusal 3 named {} different rows",
+            all.writes,
+            all.short_buffers,
+            all.lookups,
+            all.missing.len()
+        )?;
+        writeln!(f, "no difference")
+    }
+}
+
+pub struct Difference {
+    pub case: Case,
+    family: &'static str,
+    number: u64,
+    what: String,
+}
+
+impl fmt::Display for Difference {
+    fn fmt(&self, f: &mut fmt::Formatter<'_>) -> fmt::Result {
+        writeln!(f, "DIFFERENCE in \"{}\", case {}; the smallest page set found:", self.family, self.number)?;
+        writeln!(f, "{} bytes, secure AVIC {}", self.case.pages.len(), self.case.secure_avic)?;
+        for (number, page) in pages::read(&self.case.pages).iter().enumerate() {
+            writeln!(f, "page {number}: count {}", pages::word(&self.case.pages, number * pages::PAGE))?;
+            for entry in page {
+                writeln!(f, "  {:x}.{:x}: {:08x?}", entry.leaf, entry.subleaf, entry.registers)?;
+            }
+        }
+        write!(f, "{}", self.what)
+    }
+}
+
+/// All families, or the first difference.
+pub fn all(port: &Port, quick: bool, seed: u64) -> Result<Summary, Box<Difference>> {
+    let mut lines = Vec::new();
+    for family in &FAMILIES {
+        let start = Instant::now();
+        let counts = one(port, family, quick, seed)?;
+        lines.push((family.name, counts, start.elapsed()));
+    }
+    Ok(Summary(lines))
+}
+
+/// One family. Of several differences that of the lowest number is told, whatever the number of cores.
+pub fn one(port: &Port, family: &Family, quick: bool, seed: u64) -> Result<Counts, Box<Difference>> {
+    let workers = thread::available_parallelism().map_or(1, usize::from);
+    let lowest = AtomicU64::new(u64::MAX);
+    let counts = thread::scope(|scope| {
+        let work = |worker| work(port, family, (quick, seed), (worker, workers), &lowest);
+        let running: Vec<_> = (0..workers).map(|worker| scope.spawn(move || work(worker))).collect();
+        let mut counts = Counts::default();
+        for worker in running {
+            counts.join(&worker.join().expect("a worker ends"));
+        }
+        counts
+    });
+    eprintln!("\r{}: done{:24}", family.name, "");
+    match lowest.into_inner() {
+        u64::MAX => Ok(counts),
+        number => Err(Box::new(difference(port, family, seed, number))),
+    }
+}
+
+fn work(port: &Port, family: &Family, (quick, seed): (bool, u64), (worker, workers): (usize, usize), lowest: &AtomicU64) -> Counts {
+    let step = if quick { family.quick_step } else { 1 };
+    let mut counts = Counts::default();
+    let mut case = Case::default();
+    let mut told = Instant::now();
+    for number in (0..family.cases).step_by(step as usize).skip(worker).step_by(workers) {
+        if number > lowest.load(Relaxed) {
+            break;
+        }
+        make(family, seed, number, &mut case);
+        match check::check(port, &case) {
+            Ok(seen) => counts.add(&seen),
+            Err(_) => {
+                lowest.fetch_min(number, Relaxed);
+            }
+        }
+        if worker == 0 && told.elapsed() > Duration::from_secs(1) {
+            told = Instant::now();
+            eprint!("\r{}: {number} of {}   ", family.name, family.cases);
+        }
+    }
+    counts
+}
+
+pub fn make(family: &Family, seed: u64, number: u64, case: &mut Case) {
+    *case = Case { pages: std::mem::take(&mut case.pages), ..Case::default() };
+    let start = family.name.bytes().fold(seed, |mixed, byte| mixed.wrapping_mul(257).wrapping_add(byte.into()));
+    let mut random = Random::new(start.wrapping_add(number.wrapping_mul(0xd1b54a32d192ed03)));
+    (family.make)(number, &mut random, case);
+}
+
+fn difference(port: &Port, family: &Family, seed: u64, number: u64) -> Difference {
+    let mut case = Case::default();
+    make(family, seed, number, &mut case);
+    let case = shrink::shrink(&case, |case| check::check(port, case).is_err());
+    let what = check::check(port, &case).err().expect("the difference stays");
+    Difference { case, family: family.name, number, what }
+}
