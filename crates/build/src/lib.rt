@@ -38,7 +38,7 @@ fn counted_place(page: usize, entry: ParsedCpuidEntry) -> usize
 }
 
 // An entry's registers at its place: masked, and for D.0 with bits 0 and 1 of EAX set.
-fn masked_at(kept: KeptLeaf, place: usize, r: CpuidResult) -> CpuidResult
+pub fn masked_at(kept: KeptLeaf, place: usize, r: CpuidResult) -> CpuidResult
     ensures { λ q. ⌜ q ≡ setLegacy place (applyMask (masksOf kept) r) ⌝ }
 {
     let masked = masking::apply_mask(kept, r);
