@@ -1,10 +1,11 @@
 -- What a reader yields, as `SnpCpuidIterator` of snp.rs does: entries of leaf Dh off page 1 are passed over, every other entry is yielded.
 use mathlib.Core.Bool.{Bool, not, _&&_}
-use mathlib.Core.List.{List}
+use mathlib.Core.List.{List, [], _∷_}
 use Prim.Native.Nat.{ℕ, zero, suc}
 use lib.ListN.{length}
 use Rattle.bits.specs.Choice.{pick}
 use Rattle.pages.specs.declared.CpuidPageIndex.{CpuidPageIndex}
+use Rattle.pages.specs.declared.ParsedCpuidEntry.{ParsedCpuidEntry}
 use Rattle.pages.specs.Layout.{Entry, entryAt}
 use Rattle.pages.specs.Entries.{counts}
 use Rattle.pages.specs.Walk.{isEntry, incremented, rest, parsed}
@@ -35,3 +36,13 @@ nextAt s i = let j : CpuidPageIndex = settledAt s i in pick (isEntry s j) (Yield
 -- and the index after it
 unfoldable pub afterAt : List ℕ → CpuidPageIndex → CpuidPageIndex
 afterAt s i = incremented s (settledAt s i)
+
+-- what it yields first, and the rest; after the end nothing
+abbrev pub andThen : NextEntry → List ParsedCpuidEntry → List ParsedCpuidEntry
+andThen (Yields p) ps = p ∷ ps
+andThen End ps = []
+
+-- by a reader that is asked n times, from index i
+unfoldable pub yielded : List ℕ → ℕ → CpuidPageIndex → List ParsedCpuidEntry
+yielded s zero i = []
+yielded s (suc n) i = andThen (nextAt s i) (yielded s n (afterAt s i))

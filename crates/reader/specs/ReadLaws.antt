@@ -21,7 +21,7 @@ use Rattle.results.specs.declared.CpuidResults.{CpuidResults}
 use Rattle.build.specs.Collect.{storedAt, insert, insert-none, collected, Whole, Collecting, collecting-next, collecting-last}
 use Rattle.reader.specs.declared.NextEntry.{NextEntry}
 use Rattle.reader.specs.declared.NextEntry.the-variants.{Entry as Yields, End}
-use Rattle.reader.specs.Read.{standsAt, passedOver, passOver, settledAt, nextAt, afterAt}
+use Rattle.reader.specs.Read.{standsAt, passedOver, passOver, settledAt, nextAt, afterAt, andThen, yielded}
 
 -- ---- an index at which an entry stands
 
@@ -191,15 +191,6 @@ unfolding afterAt
 after-shorter s i e = omega (arith, settled-shorter s i, entry-turn s (settledAt s i) e .falls)
 
 -- ---- all that is yielded, in order
-
-abbrev andThen : NextEntry → List ParsedCpuidEntry → List ParsedCpuidEntry
-andThen (Yields p) ps = p ∷ ps
-andThen End ps = []
-
--- by a reader that is asked n times, from index i
-unfoldable pub yielded : List ℕ → ℕ → CpuidPageIndex → List ParsedCpuidEntry
-yielded s zero i = []
-yielded s (suc n) i = andThen (nextAt s i) (yielded s n (afterAt s i))
 
 yields-left : (s : List ℕ) (n : ℕ) (i : CpuidPageIndex) → Valid s i → length (left s i) ≤ n → yielded s n i ≡ map parsed (left s i)
 unfolding yielded nextAt afterAt keepIf

@@ -2,8 +2,8 @@
 -- `answer avic s` is the answer of the definition (crates/build/specs/Build.antt) to the page bytes s under the secure-AVIC choice avic.
 use mathlib.Core.Path.{_≡_}
 use mathlib.Core.Bool.{Bool, false}
-use mathlib.Core.List.{List, [], _∷_}
-use Prim.Native.Nat.{ℕ}
+use mathlib.Core.List.{List, [], _∷_, map}
+use Prim.Native.Nat.{ℕ, _≤_}
 use lib.ListN.{length}
 use Rattle.x86defs.specs.Functions.{ExtendedStateEnumeration}
 use Rattle.x86defs.specs.declared.CpuidFunction.{CpuidFunction}
@@ -12,7 +12,11 @@ use Rattle.results.specs.declared.Subleaf.the-variants.{Some}
 use Rattle.results.specs.declared.Refusal.{Refusal}
 use Rattle.results.specs.declared.Refusal.the-variants.{MissingRequiredResult, SaveAreaOverflow}
 use Rattle.results.specs.declared.Verdict.the-variants.{Accepted, Refused}
+use Rattle.pages.specs.Entries.{counted}
+use Rattle.pages.specs.Walk.{firstIndex, parsed}
 use Rattle.build.specs.Build.{answer}
+use Rattle.reader.specs.Read.{yielded}
+use Rattle.reader.specs.ReadLaws.{reader-yields}
 use Rattle.lookup.specs.declared.LeafResult.the-variants.{None as Nothing}
 use Rattle.lookup.specs.Lookup.{lookup}
 use Rattle.lookup.specs.LookupLaws.{empty-finds-nothing}
@@ -92,6 +96,12 @@ single-page-never-accepted = single-page-refused
 -- what holds of the one free part, the order of the image's leaves
 pub leaf-order-lawful : LeafOrder leafOrder
 leaf-order-lawful = leaf-order
+
+-- ---- The page reader in the source's form. crates/reader/specs/Read.antt.
+
+-- asked often enough, a new reader yields the counted entries of the pages, each once and in order, and then the end
+pub reader-in-order : (s : List ℕ) (n : ℕ) → length (counted s) ≤ n → yielded s n (firstIndex s) ≡ map parsed (counted s)
+reader-in-order = reader-yields
 
 -- ---- Not empty words. crates/instances/specs/PageSets.antt has four page sets, byte by byte.
 
