@@ -118,14 +118,8 @@ flags!(ExtendedStateEnumerationSubleaf1Eax {
     xsave_opt = 0; xsave_c = 1; xsave_s = 3;
 });
 
-bitfield!(ExtendedVersionAndFeaturesEax {
-    processor_stepping: u8 = 0, 4;
-    processor_model: u8 = 4, 4;
-    processor_family: u8 = 8, 4;
-    processor_type: u8 = 12, 2;
-    extended_model: u8 = 16, 4;
-    extended_family: u8 = 20, 8;
-});
+/// The same fields as those of leaf 1.
+pub type ExtendedVersionAndFeaturesEax = VersionAndFeaturesEax;
 
 bitfield!(ExtendedVersionAndFeaturesEbx {
     brand_id: u16 = 0, 16;
