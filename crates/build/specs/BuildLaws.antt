@@ -1,4 +1,4 @@
--- The answer, case by case, in the terms of the code's three returns.
+-- The answer, case by case, in the terms of the code's returns.
 use mathlib.Core.Path.{_≡_, refl, sym, ap, _∙_}
 use mathlib.Core.Bool.{Bool, true, false, not}
 use mathlib.Core.List.{List}
@@ -11,9 +11,11 @@ use Rattle.results.specs.declared.Verdict.{Verdict}
 use Rattle.results.specs.declared.Verdict.the-variants.{Accepted, Refused}
 use Rattle.results.specs.Rows.{Rows}
 use Rattle.results.specs.Checks.{rowsVerdict}
-use Rattle.results.specs.Table.{tableFor, builtFrom}
+use Rattle.results.specs.declared.CpuidResults.{CpuidResults}
+use Rattle.results.specs.Table.{tableFor, rowsIn, builtFrom}
 use Rattle.results.specs.Stages.{refusedBuilt}
 use Rattle.build.specs.Rows.{rowsOf}
+use Rattle.build.specs.Collect.{collected, collected-rows}
 use Rattle.build.specs.Build.{lengthVerdict, countsVerdict, lawfulVerdict, verdictOf, answer}
 
 built-with : (avic : Bool) (s : List ℕ) {v : Verdict} → verdictOf avic s ≡ v → answer avic s ≡ record { verdict = v; table = tableFor v (rowsOf avic s) }
@@ -26,6 +28,11 @@ answer-bad-length avic s e = sym (built-with avic s (unfold verdictOf lawfulVerd
 pub answer-bad-count : (avic : Bool) (s : List ℕ) → badLength s ≡ false → countsFit s ≡ false → refusedBuilt PageCount ≡ answer avic s
 answer-bad-count avic s e f = sym (built-with avic s (unfold verdictOf lawfulVerdict lengthVerdict countsVerdict in rw (e, f)))
 
-pub answer-lawful : (avic : Bool) (s : List ℕ) → badLength s ≡ false → countsFit s ≡ true → builtFrom (rowsOf avic s) ≡ answer avic s
+answer-lawful : (avic : Bool) (s : List ℕ) → badLength s ≡ false → countsFit s ≡ true → builtFrom (rowsOf avic s) ≡ answer avic s
 unfolding builtFrom
 answer-lawful avic s e f = sym (built-with avic s (unfold verdictOf lawfulVerdict lengthVerdict countsVerdict in rw (e, f)))
+
+-- what the collected rows are answered, once length and counts are lawful
+pub answer-collected : (avic : Bool) (s : List ℕ) {t : CpuidResults} {q : Built} → badLength s ≡ false → countsFit s ≡ true → t ≡ collected avic s
+    → q ≡ builtFrom (rowsIn t) → q ≡ answer avic s
+answer-collected avic s e f g h = h ∙ ap builtFrom (ap rowsIn g ∙ collected-rows avic s) ∙ answer-lawful avic s e f

@@ -4,6 +4,7 @@ use pages::ParsedCpuidEntry;
 use results::Built;
 use results::CpuidResults;
 use results::Refusal;
+use results::Verdict;
 use x86defs::CpuidResult;
 ghost use mathlib.Core.Path.{_≡_};
 ghost use mathlib.Core.Bool.{true};
@@ -80,7 +81,8 @@ fn collect(pages: &[u8], secure_avic: bool) -> CpuidResults
     t
 }
 
-// Pages of any length, count and content: one table, or one refusal.
+// Pages of any length, count and content: one table, or one refusal. The flags are asked for required leaves by themselves, since handing
+// the table on copies it: a set without one is refused before that.
 pub fn build(pages: &[u8], secure_avic: bool) -> Built
     ensures { λ r. ⌜ r ≡ answer «secure_avic» (now (pages .entry)) ⌝ }
 {
@@ -88,7 +90,13 @@ pub fn build(pages: &[u8], secure_avic: bool) -> Built
         return results::refused(Refusal::PagesLength);
     }
     if pages::counts_fit(pages) {
-        return results::update_results(collect(pages, secure_avic));
+        let t = collect(pages, secure_avic);
+        let present = t.present;
+        let verdict = results::validate_required(present);
+        if let Verdict::Refused(r) = verdict {
+            return results::refused(r);
+        }
+        return results::update_validated(t);
     }
     results::refused(Refusal::PageCount)
 }

@@ -29,9 +29,9 @@ use Rattle.results.specs.ExtendedState.{xfem, xss, combinedMask, supplie
 use Rattle.results.specs.ExtendedStateLaws.{sumAt}
 use Rattle.results.specs.Topology.{inputsOf}
 use Rattle.results.specs.Finish.{finished}
-use Rattle.results.specs.Checks.{componentsVerdict, areaVerdict, topologyVerdict}
-use Rattle.results.specs.Table.{tableOf, rowsIn}
-use Rattle.results.specs.Stages.{resultsIn, componentsOf, sizeOf, refusedBuilt, answer}
+use Rattle.results.specs.Checks.{requiredVerdict, componentsVerdict, areaVerdict, topologyVerdict, rowsVerdict}
+use Rattle.results.specs.Table.{tableOf, rowsIn, builtFrom}
+use Rattle.results.specs.Stages.{presentIn, resultsIn, componentsOf, sizeOf, refusedBuilt, answer, fromInvlpgb}
 use Rattle.results.specs.SaveAreaLaws.{size-bytes, size-large}
 
 -- ---- a check with verdict u, of which the code found v, before those with verdict w
@@ -42,6 +42,21 @@ module _ (m : Rows) (u w : Verdict) {v : Verdict} (e : v ≡ u) {q : Built} wher
 
   pub stage-passes : v ≡ Accepted → q ≡ answer w m → q ≡ answer (andThen u w) m
   stage-passes f g = g ∙ rw (← e, f)
+
+-- ---- the required leaves: v is what the flags of t give
+
+module _ (t : CpuidResults) {v : Verdict} (e : v ≡ requiredVerdict (presentIn (t .present))) where
+  pub required-found : v ≡ requiredVerdict (rowsIn t)
+  unfolding requiredVerdict
+  required-found = e
+
+  pub required-refuses : {q : Built} {r : Refusal} → v ≡ Refused r → q ≡ refusedBuilt r → q ≡ builtFrom (rowsIn t)
+  unfolding builtFrom rowsVerdict
+  required-refuses = stage-refuses (rowsIn t) (requiredVerdict (rowsIn t)) (fromInvlpgb (rowsIn t)) required-found
+
+  pub required-passes : {q : Built} → v ≡ Accepted → q ≡ answer (fromInvlpgb (rowsIn t)) (rowsIn t) → q ≡ builtFrom (rowsIn t)
+  unfolding builtFrom rowsVerdict
+  required-passes = stage-passes (rowsIn t) (requiredVerdict (rowsIn t)) (fromInvlpgb (rowsIn t)) required-found
 
 -- ---- the D subleaves, by the combined mask
 

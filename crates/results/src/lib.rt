@@ -23,6 +23,8 @@ mod finish;
 mod place;
 mod required;
 
+pub use required::validate_required;
+
 // A subleaf, where a leaf has them.
 pub enum Subleaf {
     None,
@@ -64,11 +66,11 @@ pub fn update_results(t: CpuidResults) -> Built
     ensures { λ r. ⌜ r ≡ builtFrom (rowsIn t) ⌝ }
 {
     let present = t.present;
-    let verdict = required::validate_required(present);
+    let verdict = validate_required(present);
     if let Verdict::Refused(r) = verdict {
         return refused(r);
     }
-    check_invlpgb(t)
+    update_validated(t)
 }
 
 // No rows at all.
@@ -110,8 +112,8 @@ fn validate_invlpgb(sizes: CpuidResult) -> Verdict
     Verdict::Refused(Refusal::InvlpgbUnavailable)
 }
 
-// From the check of INVLPGB on.
-fn check_invlpgb(t: CpuidResults) -> Built
+// The same for rows of which `validate_required` has refused none: from the check of INVLPGB on.
+pub fn update_validated(t: CpuidResults) -> Built
     requires { ⌜ requiredVerdict (rowsIn t) ≡ Verdict.Accepted ⌝ }
     ensures { λ r. ⌜ r ≡ answer (fromInvlpgb (rowsIn t)) (rowsIn t) ⌝ }
 {

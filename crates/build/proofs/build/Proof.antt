@@ -1,8 +1,7 @@
 -- `build::build` meets its contract: one return a case of the answer.
-use mathlib.Core.Path.{sym, ap, _∙_}
-use Rattle.results.specs.Table.{rowsIn, builtFrom}
-use Rattle.build.specs.Collect.{collected-rows}
-use Rattle.build.specs.BuildLaws.{answer-bad-length, answer-bad-count, answer-lawful}
+use mathlib.Core.Path.{sym, _∙_}
+use Rattle.results.specs.StageLaws.{required-found, required-refuses, required-passes}
+use Rattle.build.specs.BuildLaws.{answer-bad-length, answer-bad-count, answer-collected}
 use borrow.Author.Needs.{needs}
 use Rattle.build.proofs.build.Statement.{statement}
 use Rattle.build.proofs.build.Tie as tie
@@ -15,16 +14,29 @@ collect-requires c κs = sym (c .before .counts-fit .ensures) ∙ c .if2 .taken
 
 returns-2 : tie.Need-returns-2
 returns-2 c =
-    let e = c .before .before in
-    let f = e .before in
-    c .update-results .ensures
-    ∙ ap builtFrom (ap rowsIn (c .before .collect .ensures) ∙ collected-rows _ _)
-    ∙ answer-lawful _ _ (sym (f .before .before .bad-length .ensures) ∙ f .before .if1 .left) (sym (f .counts-fit .ensures) ∙ e .if2 .taken)
+    let v = c .before .before in let s = v .before .before in let k = s .before .before in
+    let e = k .before in let f = e .before in
+    answer-collected _ _ (sym (f .before .before .bad-length .ensures) ∙ f .before .if1 .left) (sym (f .counts-fit .ensures) ∙ e .if2 .taken)
+    (k .collect .ensures)
+    (required-refuses (k .collect .result) (s .validate-required .ensures) (v .verdict .given .1) (c .refused2 .ensures))
+
+update-validated-requires : tie.Need-update-validated-requires
+update-validated-requires c κs =
+    let s = c .before .before in
+    sym (required-found (s .before .before .collect .result) (s .validate-required .ensures)) ∙ c .enum-told .given .1
 
 returns-3 : tie.Need-returns-3
 returns-3 c =
+    let v = c .before in let s = v .before .before in let k = s .before .before in
+    let e = k .before in let f = e .before in
+    answer-collected _ _ (sym (f .before .before .bad-length .ensures) ∙ f .before .if1 .left) (sym (f .counts-fit .ensures) ∙ e .if2 .taken)
+    (k .collect .ensures)
+    (required-passes (k .collect .result) (s .validate-required .ensures) (v .enum-told .given .1) (c .update-validated .ensures))
+
+returns-4 : tie.Need-returns-4
+returns-4 c =
     let f = c .before .before in
-    c .refused2 .ensures
+    c .refused3 .ensures
     ∙ answer-bad-count _ _ (sym (f .before .before .bad-length .ensures) ∙ f .before .if1 .left) (sym (f .counts-fit .ensures) ∙ c .before .if2 .left)
 
 pub build-spec : {M : Type 1} → statement M
@@ -37,6 +49,11 @@ build-spec =
     (λ c κs. search needs)
     collect-requires
     (λ c κs. search needs)
-    returns-2
+    (λ c. search needs)
     (λ c κs. search needs)
-    returns-3)
+    returns-2
+    (λ c. search needs)
+    update-validated-requires
+    returns-3
+    (λ c κs. search needs)
+    returns-4)

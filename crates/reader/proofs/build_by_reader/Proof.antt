@@ -1,8 +1,6 @@
 -- `reader::build_by_reader` meets its contract: one return a case of the answer.
-use mathlib.Core.Path.{sym, ap, _∙_}
-use Rattle.results.specs.Table.{rowsIn, builtFrom}
-use Rattle.build.specs.Collect.{collected-rows}
-use Rattle.build.specs.BuildLaws.{answer-bad-length, answer-bad-count, answer-lawful}
+use mathlib.Core.Path.{sym, _∙_}
+use Rattle.build.specs.BuildLaws.{answer-bad-length, answer-bad-count, answer-collected}
 use borrow.Author.Needs.{needs}
 use Rattle.reader.proofs.build_by_reader.Statement.{statement}
 use Rattle.reader.proofs.build_by_reader.Tie as tie
@@ -17,9 +15,9 @@ returns-2 : tie.Need-returns-2
 returns-2 c =
     let e = c .before .before in
     let f = e .before in
-    c .update-results .ensures
-    ∙ ap builtFrom (ap rowsIn (c .before .collect-by-reader .ensures) ∙ collected-rows _ _)
-    ∙ answer-lawful _ _ (sym (f .before .before .bad-length .ensures) ∙ f .before .if1 .left) (sym (f .counts-fit .ensures) ∙ e .if2 .taken)
+    answer-collected _ _ (sym (f .before .before .bad-length .ensures) ∙ f .before .if1 .left) (sym (f .counts-fit .ensures) ∙ e .if2 .taken)
+    (c .before .collect-by-reader .ensures)
+    (c .update-results .ensures)
 
 returns-3 : tie.Need-returns-3
 returns-3 c =

@@ -1,11 +1,11 @@
--- `check_invlpgb` meets its contract: refused without INVLPGB, or what the checks after it answer.
+-- `update_validated` meets its contract: refused without INVLPGB, or what the checks after it answer.
 use borrow.Author.Needs.{needs}
 use Rattle.results.specs.Checks.{invlpgbVerdict}
 use Rattle.results.specs.Table.{rowsIn}
 use Rattle.results.specs.Stages.{fromComponents}
 use Rattle.results.specs.StageLaws.{stage-refuses, stage-passes}
-use Rattle.results.proofs.check_invlpgb.Statement.{statement}
-use Rattle.results.proofs.check_invlpgb.Tie as tie
+use Rattle.results.proofs.update_validated.Statement.{statement}
+use Rattle.results.proofs.update_validated.Tie as tie
 
 returns : tie.Need-returns
 unfolding invlpgbVerdict
@@ -19,8 +19,8 @@ returns-2 c =
     let v = c .before in let s = v .before .before in let m = rowsIn (s .before .before .args .t1) in
     stage-passes m (invlpgbVerdict m) (fromComponents m) (s .validate-invlpgb .ensures) (v .enum-told .given .1) (c .update-extended-state .ensures)
 
-pub check-invlpgb-spec : {M : Type 1} → statement M
-check-invlpgb-spec =
+pub update-validated-spec : {M : Type 1} → statement M
+update-validated-spec =
     tie.close
     (tie.spec
     (λ c. search needs)
