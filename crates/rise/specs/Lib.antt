@@ -3,3 +3,4 @@ pub mod RuleLaws
 pub mod RowsRise
 pub mod Decide
 pub mod Proof
+pub mod Same

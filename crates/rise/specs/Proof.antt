@@ -47,7 +47,7 @@ use Rattle.rise.specs.RowsRise.{XsavesEdx, present-rises, registers-rise
 
 -- ---- the answer of an accepted page set
 
-answer-table : (avic : Bool) (s : List ℕ) → answer avic s .verdict ≡ Accepted → answer avic s .table ≡ tableOf (finished (rowsOf avic s)) (combinedMask (rowsOf avic s))
+pub answer-table : (avic : Bool) (s : List ℕ) → answer avic s .verdict ≡ Accepted → answer avic s .table ≡ tableOf (finished (rowsOf avic s)) (combinedMask (rowsOf avic s))
 unfolding answer
 answer-table avic s e = ap (λ (v : Verdict). tableFor v (rowsOf avic s)) e
 
@@ -61,10 +61,10 @@ accepted-rows : (avic : Bool) (s : List ℕ) → answer avic s .verdict ≡ Acce
 unfolding answer verdictOf
 accepted-rows avic s e = then-right (lawfulVerdict s) _ e
 
-answer-row : (avic : Bool) (s : List ℕ) → answer avic s .verdict ≡ Accepted → (i : ℕ) → i < places → rowIn (answer avic s .table) i ≡ finished (rowsOf avic s) i
+pub answer-row : (avic : Bool) (s : List ℕ) → answer avic s .verdict ≡ Accepted → (i : ℕ) → i < places → rowIn (answer avic s .table) i ≡ finished (rowsOf avic s) i
 answer-row avic s e i l = ap (λ t. rowIn t i) (answer-table avic s e) ∙ table-row (finished (rowsOf avic s)) (combinedMask (rowsOf avic s)) i l
 
-answer-mask : (avic : Bool) (s : List ℕ) → answer avic s .verdict ≡ Accepted → answer avic s .table .«max_extended_state» ≡ combinedMask (rowsOf avic s)
+pub answer-mask : (avic : Bool) (s : List ℕ) → answer avic s .verdict ≡ Accepted → answer avic s .table .«max_extended_state» ≡ combinedMask (rowsOf avic s)
 answer-mask avic s e = ap (λ t. t .«max_extended_state») (answer-table avic s e)
 
 -- ---- D.1.EDX is masked to 0

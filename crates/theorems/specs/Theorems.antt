@@ -27,6 +27,7 @@ use Rattle.counting.specs.Counting.{Counted, LeafOrder}
 use Rattle.counting.specs.Proof.{rows-counted, single-page-refused, leaf-order}
 use Rattle.rise.specs.Rise.{Rises, RisesByTheLetter, Risen}
 use Rattle.rise.specs.Proof.{demand-3, demand-3-by-the-letter}
+use Rattle.rise.specs.Same.{rises-itself, same-figures}
 use Rattle.theorems.specs.Exported.{ExportsRise, exports-rise}
 use Rattle.instances.specs.PageSets.{serverA, serverB, serverWithoutD12, serverWithLargeD6}
 use Rattle.instances.specs.Computed as Computed
@@ -61,6 +62,14 @@ rise-by-the-letter = demand-3-by-the-letter
 -- the same of what the exported functions return. crates/theorems/specs/Exported.antt
 pub rise-of-exports : (avic : Bool) (a b : List ℕ) → Rises avic a b → ExportsRise avic a b
 rise-of-exports = exports-rise
+
+-- two servers that rise to each other give one answer: the same table, so the same image and lookups. crates/rise/specs/Same.antt
+pub same-figures-both-ways : (avic : Bool) (a b : List ℕ) → Rises avic a b → Rises avic b a → answer avic a ≡ answer avic b
+same-figures-both-ways = same-figures
+
+-- and each accepted server rises to itself
+pub each-rises-to-itself : (avic : Bool) (a : List ℕ) → answer avic a .verdict ≡ Accepted → Rises avic a a
+each-rises-to-itself = rises-itself
 
 -- ---- The fourteen marked rows of document 01, T1 to T10, X1 to X3 (two figures) and C1. crates/instances/specs/MarkedRows.antt.
 

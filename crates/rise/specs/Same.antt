@@ -1,0 +1,153 @@
+-- Two servers of which each rises to the other give the same answer: the same table, and with it the same image and lookups.
+use mathlib.Core.Path.{_≡_, refl, sym, ap, ap₂, _∙_}
+use mathlib.Core.Bool.{Bool, true, false}
+use mathlib.Core.List.{List}
+use Prim.Native.Nat.{ℕ, _<_}
+use native.Mathlib.Omega.{arith}
+use lib.ListN.{getD}
+use Rattle.bits.specs.Choice.{pick}
+use Rattle.bits.specs.ChoiceLaws.{never-both}
+use Rattle.bits.specs.Lists.{tabulate, one}
+use Rattle.bits.specs.ListsLaws.{length-tabulate, tabulated, getD-tabulate, sum-ext}
+use Rattle.bits.specs.BitsLaws.{within-refl, within-antisym}
+use Rattle.x86defs.specs.declared.CpuidResult.{CpuidResult}
+use Rattle.masking.specs.Kept.{places}
+use Rattle.results.specs.declared.CpuidResults.{CpuidResults}
+use Rattle.results.specs.declared.Verdict.the-variants.{Accepted}
+use Rattle.results.specs.Rows.{Row, Rows, row, vacant}
+use Rattle.results.specs.ExtendedState.{combinedMask}
+use Rattle.results.specs.Finish.{ruleAt, settings, finish, remains, finished}
+use Rattle.results.specs.Kinds.{Kind, Kinds, EntryAtLeast, TableAtLeast, Registers, kindsOf}
+use Rattle.results.specs.Kinds.Kind.{feature, featureBut28, area, made, other}
+use Rattle.results.specs.RemainsLaws.{finished-entry}
+use Rattle.results.specs.ChecksLaws.{then-left}
+use Rattle.results.specs.Table.{tableOf, rowIn, countRows}
+use Rattle.build.specs.Rows.{rowsOf}
+use Rattle.build.specs.Build.{lawfulVerdict, verdictOf, answer}
+use Rattle.rise.specs.Rise.{Rises, TableRises}
+use Rattle.rise.specs.Proof.{answer-table, answer-row, answer-mask, demand-3}
+
+abbrev pub SameFigures : Type 0
+SameFigures = (avic : Bool) (a b : List ℕ) → Rises avic a b → Rises avic b a → answer avic a ≡ answer avic b
+
+-- ---- every accepted server rises to itself
+
+register-itself : (k : Kind) (a : ℕ) → EntryAtLeast k a a
+register-itself feature a = within-refl a
+register-itself featureBut28 a = (within-refl a, refl)
+register-itself area a = tt
+register-itself made a = tt
+register-itself other a = refl
+
+registers-itself : (k : Kinds) (a : CpuidResult) → Registers EntryAtLeast k a a
+registers-itself k a = record {
+  eax = register-itself (k .eax) (a .eax);
+  ebx = register-itself (k .ebx) (a .ebx);
+  ecx = register-itself (k .ecx) (a .ecx);
+  edx = register-itself (k .edx) (a .edx);
+}
+
+pub rises-itself : (avic : Bool) (a : List ℕ) → answer avic a .verdict ≡ Accepted → Rises avic a a
+unfolding answer verdictOf
+rises-itself avic a e = record {
+  accepted = e;
+  lawful = then-left (lawfulVerdict a) _ e;
+  entries = λ i l f p. record {
+    present = finished-entry (rowsOf avic a) i l f (sym (ap (λ (r : Row). r .present) (answer-row avic a e i l)) ∙ p);
+    registers = registers-itself (kindsOf (ruleAt i)) (rowsOf avic a i .result);
+  };
+}
+
+-- ---- registers that are at least each other are equal
+
+register-same : (k : Kind) {a b : ℕ} → TableAtLeast k a b → TableAtLeast k b a → a ≡ b
+register-same feature p q = within-antisym p q
+register-same featureBut28 p q = within-antisym (p .0) (q .0)
+register-same area p q = omega (arith, p, q)
+register-same made p q = p
+register-same other p q = p
+
+registers-same : (k : Kinds) (a b : CpuidResult) → Registers TableAtLeast k a b → Registers TableAtLeast k b a → a ≡ b
+registers-same k a b p q = λ i. record {
+  eax = register-same (k .eax) (p .eax) (q .eax) i;
+  ebx = register-same (k .ebx) (p .ebx) (q .ebx) i;
+  ecx = register-same (k .ecx) (p .ecx) (q .ecx) i;
+  edx = register-same (k .edx) (p .edx) (q .edx) i;
+}
+
+-- ---- tables that are at least each other have equal rows
+
+-- a row that is not there is all zeros
+absent : (m : Rows) (i : ℕ) → finished m i .present ≡ false → finished m i ≡ vacant
+unfolding finished
+absent m i = go (remains (settings m) (ruleAt i) (m i .present)) (finish (settings m) (ruleAt i) (m i .result))
+  where
+    go : (b : Bool) (r : CpuidResult) → pick b (row r) vacant .present ≡ false → pick b (row r) vacant ≡ vacant
+    go true r e = absurd (never-both refl e)
+    go false r e = refl
+
+module _ (avic : Bool) (a b : List ℕ) (rises : Rises avic a b) (back : Rises avic b a) where
+  abbrev A : Rows
+  A = finished (rowsOf avic a)
+
+  abbrev B : Rows
+  B = finished (rowsOf avic b)
+
+  atA : (i : ℕ) → i < places → rowIn (answer avic a .table) i ≡ A i
+  atA = answer-row avic a (rises .accepted)
+
+  atB : (i : ℕ) → i < places → rowIn (answer avic b .table) i ≡ B i
+  atB = answer-row avic b (back .accepted)
+
+  forth : TableRises (answer avic a .table) (answer avic b .table)
+  forth = demand-3 avic a b rises .table (back .accepted)
+
+  return : TableRises (answer avic b .table) (answer avic a .table)
+  return = demand-3 avic b a back .table (rises .accepted)
+
+  row-same : (i : ℕ) → i < places → A i ≡ B i
+  row-same i l = go (rowIn (answer avic a .table) i .present) (rowIn (answer avic b .table) i .present) refl refl
+    where
+      go : (p q : Bool) → rowIn (answer avic a .table) i .present ≡ p → rowIn (answer avic b .table) i .present ≡ q → A i ≡ B i
+      go true true e f =
+          sym (atA i l)
+          ∙ (λ k. record {
+            present = (e ∙ sym f) k;
+            result = registers-same _ _ _ (forth .registers i l e) (return .registers i l f) k;
+          })
+          ∙ atB i l
+      go true false e f = absurd (never-both (forth .rows i l e) f)
+      go false true e f = absurd (never-both (return .rows i l f) e)
+      go false false e f =
+          absent (rowsOf avic a) i (sym (ap (λ (r : Row). r .present) (atA i l)) ∙ e)
+          ∙ sym (absent (rowsOf avic b) i (sym (ap (λ (r : Row). r .present) (atB i l)) ∙ f))
+
+  mask-same : combinedMask (rowsOf avic a) ≡ combinedMask (rowsOf avic b)
+  mask-same =
+      sym (answer-mask avic a (rises .accepted)) ∙ within-antisym (forth .mask) (return .mask) ∙ answer-mask avic b (back .accepted)
+
+  column-same {ℓ} : {X : Type ℓ} (f : Row → X) → tabulate places (λ i. f (A i)) ≡ tabulate places (λ i. f (B i))
+  column-same f =
+      tabulated places (λ i. f (B i)) (tabulate places (λ i. f (A i))) (f vacant) (length-tabulate places _)
+      (λ i l. getD-tabulate places (λ j. f (A j)) i (f vacant) l ∙ ap f (row-same i l))
+
+  count-same : countRows A ≡ countRows B
+  unfolding countRows
+  count-same = sum-ext (λ i. one (A i .present)) (λ i. one (B i .present)) places (λ i l. ap (λ (r : Row). one (r .present)) (row-same i l))
+
+  table-same : answer avic a .table ≡ answer avic b .table
+  table-same =
+      answer-table avic a (rises .accepted)
+      ∙ (λ k. record {
+        present = column-same (λ (r : Row). r .present) k;
+        results = column-same (λ (r : Row). r .result) k;
+        «row_count» = count-same k;
+        «max_extended_state» = mask-same k;
+      })
+      ∙ sym (answer-table avic b (back .accepted))
+
+pub same-figures : SameFigures
+same-figures avic a b rises back = λ k. record {
+  verdict = (rises .accepted ∙ sym (back .accepted)) k;
+  table = table-same avic a b rises back k;
+}
