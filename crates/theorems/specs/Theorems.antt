@@ -32,7 +32,7 @@ use Rattle.compare.specs.declared.Compared.the-variants.{Rises as Yes, RefusedA
 use Rattle.compare.specs.Compare.{compared}
 use Rattle.compare.specs.Means.{Decides}
 use Rattle.compare.specs.Proof.{decides}
-use Rattle.theorems.specs.Exported.{ExportsRise, exports-rise}
+use Rattle.theorems.specs.Exported.{ExportsRise, ExportsCompare, exports-rise, exports-compare}
 use Rattle.instances.specs.PageSets.{serverA, serverB, serverWithoutD12, serverWithLargeD6}
 use Rattle.instances.specs.Computed as Computed
 use Rattle.instances.specs.Compared as Pairs
@@ -73,6 +73,10 @@ rise-of-exports = exports-rise
 -- the answer is yes if and only if the hypothesis of demand 3 holds; any other names the first thing that fails
 pub comparison-decides : (avic : Bool) (a b : List ℕ) → Decides avic a b (compared avic a b)
 comparison-decides = decides
+
+-- the same of what snp_cpuid_compare returns: where it says 0, what the other exported functions return for B rises from A's
+pub comparison-of-exports : (avic : Bool) (a b : List ℕ) → ExportsCompare avic a b
+comparison-of-exports = exports-compare
 
 -- ---- The fourteen marked rows of document 01, T1 to T10, X1 to X3 (two figures) and C1. crates/instances/specs/MarkedRows.antt.
 
