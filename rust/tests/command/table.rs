@@ -117,6 +117,16 @@ fn fields_of_an_epyc_7713() {
     }
 }
 
+/// AMD64 APM volume 3, Fn0000_0001_EAX: an EPYC 9004 (19h, 11h), and a family below Fh, whose extended fields do not count.
+#[test]
+fn family_and_model_of_other_processors() {
+    let folder = Folder::new("signature");
+    for (eax, expected) in [(0x00A1_0F11, "family 19h, model 11h, stepping 1h, type 0"), (0x0FFF_0652, "family 06h, model 05h, stepping 2h, type 0")] {
+        let file = folder.file("pages", set(&with(0x1, 0, 0, |_| eax)));
+        assert_eq!(words(run(&["table", &file]).text())["00000001 EAX"], expected);
+    }
+}
+
 /// The lines after the rows.
 fn summary(pages: &[u8]) -> String {
     let file = Folder::new("summary").file("pages", pages);

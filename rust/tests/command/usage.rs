@@ -121,6 +121,20 @@ fn output_that_cannot_be_written() {
     assert_eq!(fs::read(file).unwrap(), b"kept");
 }
 
+/// A disk that fills while the file is written, as a limit on the size of files gives it.
+#[test]
+fn a_write_that_breaks_off_leaves_the_old_file_and_nothing_beside_it() {
+    let folder = Folder::new("broken_off");
+    let old = folder.file("old", "as it was");
+    for out in [&old, &folder.path("new")] {
+        let limited = "trap '' XFSZ; ulimit -f 0; exec \"$0\" \"$@\"";
+        let ran = finish(Command::new("sh").args(["-c", limited, env!("CARGO_BIN_EXE_snp-cpuid"), "image", EPYC, "-o", out]));
+        assert_eq!((ran.status, ran.line()), (2, format!("{out}: cannot be written: File too large").as_str()));
+    }
+    assert_eq!(fs::read(old).unwrap(), b"as it was");
+    assert_eq!(folder.names(), ["old"]);
+}
+
 #[test]
 fn a_full_standard_output_is_status_2() {
     for arguments in [&["table", EPYC][..], &["lookup", EPYC, "1"], &["to-dump", EPYC], &["image", EPYC, "-o", "-"], &["--help"]] {
