@@ -107,7 +107,7 @@ const WITHOUT_LINE: [(u32, &str); 1] = [(0x8000_001F, "SecureAvic")];
 const VERSION: &str = "cpuid version 20230120";
 
 /// The version that is installed, or none and a word on it.
-fn installed() -> Option<String> {
+pub fn installed() -> Option<String> {
     match Command::new("cpuid").arg("--version").output() {
         Ok(output) if output.status.success() => Some(String::from_utf8_lossy(&output.stdout).trim().to_string()),
         _ => {

@@ -6,6 +6,7 @@ mod dump;
 mod lookup;
 mod names;
 mod page_sets;
+mod readme;
 mod refusals;
 mod run;
 mod table;
