@@ -5,21 +5,20 @@ use crate::run::Folder;
 use std::path::Path;
 use std::process::Command;
 
-/// The README's command lines, each with its output.
+/// The README's command lines, each with its output: the block of indented and empty lines under it.
 fn sessions() -> Vec<(String, String)> {
     let text = std::fs::read_to_string("../README.md").expect("the README");
     let mut found: Vec<(String, String)> = vec![];
     let mut inside = false;
     for line in text.lines() {
-        let Some(line) = line.strip_prefix("    ") else {
-            inside = false;
-            continue;
-        };
-        if let Some(command) = line.strip_prefix("$ ") {
+        let indented = line.strip_prefix("    ");
+        if let Some(command) = indented.and_then(|line| line.strip_prefix("$ ")) {
             inside = true;
             found.push((command.into(), String::new()));
-        } else if inside {
-            found.last_mut().expect("a command before").1 += &format!("{line}\n");
+        } else if inside && (indented.is_some() || line.is_empty()) {
+            found.last_mut().expect("a command before").1 += &format!("{}\n", indented.unwrap_or_default());
+        } else {
+            inside = false;
         }
     }
     found
@@ -38,6 +37,7 @@ fn every_line_is_true() {
             continue;
         }
         let output = Command::new("sh").args(["-c", &format!("{{ {command}; }} 2>&1")]).current_dir(folder.path("")).env("PATH", &path).output().unwrap();
-        assert_eq!(String::from_utf8_lossy(&output.stdout), expected, "{command}");
+        // the empty line that ends a block is the README's
+        assert_eq!(String::from_utf8_lossy(&output.stdout).trim_end(), expected.trim_end(), "{command}");
     }
 }

@@ -4,7 +4,7 @@ use crate::run::{EPYC, Folder, command, finish, run, run_on};
 use std::fs;
 use std::process::{Command, Stdio};
 
-const COMMANDS: [&str; 5] = ["table", "image", "lookup", "from-dump", "to-dump"];
+const COMMANDS: [&str; 6] = ["table", "image", "lookup", "from-dump", "to-dump", "compare"];
 
 #[test]
 fn help_of_all_and_of_each() {
@@ -34,7 +34,7 @@ fn help_of_all_and_of_each() {
 
 #[test]
 fn bad_usage_is_status_2_and_one_line() {
-    let cases: [(&[&str], &str); 14] = [
+    let cases: [(&[&str], &str); 16] = [
         (&[], "no command"),
         (&["tables"], "no command 'tables'"),
         (&["help", "nothing"], "no command 'nothing'"),
@@ -49,6 +49,8 @@ fn bad_usage_is_status_2_and_one_line() {
         (&["lookup", EPYC, "80000008h"], "'80000008h' is no LEAF[.SUB]"),
         (&["from-dump", EPYC], "-o FILE is missing"),
         (&["from-dump", EPYC, "-o", "x", "--secure-avic"], "no option '--secure-avic'"),
+        (&["compare", EPYC], "B is missing"),
+        (&["compare", "-", "-"], "A and B cannot both be standard input"),
     ];
     for (arguments, words) in cases {
         let ran = run(arguments);
@@ -76,6 +78,8 @@ fn reading(file: &str, folder: &Folder) -> Vec<Vec<String>> {
         text(&["lookup", file, "1"]),
         text(&["from-dump", file, "-o", &folder.path("out")]),
         text(&["to-dump", file, "-o", &folder.path("out")]),
+        text(&["compare", file, EPYC]),
+        text(&["compare", EPYC, file]),
     ]
 }
 
@@ -146,7 +150,7 @@ fn a_full_standard_output_is_status_2() {
 
 #[test]
 fn a_closed_pipe_is_no_failure() {
-    for arguments in [&["table", EPYC][..], &["to-dump", EPYC], &["--help"]] {
+    for arguments in [&["table", EPYC][..], &["to-dump", EPYC], &["compare", EPYC, EPYC], &["--help"]] {
         // the writing end of a pipe whose reader has ended
         let mut reader = Command::new("true").stdin(Stdio::piped()).spawn().unwrap();
         let pipe = reader.stdin.take().unwrap();

@@ -71,6 +71,7 @@ pub const COMMANDS: &[Command] = &[
     },
     Command { name: "from-dump", operands: &["FILE"], output: Output::Must, flags: &[], help: help::FROM_DUMP, run: crate::from_dump::run },
     Command { name: "to-dump", operands: &["PAGES"], output: Output::May, flags: &[SECURE_AVIC], help: help::TO_DUMP, run: crate::to_dump::run },
+    Command { name: "compare", operands: &["A", "B"], output: Output::Never, flags: &[SECURE_AVIC], help: help::COMPARE, run: crate::compare::run },
 ];
 
 /// The option that adds one bit to the mask of 8000001Fh.EAX.

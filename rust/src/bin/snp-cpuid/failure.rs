@@ -8,6 +8,8 @@ use std::fmt::Display;
 pub enum Failure {
     /// Exit status 1: the answer is a refusal or no.
     No(String),
+    /// Exit status 1: the answer is no, and standard output has it.
+    AnswerNo,
     /// Exit status 2: bad usage, or input or output that cannot be read, parsed or written.
     Bad(String),
 }
@@ -16,15 +18,16 @@ impl Failure {
     /// The exit status.
     pub fn status(&self) -> u8 {
         match self {
-            Failure::No(_) => 1,
+            Failure::No(_) | Failure::AnswerNo => 1,
             Failure::Bad(_) => 2,
         }
     }
 
     /// What goes to standard error.
-    pub fn line(&self) -> &str {
+    pub fn line(&self) -> Option<&str> {
         match self {
-            Failure::No(line) | Failure::Bad(line) => line,
+            Failure::No(line) | Failure::Bad(line) => Some(line),
+            Failure::AnswerNo => None,
         }
     }
 }

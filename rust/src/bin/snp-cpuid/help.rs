@@ -11,6 +11,7 @@ Commands:
   lookup PAGES LEAF[.SUB]    print what a guest reads at one leaf
   from-dump FILE -o PAGES    make pages from the text of 'cpuid -r'
   to-dump PAGES [-o FILE]    print the table as text that 'cpuid -f' reads
+  compare A B                print how the tables of two servers differ, and what is promised
   help COMMAND               what 'snp-cpuid COMMAND --help' prints
 
 Options:
@@ -103,4 +104,24 @@ order. A row without subleaf has subleaf 0x00.
   -h, --help          print this help
 
 Exit status: 0 accepted, 1 refused, 2 bad usage or a file that cannot be read or written.
+";
+
+pub const COMPARE: &str = "\
+Usage: snp-cpuid compare A B [--secure-avic]
+
+Compares the page sets of two servers: whether their tables are equal, B is at least A, A is at
+least B, or neither. Then every feature bit that one table has and the other has not, by name, and
+every other register that differs, by value; and for a guest that moves from A to B, and from B to
+A, what the theorem promises of this pair. B is at least A where it is accepted and meets the
+theorem's hypothesis: for every row of A's table B has a first entry with at least the bits of A's
+in feature registers and equal in the rest. The library decides that by a proved function.
+
+Give the pages that the servers have, or both from dumps of the same kind: pages made from the text
+of to-dump hold what the table's rules have set and cleared, such as BTC_NO.
+
+  --secure-avic   keep the secure-AVIC bit of 8000001Fh.EAX
+  -h, --help      print this help
+
+Exit status: 0 where the tables are equal or B is at least A, 1 otherwise (also where one of them
+is refused, which a line on standard error says), 2 bad usage or a file that cannot be read.
 ";

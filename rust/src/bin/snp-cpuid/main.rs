@@ -1,9 +1,11 @@
-//! The command `snp-cpuid`: CPUID pages of an SEV-SNP guest as a table in words, an image, or a dump.
+//! The command `snp-cpuid`: CPUID pages of an SEV-SNP guest as a table in words, an image or a dump, and two servers compared.
 //!
 //! Every answer is the proved library's; what stands here reads arguments and files, and puts the answers into words.
 
 mod arguments;
+mod compare;
 mod components;
+mod differences;
 mod failure;
 mod features;
 mod fields;
@@ -35,7 +37,7 @@ fn main() -> ExitCode {
     match run() {
         Ok(()) => ExitCode::SUCCESS,
         Err(failure) => {
-            output::say(failure.line());
+            failure.line().into_iter().for_each(output::say);
             ExitCode::from(failure.status())
         }
     }
