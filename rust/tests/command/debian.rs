@@ -2,7 +2,7 @@
 
 use crate::features::{EAX, EBX, ECX, EDX, FEATURES};
 use crate::page_sets::{Entries, epyc, rich, set};
-use crate::run::{Folder, run};
+use crate::run::{EPYC, Folder, run};
 use snp_cpuid::{Table, build};
 use std::collections::BTreeMap;
 use std::io::Write;
@@ -184,6 +184,30 @@ fn its_words_are_the_tables_bits() {
             }
         }
         assert!(held >= 100, "{held} words held");
+    }
+}
+
+/// What `cpuid -r` prints is read: its copy of a table's dump gives the same table, and this machine's own dump is rows and headings alone.
+#[test]
+fn its_raw_text_is_read() {
+    if installed().is_none() {
+        return;
+    }
+    let folder = Folder::new("debian_raw");
+    let (dump, pages) = (folder.path("dump"), folder.path("pages"));
+    assert_eq!(run(&["to-dump", EPYC, "-o", &dump]).status, 0);
+    let copy = Command::new("cpuid").args(["-r", "-f", &dump]).output().expect("cpuid runs");
+    assert_eq!(run(&["from-dump", &folder.file("copy", copy.stdout), "-o", &pages]).status, 0);
+    assert_eq!(run(&["image", &pages, "-o", "-"]).out, std::fs::read("../crates/snp_cpuid_image/stdout").unwrap());
+
+    let own = Command::new("cpuid").args(["-1", "-r"]).output().expect("cpuid runs");
+    let rows = String::from_utf8_lossy(&own.stdout).lines().filter(|line| line.starts_with("   0x")).count();
+    // where this is no processor that CPUID can be asked of, there is nothing to read
+    if own.status.success() && rows > 0 {
+        let ran = run(&["from-dump", &folder.file("own", own.stdout), "-o", &pages]);
+        assert_eq!(ran.status, 0, "{}", ran.err);
+        let numbers: Vec<usize> = ran.err.split(' ').filter_map(|word| word.parse().ok()).collect();
+        assert_eq!(numbers.iter().sum::<usize>(), rows, "left out and taken: {}", ran.err);
     }
 }
 

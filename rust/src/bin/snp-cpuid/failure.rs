@@ -32,18 +32,13 @@ impl Failure {
     }
 }
 
-/// A refusal of the page set of this name: number, words, and what it carries.
+/// The refusal of a page set: its number, words, and what it carries. "Those not named are 0 or none" (document 01).
 pub fn refused(name: impl Display, refusal: Refusal) -> Failure {
-    Failure::No(format!("{name}: {}", told(refusal)))
-}
-
-/// A refusal in words; "those not named are 0 or none" (document 01).
-pub fn told(refusal: Refusal) -> String {
     let (leaf, subleaf, s) = match refusal {
         Refusal::MissingRequiredResult(leaf, subleaf) => (leaf, subleaf, 0),
         Refusal::TopologyInconsistent(TopologyError::Hyperthreading(s) | TopologyError::ProcessorCount(s)) => (0, None, s),
         _ => (0, None, 0),
     };
     let subleaf = subleaf.map_or("none".into(), |subleaf| format!("{subleaf:X}"));
-    format!("refusal {}: {refusal} (leaf {leaf:08X}, subleaf {subleaf}, s {s})", refusal.number())
+    Failure::No(format!("{name}: refusal {}: {refusal} (leaf {leaf:08X}, subleaf {subleaf}, s {s})", refusal.number()))
 }

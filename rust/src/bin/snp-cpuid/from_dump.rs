@@ -6,7 +6,7 @@ use crate::input::{read, shown};
 use crate::numbers::{digits, prefixed};
 use crate::output;
 use crate::pages::{Entry, read_by_table, two_pages};
-use crate::table::counted;
+use crate::words::counted;
 
 pub fn run(arguments: &Arguments) -> Result<(), Failure> {
     let name = shown(&arguments.operands[0]);

@@ -7,6 +7,7 @@ use crate::fields::cut;
 use crate::input::{read, shown};
 use crate::output;
 use crate::print;
+use crate::words::counted;
 use snp_cpuid::{Row, Table};
 
 pub fn run(arguments: &Arguments) -> Result<(), Failure> {
@@ -46,9 +47,4 @@ fn topology(table: &Table) -> String {
         counted(threads, "thread"),
         counted(processors, "logical processor")
     )
-}
-
-/// A number of things: 1 thread, 2 threads.
-pub fn counted(number: u32, thing: &str) -> String {
-    format!("{number} {thing}{}", if number == 1 { "" } else { "s" })
 }

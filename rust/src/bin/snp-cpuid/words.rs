@@ -112,3 +112,8 @@ fn text(registers: &[u32]) -> String {
     let shown: String = bytes.map(|byte| if matches!(byte, b' '..=b'~') { byte as char } else { '?' }).collect();
     format!("\"{shown}\"")
 }
+
+/// A number of things: 1 thread, 2 threads.
+pub fn counted(number: u32, thing: &str) -> String {
+    format!("{number} {thing}{}", if number == 1 { "" } else { "s" })
+}
