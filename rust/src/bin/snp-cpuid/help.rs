@@ -74,7 +74,7 @@ read.
 pub const FROM_DUMP: &str = "\
 Usage: snp-cpuid from-dump FILE -o PAGES
 
-Makes two CPUID pages from the text of Debian's 'cpuid -r' or of its other common form:
+Makes two CPUID pages from the text of Debian's 'cpuid -r', or from the other common form:
 
    0x0000000d 0x00: eax=0x00000007 ebx=0x00000340 ecx=0x00000340 edx=0x00000000
 CPUID 0000000D: 00000007-00000340-00000340-00000000 [SL 00]
@@ -113,8 +113,9 @@ Compares the page sets of two servers: whether their tables are equal, B is at l
 least B, or neither. Then every feature bit that one table has and the other has not, by name, and
 every other register that differs, by value; and for a guest that moves from A to B, and from B to
 A, what the theorem promises of this pair. B is at least A where it is accepted and meets the
-theorem's hypothesis: for every row of A's table B has a first entry with at least the bits of A's
-in feature registers and equal in the rest. The library decides that by a proved function.
+theorem's hypothesis: for every row of A's table but 0 and 80000000 B has a first entry with at
+least the bits of A's in feature registers, and equal in all others but D.0.ECX and the rows of leaf
+B, which are free. The library decides that by a proved function.
 
 Give the pages that the servers have, or both from dumps of the same kind: pages made from the text
 of to-dump hold what the table's rules have set and cleared, such as BTC_NO.
