@@ -56,6 +56,23 @@ struct snp_cpuid_written {
     uint64_t length;
 };
 
+/* What a comparison gives. answer:
+ *   0 a guest of A may move to B: B's pages have what A's table has, and more only in feature bits
+ *   1 A itself is refused: number and its details say why
+ *   2 B's length (number 1) or a count of its pages (number 2) is not lawful
+ *   3 B has no entry for the leaf, and subleaf where the leaf has them, that A's table has
+ *   4 the register of B's entry for the leaf and subleaf lacks a bit of A's where it is a feature register, or else differs
+ * Of 3 and 4 it is the first, by rising leaf, subleaf and register. What the answer does not name is 0. */
+struct snp_cpuid_compared {
+    uint32_t answer;
+    uint32_t number;
+    uint32_t leaf;
+    uint32_t has_subleaf; /* 1 where a subleaf is named */
+    uint32_t subleaf;
+    uint32_t s;
+    uint32_t register_index; /* 0 to 3: EAX, EBX, ECX, EDX */
+};
+
 /* The most bytes that an image can have. */
 #define SNP_CPUID_MOST_IMAGE_BYTES 732
 
@@ -71,6 +88,11 @@ struct snp_cpuid_found snp_cpuid_lookup(const uint8_t *pages, size_t length, boo
 /* Builds, and writes the image at the front of out: for each row byte 1, leaf, EAX, EBX, ECX, EDX, or byte 2, leaf, subleaf and the
  * four, each number 4 bytes little-endian. Where it refuses, out is as it was; bytes beyond the image are as they were. */
 struct snp_cpuid_written snp_cpuid_write_image(const uint8_t *pages, size_t length, bool secure_avic, uint8_t *out, size_t room);
+
+/* Compares two servers by their pages, under one choice of secure AVIC: may a guest of A move to B? Registers are compared as masked.
+ * After a yes, building B gives a table with every row of A's, at least A's bits in every feature register, a save area no smaller and
+ * all else equal; or refuses it by 3, for a subleaf of leaf Dh that B's own further state needs, or by 5. */
+struct snp_cpuid_compared snp_cpuid_compare(const uint8_t *a, size_t a_length, const uint8_t *b, size_t b_length, bool secure_avic);
 
 #ifdef __cplusplus
 }

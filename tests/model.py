@@ -1,4 +1,4 @@
-"""A model of document 01: what building, lookup, the image, writing and the program answer for any page bytes.
+"""A model of document 01: what building, lookup, the image, writing and the program answer for any page bytes, and of demand 3's hypothesis.
 
 An answer is ('table', rows, mask), rows {(leaf, subleaf or None): (EAX, EBX, ECX, EDX)} and mask the combined mask,
 or ('refusal', number, leaf, subleaf or None, s). Quotations and titles in the comments are document 01's.
@@ -31,6 +31,14 @@ COMMON_REQUIRED_LEAVES = [
 SNP_REQUIRED_LEAVES = [
     (0x8000001F, None), (0x8000000A, None), (0x80000019, None), (0x8000001A, None), (0x8000001D, 0), (0x8000001D, 1),
     (0x8000001D, 2), (0x8000001D, 3), (0x8000001E, None)]
+
+# "Feature registers of demand 3", and the registers that it frees
+FEATURES = {
+    (1, None): (ECX, EDX), (7, 0): (EBX, ECX, EDX), (0x80000001, None): (ECX, EDX), (0x80000008, None): (EBX,),
+    (STATE, 0): (EAX,), (STATE, 1): (EAX, ECX), (0x8000001A, None): (EAX,), (0x8000001F, None): (EAX,)}
+FREED = {(STATE, 0): (ECX,), (0xB, 0): (EAX, EBX, ECX, EDX), (0xB, 1): (EAX, EBX, ECX, EDX)}
+# "1.EDX but bit 28", which "is equal"
+NO_FEATURE = {(1, None, EDX): 1 << 28}
 
 
 class Refusal(Exception):
@@ -205,6 +213,45 @@ def build(pages, secure_avic):
     return 'table', {key: tuple(registers) for key, registers in rows.items()}, xfem | xss
 
 
+def by_leaf(key):
+    """Rising leaf, then rising subleaf."""
+    return key[0], key[1] or 0
+
+
+def register_rises(key, register, a, b):
+    """Whether one register of B's entry is as demand 3 asks: "at least" means every bit set in A's."""
+    if register in FREED.get(key, ()):
+        return True
+    features = 0xFFFFFFFF & ~NO_FEATURE.get((*key, register), 0) if register in FEATURES.get(key, ()) else 0
+    return a & features & ~b == 0 and (a ^ b) & ~features == 0
+
+
+def compare(a, b, secure_avic):
+    """The hypothesis of demand 3: ('rises',), or the first thing that fails.
+
+    ('refused A', number, leaf, subleaf, s), ('unlawful B', number, leaf, subleaf, s), ('no entry', leaf, subleaf) or
+    ('differs', leaf, subleaf, register). "Entries are compared as masked", D.0.EAX with its bits 0 and 1 set.
+    """
+    table = build(a, secure_avic)
+    if table[0] == 'refusal':
+        return 'refused A', *table[1:]
+    try:
+        entries = first_rows(a, secure_avic), first_rows(b, secure_avic)
+    except Refusal as refusal:
+        return 'unlawful B', *refusal.answer[1:]
+    for rows in entries:
+        if (STATE, 0) in rows:
+            rows[STATE, 0][EAX] |= LEGACY_STATE
+    # "for every row of A's table but 0 and 80000000h"
+    for key in sorted(table[1].keys() - {(0, None), (0x80000000, None)}, key=by_leaf):
+        if key not in entries[1]:
+            return 'no entry', *key
+        for register, (one, other) in enumerate(zip(*(rows[key] for rows in entries))):
+            if not register_rises(key, register, one, other):
+                return 'differs', *key, register
+    return ('rises',)
+
+
 def lookup(answer, leaf, subleaf, enforce):
     """The four registers that `leaf_result_ref` gives, or None: "in a refused table it finds nothing"."""
     if answer[0] == 'refusal':
@@ -218,7 +265,7 @@ def lookup(answer, leaf, subleaf, enforce):
 def image(answer):
     """The bytes of an accepted table ("Image and lookup"); leaves rise, which that paragraph leaves free."""
     data = b''
-    for (leaf, subleaf), registers in sorted(answer[1].items(), key=lambda row: (row[0][0], row[0][1] or 0)):
+    for (leaf, subleaf), registers in sorted(answer[1].items(), key=lambda row: by_leaf(row[0])):
         head = struct.pack('<BI', 1, leaf) if subleaf is None else struct.pack('<BII', 2, leaf, subleaf)
         data += head + struct.pack('<4I', *registers)
     return data

@@ -36,8 +36,21 @@ pub struct Written {
     pub length: u64,
 }
 
+#[repr(C)]
+#[derive(Clone, Copy, Debug, Default, PartialEq, Eq)]
+pub struct Compared {
+    pub answer: u32,
+    pub number: u32,
+    pub leaf: u32,
+    pub has_subleaf: u32,
+    pub subleaf: u32,
+    pub s: u32,
+    pub register_index: u32,
+}
+
 unsafe extern "C" {
     pub fn snp_cpuid_build(pages: *const u8, length: usize, secure_avic: bool) -> Built;
     pub fn snp_cpuid_lookup(pages: *const u8, length: usize, secure_avic: bool, leaf: u32, has_subleaf: bool, subleaf: u32, enforce_subleaf: bool) -> Found;
     pub fn snp_cpuid_write_image(pages: *const u8, length: usize, secure_avic: bool, out: *mut u8, room: usize) -> Written;
+    pub fn snp_cpuid_compare(a: *const u8, a_length: usize, b: *const u8, b_length: usize, secure_avic: bool) -> Compared;
 }

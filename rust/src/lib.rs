@@ -15,10 +15,12 @@
 //! What is proved is what the library's exported functions return (the repository's README has the statements). This crate turns their numbers into
 //! Rust's types and reads rows from the image; its tests hold every lookup in a table against the library's own.
 
+mod comparison;
 pub mod exports;
 mod refusal;
 mod table;
 
+pub use comparison::{Comparison, Register};
 pub use refusal::{Refusal, TopologyError};
 pub use table::{CpuidResult, Row, Rows, Table};
 
@@ -58,4 +60,28 @@ pub fn lookup(pages: &[u8], secure_avic: bool, leaf: u32, subleaf: Option<u32>, 
         exports::snp_cpuid_lookup(pages.as_ptr(), pages.len(), secure_avic, leaf, subleaf.is_some(), subleaf.unwrap_or(0), enforce_subleaf)
     };
     (found.found != 0).then_some(CpuidResult { eax: found.eax, ebx: found.ebx, ecx: found.ecx, edx: found.edx })
+}
+
+/// Compares two servers by their pages, under one choice of secure AVIC: may a guest of `a` move to `b`?
+///
+/// ```
+/// use snp_cpuid::{Comparison, Register, compare};
+///
+/// let a = std::fs::read("../tests/epyc-milan.pages").unwrap();
+/// assert_eq!(compare(&a, &a, false), Comparison::Rises);
+///
+/// // a server without FMA, bit 12 of 1.ECX; leaf 1 is the second entry of page 0
+/// let mut b = a.clone();
+/// assert_eq!(b[64..68], 1u32.to_le_bytes());
+/// b[64 + 32 + 1] &= !0x10;
+/// let answer = compare(&a, &b, false);
+/// assert_eq!(answer, Comparison::Differs { leaf: 1, subleaf: None, register: Register::Ecx });
+/// assert_eq!(answer.to_string(), "B's 1h.ECX lacks a feature bit of A's, or differs from A's where it must be equal");
+///
+/// // to the server with FMA a guest may move
+/// assert_eq!(compare(&b, &a, false), Comparison::Rises);
+/// ```
+pub fn compare(a: &[u8], b: &[u8], secure_avic: bool) -> Comparison {
+    // SAFETY: both pointers and lengths are those of slices, which the function only reads
+    Comparison::from_numbers(unsafe { exports::snp_cpuid_compare(a.as_ptr(), a.len(), b.as_ptr(), b.len(), secure_avic) })
 }

@@ -85,7 +85,7 @@ fn of_rust() -> Declarations {
 #[test]
 fn declarations_are_the_headers() {
     let header = of_header();
-    assert_eq!(header.len(), 6, "three structs and three functions");
+    assert_eq!(header.len(), 8, "four structs and four functions");
     assert_eq!(of_rust(), header);
 }
 

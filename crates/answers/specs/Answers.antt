@@ -24,8 +24,8 @@ detailNumbers d = record { number = d .number; leaf = d .leaf; «has_subleaf» =
 abbrev pub topologyNumbers : TopologyError → AnswerNumbers
 topologyNumbers e = detailNumbers (topologyDetails e)
 
-abbrev pub missingNumbers : ℕ → Subleaf → AnswerNumbers
-missingNumbers leaf subleaf = detailNumbers (record { number = 3; leaf = leaf; subleaf = subleaf; s = 0 })
+abbrev pub leafNumbers : ℕ → ℕ → Subleaf → AnswerNumbers
+leafNumbers number leaf subleaf = detailNumbers (record { number = number; leaf = leaf; subleaf = subleaf; s = 0 })
 
 abbrev pub refusalNumbers : Refusal → AnswerNumbers
 refusalNumbers r = detailNumbers (details r)

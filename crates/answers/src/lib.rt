@@ -4,7 +4,7 @@ use results::Subleaf;
 use results::Verdict;
 use topology::TopologyError;
 ghost use mathlib.Core.Path.{_≡_};
-ghost use Rattle.answers.specs.Answers.{numbersOf, topologyNumbers, missingNumbers, refusalNumbers};
+ghost use Rattle.answers.specs.Answers.{numbersOf, topologyNumbers, leafNumbers, refusalNumbers};
 
 // Number 0 means accepted. A leaf, subleaf or s that the number does not name is 0; `has_subleaf` is 1 where a subleaf is named.
 pub struct AnswerNumbers {
@@ -38,19 +38,20 @@ fn topology_numbers(e: TopologyError) -> AnswerNumbers
     }
 }
 
-fn missing(leaf: u32, subleaf: Subleaf) -> AnswerNumbers
-    ensures { λ r. ⌜ r ≡ missingNumbers leaf subleaf ⌝ }
+// A number with a leaf and its subleaf.
+pub fn at_leaf(number: u8, leaf: u32, subleaf: Subleaf) -> AnswerNumbers
+    ensures { λ r. ⌜ r ≡ leafNumbers number leaf subleaf ⌝ }
 {
     match subleaf {
         Subleaf::None => AnswerNumbers {
-            number: 3,
+            number,
             leaf,
             has_subleaf: 0,
             subleaf: 0,
             s: 0,
         },
         Subleaf::Some(k) => AnswerNumbers {
-            number: 3,
+            number,
             leaf,
             has_subleaf: 1,
             subleaf: k,
@@ -66,7 +67,7 @@ pub fn refusal_numbers(refusal: Refusal) -> AnswerNumbers
     match refusal {
         Refusal::PagesLength => sized(1, 0),
         Refusal::PageCount => sized(2, 0),
-        Refusal::MissingRequiredResult(leaf, subleaf) => missing(leaf.0, subleaf),
+        Refusal::MissingRequiredResult(leaf, subleaf) => at_leaf(3, leaf.0, subleaf),
         Refusal::InvlpgbUnavailable => sized(4, 0),
         Refusal::SaveAreaOverflow => sized(5, 0),
         Refusal::TopologyInconsistent(e) => topology_numbers(e),

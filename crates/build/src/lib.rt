@@ -55,7 +55,7 @@ pub fn masked_at(kept: KeptLeaf, place: usize, r: CpuidResult) -> CpuidResult
 }
 
 // The masked first entry of every place, from pages whose counts are lawful.
-fn collect(pages: &[u8], secure_avic: bool) -> CpuidResults
+pub fn collect(pages: &[u8], secure_avic: bool) -> CpuidResults
     requires { ⌜ countsFit (now pages) ≡ true ⌝ }
     ensures { λ r. ⌜ r ≡ collected «secure_avic» (now (pages .entry)) ⌝ }
 {

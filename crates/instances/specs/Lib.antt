@@ -2,3 +2,4 @@ pub mod PageSets
 pub mod Evaluation
 pub mod Computed
 pub mod MarkedRows
+pub mod Compared

@@ -5,13 +5,13 @@ use mathlib.Core.List.{List}
 use Prim.Native.Nat.{ℕ, _<_}
 use lib.Dec.{eqb}
 use lib.Bits.{bitAnd}
-use borrow.Author.Tests.{eqb-true}
+use borrow.Author.Tests.{eqb-true, eq-eqb}
 use Rattle.bits.specs.Choice.{pick}
-use Rattle.bits.specs.ChoiceLaws.{and-left, and-right, if-holds}
+use Rattle.bits.specs.ChoiceLaws.{never-both, and-left, and-right, and-both, if-holds}
 use Rattle.bits.specs.Search.{every}
 use Rattle.bits.specs.SearchLaws.{every-at}
 use Rattle.bits.specs.Bits.{bit}
-use Rattle.bits.specs.BitsLaws.{within-of-and}
+use Rattle.bits.specs.BitsLaws.{within-of-and, and-of-within}
 use Rattle.x86defs.specs.declared.CpuidResult.{CpuidResult}
 use Rattle.masking.specs.Kept.{places}
 use Rattle.results.specs.declared.Verdict.the-variants.{Accepted}
@@ -32,12 +32,23 @@ risesTest area a b = true
 risesTest made a b = true
 risesTest other a b = eqb a b
 
-test-rises : (k : Kind) (a b : ℕ) → risesTest k a b ≡ true → EntryAtLeast k a b
+pub test-rises : (k : Kind) (a b : ℕ) → risesTest k a b ≡ true → EntryAtLeast k a b
 test-rises feature a b e = within-of-and (eqb-true _ _ e)
 test-rises featureBut28 a b e = (within-of-and (eqb-true _ _ (and-left _ _ e)), eqb-true _ _ (and-right (eqb (bitAnd a b) a) _ e))
 test-rises area a b e = tt
 test-rises made a b e = tt
 test-rises other a b e = eqb-true a b e
+
+rises-test : (k : Kind) (a b : ℕ) → EntryAtLeast k a b → risesTest k a b ≡ true
+rises-test feature a b h = eq-eqb _ _ (and-of-within h)
+rises-test featureBut28 a b h = and-both (eq-eqb _ _ (and-of-within (h .0))) (eq-eqb _ _ (h .1))
+rises-test area a b h = refl
+rises-test made a b h = refl
+rises-test other a b h = eq-eqb a b h
+
+-- a register that the test fails does not compare
+pub test-fails : (k : Kind) (a b : ℕ) → risesTest k a b ≡ false → EntryAtLeast k a b → ⊥
+test-fails k a b e h = never-both (rises-test k a b h) e
 
 abbrev pub registersTest : Kinds → CpuidResult → CpuidResult → Bool
 registersTest k a b =
@@ -58,9 +69,33 @@ registers-rise k a b e =
       edx = test-rises (k .edx) _ _ (and-right r _ e₂);
     }
 
+rise-registers : (k : Kinds) (a b : CpuidResult) → Registers EntryAtLeast k a b → registersTest k a b ≡ true
+rise-registers k a b h =
+    and-both (rises-test (k .eax) _ _ (h .eax))
+    (and-both (rises-test (k .ebx) _ _ (h .ebx)) (and-both (rises-test (k .ecx) _ _ (h .ecx)) (rises-test (k .edx) _ _ (h .edx))))
+
 -- at a place: asked where A's table has a row that comes from an entry
+abbrev pub rowTest : ℕ → Bool → CpuidResult → Row → Bool
+rowTest i inA a b = pick (fromEntry (ruleAt i) && inA) (b .present && registersTest (kindsOf (ruleAt i)) a (b .result)) true
+
 abbrev pub placeTest : (ℕ → Bool) → Rows → Rows → ℕ → Bool
-placeTest inA A B i = pick (fromEntry (ruleAt i) && inA i) (B i .present && registersTest (kindsOf (ruleAt i)) (A i .result) (B i .result)) true
+placeTest inA A B i = rowTest i (inA i) (A i .result) (B i)
+
+module _ (inA : ℕ → Bool) (A B : Rows) (i : ℕ) where
+  pub place-rises : placeTest inA A B i ≡ true → fromEntry (ruleAt i) ≡ true → inA i ≡ true → EntryRises i (A i) (B i)
+  place-rises t f p =
+      let e : (B i .present && registersTest (kindsOf (ruleAt i)) (A i .result) (B i .result)) ≡ true =
+      if-holds (fromEntry (ruleAt i) && inA i) _ t (and-both f p) in
+      record { present = and-left _ _ e; registers = registers-rise _ _ _ (and-right (B i .present) _ e) }
+
+  pub rises-place : (fromEntry (ruleAt i) ≡ true → inA i ≡ true → EntryRises i (A i) (B i)) → placeTest inA A B i ≡ true
+  rises-place h = go (fromEntry (ruleAt i)) refl (inA i) refl
+    where
+      go : (f : Bool) → fromEntry (ruleAt i) ≡ f → (p : Bool) → inA i ≡ p
+          → pick (f && p) (B i .present && registersTest (kindsOf (ruleAt i)) (A i .result) (B i .result)) true ≡ true
+      go true f true p = and-both (h f p .present) (rise-registers _ _ _ (h f p .registers))
+      go true f false p = refl
+      go false f p e = refl
 
 abbrev pub inTable : Bool → List ℕ → ℕ → Bool
 inTable avic a i = rowIn (answer avic a .table) i .present
@@ -73,7 +108,4 @@ pub rises-by-test : (avic : Bool) (a b : List ℕ) → answer avic a .verdict �
 rises-by-test avic a b v l t = record { accepted = v; lawful = l; entries = at-place }
   where
     at-place : (i : ℕ) → i < places → fromEntry (ruleAt i) ≡ true → inTable avic a i ≡ true → EntryRises i (rowsOf avic a i) (rowsOf avic b i)
-    at-place i u f p =
-        let e : (rowsOf avic b i .present && registersTest (kindsOf (ruleAt i)) (rowsOf avic a i .result) (rowsOf avic b i .result)) ≡ true =
-        if-holds (fromEntry (ruleAt i) && inTable avic a i) _ (every-at (placeTest (inTable avic a) (rowsOf avic a) (rowsOf avic b)) places t i u) (rw (f, p)) in
-        record { present = and-left _ _ e; registers = registers-rise _ _ _ (and-right (rowsOf avic b i .present) _ e) }
+    at-place i u f p = place-rises (inTable avic a) (rowsOf avic a) (rowsOf avic b) i (every-at (placeTest (inTable avic a) (rowsOf avic a) (rowsOf avic b)) places t i u) f p

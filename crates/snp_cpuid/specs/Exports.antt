@@ -3,17 +3,22 @@ use mathlib.Core.Bool.{Bool}
 use Prim.Native.Nat.{ℕ}
 use Rattle.bits.specs.Choice.{pick}
 use Rattle.results.specs.declared.Built.{Built}
+use Rattle.results.specs.declared.Verdict.the-variants.{Accepted}
 use Rattle.results.specs.declared.Subleaf.{Subleaf}
 use Rattle.results.specs.declared.Subleaf.the-variants.{None, Some}
 use Rattle.lookup.specs.declared.LeafResult.{LeafResult}
 use Rattle.lookup.specs.declared.LeafResult.the-variants.{Some as Found, None as Nothing}
+use Rattle.compare.specs.declared.Compared.{Compared}
+use Rattle.compare.specs.declared.Compared.the-variants.{Rises, RefusedA, UnlawfulB, NoEntry, Differs}
+use Rattle.compare.specs.Means.{order}
 use Rattle.image.specs.declared.Written.{Written}
 use Rattle.image.specs.declared.Written.the-variants.{Bytes, Refused}
 use Rattle.answers.specs.declared.AnswerNumbers.{AnswerNumbers}
-use Rattle.answers.specs.Answers.{numbersOf, refusalNumbers}
+use Rattle.answers.specs.Answers.{numbersOf, refusalNumbers, leafNumbers}
 use Rattle.snp_cpuid.specs.declared.SnpCpuidBuilt.{SnpCpuidBuilt}
 use Rattle.snp_cpuid.specs.declared.SnpCpuidFound.{SnpCpuidFound}
 use Rattle.snp_cpuid.specs.declared.SnpCpuidWritten.{SnpCpuidWritten}
+use Rattle.snp_cpuid.specs.declared.SnpCpuidCompared.{SnpCpuidCompared}
 
 abbrev pub builtWith : AnswerNumbers → ℕ → ℕ → SnpCpuidBuilt
 builtWith n rows mask = record {
@@ -49,3 +54,22 @@ writtenWith n length = record {
 abbrev pub writtenNumbers : Written → SnpCpuidWritten
 writtenNumbers (Bytes n) = record { number = 0; leaf = 0; «has_subleaf» = 0; subleaf = 0; s = 0; length = n }
 writtenNumbers (Refused r) = writtenWith (refusalNumbers r) 0
+
+abbrev pub comparedWith : ℕ → AnswerNumbers → ℕ → SnpCpuidCompared
+comparedWith answer n register = record {
+  answer = answer;
+  number = n .number;
+  leaf = n .leaf;
+  «has_subleaf» = n .«has_subleaf»;
+  subleaf = n .subleaf;
+  s = n .s;
+  «register_index» = register;
+}
+
+-- which answer it is; the refusal's number and details, or the leaf and subleaf in question; EAX to EDX as 0 to 3
+abbrev pub comparedNumbers : Compared → SnpCpuidCompared
+comparedNumbers Rises = comparedWith 0 (numbersOf Accepted) 0
+comparedNumbers (RefusedA r) = comparedWith 1 (refusalNumbers r) 0
+comparedNumbers (UnlawfulB r) = comparedWith 2 (refusalNumbers r) 0
+comparedNumbers (NoEntry leaf subleaf) = comparedWith 3 (leafNumbers 0 (leaf .0) subleaf) 0
+comparedNumbers (Differs leaf subleaf register) = comparedWith 4 (leafNumbers 0 (leaf .0) subleaf) (order register)

@@ -1,13 +1,19 @@
 // The library's functions for C and Rust: numbers and byte slices in, plain numbers out. include/snp_cpuid.h documents each call.
+use answers::AnswerNumbers;
+use compare::Compared;
+use compare::Register;
 use image::Written;
 use lookup::LeafResult;
 use results::Subleaf;
+use results::Verdict;
 use x86defs::CpuidFunction;
 ghost use mathlib.Core.Path.{_≡_};
 ghost use Rattle.build.specs.Build.{answer};
 ghost use Rattle.lookup.specs.Lookup.{lookup};
 ghost use Rattle.image.specs.Write.{write};
-ghost use Rattle.snp_cpuid.specs.Exports.{builtNumbers, foundNumbers, writtenNumbers, subleafOf};
+ghost use Rattle.compare.specs.Compare.{compared};
+ghost use Rattle.compare.specs.Means.{order};
+ghost use Rattle.snp_cpuid.specs.Exports.{builtNumbers, foundNumbers, writtenNumbers, comparedWith, comparedNumbers, subleafOf};
 
 #[repr(C)]
 pub struct SnpCpuidBuilt {
@@ -37,6 +43,17 @@ pub struct SnpCpuidWritten {
     pub subleaf: u32,
     pub s: u32,
     pub length: u64,
+}
+
+#[repr(C)]
+pub struct SnpCpuidCompared {
+    pub answer: u32,
+    pub number: u32,
+    pub leaf: u32,
+    pub has_subleaf: u32,
+    pub subleaf: u32,
+    pub s: u32,
+    pub register_index: u32,
 }
 
 // Builds the table of the given pages.
@@ -148,4 +165,56 @@ pub extern "C" fn snp_cpuid_write_image(
     ensures { λ _. ⌜ now (out .exit) ≡ write «secure_avic» (now (pages .entry)) (now (out .entry)) .buffer ⌝ }
 {
     written_numbers(image::write_image(pages, secure_avic, out))
+}
+
+// EAX to EDX as 0 to 3.
+fn register_index(register: Register) -> u32
+    ensures { λ r. ⌜ r ≡ order register ⌝ }
+{
+    match register {
+        Register::Eax => 0,
+        Register::Ebx => 1,
+        Register::Ecx => 2,
+        Register::Edx => 3,
+    }
+}
+
+fn compared_with(answer: u32, numbers: AnswerNumbers, register_index: u32) -> SnpCpuidCompared
+    ensures { λ r. ⌜ r ≡ comparedWith answer numbers «register_index» ⌝ }
+{
+    SnpCpuidCompared {
+        answer,
+        number: numbers.number as u32,
+        leaf: numbers.leaf,
+        has_subleaf: numbers.has_subleaf,
+        subleaf: numbers.subleaf,
+        s: numbers.s as u32,
+        register_index,
+    }
+}
+
+// A comparison's answer as numbers.
+fn compared_numbers(compared: Compared) -> SnpCpuidCompared
+    ensures { λ r. ⌜ r ≡ comparedNumbers compared ⌝ }
+{
+    match compared {
+        Compared::Rises => compared_with(0, answers::answer_numbers(Verdict::Accepted), 0),
+        Compared::RefusedA(refusal) => compared_with(1, answers::refusal_numbers(refusal), 0),
+        Compared::UnlawfulB(refusal) => compared_with(2, answers::refusal_numbers(refusal), 0),
+        Compared::NoEntry(leaf, subleaf) => {
+            compared_with(3, answers::at_leaf(0, leaf.0, subleaf), 0)
+        }
+        Compared::Differs(leaf, subleaf, register) => {
+            let numbers = answers::at_leaf(0, leaf.0, subleaf);
+            compared_with(4, numbers, register_index(register))
+        }
+    }
+}
+
+// Whether a guest of the server with pages `a` may move to the one with pages `b`, or the first thing in the way.
+#[no_mangle]
+pub extern "C" fn snp_cpuid_compare(a: &[u8], b: &[u8], secure_avic: bool) -> SnpCpuidCompared
+    ensures { λ r. ⌜ r ≡ comparedNumbers (compared «secure_avic» (now (a .entry)) (now (b .entry))) ⌝ }
+{
+    compared_numbers(compare::compare(a, b, secure_avic))
 }

@@ -40,10 +40,15 @@ use Rattle.exactly.specs.Proof.{builds-exactly}
 use Rattle.rise.specs.Rise.{Rises, Outcome, Risen, TableRises}
 use Rattle.rise.specs.Rise.Outcome.{missing, overflow, accepted}
 use Rattle.rise.specs.Proof.{demand-3}
+use Rattle.compare.specs.declared.Compared.{Compared}
+use Rattle.compare.specs.declared.Compared.the-variants.{Rises as Yes, RefusedA, UnlawfulB, NoEntry, Differs}
+use Rattle.compare.specs.Compare.{compared}
+use Rattle.compare.specs.Means.{Means, Decides}
+use Rattle.compare.specs.Proof.{decides}
 use Rattle.answers.specs.Answers.{numbersOf}
 use Rattle.snp_cpuid.specs.declared.SnpCpuidBuilt.{SnpCpuidBuilt}
 use Rattle.snp_cpuid.specs.declared.SnpCpuidFound.{SnpCpuidFound}
-use Rattle.snp_cpuid.specs.Exports.{builtNumbers, foundNumbers}
+use Rattle.snp_cpuid.specs.Exports.{builtNumbers, foundNumbers, comparedNumbers}
 
 -- what snp_cpuid_build gives a page set, and snp_cpuid_lookup
 abbrev pub built : Bool → List ℕ → SnpCpuidBuilt
@@ -169,3 +174,29 @@ module _ (avic : Bool) (a b : List ℕ) (rises : Rises avic a b) where
     mask = λ n. risen .table (verdict-numbered (answer avic b .verdict) n) .mask;
     rows = λ n. rowsFound (risen .table (verdict-numbered (answer avic b .verdict) n));
   }
+
+-- ---- snp_cpuid_compare gives `comparedNumbers` of the comparison: answer 0 if and only if the hypothesis of demand 3 holds
+
+abbrev pub compareAnswer : Bool → List ℕ → List ℕ → ℕ
+compareAnswer avic a b = comparedNumbers (compared avic a b) .answer
+
+pub record ExportsCompare (avic : Bool) (a b : List ℕ) : Type 0 where
+  pub yes : compareAnswer avic a b ≡ 0 → Rises avic a b × ExportsRise avic a b
+  pub complete : Rises avic a b → compareAnswer avic a b ≡ 0
+
+answer-numbered : (c : Compared) → comparedNumbers c .answer ≡ 0 → c ≡ Yes
+answer-numbered Yes e = refl
+answer-numbered (RefusedA r) e = absurd (omega arith)
+answer-numbered (UnlawfulB r) e = absurd (omega arith)
+answer-numbered (NoEntry leaf subleaf) e = absurd (omega arith)
+answer-numbered (Differs leaf subleaf register) e = absurd (omega arith)
+
+pub exports-compare : (avic : Bool) (a b : List ℕ) → ExportsCompare avic a b
+exports-compare avic a b =
+    let d : Decides avic a b (compared avic a b) = decides avic a b in
+    record {
+      yes = λ e.
+          let rises : Rises avic a b = subst (Means avic a b) (answer-numbered (compared avic a b) e) (d .means) .0 in
+          (rises, exports-rise avic a b rises);
+      complete = λ h. ap (λ (c : Compared). comparedNumbers c .answer) (d .complete h);
+    }

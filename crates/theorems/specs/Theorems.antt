@@ -5,12 +5,12 @@ use mathlib.Core.Bool.{Bool, false}
 use mathlib.Core.List.{List, [], _∷_, map}
 use Prim.Native.Nat.{ℕ, _≤_}
 use lib.ListN.{length}
-use Rattle.x86defs.specs.Functions.{ExtendedStateEnumeration}
+use Rattle.x86defs.specs.Functions.{VersionAndFeatures, ExtendedStateEnumeration}
 use Rattle.x86defs.specs.declared.CpuidFunction.{CpuidFunction}
 use Rattle.results.specs.declared.Subleaf.{Subleaf}
-use Rattle.results.specs.declared.Subleaf.the-variants.{Some}
+use Rattle.results.specs.declared.Subleaf.the-variants.{None, Some}
 use Rattle.results.specs.declared.Refusal.{Refusal}
-use Rattle.results.specs.declared.Refusal.the-variants.{MissingRequiredResult, SaveAreaOverflow}
+use Rattle.results.specs.declared.Refusal.the-variants.{PagesLength, MissingRequiredResult, SaveAreaOverflow}
 use Rattle.results.specs.declared.Verdict.the-variants.{Accepted, Refused}
 use Rattle.pages.specs.Entries.{counted}
 use Rattle.pages.specs.Walk.{firstIndex, parsed}
@@ -28,9 +28,15 @@ use Rattle.counting.specs.Proof.{rows-counted, single-page-refused, leaf-order}
 use Rattle.rise.specs.Rise.{Rises, RisesByTheLetter, Risen}
 use Rattle.rise.specs.Proof.{demand-3, demand-3-by-the-letter}
 use Rattle.rise.specs.Same.{rises-itself, same-figures}
-use Rattle.theorems.specs.Exported.{ExportsRise, exports-rise}
+use Rattle.compare.specs.declared.Register.the-variants.{Ecx}
+use Rattle.compare.specs.declared.Compared.the-variants.{Rises as Yes, RefusedA, UnlawfulB, NoEntry, Differs}
+use Rattle.compare.specs.Compare.{compared}
+use Rattle.compare.specs.Means.{Decides}
+use Rattle.compare.specs.Proof.{decides}
+use Rattle.theorems.specs.Exported.{ExportsRise, ExportsCompare, exports-rise, exports-compare}
 use Rattle.instances.specs.PageSets.{serverA, serverB, serverWithoutD12, serverWithLargeD6}
 use Rattle.instances.specs.Computed as Computed
+use Rattle.instances.specs.Compared as Pairs
 use Rattle.instances.specs.MarkedRows.{Shown, marked, marked-rows}
 use Rattle.instances.specs.MarkedRows.Shown.{core, refusal, area, supervisor}
 
@@ -70,6 +76,16 @@ same-figures-both-ways = same-figures
 -- and each accepted server rises to itself
 pub each-rises-to-itself : (avic : Bool) (a : List ℕ) → answer avic a .verdict ≡ Accepted → Rises avic a a
 each-rises-to-itself = rises-itself
+
+-- ---- May a guest of server A move to server B? crates/compare/specs/Compare.antt has the comparison, Means.antt what each answer says.
+
+-- the answer is yes if and only if the hypothesis of demand 3 holds; any other names the first thing that fails
+pub comparison-decides : (avic : Bool) (a b : List ℕ) → Decides avic a b (compared avic a b)
+comparison-decides = decides
+
+-- the same of what snp_cpuid_compare returns: where it says 0, what the other exported functions return for B rises from A's
+pub comparison-of-exports : (avic : Bool) (a b : List ℕ) → ExportsCompare avic a b
+comparison-of-exports = exports-compare
 
 -- ---- The fourteen marked rows of document 01, T1 to T10, X1 to X3 (two figures) and C1. crates/instances/specs/MarkedRows.antt.
 
@@ -143,3 +159,19 @@ large-d6-rises = Computed.large-rises
 
 pub large-d6-refused : answer false serverWithLargeD6 .verdict ≡ Refused SaveAreaOverflow
 large-d6-refused = Computed.large-refused
+
+-- a comparison that says yes, and one for each way to say no
+pub a-to-b : compared false serverA serverB ≡ Yes
+a-to-b = Pairs.a-to-b
+
+pub b-to-a : compared false serverB serverA ≡ Differs VersionAndFeatures None Ecx
+b-to-a = Pairs.b-to-a
+
+pub b-to-without-d12 : compared false serverB serverWithoutD12 ≡ NoEntry ExtendedStateEnumeration (Some 12)
+b-to-without-d12 = Pairs.b-to-without-d12
+
+pub from-large-d6 : compared false serverWithLargeD6 serverB ≡ RefusedA SaveAreaOverflow
+from-large-d6 = Pairs.from-large-d6
+
+pub a-to-none : compared false serverA [] ≡ UnlawfulB PagesLength
+a-to-none = Pairs.a-to-none

@@ -1,0 +1,67 @@
+-- May a guest of server A move to server B? The hypothesis of demand 3 (crates/rise/specs/Rise.antt), decided, or the first thing that
+-- fails: A's own refusal; then B's length, then its counts; then, among the rows of A's table that come from an entry, by rising leaf and
+-- subleaf, whether B has a first counted entry, and its EAX, EBX, ECX, EDX, each as its kind asks (crates/results/specs/Kinds.antt).
+use mathlib.Core.Bool.{Bool}
+use mathlib.Core.List.{List}
+use Prim.Native.Nat.{ℕ}
+use Rattle.bits.specs.Choice.{pick}
+use Rattle.bits.specs.Search.{Found, lowest}
+use Rattle.bits.specs.Search.Found.{at, none}
+use Rattle.x86defs.specs.declared.CpuidResult.{CpuidResult}
+use Rattle.masking.specs.Kept.{places, leafAt, indexedAt, subleafAt}
+use Rattle.results.specs.declared.Subleaf.{Subleaf}
+use Rattle.results.specs.declared.Subleaf.the-variants.{None, Some}
+use Rattle.results.specs.declared.Verdict.{Verdict}
+use Rattle.results.specs.declared.Verdict.the-variants.{Accepted, Refused}
+use Rattle.results.specs.Rows.{Row, Rows}
+use Rattle.results.specs.Finish.{ruleAt}
+use Rattle.results.specs.Kinds.{Kinds, kindsOf}
+use Rattle.build.specs.Rows.{rowsOf}
+use Rattle.build.specs.Build.{lawfulVerdict, answer}
+use Rattle.rise.specs.Decide.{risesTest, placeTest, inTable}
+use Rattle.compare.specs.declared.Register.{Register}
+use Rattle.compare.specs.declared.Register.the-variants.{Eax, Ebx, Ecx, Edx}
+use Rattle.compare.specs.declared.Compared.{Compared}
+use Rattle.compare.specs.declared.Compared.the-variants.{Rises, RefusedA, UnlawfulB, NoEntry, Differs}
+
+-- the first register that fails: EDX where the other three pass
+abbrev pub firstRegister : Kinds → CpuidResult → CpuidResult → Register
+firstRegister k a b =
+    pick (risesTest (k .eax) (a .eax) (b .eax))
+    (pick (risesTest (k .ebx) (a .ebx) (b .ebx))
+    (pick (risesTest (k .ecx) (a .ecx) (b .ecx)) Edx Ecx)
+    Ebx)
+    Eax
+
+-- the subleaf of a place, where its row carries one
+abbrev pub subleafNamed : ℕ → Subleaf
+subleafNamed i = pick (indexedAt i) (Some (subleafAt i)) None
+
+-- what fails at place i: "a first counted entry", then its registers
+abbrev pub failingOf : ℕ → CpuidResult → Row → Compared
+failingOf i a b =
+    pick (b .present)
+    (Differs (leafAt i) (subleafNamed i) (firstRegister (kindsOf (ruleAt i)) a (b .result)))
+    (NoEntry (leafAt i) (subleafNamed i))
+
+abbrev pub failingAt : Rows → Rows → ℕ → Compared
+failingAt A B i = failingOf i (A i .result) (B i)
+
+abbrev pub firstFailing : Found → (ℕ → Compared) → Compared
+firstFailing (at i) failing = failing i
+firstFailing none failing = Rises
+
+-- places rise by leaf, then by subleaf
+unfoldable pub comparedRows : (ℕ → Bool) → Rows → Rows → Compared
+comparedRows inA A B = firstFailing (lowest (placeTest inA A B) 0 places) (failingAt A B)
+
+abbrev pub afterA : Verdict → Compared → Compared
+afterA Accepted c = c
+afterA (Refused r) c = RefusedA r
+
+abbrev pub afterB : Verdict → Compared → Compared
+afterB Accepted c = c
+afterB (Refused r) c = UnlawfulB r
+
+unfoldable pub compared : Bool → List ℕ → List ℕ → Compared
+compared avic a b = afterA (answer avic a .verdict) (afterB (lawfulVerdict b) (comparedRows (inTable avic a) (rowsOf avic a) (rowsOf avic b)))

@@ -1,0 +1,57 @@
+-- The search for the first place that fails, in the terms of the code's loop: a turn passes a place or stops there; after the last place
+-- nothing has failed.
+use mathlib.Core.Path.{_≡_, refl, sym, ap, _∙_}
+use mathlib.Core.Bool.{Bool, true, false}
+use mathlib.Core.List.{List}
+use Prim.Native.Nat.{ℕ, suc, _+_, _-_, _≤_, _<_}
+use native.Mathlib.Numerals.{add-one}
+use native.Mathlib.Omega.{arith}
+use lib.ListN.{getD}
+use Rattle.bits.specs.Choice.{pick}
+use Rattle.bits.specs.Search.{lowest}
+use Rattle.x86defs.specs.declared.CpuidResult.{CpuidResult}
+use Rattle.masking.specs.Kept.{places}
+use Rattle.results.specs.Rows.{Row}
+use Rattle.results.specs.Kinds.{Kinds}
+use Rattle.rise.specs.Decide.{risesTest}
+use Rattle.compare.specs.declared.Register.{Register}
+use Rattle.compare.specs.declared.Register.the-variants.{Eax, Ebx, Ecx, Edx}
+use Rattle.compare.specs.declared.RegistersRise.{RegistersRise}
+use Rattle.compare.specs.declared.Compared.{Compared}
+use Rattle.compare.specs.declared.Compared.the-variants.{Rises}
+use Rattle.compare.specs.Compare.{firstFailing}
+
+abbrev pub flagIn : List Bool → ℕ → Bool
+flagIn l i = getD l i false
+
+abbrev pub rowWith : Bool → CpuidResult → Row
+rowWith p r = record { present = p; result = r }
+
+-- the four tests at once, and the first that fails
+abbrev pub registersRise : Kinds → CpuidResult → CpuidResult → RegistersRise
+registersRise k a b = record {
+  eax = risesTest (k .eax) (a .eax) (b .eax);
+  ebx = risesTest (k .ebx) (a .ebx) (b .ebx);
+  ecx = risesTest (k .ecx) (a .ecx) (b .ecx);
+  edx = risesTest (k .edx) (a .edx) (b .edx);
+}
+
+abbrev pub firstOf : RegistersRise → Register
+firstOf t = pick (t .eax) (pick (t .ebx) (pick (t .ecx) Edx Ecx) Ebx) Eax
+
+-- the first failing place from k on
+unfoldable pub failingFrom : (ℕ → Bool) → (ℕ → Compared) → ℕ → Compared
+failingFrom test failing k = firstFailing (lowest test k (places - k)) failing
+
+module _ (test : ℕ → Bool) (failing : ℕ → Compared) (k : ℕ) where
+  pub turn-passes : k < places → test k ≡ true → failingFrom test failing k ≡ failingFrom test failing (k + 1)
+  unfolding failingFrom lowest
+  turn-passes l e = let s : places - k ≡ suc (places - (k + 1)) = omega arith in rw (s, add-one, lowest, e)
+
+  pub turn-stops : k < places → test k ≡ false → failingFrom test failing k ≡ failing k
+  unfolding failingFrom lowest
+  turn-stops l e = let s : places - k ≡ suc (places - (k + 1)) = omega arith in rw (s, lowest, e)
+
+  pub turns-end : places ≤ k → failingFrom test failing k ≡ Rises
+  unfolding failingFrom lowest
+  turns-end l = let s : places - k ≡ 0 = omega arith in rw (s, lowest)

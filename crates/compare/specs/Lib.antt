@@ -1,0 +1,6 @@
+pub mod Kinds
+pub mod Compare
+pub mod Means
+pub mod CompareLaws
+pub mod ReturnLaws
+pub mod Proof

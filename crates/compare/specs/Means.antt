@@ -1,0 +1,83 @@
+-- What each answer of a comparison says of the two page sets.
+use mathlib.Core.Path.{_≡_}
+use mathlib.Core.Bool.{Bool, true, false}
+use mathlib.Core.List.{List}
+use Prim.Native.Nat.{ℕ, _<_}
+use Rattle.x86defs.specs.declared.CpuidFunction.{CpuidFunction}
+use Rattle.x86defs.specs.declared.CpuidResult.{CpuidResult}
+use Rattle.masking.specs.Kept.{places, leafAt}
+use Rattle.results.specs.declared.Subleaf.{Subleaf}
+use Rattle.results.specs.declared.Verdict.the-variants.{Accepted, Refused}
+use Rattle.results.specs.Rows.{Row}
+use Rattle.results.specs.Finish.{ruleAt}
+use Rattle.results.specs.Kinds.{Kind, Kinds, EntryAtLeast, kindsOf, fromEntry}
+use Rattle.build.specs.Rows.{rowsOf}
+use Rattle.build.specs.Build.{lawfulVerdict, answer}
+use Rattle.rise.specs.Rise.{EntryRises, Risen, Rises as Hypothesis}
+use Rattle.rise.specs.Decide.{inTable}
+use Rattle.compare.specs.declared.Register.{Register}
+use Rattle.compare.specs.declared.Register.the-variants.{Eax, Ebx, Ecx, Edx}
+use Rattle.compare.specs.declared.Compared.{Compared}
+use Rattle.compare.specs.declared.Compared.the-variants.{Rises, RefusedA, UnlawfulB, NoEntry, Differs}
+use Rattle.compare.specs.Compare.{subleafNamed}
+
+-- a register by name: its place among the four, its value in a row, its kind
+abbrev pub order : Register → ℕ
+order Eax = 0
+order Ebx = 1
+order Ecx = 2
+order Edx = 3
+
+abbrev pub valueOf : Register → CpuidResult → ℕ
+valueOf Eax r = r .eax
+valueOf Ebx r = r .ebx
+valueOf Ecx r = r .ecx
+valueOf Edx r = r .edx
+
+abbrev pub kindOf : Register → Kinds → Kind
+kindOf Eax k = k .eax
+kindOf Ebx k = k .ebx
+kindOf Ecx k = k .ecx
+kindOf Edx k = k .edx
+
+-- one register of B's row at place i beside A's
+abbrev pub RegisterRises : ℕ → Row → Row → Register → Type 0
+RegisterRises i a b q = EntryAtLeast (kindOf q (kindsOf (ruleAt i))) (valueOf q (a .result)) (valueOf q (b .result))
+
+-- i is the place of a leaf and subleaf that A's table has from an entry, and B's entries compare at every such place before it
+pub record Reached (avic : Bool) (a b : List ℕ) (leaf : CpuidFunction) (subleaf : Subleaf) (i : ℕ) : Type 0 where
+  pub accepted : answer avic a .verdict ≡ Accepted
+  pub lawful : lawfulVerdict b ≡ Accepted
+  pub below : i < places
+  pub leafAtPlace : leaf ≡ leafAt i
+  pub subleafAtPlace : subleaf ≡ subleafNamed i
+  pub entry : fromEntry (ruleAt i) ≡ true
+  pub inA : inTable avic a i ≡ true
+  pub before : (j : ℕ) → j < i → fromEntry (ruleAt j) ≡ true → inTable avic a j ≡ true → EntryRises j (rowsOf avic a j) (rowsOf avic b j)
+
+-- B has no first counted entry there
+pub record FirstAbsent (avic : Bool) (a b : List ℕ) (leaf : CpuidFunction) (subleaf : Subleaf) : Type 0 where
+  pub place : ℕ
+  pub reached : Reached avic a b leaf subleaf place
+  pub absent : rowsOf avic b place .present ≡ false
+
+-- B has one; the register fails, and those before it do not
+pub record FirstDiffering (avic : Bool) (a b : List ℕ) (leaf : CpuidFunction) (subleaf : Subleaf) (register : Register) : Type 0 where
+  pub place : ℕ
+  pub reached : Reached avic a b leaf subleaf place
+  pub present : rowsOf avic b place .present ≡ true
+  pub fails : RegisterRises place (rowsOf avic a place) (rowsOf avic b place) register → ⊥
+  pub registersBefore : (q : Register) → order q < order register → RegisterRises place (rowsOf avic a place) (rowsOf avic b place) q
+
+-- a yes says that the hypothesis of demand 3 holds, and with the theorem what B's table will have
+abbrev pub Means : Bool → List ℕ → List ℕ → Compared → Type 0
+Means avic a b Rises = Hypothesis avic a b × Risen avic a b
+Means avic a b (RefusedA r) = answer avic a .verdict ≡ Refused r
+Means avic a b (UnlawfulB r) = (answer avic a .verdict ≡ Accepted) × (lawfulVerdict b ≡ Refused r)
+Means avic a b (NoEntry leaf subleaf) = FirstAbsent avic a b leaf subleaf
+Means avic a b (Differs leaf subleaf register) = FirstDiffering avic a b leaf subleaf register
+
+-- an answer means what it says, and where the hypothesis holds the answer is yes: it is yes if and only if the hypothesis holds
+pub record Decides (avic : Bool) (a b : List ℕ) (r : Compared) : Type 0 where
+  pub means : Means avic a b r
+  pub complete : Hypothesis avic a b → r ≡ Rises

@@ -1,0 +1,164 @@
+// Two servers compared. The pages of A and B come in; whether a guest of A may move to B goes out, or the first thing in the way.
+use kinds::Kinds;
+use results::CpuidResults;
+use results::Refusal;
+use results::Subleaf;
+use results::Verdict;
+use x86defs::CpuidFunction;
+use x86defs::CpuidResult;
+ghost use mathlib.Core.Path.{_≡_};
+ghost use Prim.Native.Nat.{_<_};
+ghost use Rattle.masking.specs.Kept.{places};
+ghost use Rattle.results.specs.Table.{rowsIn};
+ghost use Rattle.rise.specs.Decide.{rowTest};
+ghost use Rattle.compare.specs.Kinds.{kindsIn};
+ghost use Rattle.compare.specs.Compare.{subleafNamed, failingOf, comparedRows, compared};
+ghost use Rattle.compare.specs.CompareLaws.{flagIn, rowWith, registersRise, firstOf};
+ghost use Rattle.compare.specs.Means.{Decides};
+
+mod kinds;
+
+pub enum Register {
+    Eax,
+    Ebx,
+    Ecx,
+    Edx,
+}
+
+// What a comparison gives: B meets the hypothesis of demand 3; A is refused; B's length or counts are not lawful; B has no counted entry
+// for a row of A's table; or B's entry fails in a register.
+pub enum Compared {
+    Rises,
+    RefusedA(Refusal),
+    UnlawfulB(Refusal),
+    NoEntry(CpuidFunction, Subleaf),
+    Differs(CpuidFunction, Subleaf, Register),
+}
+
+// Which of a row's registers are as demand 3 wants them.
+struct RegistersRise {
+    eax: bool,
+    ebx: bool,
+    ecx: bool,
+    edx: bool,
+}
+
+const PLACES: usize = 88;
+
+// Whether B meets the hypothesis of demand 3 beside A under a secure-AVIC choice, or the first thing that fails: A's refusal, then B's
+// length and counts, then the rows of A's table by rising leaf and subleaf, at each first B's entry and then EAX, EBX, ECX, EDX.
+pub fn compare(a: &[u8], b: &[u8], secure_avic: bool) -> Compared
+    ensures { λ r. ⌜ r ≡ compared «secure_avic» (now (a .entry)) (now (b .entry)) ⌝ }
+    ensures decides { λ r. ⌜ Decides «secure_avic» (now (a .entry)) (now (b .entry)) r ⌝ }
+{
+    let built = build::build(a, secure_avic);
+    let verdict = built.verdict;
+    if let Verdict::Refused(refusal) = verdict {
+        return Compared::RefusedA(refusal);
+    }
+    if pages::bad_length(b) {
+        return Compared::UnlawfulB(Refusal::PagesLength);
+    }
+    if pages::counts_fit(b) {
+        let table = built.table;
+        let present = table.present;
+        return first_failing(
+            present,
+            build::collect(a, secure_avic),
+            build::collect(b, secure_avic),
+        );
+    }
+    Compared::UnlawfulB(Refusal::PageCount)
+}
+
+// The first place at which B's masked first entry fails beside A's, among the places that A's table has.
+fn first_failing(in_a: [bool; 88], a: CpuidResults, b: CpuidResults) -> Compared
+    ensures { λ r. ⌜ r ≡ comparedRows (flagIn «in_a») (rowsIn a) (rowsIn b) ⌝ }
+{
+    let mut place: usize = 0;
+    while place < PLACES {
+        let entry_a = a.results[place];
+        let entry_b = b.results[place];
+        let present = b.present[place];
+        if place_rises(place, in_a[place], entry_a, present, entry_b) {
+            place += 1;
+        } else {
+            return failing_at(place, entry_a, present, entry_b);
+        }
+    }
+    Compared::Rises
+}
+
+// Whether B's entry at a place is as the hypothesis wants it: asked where A's table has a row there that comes from an entry.
+fn place_rises(place: usize, in_a: bool, a: CpuidResult, present: bool, b: CpuidResult) -> bool
+    requires { ⌜ place < places ⌝ }
+    ensures { λ r. ⌜ r ≡ rowTest place «in_a» a (rowWith present b) ⌝ }
+{
+    if kinds::from_entry(place) {
+        if in_a {
+            if present {
+                let rise = registers_rise(kinds::kinds_at(place), a, b);
+                return rise.eax & (rise.ebx & (rise.ecx & rise.edx));
+            }
+            return false;
+        }
+    }
+    true
+}
+
+// Which registers of B's entry are as wanted, by the kinds of their place.
+fn registers_rise(kinds: Kinds, a: CpuidResult, b: CpuidResult) -> RegistersRise
+    ensures { λ r. ⌜ r ≡ registersRise (kindsIn kinds) a b ⌝ }
+{
+    let eax = kinds.eax;
+    let ebx = kinds.ebx;
+    let ecx = kinds.ecx;
+    let edx = kinds.edx;
+    RegistersRise {
+        eax: kinds::register_rises(eax, a.eax, b.eax),
+        ebx: kinds::register_rises(ebx, a.ebx, b.ebx),
+        ecx: kinds::register_rises(ecx, a.ecx, b.ecx),
+        edx: kinds::register_rises(edx, a.edx, b.edx),
+    }
+}
+
+// What fails at a place: B has no entry, or the first of its registers that is not as wanted.
+fn failing_at(place: usize, a: CpuidResult, present: bool, b: CpuidResult) -> Compared
+    requires { ⌜ place < places ⌝ }
+    ensures { λ r. ⌜ r ≡ failingOf place a (rowWith present b) ⌝ }
+{
+    let leaf = masking::leaf_at(place);
+    let subleaf = subleaf_named(place);
+    if present {
+        let rise = registers_rise(kinds::kinds_at(place), a, b);
+        return Compared::Differs(leaf, subleaf, first_register(rise));
+    }
+    Compared::NoEntry(leaf, subleaf)
+}
+
+// The first register that fails: EDX where the other three do not.
+fn first_register(rise: RegistersRise) -> Register
+    ensures { λ r. ⌜ r ≡ firstOf rise ⌝ }
+{
+    if rise.eax {
+        if rise.ebx {
+            if rise.ecx {
+                return Register::Edx;
+            }
+            return Register::Ecx;
+        }
+        return Register::Ebx;
+    }
+    Register::Eax
+}
+
+// The subleaf of a place, where its row carries one.
+fn subleaf_named(place: usize) -> Subleaf
+    requires { ⌜ place < places ⌝ }
+    ensures { λ r. ⌜ r ≡ subleafNamed place ⌝ }
+{
+    if masking::indexed_at(place) {
+        return Subleaf::Some(masking::subleaf_at(place));
+    }
+    Subleaf::None
+}

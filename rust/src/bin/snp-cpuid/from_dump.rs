@@ -1,0 +1,115 @@
+//! `from-dump`: pages from the text of a dump.
+
+use crate::arguments::Arguments;
+use crate::failure::Failure;
+use crate::input::{read, shown};
+use crate::numbers::{digits, prefixed};
+use crate::output;
+use crate::pages::{Entry, read_by_table, two_pages};
+use crate::words::counted;
+
+pub fn run(arguments: &Arguments) -> Result<(), Failure> {
+    let name = shown(&arguments.operands[0]);
+    let dump = parse(&read(&arguments.operands[0])?).map_err(|why| Failure::Bad(format!("{name}: {why}")))?;
+    let (kept, left): (Vec<Entry>, Vec<Entry>) = dump.rows.into_iter().partition(|row| read_by_table(row.leaf, row.subleaf));
+    let pages = two_pages(&kept).map_err(|why| Failure::No(format!("{name}: {why}")))?;
+    output::write(arguments.output.as_ref().expect("the command must have -o"), &pages)?;
+    if dump.cpus > 1 {
+        output::say(&format!("note: {name} has {} CPUs, the first is taken", dump.cpus));
+    }
+    if !left.is_empty() {
+        output::say(&format!("note: {} that the table does not read left out, {} taken", counted(left.len() as u32, "row"), kept.len()));
+    }
+    Ok(())
+}
+
+/// The rows of a dump's first CPU, and how many CPUs it has.
+struct Dump {
+    rows: Vec<Entry>,
+    cpus: usize,
+}
+
+enum Line {
+    Row(Entry),
+    Cpu,
+    Empty,
+}
+
+fn parse(bytes: &[u8]) -> Result<Dump, String> {
+    let mut dump = Dump { rows: vec![], cpus: 0 };
+    for (index, line) in bytes.split(|byte| *byte == b'\n').enumerate() {
+        let text = String::from_utf8_lossy(line);
+        match line_of(&text) {
+            Some(Line::Row(row)) => {
+                // rows over the first heading are those of a CPU too
+                dump.cpus = dump.cpus.max(1);
+                if dump.cpus == 1 {
+                    dump.rows.push(row);
+                }
+            }
+            Some(Line::Cpu) => dump.cpus += 1,
+            Some(Line::Empty) => {}
+            None => return Err(format!("line {} is no CPUID row and no heading: {}", index + 1, quoted(&text))),
+        }
+    }
+    if dump.rows.is_empty() {
+        return Err(if bytes.is_empty() { "is empty, where a dump of CPUID rows is wanted" } else { "has no CPUID row of a first CPU" }.into());
+    }
+    Ok(dump)
+}
+
+/// The beginning of a line, in plain ASCII.
+fn quoted(text: &str) -> String {
+    let start: String = text.trim().chars().take(40).collect();
+    format!("'{}{}'", start.escape_default(), if text.trim().chars().count() > 40 { ".." } else { "" })
+}
+
+fn line_of(line: &str) -> Option<Line> {
+    let line = line.trim();
+    if line.is_empty() {
+        Some(Line::Empty)
+    } else if heading(line) {
+        Some(Line::Cpu)
+    } else {
+        debian_row(line).or_else(|| dashed_row(line)).map(Line::Row)
+    }
+}
+
+/// `CPU 0:`, `CPU:` or `------[ Logical CPU #0 ]------`.
+fn heading(line: &str) -> bool {
+    let number = |text: &str| !text.is_empty() && text.bytes().all(|digit| digit.is_ascii_digit());
+    let debian = line.strip_prefix("CPU").and_then(|rest| rest.strip_suffix(':'));
+    let dashed = line.strip_prefix("------[ ").and_then(|rest| rest.strip_suffix(" ]------"));
+    debian.is_some_and(|rest| rest.is_empty() || rest.strip_prefix(' ').is_some_and(number))
+        || dashed.and_then(|rest| rest.rsplit_once("Logical CPU #")).is_some_and(|(_, rest)| number(rest))
+}
+
+/// `0x0000000d 0x01: eax=0x0000000f ebx=0x00000340 ecx=0x00001800 edx=0x00000000`; older versions have no subleaf.
+fn debian_row(line: &str) -> Option<Entry> {
+    let (place, results) = line.split_once(':')?;
+    let mut numbers = place.split_whitespace().map(prefixed);
+    let leaf = numbers.next()??;
+    let subleaf = numbers.next().unwrap_or(Some(0))?;
+    let mut parts = results.split_whitespace();
+    let mut register = |name| prefixed(parts.next()?.strip_prefix(name)?);
+    let registers = [register("eax=")?, register("ebx=")?, register("ecx=")?, register("edx=")?];
+    (numbers.next().is_none() && parts.next().is_none()).then_some(Entry { leaf, subleaf, registers })
+}
+
+/// `CPUID 0000000D: 0000000F-00000340-00001800-00000000 [SL 01]`; a leaf without subleaves has no bracket, or its text in one.
+fn dashed_row(line: &str) -> Option<Entry> {
+    let (leaf, rest) = line.strip_prefix("CPUID ")?.split_once(": ")?;
+    let (results, bracket) = match rest.split_once(" [") {
+        None => (rest, ""),
+        Some((results, bracket)) => (results, bracket.strip_suffix(']')?),
+    };
+    let subleaf = match bracket.strip_prefix("SL") {
+        None => 0,
+        Some(number) => number.strip_prefix(' ').and_then(digits)?,
+    };
+    let eight = |text: &str| if text.len() == 8 { digits(text) } else { None };
+    let mut parts = results.split('-');
+    let mut register = || parts.next().and_then(eight);
+    let registers = [register()?, register()?, register()?, register()?];
+    parts.next().is_none().then_some(Entry { leaf: eight(leaf)?, subleaf, registers })
+}

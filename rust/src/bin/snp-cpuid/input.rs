@@ -1,0 +1,45 @@
+//! Reading the files that are given as arguments.
+
+use crate::failure::Failure;
+use std::ffi::OsStr;
+use std::fs::File;
+use std::io::{self, ErrorKind, Read};
+
+/// The most bytes that are read: 16,384 pages, whose empty pages the library passes over within any usual stack.
+pub const MOST_BYTES: u64 = 64 << 20;
+
+/// A file's name as messages have it: on one line, whatever it is.
+pub fn shown(name: &OsStr) -> String {
+    if name == "-" {
+        return "standard input".into();
+    }
+    name.to_string_lossy().chars().map(|c| if c.is_control() { c.escape_default().to_string() } else { c.to_string() }).collect()
+}
+
+/// What went wrong, without the number that the system gives it.
+pub fn reason(error: &io::Error) -> String {
+    match error.kind() {
+        ErrorKind::NotFound => "no such file or directory".into(),
+        ErrorKind::PermissionDenied => "permission denied".into(),
+        ErrorKind::IsADirectory => "is a directory".into(),
+        _ => {
+            let text = error.to_string();
+            text.split(" (os error").next().unwrap_or(&text).to_string()
+        }
+    }
+}
+
+/// The bytes of a file, or of standard input for `-`.
+pub fn read(name: &OsStr) -> Result<Vec<u8>, Failure> {
+    let mut bytes = Vec::new();
+    let result = if name == "-" {
+        io::stdin().lock().take(MOST_BYTES + 1).read_to_end(&mut bytes)
+    } else {
+        File::open(name).and_then(|file| file.take(MOST_BYTES + 1).read_to_end(&mut bytes))
+    };
+    match result {
+        Err(error) => Err(Failure::Bad(format!("{}: {}", shown(name), reason(&error)))),
+        Ok(_) if bytes.len() as u64 > MOST_BYTES => Err(Failure::Bad(format!("{}: longer than 64 MiB", shown(name)))),
+        Ok(_) => Ok(bytes),
+    }
+}

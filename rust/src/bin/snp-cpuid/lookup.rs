@@ -1,0 +1,51 @@
+//! `lookup`: what a guest reads at one leaf.
+
+use crate::arguments::{Arguments, ENFORCE};
+use crate::failure::Failure;
+use crate::input::shown;
+use crate::numbers::{digits, prefixed};
+use crate::{output, print, table};
+use snp_cpuid::{Row, Table};
+use std::ffi::OsStr;
+
+pub fn run(arguments: &Arguments) -> Result<(), Failure> {
+    let (leaf, subleaf) = asked(&arguments.operands[1])?;
+    let table = table::built(arguments)?;
+    match table.lookup(leaf, subleaf, arguments.has(ENFORCE)) {
+        Some(result) => {
+            // the row that was found: a leaf without subleaves answers under any
+            let subleaf = subleaf.filter(|_| table.row(leaf, subleaf).is_some());
+            output::print(print::HEADING.to_string() + &print::row(&Row { leaf, subleaf, result }))
+        }
+        None => Err(Failure::No(absent(&table, leaf, subleaf))),
+    }
+}
+
+/// LEAF or LEAF.SUB, hexadecimal with or without 0x.
+fn asked(operand: &OsStr) -> Result<(u32, Option<u32>), Failure> {
+    let text = operand.to_str().unwrap_or_default();
+    let number = |text| digits(text).or_else(|| prefixed(text));
+    let numbers = match text.split_once('.') {
+        None => number(text).map(|leaf| (leaf, None)),
+        Some((leaf, subleaf)) => number(leaf).zip(number(subleaf)).map(|(leaf, subleaf)| (leaf, Some(subleaf))),
+    };
+    numbers.ok_or_else(|| {
+        let given = shown(operand);
+        Failure::Bad(format!("lookup: '{given}' is no LEAF[.SUB], hexadecimal numbers as in 80000008 or 0xD.1 (see 'snp-cpuid lookup --help')"))
+    })
+}
+
+/// Why nothing was found.
+fn absent(table: &Table, leaf: u32, subleaf: Option<u32>) -> String {
+    let name = print::place(leaf, subleaf);
+    let mut same = table.rows().filter(|row| row.leaf == leaf).peekable();
+    match (same.peek().map(|row| row.subleaf), subleaf) {
+        (None, _) => format!("leaf {name} is not in the table"),
+        (Some(None), _) => format!("leaf {name} is not in the table: leaf {leaf:08X} has no subleaves"),
+        (Some(Some(_)), subleaf) => {
+            let all: Vec<String> = same.filter_map(|row| row.subleaf).map(|k| format!("{k:X}")).collect();
+            let asked = if subleaf.is_none() { "must be asked for by subleaf" } else { "is not in the table" };
+            format!("leaf {name} {asked}: leaf {leaf:08X} has subleaves {}", all.join(", "))
+        }
+    }
+}

@@ -1,0 +1,65 @@
+//! Writing: text to standard output, files whole or not at all, and lines to standard error.
+
+use crate::failure::Failure;
+use crate::input::{reason, shown};
+use std::ffi::OsStr;
+use std::fs::{self, File, OpenOptions};
+use std::io::{self, ErrorKind, Write};
+use std::path::{Path, PathBuf};
+use std::process;
+
+/// A line to standard error. Where that is closed there is nobody to tell.
+pub fn say(line: &str) {
+    let _ = writeln!(io::stderr(), "snp-cpuid: {line}");
+}
+
+/// Text or bytes to standard output. A reader that has gone, as in `| head`, has what it wanted.
+pub fn print(data: impl AsRef<[u8]>) -> Result<(), Failure> {
+    let mut out = io::stdout().lock();
+    match out.write_all(data.as_ref()).and_then(|()| out.flush()) {
+        Err(error) if error.kind() != ErrorKind::BrokenPipe => Err(Failure::Bad(format!("standard output: {}", reason(&error)))),
+        _ => Ok(()),
+    }
+}
+
+/// Bytes to a file, or to standard output for `-`.
+pub fn write(name: &OsStr, bytes: &[u8]) -> Result<(), Failure> {
+    if name == "-" {
+        return print(bytes);
+    }
+    let fail = |error: io::Error| Failure::Bad(format!("{}: cannot be written: {}", shown(name), reason(&error)));
+    match fs::metadata(name) {
+        // a pipe or a device has no bytes to keep, and must not be replaced by a file
+        Ok(there) if !there.is_file() => OpenOptions::new().write(true).open(name).and_then(|mut file| file.write_all(bytes)).map_err(fail),
+        Ok(there) => {
+            // a file that may not be written to is not replaced either; a link stays a link
+            OpenOptions::new().write(true).open(name).map_err(fail)?;
+            replace(&fs::canonicalize(name).map_err(fail)?, bytes, Some(there.permissions())).map_err(fail)
+        }
+        Err(_) => replace(Path::new(name), bytes, None).map_err(fail),
+    }
+}
+
+/// The name beside a file under which its new bytes are written first.
+fn beside(path: &Path) -> io::Result<PathBuf> {
+    let name = path.file_name().ok_or(ErrorKind::IsADirectory)?;
+    let mut hidden = OsStr::new(".").to_os_string();
+    hidden.push(name);
+    hidden.push(format!(".{}", process::id()));
+    Ok(path.with_file_name(hidden))
+}
+
+/// Puts the bytes in the place of a file once they are all written: the file is the old one or the new one, never a part.
+fn replace(path: &Path, bytes: &[u8], permissions: Option<fs::Permissions>) -> io::Result<()> {
+    let temporary = beside(path)?;
+    let mut file = File::create_new(&temporary)?;
+    let written = file
+        .write_all(bytes)
+        .and_then(|()| permissions.map_or(Ok(()), |p| file.set_permissions(p)))
+        .and_then(|()| file.sync_all())
+        .and_then(|()| fs::rename(&temporary, path));
+    if written.is_err() {
+        let _ = fs::remove_file(&temporary);
+    }
+    written
+}

@@ -1,0 +1,112 @@
+//! Two servers compared.
+
+use crate::{Refusal, exports};
+use std::fmt;
+
+/// Whether a guest of server A may move to server B, or the first thing in the way.
+#[derive(Clone, Copy, Debug, PartialEq, Eq, Hash)]
+pub enum Comparison {
+    /// It may. Building B then gives a table with every row of A's, at least A's bits in every feature register, a save area no smaller and all else
+    /// equal; or refuses it by 3, for a subleaf of leaf Dh that B's own further state needs, or by 5.
+    Rises,
+    /// A itself gives no table, so it has no guest.
+    RefusedA(Refusal),
+    /// B's length or a count of its pages is not lawful.
+    UnlawfulB(Refusal),
+    /// A's table has a row for which B has no entry.
+    NoEntry {
+        /// the leaf
+        leaf: u32,
+        /// the subleaf; none for a leaf without
+        subleaf: Option<u32>,
+    },
+    /// B's entry lacks a bit of A's in a feature register, or differs in another.
+    Differs {
+        /// the leaf
+        leaf: u32,
+        /// the subleaf; none for a leaf without
+        subleaf: Option<u32>,
+        /// the first register of the row that fails
+        register: Register,
+    },
+}
+
+/// One of the four registers of a CPUID result.
+#[derive(Clone, Copy, Debug, PartialEq, Eq, Hash)]
+pub enum Register {
+    /// EAX
+    Eax,
+    /// EBX
+    Ebx,
+    /// ECX
+    Ecx,
+    /// EDX
+    Edx,
+}
+
+impl Comparison {
+    /// The comparison that an answer's plain numbers stand for.
+    pub(crate) fn from_numbers(c: exports::Compared) -> Comparison {
+        let refusal = || Refusal::from_numbers(c.number, c.leaf, c.has_subleaf, c.subleaf, c.s).expect("answers 1 and 2 carry a refusal");
+        let (leaf, subleaf) = (c.leaf, (c.has_subleaf != 0).then_some(c.subleaf));
+        match c.answer {
+            0 => Comparison::Rises,
+            1 => Comparison::RefusedA(refusal()),
+            2 => Comparison::UnlawfulB(refusal()),
+            3 => Comparison::NoEntry { leaf, subleaf },
+            4 => Comparison::Differs { leaf, subleaf, register: Register::from_index(c.register_index) },
+            // the library is proved to give no other
+            other => unreachable!("answer {other}"),
+        }
+    }
+}
+
+impl Register {
+    fn from_index(index: u32) -> Register {
+        match index {
+            0 => Register::Eax,
+            1 => Register::Ebx,
+            2 => Register::Ecx,
+            3 => Register::Edx,
+            // the library is proved to give no other
+            other => unreachable!("register {other}"),
+        }
+    }
+}
+
+impl fmt::Display for Comparison {
+    fn fmt(&self, f: &mut fmt::Formatter<'_>) -> fmt::Result {
+        match self {
+            Comparison::Rises => write!(f, "a guest of A may move to B"),
+            Comparison::RefusedA(why) => write!(f, "A is refused: {why}"),
+            Comparison::UnlawfulB(why) => write!(f, "B's pages cannot be read: {why}"),
+            Comparison::NoEntry { leaf, subleaf } => write!(f, "B has no entry for {}, which A's table has", Place(*leaf, *subleaf)),
+            Comparison::Differs { leaf, subleaf, register } => {
+                write!(f, "B's {}.{register} lacks a feature bit of A's, or differs from A's where it must be equal", Place(*leaf, *subleaf))
+            }
+        }
+    }
+}
+
+impl fmt::Display for Register {
+    fn fmt(&self, f: &mut fmt::Formatter<'_>) -> fmt::Result {
+        f.write_str(match self {
+            Register::Eax => "EAX",
+            Register::Ebx => "EBX",
+            Register::Ecx => "ECX",
+            Register::Edx => "EDX",
+        })
+    }
+}
+
+/// A leaf and subleaf as the manuals write them.
+struct Place(u32, Option<u32>);
+
+impl fmt::Display for Place {
+    fn fmt(&self, f: &mut fmt::Formatter<'_>) -> fmt::Result {
+        match self {
+            Place(leaf, None) => write!(f, "{leaf:X}h"),
+            Place(leaf, Some(subleaf)) => write!(f, "{leaf:X}h subleaf {subleaf}"),
+        }
+    }
+}

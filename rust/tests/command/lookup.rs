@@ -1,0 +1,58 @@
+//! `lookup`, by document 01's `leaf_result_ref`.
+
+use crate::run::{EPYC, run};
+
+fn row(text: &str) -> &str {
+    text.lines().nth(1).expect("a row")
+}
+
+#[test]
+fn found() {
+    // the registers of the shipped set's entries, by document 01's masks
+    let one = "00000001    00A00F11 00800800 FEDA3203 178BFBFF";
+    let state = "0000000D.B  00000010 00000000 00000001 00000000";
+    for (arguments, expected) in [
+        (&["1"][..], one),
+        (&["0x1"], one),
+        (&["00000001"], one),
+        (&["1", "--enforce"], one),
+        // a leaf without subleaves answers under any
+        (&["1.0"], one),
+        (&["0x1.0x9"], one),
+        (&["1.ffffffff"], one),
+        (&["d.b"], state),
+        (&["0xD.0xB", "--enforce"], state),
+        (&["D.0B"], state),
+        (&["8000001d.3"], "8000001D.3  0003C163 03C0003F 00007FFF 00000001"),
+    ] {
+        let ran = run(&[&["lookup", EPYC], arguments].concat());
+        assert_eq!((ran.status, ran.err.as_str()), (0, ""), "{arguments:?}");
+        assert_eq!(row(ran.text()), expected);
+    }
+}
+
+#[test]
+fn the_words_are_those_of_the_table() {
+    let table = run(&["table", EPYC]);
+    let found = run(&["lookup", EPYC, "80000008"]);
+    let (heading, row) = found.text().split_once('\n').unwrap();
+    assert!(table.text().starts_with(heading));
+    assert!(table.text().contains(&format!("\n{row}")));
+    assert!(row.contains("\n    EBX  CLZERO InstRetCntMsr "));
+}
+
+#[test]
+fn not_found() {
+    for (arguments, line) in [
+        (&["6"][..], "leaf 00000006 is not in the table"),
+        (&["40000000.1"], "leaf 40000000.1 is not in the table"),
+        (&["1.0", "--enforce"], "leaf 00000001.0 is not in the table: leaf 00000001 has no subleaves"),
+        (&["D"], "leaf 0000000D must be asked for by subleaf: leaf 0000000D has subleaves 0, 1, 2, B, C"),
+        (&["D", "--enforce"], "leaf 0000000D must be asked for by subleaf: leaf 0000000D has subleaves 0, 1, 2, B, C"),
+        (&["D.9"], "leaf 0000000D.9 is not in the table: leaf 0000000D has subleaves 0, 1, 2, B, C"),
+        (&["7.1"], "leaf 00000007.1 is not in the table: leaf 00000007 has subleaves 0"),
+    ] {
+        let ran = run(&[&["lookup", EPYC], arguments].concat());
+        assert_eq!((ran.status, ran.line()), (1, line));
+    }
+}

@@ -1,0 +1,43 @@
+//! The README's lines after `$` give what stands under them.
+
+use crate::debian;
+use crate::run::Folder;
+use std::path::Path;
+use std::process::Command;
+
+/// The README's command lines, each with its output: the block of indented and empty lines under it.
+fn sessions() -> Vec<(String, String)> {
+    let text = std::fs::read_to_string("../README.md").expect("the README");
+    let mut found: Vec<(String, String)> = vec![];
+    let mut inside = false;
+    for line in text.lines() {
+        let indented = line.strip_prefix("    ");
+        if let Some(command) = indented.and_then(|line| line.strip_prefix("$ ")) {
+            inside = true;
+            found.push((command.into(), String::new()));
+        } else if inside && (indented.is_some() || line.is_empty()) {
+            found.last_mut().expect("a command before").1 += &format!("{}\n", indented.unwrap_or_default());
+        } else {
+            inside = false;
+        }
+    }
+    found
+}
+
+#[test]
+fn every_line_is_true() {
+    let folder = Folder::new("readme");
+    std::os::unix::fs::symlink(std::fs::canonicalize("../tests").unwrap(), folder.path("tests")).unwrap();
+    let binaries = Path::new(env!("CARGO_BIN_EXE_snp-cpuid")).parent().unwrap().display().to_string();
+    let path = format!("{binaries}:{}", std::env::var("PATH").unwrap());
+    let sessions = sessions();
+    assert!(sessions.len() >= 8);
+    for (command, expected) in sessions {
+        if command.starts_with("cpuid ") && debian::installed().is_none() {
+            continue;
+        }
+        let output = Command::new("sh").args(["-c", &format!("{{ {command}; }} 2>&1")]).current_dir(folder.path("")).env("PATH", &path).output().unwrap();
+        // the empty line that ends a block is the README's
+        assert_eq!(String::from_utf8_lossy(&output.stdout).trim_end(), expected.trim_end(), "{command}");
+    }
+}

@@ -1,0 +1,84 @@
+//! Runs the command.
+
+use std::fs;
+use std::io::Write;
+use std::path::{Path, PathBuf};
+use std::process::{Command, Stdio};
+
+/// The shipped page set.
+pub const EPYC: &str = "../tests/epyc-milan.pages";
+
+/// What a run gave.
+#[derive(Debug, PartialEq, Eq)]
+pub struct Ran {
+    pub status: i32,
+    pub out: Vec<u8>,
+    pub err: String,
+}
+
+impl Ran {
+    pub fn text(&self) -> &str {
+        std::str::from_utf8(&self.out).expect("text")
+    }
+
+    /// The one line on standard error, without the command's name; nothing stands on standard output.
+    pub fn line(&self) -> &str {
+        assert!(self.out.is_empty(), "{self:?}");
+        let line = self.err.strip_suffix('\n').expect("a line");
+        assert!(!line.contains('\n'), "more than one line: {line}");
+        line.strip_prefix("snp-cpuid: ").expect("the command names itself")
+    }
+}
+
+pub fn command() -> Command {
+    Command::new(env!("CARGO_BIN_EXE_snp-cpuid"))
+}
+
+/// Runs a command; no panic may show.
+pub fn finish(command: &mut Command) -> Ran {
+    let output = command.output().expect("the command starts");
+    let err = String::from_utf8(output.stderr).expect("text");
+    assert!(!err.contains("panicked"), "{err}");
+    Ran { status: output.status.code().expect("no signal"), out: output.stdout, err }
+}
+
+pub fn run<S: AsRef<std::ffi::OsStr>>(arguments: &[S]) -> Ran {
+    finish(command().args(arguments))
+}
+
+/// Runs it with these bytes on standard input.
+pub fn run_on(input: &[u8], arguments: &[&str]) -> Ran {
+    let mut child = command().args(arguments).stdin(Stdio::piped()).stdout(Stdio::piped()).stderr(Stdio::piped()).spawn().expect("it starts");
+    child.stdin.take().expect("a pipe").write_all(input).expect("it reads");
+    let output = child.wait_with_output().expect("it ends");
+    Ran { status: output.status.code().expect("no signal"), out: output.stdout, err: String::from_utf8(output.stderr).expect("text") }
+}
+
+/// A new empty folder.
+pub struct Folder(PathBuf);
+
+impl Folder {
+    pub fn new(name: &str) -> Folder {
+        let path = Path::new(env!("CARGO_TARGET_TMPDIR")).join(name);
+        let _ = fs::remove_dir_all(&path);
+        fs::create_dir_all(&path).expect("a folder");
+        Folder(path)
+    }
+
+    pub fn path(&self, name: &str) -> String {
+        self.0.join(name).to_str().expect("a plain path").to_string()
+    }
+
+    /// Writes a file and gives its path.
+    pub fn file(&self, name: &str, bytes: impl AsRef<[u8]>) -> String {
+        fs::write(self.0.join(name), bytes).expect("written");
+        self.path(name)
+    }
+
+    /// The names in it, in order.
+    pub fn names(&self) -> Vec<String> {
+        let mut names: Vec<String> = fs::read_dir(&self.0).expect("read").map(|entry| entry.unwrap().file_name().into_string().unwrap()).collect();
+        names.sort();
+        names
+    }
+}

@@ -1,0 +1,178 @@
+//! Help, bad usage, files that cannot be read or written, closed pipes.
+
+use crate::run::{EPYC, Folder, command, finish, run, run_on};
+use std::fs;
+use std::process::{Command, Stdio};
+
+const COMMANDS: [&str; 6] = ["table", "image", "lookup", "from-dump", "to-dump", "compare"];
+
+#[test]
+fn help_of_all_and_of_each() {
+    for arguments in [&["--help"][..], &["-h"], &["help"]] {
+        let ran = run(arguments);
+        assert_eq!((ran.status, ran.err.as_str()), (0, ""));
+        assert!(ran.text().starts_with("Usage: snp-cpuid COMMAND"));
+        assert!(COMMANDS.iter().all(|name| ran.text().contains(&format!("\n  {name} "))));
+    }
+    for name in COMMANDS {
+        let ran = run(&[name, "--help"]);
+        assert_eq!((ran.status, ran.err.as_str()), (0, ""));
+        assert!(ran.text().starts_with(&format!("Usage: snp-cpuid {name} ")));
+        assert!(ran.text().contains("Exit status: 0"), "{name}");
+        assert!(ran.text().lines().all(|line| line.len() <= 100 && line.is_ascii()), "{name}");
+        // wherever it stands, and under its other names
+        assert_eq!(run(&["help", name]), ran);
+        assert_eq!(run(&[name, EPYC, "-h"]), ran);
+        // every option of the first line is explained
+        let usage = ran.text().lines().next().unwrap();
+        for option in usage.split(['[', ']', ' ']).filter(|word| word.starts_with('-')) {
+            assert!(ran.text().lines().any(|line| line.trim_start().starts_with(option)), "{name} {option}");
+        }
+    }
+    assert!(run(&["--version"]).text().starts_with("snp-cpuid "));
+}
+
+#[test]
+fn bad_usage_is_status_2_and_one_line() {
+    let cases: [(&[&str], &str); 16] = [
+        (&[], "no command"),
+        (&["tables"], "no command 'tables'"),
+        (&["help", "nothing"], "no command 'nothing'"),
+        (&["table"], "PAGES is missing"),
+        (&["table", EPYC, EPYC], "one operand too many"),
+        (&["table", EPYC, "--enforce"], "no option '--enforce'"),
+        (&["table", EPYC, "-o", "x"], "no option '-o'"),
+        (&["image", EPYC], "-o FILE is missing"),
+        (&["image", EPYC, "-o"], "-o needs a file name"),
+        (&["image", EPYC, "-o", "a", "-o", "b"], "-o is given twice"),
+        (&["lookup", EPYC], "LEAF[.SUB] is missing"),
+        (&["lookup", EPYC, "80000008h"], "'80000008h' is no LEAF[.SUB]"),
+        (&["from-dump", EPYC], "-o FILE is missing"),
+        (&["from-dump", EPYC, "-o", "x", "--secure-avic"], "no option '--secure-avic'"),
+        (&["compare", EPYC], "B is missing"),
+        (&["compare", "-", "-"], "A and B cannot both be standard input"),
+    ];
+    for (arguments, words) in cases {
+        let ran = run(arguments);
+        assert_eq!(ran.status, 2, "{arguments:?}");
+        assert!(ran.line().contains(words), "{arguments:?}: {}", ran.line());
+        assert!(ran.line().contains("--help')"), "says where help is: {}", ran.line());
+    }
+}
+
+#[test]
+fn numbers_that_are_none() {
+    for wrong in ["", ".", "1.", ".1", "0x", "g", "-1", "+1", "1.2.3", "100000000", "1.-1", "0x1.+2", "D,1"] {
+        let ran = run(&["lookup", EPYC, "--", wrong]);
+        assert_eq!(ran.status, 2, "{wrong}");
+        assert!(ran.line().contains("LEAF[.SUB]"));
+    }
+}
+
+/// Each command on a file that is to be read, its output in a folder.
+fn reading(file: &str, folder: &Folder) -> Vec<Vec<String>> {
+    let text = |arguments: &[&str]| arguments.iter().map(|a| a.to_string()).collect();
+    vec![
+        text(&["table", file]),
+        text(&["image", file, "-o", &folder.path("out")]),
+        text(&["lookup", file, "1"]),
+        text(&["from-dump", file, "-o", &folder.path("out")]),
+        text(&["to-dump", file, "-o", &folder.path("out")]),
+        text(&["compare", file, EPYC]),
+        text(&["compare", EPYC, file]),
+    ]
+}
+
+#[test]
+fn files_that_cannot_be_read() {
+    let folder = Folder::new("unreadable");
+    let missing = folder.path("missing");
+    for (file, why) in [(missing.as_str(), "no such file or directory"), ("..", "is a directory"), ("/dev/zero", "longer than 64 MiB")] {
+        for arguments in reading(file, &folder) {
+            let ran = run(&arguments);
+            assert_eq!((ran.status, ran.line()), (2, format!("{file}: {why}").as_str()), "{arguments:?}");
+        }
+    }
+    assert_eq!(folder.names(), [""; 0]);
+}
+
+#[test]
+fn a_name_with_a_line_break_stays_one_line() {
+    assert_eq!(run(&["table", "no\nsuch\x1b"]).line(), "no\\nsuch\\u{1b}: no such file or directory");
+}
+
+#[test]
+fn standard_input_and_output_are_a_dash() {
+    let pages = fs::read(EPYC).unwrap();
+    assert_eq!(run_on(&pages, &["table", "-"]), run(&["table", EPYC]));
+    assert_eq!(run_on(&pages, &["image", "-", "-o", "-"]).out, fs::read("../crates/snp_cpuid_image/stdout").unwrap());
+    assert!(run_on(&[], &["table", "-"]).line().starts_with("standard input: refusal 1: "));
+}
+
+#[test]
+fn output_that_cannot_be_written() {
+    let folder = Folder::new("unwritable");
+    let dump = folder.file("dump", run(&["to-dump", EPYC]).out);
+    let file = folder.file("file", "kept");
+    for out in [folder.path("no/such"), folder.path(""), format!("{file}/below"), "/dev/full".into()] {
+        for arguments in [["image", EPYC, "-o", &out], ["to-dump", EPYC, "-o", &out], ["from-dump", &dump, "-o", &out]] {
+            let ran = run(&arguments);
+            assert_eq!(ran.status, 2, "{arguments:?}");
+            assert!(ran.line().starts_with(&format!("{out}: cannot be written: ")), "{}", ran.line());
+        }
+    }
+    assert_eq!(folder.names(), ["dump", "file"]);
+    assert_eq!(fs::read(file).unwrap(), b"kept");
+}
+
+/// A disk that fills while the file is written, as a limit on the size of files gives it.
+#[test]
+fn a_write_that_breaks_off_leaves_the_old_file_and_nothing_beside_it() {
+    let folder = Folder::new("broken_off");
+    let old = folder.file("old", "as it was");
+    for out in [&old, &folder.path("new")] {
+        let limited = "trap '' XFSZ; ulimit -f 0; exec \"$0\" \"$@\"";
+        let ran = finish(Command::new("sh").args(["-c", limited, env!("CARGO_BIN_EXE_snp-cpuid"), "image", EPYC, "-o", out]));
+        assert_eq!((ran.status, ran.line()), (2, format!("{out}: cannot be written: File too large").as_str()));
+    }
+    assert_eq!(fs::read(old).unwrap(), b"as it was");
+    assert_eq!(folder.names(), ["old"]);
+}
+
+#[test]
+fn a_full_standard_output_is_status_2() {
+    for arguments in [&["table", EPYC][..], &["lookup", EPYC, "1"], &["to-dump", EPYC], &["image", EPYC, "-o", "-"], &["--help"]] {
+        let full = fs::File::options().write(true).open("/dev/full").unwrap();
+        let ran = finish(command().args(arguments).stdout(full));
+        assert_eq!((ran.status, ran.line()), (2, "standard output: No space left on device"));
+    }
+}
+
+#[test]
+fn a_closed_pipe_is_no_failure() {
+    for arguments in [&["table", EPYC][..], &["to-dump", EPYC], &["compare", EPYC, EPYC], &["--help"]] {
+        // the writing end of a pipe whose reader has ended
+        let mut reader = Command::new("true").stdin(Stdio::piped()).spawn().unwrap();
+        let pipe = reader.stdin.take().unwrap();
+        reader.wait().unwrap();
+        let ran = finish(command().args(arguments).stdout(pipe));
+        assert_eq!((ran.status, ran.err.as_str()), (0, ""));
+    }
+}
+
+#[test]
+fn an_existing_file_is_replaced_where_it_stands() {
+    use std::os::unix::fs::{PermissionsExt, symlink};
+    let folder = Folder::new("replaced");
+    let file = folder.file("file", "old");
+    fs::set_permissions(&file, fs::Permissions::from_mode(0o640)).unwrap();
+    symlink("file", folder.path("link")).unwrap();
+    for out in [folder.path("link"), file.clone()] {
+        fs::write(&file, "old").unwrap();
+        assert_eq!(run(&["image", EPYC, &format!("--output={out}")]).status, 0);
+        assert_eq!(fs::read(&file).unwrap(), fs::read("../crates/snp_cpuid_image/stdout").unwrap());
+        assert_eq!(fs::metadata(&file).unwrap().permissions().mode() & 0o777, 0o640);
+        assert!(fs::symlink_metadata(folder.path("link")).unwrap().is_symlink());
+        assert_eq!(folder.names(), ["file", "link"]);
+    }
+}

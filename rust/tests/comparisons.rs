@@ -1,0 +1,71 @@
+//! Replays comparisons.txt, whose answers are those of the model (tests/make_comparisons.py writes it and says how a line reads).
+
+use snp_cpuid::{Comparison, Refusal, compare};
+use std::collections::BTreeMap;
+
+/// The shipped set with the edits of one word.
+fn edited(word: &str) -> Vec<u8> {
+    let mut pages = std::fs::read("../tests/epyc-milan.pages").expect("the shipped page set");
+    for edit in word.split(',').filter(|&edit| edit != "-") {
+        if let Some(length) = edit.strip_prefix('#') {
+            pages.resize(length.parse().unwrap(), 0);
+        } else {
+            let (offset, bytes) = edit.strip_prefix('@').and_then(|e| e.split_once(':')).expect("an edit");
+            let at = usize::from_str_radix(offset, 16).unwrap();
+            for i in 0..bytes.len() / 2 {
+                pages[at + i] = u8::from_str_radix(&bytes[2 * i..2 * i + 2], 16).unwrap();
+            }
+        }
+    }
+    pages
+}
+
+fn place(leaf: u32, subleaf: Option<u32>) -> String {
+    format!("{leaf:x} {}", subleaf.map_or("-".to_string(), |k| k.to_string()))
+}
+
+/// A refusal's number, leaf, subleaf and s, as the file has them.
+fn details(refusal: Refusal) -> String {
+    let (leaf, subleaf) = match refusal {
+        Refusal::MissingRequiredResult(leaf, subleaf) => (leaf, subleaf),
+        _ => (0, None),
+    };
+    let s = match refusal {
+        Refusal::TopologyInconsistent(snp_cpuid::TopologyError::Hyperthreading(s) | snp_cpuid::TopologyError::ProcessorCount(s)) => s,
+        _ => 0,
+    };
+    format!("{} {} {s}", refusal.number(), place(leaf, subleaf))
+}
+
+fn told(answer: Comparison) -> (&'static str, String) {
+    match answer {
+        Comparison::Rises => ("rises", String::new()),
+        Comparison::RefusedA(refusal) => ("refused-a", details(refusal)),
+        Comparison::UnlawfulB(refusal) => ("unlawful-b", details(refusal)),
+        Comparison::NoEntry { leaf, subleaf } => ("no-entry", place(leaf, subleaf)),
+        Comparison::Differs { leaf, subleaf, register } => ("differs", format!("{} {}", place(leaf, subleaf), register.to_string().to_lowercase())),
+    }
+}
+
+#[test]
+fn answers_are_the_models() {
+    let text = std::fs::read_to_string("tests/comparisons.txt").expect("the list");
+    let mut seen = BTreeMap::new();
+    for (number, line) in text.lines().enumerate() {
+        let mut words = line.splitn(4, ' ');
+        let mut word = || words.next().expect("four words");
+        let (choice, a, b, wanted) = (word() == "1", edited(word()), edited(word()), word());
+        let (kind, details) = told(compare(&a, &b, choice));
+        assert_eq!(format!("{kind} {details}").trim(), wanted, "line {}: {line}", number + 1);
+        *seen.entry(kind).or_insert(0) += 1;
+    }
+    assert_eq!(seen.len(), 5, "every answer occurs: {seen:?}");
+}
+
+#[test]
+fn texts_name_what_to_look_at() {
+    let texts = |a: &str, b: &str| compare(&edited(a), &edited(b), false).to_string();
+    assert_eq!(texts("-", "-"), "a guest of A may move to B");
+    assert!(texts("#0", "-").starts_with("A is refused: the CPUID pages must be"));
+    assert!(texts("-", "#1").starts_with("B's pages cannot be read: "));
+}

@@ -1,0 +1,197 @@
+"""Makes rust/tests/comparisons.txt: pairs of page sets, each with the answer of model.py to whether a guest of A may move to B.
+
+make_comparisons.py           writes the file
+make_comparisons.py --check   compares the file with what it makes
+
+A line is the secure-AVIC choice (0 or 1), the edits that make A and those that make B of tests/epyc-milan.pages, and the answer. Edits are - for
+none, or in a row, with commas: #LENGTH cuts the set or fills it up with zeros, @OFFSET:BYTES writes bytes. Offsets and bytes are hexadecimal, as
+leaves are; a subleaf of - is none.
+"""
+from collections import Counter
+from pathlib import Path
+import struct
+import sys
+
+import model
+from make_vectors import differences
+from pagesets import PAGE_ENTRIES, PAGE_SIZE, STATE
+
+FILE = Path(__file__).resolve().parent.parent / 'rust' / 'tests' / 'comparisons.txt'
+MILAN = Path(__file__).with_name('epyc-milan.pages').read_bytes()
+FILTERED = 0x40000000
+ALL = 0xFFFFFFFF
+REGISTERS = [model.EAX, model.EBX, model.ECX, model.EDX]
+
+
+# One set from another
+
+def word(data, at):
+    return struct.unpack_from('<I', data, at)[0]
+
+
+def put(data, at, number):
+    return data[:at] + struct.pack('<I', number) + data[at + 4:]
+
+
+def places(data=MILAN):
+    """Where each entry stands below its page's count."""
+    return [start + 16 + 48 * i for start in range(0, len(data), PAGE_SIZE) for i in range(word(data, start))]
+
+
+def find(leaf, subleaf=0):
+    return next(at for at in places() if (word(MILAN, at), word(MILAN, at + 4)) == (leaf, subleaf))
+
+
+def register(data, at, number, change):
+    at += 24 + 4 * number
+    return put(data, at, change(word(data, at)) & ALL)
+
+
+def flipped(at, number, bit):
+    return register(MILAN, at, number, lambda old: old ^ 1 << bit)
+
+
+def set_to(leaf, subleaf, number, value, data=MILAN):
+    return register(data, find(leaf, subleaf), number, lambda old: value)
+
+
+def appended(data, page, leaf, subleaf, *result):
+    """One more entry on a page."""
+    count = word(data, page * PAGE_SIZE)
+    at = page * PAGE_SIZE + 16 + 48 * count
+    entry = struct.pack('<II', leaf, subleaf) + bytes(16) + struct.pack('<4I', *result) + bytes(8)
+    return put(data[:at] + entry + data[at + 48:], page * PAGE_SIZE, count + 1)
+
+
+def richer():
+    """Milan with AVX-512 and CET state besides."""
+    data = set_to(STATE, 0, model.EAX, 0xE7)
+    data = set_to(STATE, 1, model.EAX, 0xF, data)
+    data = set_to(STATE, 1, model.ECX, 0x1800, data)
+    for subleaf, size, start in (5, 64, 832), (6, 512, 896), (7, 1024, 1408), (11, 16, 0), (12, 24, 0):
+        if (STATE, subleaf) not in [(word(data, at), word(data, at + 4)) for at in places(data)]:
+            data = appended(data, 1, STATE, subleaf, size, start, 0, 0)
+    return data
+
+
+# The pairs: (A, B, secure AVIC)
+
+def single_bits():
+    """In every register of every entry, the lowest bit that is set and the lowest that is not; in the registers whose kind is not one, every bit."""
+    every = {(1, model.EDX), (7, model.EBX), (STATE, model.EAX), (STATE, model.ECX), (0x8000001F, model.EAX)}
+    for at in places():
+        for number in REGISTERS:
+            value = word(MILAN, at + 24 + 4 * number)
+            lowest = {(value & -value).bit_length() - 1, (~value & value + 1).bit_length() - 1}
+            whole = (word(MILAN, at), number) in every and word(MILAN, at + 4) < 2
+            for bit in range(32) if whole else sorted(lowest & set(range(32))):
+                yield MILAN, flipped(at, number, bit), False
+                yield flipped(at, number, bit), MILAN, False
+
+
+def secure_avic():
+    """The bit that the choice adds to 8000001Fh.EAX, and every other, under the choice."""
+    at = find(0x8000001F)
+    for bit in range(32):
+        yield MILAN, flipped(at, model.EAX, bit), True
+        yield flipped(at, model.EAX, bit), MILAN, True
+
+
+def missing():
+    """Each entry taken away, from B and from A; each Dh entry on page 0 alone."""
+    for at in places():
+        yield MILAN, put(MILAN, at, FILTERED), False
+        yield put(MILAN, at, FILTERED), MILAN, True
+        if word(MILAN, at) == STATE:
+            moved = appended(put(MILAN, at, FILTERED), 0, STATE, word(MILAN, at + 4), *struct.unpack_from('<4I', MILAN, at + 24))
+            yield MILAN, moved, False
+
+
+def damaged():
+    """Lengths and counts, of A, of B and of both: 1 before 2, A before B."""
+    wrong = [MILAN[:length] for length in (0, 1, PAGE_SIZE - 1, len(MILAN) - 1)]
+    wrong += [put(MILAN, start, count) for start in (0, PAGE_SIZE) for count in (PAGE_ENTRIES + 1, ALL)]
+    wrong += [put(MILAN, 0, PAGE_ENTRIES + 1)[:-1], MILAN + bytes(1)]
+    for data in wrong:
+        yield MILAN, data, False
+        yield data, MILAN, False
+    yield wrong[0], wrong[-3], False
+    yield wrong[-3], wrong[0], True
+    for data in MILAN[:PAGE_SIZE], MILAN + bytes(PAGE_SIZE), put(MILAN, 0, 0), put(MILAN, PAGE_SIZE, PAGE_ENTRIES):
+        yield MILAN, data, False
+        yield data, MILAN, False
+
+
+def refused():
+    """A set that building refuses, by 4 to 8, as A and as B."""
+    sizes, one, unit = find(0x80000008), find(1), find(0x8000001E)
+    sets = [register(MILAN, sizes, model.EBX, lambda old: old & ~(1 << 3)), set_to(STATE, 2, model.EAX, ALL)]
+    sets += [register(MILAN, one, model.EDX, lambda old: old & ~(1 << 28)), register(MILAN, one, model.EBX, lambda old: old ^ 1 << 16)]
+    sets += [register(MILAN, unit, model.EBX, lambda old: old | 0xFF00), register(MILAN, sizes, model.ECX, lambda old: old & ~0xF000)]
+    for data in sets:
+        for choice in False, True:
+            yield data, MILAN, choice
+            yield MILAN, data, choice
+
+
+def others():
+    """Itself; more state; duplicates, of which the first wins; an entry for another subleaf."""
+    more = richer()
+    for a in MILAN, more:
+        for b in MILAN, more:
+            for choice in False, True:
+                yield a, b, choice
+    for subleaf in 6, 12:
+        at = next(at for at in places(more) if (word(more, at), word(more, at + 4)) == (STATE, subleaf))
+        yield more, put(more, at, FILTERED), False
+        yield MILAN, put(more, at, FILTERED), False
+    for leaf, subleaf in (1, 0), (7, 0), (0x8000001D, 3):
+        yield MILAN, appended(MILAN, 0, leaf, subleaf, 0, 0, 0, 0), False
+        yield appended(MILAN, 0, leaf, subleaf, ALL, ALL, ALL, ALL), MILAN, False
+    yield MILAN, put(MILAN, find(1) + 4, 5), False
+    yield MILAN, put(MILAN, find(7) + 4, 1), False
+
+
+# The file
+
+def edits(data):
+    """How `data` is made of the shipped set."""
+    base = MILAN[:len(data)] + bytes(max(0, len(data) - len(MILAN)))
+    words = [f'#{len(data)}'] if len(data) != len(MILAN) else []
+    words += [f'@{start:x}:{part.hex()}' for start, part in differences(base, data)]
+    return ','.join(words) or '-'
+
+
+def told(answer):
+    kind, *details = answer
+    words = [kind.replace(' ', '-').lower()]
+    if kind in ('refused A', 'unlawful B'):
+        number, leaf, subleaf, s = details
+        return [*words, str(number), f'{leaf:x}', '-' if subleaf is None else str(subleaf), str(s)]
+    if kind == 'rises':
+        return words
+    leaf, subleaf, *rest = details
+    return [*words, f'{leaf:x}', '-' if subleaf is None else str(subleaf), *('eax ebx ecx edx'.split()[number] for number in rest)]
+
+
+def main(words):
+    groups = single_bits, secure_avic, missing, damaged, refused, others
+    pairs = [pair for group in groups for pair in group()]
+    answers = [model.compare(*pair) for pair in pairs]
+    lines = [' '.join([str(int(choice)), edits(a), edits(b), *told(answer)]) for (a, b, choice), answer in zip(pairs, answers)]
+    made = ''.join(line + '\n' for line in lines).encode()
+    counts = Counter(answer[0] for answer in answers)
+    if len(counts) < 5:
+        print(f'only {sorted(counts)} occur')
+        return 1
+    if words == ['--check']:
+        right = FILE.read_bytes() == made
+        print(f'{len(pairs)} comparisons are as made' if right else f'not as made: {FILE.name}')
+        return 0 if right else 1
+    FILE.write_bytes(made)
+    print(', '.join(f'{count} {kind}' for kind, count in sorted(counts.items())), f'in {len(pairs)} pairs, {len(made)} bytes')
+    return 0
+
+
+if __name__ == '__main__':
+    sys.exit(main(sys.argv[1:]))
