@@ -37,6 +37,7 @@ fn no(from: &str, to: &str, why: &str) -> String {
 }
 
 const ACCEPTED: &str = "it is accepted here";
+const BOTH_WAYS: &str = "The tables are equal, as they must be where each server is at least the other.";
 
 fn texts(lines: &[&str]) -> Vec<String> {
     lines.iter().map(|line| line.to_string()).collect()
@@ -47,9 +48,9 @@ fn a_set_and_itself() {
     let folder = Folder::new("compare_same");
     let ran = compare(&folder, &set(&epyc()), &set(&epyc()), &[]);
     assert_eq!((ran.status, ran.err.as_str()), (0, ""));
-    assert_eq!(parts(&ran), ("The tables are equal.".into(), vec![], yes("A", "B", ACCEPTED), yes("B", "A", ACCEPTED)));
+    assert_eq!(parts(&ran), (BOTH_WAYS.into(), vec![], yes("A", "B", ACCEPTED), yes("B", "A", ACCEPTED)));
     let pages = fs::read(EPYC).unwrap();
-    assert!(run_on(&pages, &["compare", "-", EPYC]).text().starts_with(&format!("A  standard input\nB  {EPYC}\n\nThe tables are equal.\n")));
+    assert!(run_on(&pages, &["compare", "-", EPYC]).text().starts_with(&format!("A  standard input\nB  {EPYC}\n\n{BOTH_WAYS}\n")));
 }
 
 #[test]
@@ -142,7 +143,7 @@ fn other_registers_by_value() {
     }
     for (leaf, subleaf, register) in [(0xB, 0, 0), (0xB, 1, 3), (0xD, 0, 2)] {
         let ran = compare(&folder, &set(&epyc()), &set(&with(leaf, subleaf, register, |value| value ^ 1)), &[]);
-        assert_eq!((ran.status, parts(&ran).0.as_str()), (0, "The tables are equal."));
+        assert_eq!((ran.status, parts(&ran).0.as_str()), (0, BOTH_WAYS));
     }
 }
 
@@ -168,7 +169,7 @@ fn secure_avic_is_compared_where_it_is_kept() {
     let folder = Folder::new("compare_avic");
     let mut less = rich();
     less.get_mut(&(0x8000_001F, 0)).unwrap()[0] &= !(1 << 26);
-    assert_eq!(parts(&compare(&folder, &set(&rich()), &set(&less), &[])).0, "The tables are equal.");
+    assert_eq!(parts(&compare(&folder, &set(&rich()), &set(&less), &[])).0, BOTH_WAYS);
     let first = "the hypothesis fails first at leaf 8000001F EAX";
     let falls = parts(&compare(&folder, &set(&rich()), &set(&less), &["--secure-avic"]));
     let line = "8000001F    EAX  SecureAvic (bit 26): A has it, B has not";

@@ -49,6 +49,8 @@ fn verdict(equal: bool, rises: &Direction, falls: &Direction) -> &'static str {
         (Err(_), Err(_)) => "A and B are refused.",
         (Err(_), Ok(_)) => "A is refused.",
         (Ok(_), Err(_)) => "B is refused.",
+        // crates/rise/specs/Same.antt
+        _ if rises.holds() && falls.holds() => "The tables are equal, as they must be where each server is at least the other.",
         _ if equal => "The tables are equal.",
         _ if rises.holds() => "B is at least A.",
         _ if falls.holds() => "A is at least B.",

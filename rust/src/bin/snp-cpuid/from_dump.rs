@@ -12,7 +12,7 @@ pub fn run(arguments: &Arguments) -> Result<(), Failure> {
     let name = shown(&arguments.operands[0]);
     let dump = parse(&read(&arguments.operands[0])?).map_err(|why| Failure::Bad(format!("{name}: {why}")))?;
     let (kept, left): (Vec<Entry>, Vec<Entry>) = dump.rows.into_iter().partition(|row| read_by_table(row.leaf, row.subleaf));
-    let pages = two_pages(&kept).map_err(|why| Failure::No(format!("{name}: {why}")))?;
+    let pages = two_pages(&kept).map_err(|why| Failure::Bad(format!("{name}: {why}")))?;
     output::write(arguments.output.as_ref().expect("the command must have -o"), &pages)?;
     if dump.cpus > 1 {
         output::say(&format!("note: {name} has {} CPUs, the first is taken", dump.cpus));

@@ -89,8 +89,8 @@ nothing; a note on standard error counts them.
   -o, --output PAGES   the file to write; it is replaced as a whole, and only where all went well
   -h, --help           print this help
 
-Exit status: 0 written, 1 more than the 64 rows that a page holds, 2 bad usage, or a file that is
-empty, has a line that is no row and no heading, or cannot be read or written.
+Exit status: 0 written, 2 bad usage, or a file that is empty, has a line that is no row and no
+heading, has more than the 64 rows that a page holds, or cannot be read or written.
 ";
 
 pub const TO_DUMP: &str = "\
