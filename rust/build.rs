@@ -1,8 +1,11 @@
 //! Links the proved static library. `SNP_CPUID_LIB` names a folder that has libsnp_cpuid.a; without it the repository's own is taken, and built by
-//! `rt staticlib snp_cpuid` where it is not there yet.
+//! `rt staticlib snp_cpuid` where it is not there yet or a source of it is newer.
 
+use std::fs;
+use std::io;
 use std::path::{Path, PathBuf};
 use std::process::{Command, exit};
+use std::time::SystemTime;
 
 fn fail(text: String) -> ! {
     eprintln!("snp-cpuid: {text}");
@@ -17,6 +20,23 @@ fn build(repository: &Path) {
     }
 }
 
+/// The time of the newest source of the library: crates.txt, and crates/*/src.
+fn newest_source(repository: &Path) -> io::Result<SystemTime> {
+    let mut newest = fs::metadata(repository.join("crates.txt"))?.modified()?;
+    for krate in fs::read_dir(repository.join("crates"))? {
+        for source in fs::read_dir(krate?.path().join("src"))? {
+            newest = newest.max(source?.metadata()?.modified()?);
+        }
+    }
+    Ok(newest)
+}
+
+/// Whether the library is there and no source is newer.
+fn fresh(library: &Path, repository: &Path) -> bool {
+    let made = fs::metadata(library).and_then(|there| there.modified());
+    matches!((made, newest_source(repository)), (Ok(made), Ok(newest)) if made >= newest)
+}
+
 fn main() {
     println!("cargo::rerun-if-env-changed=SNP_CPUID_LIB");
     let folder = match std::env::var_os("SNP_CPUID_LIB") {
@@ -24,7 +44,9 @@ fn main() {
         None => {
             let repository = Path::new(env!("CARGO_MANIFEST_DIR")).join("..");
             let folder = repository.join("target/staticlib");
-            if !folder.join("libsnp_cpuid.a").exists() {
+            println!("cargo::rerun-if-changed={}", repository.join("crates").display());
+            println!("cargo::rerun-if-changed={}", repository.join("crates.txt").display());
+            if !fresh(&folder.join("libsnp_cpuid.a"), &repository) {
                 build(&repository);
             }
             folder
