@@ -1,6 +1,6 @@
 -- The search for the first place that fails, in the terms of the code's loop: a turn passes a place or stops there; after the last place
 -- nothing has failed.
-use mathlib.Core.Path.{_≡_, refl, sym, ap, _∙_}
+use mathlib.Core.Path.{_≡_}
 use mathlib.Core.Bool.{Bool, true, false}
 use Prim.Native.Nat.{ℕ, suc, _+_, _-_, _≤_, _<_}
 use native.Mathlib.Numerals.{add-one}

@@ -2,7 +2,7 @@
 use mathlib.Core.Path.{_≡_, refl, sym, ap, ap₂, _∙_, subst}
 use mathlib.Core.Bool.{Bool, true, false, _&&_}
 use mathlib.Core.List.{List}
-use Prim.Native.Nat.{ℕ, _≤_, _<_, zero-le}
+use Prim.Native.Nat.{ℕ, _<_, zero-le}
 use native.Mathlib.Omega.{arith}
 use Rattle.bits.specs.Choice.{pick}
 use Rattle.bits.specs.ChoiceLaws.{never-both, pick-true, pick-false, and-left, and-right, if-fails}
@@ -15,7 +15,7 @@ use Rattle.masking.specs.Kept.{places, leafAt}
 use Rattle.results.specs.declared.Subleaf.{Subleaf}
 use Rattle.results.specs.declared.Verdict.{Verdict}
 use Rattle.results.specs.declared.Verdict.the-variants.{Accepted, Refused}
-use Rattle.results.specs.Rows.{Row, Rows}
+use Rattle.results.specs.Rows.{Rows}
 use Rattle.results.specs.Finish.{ruleAt}
 use Rattle.results.specs.Kinds.{Kinds, EntryAtLeast, Registers, kindsOf, fromEntry}
 use Rattle.build.specs.Rows.{rowsOf}
@@ -29,7 +29,7 @@ use Rattle.compare.specs.declared.Compared.{Compared}
 use Rattle.compare.specs.declared.Compared.the-variants.{Rises, RefusedA, UnlawfulB, NoEntry, Differs}
 use Rattle.compare.specs.Compare.{firstRegister, subleafNamed, failingAt, firstFailing, afterA, afterB, comparedRows, compared}
 use Rattle.compare.specs.ReturnLaws.{with-verdicts, refused-a}
-use Rattle.compare.specs.Means.{order, valueOf, kindOf, RegisterRises, Reached, FirstAbsent, FirstDiffering, Means, Decides}
+use Rattle.compare.specs.Means.{order, valueOf, kindOf, Reached, Means, Decides}
 
 -- ---- the registers of a row before the first that fails
 

@@ -1,6 +1,5 @@
 -- `compare::first_failing` meets its contract: before each turn the places that are left give what all give.
 use borrow.Author.Needs.{needs}
-use native.Mathlib.Omega.{arith}
 use mathlib.Core.Path.{_≡_, refl, sym, _∙_}
 use Prim.Native.Nat.{_≤_, _-_}
 use Rattle.masking.specs.Kept.{places}
