@@ -1,17 +1,17 @@
 -- The search for the first place that fails, in the terms of the code's loop: a turn passes a place or stops there; after the last place
 -- nothing has failed.
-use mathlib.Core.Path.{_≡_, refl, sym, ap, _∙_}
+use mathlib.Core.Path.{_≡_}
 use mathlib.Core.Bool.{Bool, true, false}
-use mathlib.Core.List.{List}
 use Prim.Native.Nat.{ℕ, suc, _+_, _-_, _≤_, _<_}
 use native.Mathlib.Numerals.{add-one}
 use native.Mathlib.Omega.{arith}
-use lib.ListN.{getD}
 use Rattle.bits.specs.Choice.{pick}
 use Rattle.bits.specs.Search.{lowest}
 use Rattle.x86defs.specs.declared.CpuidResult.{CpuidResult}
 use Rattle.masking.specs.Kept.{places}
+use Rattle.results.specs.declared.CpuidResults.{CpuidResults}
 use Rattle.results.specs.Rows.{Row}
+use Rattle.results.specs.Table.{rowIn}
 use Rattle.results.specs.Kinds.{Kinds}
 use Rattle.rise.specs.Decide.{risesTest}
 use Rattle.compare.specs.declared.Register.{Register}
@@ -21,8 +21,9 @@ use Rattle.compare.specs.declared.Compared.{Compared}
 use Rattle.compare.specs.declared.Compared.the-variants.{Rises}
 use Rattle.compare.specs.Compare.{firstFailing}
 
-abbrev pub flagIn : List Bool → ℕ → Bool
-flagIn l i = getD l i false
+-- whether a table has a row at a place
+abbrev pub hasRow : CpuidResults → ℕ → Bool
+hasRow t i = rowIn t i .present
 
 abbrev pub rowWith : Bool → CpuidResult → Row
 rowWith p r = record { present = p; result = r }

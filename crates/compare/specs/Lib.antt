@@ -1,6 +1,7 @@
 pub mod Kinds
 pub mod Compare
 pub mod Means
+pub mod OrderLaws
 pub mod CompareLaws
 pub mod ReturnLaws
 pub mod Proof

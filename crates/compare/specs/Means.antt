@@ -77,7 +77,9 @@ Means avic a b (UnlawfulB r) = (answer avic a .verdict ≡ Accepted) × (lawfulV
 Means avic a b (NoEntry leaf subleaf) = FirstAbsent avic a b leaf subleaf
 Means avic a b (Differs leaf subleaf register) = FirstDiffering avic a b leaf subleaf register
 
--- an answer means what it says, and where the hypothesis holds the answer is yes: it is yes if and only if the hypothesis holds
+-- The answer means what it says, and no other answer does: it is c if and only if Means .. c holds. So it is yes if and only if the
+-- hypothesis holds.
 pub record Decides (avic : Bool) (a b : List ℕ) (r : Compared) : Type 0 where
   pub means : Means avic a b r
+  pub exact : (c : Compared) → Means avic a b c → r ≡ c
   pub complete : Hypothesis avic a b → r ≡ Rises

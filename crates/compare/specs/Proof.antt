@@ -1,34 +1,41 @@
--- Each answer means what it says, and the answer is yes wherever the hypothesis of demand 3 holds.
-use mathlib.Core.Path.{_≡_, refl, sym, ap, _∙_, subst}
+-- The answer means what it says, and no other answer does.
+use mathlib.Core.Path.{_≡_, refl, sym, ap, ap₂, _∙_, subst}
 use mathlib.Core.Bool.{Bool, true, false, _&&_}
 use mathlib.Core.List.{List}
-use Prim.Native.Nat.{ℕ, _≤_, _<_, zero-le}
+use Prim.Native.Nat.{ℕ, _<_, zero-le}
 use native.Mathlib.Omega.{arith}
 use Rattle.bits.specs.Choice.{pick}
-use Rattle.bits.specs.ChoiceLaws.{never-both, and-left, and-right, if-fails}
+use Rattle.bits.specs.ChoiceLaws.{never-both, pick-true, pick-false, and-left, and-right, if-fails}
 use Rattle.bits.specs.Search.{Found, lowest}
 use Rattle.bits.specs.Search.Found.{at, none}
-use Rattle.bits.specs.SearchLaws.{Lowest, lowest-none, lowest-all, lowest-at}
+use Rattle.bits.specs.SearchLaws.{Lowest, lowest-none, lowest-all, lowest-at, lowest-unique}
+use Rattle.x86defs.specs.declared.CpuidFunction.{CpuidFunction}
 use Rattle.x86defs.specs.declared.CpuidResult.{CpuidResult}
 use Rattle.masking.specs.Kept.{places, leafAt}
+use Rattle.results.specs.declared.Subleaf.{Subleaf}
 use Rattle.results.specs.declared.Verdict.{Verdict}
 use Rattle.results.specs.declared.Verdict.the-variants.{Accepted, Refused}
-use Rattle.results.specs.Rows.{Row, Rows}
+use Rattle.results.specs.Rows.{Rows}
 use Rattle.results.specs.Finish.{ruleAt}
-use Rattle.results.specs.Kinds.{Kinds, EntryAtLeast, kindsOf, fromEntry}
+use Rattle.results.specs.Kinds.{Kinds, EntryAtLeast, Registers, kindsOf, fromEntry}
 use Rattle.build.specs.Rows.{rowsOf}
 use Rattle.build.specs.Build.{lawfulVerdict, answer}
-use Rattle.rise.specs.Rise.{Rises as Hypothesis}
-use Rattle.rise.specs.Decide.{risesTest, registersTest, placeTest, inTable, test-rises, test-fails, place-rises, rises-place}
+use Rattle.rise.specs.Rise.{EntryRises, Rises as Hypothesis}
+use Rattle.rise.specs.Decide.{risesTest, registersTest, placeTest, inTable, test-rises, rises-test, test-fails, place-rises, rises-place}
 use Rattle.rise.specs.Proof.{demand-3}
 use Rattle.compare.specs.declared.Register.{Register}
 use Rattle.compare.specs.declared.Register.the-variants.{Eax, Ebx, Ecx, Edx}
 use Rattle.compare.specs.declared.Compared.{Compared}
-use Rattle.compare.specs.declared.Compared.the-variants.{Rises, Differs, NoEntry}
+use Rattle.compare.specs.declared.Compared.the-variants.{Rises, RefusedA, UnlawfulB, NoEntry, Differs}
 use Rattle.compare.specs.Compare.{firstRegister, subleafNamed, failingAt, firstFailing, afterA, afterB, comparedRows, compared}
-use Rattle.compare.specs.Means.{order, valueOf, kindOf, RegisterRises, Reached, FirstAbsent, FirstDiffering, Means, Decides}
+use Rattle.compare.specs.ReturnLaws.{with-verdicts, refused-a}
+use Rattle.compare.specs.Means.{order, valueOf, kindOf, Reached, Means, Decides}
 
 -- ---- the registers of a row before the first that fails
+
+is-false : (b : Bool) → (b ≡ true → ⊥) → b ≡ false
+is-false true n = absurd (n refl)
+is-false false n = refl
 
 -- the first register that fails, by the tests of the three before EDX
 abbrev first : Bool → Bool → Bool → Register
@@ -68,6 +75,30 @@ module _ (k : Kinds) (a b : CpuidResult) where
 
   registers-before : (x : Register) → order x < order (firstRegister k a b) → EntryAtLeast (kindOf x k) (valueOf x a) (valueOf x b)
   registers-before x l = test-rises (kindOf x k) (valueOf x a) (valueOf x b) (before-first (passes Eax) (passes Ebx) (passes Ecx) refl refl refl x l)
+
+  -- a register that fails where those before it pass is the first
+  first-unique : (q : Register) → (EntryAtLeast (kindOf q k) (valueOf q a) (valueOf q b) → ⊥)
+      → ((x : Register) → order x < order q → EntryAtLeast (kindOf x k) (valueOf x a) (valueOf x b)) → firstRegister k a b ≡ q
+  first-unique q f before = go q f before
+    where
+      pass : (x : Register) → EntryAtLeast (kindOf x k) (valueOf x a) (valueOf x b) → passes x ≡ true
+      pass x h = rises-test (kindOf x k) (valueOf x a) (valueOf x b) h
+
+      fail : (x : Register) → (EntryAtLeast (kindOf x k) (valueOf x a) (valueOf x b) → ⊥) → passes x ≡ false
+      fail x n = is-false (passes x) (λ e. n (test-rises (kindOf x k) (valueOf x a) (valueOf x b) e))
+
+      go : (q : Register) → (EntryAtLeast (kindOf q k) (valueOf q a) (valueOf q b) → ⊥)
+          → ((x : Register) → order x < order q → EntryAtLeast (kindOf x k) (valueOf x a) (valueOf x b)) → firstRegister k a b ≡ q
+      go Eax n h = rw (fail Eax n)
+      go Ebx n h = rw (pass Eax (h Eax (omega arith)), fail Ebx n)
+      go Ecx n h = rw (pass Eax (h Eax (omega arith)), pass Ebx (h Ebx (omega arith)), fail Ecx n)
+      go Edx n h = rw (pass Eax (h Eax (omega arith)), pass Ebx (h Ebx (omega arith)), pass Ecx (h Ecx (omega arith)))
+
+  register-of : Registers EntryAtLeast k a b → (q : Register) → EntryAtLeast (kindOf q k) (valueOf q a) (valueOf q b)
+  register-of h Eax = h .eax
+  register-of h Ebx = h .ebx
+  register-of h Ecx = h .ecx
+  register-of h Edx = h .edx
 
 -- ---- the places before the first that fails
 
@@ -140,8 +171,47 @@ module _ (avic : Bool) (a b : List ℕ) where
       (ap (λ (f : Found). firstFailing f (failingAt A B))
       (lowest-all test 0 places (λ j l u. rises-place (inTable avic a) A B j (λ f p. h .entries j u f p))))
 
+  -- a place that is reached and fails is the one that the search finds
+  module _ {leaf : CpuidFunction} {subleaf : Subleaf} (i : ℕ) (h : Reached avic a b leaf subleaf i) (fails : EntryRises i (A i) (B i) → ⊥) where
+    lowest-place : Lowest test 0 places i
+    lowest-place = record {
+      from = zero-le;
+      below = h .below;
+      fails = is-false (test i) (λ e. fails (place-rises (inTable avic a) A B i e (h .entry) (h .inA)));
+      before = λ j _ l. rises-place (inTable avic a) A B j (h .before j l);
+    }
+
+    found : (f : Found) → lowest test 0 places ≡ f → f ≡ at i
+    found none e = absurd (never-both (lowest-none test 0 places e i zero-le (h .below)) (lowest-place .fails))
+    found (at j) e = ap at (lowest-unique (lowest-at test 0 places j e) lowest-place)
+
+    compared-there : compared avic a b ≡ failingAt A B i
+    unfolding comparedRows
+    compared-there =
+        with-verdicts avic a b (h .accepted) (h .lawful)
+        ∙ ap (λ (f : Found). firstFailing f (failingAt A B)) (found (lowest test 0 places) refl)
+
+  exact : (c : Compared) → Means avic a b c → compared avic a b ≡ c
+  exact Rises m = complete (m .0)
+  exact (RefusedA r) m = sym (refused-a avic a b m)
+  exact (UnlawfulB r) m = with-verdicts avic a b (m .0) (m .1)
+  exact (NoEntry leaf subleaf) m =
+      let i = m .place in
+      let h = m .reached in
+      compared-there i h (λ e. never-both (e .present) (m .absent))
+      ∙ pick-false _ _ (m .absent)
+      ∙ sym (ap₂ NoEntry (h .leafAtPlace) (h .subleafAtPlace))
+  exact (Differs leaf subleaf register) m =
+      let i = m .place in
+      let h = m .reached in
+      let k = kindsOf (ruleAt i) in
+      compared-there i h (λ e. m .fails (register-of k (A i .result) (B i .result) (e .registers) register))
+      ∙ pick-true _ _ (m .present)
+      ∙ ap (Differs (leafAt i) (subleafNamed i)) (first-unique k (A i .result) (B i .result) register (m .fails) (m .registersBefore))
+      ∙ sym (ap₂ (λ (l : CpuidFunction) (s : Subleaf). Differs l s register) (h .leafAtPlace) (h .subleafAtPlace))
+
   pub decides : Decides avic a b (compared avic a b)
-  decides = record { means = means; complete = complete }
+  decides = record { means = means; exact = exact; complete = complete }
 
 -- what a value has that is the comparison's
 pub decided : (avic : Bool) (a b : List ℕ) {r : Compared} → r ≡ compared avic a b → (r ≡ compared avic a b) × Decides avic a b r

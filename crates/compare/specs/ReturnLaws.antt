@@ -19,7 +19,7 @@ use Rattle.build.specs.Collect.{collected, collected-rows}
 use Rattle.compare.specs.declared.Compared.{Compared}
 use Rattle.compare.specs.declared.Compared.the-variants.{RefusedA, UnlawfulB}
 use Rattle.compare.specs.Compare.{afterA, afterB, comparedRows, compared}
-use Rattle.compare.specs.CompareLaws.{flagIn}
+use Rattle.compare.specs.CompareLaws.{hasRow}
 
 -- an accepted set's counts fit
 pub accepted-counts : (avic : Bool) (s : List ℕ) → answer avic s .verdict ≡ Accepted → countsFit s ≡ true
@@ -29,8 +29,8 @@ accepted-counts avic s e =
 
 module _ (avic : Bool) (a b : List ℕ) where
   -- with a verdict on A, and one on B's length and counts
-  with-verdicts : {v w : Verdict} → answer avic a .verdict ≡ v → lawfulVerdict b ≡ w
-      → compared avic a b ≡ afterA v (afterB w (comparedRows (λ i. flagIn (answer avic a .table .present) i) (rowsOf avic a) (rowsOf avic b)))
+  pub with-verdicts : {v w : Verdict} → answer avic a .verdict ≡ v → lawfulVerdict b ≡ w
+      → compared avic a b ≡ afterA v (afterB w (comparedRows (hasRow (answer avic a .table)) (rowsOf avic a) (rowsOf avic b)))
   unfolding compared
   with-verdicts e f = rw (e, f)
 
@@ -46,10 +46,10 @@ module _ (avic : Bool) (a b : List ℕ) where
 
     pub rows-compared : badLength b ≡ false → countsFit b ≡ true → {r : Compared} {built : Built} {ta tb : CpuidResults}
         → built ≡ answer avic a → ta ≡ collected avic a → tb ≡ collected avic b
-        → r ≡ comparedRows (flagIn (built .table .present)) (rowsIn ta) (rowsIn tb) → r ≡ compared avic a b
+        → r ≡ comparedRows (hasRow (built .table)) (rowsIn ta) (rowsIn tb) → r ≡ compared avic a b
     rows-compared e f {r} {built} {ta} {tb} g p q h =
         h
-        ∙ ap (λ (x : Built). comparedRows (flagIn (x .table .present)) (rowsIn ta) (rowsIn tb)) g
-        ∙ ap (λ (x : Rows). comparedRows (flagIn (answer avic a .table .present)) x (rowsIn tb)) (ap rowsIn p ∙ collected-rows avic a)
-        ∙ ap (comparedRows (flagIn (answer avic a .table .present)) (rowsOf avic a)) (ap rowsIn q ∙ collected-rows avic b)
+        ∙ ap (λ (x : Built). comparedRows (hasRow (x .table)) (rowsIn ta) (rowsIn tb)) g
+        ∙ ap (λ (x : Rows). comparedRows (hasRow (answer avic a .table)) x (rowsIn tb)) (ap rowsIn p ∙ collected-rows avic a)
+        ∙ ap (comparedRows (hasRow (answer avic a .table)) (rowsOf avic a)) (ap rowsIn q ∙ collected-rows avic b)
         ∙ sym (with-verdicts {w = Accepted} accepted (unfold lawfulVerdict lengthVerdict countsVerdict in rw (e, f)))

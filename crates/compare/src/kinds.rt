@@ -25,6 +25,7 @@ pub struct Kinds {
     pub edx: Kind,
 }
 
+// The kinds of a row, register by register.
 fn row_of(eax: Kind, ebx: Kind, ecx: Kind, edx: Kind) -> Kinds
     ensures { λ r. ⌜ r ≡ record { eax = eax; ebx = ebx; ecx = ecx; edx = edx } ⌝ }
 {

@@ -13,7 +13,7 @@ ghost use Rattle.results.specs.Table.{rowsIn};
 ghost use Rattle.rise.specs.Decide.{rowTest};
 ghost use Rattle.compare.specs.Kinds.{kindsIn};
 ghost use Rattle.compare.specs.Compare.{subleafNamed, failingOf, comparedRows, compared};
-ghost use Rattle.compare.specs.CompareLaws.{flagIn, rowWith, registersRise, firstOf};
+ghost use Rattle.compare.specs.CompareLaws.{hasRow, rowWith, registersRise, firstOf};
 ghost use Rattle.compare.specs.Means.{Decides};
 
 mod kinds;
@@ -61,9 +61,8 @@ pub fn compare(a: &[u8], b: &[u8], secure_avic: bool) -> Compared
     }
     if pages::counts_fit(b) {
         let table = built.table;
-        let present = table.present;
         return first_failing(
-            present,
+            table,
             build::collect(a, secure_avic),
             build::collect(b, secure_avic),
         );
@@ -72,15 +71,16 @@ pub fn compare(a: &[u8], b: &[u8], secure_avic: bool) -> Compared
 }
 
 // The first place at which B's masked first entry fails beside A's, among the places that A's table has.
-fn first_failing(in_a: [bool; 88], a: CpuidResults, b: CpuidResults) -> Compared
-    ensures { λ r. ⌜ r ≡ comparedRows (flagIn «in_a») (rowsIn a) (rowsIn b) ⌝ }
+fn first_failing(table: CpuidResults, a: CpuidResults, b: CpuidResults) -> Compared
+    ensures { λ r. ⌜ r ≡ comparedRows (hasRow table) (rowsIn a) (rowsIn b) ⌝ }
 {
     let mut place: usize = 0;
     while place < PLACES {
+        let in_table = table.present[place];
         let entry_a = a.results[place];
         let entry_b = b.results[place];
         let present = b.present[place];
-        if place_rises(place, in_a[place], entry_a, present, entry_b) {
+        if place_rises(place, in_table, entry_a, present, entry_b) {
             place += 1;
         } else {
             return failing_at(place, entry_a, present, entry_b);
@@ -90,12 +90,12 @@ fn first_failing(in_a: [bool; 88], a: CpuidResults, b: CpuidResults) -> Compared
 }
 
 // Whether B's entry at a place is as the hypothesis wants it: asked where A's table has a row there that comes from an entry.
-fn place_rises(place: usize, in_a: bool, a: CpuidResult, present: bool, b: CpuidResult) -> bool
+fn place_rises(place: usize, in_table: bool, a: CpuidResult, present: bool, b: CpuidResult) -> bool
     requires { ⌜ place < places ⌝ }
-    ensures { λ r. ⌜ r ≡ rowTest place «in_a» a (rowWith present b) ⌝ }
+    ensures { λ r. ⌜ r ≡ rowTest place «in_table» a (rowWith present b) ⌝ }
 {
     if kinds::from_entry(place) {
-        if in_a {
+        if in_table {
             if present {
                 let rise = registers_rise(kinds::kinds_at(place), a, b);
                 return rise.eax & (rise.ebx & (rise.ecx & rise.edx));

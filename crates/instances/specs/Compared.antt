@@ -1,7 +1,7 @@
 -- Not empty words: a pair of page sets for each answer of a comparison.
 use mathlib.Core.Path.{_≡_, refl, sym}
-use mathlib.Core.Bool.{Bool, false}
-use mathlib.Core.List.{List, []}
+use mathlib.Core.Bool.{false}
+use mathlib.Core.List.{[]}
 use Rattle.x86defs.specs.Functions.{VersionAndFeatures, ExtendedStateEnumeration}
 use Rattle.pages.specs.Layout.{badLength}
 use Rattle.results.specs.declared.Subleaf.the-variants.{None, Some}

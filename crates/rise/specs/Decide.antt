@@ -39,7 +39,7 @@ test-rises area a b e = tt
 test-rises made a b e = tt
 test-rises other a b e = eqb-true a b e
 
-rises-test : (k : Kind) (a b : ℕ) → EntryAtLeast k a b → risesTest k a b ≡ true
+pub rises-test : (k : Kind) (a b : ℕ) → EntryAtLeast k a b → risesTest k a b ≡ true
 rises-test feature a b h = eq-eqb _ _ (and-of-within h)
 rises-test featureBut28 a b h = and-both (eq-eqb _ _ (and-of-within (h .0))) (eq-eqb _ _ (h .1))
 rises-test area a b h = refl

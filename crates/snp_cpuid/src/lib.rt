@@ -179,6 +179,7 @@ fn register_index(register: Register) -> u32
     }
 }
 
+// One answer of a comparison, with the numbers of a refusal or of a place, and a register.
 fn compared_with(answer: u32, numbers: AnswerNumbers, register_index: u32) -> SnpCpuidCompared
     ensures { λ r. ⌜ r ≡ comparedWith answer numbers «register_index» ⌝ }
 {

@@ -3,7 +3,7 @@
 use mathlib.Core.Path.{_≡_}
 use mathlib.Core.Bool.{Bool, false}
 use mathlib.Core.List.{List, [], _∷_, map}
-use Prim.Native.Nat.{ℕ, _≤_}
+use Prim.Native.Nat.{ℕ, _≤_, _<_}
 use lib.ListN.{length}
 use Rattle.x86defs.specs.Functions.{VersionAndFeatures, ExtendedStateEnumeration}
 use Rattle.x86defs.specs.declared.CpuidFunction.{CpuidFunction}
@@ -13,6 +13,7 @@ use Rattle.results.specs.declared.Refusal.{Refusal}
 use Rattle.results.specs.declared.Refusal.the-variants.{PagesLength, MissingRequiredResult, SaveAreaOverflow}
 use Rattle.results.specs.declared.Verdict.the-variants.{Accepted, Refused}
 use Rattle.pages.specs.Entries.{counted}
+use Rattle.masking.specs.Kept.{places}
 use Rattle.pages.specs.Walk.{firstIndex, parsed}
 use Rattle.build.specs.Build.{answer}
 use Rattle.reader.specs.Read.{yielded}
@@ -32,6 +33,7 @@ use Rattle.compare.specs.declared.Register.the-variants.{Ecx}
 use Rattle.compare.specs.declared.Compared.the-variants.{Rises as Yes, RefusedA, UnlawfulB, NoEntry, Differs}
 use Rattle.compare.specs.Compare.{compared}
 use Rattle.compare.specs.Means.{Decides}
+use Rattle.compare.specs.OrderLaws.{Precedes, places-rise}
 use Rattle.compare.specs.Proof.{decides}
 use Rattle.theorems.specs.Exported.{ExportsRise, ExportsCompare, exports-rise, exports-compare}
 use Rattle.instances.specs.PageSets.{serverA, serverB, serverWithoutD12, serverWithLargeD6}
@@ -83,7 +85,11 @@ each-rises-to-itself = rises-itself
 pub comparison-decides : (avic : Bool) (a b : List ℕ) → Decides avic a b (compared avic a b)
 comparison-decides = decides
 
--- the same of what snp_cpuid_compare returns: where it says 0, what the other exported functions return for B rises from A's
+-- its order: places rise by leaf, then by subleaf. crates/compare/specs/OrderLaws.antt
+pub comparison-in-order : (i j : ℕ) → i < j → j < places → Precedes i j
+comparison-in-order = places-rise
+
+-- snp_cpuid_compare answers 0 if and only if the hypothesis holds; what the other exported functions return for B then rises from A's
 pub comparison-of-exports : (avic : Bool) (a b : List ℕ) → ExportsCompare avic a b
 comparison-of-exports = exports-compare
 

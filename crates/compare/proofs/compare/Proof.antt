@@ -27,14 +27,14 @@ returns-2 c =
     decided _ _ _ (bad-length-b _ _ _ (accepted (l .before)) (sym (l .bad-length .ensures) ∙ c .if1 .taken))
 
 collect-requires : tie.Need-collect-requires
-collect-requires c κs = accepted-counts _ _ (accepted (c .before .before .before .before .before .before))
+collect-requires c κs = accepted-counts _ _ (accepted (c .before .before .before .before .before))
 
 collect-requires-2 : tie.Need-collect-requires-2
-collect-requires-2 c κs = let t = c .before .before .before in sym (t .before .counts-fit .ensures) ∙ t .if2 .taken
+collect-requires-2 c κs = let t = c .before .before in sym (t .before .counts-fit .ensures) ∙ t .if2 .taken
 
 returns-3 : tie.Need-returns-3
 returns-3 c =
-    let t = c .before .before .before .before .before in
+    let t = c .before .before .before .before in
     let l = t .before .before in
     decided _ _ _
     (rows-compared _ _ _ (accepted (l .before .before)) (sym (l .before .bad-length .ensures) ∙ l .if1 .left) (sym (t .before .counts-fit .ensures) ∙ t .if2 .taken)
