@@ -2,8 +2,9 @@
 use mathlib.Core.Path.{_≡_, refl, sym, ap, _∙_}
 use mathlib.Core.Bool.{Bool, true, false, _&&_}
 use mathlib.Core.Logic.{inl, inr}
-use Prim.Native.Nat.{ℕ, zero, suc, _+_, _≤_, _<_}
+use Prim.Native.Nat.{ℕ, zero, suc, _+_, _-_, _≤_, _<_}
 use native.Mathlib.Nat.{le-refl, eq-or-lt-of-le}
+use native.Mathlib.Numerals.{add-one}
 use native.Mathlib.Omega.{arith}
 use Rattle.bits.specs.Choice.{pick}
 use Rattle.bits.specs.ChoiceLaws.{never-both, and-left, and-right}
@@ -77,3 +78,17 @@ lowest-unique {test} {k} {n} {i} {j} p q =
     let a : ¬ (i < j) = λ h. never-both (q .before i (p .from) h) (p .fails) in
     let b : ¬ (j < i) = λ h. never-both (p .before j (q .from) h) (q .fails) in
     omega arith
+
+-- the search in the terms of a loop that counts k up to n: a turn passes k, or stops there; past n nothing is found
+module _ (test : ℕ → Bool) (n k : ℕ) where
+  pub lowest-passes : k < n → test k ≡ true → lowest test k (n - k) ≡ lowest test (k + 1) (n - (k + 1))
+  unfolding lowest
+  lowest-passes l e = let s : n - k ≡ suc (n - (k + 1)) = omega arith in rw (s, add-one, lowest, e)
+
+  pub lowest-stops : k < n → test k ≡ false → lowest test k (n - k) ≡ at k
+  unfolding lowest
+  lowest-stops l e = let s : n - k ≡ suc (n - (k + 1)) = omega arith in rw (s, lowest, e)
+
+  pub lowest-ends : n ≤ k → lowest test k (n - k) ≡ none
+  unfolding lowest
+  lowest-ends l = let s : n - k ≡ 0 = omega arith in rw (s, lowest)

@@ -1,12 +1,11 @@
 -- The search for the first place that fails, in the terms of the code's loop: a turn passes a place or stops there; after the last place
 -- nothing has failed.
-use mathlib.Core.Path.{_≡_}
+use mathlib.Core.Path.{_≡_, ap}
 use mathlib.Core.Bool.{Bool, true, false}
-use Prim.Native.Nat.{ℕ, suc, _+_, _-_, _≤_, _<_}
-use native.Mathlib.Numerals.{add-one}
-use native.Mathlib.Omega.{arith}
+use Prim.Native.Nat.{ℕ, _+_, _-_, _≤_, _<_}
 use Rattle.bits.specs.Choice.{pick}
-use Rattle.bits.specs.Search.{lowest}
+use Rattle.bits.specs.Search.{Found, lowest}
+use Rattle.bits.specs.SearchLaws.{lowest-passes, lowest-stops, lowest-ends}
 use Rattle.x86defs.specs.declared.CpuidResult.{CpuidResult}
 use Rattle.masking.specs.Kept.{places}
 use Rattle.results.specs.declared.CpuidResults.{CpuidResults}
@@ -46,13 +45,13 @@ failingFrom test failing k = firstFailing (lowest test k (places - k)) failing
 
 module _ (test : ℕ → Bool) (failing : ℕ → Compared) (k : ℕ) where
   pub turn-passes : k < places → test k ≡ true → failingFrom test failing k ≡ failingFrom test failing (k + 1)
-  unfolding failingFrom lowest
-  turn-passes l e = let s : places - k ≡ suc (places - (k + 1)) = omega arith in rw (s, add-one, lowest, e)
+  unfolding failingFrom
+  turn-passes l e = ap (λ (f : Found). firstFailing f failing) (lowest-passes test places k l e)
 
   pub turn-stops : k < places → test k ≡ false → failingFrom test failing k ≡ failing k
-  unfolding failingFrom lowest
-  turn-stops l e = let s : places - k ≡ suc (places - (k + 1)) = omega arith in rw (s, lowest, e)
+  unfolding failingFrom
+  turn-stops l e = ap (λ (f : Found). firstFailing f failing) (lowest-stops test places k l e)
 
   pub turns-end : places ≤ k → failingFrom test failing k ≡ Rises
-  unfolding failingFrom lowest
-  turns-end l = let s : places - k ≡ 0 = omega arith in rw (s, lowest)
+  unfolding failingFrom
+  turns-end l = ap (λ (f : Found). firstFailing f failing) (lowest-ends test places k l)

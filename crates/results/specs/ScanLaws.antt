@@ -1,14 +1,13 @@
 -- The loops that look for the first row that is missing: a turn passes a number, or stops there; after the last, all is accepted.
-use mathlib.Core.Path.{_≡_, refl, sym}
+use mathlib.Core.Path.{_≡_, refl, sym, ap}
 use mathlib.Core.Bool.{Bool, true, false, not, _&&_}
 use mathlib.Core.List.{List}
-use Prim.Native.Nat.{ℕ, suc, _+_, _-_, _/_, _^_, _≤_, _<_}
-use native.Mathlib.Numerals.{add-one}
+use Prim.Native.Nat.{ℕ, _+_, _-_, _/_, _^_, _≤_, _<_}
 use native.Mathlib.Omega.{arith}
 use lib.ListN.{getD}
 use Rattle.bits.specs.Choice.{pick}
-use Rattle.bits.specs.Search.{lowest}
-use Rattle.bits.specs.SearchLaws.{lowest-all}
+use Rattle.bits.specs.Search.{Found, lowest}
+use Rattle.bits.specs.SearchLaws.{lowest-all, lowest-passes, lowest-stops}
 use Rattle.bits.specs.Lists.{tabulate}
 use Rattle.bits.specs.ListsLaws.{getD-tabulate}
 use Rattle.bits.specs.Bits.{has}
@@ -35,12 +34,12 @@ refuseFrom test reason n k = refuseAt (lowest test k (n - k)) reason
 
 module _ (test : ℕ → Bool) (reason : ℕ → Refusal) (n k : ℕ) where
   pub scan-passes : k < n → test k ≡ true → refuseFrom test reason n k ≡ refuseFrom test reason n (k + 1)
-  unfolding refuseFrom lowest
-  scan-passes l e = let s : n - k ≡ suc (n - (k + 1)) = omega arith in rw (s, add-one, lowest, e)
+  unfolding refuseFrom
+  scan-passes l e = ap (λ (f : Found). refuseAt f reason) (lowest-passes test n k l e)
 
   pub scan-stops : k < n → test k ≡ false → refuseFrom test reason n k ≡ Refused (reason k)
-  unfolding refuseFrom lowest
-  scan-stops l e = let s : n - k ≡ suc (n - (k + 1)) = omega arith in rw (s, lowest, e)
+  unfolding refuseFrom
+  scan-stops l e = ap (λ (f : Found). refuseAt f reason) (lowest-stops test n k l e)
 
   pub scan-ends : ((j : ℕ) → k ≤ j → j < n → test j ≡ true) → refuseFrom test reason n k ≡ Accepted
   unfolding refuseFrom
