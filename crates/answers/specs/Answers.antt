@@ -1,13 +1,13 @@
--- Document 01's number and details of each answer (crates/results/specs/Refusal.antt) as plain numbers: 0 for accepted, and a flag for
+-- Document 01's number and details of each answer (crates/checks/specs/Refusal.antt) as plain numbers: 0 for accepted, and a flag for
 -- whether a subleaf is named.
 use Prim.Native.Nat.{ℕ}
 use Rattle.topology.specs.declared.TopologyError.{TopologyError}
-use Rattle.results.specs.declared.Subleaf.{Subleaf}
-use Rattle.results.specs.declared.Subleaf.the-variants.{None, Some}
-use Rattle.results.specs.declared.Refusal.{Refusal}
-use Rattle.results.specs.declared.Verdict.{Verdict}
-use Rattle.results.specs.declared.Verdict.the-variants.{Accepted, Refused}
-use Rattle.results.specs.Refusal.{Details, details, topologyDetails}
+use Rattle.checks.specs.declared.Subleaf.{Subleaf}
+use Rattle.checks.specs.declared.Subleaf.the-variants.{None, Some}
+use Rattle.checks.specs.declared.Refusal.{Refusal}
+use Rattle.checks.specs.declared.Verdict.{Verdict}
+use Rattle.checks.specs.declared.Verdict.the-variants.{Accepted, Refused}
+use Rattle.checks.specs.Refusal.{Details, details, topologyDetails}
 use Rattle.answers.specs.declared.AnswerNumbers.{AnswerNumbers}
 
 abbrev pub named : Subleaf → ℕ

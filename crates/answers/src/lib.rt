@@ -1,7 +1,7 @@
 // An answer as plain numbers. A verdict comes in; document 01's number and details go out, for callers in C and for the program.
-use results::Refusal;
-use results::Subleaf;
-use results::Verdict;
+use checks::Refusal;
+use checks::Subleaf;
+use checks::Verdict;
 use topology::TopologyError;
 ghost use mathlib.Core.Path.{_≡_};
 ghost use Rattle.answers.specs.Answers.{numbersOf, topologyNumbers, leafNumbers, refusalNumbers};

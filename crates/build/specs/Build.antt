@@ -3,11 +3,11 @@ use mathlib.Core.Bool.{Bool, not}
 use mathlib.Core.List.{List}
 use Prim.Native.Nat.{ℕ}
 use Rattle.pages.specs.Layout.{badLength, countsFit}
-use Rattle.results.specs.declared.Refusal.the-variants.{PagesLength, PageCount}
-use Rattle.results.specs.declared.Verdict.{Verdict}
-use Rattle.results.specs.Refusal.{andThen}
-use Rattle.results.specs.Checks.{demand, rowsVerdict}
-use Rattle.results.specs.Table.{tableFor}
+use Rattle.checks.specs.declared.Refusal.the-variants.{PagesLength, PageCount}
+use Rattle.checks.specs.declared.Verdict.{Verdict}
+use Rattle.checks.specs.Refusal.{andThen}
+use Rattle.checks.specs.Checks.{demand, rowsVerdict}
+use Rattle.results.specs.Built.{tableFor}
 use Rattle.results.specs.declared.Built.{Built}
 use Rattle.build.specs.Rows.{rowsOf}
 

@@ -6,13 +6,14 @@ use Prim.Native.Nat.{ℕ}
 use Rattle.bits.specs.Choice.{pick}
 use Rattle.pages.specs.Layout.{badLength, countsFit}
 use Rattle.results.specs.declared.Built.{Built}
-use Rattle.results.specs.declared.Refusal.the-variants.{PagesLength, PageCount}
-use Rattle.results.specs.declared.Verdict.{Verdict}
-use Rattle.results.specs.declared.Verdict.the-variants.{Accepted, Refused}
-use Rattle.results.specs.Rows.{Rows}
-use Rattle.results.specs.Checks.{rowsVerdict}
-use Rattle.results.specs.declared.CpuidResults.{CpuidResults}
-use Rattle.results.specs.Table.{tableFor, rowsIn, builtFrom}
+use Rattle.checks.specs.declared.Refusal.the-variants.{PagesLength, PageCount}
+use Rattle.checks.specs.declared.Verdict.{Verdict}
+use Rattle.checks.specs.declared.Verdict.the-variants.{Accepted, Refused}
+use Rattle.checks.specs.Rows.{Rows}
+use Rattle.checks.specs.Checks.{rowsVerdict}
+use Rattle.finish.specs.declared.CpuidResults.{CpuidResults}
+use Rattle.results.specs.Built.{tableFor, builtFrom}
+use Rattle.finish.specs.Table.{rowsIn}
 use Rattle.results.specs.Stages.{refusedBuilt}
 use Rattle.build.specs.Rows.{rowsOf}
 use Rattle.build.specs.Collect.{collected, collected-rows}

@@ -15,7 +15,7 @@ use Rattle.pages.specs.Entries.{counted}
 use Rattle.masking.specs.Masks.{applyMask}
 use Rattle.masking.specs.Kept.{placeOf, masksAt, places}
 use Rattle.masking.specs.Place
-use Rattle.results.specs.Rows.{Row, Rows, row, vacant}
+use Rattle.checks.specs.Rows.{Row, Rows, row, vacant}
 
 -- where an entry goes; 88 where its leaf is filtered
 abbrev pub placeOfEntry : Entry → ℕ

@@ -10,7 +10,7 @@ use Rattle.bits.specs.ChoiceLaws.{pick-true, pick-false}
 use Rattle.pages.specs.Layout.{Entry}
 use Rattle.pages.specs.Entries.{counted}
 use Rattle.masking.specs.Kept.{places}
-use Rattle.results.specs.Rows.{Row, row, vacant}
+use Rattle.checks.specs.Rows.{Row, row, vacant}
 use Rattle.build.specs.Rows.{placeOfEntry, firstAt, maskRow, rowsOf}
 
 -- whatever comes after it

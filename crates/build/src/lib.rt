@@ -1,10 +1,10 @@
 // Pages in, one table or one refusal out.
+use checks::Refusal;
+use checks::Verdict;
+use finish::CpuidResults;
 use masking::KeptLeaf;
 use pages::ParsedCpuidEntry;
 use results::Built;
-use results::CpuidResults;
-use results::Refusal;
-use results::Verdict;
 use x86defs::CpuidResult;
 ghost use mathlib.Core.Path.{_≡_};
 ghost use mathlib.Core.Bool.{true};
@@ -61,7 +61,7 @@ pub fn collect(pages: &[u8], secure_avic: bool) -> CpuidResults
 {
     let kept = masking::kept_leaves(secure_avic);
     let n = pages::page_count(pages);
-    let mut t = results::empty_table();
+    let mut t = finish::empty_table();
     let mut index = pages::first_index(pages);
     while index.page_index < n {
         let entry = pages::entry_at(pages, index);
@@ -92,7 +92,7 @@ pub fn build(pages: &[u8], secure_avic: bool) -> Built
     if pages::counts_fit(pages) {
         let t = collect(pages, secure_avic);
         let present = t.present;
-        let verdict = results::validate_required(present);
+        let verdict = checks::validate_required(present);
         if let Verdict::Refused(r) = verdict {
             return results::refused(r);
         }

@@ -1,6 +1,6 @@
 -- May a guest of server A move to server B? The hypothesis of demand 3 (crates/rise/specs/Rise.antt), decided, or the first thing that
 -- fails: A's own refusal; then B's length, then its counts; then, among the rows of A's table that come from an entry, by rising leaf and
--- subleaf, whether B has a first counted entry, and its EAX, EBX, ECX, EDX, each as its kind asks (crates/results/specs/Kinds.antt).
+-- subleaf, whether B has a first counted entry, and its EAX, EBX, ECX, EDX, each as its kind asks (crates/finish/specs/Kinds.antt).
 use mathlib.Core.Bool.{Bool}
 use mathlib.Core.List.{List}
 use Prim.Native.Nat.{ℕ}
@@ -9,13 +9,13 @@ use Rattle.bits.specs.Search.{Found, lowest}
 use Rattle.bits.specs.Search.Found.{at, none}
 use Rattle.x86defs.specs.declared.CpuidResult.{CpuidResult}
 use Rattle.masking.specs.Kept.{places, leafAt, indexedAt, subleafAt}
-use Rattle.results.specs.declared.Subleaf.{Subleaf}
-use Rattle.results.specs.declared.Subleaf.the-variants.{None, Some}
-use Rattle.results.specs.declared.Verdict.{Verdict}
-use Rattle.results.specs.declared.Verdict.the-variants.{Accepted, Refused}
-use Rattle.results.specs.Rows.{Row, Rows}
-use Rattle.results.specs.Finish.{ruleAt}
-use Rattle.results.specs.Kinds.{Kinds, kindsOf}
+use Rattle.checks.specs.declared.Subleaf.{Subleaf}
+use Rattle.checks.specs.declared.Subleaf.the-variants.{None, Some}
+use Rattle.checks.specs.declared.Verdict.{Verdict}
+use Rattle.checks.specs.declared.Verdict.the-variants.{Accepted, Refused}
+use Rattle.checks.specs.Rows.{Row, Rows}
+use Rattle.finish.specs.Finish.{ruleAt}
+use Rattle.finish.specs.Kinds.{Kinds, kindsOf}
 use Rattle.build.specs.Rows.{rowsOf}
 use Rattle.build.specs.Build.{lawfulVerdict, answer}
 use Rattle.rise.specs.Decide.{risesTest, placeTest, inTable}

@@ -8,10 +8,10 @@ use Rattle.bits.specs.Search.{Found, lowest}
 use Rattle.bits.specs.SearchLaws.{lowest-passes, lowest-stops, lowest-ends}
 use Rattle.x86defs.specs.declared.CpuidResult.{CpuidResult}
 use Rattle.masking.specs.Kept.{places}
-use Rattle.results.specs.declared.CpuidResults.{CpuidResults}
-use Rattle.results.specs.Rows.{Row}
-use Rattle.results.specs.Table.{rowIn}
-use Rattle.results.specs.Kinds.{Kinds}
+use Rattle.finish.specs.declared.CpuidResults.{CpuidResults}
+use Rattle.checks.specs.Rows.{Row}
+use Rattle.finish.specs.Table.{rowIn}
+use Rattle.finish.specs.Kinds.{Kinds}
 use Rattle.rise.specs.Decide.{risesTest}
 use Rattle.compare.specs.declared.Register.{Register}
 use Rattle.compare.specs.declared.Register.the-variants.{Eax, Ebx, Ecx, Edx}

@@ -1,6 +1,6 @@
--- The kinds of registers as the code has them, one for one those of crates/results/specs/Kinds.antt.
-use Rattle.results.specs.Kinds as Definition
-use Rattle.results.specs.Kinds.Kind.{feature, featureBut28, area, made, other}
+-- The kinds of registers as the code has them, one for one those of crates/finish/specs/Kinds.antt.
+use Rattle.finish.specs.Kinds as Definition
+use Rattle.finish.specs.Kinds.Kind.{feature, featureBut28, area, made, other}
 use Rattle.compare.specs.declared.kinds.Kind.{Kind}
 use Rattle.compare.specs.declared.kinds.Kind.the-variants.{Feature, FeatureBut28, Area, Made, Other}
 use Rattle.compare.specs.declared.kinds.Kinds.{Kinds}

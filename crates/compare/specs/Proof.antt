@@ -12,12 +12,12 @@ use Rattle.bits.specs.SearchLaws.{Lowest, lowest-none, lowest-all, lowest-at, l
 use Rattle.x86defs.specs.declared.CpuidFunction.{CpuidFunction}
 use Rattle.x86defs.specs.declared.CpuidResult.{CpuidResult}
 use Rattle.masking.specs.Kept.{places, leafAt}
-use Rattle.results.specs.declared.Subleaf.{Subleaf}
-use Rattle.results.specs.declared.Verdict.{Verdict}
-use Rattle.results.specs.declared.Verdict.the-variants.{Accepted, Refused}
-use Rattle.results.specs.Rows.{Rows}
-use Rattle.results.specs.Finish.{ruleAt}
-use Rattle.results.specs.Kinds.{Kinds, EntryAtLeast, Registers, kindsOf, fromEntry}
+use Rattle.checks.specs.declared.Subleaf.{Subleaf}
+use Rattle.checks.specs.declared.Verdict.{Verdict}
+use Rattle.checks.specs.declared.Verdict.the-variants.{Accepted, Refused}
+use Rattle.checks.specs.Rows.{Rows}
+use Rattle.finish.specs.Finish.{ruleAt}
+use Rattle.finish.specs.Kinds.{Kinds, EntryAtLeast, Registers, kindsOf, fromEntry}
 use Rattle.build.specs.Rows.{rowsOf}
 use Rattle.build.specs.Build.{lawfulVerdict, answer}
 use Rattle.rise.specs.Rise.{EntryRises, Rises as Hypothesis}

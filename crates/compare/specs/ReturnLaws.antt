@@ -5,14 +5,14 @@ use mathlib.Core.List.{List}
 use Prim.Native.Nat.{ℕ}
 use Rattle.pages.specs.Layout.{badLength, countsFit}
 use Rattle.results.specs.declared.Built.{Built}
-use Rattle.results.specs.declared.CpuidResults.{CpuidResults}
-use Rattle.results.specs.declared.Refusal.{Refusal}
-use Rattle.results.specs.declared.Refusal.the-variants.{PagesLength, PageCount}
-use Rattle.results.specs.declared.Verdict.{Verdict}
-use Rattle.results.specs.declared.Verdict.the-variants.{Accepted, Refused}
-use Rattle.results.specs.ChecksLaws.{then-left, then-right, demanded}
-use Rattle.results.specs.Rows.{Rows}
-use Rattle.results.specs.Table.{rowsIn}
+use Rattle.finish.specs.declared.CpuidResults.{CpuidResults}
+use Rattle.checks.specs.declared.Refusal.{Refusal}
+use Rattle.checks.specs.declared.Refusal.the-variants.{PagesLength, PageCount}
+use Rattle.checks.specs.declared.Verdict.{Verdict}
+use Rattle.checks.specs.declared.Verdict.the-variants.{Accepted, Refused}
+use Rattle.checks.specs.ChecksLaws.{then-left, then-right, demanded}
+use Rattle.checks.specs.Rows.{Rows}
+use Rattle.finish.specs.Table.{rowsIn}
 use Rattle.build.specs.Rows.{rowsOf}
 use Rattle.build.specs.Build.{lengthVerdict, countsVerdict, lawfulVerdict, verdictOf, answer}
 use Rattle.build.specs.Collect.{collected, collected-rows}

@@ -4,12 +4,12 @@ use x86defs::mt_per_socket;
 ghost use mathlib.Core.Path.{_≡_};
 ghost use Prim.Native.Nat.{_<_};
 ghost use Rattle.masking.specs.Kept.{places};
-ghost use Rattle.results.specs.Finish.{ruleAt};
-ghost use Rattle.results.specs.Kinds.{kindsOf, fromEntry};
+ghost use Rattle.finish.specs.Finish.{ruleAt};
+ghost use Rattle.finish.specs.Kinds.{kindsOf, fromEntry};
 ghost use Rattle.rise.specs.Decide.{risesTest};
 ghost use Rattle.compare.specs.Kinds.{kindIn, kindsIn};
 
-// The kinds of specs/Kinds.antt of crate results.
+// The kinds of specs/Kinds.antt of crate finish.
 pub enum Kind {
     Feature,
     FeatureBut28,

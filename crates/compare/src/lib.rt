@@ -1,15 +1,15 @@
 // Two servers compared. The pages of A and B come in; whether a guest of A may move to B goes out, or the first thing in the way.
+use checks::Refusal;
+use checks::Subleaf;
+use checks::Verdict;
+use finish::CpuidResults;
 use kinds::Kinds;
-use results::CpuidResults;
-use results::Refusal;
-use results::Subleaf;
-use results::Verdict;
 use x86defs::CpuidFunction;
 use x86defs::CpuidResult;
 ghost use mathlib.Core.Path.{_≡_};
 ghost use Prim.Native.Nat.{_<_};
 ghost use Rattle.masking.specs.Kept.{places};
-ghost use Rattle.results.specs.Table.{rowsIn};
+ghost use Rattle.finish.specs.Table.{rowsIn};
 ghost use Rattle.rise.specs.Decide.{rowTest};
 ghost use Rattle.compare.specs.Kinds.{kindsIn};
 ghost use Rattle.compare.specs.Compare.{subleafNamed, failingOf, comparedRows, compared};

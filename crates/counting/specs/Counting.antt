@@ -9,7 +9,7 @@ use Rattle.bits.specs.Lists.{sumTo, one}
 use Rattle.bits.specs.Bits.{has, Within}
 use Rattle.pages.specs.Layout.{pageSize}
 use Rattle.masking.specs.Kept.{places, leafAt, subleafAt}
-use Rattle.results.specs.declared.Verdict.the-variants.{Accepted}
+use Rattle.checks.specs.declared.Verdict.the-variants.{Accepted}
 use Rattle.build.specs.Build.{answer}
 use Rattle.image.specs.Image.{image}
 

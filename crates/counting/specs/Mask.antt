@@ -15,8 +15,8 @@ use Rattle.pages.specs.Entries.{counted}
 use Rattle.masking.specs.Masks.{extendedState0, extendedState1}
 use Rattle.masking.specs.Kept.{keptLeaves, slot, places}
 use Rattle.masking.specs.Place
-use Rattle.results.specs.Rows.{Row, Rows, vacant}
-use Rattle.results.specs.ExtendedState.{xfem, xss, combinedMask}
+use Rattle.checks.specs.Rows.{Row, Rows, vacant}
+use Rattle.checks.specs.ExtendedState.{xfem, xss, combinedMask}
 use Rattle.build.specs.Rows.{firstAt, legacyFeatures, maskedAt, maskRow, rowsOf}
 use Rattle.counting.specs.Counting.{componentsIn}
 use Rattle.counting.specs.Sums.{sum-mono}

@@ -7,13 +7,14 @@ use native.Mathlib.Omega.{arith}
 use Rattle.bits.specs.ListsLaws.{length-tabulate, getD-tabulate}
 use Rattle.masking.specs.Kept.{places}
 use Rattle.masking.specs.KeptLaws.{firstPlace, place-from-first}
-use Rattle.results.specs.declared.Verdict.{Verdict}
-use Rattle.results.specs.declared.Verdict.the-variants.{Accepted}
-use Rattle.results.specs.Rows.{Rows}
-use Rattle.results.specs.ExtendedState.{combinedMask}
-use Rattle.results.specs.Finish.{finished}
-use Rattle.results.specs.ChecksLaws.{then-right, AllPass, all-pass}
-use Rattle.results.specs.Table.{tableOf, tableFor}
+use Rattle.checks.specs.declared.Verdict.{Verdict}
+use Rattle.checks.specs.declared.Verdict.the-variants.{Accepted}
+use Rattle.checks.specs.Rows.{Rows}
+use Rattle.checks.specs.ExtendedState.{combinedMask}
+use Rattle.finish.specs.Finish.{finished}
+use Rattle.checks.specs.ChecksLaws.{then-right, AllPass, all-pass}
+use Rattle.finish.specs.Table.{tableOf}
+use Rattle.results.specs.Built.{tableFor}
 use Rattle.build.specs.Rows.{rowsOf}
 use Rattle.build.specs.Build.{lawfulVerdict, verdictOf, answer}
 use Rattle.image.specs.Image.{leafOrder}

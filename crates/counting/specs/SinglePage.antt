@@ -15,8 +15,8 @@ use Rattle.pages.specs.Entries.{onPage, onPages, entries, counts, counted}
 use Rattle.masking.specs.Kept.{keptLeaves, places, placeOf, slot, leafAt}
 use Rattle.masking.specs.KeptLaws.{entry-belongs}
 use Rattle.masking.specs.Place
-use Rattle.results.specs.Required.{requiredAt, placeRequired}
-use Rattle.results.specs.ChecksLaws.{AllPass, required-present}
+use Rattle.checks.specs.Required.{requiredAt, placeRequired}
+use Rattle.checks.specs.ChecksLaws.{AllPass, required-present}
 use Rattle.build.specs.RowsLaws.{row-of-place}
 use Rattle.build.specs.Rows.{placeOfEntry, firstAt, rowsOf}
 

@@ -9,9 +9,9 @@ use Rattle.bits.specs.Choice.{pick}
 use Rattle.bits.specs.Lists.{tabulate, sumTo, one}
 use Rattle.bits.specs.ListsLaws.{getD-tabulate, sum-ext}
 use Rattle.masking.specs.Kept.{keptLeaves, slot, places, indexedAt}
-use Rattle.results.specs.declared.CpuidResults.{CpuidResults}
-use Rattle.results.specs.Rows.{Row, Rows}
-use Rattle.results.specs.Table.{countRows, tableOf, rowIn}
+use Rattle.finish.specs.declared.CpuidResults.{CpuidResults}
+use Rattle.checks.specs.Rows.{Row, Rows}
+use Rattle.finish.specs.Table.{countRows, tableOf, rowIn}
 use Rattle.image.specs.Image.{placeBytes, imageIn, leafOrder, image}
 use Rattle.counting.specs.Counting.{componentsIn}
 use Rattle.counting.specs.Standing.{stands}

@@ -15,12 +15,12 @@ use Rattle.bits.specs.Bits.{has}
 use Rattle.masking.specs.Kept.{places}
 use Rattle.masking.specs.KeptLaws.{madeHere}
 use Rattle.masking.specs.Place
-use Rattle.results.specs.Rows.{Rows}
-use Rattle.results.specs.ExtendedState.{combinedMask}
-use Rattle.results.specs.Finish.{ruleAt, enabledBy, settings, remains, finished}
-use Rattle.results.specs.RemainsLaws.{finished-present}
-use Rattle.results.specs.PlaceLaws.{always, position, always-required}
-use Rattle.results.specs.ChecksLaws.{AllPass, required-present, component-present}
+use Rattle.checks.specs.Rows.{Rows}
+use Rattle.checks.specs.ExtendedState.{combinedMask}
+use Rattle.finish.specs.Finish.{ruleAt, enabledBy, settings, remains, finished}
+use Rattle.finish.specs.RemainsLaws.{finished-present}
+use Rattle.finish.specs.PlaceLaws.{always, position, always-required}
+use Rattle.checks.specs.ChecksLaws.{AllPass, required-present, component-present}
 
 -- D.k, k from 2 up
 abbrev component : ℕ → Bool

@@ -13,13 +13,13 @@ use Rattle.pages.specs.Layout.{countOf}
 use Rattle.topology.specs.declared.TopologyError.the-variants.{Hyperthreading, ProcessorCount, ThreadsPerUnit}
 use Rattle.topology.specs.Topology.{Inputs}
 use Rattle.masking.specs.Place
-use Rattle.results.specs.declared.Subleaf.the-variants.{Some}
-use Rattle.results.specs.declared.Refusal.{Refusal}
-use Rattle.results.specs.declared.Refusal.the-variants.{PagesLength, PageCount, MissingRequiredResult, InvlpgbUnavailable, SaveAreaOverflow, TopologyInconsistent}
-use Rattle.results.specs.Rows.{Rows}
-use Rattle.results.specs.Required.{requiredAt, requiredCount, placeRequired}
-use Rattle.results.specs.ExtendedState.{xfem, combinedMask}
-use Rattle.results.specs.Topology.{inputsOf}
+use Rattle.checks.specs.declared.Subleaf.the-variants.{Some}
+use Rattle.checks.specs.declared.Refusal.{Refusal}
+use Rattle.checks.specs.declared.Refusal.the-variants.{PagesLength, PageCount, MissingRequiredResult, InvlpgbUnavailable, SaveAreaOverflow, TopologyInconsistent}
+use Rattle.checks.specs.Rows.{Rows}
+use Rattle.checks.specs.Required.{requiredAt, requiredCount, placeRequired}
+use Rattle.checks.specs.ExtendedState.{xfem, combinedMask}
+use Rattle.checks.specs.Topology.{inputsOf}
 use Rattle.build.specs.Rows.{rowsOf}
 
 -- 1. length: "0, or not a multiple of 4,096"

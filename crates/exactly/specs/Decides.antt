@@ -8,10 +8,10 @@ use Rattle.bits.specs.ChoiceLaws.{never-both}
 use Rattle.bits.specs.Search.{Found, lowest}
 use Rattle.bits.specs.Search.Found.{at, none}
 use Rattle.bits.specs.SearchLaws.{Lowest, lowest-none, lowest-at, lowest-unique}
-use Rattle.results.specs.declared.Refusal.{Refusal}
-use Rattle.results.specs.declared.Verdict.{Verdict}
-use Rattle.results.specs.declared.Verdict.the-variants.{Accepted, Refused}
-use Rattle.results.specs.Checks.{refuseAt}
+use Rattle.checks.specs.declared.Refusal.{Refusal}
+use Rattle.checks.specs.declared.Verdict.{Verdict}
+use Rattle.checks.specs.declared.Verdict.the-variants.{Accepted, Refused}
+use Rattle.checks.specs.Checks.{refuseAt}
 
 -- F r: the condition holds, and its refusal is r
 pub data Decides (F : Refusal → Type 0) (v : Verdict) : Type 0 where

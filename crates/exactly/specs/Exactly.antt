@@ -5,10 +5,10 @@ use mathlib.Core.List.{List, _++_}
 use mathlib.Core.Logic.{_↔_}
 use Prim.Native.Nat.{ℕ, _≤_, _<_}
 use lib.ListN.{length, drop}
-use Rattle.results.specs.declared.Refusal.{Refusal}
-use Rattle.results.specs.declared.Refusal.the-variants.{BufferTooShort}
-use Rattle.results.specs.declared.Verdict.the-variants.{Accepted, Refused}
-use Rattle.results.specs.Table.{emptyTable}
+use Rattle.checks.specs.declared.Refusal.{Refusal}
+use Rattle.checks.specs.declared.Refusal.the-variants.{BufferTooShort}
+use Rattle.checks.specs.declared.Verdict.the-variants.{Accepted, Refused}
+use Rattle.finish.specs.Table.{emptyTable}
 use Rattle.build.specs.Build.{answer}
 use Rattle.image.specs.declared.Written.the-variants.{Bytes, Refused as NotWritten}
 use Rattle.image.specs.Image.{image}

@@ -13,10 +13,10 @@ use Rattle.bits.specs.SearchLaws.{Lowest}
 use Rattle.bits.specs.Bits.{bit, has}
 use Rattle.bits.specs.BitsLaws.{has-bit, bit-has}
 use Rattle.masking.specs.Place
-use Rattle.results.specs.declared.Refusal.the-variants.{SaveAreaOverflow}
-use Rattle.results.specs.Rows.{Rows}
-use Rattle.results.specs.ExtendedState.{xfem, combinedMask, supplied, areaBelow, saveArea}
-use Rattle.results.specs.Checks.{demand, missingComponent, componentsVerdict, areaVerdict}
+use Rattle.checks.specs.declared.Refusal.the-variants.{SaveAreaOverflow}
+use Rattle.checks.specs.Rows.{Rows}
+use Rattle.checks.specs.ExtendedState.{xfem, combinedMask, supplied, areaBelow, saveArea}
+use Rattle.checks.specs.Checks.{demand, missingComponent, componentsVerdict, areaVerdict}
 use Rattle.exactly.specs.Conditions.{Lacking, ComponentFault, AreaFault}
 use Rattle.exactly.specs.Decides.{Decides, never, holds, lowest-decides}
 

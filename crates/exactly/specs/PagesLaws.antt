@@ -11,8 +11,8 @@ use borrow.Author.Tests.{eqb-true, eqb-false, leb-true, leb-false}
 use Rattle.bits.specs.Search.{every}
 use Rattle.bits.specs.SearchLaws.{every-at, every-fails}
 use Rattle.pages.specs.Layout.{pageSize, mostEntries, pagesIn, countOf, badLength, countsFit}
-use Rattle.results.specs.declared.Refusal.the-variants.{PagesLength, PageCount}
-use Rattle.results.specs.Checks.{demand}
+use Rattle.checks.specs.declared.Refusal.the-variants.{PagesLength, PageCount}
+use Rattle.checks.specs.Checks.{demand}
 use Rattle.build.specs.Build.{lengthVerdict, countsVerdict}
 use Rattle.exactly.specs.Conditions.{LengthFault, CountFault}
 use Rattle.exactly.specs.Decides.{Decides, never, holds}

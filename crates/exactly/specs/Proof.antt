@@ -7,12 +7,13 @@ use native.Mathlib.Omega.{arith}
 use lib.Dec.{leb, lit<}
 use lib.ListN.{length, drop}
 use borrow.Author.Tests.{leb-true, leb-false}
-use Rattle.results.specs.declared.Refusal.{Refusal}
-use Rattle.results.specs.declared.Refusal.the-variants.{BufferTooShort}
-use Rattle.results.specs.declared.Verdict.{Verdict}
-use Rattle.results.specs.declared.Verdict.the-variants.{Accepted, Refused}
-use Rattle.results.specs.Refusal.{details}
-use Rattle.results.specs.Table.{emptyTable, tableFor}
+use Rattle.checks.specs.declared.Refusal.{Refusal}
+use Rattle.checks.specs.declared.Refusal.the-variants.{BufferTooShort}
+use Rattle.checks.specs.declared.Verdict.{Verdict}
+use Rattle.checks.specs.declared.Verdict.the-variants.{Accepted, Refused}
+use Rattle.checks.specs.Refusal.{details}
+use Rattle.finish.specs.Table.{emptyTable}
+use Rattle.results.specs.Built.{tableFor}
 use Rattle.build.specs.Rows.{rowsOf}
 use Rattle.build.specs.Build.{answer}
 use Rattle.image.specs.declared.Written.the-variants.{Bytes, Refused as NotWritten}

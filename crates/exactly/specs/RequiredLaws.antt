@@ -8,10 +8,10 @@ use Rattle.bits.specs.SearchLaws.{Lowest}
 use Rattle.bits.specs.Bits.{has}
 use Rattle.bits.specs.BitsLaws.{has-bit, has-not}
 use Rattle.masking.specs.Place
-use Rattle.results.specs.declared.Refusal.the-variants.{InvlpgbUnavailable}
-use Rattle.results.specs.Rows.{Rows}
-use Rattle.results.specs.Required.{requiredCount, placeRequired}
-use Rattle.results.specs.Checks.{demand, missingRequired, requiredVerdict, invlpgbVerdict}
+use Rattle.checks.specs.declared.Refusal.the-variants.{InvlpgbUnavailable}
+use Rattle.checks.specs.Rows.{Rows}
+use Rattle.checks.specs.Required.{requiredCount, placeRequired}
+use Rattle.checks.specs.Checks.{demand, missingRequired, requiredVerdict, invlpgbVerdict}
 use Rattle.exactly.specs.Conditions.{RequiredFault, InvlpgbFault}
 use Rattle.exactly.specs.Decides.{Decides, never, holds, lowest-decides}
 

@@ -10,13 +10,13 @@ use lib.Dec.{eqb, lit<}
 use lib.ListN.{getD}
 use borrow.Author.Tests.{eqb-true}
 use Rattle.bits.specs.SearchLaws.{every-at}
-use Rattle.results.specs.declared.Refusal.{Refusal}
-use Rattle.results.specs.declared.Verdict.{Verdict}
-use Rattle.results.specs.declared.Verdict.the-variants.{Accepted, Refused}
-use Rattle.results.specs.Refusal.{andThen}
-use Rattle.results.specs.Rows.{Rows}
-use Rattle.results.specs.Topology.{inputsOf}
-use Rattle.results.specs.Checks.{requiredVerdict, invlpgbVerdict, componentsVerdict, areaVerdict, rowsVerdict}
+use Rattle.checks.specs.declared.Refusal.{Refusal}
+use Rattle.checks.specs.declared.Verdict.{Verdict}
+use Rattle.checks.specs.declared.Verdict.the-variants.{Accepted, Refused}
+use Rattle.checks.specs.Refusal.{andThen}
+use Rattle.checks.specs.Rows.{Rows}
+use Rattle.checks.specs.Topology.{inputsOf}
+use Rattle.checks.specs.Checks.{requiredVerdict, invlpgbVerdict, componentsVerdict, areaVerdict, rowsVerdict}
 use Rattle.build.specs.Rows.{rowsOf}
 use Rattle.build.specs.Build.{lengthVerdict, countsVerdict, lawfulVerdict, verdictOf, answer}
 use Rattle.exactly.specs.Conditions.{Check, rank, Fault, processorsSaid}

@@ -11,12 +11,12 @@ use Rattle.bits.specs.BitsLaws.{bit-lt}
 use Rattle.topology.specs.declared.TopologyError.the-variants.{Hyperthreading, ProcessorCount, ThreadsPerUnit}
 use Rattle.topology.specs.declared.Topology.the-variants.{Processors, Inconsistent}
 use Rattle.topology.specs.Topology.{Inputs, topologyOf, threadsIn}
-use Rattle.results.specs.declared.Refusal.the-variants.{TopologyInconsistent}
-use Rattle.results.specs.declared.Verdict.{Verdict}
-use Rattle.results.specs.Refusal.{andThen}
-use Rattle.results.specs.Rows.{Rows}
-use Rattle.results.specs.Topology.{inputsOf}
-use Rattle.results.specs.Checks.{demand, topologyRefusal, topologyVerdict}
+use Rattle.checks.specs.declared.Refusal.the-variants.{TopologyInconsistent}
+use Rattle.checks.specs.declared.Verdict.{Verdict}
+use Rattle.checks.specs.Refusal.{andThen}
+use Rattle.checks.specs.Rows.{Rows}
+use Rattle.checks.specs.Topology.{inputsOf}
+use Rattle.checks.specs.Checks.{demand, topologyRefusal, topologyVerdict}
 use Rattle.exactly.specs.Conditions.{ProcessorCountFault, HyperthreadingFault, ThreadsFault, processorsSaid}
 use Rattle.exactly.specs.Conditions.ProcessorCountFault.{legacy, tooMany, notAll}
 use Rattle.exactly.specs.Conditions.HyperthreadingFault.{manyCores, manyProcessors, unsaid}

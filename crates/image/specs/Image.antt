@@ -9,9 +9,9 @@ use Rattle.bits.specs.Choice.{pick}
 use Rattle.bits.specs.Lists.{tabulate}
 use Rattle.x86defs.specs.declared.CpuidResult.{CpuidResult}
 use Rattle.masking.specs.Kept.{places, leafAt, indexedAt, subleafAt}
-use Rattle.results.specs.declared.CpuidResults.{CpuidResults}
-use Rattle.results.specs.Rows.{Row}
-use Rattle.results.specs.Table.{rowIn}
+use Rattle.finish.specs.declared.CpuidResults.{CpuidResults}
+use Rattle.checks.specs.Rows.{Row}
+use Rattle.finish.specs.Table.{rowIn}
 
 -- a 32-bit number as four bytes, the lowest first
 abbrev pub bytesOf : ℕ → List ℕ

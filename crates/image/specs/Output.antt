@@ -6,11 +6,11 @@ use Prim.Native.Nat.{ℕ}
 use lib.Dec.{leb}
 use lib.ListN.{length}
 use Rattle.bits.specs.Choice.{pick}
-use Rattle.results.specs.declared.Subleaf.{Subleaf}
-use Rattle.results.specs.declared.Subleaf.the-variants.{None, Some}
-use Rattle.results.specs.declared.Verdict.{Verdict}
-use Rattle.results.specs.declared.Verdict.the-variants.{Accepted, Refused}
-use Rattle.results.specs.Refusal.{Details, details}
+use Rattle.checks.specs.declared.Subleaf.{Subleaf}
+use Rattle.checks.specs.declared.Subleaf.the-variants.{None, Some}
+use Rattle.checks.specs.declared.Verdict.{Verdict}
+use Rattle.checks.specs.declared.Verdict.the-variants.{Accepted, Refused}
+use Rattle.checks.specs.Refusal.{Details, details}
 use Rattle.results.specs.declared.Built.{Built}
 use Rattle.build.specs.Build.{answer}
 use Rattle.image.specs.Image.{bytesOf, image}

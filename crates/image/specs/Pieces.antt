@@ -9,7 +9,7 @@ use Rattle.bits.specs.Lists.{sumTo, one}
 use Rattle.bits.specs.Search.{every}
 use Rattle.x86defs.specs.declared.CpuidResult.{CpuidResult}
 use Rattle.masking.specs.Kept.{places, leafAt, indexedAt, subleafAt}
-use Rattle.results.specs.declared.CpuidResults.{CpuidResults}
+use Rattle.finish.specs.declared.CpuidResults.{CpuidResults}
 use Rattle.image.specs.declared.Run.{Run}
 use Rattle.image.specs.Image.{bytesOf, resultBytes, imageIn, leafOrder}
 

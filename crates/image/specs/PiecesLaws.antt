@@ -18,10 +18,10 @@ use Rattle.bits.specs.ListsLaws.{length-tabulate, getD-tabulate}
 use Rattle.bits.specs.SearchLaws.{every-at}
 use Rattle.x86defs.specs.declared.CpuidResult.{CpuidResult}
 use Rattle.masking.specs.Kept.{places, leafAt, indexedAt, subleafAt}
-use Rattle.results.specs.declared.CpuidResults.{CpuidResults}
-use Rattle.results.specs.declared.Refusal.the-variants.{BufferTooShort}
-use Rattle.results.specs.Rows.{Row}
-use Rattle.results.specs.Table.{rowIn}
+use Rattle.finish.specs.declared.CpuidResults.{CpuidResults}
+use Rattle.checks.specs.declared.Refusal.the-variants.{BufferTooShort}
+use Rattle.checks.specs.Rows.{Row}
+use Rattle.finish.specs.Table.{rowIn}
 use Rattle.image.specs.declared.Run.{Run}
 use Rattle.image.specs.declared.Written.the-variants.{Bytes, Refused}
 use Rattle.image.specs.Image.{placeBytes, imageIn, leafOrder, image}

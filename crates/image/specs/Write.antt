@@ -6,9 +6,9 @@ use Prim.Native.Nat.{ℕ}
 use lib.Dec.{leb}
 use lib.ListN.{length, drop}
 use Rattle.bits.specs.Choice.{pick}
-use Rattle.results.specs.declared.Refusal.the-variants.{BufferTooShort}
-use Rattle.results.specs.declared.Verdict.{Verdict}
-use Rattle.results.specs.declared.Verdict.the-variants.{Accepted, Refused as NotBuilt}
+use Rattle.checks.specs.declared.Refusal.the-variants.{BufferTooShort}
+use Rattle.checks.specs.declared.Verdict.{Verdict}
+use Rattle.checks.specs.declared.Verdict.the-variants.{Accepted, Refused as NotBuilt}
 use Rattle.results.specs.declared.Built.{Built}
 use Rattle.build.specs.Build.{answer}
 use Rattle.image.specs.declared.Written.{Written}

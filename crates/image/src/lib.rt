@@ -9,9 +9,9 @@ ghost use Rattle.masking.specs.Kept.{places};
 ghost use Rattle.image.specs.Image.{image};
 ghost use Rattle.image.specs.Write.{place, write};
 ghost use Rattle.image.specs.Pieces.{word, registers, indexedRow, wholeRow, run, runRow, lawful, rowsAmong};
-use results::CpuidResults;
-use results::Refusal;
-use results::Verdict;
+use checks::Refusal;
+use checks::Verdict;
+use finish::CpuidResults;
 use x86defs::CpuidResult;
 
 // How many bytes were written, or why none was.

@@ -5,9 +5,9 @@ use mathlib.Core.List.{List, [], _∷_}
 use Prim.Native.Nat.{ℕ}
 use lib.ListN.{length}
 use Rattle.x86defs.specs.Functions.{ExtendedStateEnumeration}
-use Rattle.results.specs.declared.Subleaf.the-variants.{Some}
-use Rattle.results.specs.declared.Refusal.the-variants.{MissingRequiredResult, SaveAreaOverflow}
-use Rattle.results.specs.declared.Verdict.the-variants.{Accepted, Refused}
+use Rattle.checks.specs.declared.Subleaf.the-variants.{Some}
+use Rattle.checks.specs.declared.Refusal.the-variants.{MissingRequiredResult, SaveAreaOverflow}
+use Rattle.checks.specs.declared.Verdict.the-variants.{Accepted, Refused}
 use Rattle.build.specs.Build.{lawfulVerdict, answer}
 use Rattle.rise.specs.Rise.{Rises}
 use Rattle.rise.specs.Decide.{pagesTest, rises-by-test}

@@ -12,12 +12,12 @@ use Rattle.pages.specs.Entries.{onPage, onPages, entries, counts, counted}
 use Rattle.masking.specs.Masks.{versionAndFeatures, extendedFeatures, extendedState0, extendedState1, extendedVersionAndFeatures, extendedAddressSpaceSizes, extendedSvm, extendedOptimization, extendedSev, secureAvicMask}
 use Rattle.masking.specs.Kept.{keptLeaves, placeOf, slot}
 use Rattle.topology.specs.Topology.{threadsIn, topologyOf, highestOf, shiftOf}
-use Rattle.results.specs.Required.{commonRequiredLeaves, snpRequiredLeaves, requiredAt, placeRequired}
-use Rattle.results.specs.ExtendedState.{xfem, xss, combinedMask, supplied, areaBelow}
-use Rattle.results.specs.Topology.{inputsOf}
-use Rattle.results.specs.Finish.{finished, settings, enabledBy, versionEcx, featuresEbx, featuresEcx, featuresEdx, extendedVersionEdx, addressSizesEbx, unlessNoXss, ymmVersionEcx, ymmFeaturesEbx, ymmFeaturesEcx, avx512FeaturesEbx, avx512FeaturesEcx, avx512FeaturesEdx, cetSs, rdPid, rdtscp, ibrsAndStibp, btcNo, hypervisorPresent}
-use Rattle.results.specs.Checks.{requiredVerdict, invlpgbVerdict, componentsVerdict, areaVerdict, topologyVerdict, rowsVerdict}
-use Rattle.results.specs.Table.{countRows}
+use Rattle.checks.specs.Required.{commonRequiredLeaves, snpRequiredLeaves, requiredAt, placeRequired}
+use Rattle.checks.specs.ExtendedState.{xfem, xss, combinedMask, supplied, areaBelow}
+use Rattle.checks.specs.Topology.{inputsOf}
+use Rattle.finish.specs.Finish.{finished, settings, enabledBy, versionEcx, featuresEbx, featuresEcx, featuresEdx, extendedVersionEdx, addressSizesEbx, unlessNoXss, ymmVersionEcx, ymmFeaturesEbx, ymmFeaturesEcx, avx512FeaturesEbx, avx512FeaturesEcx, avx512FeaturesEdx, cetSs, rdPid, rdtscp, ibrsAndStibp, btcNo, hypervisorPresent}
+use Rattle.checks.specs.Checks.{requiredVerdict, invlpgbVerdict, componentsVerdict, areaVerdict, topologyVerdict, rowsVerdict}
+use Rattle.finish.specs.Table.{countRows}
 use Rattle.results.specs.declared.Built.{Built}
 use Rattle.build.specs.Rows.{firstAt, legacyFeatures, rowsOf}
 use Rattle.build.specs.Build.{lengthVerdict, countsVerdict, lawfulVerdict, verdictOf, answer}

@@ -11,12 +11,12 @@ use Rattle.topology.specs.declared.Topology.{Topology}
 use Rattle.topology.specs.declared.Topology.the-variants.{Processors, Inconsistent}
 use Rattle.topology.specs.Topology.{Inputs, inputs, topologyOf, coreLevel}
 use Rattle.masking.specs.Place
-use Rattle.results.specs.declared.Verdict.{Verdict}
-use Rattle.results.specs.declared.Verdict.the-variants.{Accepted, Refused}
-use Rattle.results.specs.Refusal.{details, topologyDetails}
-use Rattle.results.specs.Rows.{Row, Rows, row, vacant}
-use Rattle.results.specs.Checks.{areaVerdict}
-use Rattle.results.specs.Finish.{finished}
+use Rattle.checks.specs.declared.Verdict.{Verdict}
+use Rattle.checks.specs.declared.Verdict.the-variants.{Accepted, Refused}
+use Rattle.checks.specs.Refusal.{details, topologyDetails}
+use Rattle.checks.specs.Rows.{Row, Rows, row, vacant}
+use Rattle.checks.specs.Checks.{areaVerdict}
+use Rattle.finish.specs.Finish.{finished}
 use Rattle.instances.specs.Evaluation.{evaluated}
 
 -- what a marked row tells

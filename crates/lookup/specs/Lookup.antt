@@ -9,11 +9,11 @@ use Rattle.x86defs.specs.declared.CpuidFunction.{CpuidFunction}
 use Rattle.x86defs.specs.Functions.{sameFunction, VendorAndMaxFunction, ExtendedMaxFunction, ExtendedFeatures, ExtendedTopologyEnumeration, ExtendedStateEnumeration, CacheTopologyDefinition}
 use Rattle.masking.specs.Kept.{placeOf}
 use Rattle.masking.specs.Place
-use Rattle.results.specs.declared.CpuidResults.{CpuidResults}
-use Rattle.results.specs.declared.Subleaf.{Subleaf}
-use Rattle.results.specs.declared.Subleaf.the-variants.{None, Some}
-use Rattle.results.specs.Rows.{Row}
-use Rattle.results.specs.Table.{rowIn}
+use Rattle.finish.specs.declared.CpuidResults.{CpuidResults}
+use Rattle.checks.specs.declared.Subleaf.{Subleaf}
+use Rattle.checks.specs.declared.Subleaf.the-variants.{None, Some}
+use Rattle.checks.specs.Rows.{Row}
+use Rattle.finish.specs.Table.{rowIn}
 use Rattle.lookup.specs.declared.LeafResult.{LeafResult}
 use Rattle.lookup.specs.declared.LeafResult.the-variants.{Some as Found, None as Nothing}
 

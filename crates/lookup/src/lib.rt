@@ -4,8 +4,8 @@ ghost use Prim.Native.Nat.{_≤_};
 ghost use Rattle.masking.specs.Kept.{places};
 ghost use Rattle.lookup.specs.Lookup.{withSubleaves, placeWhole, lookup};
 ghost use Rattle.lookup.specs.LookupLaws.{placeAsked};
-use results::CpuidResults;
-use results::Subleaf;
+use checks::Subleaf;
+use finish::CpuidResults;
 use x86defs::CpuidFunction;
 use x86defs::CpuidResult;
 

@@ -9,12 +9,12 @@ use lib.ListN.{length, take, drop}
 use lib.Seq.{sets, sets-eq}
 use borrow.Author.Tests.{le-leb, lt-leb}
 use Rattle.results.specs.declared.Built.{Built}
-use Rattle.results.specs.declared.Subleaf.{Subleaf}
-use Rattle.results.specs.declared.Subleaf.the-variants.{None, Some}
-use Rattle.results.specs.declared.Refusal.{Refusal}
-use Rattle.results.specs.declared.Refusal.the-variants.{BufferTooShort}
-use Rattle.results.specs.declared.Verdict.the-variants.{Accepted, Refused as NotBuilt}
-use Rattle.results.specs.Refusal.{Details, details}
+use Rattle.checks.specs.declared.Subleaf.{Subleaf}
+use Rattle.checks.specs.declared.Subleaf.the-variants.{None, Some}
+use Rattle.checks.specs.declared.Refusal.{Refusal}
+use Rattle.checks.specs.declared.Refusal.the-variants.{BufferTooShort}
+use Rattle.checks.specs.declared.Verdict.the-variants.{Accepted, Refused as NotBuilt}
+use Rattle.checks.specs.Refusal.{Details, details}
 use Rattle.build.specs.Build.{answer}
 use Rattle.answers.specs.declared.AnswerNumbers.{AnswerNumbers}
 use Rattle.answers.specs.Answers.{detailNumbers, refusalNumbers}

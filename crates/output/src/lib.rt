@@ -1,8 +1,8 @@
 // The program's output. Input bytes come in; the image, or the bytes that say why there is none, go out.
 use answers::AnswerNumbers;
+use checks::Refusal;
+use checks::Verdict;
 use image::Written;
-use results::Refusal;
-use results::Verdict;
 ghost use mathlib.Core.Path.{_≡_};
 ghost use mathlib.Core.List.{[], _∷_};
 ghost use Rattle.image.specs.Write.{place};

@@ -17,7 +17,7 @@ use Rattle.pages.specs.Entries.{entries, counts, counted}
 use Rattle.pages.specs.Walk.{isEntry, firstIndex, incremented, rest, parsed}
 use Rattle.pages.specs.WalkLaws.{Valid, Turn, turn, first-valid, incremented-valid, rest-first, rest-end}
 use Rattle.masking.specs.Kept.{places, placeOf}
-use Rattle.results.specs.declared.CpuidResults.{CpuidResults}
+use Rattle.finish.specs.declared.CpuidResults.{CpuidResults}
 use Rattle.build.specs.Collect.{storedAt, insert, insert-none, collected, Whole, Collecting, collecting-next, collecting-last}
 use Rattle.reader.specs.declared.NextEntry.{NextEntry}
 use Rattle.reader.specs.declared.NextEntry.the-variants.{Entry as Yields, End}

@@ -1,10 +1,10 @@
 // The page reader in the source's own borrowed form: it holds the caller's pages, and yields the entries that count, in order.
 // Each function over the reader takes it apart and calls a covered one with the slice and the index.
+use checks::Refusal;
+use finish::CpuidResults;
 use pages::CpuidPageIndex;
 use pages::ParsedCpuidEntry;
 use results::Built;
-use results::CpuidResults;
-use results::Refusal;
 ghost use mathlib.Core.Path.{_≡_};
 ghost use mathlib.Core.Bool.{true};
 ghost use Rattle.pages.specs.Layout.{countsFit};
@@ -163,7 +163,7 @@ pub fn collect_by_reader(pages: &[u8], secure_avic: bool) -> CpuidResults
     ensures { λ r. ⌜ r ≡ collected «secure_avic» (now (pages .entry)) ⌝ }
 {
     let kept = masking::kept_leaves(secure_avic);
-    let mut t = results::empty_table();
+    let mut t = finish::empty_table();
     let mut index = start(pages);
     loop {
         let taken = take(pages, index);

@@ -16,23 +16,25 @@ use Rattle.topology.specs.declared.TopologyError.{TopologyError}
 use Rattle.topology.specs.Topology.{inputs, topologyOf, processors}
 use Rattle.masking.specs.Place
 use Rattle.results.specs.declared.Built.{Built}
-use Rattle.results.specs.declared.CpuidResults.{CpuidResults}
-use Rattle.results.specs.declared.Refusal.{Refusal}
-use Rattle.results.specs.declared.Refusal.the-variants.{SaveAreaOverflow, TopologyInconsistent}
-use Rattle.results.specs.declared.Verdict.{Verdict}
-use Rattle.results.specs.declared.Verdict.the-variants.{Accepted, Refused}
-use Rattle.results.specs.declared.extended_state.Size.{Size}
-use Rattle.results.specs.declared.extended_state.Size.the-variants.{Bytes, TooLarge}
-use Rattle.results.specs.Refusal.{andThen}
-use Rattle.results.specs.Rows.{Rows}
-use Rattle.results.specs.ExtendedState.{xfem, xss, combinedMask, supplied, areaBelow, saveArea}
-use Rattle.results.specs.ExtendedStateLaws.{sumAt}
-use Rattle.results.specs.Topology.{inputsOf}
-use Rattle.results.specs.Finish.{finished}
-use Rattle.results.specs.Checks.{requiredVerdict, componentsVerdict, areaVerdict, topologyVerdict, rowsVerdict}
-use Rattle.results.specs.Table.{tableOf, rowsIn, builtFrom}
-use Rattle.results.specs.Stages.{presentIn, resultsIn, componentsOf, sizeOf, refusedBuilt, answer, fromInvlpgb}
-use Rattle.results.specs.SaveAreaLaws.{size-bytes, size-large}
+use Rattle.finish.specs.declared.CpuidResults.{CpuidResults}
+use Rattle.checks.specs.declared.Refusal.{Refusal}
+use Rattle.checks.specs.declared.Refusal.the-variants.{SaveAreaOverflow, TopologyInconsistent}
+use Rattle.checks.specs.declared.Verdict.{Verdict}
+use Rattle.checks.specs.declared.Verdict.the-variants.{Accepted, Refused}
+use Rattle.checks.specs.declared.Size.{Size}
+use Rattle.checks.specs.declared.Size.the-variants.{Bytes, TooLarge}
+use Rattle.checks.specs.Refusal.{andThen}
+use Rattle.checks.specs.Rows.{Rows}
+use Rattle.checks.specs.ExtendedState.{xfem, xss, combinedMask, supplied, areaBelow, saveArea}
+use Rattle.checks.specs.ExtendedStateLaws.{sumAt}
+use Rattle.checks.specs.Topology.{inputsOf}
+use Rattle.finish.specs.Finish.{finished}
+use Rattle.checks.specs.Checks.{requiredVerdict, componentsVerdict, areaVerdict, topologyVerdict, rowsVerdict}
+use Rattle.finish.specs.Table.{tableOf, rowsIn}
+use Rattle.results.specs.Built.{builtFrom}
+use Rattle.checks.specs.Parts.{presentIn, resultsIn, componentsOf, sizeOf}
+use Rattle.results.specs.Stages.{refusedBuilt, answer, fromInvlpgb}
+use Rattle.checks.specs.SaveAreaLaws.{size-bytes, size-large}
 
 -- ---- a check with verdict u, of which the code found v, before those with verdict w
 

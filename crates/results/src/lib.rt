@@ -1,59 +1,30 @@
-// The rows of a table. Masked first entries of the 88 places come in; finished rows, or the first check that fails, go out.
-use extended_state::Size;
+// The answer to masked first entries. The rows of the 88 places come in; a finished table, or the first check that refuses, goes out.
+use checks::Refusal;
+use checks::Size;
+use checks::Verdict;
+use checks::max_extended_state;
+use checks::max_xss;
+use checks::place;
+use checks::process_extended_state_subleaves;
+use checks::validate_invlpgb;
+use checks::validate_required;
+use checks::xsave_size;
+use finish::CpuidResults;
+use finish::empty_table;
 use topology::Topology;
-use topology::TopologyError;
 use topology::extended_topology;
-use x86defs::CpuidFunction;
-use x86defs::CpuidResult;
 use x86defs::apic_core_id_size;
-use x86defs::invlpgb;
 use x86defs::lps_per_package;
 use x86defs::mt_per_socket;
 use x86defs::nc;
 use x86defs::threads_per_compute_unit;
 ghost use mathlib.Core.Path.{_≡_};
-ghost use Rattle.results.specs.ExtendedState.{xfem, saveArea};
-ghost use Rattle.results.specs.Checks.{requiredVerdict, topologyVerdict};
-ghost use Rattle.results.specs.Table.{emptyTable, rowsIn, builtFrom};
-ghost use Rattle.results.specs.Stages.{invlpgbOf, refusedBuilt, answer, fromInvlpgb, fromComponents, fromArea};
-
-mod extended_state;
-mod features;
-mod finish;
-mod place;
-mod required;
-
-pub use required::validate_required;
-
-// A subleaf, where a leaf has them.
-pub enum Subleaf {
-    None,
-    Some(u32),
-}
-
-// Why no table is given. specs/Refusal.antt has document 01's number and details for each.
-pub enum Refusal {
-    PagesLength,
-    PageCount,
-    MissingRequiredResult(CpuidFunction, Subleaf),
-    InvlpgbUnavailable,
-    SaveAreaOverflow,
-    TopologyInconsistent(TopologyError),
-    BufferTooShort,
-}
-
-pub enum Verdict {
-    Accepted,
-    Refused(Refusal),
-}
-
-// A table: which of the 88 places have a row, the rows' registers, how many rows there are, and the combined mask.
-pub struct CpuidResults {
-    pub present: [bool; 88],
-    pub results: [CpuidResult; 88],
-    pub row_count: usize,
-    pub max_extended_state: u64,
-}
+ghost use Rattle.checks.specs.ExtendedState.{xfem, saveArea};
+ghost use Rattle.checks.specs.Checks.{requiredVerdict, topologyVerdict};
+ghost use Rattle.finish.specs.Table.{emptyTable, rowsIn};
+ghost use Rattle.results.specs.Built.{builtFrom};
+ghost use Rattle.checks.specs.Parts.{invlpgbOf};
+ghost use Rattle.results.specs.Stages.{refusedBuilt, answer, fromInvlpgb, fromComponents, fromArea};
 
 // What building gives: accepted with its table, or refused with an empty one.
 pub struct Built {
@@ -73,24 +44,6 @@ pub fn update_results(t: CpuidResults) -> Built
     update_validated(t)
 }
 
-// No rows at all.
-pub fn empty_table() -> CpuidResults
-    ensures { λ r. ⌜ r ≡ emptyTable ⌝ }
-{
-    let none = CpuidResult {
-        eax: 0,
-        ebx: 0,
-        ecx: 0,
-        edx: 0,
-    };
-    CpuidResults {
-        present: [false; 88],
-        results: [none; 88],
-        row_count: 0,
-        max_extended_state: 0,
-    }
-}
-
 // A refused answer holds an empty table.
 pub fn refused(r: Refusal) -> Built
     ensures { λ q. ⌜ q ≡ refusedBuilt r ⌝ }
@@ -100,16 +53,6 @@ pub fn refused(r: Refusal) -> Built
         verdict: Verdict::Refused(r),
         table,
     }
-}
-
-// Whether 80000008h.EBX has INVLPGB.
-fn validate_invlpgb(sizes: CpuidResult) -> Verdict
-    ensures { λ r. ⌜ r ≡ invlpgbOf sizes ⌝ }
-{
-    if invlpgb(sizes.ebx) {
-        return Verdict::Accepted;
-    }
-    Verdict::Refused(Refusal::InvlpgbUnavailable)
 }
 
 // The same for rows of which `validate_required` has refused none: from the check of INVLPGB on.
@@ -132,9 +75,9 @@ fn update_extended_state(t: CpuidResults) -> Built
 {
     let subleaf0 = t.results[place::EXTENDED_STATE_0];
     let subleaf1 = t.results[place::EXTENDED_STATE_1];
-    let mask = extended_state::max_extended_state(subleaf0.eax, extended_state::max_xss(subleaf1));
+    let mask = max_extended_state(subleaf0.eax, max_xss(subleaf1));
     let present = t.present;
-    let verdict = extended_state::process_extended_state_subleaves(present, mask);
+    let verdict = process_extended_state_subleaves(present, mask);
     if let Verdict::Refused(r) = verdict {
         return refused(r);
     }
@@ -148,7 +91,7 @@ fn update_save_area(t: CpuidResults) -> Built
 {
     let subleaf0 = t.results[place::EXTENDED_STATE_0];
     let results = t.results;
-    let size = extended_state::xsave_size(results, subleaf0.eax as u64);
+    let size = xsave_size(results, subleaf0.eax as u64);
     let Size::Bytes(bytes) = size else {
         return refused(Refusal::SaveAreaOverflow);
     };

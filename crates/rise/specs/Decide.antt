@@ -14,12 +14,12 @@ use Rattle.bits.specs.Bits.{bit}
 use Rattle.bits.specs.BitsLaws.{within-of-and, and-of-within}
 use Rattle.x86defs.specs.declared.CpuidResult.{CpuidResult}
 use Rattle.masking.specs.Kept.{places}
-use Rattle.results.specs.declared.Verdict.the-variants.{Accepted}
-use Rattle.results.specs.Rows.{Row, Rows}
-use Rattle.results.specs.Finish.{ruleAt}
-use Rattle.results.specs.Kinds.{Kind, Kinds, EntryAtLeast, Registers, kindsOf, fromEntry}
-use Rattle.results.specs.Kinds.Kind.{feature, featureBut28, area, made, other}
-use Rattle.results.specs.Table.{rowIn}
+use Rattle.checks.specs.declared.Verdict.the-variants.{Accepted}
+use Rattle.checks.specs.Rows.{Row, Rows}
+use Rattle.finish.specs.Finish.{ruleAt}
+use Rattle.finish.specs.Kinds.{Kind, Kinds, EntryAtLeast, Registers, kindsOf, fromEntry}
+use Rattle.finish.specs.Kinds.Kind.{feature, featureBut28, area, made, other}
+use Rattle.finish.specs.Table.{rowIn}
 use Rattle.build.specs.Rows.{rowsOf}
 use Rattle.build.specs.Build.{lawfulVerdict, answer}
 use Rattle.rise.specs.Rise.{EntryRises, Rises}

@@ -19,21 +19,22 @@ use Rattle.pages.specs.Entries.{counted}
 use Rattle.masking.specs.Masks.{applyMask, extendedState1}
 use Rattle.masking.specs.Kept.{places, keptLeaves, slot, masksAt}
 use Rattle.masking.specs.Place
-use Rattle.results.specs.declared.Refusal.{Refusal}
-use Rattle.results.specs.declared.Refusal.the-variants.{SaveAreaOverflow}
-use Rattle.results.specs.declared.Verdict.{Verdict}
-use Rattle.results.specs.declared.Verdict.the-variants.{Accepted, Refused}
-use Rattle.results.specs.Refusal.{andThen}
-use Rattle.results.specs.Rows.{Row, Rows, row, vacant}
-use Rattle.results.specs.ExtendedState.{combinedMask}
-use Rattle.results.specs.Finish.{Rule, ruleAt, finished}
-use Rattle.results.specs.Finish.Rule.{extendedState0}
-use Rattle.results.specs.RemainsLaws.{finished-entry}
-use Rattle.results.specs.Kinds.{Kind, EntryAtLeast, TableAtLeast, Registers, kindsOf, fromEntry}
-use Rattle.results.specs.Kinds.Kind.{feature, featureBut28, area, made, other}
-use Rattle.results.specs.Checks.{missingComponent, componentsVerdict, areaVerdict, rowsVerdict}
-use Rattle.results.specs.ChecksLaws.{component-present, then-right, then-skips}
-use Rattle.results.specs.Table.{tableFor, tableOf, rowIn}
+use Rattle.checks.specs.declared.Refusal.{Refusal}
+use Rattle.checks.specs.declared.Refusal.the-variants.{SaveAreaOverflow}
+use Rattle.checks.specs.declared.Verdict.{Verdict}
+use Rattle.checks.specs.declared.Verdict.the-variants.{Accepted, Refused}
+use Rattle.checks.specs.Refusal.{andThen}
+use Rattle.checks.specs.Rows.{Row, Rows, row, vacant}
+use Rattle.checks.specs.ExtendedState.{combinedMask}
+use Rattle.finish.specs.Finish.{Rule, ruleAt, finished}
+use Rattle.finish.specs.Finish.Rule.{extendedState0}
+use Rattle.finish.specs.RemainsLaws.{finished-entry}
+use Rattle.finish.specs.Kinds.{Kind, EntryAtLeast, TableAtLeast, Registers, kindsOf, fromEntry}
+use Rattle.finish.specs.Kinds.Kind.{feature, featureBut28, area, made, other}
+use Rattle.checks.specs.Checks.{missingComponent, componentsVerdict, areaVerdict, rowsVerdict}
+use Rattle.checks.specs.ChecksLaws.{component-present, then-right, then-skips}
+use Rattle.results.specs.Built.{tableFor}
+use Rattle.finish.specs.Table.{tableOf, rowIn}
 use Rattle.build.specs.Rows.{firstAt, maskRow, maskedAt, setLegacy, legacyFeatures, rowsOf}
 use Rattle.build.specs.RowsLaws.{row-of-place}
 use Rattle.build.specs.Build.{lawfulVerdict, verdictOf, answer}

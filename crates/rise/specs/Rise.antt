@@ -16,15 +16,15 @@ use Rattle.pages.specs.Entries.{counted}
 use Rattle.masking.specs.Masks.{applyMask}
 use Rattle.masking.specs.Kept.{places, masksAt}
 use Rattle.masking.specs.Place
-use Rattle.results.specs.declared.CpuidResults.{CpuidResults}
-use Rattle.results.specs.declared.Subleaf.the-variants.{Some}
-use Rattle.results.specs.declared.Refusal.the-variants.{MissingRequiredResult, SaveAreaOverflow}
-use Rattle.results.specs.declared.Verdict.{Verdict}
-use Rattle.results.specs.declared.Verdict.the-variants.{Accepted, Refused}
-use Rattle.results.specs.Rows.{Row, Rows}
-use Rattle.results.specs.Finish.{Rule, ruleAt}
-use Rattle.results.specs.Kinds.{Kind, EntryAtLeast, TableAtLeast, Registers, kindsOf, fromEntry}
-use Rattle.results.specs.Table.{rowIn}
+use Rattle.finish.specs.declared.CpuidResults.{CpuidResults}
+use Rattle.checks.specs.declared.Subleaf.the-variants.{Some}
+use Rattle.checks.specs.declared.Refusal.the-variants.{MissingRequiredResult, SaveAreaOverflow}
+use Rattle.checks.specs.declared.Verdict.{Verdict}
+use Rattle.checks.specs.declared.Verdict.the-variants.{Accepted, Refused}
+use Rattle.checks.specs.Rows.{Row, Rows}
+use Rattle.finish.specs.Finish.{Rule, ruleAt}
+use Rattle.finish.specs.Kinds.{Kind, EntryAtLeast, TableAtLeast, Registers, kindsOf, fromEntry}
+use Rattle.finish.specs.Table.{rowIn}
 use Rattle.build.specs.Rows.{firstAt, rowsOf}
 use Rattle.build.specs.Build.{lawfulVerdict, answer}
 use Rattle.exactly.specs.Conditions.{Lacking, ComponentFault, AreaFault}

@@ -17,23 +17,23 @@ use Rattle.x86defs.specs.declared.CpuidResult.{CpuidResult}
 use Rattle.topology.specs.Topology.{Inputs, topologyOf}
 use Rattle.masking.specs.Kept.{places}
 use Rattle.masking.specs.Place
-use Rattle.results.specs.declared.Refusal.the-variants.{InvlpgbUnavailable}
-use Rattle.results.specs.declared.Verdict.{Verdict}
-use Rattle.results.specs.declared.Verdict.the-variants.{Accepted, Refused}
-use Rattle.results.specs.Refusal.{andThen}
-use Rattle.results.specs.Rows.{Row, Rows, row, vacant}
-use Rattle.results.specs.Required.{requiredCount, placeRequired}
-use Rattle.results.specs.ExtendedState.{xfem, xss, combinedMask, saveArea}
-use Rattle.results.specs.ExtendedStateLaws.{sumAt, area-mono, xss-mono, xsaves-ecx, in-combined}
-use Rattle.results.specs.Topology.{inputsOf}
-use Rattle.results.specs.Finish.{Rule, Settings, ruleAt, enabledBy, settings, finish, remains, finishRow, finished, unlessNoXss}
-use Rattle.results.specs.Finish.Rule.{vendorAndMaxFunction, versionAndFeatures, extendedFeatures, threadLevelRow, coreLevelRow, extendedState0, extendedState1, extendedMaxFunction, extendedVersionAndFeatures, extendedAddressSpaceSizes, featureEax, untouched, component}
-use Rattle.results.specs.Kinds.{EntryAtLeast, TableAtLeast, Registers, kindsOf, fromEntry}
-use Rattle.results.specs.Checks.{requiredVerdict, invlpgbVerdict, componentsVerdict, areaVerdict, topologyVerdict, topologyRefusal, rowsVerdict, demand}
-use Rattle.results.specs.ChecksLaws.{AllPass, all-pass, required-present, present-required, component-present, demanded, then-accepted, then-skips}
-use Rattle.results.specs.PlaceLaws.{always, always-from-entry, required-place, position, always-required, component-rule, Sort, sort}
-use Rattle.results.specs.RemainsLaws.{finished-present, finished-result, made-remains, always-remains, component-finished}
-use Rattle.results.specs.PlaceLaws.Sort.{made, required, subleaf}
+use Rattle.checks.specs.declared.Refusal.the-variants.{InvlpgbUnavailable}
+use Rattle.checks.specs.declared.Verdict.{Verdict}
+use Rattle.checks.specs.declared.Verdict.the-variants.{Accepted, Refused}
+use Rattle.checks.specs.Refusal.{andThen}
+use Rattle.checks.specs.Rows.{Row, Rows, row, vacant}
+use Rattle.checks.specs.Required.{requiredCount, placeRequired}
+use Rattle.checks.specs.ExtendedState.{xfem, xss, combinedMask, saveArea}
+use Rattle.checks.specs.ExtendedStateLaws.{sumAt, area-mono, xss-mono, xsaves-ecx, in-combined}
+use Rattle.checks.specs.Topology.{inputsOf}
+use Rattle.finish.specs.Finish.{Rule, Settings, ruleAt, enabledBy, settings, finish, remains, finishRow, finished, unlessNoXss}
+use Rattle.finish.specs.Finish.Rule.{vendorAndMaxFunction, versionAndFeatures, extendedFeatures, threadLevelRow, coreLevelRow, extendedState0, extendedState1, extendedMaxFunction, extendedVersionAndFeatures, extendedAddressSpaceSizes, featureEax, untouched, component}
+use Rattle.finish.specs.Kinds.{EntryAtLeast, TableAtLeast, Registers, kindsOf, fromEntry}
+use Rattle.checks.specs.Checks.{requiredVerdict, invlpgbVerdict, componentsVerdict, areaVerdict, topologyVerdict, topologyRefusal, rowsVerdict, demand}
+use Rattle.checks.specs.ChecksLaws.{AllPass, all-pass, required-present, present-required, component-present, demanded, then-accepted, then-skips}
+use Rattle.finish.specs.PlaceLaws.{always, always-from-entry, required-place, position, always-required, component-rule, Sort, sort}
+use Rattle.finish.specs.RemainsLaws.{finished-present, finished-result, made-remains, always-remains, component-finished}
+use Rattle.finish.specs.PlaceLaws.Sort.{made, required, subleaf}
 use Rattle.rise.specs.Rise.{EntryRises}
 use Rattle.rise.specs.RuleLaws.{SettingsRise, XsavesRow, finish-rises, remains-rises}
 

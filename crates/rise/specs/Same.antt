@@ -12,16 +12,16 @@ use Rattle.bits.specs.ListsLaws.{length-tabulate, tabulated, getD-tabulate, sum
 use Rattle.bits.specs.BitsLaws.{within-refl, within-antisym}
 use Rattle.x86defs.specs.declared.CpuidResult.{CpuidResult}
 use Rattle.masking.specs.Kept.{places}
-use Rattle.results.specs.declared.CpuidResults.{CpuidResults}
-use Rattle.results.specs.declared.Verdict.the-variants.{Accepted}
-use Rattle.results.specs.Rows.{Row, Rows, row, vacant}
-use Rattle.results.specs.ExtendedState.{combinedMask}
-use Rattle.results.specs.Finish.{ruleAt, settings, finish, remains, finished}
-use Rattle.results.specs.Kinds.{Kind, Kinds, EntryAtLeast, TableAtLeast, Registers, kindsOf}
-use Rattle.results.specs.Kinds.Kind.{feature, featureBut28, area, made, other}
-use Rattle.results.specs.RemainsLaws.{finished-entry}
-use Rattle.results.specs.ChecksLaws.{then-left}
-use Rattle.results.specs.Table.{tableOf, rowIn, countRows}
+use Rattle.finish.specs.declared.CpuidResults.{CpuidResults}
+use Rattle.checks.specs.declared.Verdict.the-variants.{Accepted}
+use Rattle.checks.specs.Rows.{Row, Rows, row, vacant}
+use Rattle.checks.specs.ExtendedState.{combinedMask}
+use Rattle.finish.specs.Finish.{ruleAt, settings, finish, remains, finished}
+use Rattle.finish.specs.Kinds.{Kind, Kinds, EntryAtLeast, TableAtLeast, Registers, kindsOf}
+use Rattle.finish.specs.Kinds.Kind.{feature, featureBut28, area, made, other}
+use Rattle.finish.specs.RemainsLaws.{finished-entry}
+use Rattle.checks.specs.ChecksLaws.{then-left}
+use Rattle.finish.specs.Table.{tableOf, rowIn, countRows}
 use Rattle.build.specs.Rows.{rowsOf}
 use Rattle.build.specs.Build.{lawfulVerdict, verdictOf, answer}
 use Rattle.rise.specs.Rise.{Rises, TableRises}

@@ -3,9 +3,9 @@ use mathlib.Core.Bool.{Bool}
 use Prim.Native.Nat.{ℕ}
 use Rattle.bits.specs.Choice.{pick}
 use Rattle.results.specs.declared.Built.{Built}
-use Rattle.results.specs.declared.Verdict.the-variants.{Accepted}
-use Rattle.results.specs.declared.Subleaf.{Subleaf}
-use Rattle.results.specs.declared.Subleaf.the-variants.{None, Some}
+use Rattle.checks.specs.declared.Verdict.the-variants.{Accepted}
+use Rattle.checks.specs.declared.Subleaf.{Subleaf}
+use Rattle.checks.specs.declared.Subleaf.the-variants.{None, Some}
 use Rattle.lookup.specs.declared.LeafResult.{LeafResult}
 use Rattle.lookup.specs.declared.LeafResult.the-variants.{Some as Found, None as Nothing}
 use Rattle.compare.specs.declared.Compared.{Compared}

@@ -1,11 +1,11 @@
 // The library's functions for C and Rust: numbers and byte slices in, plain numbers out. include/snp_cpuid.h documents each call.
 use answers::AnswerNumbers;
+use checks::Subleaf;
+use checks::Verdict;
 use compare::Compared;
 use compare::Register;
 use image::Written;
 use lookup::LeafResult;
-use results::Subleaf;
-use results::Verdict;
 use x86defs::CpuidFunction;
 ghost use mathlib.Core.Path.{_≡_};
 ghost use Rattle.build.specs.Build.{answer};

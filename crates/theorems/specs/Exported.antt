@@ -17,19 +17,20 @@ use Rattle.x86defs.specs.declared.CpuidFunction.{CpuidFunction}
 use Rattle.x86defs.specs.declared.CpuidResult.{CpuidResult}
 use Rattle.x86defs.specs.Functions.{result}
 use Rattle.masking.specs.Kept.{places}
-use Rattle.results.specs.declared.CpuidResults.{CpuidResults}
-use Rattle.results.specs.declared.Subleaf.{Subleaf}
+use Rattle.finish.specs.declared.CpuidResults.{CpuidResults}
+use Rattle.checks.specs.declared.Subleaf.{Subleaf}
 use Rattle.topology.specs.declared.TopologyError.{TopologyError}
 use Rattle.topology.specs.declared.TopologyError.the-variants.{Hyperthreading, ProcessorCount, ThreadsPerUnit}
-use Rattle.results.specs.declared.Refusal.{Refusal}
-use Rattle.results.specs.declared.Refusal.the-variants.{PagesLength, PageCount, MissingRequiredResult, InvlpgbUnavailable, SaveAreaOverflow, TopologyInconsistent, BufferTooShort}
-use Rattle.results.specs.Refusal.{details, topologyDetails}
-use Rattle.results.specs.declared.Verdict.{Verdict}
-use Rattle.results.specs.declared.Verdict.the-variants.{Accepted, Refused}
-use Rattle.results.specs.Rows.{Row, Rows}
-use Rattle.results.specs.Finish.{ruleAt}
-use Rattle.results.specs.Kinds.{TableAtLeast, Registers, kindsOf}
-use Rattle.results.specs.Table.{rowIn, tableFor}
+use Rattle.checks.specs.declared.Refusal.{Refusal}
+use Rattle.checks.specs.declared.Refusal.the-variants.{PagesLength, PageCount, MissingRequiredResult, InvlpgbUnavailable, SaveAreaOverflow, TopologyInconsistent, BufferTooShort}
+use Rattle.checks.specs.Refusal.{details, topologyDetails}
+use Rattle.checks.specs.declared.Verdict.{Verdict}
+use Rattle.checks.specs.declared.Verdict.the-variants.{Accepted, Refused}
+use Rattle.checks.specs.Rows.{Row, Rows}
+use Rattle.finish.specs.Finish.{ruleAt}
+use Rattle.finish.specs.Kinds.{TableAtLeast, Registers, kindsOf}
+use Rattle.finish.specs.Table.{rowIn}
+use Rattle.results.specs.Built.{tableFor}
 use Rattle.build.specs.Rows.{rowsOf}
 use Rattle.build.specs.Build.{answer}
 use Rattle.lookup.specs.declared.LeafResult.the-variants.{Some as Found, None as Nothing}

@@ -2,7 +2,7 @@
 use borrow.Author.Needs.{needs}
 use mathlib.Core.Path.{_≡_, sym, ap, _∙_}
 use Rattle.results.specs.declared.Built.{Built}
-use Rattle.results.specs.declared.Verdict.the-variants.{Accepted}
+use Rattle.checks.specs.declared.Verdict.the-variants.{Accepted}
 use Rattle.build.specs.Build.{answer}
 use Rattle.compare.specs.ReturnLaws.{accepted-counts, refused-a, bad-length-b, bad-count-b, rows-compared}
 use Rattle.compare.specs.Proof.{decided}

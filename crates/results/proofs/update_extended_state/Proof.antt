@@ -1,10 +1,11 @@
 -- `update_extended_state` meets its contract: refused at a missing subleaf, or what the checks after it answer.
 use borrow.Author.Needs.{needs}
 use mathlib.Core.Path.{_≡_, _∙_}
-use Rattle.results.specs.ExtendedState.{xfem, xss}
-use Rattle.results.specs.Checks.{componentsVerdict}
-use Rattle.results.specs.Table.{rowsIn}
-use Rattle.results.specs.Stages.{componentsOf, fromArea}
+use Rattle.checks.specs.ExtendedState.{xfem, xss}
+use Rattle.checks.specs.Checks.{componentsVerdict}
+use Rattle.finish.specs.Table.{rowsIn}
+use Rattle.checks.specs.Parts.{componentsOf}
+use Rattle.results.specs.Stages.{fromArea}
 use Rattle.results.specs.StageLaws.{stage-refuses, stage-passes, components-combined}
 use Rattle.results.proofs.update_extended_state.Statement.{statement}
 use Rattle.results.proofs.update_extended_state.Tie as tie

@@ -2,8 +2,8 @@
 use borrow.Author.Needs.{needs}
 use mathlib.Core.Path.{_≡_}
 use Rattle.topology.specs.Topology.{topologyOf}
-use Rattle.results.specs.Topology.{inputsOf}
-use Rattle.results.specs.Table.{rowsIn}
+use Rattle.checks.specs.Topology.{inputsOf}
+use Rattle.finish.specs.Table.{rowsIn}
 use Rattle.results.specs.StageLaws.{topology-inputs, topology-refuses, topology-found, topology-passes}
 use Rattle.results.proofs.update_extended_topology.Statement.{statement}
 use Rattle.results.proofs.update_extended_topology.Tie as tie

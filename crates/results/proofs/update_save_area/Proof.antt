@@ -1,9 +1,9 @@
 -- `update_save_area` meets its contract: refused where the area is too large, or what the topology answers.
 use borrow.Author.Needs.{needs}
 use mathlib.Core.Path.{refl}
-use Rattle.results.specs.ExtendedState.{xfem}
-use Rattle.results.specs.Checks.{areaVerdict, topologyVerdict}
-use Rattle.results.specs.Table.{rowsIn}
+use Rattle.checks.specs.ExtendedState.{xfem}
+use Rattle.checks.specs.Checks.{areaVerdict, topologyVerdict}
+use Rattle.finish.specs.Table.{rowsIn}
 use Rattle.results.specs.StageLaws.{stage-refuses, stage-passes, area-refuses, area-passes, area-found}
 use Rattle.results.proofs.update_save_area.Statement.{statement}
 use Rattle.results.proofs.update_save_area.Tie as tie

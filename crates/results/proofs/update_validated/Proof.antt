@@ -1,7 +1,7 @@
 -- `update_validated` meets its contract: refused without INVLPGB, or what the checks after it answer.
 use borrow.Author.Needs.{needs}
-use Rattle.results.specs.Checks.{invlpgbVerdict}
-use Rattle.results.specs.Table.{rowsIn}
+use Rattle.checks.specs.Checks.{invlpgbVerdict}
+use Rattle.finish.specs.Table.{rowsIn}
 use Rattle.results.specs.Stages.{fromComponents}
 use Rattle.results.specs.StageLaws.{stage-refuses, stage-passes}
 use Rattle.results.proofs.update_validated.Statement.{statement}

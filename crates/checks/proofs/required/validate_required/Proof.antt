@@ -1,0 +1,56 @@
+-- `required::validate_required` meets its contract: the code's table is the definition's list, and each turn passes one of its rows or
+-- stops there.
+use borrow.Author.Needs.{needs}
+use mathlib.Core.Path.{_≡_, refl, sym, _∙_}
+use Prim.Native.Nat.{_≤_, _-_}
+use Rattle.bits.specs.Lists.{tabulate}
+use Rattle.masking.specs.Kept.{keptLeaves, placeOf}
+use Rattle.checks.specs.Required.{commonRequiredLeaves, snpRequiredLeaves, requiredAt, placeRequired}
+use Rattle.checks.specs.Checks.{requiredVerdict}
+use Rattle.checks.specs.Parts.{presentIn}
+use Rattle.checks.specs.ScanLaws.{refuseFrom, requiredRows, requiredFrom, required-row-place, required-passes, required-stops, required-ends}
+use Rattle.checks.proofs.required.validate_required.Statement.{statement}
+use Rattle.checks.proofs.required.validate_required.Tie as tie
+
+abbrev Inv-loop : tie.InvT-loop
+Inv-loop present required j₀ j = (j ≤ 24) × (required ≡ requiredRows) × (requiredVerdict (presentIn present) ≡ requiredFrom present j)
+
+abbrev μ-loop : tie.MeasureT-loop
+μ-loop present required j₀ j = 24 - j
+
+loop-holds : tie.Need-loop-holds Inv-loop μ-loop
+unfolding requiredRows tabulate requiredAt placeRequired commonRequiredLeaves snpRequiredLeaves placeOf keptLeaves requiredVerdict refuseFrom
+loop-holds c = (search needs, refl, refl)
+
+array-read-if1 : tie.Need-array-read-if1 Inv-loop μ-loop
+array-read-if1 c = let s = c .before .before in required-row-place (s .before .args .t1) (s .loop .j) _ (s .loop .inv .1) (search needs)
+
+loop-again : tie.Need-loop-again Inv-loop μ-loop
+loop-again c =
+    let s = c .before .before .before in
+    (search needs, s .loop .inv .1, s .loop .inv .2 ∙ required-passes (s .before .args .t1) (s .loop .j) _ (s .loop .inv .1) (search needs) (c .if1 .taken))
+
+returns : tie.Need-returns Inv-loop μ-loop
+returns c =
+    let s = c .before .before .before .before in
+    required-stops (s .before .args .t1) (s .loop .j) _ (s .loop .inv .1) (search needs) (c .before .if1 .left) (c .subleaf-of .ensures) ∙ sym (s .loop .inv .2)
+
+returns-2 : tie.Need-returns-2 Inv-loop μ-loop
+returns-2 c = let s = c .before in required-ends (s .before .args .t1) (s .loop .j) (search needs) ∙ sym (s .loop .inv .2)
+
+pub validate-required-spec : {M : Type 1} → statement M
+validate-required-spec =
+    tie.close
+    (tie.spec
+    Inv-loop
+    μ-loop
+    loop-holds
+    (λ c. search needs)
+    (λ c. search needs)
+    array-read-if1
+    (λ c. search needs)
+    (λ c. search needs)
+    loop-again
+    (λ c κs. search needs)
+    returns
+    returns-2)

@@ -1,0 +1,68 @@
+-- Document 01, "Where each check stands", from the required leaves on: one verdict a check.
+use mathlib.Core.Bool.{Bool}
+use Prim.Native.Nat.{ℕ, _^_}
+use lib.Dec.{ltb}
+use Rattle.bits.specs.Choice.{pick}
+use Rattle.bits.specs.Search.{Found, lowest}
+use Rattle.bits.specs.Search.Found.{at, none}
+use Rattle.bits.specs.Bits.{has}
+use Rattle.x86defs.specs.Functions.{ExtendedStateEnumeration}
+use Rattle.x86defs.specs.ExtendedAddressSpaceSizesEbx as Sizes
+use Rattle.topology.specs.declared.Topology.{Topology}
+use Rattle.topology.specs.declared.Topology.the-variants.{Processors, Inconsistent}
+use Rattle.topology.specs.Topology.{topologyOf}
+use Rattle.masking.specs.Place
+use Rattle.checks.specs.declared.Subleaf.the-variants.{None, Some}
+use Rattle.checks.specs.declared.Refusal.{Refusal}
+use Rattle.checks.specs.declared.Refusal.the-variants.{MissingRequiredResult, InvlpgbUnavailable, SaveAreaOverflow, TopologyInconsistent}
+use Rattle.checks.specs.declared.Verdict.{Verdict}
+use Rattle.checks.specs.declared.Verdict.the-variants.{Accepted, Refused}
+use Rattle.checks.specs.Refusal.{andThen}
+use Rattle.checks.specs.Rows.{Rows}
+use Rattle.checks.specs.Required.{requiredAt, requiredCount, placeRequired}
+use Rattle.checks.specs.ExtendedState.{xfem, supplied, saveArea}
+use Rattle.checks.specs.Topology.{inputsOf}
+
+-- refused at the first that fails, if one does
+abbrev pub refuseAt : Found → (ℕ → Refusal) → Verdict
+refuseAt (at j) r = Refused (r j)
+refuseAt none r = Accepted
+
+-- accepted where the test holds
+abbrev pub demand : Bool → Refusal → Verdict
+demand ok r = pick ok Accepted (Refused r)
+
+abbrev pub missingRequired : ℕ → Refusal
+missingRequired j = MissingRequiredResult (requiredAt j .leaf) (requiredAt j .subleaf)
+
+-- 3: the first required leaf, in list order, without a row
+unfoldable pub requiredVerdict : Rows → Verdict
+requiredVerdict m = refuseAt (lowest (λ j. m (placeRequired j) .present) 0 requiredCount) missingRequired
+
+-- 4: 80000008h.EBX bit 3 clear
+unfoldable pub invlpgbVerdict : Rows → Verdict
+invlpgbVerdict m = demand (has (Sizes.place Sizes.ExtendedAddressSpaceSizesEbx.invlpgb) (m Place.extendedAddressSpaceSizes .result .ebx)) InvlpgbUnavailable
+
+abbrev pub missingComponent : ℕ → Refusal
+missingComponent k = MissingRequiredResult ExtendedStateEnumeration (Some k)
+
+-- 3: a needed D subleaf is absent, ascending
+unfoldable pub componentsVerdict : Rows → Verdict
+componentsVerdict m = refuseAt (lowest (supplied m) 2 62) missingComponent
+
+-- 5: a sum overflows
+unfoldable pub areaVerdict : Rows → Verdict
+areaVerdict m = demand (ltb (saveArea m (xfem m)) (2 ^ 32)) SaveAreaOverflow
+
+abbrev pub topologyRefusal : Topology → Verdict
+topologyRefusal (Processors v) = Accepted
+topologyRefusal (Inconsistent e) = Refused (TopologyInconsistent e)
+
+-- 6, 7, 8
+unfoldable pub topologyVerdict : Rows → Verdict
+topologyVerdict m = topologyRefusal (topologyOf (inputsOf m))
+
+-- in order
+unfoldable pub rowsVerdict : Rows → Verdict
+rowsVerdict m =
+    andThen (requiredVerdict m) (andThen (invlpgbVerdict m) (andThen (componentsVerdict m) (andThen (areaVerdict m) (topologyVerdict m))))

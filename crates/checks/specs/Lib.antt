@@ -1,0 +1,13 @@
+pub mod Refusal
+pub mod Rows
+pub mod Required
+pub mod ExtendedState
+pub mod Topology
+pub mod Checks
+pub mod Parts
+pub mod MaskLaws
+pub mod ScanLaws
+pub mod SaveAreaLaws
+pub mod ExtendedStateLaws
+pub mod ChecksLaws
+pub mod AgainstMisreadings

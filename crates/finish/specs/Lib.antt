@@ -1,0 +1,13 @@
+pub mod Finish
+pub mod Table
+pub mod Kinds
+pub mod Stores
+pub mod DropLaws
+pub mod CountLaws
+pub mod TableLaws
+pub mod AgainstMisreadings
+pub mod FinishLaws
+pub mod FeatureLaws
+pub mod JoinLaws
+pub mod PlaceLaws
+pub mod RemainsLaws
