@@ -1,17 +1,15 @@
 -- Laws of bits, of fields and of "at least".
 use mathlib.Core.Path.{_≡_, refl, sym, ap, _∙_, subst}
 use mathlib.Core.Bool.{Bool, true, false, _&&_}
-use Prim.Native.Nat.{ℕ, zero, suc, _+_, _-_, _*_, _/_, _%_, _^_, _≤_, _<_, min, max}
+use Prim.Native.Nat.{ℕ, zero, suc, _+_, _-_, _/_, _%_, _^_, _≤_, _<_, min, max}
 use native.Mathlib.Nat.{le-refl, le-trans, le-of-eq, mod-lt, zero-lt-suc, zero-div}
-use native.Mathlib.Numerals.{add-one}
 use native.Mathlib.Omega.{arith}
 use lib.Arith.{bin-ind}
 use lib.Dec.{eqb}
-use lib.Pow.{shr-shr, mod-pow-add}
+use lib.Pow.{shr-shr}
 use lib.Bits.{bitAnd, bitOr, and-shr, or-shr, and-step, or-step, and-zero-l, and-le-r, and-mask}
 use borrow.Author.Tests.{eq-eqb, ne-eqb, eqb-true, eqb-false}
-use Rattle.bits.specs.Choice.{pick}
-use Rattle.bits.specs.Bits.{bit, has, field, fieldMask, clear, clearUnless, Within}
+use Rattle.bits.specs.Bits.{bit, has, field, clear, clearUnless, Within}
 
 -- ---- single bits
 

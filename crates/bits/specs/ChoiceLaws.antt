@@ -1,6 +1,6 @@
 -- Laws of choices and tests.
 use mathlib.Core.Path.{_≡_, refl, sym, ap, _∙_}
-use mathlib.Core.Bool.{Bool, true, false, not, _&&_, false≢true}
+use mathlib.Core.Bool.{Bool, true, false, _&&_, false≢true}
 use Rattle.bits.specs.Choice.{pick}
 
 pub never-both : {b : Bool} → b ≡ true → b ≡ false → ⊥

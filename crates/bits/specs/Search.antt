@@ -1,5 +1,5 @@
 -- Tests over a run of numbers: whether all pass, and the lowest that fails.
-use mathlib.Core.Bool.{Bool, true, false, _&&_}
+use mathlib.Core.Bool.{Bool, true, _&&_}
 use Prim.Native.Nat.{ℕ, zero, suc}
 use Rattle.bits.specs.Choice.{pick}
 

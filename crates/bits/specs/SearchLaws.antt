@@ -8,7 +8,7 @@ use native.Mathlib.Numerals.{add-one}
 use native.Mathlib.Omega.{arith}
 use Rattle.bits.specs.Choice.{pick}
 use Rattle.bits.specs.ChoiceLaws.{never-both, and-left, and-right}
-use Rattle.bits.specs.Search.{every, Found, lowest}
+use Rattle.bits.specs.Search.{every, lowest}
 use Rattle.bits.specs.Search.Found.{at, none}
 
 -- a computed test over all numbers below n holds at each

@@ -1,16 +1,12 @@
 -- The answer, case by case, in the terms of the code's returns.
-use mathlib.Core.Path.{_≡_, refl, sym, ap, _∙_}
-use mathlib.Core.Bool.{Bool, true, false, not}
+use mathlib.Core.Path.{_≡_, sym, ap, _∙_}
+use mathlib.Core.Bool.{Bool, true, false}
 use mathlib.Core.List.{List}
 use Prim.Native.Nat.{ℕ}
-use Rattle.bits.specs.Choice.{pick}
 use Rattle.pages.specs.Layout.{badLength, countsFit}
 use Rattle.results.specs.declared.Built.{Built}
 use Rattle.checks.specs.declared.Refusal.the-variants.{PagesLength, PageCount}
 use Rattle.checks.specs.declared.Verdict.{Verdict}
-use Rattle.checks.specs.declared.Verdict.the-variants.{Accepted, Refused}
-use Rattle.checks.specs.Rows.{Rows}
-use Rattle.checks.specs.Checks.{rowsVerdict}
 use Rattle.finish.specs.declared.CpuidResults.{CpuidResults}
 use Rattle.results.specs.Built.{tableFor, builtFrom}
 use Rattle.finish.specs.Table.{rowsIn}

@@ -27,7 +27,7 @@ use Rattle.masking.specs.Kept.{places, placeOf}
 use Rattle.masking.specs.Table.{table, noRow, masksOf, rowOfPlace}
 use Rattle.masking.specs.TableLaws.{masks-of-row}
 use Rattle.finish.specs.declared.CpuidResults.{CpuidResults}
-use Rattle.checks.specs.Rows.{Row, Rows, row, vacant}
+use Rattle.checks.specs.Rows.{Row, row, vacant}
 use Rattle.finish.specs.Table.{emptyTable, rowIn, rowsIn}
 use Rattle.build.specs.RowsLaws.{row-of-place, row-beyond}
 use Rattle.build.specs.Rows.{placeOfEntry, firstAt, setLegacy, maskedAt, maskRow, rowsOf}

@@ -12,7 +12,7 @@ use Rattle.topology.specs.declared.Topology.{Topology}
 use Rattle.topology.specs.declared.Topology.the-variants.{Processors, Inconsistent}
 use Rattle.topology.specs.Topology.{topologyOf}
 use Rattle.masking.specs.Place
-use Rattle.checks.specs.declared.Subleaf.the-variants.{None, Some}
+use Rattle.checks.specs.declared.Subleaf.the-variants.{Some}
 use Rattle.checks.specs.declared.Refusal.{Refusal}
 use Rattle.checks.specs.declared.Refusal.the-variants.{MissingRequiredResult, InvlpgbUnavailable, SaveAreaOverflow, TopologyInconsistent}
 use Rattle.checks.specs.declared.Verdict.{Verdict}

@@ -1,9 +1,8 @@
 -- What an accepted verdict says, check by check.
-use mathlib.Core.Path.{_≡_, refl, sym, ap, _∙_}
+use mathlib.Core.Path.{_≡_, refl, ap}
 use mathlib.Core.Bool.{Bool, true, false}
-use Prim.Native.Nat.{ℕ, _+_, _≤_, _<_}
+use Prim.Native.Nat.{ℕ, _≤_, _<_}
 use native.Mathlib.Omega.{arith}
-use Rattle.bits.specs.Choice.{pick}
 use Rattle.bits.specs.ChoiceLaws.{if-holds}
 use Rattle.bits.specs.Search.{Found, lowest}
 use Rattle.bits.specs.Search.Found.{at, none}

@@ -4,7 +4,7 @@ use Prim.Native.Nat.{ℕ}
 use Rattle.topology.specs.declared.TopologyError.{TopologyError}
 use Rattle.topology.specs.declared.TopologyError.the-variants.{Hyperthreading, ProcessorCount, ThreadsPerUnit}
 use Rattle.checks.specs.declared.Subleaf.{Subleaf}
-use Rattle.checks.specs.declared.Subleaf.the-variants.{None, Some}
+use Rattle.checks.specs.declared.Subleaf.the-variants.{None}
 use Rattle.checks.specs.declared.Refusal.{Refusal}
 use Rattle.checks.specs.declared.Refusal.the-variants.{PagesLength, PageCount, MissingRequiredResult, InvlpgbUnavailable, SaveAreaOverflow, TopologyInconsistent, BufferTooShort}
 use Rattle.checks.specs.declared.Verdict.{Verdict}

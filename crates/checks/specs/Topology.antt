@@ -1,5 +1,4 @@
 -- The five topology inputs, "all read after masking".
-use Prim.Native.Nat.{ℕ}
 use Rattle.bits.specs.Bits.{bit}
 use Rattle.x86defs.specs.Fields.{cut}
 use Rattle.x86defs.specs.Fields.Field.{nc, apic-core-id-size, lps-per-package, threads-per-compute-unit}

@@ -1,4 +1,5 @@
 // The checks. Masked first entries of the 88 places come in, whole or in part; the first refusal, or none, goes out.
+use topology::TopologyError;
 use x86defs::CpuidFunction;
 use x86defs::CpuidResult;
 use x86defs::invlpgb;
@@ -14,7 +15,6 @@ pub use extended_state::max_xss;
 pub use extended_state::process_extended_state_subleaves;
 pub use extended_state::xsave_size;
 pub use required::validate_required;
-use topology::TopologyError;
 
 // A subleaf, where a leaf has them.
 pub enum Subleaf {

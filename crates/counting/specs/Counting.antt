@@ -1,7 +1,7 @@
 -- Document 01: "An accepted table has 17 rows without subleaf, 9 with, and one for each combined bit from 2 up: 26 to 32"; the image's
 -- "length 582 + 25 for each combined bit from 2 up"; "a single page is never accepted"; the order of the image's leaves.
 use mathlib.Core.Path.{_≡_}
-use mathlib.Core.Bool.{Bool, true}
+use mathlib.Core.Bool.{Bool}
 use mathlib.Core.List.{List}
 use Prim.Native.Nat.{ℕ, _+_, _*_, _≤_, _<_}
 use lib.ListN.{length, getD}

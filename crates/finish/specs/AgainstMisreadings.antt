@@ -1,8 +1,7 @@
 -- Document 01, "Misreadings", each against a row set on which the right reading and the wrong one differ. By computation.
 use mathlib.Core.Path.{_≡_, refl}
-use mathlib.Core.Bool.{Bool, true, false}
-use mathlib.Core.List.{List, [], _∷_}
-use Prim.Native.Nat.{ℕ, _^_}
+use mathlib.Core.List.{[], _∷_}
+use Prim.Native.Nat.{ℕ}
 use lib.Dec.{eqb}
 use Rattle.bits.specs.Choice.{pick}
 use Rattle.bits.specs.Bits.{bit, has, field, maskOf, clear, clearUnless}
@@ -12,7 +11,7 @@ use Rattle.topology.specs.Topology.{topologyOf, threadsIn, highestOf, shiftOf}
 use Rattle.checks.specs.Rows.{Row, Rows, row, vacant}
 use Rattle.checks.specs.ExtendedState.{xfem, xss, areaBelow}
 use Rattle.checks.specs.Topology.{inputsOf}
-use Rattle.finish.specs.Finish.{finished, settings, enabledBy, featuresEcx, featuresEbx, featuresEdx, cetSs, rdPid, ymmFeaturesEcx, avx512FeaturesEcx}
+use Rattle.finish.specs.Finish.{finished, settings, enabledBy, featuresEcx, cetSs, rdPid, ymmFeaturesEcx, avx512FeaturesEcx}
 
 -- XFEM and XSS as given, D.11 of 4,096 bytes at 576, and 7.0 with CET_SS
 abbrev stateRows : ℕ → ℕ → Rows

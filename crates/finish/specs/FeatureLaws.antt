@@ -1,8 +1,8 @@
 -- Joins by and go through every rule on feature registers: what a rule makes of the and of two registers, under the and of what is
 -- enabled, is the and of what it makes of each. "At least" follows, by one argument for all registers.
 use mathlib.Core.Path.{_≡_, refl, sym, ap, ap₂, _∙_}
-use mathlib.Core.Bool.{Bool, true, false, _&&_}
-use Prim.Native.Nat.{ℕ, _-_, _^_}
+use mathlib.Core.Bool.{Bool, true, _&&_}
+use Prim.Native.Nat.{ℕ, _-_}
 use lib.Bits.{bitAnd, bitOr}
 use Rattle.bits.specs.ChoiceLaws.{and-implied, and-swap}
 use Rattle.bits.specs.Bits.{has, clearUnless, Within}

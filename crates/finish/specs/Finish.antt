@@ -1,9 +1,9 @@
 -- Document 01, "Corners of mod.rs": what becomes of each row. A row's final value depends on its masked entry and on one record of what
 -- rows need from each other.
 use mathlib.Core.Bool.{Bool, true, _&&_}
-use mathlib.Core.List.{List, [], _∷_}
+use mathlib.Core.List.{[], _∷_}
 use Prim.Native.Nat.{ℕ, _-_}
-use lib.Dec.{eqb, ltb, leb}
+use lib.Dec.{eqb, ltb}
 use lib.Bits.{bitOr}
 use Rattle.bits.specs.Choice.{pick}
 use Rattle.bits.specs.Bits.{has, maskOf, clearUnless}
@@ -16,7 +16,7 @@ use Rattle.x86defs.specs.ExtendedFeatureSubleaf0Edx as Edx7
 use Rattle.x86defs.specs.ExtendedVersionAndFeaturesEdx as ExtendedVersion
 use Rattle.x86defs.specs.ExtendedAddressSpaceSizesEbx as Sizes
 use Rattle.x86defs.specs.ExtendedSevFeaturesEax as Sev
-use Rattle.topology.specs.Topology.{Inputs, topologyOf, processors, threadLevel, coreLevel}
+use Rattle.topology.specs.Topology.{topologyOf, processors, threadLevel, coreLevel}
 use Rattle.masking.specs.Place
 use Rattle.checks.specs.Rows.{Row, Rows, row, vacant}
 use Rattle.checks.specs.ExtendedState.{xfem, xss, saveArea}

@@ -1,8 +1,7 @@
 -- The clear masks of document 01 as figures, each computed from its named bits, and the bits that its rules name by place.
 use mathlib.Core.Path.{_≡_, refl}
-use mathlib.Core.Bool.{Bool, true, false}
-use mathlib.Core.List.{List, [], _∷_}
-use Prim.Native.Nat.{ℕ, _^_}
+use mathlib.Core.List.{[], _∷_}
+use Prim.Native.Nat.{_^_}
 use Rattle.bits.specs.Bits.{maskOf}
 use Rattle.finish.specs.Finish.{ymmVersionEcx, ymmFeaturesEbx, ymmFeaturesEcx, avx512FeaturesEbx, avx512FeaturesEcx, avx512FeaturesEdx, cetSs, rdPid, rdtscp, ibrsAndStibp, btcNo, hypervisorPresent}
 

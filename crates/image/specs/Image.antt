@@ -1,10 +1,7 @@
 -- Document 01, "Image and lookup": byte 1, then leaf, EAX, EBX, ECX, EDX (4 bytes each, little-endian) for a row without subleaf; byte 2,
 -- leaf, subleaf and the four for one with. Leaves stand in any order; subleaves of a leaf ascend.
-use mathlib.Core.Bool.{Bool, _&&_}
 use mathlib.Core.List.{List, [], _∷_, _++_}
-use Prim.Native.Nat.{ℕ, zero, suc, _+_, _*_, _/_, _%_, _≤_, _<_}
-use lib.Dec.{eqb, ltb}
-use lib.ListN.{length, getD}
+use Prim.Native.Nat.{ℕ, _+_, _/_, _%_}
 use Rattle.bits.specs.Choice.{pick}
 use Rattle.bits.specs.Lists.{tabulate}
 use Rattle.x86defs.specs.declared.CpuidResult.{CpuidResult}

@@ -1,6 +1,6 @@
 -- Document 01, "Image and lookup": a program reads up to 65,536 bytes, secure AVIC off, and writes the image; on a refusal, byte 3, the
 -- number (1 byte), leaf, subleaf (4 bytes each, little-endian, none FFFFFFFFh), s (1 byte); on longer input, byte 4.
-use mathlib.Core.Bool.{Bool, false}
+use mathlib.Core.Bool.{false}
 use mathlib.Core.List.{List, [], _∷_, _++_}
 use Prim.Native.Nat.{ℕ}
 use lib.Dec.{leb}
@@ -11,7 +11,6 @@ use Rattle.checks.specs.declared.Subleaf.the-variants.{None, Some}
 use Rattle.checks.specs.declared.Verdict.{Verdict}
 use Rattle.checks.specs.declared.Verdict.the-variants.{Accepted, Refused}
 use Rattle.checks.specs.Refusal.{Details, details}
-use Rattle.results.specs.declared.Built.{Built}
 use Rattle.build.specs.Build.{answer}
 use Rattle.image.specs.Image.{bytesOf, image}
 

@@ -1,11 +1,10 @@
 -- A write, by what building gave: refused and untouched, or the image placed.
-use mathlib.Core.Path.{_≡_, refl, sym, ap, _∙_}
+use mathlib.Core.Path.{_≡_}
 use mathlib.Core.Bool.{Bool}
 use mathlib.Core.List.{List}
 use Prim.Native.Nat.{ℕ}
 use Rattle.results.specs.declared.Built.{Built}
 use Rattle.checks.specs.declared.Refusal.{Refusal}
-use Rattle.checks.specs.declared.Verdict.{Verdict}
 use Rattle.checks.specs.declared.Verdict.the-variants.{Accepted, Refused as NotBuilt}
 use Rattle.build.specs.Build.{answer}
 use Rattle.image.specs.declared.Written.the-variants.{Refused}

@@ -1,8 +1,7 @@
 -- Not empty words: a whole page set that is accepted, and a pair for each outcome of demand 3, all by computation.
 use mathlib.Core.Path.{_≡_, refl}
-use mathlib.Core.Bool.{Bool, true, false}
-use mathlib.Core.List.{List, [], _∷_}
-use Prim.Native.Nat.{ℕ}
+use mathlib.Core.Bool.{true, false}
+use mathlib.Core.List.{[], _∷_}
 use lib.ListN.{length}
 use Rattle.x86defs.specs.Functions.{ExtendedStateEnumeration}
 use Rattle.checks.specs.declared.Subleaf.the-variants.{Some}

@@ -1,6 +1,6 @@
 -- Page sets, written entry by entry: document 01, "Page bytes".
 use mathlib.Core.List.{List, [], _∷_, _++_}
-use Prim.Native.Nat.{ℕ, _+_, _-_, _*_, _/_, _%_}
+use Prim.Native.Nat.{ℕ, _+_, _-_, _/_, _%_}
 use lib.ListN.{length, replicate}
 
 abbrev word : ℕ → List ℕ

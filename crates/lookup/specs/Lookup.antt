@@ -1,9 +1,7 @@
 -- Document 01, "Image and lookup": lookup answers as `leaf_result_ref`, enforcing or not. A leaf without subleaves is found where the
 -- caller names no subleaf or does not enforce; a leaf with subleaves is found only under a subleaf that the table has.
-use mathlib.Core.Bool.{Bool, true, false, _&&_, _||_}
-use mathlib.Core.List.{List}
+use mathlib.Core.Bool.{Bool, _||_}
 use Prim.Native.Nat.{ℕ}
-use lib.Dec.{eqb}
 use Rattle.bits.specs.Choice.{pick}
 use Rattle.x86defs.specs.declared.CpuidFunction.{CpuidFunction}
 use Rattle.x86defs.specs.Functions.{sameFunction, VendorAndMaxFunction, ExtendedMaxFunction, ExtendedFeatures, ExtendedTopologyEnumeration, ExtendedStateEnumeration, CacheTopologyDefinition}

@@ -2,8 +2,8 @@
 -- Places rise by leaf, then by subleaf. Rows 0 and 80000000h have places, but no page entry is kept for them.
 use mathlib.Core.Bool.{Bool, true, false, _&&_}
 use mathlib.Core.List.{List, [], _∷_}
-use Prim.Native.Nat.{ℕ, zero, suc, _+_, _-_}
-use lib.Dec.{eqb, ltb, leb}
+use Prim.Native.Nat.{ℕ, _+_, _-_}
+use lib.Dec.{ltb, leb}
 use Rattle.bits.specs.Choice.{pick}
 use Rattle.x86defs.specs.declared.CpuidFunction.{CpuidFunction}
 use Rattle.x86defs.specs.Functions.{function, result, sameFunction, VendorAndMaxFunction, VersionAndFeatures, MonitorMwait, ExtendedFeatures, ExtendedTopologyEnumeration, ExtendedStateEnumeration, ExtendedMaxFunction, ExtendedVersionAndFeatures, ExtendedBrandingString1, ExtendedBrandingString2, ExtendedBrandingString3, ExtendedL1CacheParameters, ExtendedL2CacheParameters, ExtendedPowerManagement, ExtendedAddressSpaceSizes, ExtendedSvmVersionAndFeatures, ExtendedTlb1GBIdentifiers, ExtendedOptimizationIdentifiers, CacheTopologyDefinition, ProcessorTopologyDefinition, ExtendedSevFeatures}

@@ -1,7 +1,7 @@
 -- Document 01, "Corners of masking.rs": the four masks of each kept leaf. A mask of single bits is the sum of the named bits' powers of
 -- two, a mask of fields the sum of the fields'. 80000001h and 80000008h get both their masks, joined by or.
 use mathlib.Core.Bool.{Bool}
-use mathlib.Core.List.{List, [], _∷_}
+use mathlib.Core.List.{[], _∷_}
 use Prim.Native.Nat.{ℕ, _-_, _^_}
 use lib.Bits.{bitAnd, bitOr}
 use Rattle.bits.specs.Choice.{pick}

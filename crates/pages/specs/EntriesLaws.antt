@@ -1,11 +1,9 @@
 -- Where a Dh entry counts.
 use mathlib.Core.Path.{_≡_, refl}
-use mathlib.Core.Bool.{Bool, true, false, not, _||_}
 use Prim.Native.Nat.{ℕ}
 use lib.Dec.{eqb}
 use Rattle.x86defs.specs.declared.CpuidResult.{CpuidResult}
 use Rattle.x86defs.specs.Functions.{ExtendedStateEnumeration}
-use Rattle.pages.specs.Layout.{Entry}
 use Rattle.pages.specs.Entries.{counts}
 
 -- on page 1 alone

@@ -1,8 +1,8 @@
 -- What the reader yields, in order, is the definition's list of counted entries; and collecting through it is collecting all.
 use mathlib.Core.Path.{_≡_, refl, sym, ap, _∙_, subst}
-use mathlib.Core.Bool.{Bool, true, false, not, _&&_, false≢true}
+use mathlib.Core.Bool.{Bool, true, false, not, false≢true}
 use mathlib.Core.List.{List, [], _∷_, map}
-use Prim.Native.Nat.{ℕ, zero, suc, _+_, _≤_, _<_}
+use Prim.Native.Nat.{ℕ, zero, suc, _≤_, _<_}
 use native.Mathlib.Omega.{arith}
 use lib.Dec.{eqb, ltb}
 use lib.ListN.{length}
@@ -12,13 +12,13 @@ use Rattle.bits.specs.ChoiceLaws.{never-both, pick-true, pick-false, and-left, 
 use Rattle.bits.specs.Lists.{keepIf}
 use Rattle.pages.specs.declared.CpuidPageIndex.{CpuidPageIndex}
 use Rattle.pages.specs.declared.ParsedCpuidEntry.{ParsedCpuidEntry}
-use Rattle.pages.specs.Layout.{Entry, entryAt, pagesIn, countOf, countsFit, mostEntries}
+use Rattle.pages.specs.Layout.{Entry, entryAt, pagesIn}
 use Rattle.pages.specs.Entries.{entries, counts, counted}
 use Rattle.pages.specs.Walk.{isEntry, firstIndex, incremented, rest, parsed}
 use Rattle.pages.specs.WalkLaws.{Valid, Turn, turn, first-valid, incremented-valid, rest-first, rest-end}
 use Rattle.masking.specs.Kept.{places, placeOf}
 use Rattle.finish.specs.declared.CpuidResults.{CpuidResults}
-use Rattle.build.specs.Collect.{storedAt, insert, insert-none, collected, Whole, Collecting, collecting-next, collecting-last}
+use Rattle.build.specs.Collect.{storedAt, insert, insert-none, collected, Collecting, collecting-next, collecting-last}
 use Rattle.reader.specs.declared.NextEntry.{NextEntry}
 use Rattle.reader.specs.declared.NextEntry.the-variants.{Entry as Yields, End}
 use Rattle.reader.specs.Read.{standsAt, passedOver, passOver, settledAt, nextAt, afterAt, andThen, yielded}

@@ -21,9 +21,8 @@ use x86defs::threads_per_compute_unit;
 ghost use mathlib.Core.Path.{_≡_};
 ghost use Rattle.checks.specs.ExtendedState.{xfem, saveArea};
 ghost use Rattle.checks.specs.Checks.{requiredVerdict, topologyVerdict};
-ghost use Rattle.finish.specs.Table.{emptyTable, rowsIn};
+ghost use Rattle.finish.specs.Table.{rowsIn};
 ghost use Rattle.results.specs.Built.{builtFrom};
-ghost use Rattle.checks.specs.Parts.{invlpgbOf};
 ghost use Rattle.results.specs.Stages.{refusedBuilt, answer, fromInvlpgb, fromComponents, fromArea};
 
 // What building gives: accepted with its table, or refused with an empty one.

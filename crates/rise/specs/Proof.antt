@@ -5,7 +5,7 @@ use mathlib.Core.List.{List}
 use mathlib.Core.Logic.{_⊎_, inl, inr, ⊎-elim}
 use Prim.Native.Nat.{ℕ, _<_}
 use lib.Dec.{eqb}
-use lib.Bits.{bitAnd, bitOr, and-zero-r}
+use lib.Bits.{and-zero-r}
 use lib.ListN.{getD}
 use borrow.Author.Tests.{eqb-true}
 use Rattle.bits.specs.Choice.{pick}
@@ -19,30 +19,29 @@ use Rattle.pages.specs.Entries.{counted}
 use Rattle.masking.specs.Masks.{applyMask, extendedState1}
 use Rattle.masking.specs.Kept.{places, keptLeaves, slot, masksAt}
 use Rattle.masking.specs.Place
-use Rattle.checks.specs.declared.Refusal.{Refusal}
 use Rattle.checks.specs.declared.Refusal.the-variants.{SaveAreaOverflow}
 use Rattle.checks.specs.declared.Verdict.{Verdict}
-use Rattle.checks.specs.declared.Verdict.the-variants.{Accepted, Refused}
+use Rattle.checks.specs.declared.Verdict.the-variants.{Accepted}
 use Rattle.checks.specs.Refusal.{andThen}
 use Rattle.checks.specs.Rows.{Row, Rows, row, vacant}
 use Rattle.checks.specs.ExtendedState.{combinedMask}
-use Rattle.finish.specs.Finish.{Rule, ruleAt, finished}
+use Rattle.finish.specs.Finish.{ruleAt, finished}
 use Rattle.finish.specs.Finish.Rule.{extendedState0}
 use Rattle.finish.specs.RemainsLaws.{finished-entry}
-use Rattle.finish.specs.Kinds.{Kind, EntryAtLeast, TableAtLeast, Registers, kindsOf, fromEntry}
-use Rattle.finish.specs.Kinds.Kind.{feature, featureBut28, area, made, other}
+use Rattle.finish.specs.Kinds.{EntryAtLeast, TableAtLeast, Registers, kindsOf, fromEntry}
+use Rattle.finish.specs.Kinds.Kind.{area, other}
 use Rattle.checks.specs.Checks.{missingComponent, componentsVerdict, areaVerdict, rowsVerdict}
 use Rattle.checks.specs.ChecksLaws.{component-present, then-right, then-skips}
 use Rattle.results.specs.Built.{tableFor}
 use Rattle.finish.specs.Table.{tableOf, rowIn}
-use Rattle.build.specs.Rows.{firstAt, maskRow, maskedAt, setLegacy, legacyFeatures, rowsOf}
+use Rattle.build.specs.Rows.{firstAt, maskRow, maskedAt, legacyFeatures, rowsOf}
 use Rattle.build.specs.RowsLaws.{row-of-place}
 use Rattle.build.specs.Build.{lawfulVerdict, verdictOf, answer}
 use Rattle.exactly.specs.Conditions.{Lacking, ComponentFault, AreaFault}
 use Rattle.exactly.specs.Decides.{Decides}
 use Rattle.exactly.specs.Decides.Decides.{passes, refuses}
 use Rattle.exactly.specs.ExtendedStateLaws.{components-decide, area-decides}
-use Rattle.rise.specs.Rise.{EntryRises, FirstEntryRises, Rises, RisesByTheLetter, Outcome, Further, TableRises, Risen, Demand3, Demand3ByTheLetter}
+use Rattle.rise.specs.Rise.{EntryRises, FirstEntryRises, Rises, RisesByTheLetter, Outcome, Further, TableRises, Demand3, Demand3ByTheLetter}
 use Rattle.rise.specs.Rise.Outcome.{missing, overflow, accepted}
 use Rattle.rise.specs.RowsRise.{XsavesEdx, present-rises, registers-rise, others-further, mask-rises, verdict-rises}
 

@@ -22,8 +22,8 @@ use Rattle.checks.specs.declared.Refusal.the-variants.{MissingRequiredResult, S
 use Rattle.checks.specs.declared.Verdict.{Verdict}
 use Rattle.checks.specs.declared.Verdict.the-variants.{Accepted, Refused}
 use Rattle.checks.specs.Rows.{Row, Rows}
-use Rattle.finish.specs.Finish.{Rule, ruleAt}
-use Rattle.finish.specs.Kinds.{Kind, EntryAtLeast, TableAtLeast, Registers, kindsOf, fromEntry}
+use Rattle.finish.specs.Finish.{ruleAt}
+use Rattle.finish.specs.Kinds.{EntryAtLeast, TableAtLeast, Registers, kindsOf, fromEntry}
 use Rattle.finish.specs.Table.{rowIn}
 use Rattle.build.specs.Rows.{firstAt, rowsOf}
 use Rattle.build.specs.Build.{lawfulVerdict, answer}

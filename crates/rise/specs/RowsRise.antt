@@ -1,19 +1,17 @@
 -- The rise, of masked first entries: from an accepted A and entries of B that compare with A's.
 use mathlib.Core.Path.{_≡_, refl, sym, ap, ap₂, _∙_, subst}
-use mathlib.Core.Bool.{Bool, true, false, _&&_}
+use mathlib.Core.Bool.{Bool, true, false}
 use mathlib.Core.Logic.{_⊎_, inl, inr}
 use Prim.Native.Nat.{ℕ, _+_, _≤_, _<_}
 use native.Mathlib.Omega.{arith}
 use lib.Dec.{eqb, lit<}
-use lib.Bits.{bitOr}
 use Rattle.bits.specs.Choice.{pick}
 use borrow.Author.Tests.{eqb-true}
-use Rattle.bits.specs.ChoiceLaws.{never-both, and-left, and-right, and-both, pick-true, if-holds}
+use Rattle.bits.specs.ChoiceLaws.{and-left, and-both, pick-true, if-holds}
 use Rattle.bits.specs.Search.{every}
 use Rattle.bits.specs.SearchLaws.{every-at}
-use Rattle.bits.specs.Bits.{bit, has, Within}
+use Rattle.bits.specs.Bits.{has, Within}
 use Rattle.bits.specs.BitsLaws.{has-mono, within-or}
-use Rattle.x86defs.specs.declared.CpuidResult.{CpuidResult}
 use Rattle.topology.specs.Topology.{Inputs, topologyOf}
 use Rattle.masking.specs.Kept.{places}
 use Rattle.masking.specs.Place
@@ -21,15 +19,15 @@ use Rattle.checks.specs.declared.Refusal.the-variants.{InvlpgbUnavailable}
 use Rattle.checks.specs.declared.Verdict.{Verdict}
 use Rattle.checks.specs.declared.Verdict.the-variants.{Accepted, Refused}
 use Rattle.checks.specs.Refusal.{andThen}
-use Rattle.checks.specs.Rows.{Row, Rows, row, vacant}
-use Rattle.checks.specs.Required.{requiredCount, placeRequired}
+use Rattle.checks.specs.Rows.{Row, Rows, row}
+use Rattle.checks.specs.Required.{placeRequired}
 use Rattle.checks.specs.ExtendedState.{xfem, xss, combinedMask, saveArea}
 use Rattle.checks.specs.ExtendedStateLaws.{sumAt, area-mono, xss-mono, xsaves-ecx, in-combined}
 use Rattle.checks.specs.Topology.{inputsOf}
-use Rattle.finish.specs.Finish.{Rule, Settings, ruleAt, enabledBy, settings, finish, remains, finishRow, finished, unlessNoXss}
+use Rattle.finish.specs.Finish.{Rule, Settings, ruleAt, enabledBy, settings, finish, remains, finished, unlessNoXss}
 use Rattle.finish.specs.Finish.Rule.{vendorAndMaxFunction, versionAndFeatures, extendedFeatures, threadLevelRow, coreLevelRow, extendedState0, extendedState1, extendedMaxFunction, extendedVersionAndFeatures, extendedAddressSpaceSizes, featureEax, untouched, component}
 use Rattle.finish.specs.Kinds.{EntryAtLeast, TableAtLeast, Registers, kindsOf, fromEntry}
-use Rattle.checks.specs.Checks.{requiredVerdict, invlpgbVerdict, componentsVerdict, areaVerdict, topologyVerdict, topologyRefusal, rowsVerdict, demand}
+use Rattle.checks.specs.Checks.{invlpgbVerdict, componentsVerdict, areaVerdict, topologyVerdict, topologyRefusal, rowsVerdict, demand}
 use Rattle.checks.specs.ChecksLaws.{AllPass, all-pass, required-present, present-required, component-present, demanded, then-accepted, then-skips}
 use Rattle.finish.specs.PlaceLaws.{always, always-from-entry, required-place, position, always-required, component-rule, Sort, sort}
 use Rattle.finish.specs.RemainsLaws.{finished-present, finished-result, made-remains, always-remains, component-finished}

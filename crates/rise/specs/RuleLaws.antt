@@ -1,6 +1,6 @@
 -- Row by row: where B's entry compares with A's and B enables at least as much, B's finished row compares with A's.
 use mathlib.Core.Path.{_≡_, refl, sym, ap, _∙_}
-use mathlib.Core.Bool.{Bool, true, false, _&&_}
+use mathlib.Core.Bool.{Bool, true, false}
 use Prim.Native.Nat.{ℕ, _≤_}
 use lib.Dec.{eqb}
 use lib.Bits.{bitOr}
@@ -11,7 +11,7 @@ use Rattle.bits.specs.BitsLaws.{has-mono, within-or, within-of-and, and-of-with
 use Rattle.x86defs.specs.declared.CpuidResult.{CpuidResult}
 use Rattle.finish.specs.Finish.{Rule, Enabled, Settings, finish, remains, unlessNoXss, addressSizesEbx, versionEcx, featuresEbx, featuresEcx, featuresEdx, extendedVersionEdx}
 use Rattle.finish.specs.Finish.Rule.{vendorAndMaxFunction, versionAndFeatures, extendedFeatures, threadLevelRow, coreLevelRow, extendedState0, extendedState1, extendedMaxFunction, extendedVersionAndFeatures, extendedAddressSpaceSizes, featureEax, untouched, component}
-use Rattle.finish.specs.Kinds.{Kind, Kinds, EntryAtLeast, TableAtLeast, Registers, kindsOf, fromEntry}
+use Rattle.finish.specs.Kinds.{EntryAtLeast, TableAtLeast, Registers, kindsOf, fromEntry}
 use Rattle.finish.specs.FeatureLaws.{EnablesAtLeast, at-least-of-and, versionEcx-and, featuresEbx-and, featuresEcx-and, featuresEdx-and, extendedVersionEdx-and, addressSizesEbx-and}
 
 -- what B's rows need from each other, compared with A's

@@ -1,5 +1,5 @@
 -- Two servers of which each rises to the other give the same answer: the same table, and with it the same image and lookups.
-use mathlib.Core.Path.{_≡_, refl, sym, ap, ap₂, _∙_}
+use mathlib.Core.Path.{_≡_, refl, sym, ap, _∙_}
 use mathlib.Core.Bool.{Bool, true, false}
 use mathlib.Core.List.{List}
 use Prim.Native.Nat.{ℕ, _<_}
@@ -12,7 +12,6 @@ use Rattle.bits.specs.ListsLaws.{length-tabulate, tabulated, getD-tabulate, sum
 use Rattle.bits.specs.BitsLaws.{within-refl, within-antisym}
 use Rattle.x86defs.specs.declared.CpuidResult.{CpuidResult}
 use Rattle.masking.specs.Kept.{places}
-use Rattle.finish.specs.declared.CpuidResults.{CpuidResults}
 use Rattle.checks.specs.declared.Verdict.the-variants.{Accepted}
 use Rattle.checks.specs.Rows.{Row, Rows, row, vacant}
 use Rattle.checks.specs.ExtendedState.{combinedMask}
@@ -21,7 +20,7 @@ use Rattle.finish.specs.Kinds.{Kind, Kinds, EntryAtLeast, TableAtLeast, Registe
 use Rattle.finish.specs.Kinds.Kind.{feature, featureBut28, area, made, other}
 use Rattle.finish.specs.RemainsLaws.{finished-entry}
 use Rattle.checks.specs.ChecksLaws.{then-left}
-use Rattle.finish.specs.Table.{tableOf, rowIn, countRows}
+use Rattle.finish.specs.Table.{rowIn, countRows}
 use Rattle.build.specs.Rows.{rowsOf}
 use Rattle.build.specs.Build.{lawfulVerdict, verdictOf, answer}
 use Rattle.rise.specs.Rise.{Rises, TableRises}

@@ -17,7 +17,6 @@ use Rattle.x86defs.specs.declared.CpuidFunction.{CpuidFunction}
 use Rattle.x86defs.specs.declared.CpuidResult.{CpuidResult}
 use Rattle.x86defs.specs.Functions.{result}
 use Rattle.masking.specs.Kept.{places}
-use Rattle.finish.specs.declared.CpuidResults.{CpuidResults}
 use Rattle.checks.specs.declared.Subleaf.{Subleaf}
 use Rattle.topology.specs.declared.TopologyError.{TopologyError}
 use Rattle.topology.specs.declared.TopologyError.the-variants.{Hyperthreading, ProcessorCount, ThreadsPerUnit}

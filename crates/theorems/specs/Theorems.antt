@@ -39,7 +39,7 @@ use Rattle.theorems.specs.Exported.{ExportsRise, ExportsCompare, exports
 use Rattle.instances.specs.PageSets.{serverA, serverB, serverWithoutD12, serverWithLargeD6}
 use Rattle.instances.specs.Computed as Computed
 use Rattle.instances.specs.Compared as Pairs
-use Rattle.instances.specs.MarkedRows.{Shown, marked, marked-rows}
+use Rattle.instances.specs.MarkedRows.{marked, marked-rows}
 use Rattle.instances.specs.MarkedRows.Shown.{core, refusal, area, supervisor}
 
 -- ---- Demand 1. crates/exactly/specs/Conditions.antt has each condition by itself, Exactly.antt the two records.

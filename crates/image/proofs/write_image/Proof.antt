@@ -1,5 +1,5 @@
 -- `image::write_image` meets its contract: building's refusal, or the table's image written.
-use mathlib.Core.Path.{_≡_, ap, _∙_}
+use mathlib.Core.Path.{ap, _∙_}
 use denote.Ref.{now}
 use Rattle.image.specs.Write.{Outcome}
 use Rattle.image.specs.WriteLaws.{write-refused, write-accepted}

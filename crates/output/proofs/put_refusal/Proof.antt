@@ -1,5 +1,5 @@
 -- `output::put_refusal` meets its contract: no room, or eleven bytes stored one after another.
-use mathlib.Core.Path.{_≡_, ap, _∙_}
+use mathlib.Core.Path.{ap}
 use native.Mathlib.Omega.{arith}
 use lib.ListN.{length-set}
 use denote.Ref.{now}

@@ -1,5 +1,5 @@
 -- `output::put_too_long` meets its contract: no room, or one byte stored.
-use mathlib.Core.Path.{_≡_, ap, _∙_}
+use mathlib.Core.Path.{ap}
 use denote.Ref.{now}
 use Rattle.image.specs.Write.{Outcome}
 use Rattle.output.specs.BytesLaws.{place-short, place-sets}

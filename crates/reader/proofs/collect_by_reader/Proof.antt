@@ -1,12 +1,11 @@
 -- `reader::collect_by_reader` meets its contract: before each turn the entries that are left give what all give, and a turn stores what the reader yields.
 use borrow.Author.Needs.{needs}
-use mathlib.Core.Path.{_≡_, sym, ap, _∙_}
+use mathlib.Core.Path.{sym, _∙_}
 use mathlib.Core.Logic.{⊎-elim}
-use Prim.Native.Nat.{_<_}
 use lib.ListN.{length}
 use Rattle.pages.specs.Walk.{rest}
 use Rattle.build.specs.Collect.{turn-kept, turn-new, turn-none, Collecting, collecting-first}
-use Rattle.reader.specs.ReadLaws.{Stands, next-stands, after-shorter, collecting-yielded, collecting-end, stands-stored}
+use Rattle.reader.specs.ReadLaws.{next-stands, after-shorter, collecting-yielded, collecting-end, stands-stored}
 use Rattle.reader.proofs.collect_by_reader.Statement.{statement}
 use Rattle.reader.proofs.collect_by_reader.Tie as tie
 
