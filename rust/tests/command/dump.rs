@@ -84,6 +84,22 @@ fn of_several_cpus_the_first_is_taken() {
 }
 
 #[test]
+fn sections_of_something_else_are_passed_over() {
+    let rows = dashed(&kept(epyc()));
+    let other = "  CPU Type : 64-Core\nCPU:\nCPUID 00000005: 00000001-00000002-00000003-00000004\n\u{e9}\n";
+    let expected = (set(&kept(epyc())), String::new());
+    let text = format!("------[ CPU Info ]------\n{other}\n------[ CPUID Registers / Logical CPU #0 ]------\n\n{rows}\n------[ MSR Registers / Logical CPU #0 ]------\n{other}");
+    assert_eq!(pages_of(&text), expected);
+    // rows of a section of something else alone are none
+    let ran = run_on(format!("------[ CPU Info ]------\n{rows}").as_bytes(), &["from-dump", "-", "-o", "-"]);
+    assert_eq!((ran.status, ran.line()), (2, "standard input: has no CPUID row of a first CPU"));
+    // and within a CPU's section every line counts
+    let ran = run_on(format!("------[ Logical CPU #0 ]------\n{rows}{other}").as_bytes(), &["from-dump", "-", "-o", "-"]);
+    assert_eq!(ran.status, 2);
+    assert!(ran.line().contains("is no CPUID row and no heading: 'CPU Type : 64-Core'"), "{}", ran.line());
+}
+
+#[test]
 fn the_text_of_a_leaf_may_stand_in_a_bracket() {
     let text = "CPUID 80000002: 20444D41-43595045-31373720-34362033 [AMD EPYC 7713 64]\n";
     assert_eq!(pages_of(text).0[16..20], 0x8000_0002u32.to_le_bytes());
@@ -108,7 +124,7 @@ fn a_damaged_dump_names_the_line() {
         "CPUID 0000000D: 00A00F11-00800800-7EDA320B-178BFBFF [SL]",
         "CPUID 0000000D: 00A00F11-00800800-7EDA320B-178BFBFF [SL xx]",
         "CPU x:",
-        "------[ Motherboard ]------",
+        "------[ Motherboard",
         "vendor_id = \"AuthenticAMD\"",
         "\u{1b}[1m\u{e9}",
     ] {

@@ -32,14 +32,23 @@ struct Dump {
 enum Line {
     Row(Entry),
     Cpu,
+    /// a section of something else
+    Other,
     Empty,
 }
 
 fn parse(bytes: &[u8]) -> Result<Dump, String> {
     let mut dump = Dump { rows: vec![], cpus: 0 };
+    let mut other = false;
     for (index, line) in bytes.split(|byte| *byte == b'\n').enumerate() {
         let text = String::from_utf8_lossy(line);
-        match line_of(&text) {
+        // only a section's heading ends another
+        if other && section(text.trim()).is_none() {
+            continue;
+        }
+        let line = line_of(&text);
+        other = matches!(line, Some(Line::Other));
+        match line {
             Some(Line::Row(row)) => {
                 // rows over the first heading are those of a CPU too
                 dump.cpus = dump.cpus.max(1);
@@ -48,7 +57,7 @@ fn parse(bytes: &[u8]) -> Result<Dump, String> {
                 }
             }
             Some(Line::Cpu) => dump.cpus += 1,
-            Some(Line::Empty) => {}
+            Some(Line::Other | Line::Empty) => {}
             None => return Err(format!("line {} is no CPUID row and no heading: {}", index + 1, quoted(&text))),
         }
     }
@@ -71,17 +80,25 @@ fn line_of(line: &str) -> Option<Line> {
     } else if heading(line) {
         Some(Line::Cpu)
     } else {
-        debian_row(line).or_else(|| dashed_row(line)).map(Line::Row)
+        section(line).or_else(|| debian_row(line).or_else(|| dashed_row(line)).map(Line::Row))
     }
 }
 
-/// `CPU 0:`, `CPU:` or `------[ Logical CPU #0 ]------`.
+fn decimal(text: &str) -> bool {
+    !text.is_empty() && text.bytes().all(|digit| digit.is_ascii_digit())
+}
+
+/// `CPU 0:` or `CPU:`.
 fn heading(line: &str) -> bool {
-    let number = |text: &str| !text.is_empty() && text.bytes().all(|digit| digit.is_ascii_digit());
-    let debian = line.strip_prefix("CPU").and_then(|rest| rest.strip_suffix(':'));
-    let dashed = line.strip_prefix("------[ ").and_then(|rest| rest.strip_suffix(" ]------"));
-    debian.is_some_and(|rest| rest.is_empty() || rest.strip_prefix(' ').is_some_and(number))
-        || dashed.and_then(|rest| rest.rsplit_once("Logical CPU #")).is_some_and(|(_, rest)| number(rest))
+    let rest = line.strip_prefix("CPU").and_then(|rest| rest.strip_suffix(':'));
+    rest.is_some_and(|rest| rest.is_empty() || rest.strip_prefix(' ').is_some_and(decimal))
+}
+
+/// `------[ Logical CPU #0 ]------` or `------[ CPUID Registers / Logical CPU #0 ]------`; any other title heads a section of something else.
+fn section(line: &str) -> Option<Line> {
+    let title = line.strip_prefix("------[ ").and_then(|rest| rest.strip_suffix(" ]------"))?;
+    let number = title.strip_prefix("CPUID Registers / ").unwrap_or(title).strip_prefix("Logical CPU #");
+    Some(if number.is_some_and(decimal) { Line::Cpu } else { Line::Other })
 }
 
 /// `0x0000000d 0x01: eax=0x0000000f ebx=0x00000340 ecx=0x00001800 edx=0x00000000`; older versions have no subleaf.

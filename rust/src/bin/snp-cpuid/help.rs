@@ -80,7 +80,8 @@ Makes two CPUID pages from the text of Debian's 'cpuid -r', or from the other co
 CPUID 0000000D: 00000007-00000340-00000340-00000000 [SL 00]
 
 A row without subleaf has subleaf 0. Headings 'CPU 0:', 'CPU:' and '------[ Logical CPU #0 ]------'
-and empty lines may stand between rows; any other line is an error. Of several CPUs the first is
+and empty lines may stand between rows; any other line is an error. A section of another title, from
+a line '------[ TITLE ]------' to the next such line, is passed over. Of several CPUs the first is
 taken. Rows go in in the order of the file, leaf Dh on page 1 and all others on page 0. Only rows
 that the table reads go in: leaves 1, 5, 7.0, B.0, B.1, D.0 to D.3F, 80000001 to 80000008, 8000000A,
 80000019, 8000001A, 8000001D.0 to .3, 8000001E and 8000001F. The others would fill page 0 and change
