@@ -50,7 +50,15 @@ pub struct Compared {
 
 unsafe extern "C" {
     pub fn snp_cpuid_build(pages: *const u8, length: usize, secure_avic: bool) -> Built;
-    pub fn snp_cpuid_lookup(pages: *const u8, length: usize, secure_avic: bool, leaf: u32, has_subleaf: bool, subleaf: u32, enforce_subleaf: bool) -> Found;
+    pub fn snp_cpuid_lookup(
+        pages: *const u8,
+        length: usize,
+        secure_avic: bool,
+        leaf: u32,
+        has_subleaf: bool,
+        subleaf: u32,
+        enforce_subleaf: bool,
+    ) -> Found;
     pub fn snp_cpuid_write_image(pages: *const u8, length: usize, secure_avic: bool, out: *mut u8, room: usize) -> Written;
     pub fn snp_cpuid_compare(a: *const u8, a_length: usize, b: *const u8, b_length: usize, secure_avic: bool) -> Compared;
 }

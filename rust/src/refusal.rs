@@ -79,7 +79,9 @@ impl fmt::Display for Refusal {
             Refusal::MissingRequiredResult(leaf, Some(subleaf)) if *leaf == 0xD => {
                 write!(f, "no entry for leaf Dh subleaf {subleaf:X}h on page 1, where the entries of Dh must stand")
             }
-            Refusal::MissingRequiredResult(leaf, Some(subleaf)) => write!(f, "no entry for leaf {leaf:X}h subleaf {subleaf:X}h, which every guest needs"),
+            Refusal::MissingRequiredResult(leaf, Some(subleaf)) => {
+                write!(f, "no entry for leaf {leaf:X}h subleaf {subleaf:X}h, which every guest needs")
+            }
             Refusal::InvlpgbUnavailable => write!(f, "INVLPGB (80000008h.EBX bit 3) is required but unavailable"),
             Refusal::SaveAreaOverflow => write!(f, "the size of an extended state (Dh: EAX + EBX of a subleaf) does not fit 32 bits"),
             Refusal::TopologyInconsistent(why) => write!(f, "the topology leaves disagree: {why}"),
@@ -91,7 +93,9 @@ impl fmt::Display for Refusal {
 impl fmt::Display for TopologyError {
     fn fmt(&self, f: &mut fmt::Formatter<'_>) -> fmt::Result {
         match self {
-            TopologyError::Hyperthreading(s) => write!(f, "the processor count does not go with the hyperthreading flag, 1.EDX bit 28 (APIC core id size {s})"),
+            TopologyError::Hyperthreading(s) => {
+                write!(f, "the processor count does not go with the hyperthreading flag, 1.EDX bit 28 (APIC core id size {s})")
+            }
             TopologyError::ProcessorCount(s) => write!(f, "1.EBX and 80000008h.ECX give different processor counts (APIC core id size {s})"),
             TopologyError::ThreadsPerUnit => write!(f, "8000001Eh.EBX gives more threads per unit than there can be"),
         }

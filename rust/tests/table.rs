@@ -71,7 +71,14 @@ fn every_refusal_by_name() {
     let cases: [(Vec<u8>, Refusal); 11] = [
         (vec![], Refusal::PagesLength),
         (epyc()[1..].to_vec(), Refusal::PagesLength),
-        ({ let mut p = epyc(); p[PAGE_BYTES] = 65; p }, Refusal::PageCount),
+        (
+            {
+                let mut p = epyc();
+                p[PAGE_BYTES] = 65;
+                p
+            },
+            Refusal::PageCount,
+        ),
         (without(0x1, 0), Refusal::MissingRequiredResult(0x1, None)),
         (without(0xD, 1), Refusal::MissingRequiredResult(0xD, Some(1))),
         (without(0xD, 2), Refusal::MissingRequiredResult(0xD, Some(2))),

@@ -1,11 +1,11 @@
 //! The exported functions of the port, as the crate in rust/ declares them, called with byte slices.
 
-use snp_cpuid::exports::snp_cpuid_build;
-use snp_cpuid::exports::snp_cpuid_lookup;
-use snp_cpuid::exports::snp_cpuid_write_image;
 pub use snp_cpuid::exports::Built;
 pub use snp_cpuid::exports::Found;
 pub use snp_cpuid::exports::Written;
+use snp_cpuid::exports::snp_cpuid_build;
+use snp_cpuid::exports::snp_cpuid_lookup;
+use snp_cpuid::exports::snp_cpuid_write_image;
 use std::ptr;
 
 /// The header allows null where the length is 0, and that is what an empty slice goes as.

@@ -8,7 +8,10 @@ use std::fs;
 
 /// The shipped entries in the form of `cpuid -r`.
 fn debian(entries: &Entries) -> String {
-    entries.iter().map(|((l, k), [a, b, c, d])| format!("   0x{l:08x} 0x{k:02x}: eax=0x{a:08x} ebx=0x{b:08x} ecx=0x{c:08x} edx=0x{d:08x}\n")).collect()
+    entries
+        .iter()
+        .map(|((l, k), [a, b, c, d])| format!("   0x{l:08x} 0x{k:02x}: eax=0x{a:08x} ebx=0x{b:08x} ecx=0x{c:08x} edx=0x{d:08x}\n"))
+        .collect()
 }
 
 /// The same in the other form; leaves with one subleaf have no bracket.
@@ -88,7 +91,9 @@ fn sections_of_something_else_are_passed_over() {
     let rows = dashed(&kept(epyc()));
     let other = "  CPU Type : 64-Core\nCPU:\nCPUID 00000005: 00000001-00000002-00000003-00000004\n\u{e9}\n";
     let expected = (set(&kept(epyc())), String::new());
-    let text = format!("------[ CPU Info ]------\n{other}\n------[ CPUID Registers / Logical CPU #0 ]------\n\n{rows}\n------[ MSR Registers / Logical CPU #0 ]------\n{other}");
+    let text = format!(
+        "------[ CPU Info ]------\n{other}\n------[ CPUID Registers / Logical CPU #0 ]------\n\n{rows}\n------[ MSR Registers / Logical CPU #0 ]------\n{other}"
+    );
     assert_eq!(pages_of(&text), expected);
     // rows of a section of something else alone are none
     let ran = run_on(format!("------[ CPU Info ]------\n{rows}").as_bytes(), &["from-dump", "-", "-o", "-"]);

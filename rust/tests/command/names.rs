@@ -25,7 +25,8 @@ fn bits_are_those_of_the_specification() {
     let mut expected: BTreeMap<String, BTreeSet<u32>> = BTreeMap::new();
     for text in specs().iter().filter(|text| text.contains("pub place :")) {
         let register = text.strip_prefix("-- ").and_then(|rest| rest.split([':', ',', ' ']).next()).expect("line one names the register");
-        let places = text.lines().filter_map(|line| line.strip_prefix("place ")).map(|line| line.split_once(" = ").unwrap().1.trim().parse().unwrap());
+        let places =
+            text.lines().filter_map(|line| line.strip_prefix("place ")).map(|line| line.split_once(" = ").unwrap().1.trim().parse().unwrap());
         expected.insert(register.into(), places.collect());
     }
     let ours: BTreeMap<String, BTreeSet<u32>> =
@@ -152,7 +153,11 @@ fn names_are_those_of_the_public_database() {
             let public = database.get(&at).map_or("", String::as_str);
             let other = OTHER_NAMES.iter().find(|pair| **pair == (*name, public));
             used.extend(other);
-            assert!(plain(name) == plain(public) || other.is_some(), "{} bit {bit}: {name}, in the database {public}", written(f.leaf, f.subleaf, f.register));
+            assert!(
+                plain(name) == plain(public) || other.is_some(),
+                "{} bit {bit}: {name}, in the database {public}",
+                written(f.leaf, f.subleaf, f.register)
+            );
         }
     }
     for f in &FIELDS {

@@ -36,7 +36,8 @@ fn every_line_is_true() {
         if command.starts_with("cpuid ") && debian::installed().is_none() {
             continue;
         }
-        let output = Command::new("sh").args(["-c", &format!("{{ {command}; }} 2>&1")]).current_dir(folder.path("")).env("PATH", &path).output().unwrap();
+        let output =
+            Command::new("sh").args(["-c", &format!("{{ {command}; }} 2>&1")]).current_dir(folder.path("")).env("PATH", &path).output().unwrap();
         // the empty line that ends a block is the README's
         assert_eq!(String::from_utf8_lossy(&output.stdout).trim_end(), expected.trim_end(), "{command}");
     }

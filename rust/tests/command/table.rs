@@ -121,7 +121,8 @@ fn fields_of_an_epyc_7713() {
 #[test]
 fn family_and_model_of_other_processors() {
     let folder = Folder::new("signature");
-    for (eax, expected) in [(0x00A1_0F11, "family 19h, model 11h, stepping 1h, type 0"), (0x0FFF_0652, "family 06h, model 05h, stepping 2h, type 0")] {
+    for (eax, expected) in [(0x00A1_0F11, "family 19h, model 11h, stepping 1h, type 0"), (0x0FFF_0652, "family 06h, model 05h, stepping 2h, type 0")]
+    {
         let file = folder.file("pages", set(&with(0x1, 0, 0, |_| eax)));
         assert_eq!(words(run(&["table", &file]).text())["00000001 EAX"], expected);
     }

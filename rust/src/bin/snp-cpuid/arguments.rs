@@ -97,10 +97,7 @@ pub fn parse(given: impl Iterator<Item = OsString>) -> Result<Asked, Failure> {
 }
 
 fn command(name: &OsStr) -> Result<&'static Command, Failure> {
-    COMMANDS
-        .iter()
-        .find(|command| name == command.name)
-        .ok_or_else(|| Failure::Bad(format!("no command '{}' (see 'snp-cpuid --help')", shown(name))))
+    COMMANDS.iter().find(|command| name == command.name).ok_or_else(|| Failure::Bad(format!("no command '{}' (see 'snp-cpuid --help')", shown(name))))
 }
 
 fn of_command(command: &'static Command, mut given: impl Iterator<Item = OsString>) -> Result<Asked, Failure> {

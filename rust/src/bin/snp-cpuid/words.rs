@@ -27,7 +27,9 @@ pub fn of_row(row: &Row) -> Vec<(usize, String)> {
 fn fields(row: &Row) -> Vec<(usize, String)> {
     let r = &row.result;
     match (row.leaf, row.subleaf) {
-        (0x0, None) => vec![(EAX, format!("highest standard leaf {:08X}", r.eax)), (EBX, format!("vendor {} (EBX, EDX, ECX)", text(&[r.ebx, r.edx, r.ecx])))],
+        (0x0, None) => {
+            vec![(EAX, format!("highest standard leaf {:08X}", r.eax)), (EBX, format!("vendor {} (EBX, EDX, ECX)", text(&[r.ebx, r.edx, r.ecx])))]
+        }
         (0x8000_0000, None) => {
             vec![(EAX, format!("highest extended leaf {:08X}", r.eax)), (EBX, format!("vendor {} (EBX, EDX, ECX)", text(&[r.ebx, r.edx, r.ecx])))]
         }
@@ -35,7 +37,9 @@ fn fields(row: &Row) -> Vec<(usize, String)> {
         (0xB, Some(_)) => level(row),
         (0xD, Some(0)) => vec![(ECX, format!("save area {} bytes", r.ecx))],
         (0xD, Some(component @ 2..)) => vec![(EAX, state(component, row))],
-        (0x8000_0001, None) => vec![(EAX, signature(row)), (EBX, format!("brand id {}, package type {}", cut(row, "brand-id"), cut(row, "pkg-type")))],
+        (0x8000_0001, None) => {
+            vec![(EAX, signature(row)), (EBX, format!("brand id {}, package type {}", cut(row, "brand-id"), cut(row, "pkg-type")))]
+        }
         (0x8000_0002..=0x8000_0004, None) => vec![(EAX, format!("processor name {} (EAX to EDX)", text(&registers(row))))],
         (0x8000_0008, None) => sizes(row),
         (0x8000_000A, None) => vec![(EAX, format!("SVM revision {}", cut(row, "svm-rev")))],
