@@ -3,6 +3,7 @@ use checks::Refusal;
 use checks::Verdict;
 use finish::CpuidResults;
 use masking::KeptLeaf;
+use masking::PLACES;
 use pages::ParsedCpuidEntry;
 use results::Built;
 use x86defs::CpuidResult;
@@ -16,11 +17,7 @@ ghost use Rattle.build.specs.Rows.{setLegacy};
 ghost use Rattle.build.specs.Collect.{collected, countedPlace};
 ghost use Rattle.build.specs.Build.{answer};
 
-const PLACES: usize = 88;
-
 const EXTENDED_STATE: u32 = 0xD;
-
-const EXTENDED_STATE_PLACE: usize = 6;
 
 const LEGACY_FEATURES: u32 = 3;
 
@@ -43,7 +40,7 @@ pub fn masked_at(kept: KeptLeaf, place: usize, r: CpuidResult) -> CpuidResult
     ensures { λ q. ⌜ q ≡ setLegacy place (applyMask (masksOf kept) r) ⌝ }
 {
     let masked = masking::apply_mask(kept, r);
-    if place == EXTENDED_STATE_PLACE {
+    if place == checks::place::EXTENDED_STATE_0 {
         return CpuidResult {
             eax: masked.eax | LEGACY_FEATURES,
             ebx: masked.ebx,

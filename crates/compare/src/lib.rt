@@ -4,6 +4,7 @@ use checks::Subleaf;
 use checks::Verdict;
 use finish::CpuidResults;
 use kinds::Kinds;
+use masking::PLACES;
 use x86defs::CpuidFunction;
 use x86defs::CpuidResult;
 ghost use mathlib.Core.Path.{_≡_};
@@ -42,8 +43,6 @@ struct RegistersRise {
     ecx: bool,
     edx: bool,
 }
-
-const PLACES: usize = 88;
 
 // Whether B meets the hypothesis of demand 3 beside A under a secure-AVIC choice, or the first thing that fails: A's refusal, then B's
 // length and counts, then the rows of A's table by rising leaf and subleaf, at each first B's entry and then EAX, EBX, ECX, EDX.

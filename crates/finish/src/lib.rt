@@ -7,6 +7,7 @@ use features::extended_state_1;
 use features::extended_version_and_features;
 use features::update_extended_address_space_sizes;
 use features::version_and_features;
+use masking::PLACES;
 use topology::core_level;
 use topology::thread_level;
 use x86defs::CpuidResult;
@@ -109,7 +110,7 @@ fn count_rows(present: [bool; 88]) -> usize
 {
     let mut count: usize = 0;
     let mut i: usize = 0;
-    while i < 88 {
+    while i < PLACES {
         count += present[i] as usize;
         i += 1;
     }

@@ -12,6 +12,7 @@ ghost use Rattle.image.specs.Pieces.{word, registers, indexedRow, wholeR
 use checks::Refusal;
 use checks::Verdict;
 use finish::CpuidResults;
+use masking::PLACES;
 use x86defs::CpuidResult;
 
 // How many bytes were written, or why none was.
@@ -94,7 +95,7 @@ fn put_rows(t: CpuidResults, out: &mut [u8])
 {
     let mut at = 0;
     let mut i = 0;
-    while i < 88 {
+    while i < PLACES {
         let run = run_at(i);
         let first = run.first;
         let end = run.end;

@@ -6,6 +6,7 @@ ghost use Rattle.lookup.specs.Lookup.{withSubleaves, placeWhole, lookup}
 ghost use Rattle.lookup.specs.LookupLaws.{placeAsked};
 use checks::Subleaf;
 use finish::CpuidResults;
+use masking::PLACES;
 use x86defs::CpuidFunction;
 use x86defs::CpuidResult;
 
@@ -24,7 +25,7 @@ pub fn leaf_result(
     ensures { λ r. ⌜ r ≡ lookup t leaf subleaf «enforce_subleaf» ⌝ }
 {
     let i = place_asked(leaf, subleaf, enforce_subleaf);
-    if i < 88 {
+    if i < PLACES {
         if t.present[i] {
             let r = t.results[i];
             return LeafResult::Some(r);
@@ -44,13 +45,13 @@ fn place_asked(leaf: CpuidFunction, subleaf: Subleaf, enforce_subleaf: bool) -> 
                 return masking::place_of(leaf, k);
             }
             if enforce_subleaf {
-                return 88;
+                return PLACES;
             }
             place_whole(leaf)
         }
         Subleaf::None => {
             if indexed {
-                return 88;
+                return PLACES;
             }
             place_whole(leaf)
         }

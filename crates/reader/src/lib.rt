@@ -2,6 +2,7 @@
 // Each function over the reader takes it apart and calls a covered one with the slice and the index.
 use checks::Refusal;
 use finish::CpuidResults;
+use masking::PLACES;
 use pages::CpuidPageIndex;
 use pages::ParsedCpuidEntry;
 use results::Built;
@@ -12,8 +13,6 @@ ghost use Rattle.pages.specs.Walk.{firstIndex, incremented, isEntry};
 ghost use Rattle.build.specs.Collect.{collected};
 ghost use Rattle.build.specs.Build.{answer};
 ghost use Rattle.reader.specs.Read.{passedOver, settledAt, nextAt, afterAt};
-
-const PLACES: usize = 88;
 
 const EXTENDED_STATE: u32 = 0xD;
 
