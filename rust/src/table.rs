@@ -15,14 +15,14 @@ pub struct CpuidResult {
     pub edx: u32,
 }
 
-/// One row: a leaf, its subleaf where the leaf has them, and what a guest reads there.
+/// One row: a leaf, its subleaf where the leaf has them, and its registers in the table.
 #[derive(Clone, Copy, Debug, PartialEq, Eq, Hash)]
 pub struct Row {
     /// the leaf
     pub leaf: u32,
     /// the subleaf; none for a leaf without
     pub subleaf: Option<u32>,
-    /// what a guest reads
+    /// the four registers
     pub result: CpuidResult,
 }
 

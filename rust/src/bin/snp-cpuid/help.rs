@@ -8,7 +8,7 @@ The CPUID table that an AMD SEV-SNP guest is given, from the CPUID pages of its 
 Commands:
   table PAGES                print the table, its features and its topology in words
   image PAGES -o FILE        write the table as bytes
-  lookup PAGES LEAF[.SUB]    print what a guest reads at one leaf
+  lookup PAGES LEAF[.SUB]    print the row of one leaf
   from-dump FILE -o PAGES    make pages from the text of 'cpuid -r'
   to-dump PAGES [-o FILE]    print the table as text that 'cpuid -f' reads
   compare A B                print how the tables of two servers differ, and what is promised
@@ -58,10 +58,10 @@ written.
 pub const LOOKUP: &str = "\
 Usage: snp-cpuid lookup PAGES LEAF[.SUB] [--enforce] [--secure-avic]
 
-Prints what a guest reads at one leaf, and subleaf where one is given. Both numbers are hexadecimal,
-with or without 0x: 80000008 and 0x80000008 are the same leaf, D.B is leaf Dh subleaf 11. A leaf
-with subleaves is found only under a subleaf that the table has; one without is found under any
-subleaf, and with --enforce only where none is given.
+Prints the row of one leaf, and subleaf where one is given, as leaf_result_ref of OpenHCL finds it.
+Both numbers are hexadecimal, with or without 0x: 80000008 and 0x80000008 are the same leaf, D.B is
+leaf Dh subleaf 11. A leaf with subleaves is found only under a subleaf that the table has; one
+without is found under any subleaf, and with --enforce only where none is given.
 
   --enforce       take the subleaf by the letter
   --secure-avic   keep the secure-AVIC bit of 8000001Fh.EAX

@@ -1,4 +1,4 @@
-//! `lookup`: what a guest reads at one leaf.
+//! `lookup`: the row of one leaf.
 
 use crate::arguments::{Arguments, ENFORCE};
 use crate::failure::Failure;
