@@ -51,7 +51,7 @@ pub fn masked_at(kept: KeptLeaf, place: usize, r: CpuidResult) -> CpuidResult
     masked
 }
 
-// The masked first entry of every place, from pages whose counts are lawful.
+// The masked first entry of every place, from pages whose counts are lawful: what the reader gives, page by page.
 pub fn collect(pages: &[u8], secure_avic: bool) -> CpuidResults
     requires { ⌜ countsFit (now pages) ≡ true ⌝ }
     ensures { λ r. ⌜ r ≡ collected «secure_avic» (now (pages .entry)) ⌝ }
@@ -59,21 +59,25 @@ pub fn collect(pages: &[u8], secure_avic: bool) -> CpuidResults
     let kept = masking::kept_leaves(secure_avic);
     let n = pages::page_count(pages);
     let mut t = finish::empty_table();
-    let mut index = pages::first_index(pages);
+    let mut index = reader::start(pages);
     while index.page_index < n {
-        let entry = pages::entry_at(pages, index);
-        let place = counted_place(index.page_index, entry);
-        if place < PLACES {
-            if t.present[place] {} else {
-                let row = masking::mask_row(place);
-                let r = entry.result;
-                let masked = masked_at(kept[row], place, r);
-                t.present[place] = true;
-                t.results[place] = masked;
+        let page = index.page_index;
+        while index.page_index == page {
+            let taken = reader::take(pages, index);
+            let entry = taken.found;
+            let place = counted_place(page, entry);
+            if place < PLACES {
+                if t.present[place] {} else {
+                    let row = masking::mask_row(place);
+                    let r = entry.result;
+                    let masked = masked_at(kept[row], place, r);
+                    t.present[place] = true;
+                    t.results[place] = masked;
+                }
             }
+            let next = taken.index;
+            index = next;
         }
-        let next = pages::increment(pages, index);
-        index = next;
     }
     t
 }

@@ -45,6 +45,17 @@ up-to-next {A} {d} {new} {old} {out} {i} {k} {v} q l e u = record {
           | inr p ↦ getD-set-other out i j v d (λ r. omega arith) ∙ u .below j (omega arith)
         ]
 
+up-to-same : {A : Type 0} {d : A} {new : ℕ → A} {old out : List A} {i k : ℕ}
+    → k ≡ i + 1 → getD out i d ≡ new i → UpTo d new old out i → UpTo d new old out k
+up-to-same {A} {d} {new} {old} {out} {i} {k} q e u = record {
+  size = u .size;
+  below = below′;
+  above = λ j h. u .above j (omega arith);
+}
+  where
+    below′ : (j : ℕ) → j < k → getD out j d ≡ new j
+    below′ j h = elim (eq-or-lt-of-le h) [ inl p ↦ let r : j ≡ i = omega arith in rw r e | inr p ↦ u .below j (omega arith) ]
+
 -- ---- the dropped rows, place by place
 
 dropped-low : (m : Rows) (x j : ℕ) → j < Place.extendedState 2 → dropped m x j ≡ m j
@@ -95,28 +106,52 @@ all-dropped d new {old} {out} e f u = tabulated places new out d (u .size ∙ e)
         u .above j l ∙ sym (f j l)
 
 module _ (t : CpuidResults) (x : ℕ) (p : length (t .present) ≡ places) (q : length (t .results) ≡ places) where
-  -- a turn, at subleaf k
-  pub dropping-next : {out : CpuidResults} (k : ℕ) {used : Bool} {kept : CpuidResult}
-      → 2 ≤ k → k < 64 → used ≡ has k x
-      → kept ≡ pick (used && getD (out .present) (Place.extendedState k) false) (row (getD (out .results) (Place.extendedState k) (result 0 0 0 0))) vacant .result
-      → Dropping t x k out
-      → Dropping t x (k + 1)
-      (table (set (out .present) (Place.extendedState k) (used && getD (out .present) (Place.extendedState k) false))
-      (set (out .results) (Place.extendedState k) kept) (out .«row_count») (out .«max_extended_state»))
-  dropping-next {out} k {used} {kept} l u e g d =
-      let i : ℕ = Place.extendedState k in
-      let keep : (used && getD (out .present) i false) ≡ (has k x && rowsIn t i .present) = rw (e, d .present .above i (le-refl i)) in
-      let n : Place.extendedState (k + 1) ≡ i + 1 = omega arith in
-      record {
-        present =
-            up-to-next n (omega (arith, d .present .size))
-            (keep ∙ sym (ap (λ (r : Row). r .present) (dropped-at (rowsIn t) x k l u) ∙ present-picked _ _)) (d .present);
-        results =
-            up-to-next n (omega (arith, d .results .size))
-            (g ∙ rw (keep, d .results .above i (le-refl i)) (sym (ap (λ (r : Row). r .result) (dropped-at (rowsIn t) x k l u)))) (d .results);
-        count = d .count;
-        mask = d .mask;
-      }
+  -- a turn, at subleaf k, whose place is i: a row that stays, one that goes, and none
+  module _ {out : CpuidResults} (k : ℕ) (l : 2 ≤ k) (u : k < 64) (d : Dropping t x k out) where
+    abbrev i : ℕ
+    i = Place.extendedState k
+
+    keep : (here used : Bool) → getD (out .present) i false ≡ here → has k x ≡ used → dropped (rowsIn t) x i ≡ pick (used && here) (row (getD (out .results) i (result 0 0 0 0))) vacant
+    keep here used e f = dropped-at (rowsIn t) x k l u ∙ rw (f, ← d .present .above i (le-refl i), e, d .results .above i (le-refl i))
+
+    next : Place.extendedState (k + 1) ≡ i + 1
+    next = omega arith
+
+    pub dropping-stays : getD (out .present) i false ≡ true → has k x ≡ true → Dropping t x (k + 1) out
+    dropping-stays e f =
+        let z = keep true true e f in
+        record {
+          present = up-to-same next (e ∙ sym (ap (λ (r : Row). r .present) z)) (d .present);
+          results = up-to-same next (sym (ap (λ (r : Row). r .result) z)) (d .results);
+          count = d .count;
+          mask = d .mask;
+        }
+
+    pub dropping-goes : getD (out .present) i false ≡ true → has k x ≡ false
+        → Dropping t x (k + 1) (table (set (out .present) i false) (set (out .results) i (result 0 0 0 0)) (out .«row_count») (out .«max_extended_state»))
+    dropping-goes e f =
+        let z = keep true false e f in
+        record {
+          present = up-to-next next (omega (arith, d .present .size)) (sym (ap (λ (r : Row). r .present) z)) (d .present);
+          results = up-to-next next (omega (arith, d .results .size)) (sym (ap (λ (r : Row). r .result) z)) (d .results);
+          count = d .count;
+          mask = d .mask;
+        }
+
+    pub dropping-none : getD (out .present) i false ≡ false
+        → Dropping t x (k + 1) (table (out .present) (set (out .results) i (result 0 0 0 0)) (out .«row_count») (out .«max_extended_state»))
+    dropping-none e =
+        let z : dropped (rowsIn t) x i ≡ vacant = go (has k x) refl in
+        record {
+          present = up-to-same next (e ∙ sym (ap (λ (r : Row). r .present) z)) (d .present);
+          results = up-to-next next (omega (arith, d .results .size)) (sym (ap (λ (r : Row). r .result) z)) (d .results);
+          count = d .count;
+          mask = d .mask;
+        }
+      where
+        go : (b : Bool) → has k x ≡ b → dropped (rowsIn t) x i ≡ vacant
+        go true f = keep false true e f
+        go false f = keep false false e f
 
   pub dropping-ends : {out : CpuidResults} (k : ℕ) → k ≡ 64 → Dropping t x k out → out ≡ droppedTable t x
   dropping-ends {out} k e d =

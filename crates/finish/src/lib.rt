@@ -31,6 +31,18 @@ pub struct CpuidResults {
     pub max_extended_state: u64,
 }
 
+// The registers of a place without a row.
+fn no_registers() -> CpuidResult
+    ensures { λ r. ⌜ r ≡ result 0 0 0 0 ⌝ }
+{
+    CpuidResult {
+        eax: 0,
+        ebx: 0,
+        ecx: 0,
+        edx: 0,
+    }
+}
+
 // No rows at all.
 pub fn empty_table() -> CpuidResults
     ensures { λ r. ⌜ r ≡ emptyTable ⌝ }
@@ -72,22 +84,7 @@ fn vendor_and_max_function(max: u32) -> CpuidResult
     }
 }
 
-// A row that stays, or zeros.
-fn kept(keep: bool, r: CpuidResult) -> CpuidResult
-    ensures { λ q. ⌜ q ≡ pick keep (row r) vacant .result ⌝ }
-{
-    if keep {
-        return r;
-    }
-    CpuidResult {
-        eax: 0,
-        ebx: 0,
-        ecx: 0,
-        edx: 0,
-    }
-}
-
-// D subleaves from 2 up stay where the mask has them.
+// D subleaves from 2 up stay where the mask has them; any other place becomes zeros. A row that stays is not stored again.
 fn drop_subleaves(t: CpuidResults, mask: u64) -> CpuidResults
     ensures { λ r. ⌜ r ≡ droppedTable t mask ⌝ }
 {
@@ -95,10 +92,14 @@ fn drop_subleaves(t: CpuidResults, mask: u64) -> CpuidResults
     let mut k: u32 = 2;
     while k < 64 {
         let place = place::EXTENDED_STATE_0 + k as usize;
-        let keep = bits::has_bit64(mask, k) & out.present[place];
-        let r = out.results[place];
-        out.present[place] = keep;
-        out.results[place] = kept(keep, r);
+        if out.present[place] {
+            if bits::has_bit64(mask, k) {} else {
+                out.present[place] = false;
+                out.results[place] = no_registers();
+            }
+        } else {
+            out.results[place] = no_registers();
+        }
         k += 1;
     }
     out

@@ -131,6 +131,22 @@ first-from-valid s p = go (lowest (isEmpty s) p (pagesIn s - p)) refl
         record { below = λ h. omega arith }
     go none e = record { below = λ h. absurd (omega arith) }
 
+-- the page only rises
+first-from-rises : (s : List ℕ) (p : ℕ) → p ≤ pagesIn s → p ≤ firstFrom s p .«page_index»
+unfolding firstFrom
+first-from-rises s p h = go (lowest (isEmpty s) p (pagesIn s - p)) refl
+  where
+    go : (f : Found) → lowest (isEmpty s) p (pagesIn s - p) ≡ f → p ≤ startOf s f .«page_index»
+    go (at j) e = lowest-at (isEmpty s) p (pagesIn s - p) j e .from
+    go none e = h
+
+incremented-rises : (s : List ℕ) (p q : ℕ) → p < pagesIn s → p ≤ incremented s (index p q) .«page_index»
+incremented-rises s p q h = go (ltb (q + 1) (countOf s p)) refl
+  where
+    go : (b : Bool) → ltb (q + 1) (countOf s p) ≡ b → p ≤ incremented s (index p q) .«page_index»
+    go true e = rw (incremented-inside s p q h, next-here s p (q + 1) h (ltb-true _ _ e)) (omega arith)
+    go false e = rw (incremented-inside s p q h, next-later s p (q + 1) h (ltb-false _ _ e)) (omega (arith, first-from-rises s (p + 1) (omega arith)))
+
 pub next-valid : (s : List ℕ) (i : CpuidPageIndex) → Valid s (nextValid s i)
 unfolding nextValid
 next-valid s i = go (isEntry s i) refl
@@ -165,6 +181,7 @@ pub record Turn (s : List ℕ) (i : CpuidPageIndex) : Type 0 where
   pub taken : rest s i ≡ entryAt s (i .«page_index») (i .«function_index») ∷ rest s (incremented s i)
   pub falls : length (rest s (incremented s i)) < length (rest s i)
   pub valid : Valid s (incremented s i)
+  pub rises : i .«page_index» ≤ incremented s i .«page_index»
 
 pub turn : (s : List ℕ) (i : CpuidPageIndex) → Valid s i → i .«page_index» < pagesIn s → Turn s i
 turn s i v h =
@@ -178,4 +195,5 @@ turn s i v h =
       taken = e;
       falls = omega (arith, ap length e);
       valid = incremented-valid s i;
+      rises = incremented-rises s p q h;
     }

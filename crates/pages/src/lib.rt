@@ -109,23 +109,37 @@ pub fn next_valid_index(pages: &[u8], index: CpuidPageIndex) -> CpuidPageIndex
 }
 
 // The index of the entry after this one, or the end; past the last page the index stays as it is.
-// A position at or above its page's count goes to a later page, as the next position would.
+// A position at or above its page's count goes to a later page, as the next position would. The count is read once, and what leads to a
+// later page stands in a function of its own, so that a loop over one page's entries stays short when this is compiled into it.
 pub fn increment(pages: &[u8], index: CpuidPageIndex) -> CpuidPageIndex
     ensures { λ r. ⌜ r ≡ incremented (now (pages .entry)) index ⌝ }
 {
     let page = index.page_index;
     if page < page_count(pages) {
         let position = index.function_index;
-        if position < count_of(pages, page) as usize {
-            let after = CpuidPageIndex {
-                page_index: page,
-                function_index: position + 1,
-            };
-            return next_valid_index(pages, after);
+        let count = count_of(pages, page) as usize;
+        if position < count {
+            let after = position + 1;
+            if after < count {
+                return CpuidPageIndex {
+                    page_index: page,
+                    function_index: after,
+                };
+            }
+            return later_page(pages, page);
         }
-        return next_valid_index(pages, index);
+        return later_page(pages, page);
     }
     index
+}
+
+// The first entry of the pages after this one, or the end.
+fn later_page(pages: &[u8], page: usize) -> CpuidPageIndex
+    requires { ⌜ page < pagesIn (now pages) ⌝ }
+    ensures { λ r. ⌜ r ≡ firstFrom (now (pages .entry)) (page + 1) ⌝ }
+{
+    let later = page + 1;
+    skip_empty(pages, later, page_count(pages) - later)
 }
 
 // The entry at an index.

@@ -12,12 +12,12 @@ use Rattle.checks.specs.declared.Subleaf.the-variants.{None, Some}
 use Rattle.checks.specs.declared.Refusal.{Refusal}
 use Rattle.checks.specs.declared.Refusal.the-variants.{PagesLength, MissingRequiredResult, SaveAreaOverflow}
 use Rattle.checks.specs.declared.Verdict.the-variants.{Accepted, Refused}
-use Rattle.pages.specs.Entries.{counted}
+use Rattle.pages.specs.Entries.{entries}
 use Rattle.masking.specs.Kept.{places}
 use Rattle.pages.specs.Walk.{firstIndex, parsed}
 use Rattle.build.specs.Build.{answer}
-use Rattle.reader.specs.Read.{yielded}
-use Rattle.reader.specs.ReadLaws.{reader-yields}
+use Rattle.reader.specs.Read.{given}
+use Rattle.reader.specs.ReadLaws.{reader-gives}
 use Rattle.lookup.specs.declared.LeafResult.the-variants.{None as Nothing}
 use Rattle.lookup.specs.Lookup.{lookup}
 use Rattle.lookup.specs.LookupLaws.{empty-finds-nothing}
@@ -130,9 +130,9 @@ leaf-order-lawful = leaf-order
 
 -- ---- The page reader in the source's form. crates/reader/specs/Read.antt.
 
--- asked often enough, a new reader yields the counted entries of the pages, each once and in order, and then the end
-pub reader-in-order : (s : List ℕ) (n : ℕ) → length (counted s) ≤ n → yielded s n (firstIndex s) ≡ map parsed (counted s)
-reader-in-order = reader-yields
+-- asked often enough, a new reader gives the entries of the pages, each once and in order, and then the end; `collect` stores those that count
+pub reader-in-order : (s : List ℕ) (n : ℕ) → length (entries s) ≤ n → given s n (firstIndex s) ≡ map parsed (entries s)
+reader-in-order = reader-gives
 
 -- ---- Not empty words. crates/instances/specs/PageSets.antt has four page sets, byte by byte.
 

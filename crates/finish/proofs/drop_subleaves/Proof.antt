@@ -1,10 +1,11 @@
 -- `finish::drop_subleaves` meets its contract: a turn drops or keeps one subleaf.
 use borrow.Author.Needs.{needs}
-use mathlib.Core.Path.{_≡_}
-use Prim.Native.Nat.{_≤_, _-_}
+use mathlib.Core.Path.{_≡_, sym, _∙_}
+use mathlib.Core.Logic.{⊎-elim}
+use Prim.Native.Nat.{_≤_, _<_, _-_}
 use native.Mathlib.Omega.{arith}
 use lib.ListN.{length, length-map}
-use Rattle.finish.specs.DropLaws.{Dropping, dropping-starts, dropping-next, dropping-ends}
+use Rattle.finish.specs.DropLaws.{Dropping, dropping-starts, dropping-stays, dropping-goes, dropping-none, dropping-ends}
 use Rattle.finish.proofs.drop_subleaves.Statement.{statement}
 use Rattle.finish.proofs.drop_subleaves.Tie as tie
 
@@ -26,10 +27,19 @@ results-length c = simp length-map at (c .good .0 .1 .1 .1 .0 .1 .0 .1)
 
 loop-again : tie.Need-loop-again Inv-loop μ-loop
 loop-again c =
-    let b = c .before .before .before in let s = b .before .before in (
+    let s = c .before .before .before in
+    let p = present-length (s .before) in
+    let q = results-length (s .before) in
+    let d = s .loop .inv in
+    let u : s .loop .k < 64 = search needs in (
       search needs,
       search needs,
-      dropping-next _ _ (present-length (s .before)) (results-length (s .before)) (s .loop .k) (s .loop .inv .0) (search needs) (b .has-bit64 .ensures) (c .kept .ensures) (s .loop .inv .2),
+      ⊎-elim
+          (λ w. rw (w .3) (dropping-stays _ _ p q (s .loop .k) (d .0) u (d .2) (w .0 .taken) (sym (w .1 .ensures) ∙ w .2 .taken)))
+          (⊎-elim
+          (λ w. rw (w .4, w .3 .ensures) (dropping-goes _ _ p q (s .loop .k) (d .0) u (d .2) (w .0 .taken) (sym (w .1 .ensures) ∙ w .2 .left)))
+          (λ w. rw (w .2, w .1 .ensures) (dropping-none _ _ p q (s .loop .k) (d .0) u (d .2) (w .0 .left))))
+          (c .if1 .came),
     )
 
 returns : tie.Need-returns Inv-loop μ-loop
@@ -46,9 +56,10 @@ drop-subleaves-spec =
     loop-holds
     (λ c. search needs)
     (λ c. search needs)
+    (λ c. search needs)
     (λ c κs. search needs)
     (λ c. search needs)
-    (λ c. search needs)
+    (λ c κs. search needs)
     (λ c. search needs)
     (λ c. search needs)
     (λ c κs. search needs)
