@@ -9,7 +9,7 @@ use native.Mathlib.Omega.{arith}
 use Rattle.bits.specs.Choice.{pick}
 use Rattle.bits.specs.ChoiceLaws.{never-both, and-left, and-right}
 use Rattle.bits.specs.Search.{every, lowest}
-use Rattle.bits.specs.Search.Found.{at, none}
+use Rattle.bits.specs.Search.Failing.{at, none}
 
 -- a computed test over all numbers below n holds at each
 pub every-at : (test : ℕ → Bool) (n : ℕ) → every test n ≡ true → (i : ℕ) → i < n → test i ≡ true

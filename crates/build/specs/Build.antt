@@ -3,20 +3,20 @@ use mathlib.Core.Bool.{Bool, not}
 use mathlib.Core.List.{List}
 use Prim.Native.Nat.{ℕ}
 use Rattle.pages.specs.Layout.{badLength, countsFit}
-use Rattle.checks.specs.declared.Refusal.the-variants.{PagesLength, PageCount}
-use Rattle.checks.specs.declared.Verdict.{Verdict}
-use Rattle.checks.specs.Refusal.{andThen}
-use Rattle.checks.specs.Checks.{demand, rowsVerdict}
-use Rattle.results.specs.Built.{tableFor}
-use Rattle.results.specs.declared.Built.{Built}
-use Rattle.build.specs.Rows.{rowsOf}
+use Rattle.table.specs.declared.Refusal.the-variants.{PagesLength, PageCount}
+use Rattle.table.specs.declared.Verdict.{Verdict}
+use Rattle.table.specs.Refusal.{andThen}
+use Rattle.checks.specs.Checks.{refuseUnless, rowsVerdict}
+use Rattle.build.specs.Built.{tableFor}
+use Rattle.build.specs.declared.Built.{Built}
+use Rattle.collect.specs.FirstEntries.{rowsOf}
 
 -- 1, then 2
 unfoldable pub lengthVerdict : List ℕ → Verdict
-lengthVerdict s = demand (not (badLength s)) PagesLength
+lengthVerdict s = refuseUnless (not (badLength s)) PagesLength
 
 unfoldable pub countsVerdict : List ℕ → Verdict
-countsVerdict s = demand (countsFit s) PageCount
+countsVerdict s = refuseUnless (countsFit s) PageCount
 
 -- "Length and counts are lawful where neither 1 nor 2 applies"
 unfoldable pub lawfulVerdict : List ℕ → Verdict

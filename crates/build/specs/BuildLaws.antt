@@ -4,15 +4,15 @@ use mathlib.Core.Bool.{Bool, true, false}
 use mathlib.Core.List.{List}
 use Prim.Native.Nat.{ℕ}
 use Rattle.pages.specs.Layout.{badLength, countsFit}
-use Rattle.results.specs.declared.Built.{Built}
-use Rattle.checks.specs.declared.Refusal.the-variants.{PagesLength, PageCount}
-use Rattle.checks.specs.declared.Verdict.{Verdict}
-use Rattle.finish.specs.declared.CpuidResults.{CpuidResults}
-use Rattle.results.specs.Built.{tableFor, builtFrom}
-use Rattle.finish.specs.Table.{rowsIn}
-use Rattle.results.specs.Stages.{refusedBuilt}
-use Rattle.build.specs.Rows.{rowsOf}
-use Rattle.build.specs.Collect.{collected, collected-rows}
+use Rattle.build.specs.declared.Built.{Built}
+use Rattle.table.specs.declared.Refusal.the-variants.{PagesLength, PageCount}
+use Rattle.table.specs.declared.Verdict.{Verdict}
+use Rattle.table.specs.declared.CpuidResults.{CpuidResults}
+use Rattle.build.specs.Built.{tableFor, builtFrom}
+use Rattle.table.specs.Table.{rowsIn}
+use Rattle.build.specs.Stages.{refusedBuilt}
+use Rattle.collect.specs.FirstEntries.{rowsOf}
+use Rattle.collect.specs.Collect.{collected, collected-rows}
 use Rattle.build.specs.Build.{lengthVerdict, countsVerdict, lawfulVerdict, verdictOf, answer}
 
 built-with : (avic : Bool) (s : List ℕ) {v : Verdict} → verdictOf avic s ≡ v → answer avic s ≡ record { verdict = v; table = tableFor v (rowsOf avic s) }

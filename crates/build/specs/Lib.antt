@@ -1,5 +1,5 @@
-pub mod Rows
-pub mod RowsLaws
+pub mod Built
 pub mod Build
+pub mod Stages
+pub mod StageLaws
 pub mod BuildLaws
-pub mod Collect

@@ -1,85 +1,128 @@
-// Pages in, one table or one refusal out.
-use checks::Refusal;
-use checks::Verdict;
-use finish::CpuidResults;
-use masking::KeptLeaf;
-use masking::PLACES;
-use pages::ParsedCpuidEntry;
-use results::Built;
-use x86defs::CpuidResult;
+// Pages in, one table or one refusal out: the checks in order, one function a check, then the table.
+use checks::Size;
+use checks::max_extended_state;
+use checks::max_xss;
+use checks::process_extended_state_subleaves;
+use checks::validate_invlpgb;
+use checks::validate_required;
+use checks::xsave_size;
+use masking::place;
+use table::CpuidResults;
+use table::Refusal;
+use table::Verdict;
+use table::empty_table;
+use topology::Topology;
+use topology::extended_topology;
+use x86defs::apic_core_id_size;
+use x86defs::lps_per_package;
+use x86defs::mt_per_socket;
+use x86defs::nc;
+use x86defs::threads_per_compute_unit;
 ghost use mathlib.Core.Path.{_≡_};
-ghost use mathlib.Core.Bool.{true};
-ghost use Prim.Native.Nat.{_<_};
-ghost use Rattle.pages.specs.Layout.{countsFit};
-ghost use Rattle.masking.specs.Masks.{applyMask};
-ghost use Rattle.masking.specs.Table.{masksOf};
-ghost use Rattle.build.specs.Rows.{setLegacy};
-ghost use Rattle.build.specs.Collect.{collected, countedPlace};
+ghost use Rattle.table.specs.Table.{rowsIn};
+ghost use Rattle.checks.specs.ExtendedState.{xfem, saveArea};
+ghost use Rattle.checks.specs.Checks.{requiredVerdict, topologyVerdict};
+ghost use Rattle.build.specs.Built.{builtFrom};
 ghost use Rattle.build.specs.Build.{answer};
+ghost use Rattle.build.specs.Stages.{refusedBuilt, builtBy, fromInvlpgb, fromComponents, fromArea};
 
-const EXTENDED_STATE: u32 = 0xD;
-
-const LEGACY_FEATURES: u32 = 3;
-
-// The place of an entry, or 88 where its leaf is filtered or, for leaf Dh, it does not stand on page 1.
-fn counted_place(page: usize, entry: ParsedCpuidEntry) -> usize
-    ensures { λ r. ⌜ r ≡ countedPlace page entry ⌝ }
-{
-    let leaf = entry.leaf;
-    if leaf.0 == EXTENDED_STATE {
-        if page == 1 {
-            return masking::place_of(leaf, entry.subleaf);
-        }
-        return PLACES;
-    }
-    masking::place_of(leaf, entry.subleaf)
+// What building gives: accepted with its table, or refused with an empty one.
+pub struct Built {
+    pub verdict: Verdict,
+    pub table: CpuidResults,
 }
 
-// An entry's registers at its place: masked, and for D.0 with bits 0 and 1 of EAX set.
-pub fn masked_at(kept: KeptLeaf, place: usize, r: CpuidResult) -> CpuidResult
-    ensures { λ q. ⌜ q ≡ setLegacy place (applyMask (masksOf kept) r) ⌝ }
+// The answer to the masked first entries of the 88 places: the checks of required leaves, and those below, one function a check.
+pub fn build_rows(t: CpuidResults) -> Built
+    ensures { λ r. ⌜ r ≡ builtFrom (rowsIn t) ⌝ }
 {
-    let masked = masking::apply_mask(kept, r);
-    if place == checks::place::EXTENDED_STATE_0 {
-        return CpuidResult {
-            eax: masked.eax | LEGACY_FEATURES,
-            ebx: masked.ebx,
-            ecx: masked.ecx,
-            edx: masked.edx,
-        };
+    let present = t.present;
+    let verdict = validate_required(present);
+    if let Verdict::Refused(r) = verdict {
+        return refused(r);
     }
-    masked
+    from_invlpgb(t)
 }
 
-// The masked first entry of every place, from pages whose counts are lawful: what the reader gives, page by page.
-pub fn collect(pages: &[u8], secure_avic: bool) -> CpuidResults
-    requires { ⌜ countsFit (now pages) ≡ true ⌝ }
-    ensures { λ r. ⌜ r ≡ collected «secure_avic» (now (pages .entry)) ⌝ }
+// A refused answer holds an empty table.
+pub fn refused(r: Refusal) -> Built
+    ensures { λ q. ⌜ q ≡ refusedBuilt r ⌝ }
 {
-    let kept = masking::kept_leaves(secure_avic);
-    let n = pages::page_count(pages);
-    let mut t = finish::empty_table();
-    let mut index = reader::start(pages);
-    while index.page_index < n {
-        let page = index.page_index;
-        while index.page_index == page {
-            let taken = reader::take(pages, index);
-            let entry = taken.found;
-            let place = counted_place(page, entry);
-            if place < PLACES {
-                if t.present[place] {} else {
-                    let row = masking::mask_row(place);
-                    let r = entry.result;
-                    let masked = masked_at(kept[row], place, r);
-                    t.present[place] = true;
-                    t.results[place] = masked;
-                }
+    let table = empty_table();
+    Built {
+        verdict: Verdict::Refused(r),
+        table,
+    }
+}
+
+// The same for rows of which `validate_required` has refused none: from the check of INVLPGB on.
+pub fn from_invlpgb(t: CpuidResults) -> Built
+    requires { ⌜ requiredVerdict (rowsIn t) ≡ Verdict.Accepted ⌝ }
+    ensures { λ r. ⌜ r ≡ builtBy (fromInvlpgb (rowsIn t)) (rowsIn t) ⌝ }
+{
+    let sizes = t.results[place::EXTENDED_ADDRESS_SPACE_SIZES];
+    let verdict = validate_invlpgb(sizes);
+    if let Verdict::Refused(r) = verdict {
+        return refused(r);
+    }
+    from_components(t)
+}
+
+// From the check of D subleaves on.
+fn from_components(t: CpuidResults) -> Built
+    requires { ⌜ requiredVerdict (rowsIn t) ≡ Verdict.Accepted ⌝ }
+    ensures { λ r. ⌜ r ≡ builtBy (fromComponents (rowsIn t)) (rowsIn t) ⌝ }
+{
+    let subleaf0 = t.results[place::EXTENDED_STATE_0];
+    let subleaf1 = t.results[place::EXTENDED_STATE_1];
+    let mask = max_extended_state(subleaf0.eax, max_xss(subleaf1));
+    let present = t.present;
+    let verdict = process_extended_state_subleaves(present, mask);
+    if let Verdict::Refused(r) = verdict {
+        return refused(r);
+    }
+    from_area(t)
+}
+
+// From the size of the save area on, which is over XFEM alone.
+fn from_area(t: CpuidResults) -> Built
+    requires { ⌜ requiredVerdict (rowsIn t) ≡ Verdict.Accepted ⌝ }
+    ensures { λ r. ⌜ r ≡ builtBy (fromArea (rowsIn t)) (rowsIn t) ⌝ }
+{
+    let subleaf0 = t.results[place::EXTENDED_STATE_0];
+    let results = t.results;
+    let size = xsave_size(results, subleaf0.eax as u64);
+    let Size::Bytes(bytes) = size else {
+        return refused(Refusal::SaveAreaOverflow);
+    };
+    from_topology(t, bytes)
+}
+
+// From the topology on, to the table.
+fn from_topology(t: CpuidResults, size: u32) -> Built
+    requires { ⌜ (requiredVerdict (rowsIn t) ≡ Verdict.Accepted) × (size ≡ saveArea (rowsIn t) (xfem (rowsIn t))) ⌝ }
+    ensures { λ r. ⌜ r ≡ builtBy (topologyVerdict (rowsIn t)) (rowsIn t) ⌝ }
+{
+    let version = t.results[place::VERSION_AND_FEATURES];
+    let sizes = t.results[place::EXTENDED_ADDRESS_SPACE_SIZES];
+    let definition = t.results[place::PROCESSOR_TOPOLOGY_DEFINITION];
+    let topology = extended_topology(
+        apic_core_id_size(sizes.ecx),
+        nc(sizes.ecx),
+        lps_per_package(version.ebx),
+        mt_per_socket(version.edx),
+        threads_per_compute_unit(definition.ebx),
+    );
+    match topology {
+        Topology::Processors(processors) => {
+            let table = update::finish(t, size, processors);
+            Built {
+                verdict: Verdict::Accepted,
+                table,
             }
-            let next = taken.index;
-            index = next;
         }
+        Topology::Inconsistent(e) => refused(Refusal::TopologyInconsistent(e)),
     }
-    t
 }
 
 // Pages of any length, count and content: one table, or one refusal. The flags are asked for required leaves by themselves, since handing
@@ -88,16 +131,16 @@ pub fn build(pages: &[u8], secure_avic: bool) -> Built
     ensures { λ r. ⌜ r ≡ answer «secure_avic» (now (pages .entry)) ⌝ }
 {
     if pages::bad_length(pages) {
-        return results::refused(Refusal::PagesLength);
+        return refused(Refusal::PagesLength);
     }
     if pages::counts_fit(pages) {
-        let t = collect(pages, secure_avic);
+        let t = collect::collect(pages, secure_avic);
         let present = t.present;
-        let verdict = checks::validate_required(present);
+        let verdict = validate_required(present);
         if let Verdict::Refused(r) = verdict {
-            return results::refused(r);
+            return refused(r);
         }
-        return results::update_validated(t);
+        return from_invlpgb(t);
     }
-    results::refused(Refusal::PageCount)
+    refused(Refusal::PageCount)
 }

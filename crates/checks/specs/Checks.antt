@@ -3,8 +3,8 @@ use mathlib.Core.Bool.{Bool}
 use Prim.Native.Nat.{ℕ, _^_}
 use lib.Dec.{ltb}
 use Rattle.bits.specs.Choice.{pick}
-use Rattle.bits.specs.Search.{Found, lowest}
-use Rattle.bits.specs.Search.Found.{at, none}
+use Rattle.bits.specs.Search.{Failing, lowest}
+use Rattle.bits.specs.Search.Failing.{at, none}
 use Rattle.bits.specs.Bits.{has}
 use Rattle.x86defs.specs.Functions.{ExtendedStateEnumeration}
 use Rattle.x86defs.specs.ExtendedAddressSpaceSizesEbx as Sizes
@@ -12,25 +12,25 @@ use Rattle.topology.specs.declared.Topology.{Topology}
 use Rattle.topology.specs.declared.Topology.the-variants.{Processors, Inconsistent}
 use Rattle.topology.specs.Topology.{topologyOf}
 use Rattle.masking.specs.Place
-use Rattle.checks.specs.declared.Subleaf.the-variants.{Some}
-use Rattle.checks.specs.declared.Refusal.{Refusal}
-use Rattle.checks.specs.declared.Refusal.the-variants.{MissingRequiredResult, InvlpgbUnavailable, SaveAreaOverflow, TopologyInconsistent}
-use Rattle.checks.specs.declared.Verdict.{Verdict}
-use Rattle.checks.specs.declared.Verdict.the-variants.{Accepted, Refused}
-use Rattle.checks.specs.Refusal.{andThen}
-use Rattle.checks.specs.Rows.{Rows}
+use Rattle.table.specs.declared.Subleaf.the-variants.{Some}
+use Rattle.table.specs.declared.Refusal.{Refusal}
+use Rattle.table.specs.declared.Refusal.the-variants.{MissingRequiredResult, InvlpgbUnavailable, SaveAreaOverflow, TopologyInconsistent}
+use Rattle.table.specs.declared.Verdict.{Verdict}
+use Rattle.table.specs.declared.Verdict.the-variants.{Accepted, Refused}
+use Rattle.table.specs.Refusal.{andThen}
+use Rattle.table.specs.Rows.{Rows}
 use Rattle.checks.specs.Required.{requiredAt, requiredCount, placeRequired}
 use Rattle.checks.specs.ExtendedState.{xfem, supplied, saveArea}
-use Rattle.checks.specs.Topology.{inputsOf}
+use Rattle.checks.specs.TopologyInputs.{inputsOf}
 
 -- refused at the first that fails, if one does
-abbrev pub refuseAt : Found → (ℕ → Refusal) → Verdict
+abbrev pub refuseAt : Failing → (ℕ → Refusal) → Verdict
 refuseAt (at j) r = Refused (r j)
 refuseAt none r = Accepted
 
 -- accepted where the test holds
-abbrev pub demand : Bool → Refusal → Verdict
-demand ok r = pick ok Accepted (Refused r)
+abbrev pub refuseUnless : Bool → Refusal → Verdict
+refuseUnless ok r = pick ok Accepted (Refused r)
 
 abbrev pub missingRequired : ℕ → Refusal
 missingRequired j = MissingRequiredResult (requiredAt j .leaf) (requiredAt j .subleaf)
@@ -41,7 +41,7 @@ requiredVerdict m = refuseAt (lowest (λ j. m (placeRequired j) .present) 0 requ
 
 -- 4: 80000008h.EBX bit 3 clear
 unfoldable pub invlpgbVerdict : Rows → Verdict
-invlpgbVerdict m = demand (has (Sizes.place Sizes.ExtendedAddressSpaceSizesEbx.invlpgb) (m Place.extendedAddressSpaceSizes .result .ebx)) InvlpgbUnavailable
+invlpgbVerdict m = refuseUnless (has (Sizes.position Sizes.ExtendedAddressSpaceSizesEbx.invlpgb) (m Place.extendedAddressSpaceSizes .result .ebx)) InvlpgbUnavailable
 
 abbrev pub missingComponent : ℕ → Refusal
 missingComponent k = MissingRequiredResult ExtendedStateEnumeration (Some k)
@@ -52,7 +52,7 @@ componentsVerdict m = refuseAt (lowest (supplied m) 2 62) missingComponent
 
 -- 5: a sum overflows
 unfoldable pub areaVerdict : Rows → Verdict
-areaVerdict m = demand (ltb (saveArea m (xfem m)) (2 ^ 32)) SaveAreaOverflow
+areaVerdict m = refuseUnless (ltb (saveArea m (xfem m)) (2 ^ 32)) SaveAreaOverflow
 
 abbrev pub topologyRefusal : Topology → Verdict
 topologyRefusal (Processors v) = Accepted

@@ -4,19 +4,19 @@ use mathlib.Core.Bool.{Bool, true, false}
 use Prim.Native.Nat.{ℕ, _≤_, _<_}
 use native.Mathlib.Omega.{arith}
 use Rattle.bits.specs.ChoiceLaws.{if-holds}
-use Rattle.bits.specs.Search.{Found, lowest}
-use Rattle.bits.specs.Search.Found.{at, none}
+use Rattle.bits.specs.Search.{Failing, lowest}
+use Rattle.bits.specs.Search.Failing.{at, none}
 use Rattle.bits.specs.SearchLaws.{lowest-none, lowest-all}
 use Rattle.bits.specs.Bits.{has}
 use Rattle.masking.specs.Place
-use Rattle.checks.specs.declared.Refusal.{Refusal}
-use Rattle.checks.specs.declared.Verdict.{Verdict}
-use Rattle.checks.specs.declared.Verdict.the-variants.{Accepted, Refused}
-use Rattle.checks.specs.Refusal.{andThen}
-use Rattle.checks.specs.Rows.{Rows}
+use Rattle.table.specs.declared.Refusal.{Refusal}
+use Rattle.table.specs.declared.Verdict.{Verdict}
+use Rattle.table.specs.declared.Verdict.the-variants.{Accepted, Refused}
+use Rattle.table.specs.Refusal.{andThen}
+use Rattle.table.specs.Rows.{Rows}
 use Rattle.checks.specs.Required.{requiredCount, placeRequired}
 use Rattle.checks.specs.ExtendedState.{combinedMask, supplied}
-use Rattle.checks.specs.Checks.{refuseAt, demand, missingRequired, missingComponent, requiredVerdict, invlpgbVerdict, componentsVerdict, areaVerdict, topologyVerdict, rowsVerdict}
+use Rattle.checks.specs.Checks.{refuseAt, refuseUnless, missingRequired, missingComponent, requiredVerdict, invlpgbVerdict, componentsVerdict, areaVerdict, topologyVerdict, rowsVerdict}
 
 pub then-left : (u v : Verdict) → andThen u v ≡ Accepted → u ≡ Accepted
 then-left Accepted v e = refl
@@ -33,11 +33,11 @@ then-accepted (Refused r) = refl
 pub then-skips : {u v : Verdict} → u ≡ Accepted → andThen u v ≡ v
 then-skips e = rw e
 
-pub found-none : (f : Found) (r : ℕ → Refusal) → refuseAt f r ≡ Accepted → f ≡ none
+pub found-none : (f : Failing) (r : ℕ → Refusal) → refuseAt f r ≡ Accepted → f ≡ none
 found-none (at j) r e = cc
 found-none none r e = refl
 
-pub demanded : (b : Bool) (r : Refusal) → demand b r ≡ Accepted → b ≡ true
+pub demanded : (b : Bool) (r : Refusal) → refuseUnless b r ≡ Accepted → b ≡ true
 demanded true r e = refl
 demanded false r e = cc
 
@@ -47,7 +47,7 @@ required-present m e j l = lowest-none (λ j. m (placeRequired j) .present) 0 re
 
 pub present-required : (m : Rows) → ((j : ℕ) → j < requiredCount → m (placeRequired j) .present ≡ true) → requiredVerdict m ≡ Accepted
 unfolding requiredVerdict
-present-required m f = ap (λ (x : Found). refuseAt x missingRequired) (lowest-all (λ j. m (placeRequired j) .present) 0 requiredCount (λ j l h. f j (omega arith)))
+present-required m f = ap (λ (x : Failing). refuseAt x missingRequired) (lowest-all (λ j. m (placeRequired j) .present) 0 requiredCount (λ j l h. f j (omega arith)))
 
 pub component-present : (m : Rows) → componentsVerdict m ≡ Accepted → (k : ℕ) → 2 ≤ k → k < 64 → has k (combinedMask m) ≡ true
     → m (Place.extendedState k) .present ≡ true

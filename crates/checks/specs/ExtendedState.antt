@@ -8,7 +8,7 @@ use Rattle.bits.specs.Choice.{pick}
 use Rattle.bits.specs.Bits.{has}
 use Rattle.x86defs.specs.ExtendedStateEnumerationSubleaf1Eax as Subleaf1Eax
 use Rattle.masking.specs.Place
-use Rattle.checks.specs.Rows.{Rows}
+use Rattle.table.specs.Rows.{Rows}
 
 unfoldable pub xfem : Rows → ℕ
 xfem m = m (Place.extendedState 0) .result .eax
@@ -16,8 +16,8 @@ xfem m = m (Place.extendedState 0) .result .eax
 unfoldable pub xss : Rows → ℕ
 xss m =
     let eax : ℕ = m (Place.extendedState 1) .result .eax in
-    pick (has (Subleaf1Eax.place Subleaf1Eax.ExtendedStateEnumerationSubleaf1Eax.xsave-c) eax
-    && has (Subleaf1Eax.place Subleaf1Eax.ExtendedStateEnumerationSubleaf1Eax.xsave-s) eax)
+    pick (has (Subleaf1Eax.position Subleaf1Eax.ExtendedStateEnumerationSubleaf1Eax.xsave-c) eax
+    && has (Subleaf1Eax.position Subleaf1Eax.ExtendedStateEnumerationSubleaf1Eax.xsave-s) eax)
     (m (Place.extendedState 1) .result .ecx)
     0
 

@@ -11,7 +11,7 @@ use Rattle.bits.specs.ChoiceLaws.{never-both, and-left, and-right, and-mono}
 use Rattle.bits.specs.Bits.{has, Within}
 use Rattle.bits.specs.BitsLaws.{has-mono, within-zero, or-within-left}
 use Rattle.masking.specs.Place
-use Rattle.checks.specs.Rows.{Rows}
+use Rattle.table.specs.Rows.{Rows}
 use Rattle.checks.specs.ExtendedState.{xfem, xss, combinedMask, areaBelow}
 
 -- what a subleaf of the mask adds to the area

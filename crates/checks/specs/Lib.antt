@@ -1,8 +1,6 @@
-pub mod Refusal
-pub mod Rows
 pub mod Required
 pub mod ExtendedState
-pub mod Topology
+pub mod TopologyInputs
 pub mod Checks
 pub mod Parts
 pub mod MaskLaws
@@ -10,4 +8,4 @@ pub mod ScanLaws
 pub mod SaveAreaLaws
 pub mod ExtendedStateLaws
 pub mod ChecksLaws
-pub mod AgainstMisreadings
+pub mod ChecksMisread

@@ -12,14 +12,14 @@ use Rattle.x86defs.specs.Functions.{result}
 use Rattle.x86defs.specs.ExtendedAddressSpaceSizesEbx as Sizes
 use Rattle.x86defs.specs.ExtendedStateEnumerationSubleaf1Eax as Subleaf1Eax
 use Rattle.masking.specs.Place
-use Rattle.checks.specs.declared.Refusal.the-variants.{InvlpgbUnavailable}
-use Rattle.checks.specs.declared.Subleaf.{Subleaf}
-use Rattle.checks.specs.declared.Subleaf.the-variants.{None, Some}
-use Rattle.checks.specs.declared.Verdict.{Verdict}
+use Rattle.table.specs.declared.Refusal.the-variants.{InvlpgbUnavailable}
+use Rattle.table.specs.declared.Subleaf.{Subleaf}
+use Rattle.table.specs.declared.Subleaf.the-variants.{None, Some}
+use Rattle.table.specs.declared.Verdict.{Verdict}
 use Rattle.checks.specs.declared.Size.{Size}
 use Rattle.checks.specs.declared.Size.the-variants.{Bytes, TooLarge}
-use Rattle.checks.specs.Rows.{Rows}
-use Rattle.checks.specs.Checks.{refuseAt, demand, missingComponent}
+use Rattle.table.specs.Rows.{Rows}
+use Rattle.checks.specs.Checks.{refuseAt, refuseUnless, missingComponent}
 
 -- rows of which only the presence matters
 abbrev pub presentIn : List Bool → Rows
@@ -36,8 +36,8 @@ resultsIn l i = record { present = false; result = getD l i (result 0 0 0 0) }
 -- XSS of the row of D.1
 abbrev pub xssOf : CpuidResult → ℕ
 xssOf d =
-    pick (has (Subleaf1Eax.place Subleaf1Eax.ExtendedStateEnumerationSubleaf1Eax.xsave-c) (d .eax)
-    && has (Subleaf1Eax.place Subleaf1Eax.ExtendedStateEnumerationSubleaf1Eax.xsave-s) (d .eax))
+    pick (has (Subleaf1Eax.position Subleaf1Eax.ExtendedStateEnumerationSubleaf1Eax.xsave-c) (d .eax)
+    && has (Subleaf1Eax.position Subleaf1Eax.ExtendedStateEnumerationSubleaf1Eax.xsave-s) (d .eax))
     (d .ecx)
     0
 
@@ -57,4 +57,4 @@ grownOf n used sum = sizeOf (max n (pick used sum 0))
 
 -- 80000008h.EBX bit 3, of its row
 abbrev pub invlpgbOf : CpuidResult → Verdict
-invlpgbOf r = demand (has (Sizes.place Sizes.ExtendedAddressSpaceSizesEbx.invlpgb) (r .ebx)) InvlpgbUnavailable
+invlpgbOf r = refuseUnless (has (Sizes.position Sizes.ExtendedAddressSpaceSizesEbx.invlpgb) (r .ebx)) InvlpgbUnavailable

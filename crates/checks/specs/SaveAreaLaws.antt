@@ -11,7 +11,7 @@ use borrow.Author.Tests.{ltb-true, ltb-false, lt-ltb, le-ltb, le-leb}
 use Rattle.bits.specs.Choice.{pick}
 use Rattle.bits.specs.Bits.{has}
 use Rattle.checks.specs.declared.Size.the-variants.{Bytes, TooLarge}
-use Rattle.checks.specs.Rows.{Rows}
+use Rattle.table.specs.Rows.{Rows}
 use Rattle.checks.specs.ExtendedState.{areaBelow, saveArea}
 use Rattle.checks.specs.ExtendedStateLaws.{sumAt}
 use Rattle.checks.specs.MaskLaws.{none-from}

@@ -8,7 +8,7 @@ use lib.Dec.{ltb}
 use lib.ListN.{getD}
 use borrow.Author.Tests.{ltb-true}
 use Rattle.bits.specs.Choice.{pick}
-use Rattle.bits.specs.Search.{Found, lowest, every}
+use Rattle.bits.specs.Search.{Failing, lowest, every}
 use Rattle.bits.specs.SearchLaws.{every-at, lowest-all, lowest-passes, lowest-stops}
 use Rattle.bits.specs.Lists.{tabulate}
 use Rattle.bits.specs.ListsLaws.{getD-tabulate}
@@ -16,14 +16,14 @@ use Rattle.bits.specs.Bits.{has}
 use Rattle.x86defs.specs.Functions.{function}
 use Rattle.masking.specs.Kept.{keptLeaves, placeOf, places}
 use Rattle.masking.specs.Place
-use Rattle.checks.specs.declared.Refusal.{Refusal}
-use Rattle.checks.specs.declared.Refusal.the-variants.{MissingRequiredResult}
-use Rattle.checks.specs.declared.Subleaf.{Subleaf}
-use Rattle.checks.specs.declared.Subleaf.the-variants.{None, Some}
-use Rattle.checks.specs.declared.Verdict.{Verdict}
-use Rattle.checks.specs.declared.Verdict.the-variants.{Accepted, Refused}
+use Rattle.table.specs.declared.Refusal.{Refusal}
+use Rattle.table.specs.declared.Refusal.the-variants.{MissingRequiredResult}
+use Rattle.table.specs.declared.Subleaf.{Subleaf}
+use Rattle.table.specs.declared.Subleaf.the-variants.{None, Some}
+use Rattle.table.specs.declared.Verdict.{Verdict}
+use Rattle.table.specs.declared.Verdict.the-variants.{Accepted, Refused}
 use Rattle.checks.specs.declared.required.RequiredLeaf.{RequiredLeaf}
-use Rattle.checks.specs.Rows.{Rows}
+use Rattle.table.specs.Rows.{Rows}
 use Rattle.checks.specs.Required.{commonRequiredLeaves, snpRequiredLeaves, subleafNumber, requiredAt, requiredCount, placeRequired}
 use Rattle.checks.specs.Checks.{refuseAt, missingRequired, missingComponent}
 use Rattle.checks.specs.MaskLaws.{none-from}
@@ -36,11 +36,11 @@ refuseFrom test reason n k = refuseAt (lowest test k (n - k)) reason
 module _ (test : ℕ → Bool) (reason : ℕ → Refusal) (n k : ℕ) where
   pub scan-passes : k < n → test k ≡ true → refuseFrom test reason n k ≡ refuseFrom test reason n (k + 1)
   unfolding refuseFrom
-  scan-passes l e = ap (λ (f : Found). refuseAt f reason) (lowest-passes test n k l e)
+  scan-passes l e = ap (λ (f : Failing). refuseAt f reason) (lowest-passes test n k l e)
 
   pub scan-stops : k < n → test k ≡ false → refuseFrom test reason n k ≡ Refused (reason k)
   unfolding refuseFrom
-  scan-stops l e = ap (λ (f : Found). refuseAt f reason) (lowest-stops test n k l e)
+  scan-stops l e = ap (λ (f : Failing). refuseAt f reason) (lowest-stops test n k l e)
 
   pub scan-ends : ((j : ℕ) → k ≤ j → j < n → test j ≡ true) → refuseFrom test reason n k ≡ Accepted
   unfolding refuseFrom

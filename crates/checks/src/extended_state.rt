@@ -1,9 +1,10 @@
 // The extended state. Rows of leaf Dh come in; the masks, a missing subleaf and the size of the save area go out.
-use super::Refusal;
 use super::Size;
-use super::Subleaf;
-use super::Verdict;
-use super::place;
+use masking::PLACES;
+use masking::place;
+use table::Refusal;
+use table::Subleaf;
+use table::Verdict;
 use x86defs::CpuidFunction;
 use x86defs::CpuidResult;
 use x86defs::xsave_c;
@@ -35,7 +36,7 @@ pub fn max_extended_state(xfem: u32, xss: u32) -> u64
 }
 
 // The lowest subleaf from 2 up that the mask needs and that has no row.
-pub fn process_extended_state_subleaves(present: [bool; 88], mask: u64) -> Verdict
+pub fn process_extended_state_subleaves(present: [bool; PLACES], mask: u64) -> Verdict
     ensures { λ r. ⌜ r ≡ componentsOf (presentIn present) mask ⌝ }
 {
     let mut k: u32 = 2;
@@ -74,7 +75,7 @@ fn grown(area: u32, used: bool, subleaf: CpuidResult) -> Size
 }
 
 // The save area over any mask.
-pub fn xsave_size(results: [CpuidResult; 88], mask: u64) -> Size
+pub fn xsave_size(results: [CpuidResult; PLACES], mask: u64) -> Size
     ensures { λ r. ⌜ r ≡ sizeOf (saveArea (resultsIn results) mask) ⌝ }
 {
     let mut area: u32 = XSAVE_MINIMUM_XSAVE_AREA_SIZE;

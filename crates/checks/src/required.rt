@@ -1,7 +1,8 @@
 // The required leaves. Which places have a row comes in; the first required leaf without one, or nothing, goes out.
-use super::Refusal;
-use super::Subleaf;
-use super::Verdict;
+use masking::PLACES;
+use table::Refusal;
+use table::Subleaf;
+use table::Verdict;
 use x86defs::CpuidFunction;
 ghost use mathlib.Core.Path.{_≡_};
 ghost use Rattle.checks.specs.Checks.{requiredVerdict};
@@ -49,7 +50,7 @@ fn subleaf_of(indexed: bool, number: u32) -> Subleaf
 }
 
 // The first required leaf, in list order, that has no row.
-pub fn validate_required(present: [bool; 88]) -> Verdict
+pub fn validate_required(present: [bool; PLACES]) -> Verdict
     ensures { λ r. ⌜ r ≡ requiredVerdict (presentIn present) ⌝ }
 {
     let required = REQUIRED_LEAVES;

@@ -5,18 +5,18 @@ use mathlib.Core.Bool.{Bool}
 use mathlib.Core.List.{List}
 use Prim.Native.Nat.{ℕ}
 use Rattle.bits.specs.Choice.{pick}
-use Rattle.bits.specs.Search.{Found, lowest}
-use Rattle.bits.specs.Search.Found.{at, none}
+use Rattle.bits.specs.Search.{Failing, lowest}
+use Rattle.bits.specs.Search.Failing.{at, none}
 use Rattle.x86defs.specs.declared.CpuidResult.{CpuidResult}
 use Rattle.masking.specs.Kept.{places, leafAt, indexedAt, subleafAt}
-use Rattle.checks.specs.declared.Subleaf.{Subleaf}
-use Rattle.checks.specs.declared.Subleaf.the-variants.{None, Some}
-use Rattle.checks.specs.declared.Verdict.{Verdict}
-use Rattle.checks.specs.declared.Verdict.the-variants.{Accepted, Refused}
-use Rattle.checks.specs.Rows.{Row, Rows}
-use Rattle.finish.specs.Finish.{ruleAt}
-use Rattle.finish.specs.Kinds.{Kinds, kindsOf}
-use Rattle.build.specs.Rows.{rowsOf}
+use Rattle.table.specs.declared.Subleaf.{Subleaf}
+use Rattle.table.specs.declared.Subleaf.the-variants.{None, Some}
+use Rattle.table.specs.declared.Verdict.{Verdict}
+use Rattle.table.specs.declared.Verdict.the-variants.{Accepted, Refused}
+use Rattle.table.specs.Rows.{Row, Rows}
+use Rattle.update.specs.Finish.{ruleAt}
+use Rattle.update.specs.Kinds.{Kinds, kindsOf}
+use Rattle.collect.specs.FirstEntries.{rowsOf}
 use Rattle.build.specs.Build.{lawfulVerdict, answer}
 use Rattle.rise.specs.Decide.{risesTest, placeTest, inTable}
 use Rattle.compare.specs.declared.Register.{Register}
@@ -47,7 +47,7 @@ failingOf i a b =
 abbrev pub failingAt : Rows → Rows → ℕ → Compared
 failingAt A B i = failingOf i (A i .result) (B i)
 
-abbrev pub firstFailing : Found → (ℕ → Compared) → Compared
+abbrev pub firstFailing : Failing → (ℕ → Compared) → Compared
 firstFailing (at i) failing = failing i
 firstFailing none failing = Rises
 

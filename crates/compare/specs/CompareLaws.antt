@@ -4,14 +4,14 @@ use mathlib.Core.Path.{_≡_, ap}
 use mathlib.Core.Bool.{Bool, true, false}
 use Prim.Native.Nat.{ℕ, _+_, _-_, _≤_, _<_}
 use Rattle.bits.specs.Choice.{pick}
-use Rattle.bits.specs.Search.{Found, lowest}
+use Rattle.bits.specs.Search.{Failing, lowest}
 use Rattle.bits.specs.SearchLaws.{lowest-passes, lowest-stops, lowest-ends}
 use Rattle.x86defs.specs.declared.CpuidResult.{CpuidResult}
 use Rattle.masking.specs.Kept.{places}
-use Rattle.finish.specs.declared.CpuidResults.{CpuidResults}
-use Rattle.checks.specs.Rows.{Row}
-use Rattle.finish.specs.Table.{rowIn}
-use Rattle.finish.specs.Kinds.{Kinds}
+use Rattle.table.specs.declared.CpuidResults.{CpuidResults}
+use Rattle.table.specs.Rows.{Row}
+use Rattle.table.specs.Table.{rowIn}
+use Rattle.update.specs.Kinds.{Kinds}
 use Rattle.rise.specs.Decide.{risesTest}
 use Rattle.compare.specs.declared.Register.{Register}
 use Rattle.compare.specs.declared.Register.the-variants.{Eax, Ebx, Ecx, Edx}
@@ -46,12 +46,12 @@ failingFrom test failing k = firstFailing (lowest test k (places - k)) failing
 module _ (test : ℕ → Bool) (failing : ℕ → Compared) (k : ℕ) where
   pub turn-passes : k < places → test k ≡ true → failingFrom test failing k ≡ failingFrom test failing (k + 1)
   unfolding failingFrom
-  turn-passes l e = ap (λ (f : Found). firstFailing f failing) (lowest-passes test places k l e)
+  turn-passes l e = ap (λ (f : Failing). firstFailing f failing) (lowest-passes test places k l e)
 
   pub turn-stops : k < places → test k ≡ false → failingFrom test failing k ≡ failing k
   unfolding failingFrom
-  turn-stops l e = ap (λ (f : Found). firstFailing f failing) (lowest-stops test places k l e)
+  turn-stops l e = ap (λ (f : Failing). firstFailing f failing) (lowest-stops test places k l e)
 
   pub turns-end : places ≤ k → failingFrom test failing k ≡ Rises
   unfolding failingFrom
-  turns-end l = ap (λ (f : Found). firstFailing f failing) (lowest-ends test places k l)
+  turns-end l = ap (λ (f : Failing). firstFailing f failing) (lowest-ends test places k l)

@@ -1,7 +1,7 @@
-pub mod Kinds
+pub mod KindsInCode
 pub mod Compare
 pub mod Means
 pub mod OrderLaws
 pub mod CompareLaws
 pub mod ReturnLaws
-pub mod Proof
+pub mod DecidesProof

@@ -6,14 +6,14 @@ use Prim.Native.Nat.{ℕ, _<_}
 use Rattle.x86defs.specs.declared.CpuidFunction.{CpuidFunction}
 use Rattle.x86defs.specs.declared.CpuidResult.{CpuidResult}
 use Rattle.masking.specs.Kept.{places, leafAt}
-use Rattle.checks.specs.declared.Subleaf.{Subleaf}
-use Rattle.checks.specs.declared.Verdict.the-variants.{Accepted, Refused}
-use Rattle.checks.specs.Rows.{Row}
-use Rattle.finish.specs.Finish.{ruleAt}
-use Rattle.finish.specs.Kinds.{Kind, Kinds, EntryAtLeast, kindsOf, fromEntry}
-use Rattle.build.specs.Rows.{rowsOf}
+use Rattle.table.specs.declared.Subleaf.{Subleaf}
+use Rattle.table.specs.declared.Verdict.the-variants.{Accepted, Refused}
+use Rattle.table.specs.Rows.{Row}
+use Rattle.update.specs.Finish.{ruleAt}
+use Rattle.update.specs.Kinds.{Kind, Kinds, EntryAtLeast, kindsOf, fromEntry}
+use Rattle.collect.specs.FirstEntries.{rowsOf}
 use Rattle.build.specs.Build.{lawfulVerdict, answer}
-use Rattle.rise.specs.Rise.{EntryRises, Risen, Rises as Hypothesis}
+use Rattle.rise.specs.Rise.{EntryRises, RiseConclusion, RiseHypothesis as Hypothesis}
 use Rattle.rise.specs.Decide.{inTable}
 use Rattle.compare.specs.declared.Register.{Register}
 use Rattle.compare.specs.declared.Register.the-variants.{Eax, Ebx, Ecx, Edx}
@@ -71,7 +71,7 @@ pub record FirstDiffering (avic : Bool) (a b : List ℕ) (leaf : CpuidFunction) 
 
 -- a yes says that the hypothesis of demand 3 holds, and with the theorem what B's table will have
 abbrev pub Means : Bool → List ℕ → List ℕ → Compared → Type 0
-Means avic a b Rises = Hypothesis avic a b × Risen avic a b
+Means avic a b Rises = Hypothesis avic a b × RiseConclusion avic a b
 Means avic a b (RefusedA r) = answer avic a .verdict ≡ Refused r
 Means avic a b (UnlawfulB r) = (answer avic a .verdict ≡ Accepted) × (lawfulVerdict b ≡ Refused r)
 Means avic a b (NoEntry leaf subleaf) = FirstAbsent avic a b leaf subleaf

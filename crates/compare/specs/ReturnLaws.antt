@@ -4,18 +4,18 @@ use mathlib.Core.Bool.{Bool, true, false}
 use mathlib.Core.List.{List}
 use Prim.Native.Nat.{ℕ}
 use Rattle.pages.specs.Layout.{badLength, countsFit}
-use Rattle.results.specs.declared.Built.{Built}
-use Rattle.finish.specs.declared.CpuidResults.{CpuidResults}
-use Rattle.checks.specs.declared.Refusal.{Refusal}
-use Rattle.checks.specs.declared.Refusal.the-variants.{PagesLength, PageCount}
-use Rattle.checks.specs.declared.Verdict.{Verdict}
-use Rattle.checks.specs.declared.Verdict.the-variants.{Accepted, Refused}
+use Rattle.build.specs.declared.Built.{Built}
+use Rattle.table.specs.declared.CpuidResults.{CpuidResults}
+use Rattle.table.specs.declared.Refusal.{Refusal}
+use Rattle.table.specs.declared.Refusal.the-variants.{PagesLength, PageCount}
+use Rattle.table.specs.declared.Verdict.{Verdict}
+use Rattle.table.specs.declared.Verdict.the-variants.{Accepted, Refused}
 use Rattle.checks.specs.ChecksLaws.{then-left, then-right, demanded}
-use Rattle.checks.specs.Rows.{Rows}
-use Rattle.finish.specs.Table.{rowsIn}
-use Rattle.build.specs.Rows.{rowsOf}
+use Rattle.table.specs.Rows.{Rows}
+use Rattle.table.specs.Table.{rowsIn}
+use Rattle.collect.specs.FirstEntries.{rowsOf}
 use Rattle.build.specs.Build.{lengthVerdict, countsVerdict, lawfulVerdict, verdictOf, answer}
-use Rattle.build.specs.Collect.{collected, collected-rows}
+use Rattle.collect.specs.Collect.{collected, collected-rows}
 use Rattle.compare.specs.declared.Compared.{Compared}
 use Rattle.compare.specs.declared.Compared.the-variants.{RefusedA, UnlawfulB}
 use Rattle.compare.specs.Compare.{afterA, afterB, comparedRows, compared}

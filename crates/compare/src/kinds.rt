@@ -4,17 +4,17 @@ use x86defs::mt_per_socket;
 ghost use mathlib.Core.Path.{_≡_};
 ghost use Prim.Native.Nat.{_<_};
 ghost use Rattle.masking.specs.Kept.{places};
-ghost use Rattle.finish.specs.Finish.{ruleAt};
-ghost use Rattle.finish.specs.Kinds.{kindsOf, fromEntry};
+ghost use Rattle.update.specs.Finish.{ruleAt};
+ghost use Rattle.update.specs.Kinds.{kindsOf, fromEntry};
 ghost use Rattle.rise.specs.Decide.{risesTest};
-ghost use Rattle.compare.specs.Kinds.{kindIn, kindsIn};
+ghost use Rattle.compare.specs.KindsInCode.{kindIn, kindsIn};
 
 // The kinds of specs/Kinds.antt of crate finish.
 pub enum Kind {
     Feature,
     FeatureBut28,
     Area,
-    Made,
+    Freed,
     Other,
 }
 
@@ -38,15 +38,15 @@ pub fn kinds_at(place: usize) -> Kinds
     ensures { λ r. ⌜ kindsIn r ≡ kindsOf (ruleAt place) ⌝ }
 {
     match place {
-        0 => row_of(Kind::Made, Kind::Made, Kind::Made, Kind::Made),
+        0 => row_of(Kind::Freed, Kind::Freed, Kind::Freed, Kind::Freed),
         1 => row_of(Kind::Other, Kind::Other, Kind::Feature, Kind::FeatureBut28),
         2 => row_of(Kind::Other, Kind::Other, Kind::Other, Kind::Other),
         3 => row_of(Kind::Other, Kind::Feature, Kind::Feature, Kind::Feature),
-        4..=5 => row_of(Kind::Made, Kind::Made, Kind::Made, Kind::Made),
+        4..=5 => row_of(Kind::Freed, Kind::Freed, Kind::Freed, Kind::Freed),
         6 => row_of(Kind::Feature, Kind::Other, Kind::Area, Kind::Other),
         7 => row_of(Kind::Feature, Kind::Other, Kind::Feature, Kind::Other),
         8..=69 => row_of(Kind::Other, Kind::Other, Kind::Other, Kind::Other),
-        70 => row_of(Kind::Made, Kind::Made, Kind::Made, Kind::Made),
+        70 => row_of(Kind::Freed, Kind::Freed, Kind::Freed, Kind::Freed),
         71 => row_of(Kind::Other, Kind::Other, Kind::Feature, Kind::Feature),
         72..=77 => row_of(Kind::Other, Kind::Other, Kind::Other, Kind::Other),
         78 => row_of(Kind::Other, Kind::Feature, Kind::Other, Kind::Other),
@@ -90,7 +90,7 @@ pub fn register_rises(kind: Kind, a: u32, b: u32) -> bool
             false
         }
         Kind::Area => true,
-        Kind::Made => true,
+        Kind::Freed => true,
         Kind::Other => a == b,
     }
 }

@@ -1,18 +1,18 @@
 // Two servers compared. The pages of A and B come in; whether a guest of A may move to B goes out, or the first thing in the way.
-use checks::Refusal;
-use checks::Subleaf;
-use checks::Verdict;
-use finish::CpuidResults;
 use kinds::Kinds;
 use masking::PLACES;
+use table::CpuidResults;
+use table::Refusal;
+use table::Subleaf;
+use table::Verdict;
 use x86defs::CpuidFunction;
 use x86defs::CpuidResult;
 ghost use mathlib.Core.Path.{_≡_};
 ghost use Prim.Native.Nat.{_<_};
 ghost use Rattle.masking.specs.Kept.{places};
-ghost use Rattle.finish.specs.Table.{rowsIn};
+ghost use Rattle.table.specs.Table.{rowsIn};
 ghost use Rattle.rise.specs.Decide.{rowTest};
-ghost use Rattle.compare.specs.Kinds.{kindsIn};
+ghost use Rattle.compare.specs.KindsInCode.{kindsIn};
 ghost use Rattle.compare.specs.Compare.{subleafNamed, failingOf, comparedRows, compared};
 ghost use Rattle.compare.specs.CompareLaws.{hasRow, rowWith, registersRise, firstOf};
 ghost use Rattle.compare.specs.Means.{Decides};
@@ -62,8 +62,8 @@ pub fn compare(a: &[u8], b: &[u8], secure_avic: bool) -> Compared
         let table = built.table;
         return first_failing(
             table,
-            build::collect(a, secure_avic),
-            build::collect(b, secure_avic),
+            collect::collect(a, secure_avic),
+            collect::collect(b, secure_avic),
         );
     }
     Compared::UnlawfulB(Refusal::PageCount)

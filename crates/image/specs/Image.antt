@@ -1,21 +1,15 @@
 -- Document 01, "Image and lookup": byte 1, then leaf, EAX, EBX, ECX, EDX (4 bytes each, little-endian) for a row without subleaf; byte 2,
 -- leaf, subleaf and the four for one with. Leaves stand in any order; subleaves of a leaf ascend.
 use mathlib.Core.List.{List, [], _∷_, _++_}
-use Prim.Native.Nat.{ℕ, _+_, _/_, _%_}
+use Prim.Native.Nat.{ℕ}
 use Rattle.bits.specs.Choice.{pick}
 use Rattle.bits.specs.Lists.{tabulate}
 use Rattle.x86defs.specs.declared.CpuidResult.{CpuidResult}
 use Rattle.masking.specs.Kept.{places, leafAt, indexedAt, subleafAt}
-use Rattle.finish.specs.declared.CpuidResults.{CpuidResults}
-use Rattle.checks.specs.Rows.{Row}
-use Rattle.finish.specs.Table.{rowIn}
-
--- a 32-bit number as four bytes, the lowest first
-abbrev pub bytesOf : ℕ → List ℕ
-bytesOf n = n % 256 ∷ n / 256 % 256 ∷ n / 65536 % 256 ∷ n / 16777216 % 256 ∷ []
-
-abbrev pub resultBytes : CpuidResult → List ℕ
-resultBytes r = bytesOf (r .eax) ++ bytesOf (r .ebx) ++ bytesOf (r .ecx) ++ bytesOf (r .edx)
+use Rattle.table.specs.declared.CpuidResults.{CpuidResults}
+use Rattle.table.specs.Rows.{Row}
+use Rattle.table.specs.Table.{rowIn}
+use Rattle.buffer.specs.Front.{bytesOf, resultBytes}
 
 -- a row of place i
 abbrev pub rowBytes : ℕ → CpuidResult → List ℕ

@@ -13,9 +13,9 @@ use Rattle.bits.specs.ChoiceLaws.{and-left, and-right}
 use Rattle.bits.specs.Lists.{sumTo, one}
 use Rattle.bits.specs.Search.{every}
 use Rattle.masking.specs.Kept.{keptLeaves, slot, places, indexedAt}
-use Rattle.finish.specs.declared.CpuidResults.{CpuidResults}
-use Rattle.checks.specs.Rows.{Row}
-use Rattle.finish.specs.Table.{rowIn}
+use Rattle.table.specs.declared.CpuidResults.{CpuidResults}
+use Rattle.table.specs.Rows.{Row}
+use Rattle.table.specs.Table.{rowIn}
 use Rattle.image.specs.Image.{placeBytes, image}
 use Rattle.image.specs.Pieces.{rowsFrom, rowsAmong}
 use Rattle.image.specs.PiecesLaws.{rows-more, rows-all, rows-none}

@@ -9,17 +9,12 @@ use Rattle.bits.specs.Lists.{sumTo, one}
 use Rattle.bits.specs.Search.{every}
 use Rattle.x86defs.specs.declared.CpuidResult.{CpuidResult}
 use Rattle.masking.specs.Kept.{places, leafAt, indexedAt, subleafAt}
-use Rattle.finish.specs.declared.CpuidResults.{CpuidResults}
+use Rattle.table.specs.declared.CpuidResults.{CpuidResults}
 use Rattle.image.specs.declared.Run.{Run}
-use Rattle.image.specs.Image.{bytesOf, resultBytes, imageIn, leafOrder}
+use Rattle.buffer.specs.Front.{bytesOf, resultBytes}
+use Rattle.image.specs.Image.{imageIn, leafOrder}
 
 -- ---- rows
-
-unfoldable pub word : ℕ → List ℕ
-word n = bytesOf n
-
-unfoldable pub registers : CpuidResult → List ℕ
-registers r = resultBytes r
 
 unfoldable pub indexedRow : ℕ → ℕ → CpuidResult → List ℕ
 indexedRow leaf subleaf r = 2 ∷ bytesOf leaf ++ bytesOf subleaf ++ resultBytes r

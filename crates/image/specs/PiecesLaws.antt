@@ -18,44 +18,30 @@ use Rattle.bits.specs.ListsLaws.{length-tabulate, getD-tabulate}
 use Rattle.bits.specs.SearchLaws.{every-at}
 use Rattle.x86defs.specs.declared.CpuidResult.{CpuidResult}
 use Rattle.masking.specs.Kept.{places, leafAt, indexedAt, subleafAt}
-use Rattle.finish.specs.declared.CpuidResults.{CpuidResults}
-use Rattle.checks.specs.declared.Refusal.the-variants.{BufferTooShort}
-use Rattle.checks.specs.Rows.{Row}
-use Rattle.finish.specs.Table.{rowIn}
+use Rattle.table.specs.declared.CpuidResults.{CpuidResults}
+use Rattle.table.specs.Rows.{Row}
+use Rattle.table.specs.Table.{rowIn}
 use Rattle.image.specs.declared.Run.{Run}
-use Rattle.image.specs.declared.Written.the-variants.{Bytes, Refused}
 use Rattle.image.specs.Image.{placeBytes, imageIn, leafOrder, image}
-use Rattle.image.specs.Write.{place}
-use Rattle.image.specs.Pieces.{word, registers, indexedRow, wholeRow, rowsFrom, runRow, stands, lawful}
+use Rattle.buffer.specs.Front.{wordBytes, registerBytes}
+use Rattle.buffer.specs.FrontLaws.{sets-append}
+use Rattle.image.specs.Pieces.{indexedRow, wholeRow, rowsFrom, runRow, stands, lawful}
 
 -- ---- stores one after another
-
-pub sets-append : (xs ys l : List ℕ) (i : ℕ) → sets (sets l i xs) (i + length xs) ys ≡ sets l i (xs ++ ys)
-sets-append [] ys l i = rw add-zero
-sets-append (x ∷ xs) ys l i = let e : i + suc (length xs) ≡ suc i + length xs = omega arith in rw e (sets-append xs ys (set l i x) (suc i))
 
 module _ (out : List ℕ) (at : ℕ) where
   nine : at + 9 ≡ suc (at + 8)
   nine = omega arith
 
-  twelve : at + 12 ≡ suc (suc (suc (suc (at + 8))))
-  twelve = omega arith
-
-  pub registers-sets : (r : CpuidResult)
-      → sets (sets (sets (sets out at (word (r .eax))) (at + 4) (word (r .ebx))) (at + 8) (word (r .ecx))) (at + 12) (word (r .edx))
-      ≡ sets out at (registers r)
-  unfolding word registers
-  registers-sets r = simp (twelve, towards-suc)
-
   pub indexed-sets : (leaf subleaf : ℕ) (r : CpuidResult)
-      → sets (sets (sets (set out at 2) (at + 1) (word leaf)) (at + 5) (word subleaf)) (at + 9) (registers r)
+      → sets (sets (sets (set out at 2) (at + 1) (wordBytes leaf)) (at + 5) (wordBytes subleaf)) (at + 9) (registerBytes r)
       ≡ sets out at (indexedRow leaf subleaf r)
-  unfolding word registers indexedRow
+  unfolding wordBytes registerBytes indexedRow
   indexed-sets leaf subleaf r = simp (nine, towards-suc)
 
   pub whole-sets : (leaf : ℕ) (r : CpuidResult)
-      → sets (sets (set out at 1) (at + 1) (word leaf)) (at + 5) (registers r) ≡ sets out at (wholeRow leaf r)
-  unfolding word registers wholeRow
+      → sets (sets (set out at 1) (at + 1) (wordBytes leaf)) (at + 5) (registerBytes r) ≡ sets out at (wholeRow leaf r)
+  unfolding wordBytes registerBytes wholeRow
   whole-sets leaf r = simp towards-suc
 
 -- ---- runs
@@ -162,15 +148,3 @@ module _ (t : CpuidResults) where
   onward-all out₀ out at i e p =
       let none : rowsFrom t i ≡ [] = ap (rowsFrom t) e ∙ rows-none t in
       rw (none, rows-all t) at (p .bytes)
-
--- ---- the lent buffer
-
-pub place-short : (bytes buffer : List ℕ) → length buffer < length bytes
-    → place bytes buffer ≡ record { answer = Refused BufferTooShort; buffer = buffer }
-unfolding place
-place-short bytes buffer h = rw (lt-leb (length bytes) (length buffer) h)
-
-pub place-whole : (bytes buffer : List ℕ) → length bytes ≤ length buffer
-    → place bytes buffer ≡ record { answer = Bytes (length bytes); buffer = sets buffer 0 bytes }
-unfolding place
-place-whole bytes buffer h = rw (le-leb (length bytes) (length buffer) h, sets-eq bytes buffer 0 (rw zero-add h), zero-add)

@@ -1,4 +1,4 @@
-// The image of a table. Pages and a lent buffer come in; the table's bytes go out, or a refusal and the buffer as it was.
+// The image of a table. A table and a lent buffer come in; the table's bytes go out, or refusal 9 and the buffer as it was.
 ghost use mathlib.Core.Bool.{true, false};
 ghost use mathlib.Core.Path.{_≡_};
 ghost use Prim.Native.Nat.{_+_, _^_, _≤_, _<_};
@@ -7,19 +7,15 @@ ghost use lib.Seq.{sets};
 ghost use Rattle.bits.specs.Lists.{one};
 ghost use Rattle.masking.specs.Kept.{places};
 ghost use Rattle.image.specs.Image.{image};
-ghost use Rattle.image.specs.Write.{place, write};
-ghost use Rattle.image.specs.Pieces.{word, registers, indexedRow, wholeRow, run, runRow, lawful, rowsAmong};
-use checks::Refusal;
-use checks::Verdict;
-use finish::CpuidResults;
+ghost use Rattle.buffer.specs.Front.{writeFront};
+ghost use Rattle.image.specs.Pieces.{indexedRow, wholeRow, run, runRow, lawful, rowsAmong};
+use buffer::Written;
+use buffer::put_registers;
+use buffer::put_word;
 use masking::PLACES;
+use table::CpuidResults;
+use table::Refusal;
 use x86defs::CpuidResult;
-
-// How many bytes were written, or why none was.
-pub enum Written {
-    Bytes(usize),
-    Refused(Refusal),
-}
 
 // Places from `first` up to `end` that stand together: leaves that follow one another from `leaf` on, or the subleaves of one leaf.
 struct Run {
@@ -29,23 +25,9 @@ struct Run {
     indexed: bool,
 }
 
-// Builds the table of the given pages and writes its image. Building's refusals come first, and leave the buffer as it was.
-pub fn write_image(pages: &[u8], secure_avic: bool, out: &mut [u8]) -> Written
-    ensures { λ r. ⌜ r ≡ write «secure_avic» (now (pages .entry)) (now (out .entry)) .answer ⌝ }
-    ensures { λ _. ⌜ now (out .exit) ≡ write «secure_avic» (now (pages .entry)) (now (out .entry)) .buffer ⌝ }
-{
-    let built = build::build(pages, secure_avic);
-    let verdict = built.verdict;
-    if let Verdict::Refused(r) = verdict {
-        return Written::Refused(r);
-    }
-    let table = built.table;
-    write_table(table, out)
-}
-
 // Writes a table's image at the front of a lent buffer. A buffer that is too short is refused, and stays as it was.
 pub fn write_table(t: CpuidResults, out: &mut [u8]) -> Written
-    ensures { λ r. ⌜ (r ≡ place (image t) (now (out .entry)) .answer) × (now (out .exit) ≡ place (image t) (now (out .entry)) .buffer) ⌝ }
+    ensures { λ r. ⌜ (r ≡ writeFront (image t) (now (out .entry)) .answer) × (now (out .exit) ≡ writeFront (image t) (now (out .entry)) .buffer) ⌝ }
 {
     let n = image_length(t);
     if out.len() < n {
@@ -68,7 +50,7 @@ pub fn image_length(t: CpuidResults) -> usize
 }
 
 // How many of the places from `first` up to `end` have a row. The count is a byte, so that many can be added at once.
-fn rows_among(present: &[bool; 88], first: usize, end: usize) -> u8
+fn rows_among(present: &[bool; PLACES], first: usize, end: usize) -> u8
     requires { ⌜ (first ≤ end) × (end ≤ places) ⌝ }
     ensures { λ r. ⌜ (r ≡ rowsAmong (now (present .entry)) first end) × (r + first ≤ end) ⌝ }
 {
@@ -144,28 +126,6 @@ fn put_whole_row(out: &mut [u8], at: usize, leaf: u32, r: CpuidResult)
     out[at] = 1;
     put_word(out, at + 1, leaf);
     put_registers(out, at + 5, r);
-}
-
-// EAX, EBX, ECX, EDX.
-fn put_registers(out: &mut [u8], at: usize, r: CpuidResult)
-    requires { ⌜ at + 16 ≤ length (now out) ⌝ }
-    ensures { λ _. ⌜ now (out .exit) ≡ sets (now (out .entry)) at (registers r) ⌝ }
-{
-    put_word(out, at, r.eax);
-    put_word(out, at + 4, r.ebx);
-    put_word(out, at + 8, r.ecx);
-    put_word(out, at + 12, r.edx);
-}
-
-// A number as four bytes, the lowest first.
-fn put_word(out: &mut [u8], at: usize, x: u32)
-    requires { ⌜ at + 4 ≤ length (now out) ⌝ }
-    ensures { λ _. ⌜ now (out .exit) ≡ sets (now (out .entry)) at (word x) ⌝ }
-{
-    out[at] = (x % 256) as u8;
-    out[at + 1] = (x / 256 % 256) as u8;
-    out[at + 2] = (x / 65536 % 256) as u8;
-    out[at + 3] = (x / 16777216 % 256) as u8;
 }
 
 // The run in which a place stands. Crate masking's specs/Kept.antt has the 88 places.

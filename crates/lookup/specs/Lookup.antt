@@ -7,11 +7,11 @@ use Rattle.x86defs.specs.declared.CpuidFunction.{CpuidFunction}
 use Rattle.x86defs.specs.Functions.{sameFunction, VendorAndMaxFunction, ExtendedMaxFunction, ExtendedFeatures, ExtendedTopologyEnumeration, ExtendedStateEnumeration, CacheTopologyDefinition}
 use Rattle.masking.specs.Kept.{placeOf}
 use Rattle.masking.specs.Place
-use Rattle.finish.specs.declared.CpuidResults.{CpuidResults}
-use Rattle.checks.specs.declared.Subleaf.{Subleaf}
-use Rattle.checks.specs.declared.Subleaf.the-variants.{None, Some}
-use Rattle.checks.specs.Rows.{Row}
-use Rattle.finish.specs.Table.{rowIn}
+use Rattle.table.specs.declared.CpuidResults.{CpuidResults}
+use Rattle.table.specs.declared.Subleaf.{Subleaf}
+use Rattle.table.specs.declared.Subleaf.the-variants.{None, Some}
+use Rattle.table.specs.Rows.{Row}
+use Rattle.table.specs.Table.{rowIn}
 use Rattle.lookup.specs.declared.LeafResult.{LeafResult}
 use Rattle.lookup.specs.declared.LeafResult.the-variants.{Some as Found, None as Nothing}
 

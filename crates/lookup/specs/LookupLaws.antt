@@ -12,10 +12,10 @@ use Rattle.bits.specs.Choice.{pick}
 use Rattle.bits.specs.ChoiceLaws.{pick-false}
 use Rattle.x86defs.specs.declared.CpuidFunction.{CpuidFunction}
 use Rattle.masking.specs.Kept.{places, placeOf}
-use Rattle.finish.specs.declared.CpuidResults.{CpuidResults}
-use Rattle.checks.specs.declared.Subleaf.{Subleaf}
-use Rattle.checks.specs.declared.Subleaf.the-variants.{None, Some}
-use Rattle.finish.specs.Table.{rowIn, emptyTable}
+use Rattle.table.specs.declared.CpuidResults.{CpuidResults}
+use Rattle.table.specs.declared.Subleaf.{Subleaf}
+use Rattle.table.specs.declared.Subleaf.the-variants.{None, Some}
+use Rattle.table.specs.Table.{rowIn, emptyTable}
 use Rattle.lookup.specs.declared.LeafResult.the-variants.{None as Nothing}
 use Rattle.lookup.specs.Lookup.{withSubleaves, placeWhole, rowResult, lookup}
 

@@ -4,9 +4,9 @@ ghost use Prim.Native.Nat.{_≤_};
 ghost use Rattle.masking.specs.Kept.{places};
 ghost use Rattle.lookup.specs.Lookup.{withSubleaves, placeWhole, lookup};
 ghost use Rattle.lookup.specs.LookupLaws.{placeAsked};
-use checks::Subleaf;
-use finish::CpuidResults;
 use masking::PLACES;
+use table::CpuidResults;
+use table::Subleaf;
 use x86defs::CpuidFunction;
 use x86defs::CpuidResult;
 

@@ -1,9 +1,9 @@
 pub mod Masks
 pub mod Kept
 pub mod Place
-pub mod Table
+pub mod KeptTable
 pub mod MasksLaws
 pub mod KeptLaws
-pub mod TableLaws
+pub mod KeptTableLaws
 pub mod RunLaws
 pub mod PlaceOfLaws

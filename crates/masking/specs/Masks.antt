@@ -56,29 +56,29 @@ versionAndFeatures =
     result
     signature
     (fieldsMask (brand-index ∷ clflush-line-size ∷ lps-per-package ∷ initial-apic-id ∷ []))
-    (maskOf VersionAndFeaturesEcx.place VersionAndFeaturesEcx.kept)
-    (maskOf VersionAndFeaturesEdx.place VersionAndFeaturesEdx.kept)
+    (maskOf VersionAndFeaturesEcx.position VersionAndFeaturesEcx.kept)
+    (maskOf VersionAndFeaturesEdx.position VersionAndFeaturesEdx.kept)
 
 -- 7.0
 unfoldable pub extendedFeatures : Masks
 extendedFeatures =
     result
     ones
-    (maskOf ExtendedFeatureSubleaf0Ebx.place ExtendedFeatureSubleaf0Ebx.kept)
-    (maskOf ExtendedFeatureSubleaf0Ecx.place ExtendedFeatureSubleaf0Ecx.kept)
-    (maskOf ExtendedFeatureSubleaf0Edx.place ExtendedFeatureSubleaf0Edx.kept)
+    (maskOf ExtendedFeatureSubleaf0Ebx.position ExtendedFeatureSubleaf0Ebx.kept)
+    (maskOf ExtendedFeatureSubleaf0Ecx.position ExtendedFeatureSubleaf0Ecx.kept)
+    (maskOf ExtendedFeatureSubleaf0Edx.position ExtendedFeatureSubleaf0Edx.kept)
 
 -- D.0
 unfoldable pub extendedState0 : Masks
-extendedState0 = result (maskOf ExtendedStateEnumerationSubleaf0Eax.place ExtendedStateEnumerationSubleaf0Eax.kept) ones ones 0
+extendedState0 = result (maskOf ExtendedStateEnumerationSubleaf0Eax.position ExtendedStateEnumerationSubleaf0Eax.kept) ones ones 0
 
 -- D.1
 unfoldable pub extendedState1 : Masks
 extendedState1 =
     result
-    (maskOf ExtendedStateEnumerationSubleaf1Eax.place ExtendedStateEnumerationSubleaf1Eax.kept)
+    (maskOf ExtendedStateEnumerationSubleaf1Eax.position ExtendedStateEnumerationSubleaf1Eax.kept)
     ones
-    (maskOf ExtendedStateEnumerationSubleaf1Ecx.place ExtendedStateEnumerationSubleaf1Ecx.kept)
+    (maskOf ExtendedStateEnumerationSubleaf1Ecx.position ExtendedStateEnumerationSubleaf1Ecx.kept)
     0
 
 -- 80000001h: masking.rs, and snp.rs
@@ -89,9 +89,9 @@ extendedVersionAndFeatures =
     (result
     signature
     (fieldsMask (brand-id ∷ pkg-type ∷ []))
-    (maskOf ExtendedVersionAndFeaturesEcx.place ExtendedVersionAndFeaturesEcx.kept)
-    (maskOf ExtendedVersionAndFeaturesEdx.place ExtendedVersionAndFeaturesEdx.kept))
-    (result 0 0 0 (maskOf ExtendedVersionAndFeaturesEdx.place ExtendedVersionAndFeaturesEdx.keptBySnp))
+    (maskOf ExtendedVersionAndFeaturesEcx.position ExtendedVersionAndFeaturesEcx.kept)
+    (maskOf ExtendedVersionAndFeaturesEdx.position ExtendedVersionAndFeaturesEdx.kept))
+    (result 0 0 0 (maskOf ExtendedVersionAndFeaturesEdx.position ExtendedVersionAndFeaturesEdx.keptBySnp))
 
 -- 80000008h: masking.rs, and snp.rs
 unfoldable pub extendedAddressSpaceSizes : Masks
@@ -100,7 +100,7 @@ extendedAddressSpaceSizes =
     (result (fieldsMask (physical-address-size ∷ virtual-address-size ∷ [])) 0 0 0)
     (result
     0
-    (maskOf ExtendedAddressSpaceSizesEbx.place ExtendedAddressSpaceSizesEbx.kept)
+    (maskOf ExtendedAddressSpaceSizesEbx.position ExtendedAddressSpaceSizesEbx.kept)
     (fieldsMask (nc ∷ apic-core-id-size ∷ []))
     (fieldsMask (invlpgb-count-max ∷ rdpru-max-ecx ∷ [])))
 
@@ -114,7 +114,7 @@ extendedTlb1GB = result ones ones 0 0
 
 -- 8000001Ah
 unfoldable pub extendedOptimization : Masks
-extendedOptimization = result (maskOf ExtendedOptimizationIdentifiersEax.place ExtendedOptimizationIdentifiersEax.kept) 0 0 0
+extendedOptimization = result (maskOf ExtendedOptimizationIdentifiersEax.position ExtendedOptimizationIdentifiersEax.kept) 0 0 0
 
 -- 8000001Eh
 abbrev pub processorTopology : Masks
@@ -122,13 +122,13 @@ processorTopology = result ones ones ones 0
 
 -- "The secure-AVIC choice, yes or no, adds one bit to 8000001Fh.EAX"
 unfoldable pub secureAvicMask : Bool → ℕ
-secureAvicMask avic = pick avic (maskOf ExtendedSevFeaturesEax.place (ExtendedSevFeaturesEax.ExtendedSevFeaturesEax.secure-avic ∷ [])) 0
+secureAvicMask avic = pick avic (maskOf ExtendedSevFeaturesEax.position (ExtendedSevFeaturesEax.ExtendedSevFeaturesEax.secure-avic ∷ [])) 0
 
 -- 8000001Fh
 unfoldable pub extendedSev : Bool → Masks
 extendedSev avic =
     result
-    (bitOr (maskOf ExtendedSevFeaturesEax.place ExtendedSevFeaturesEax.kept) (secureAvicMask avic))
+    (bitOr (maskOf ExtendedSevFeaturesEax.position ExtendedSevFeaturesEax.kept) (secureAvicMask avic))
     (fieldsMask (cbit-position ∷ encryption-physical-bits-used ∷ number-of-vmpls ∷ []))
     ones
     ones

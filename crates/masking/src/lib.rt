@@ -7,8 +7,9 @@ ghost use lib.Dec.{ltb};
 ghost use Rattle.bits.specs.Choice.{pick};
 ghost use Rattle.masking.specs.Masks.{secureAvicMask, applyMask};
 ghost use Rattle.masking.specs.Kept.{places, placeOf, leafAt, indexedAt, subleafAt};
-ghost use Rattle.masking.specs.Table.{rows, table, rowAt, masksOf, rowOfPlace};
+ghost use Rattle.masking.specs.KeptTable.{rows, table, rowAt, masksOf, rowOfPlace};
 
+pub mod place;
 mod table;
 
 pub use table::KEPT_LEAVES;

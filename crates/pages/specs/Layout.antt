@@ -23,8 +23,8 @@ abbrev pub mostEntries : ℕ
 mostEntries = 64
 
 -- the four bytes at offset o, little-endian
-abbrev pub word : List ℕ → ℕ → ℕ
-word s o = getD s o 0 + 256 * getD s (o + 1) 0 + 65536 * getD s (o + 2) 0 + 16777216 * getD s (o + 3) 0
+abbrev pub wordAt : List ℕ → ℕ → ℕ
+wordAt s o = getD s o 0 + 256 * getD s (o + 1) 0 + 65536 * getD s (o + 2) 0 + 16777216 * getD s (o + 3) 0
 
 -- how many whole pages there are; pages are counted from 0
 abbrev pub pagesIn : List ℕ → ℕ
@@ -32,7 +32,7 @@ pagesIn s = length s / pageSize
 
 -- the count of page p
 abbrev pub countOf : List ℕ → ℕ → ℕ
-countOf s p = word s (pageSize * p)
+countOf s p = wordAt s (pageSize * p)
 
 -- an entry, with the page and the position that it stands at
 pub record Entry : Type 0 where
@@ -48,9 +48,9 @@ entryAt s p q =
     record {
       page = p;
       position = q;
-      leaf = function (word s o);
-      subleaf = word s (o + 4);
-      registers = result (word s (o + 24)) (word s (o + 28)) (word s (o + 32)) (word s (o + 36));
+      leaf = function (wordAt s o);
+      subleaf = wordAt s (o + 4);
+      registers = result (wordAt s (o + 24)) (wordAt s (o + 28)) (wordAt s (o + 32)) (wordAt s (o + 36));
     }
 
 -- refusal 1: the length is 0, or not a multiple of 4,096

@@ -5,8 +5,8 @@ use mathlib.Core.List.{List, [], _++_}
 use Prim.Native.Nat.{ℕ, _+_, _-_}
 use lib.Dec.{eqb, ltb}
 use Rattle.bits.specs.Choice.{pick}
-use Rattle.bits.specs.Search.{Found, lowest}
-use Rattle.bits.specs.Search.Found.{at, none}
+use Rattle.bits.specs.Search.{Failing, lowest}
+use Rattle.bits.specs.Search.Failing.{at, none}
 use Rattle.pages.specs.declared.CpuidPageIndex.{CpuidPageIndex}
 use Rattle.pages.specs.declared.ParsedCpuidEntry.{ParsedCpuidEntry}
 use Rattle.pages.specs.Layout.{Entry, pagesIn, countOf}
@@ -25,7 +25,7 @@ abbrev pub isEmpty : List ℕ → ℕ → Bool
 isEmpty s p = eqb (countOf s p) 0
 
 -- the first position of the page that was found; the end, where none was, is that of the page after the last
-abbrev pub startOf : List ℕ → Found → CpuidPageIndex
+abbrev pub startOf : List ℕ → Failing → CpuidPageIndex
 startOf s (at p) = index p 0
 startOf s none = index (pagesIn s) 0
 

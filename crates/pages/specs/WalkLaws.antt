@@ -10,8 +10,8 @@ use lib.ListN.{length}
 use borrow.Author.Tests.{lt-ltb, le-ltb, ltb-true, ltb-false, eq-eqb, ne-eqb, eqb-true, eqb-false}
 use Rattle.bits.specs.Choice.{pick}
 use Rattle.bits.specs.ChoiceLaws.{and-right}
-use Rattle.bits.specs.Search.{Found, lowest}
-use Rattle.bits.specs.Search.Found.{at, none}
+use Rattle.bits.specs.Search.{Failing, lowest}
+use Rattle.bits.specs.Search.Failing.{at, none}
 use Rattle.bits.specs.SearchLaws.{lowest-at}
 use Rattle.pages.specs.declared.CpuidPageIndex.{CpuidPageIndex}
 use Rattle.pages.specs.Layout.{entryAt, mostEntries, pagesIn, countOf, countsFit}
@@ -125,7 +125,7 @@ first-from-valid : (s : List ℕ) (p : ℕ) → Valid s (firstFrom s p)
 unfolding firstFrom
 first-from-valid s p = go (lowest (isEmpty s) p (pagesIn s - p)) refl
   where
-    go : (f : Found) → lowest (isEmpty s) p (pagesIn s - p) ≡ f → Valid s (startOf s f)
+    go : (f : Failing) → lowest (isEmpty s) p (pagesIn s - p) ≡ f → Valid s (startOf s f)
     go (at j) e =
         let z : ¬ (countOf s j ≡ 0) = eqb-false _ 0 (lowest-at (isEmpty s) p (pagesIn s - p) j e .fails) in
         record { below = λ h. omega arith }
@@ -136,7 +136,7 @@ first-from-rises : (s : List ℕ) (p : ℕ) → p ≤ pagesIn s → p ≤ firstF
 unfolding firstFrom
 first-from-rises s p h = go (lowest (isEmpty s) p (pagesIn s - p)) refl
   where
-    go : (f : Found) → lowest (isEmpty s) p (pagesIn s - p) ≡ f → p ≤ startOf s f .«page_index»
+    go : (f : Failing) → lowest (isEmpty s) p (pagesIn s - p) ≡ f → p ≤ startOf s f .«page_index»
     go (at j) e = lowest-at (isEmpty s) p (pagesIn s - p) j e .from
     go none e = h
 

@@ -4,7 +4,7 @@ use x86defs::CpuidResult;
 ghost use mathlib.Core.Path.{_≡_};
 ghost use Prim.Native.Nat.{_+_, _≤_, _<_};
 ghost use lib.ListN.{length, getD};
-ghost use Rattle.pages.specs.Layout.{word, pagesIn, countOf, badLength, countsFit, entryAt, mostEntries};
+ghost use Rattle.pages.specs.Layout.{wordAt, pagesIn, countOf, badLength, countsFit, entryAt, mostEntries};
 ghost use Rattle.pages.specs.Walk.{firstIndex, nextValid, incremented, firstFrom, parsed};
 
 const PAGE_SIZE: usize = 4096;
@@ -29,9 +29,9 @@ pub struct ParsedCpuidEntry {
 }
 
 // The four bytes at `o`, the lowest first.
-pub fn word(pages: &[u8], o: usize) -> u32
+pub fn word_at(pages: &[u8], o: usize) -> u32
     requires { ⌜ o + 4 ≤ length (now pages) ⌝ }
-    ensures { λ r. ⌜ r ≡ word (now (pages .entry)) o ⌝ }
+    ensures { λ r. ⌜ r ≡ wordAt (now (pages .entry)) o ⌝ }
 {
     byte(pages, o)
         + 256 * byte(pages, o + 1)
@@ -51,7 +51,7 @@ pub fn count_of(pages: &[u8], p: usize) -> u32
     requires { ⌜ p < pagesIn (now pages) ⌝ }
     ensures { λ r. ⌜ r ≡ countOf (now (pages .entry)) p ⌝ }
 {
-    word(pages, PAGE_SIZE * p)
+    word_at(pages, PAGE_SIZE * p)
 }
 
 // Refusal 1: whether there is no byte, or a part of a page.
@@ -149,13 +149,13 @@ pub fn entry_at(pages: &[u8], index: CpuidPageIndex) -> ParsedCpuidEntry
 {
     let o = PAGE_SIZE * index.page_index + FIRST_ENTRY + ENTRY_SIZE * index.function_index;
     ParsedCpuidEntry {
-        leaf: CpuidFunction(word(pages, o)),
-        subleaf: word(pages, o + 4),
+        leaf: CpuidFunction(word_at(pages, o)),
+        subleaf: word_at(pages, o + 4),
         result: CpuidResult {
-            eax: word(pages, o + 24),
-            ebx: word(pages, o + 28),
-            ecx: word(pages, o + 32),
-            edx: word(pages, o + 36),
+            eax: word_at(pages, o + 24),
+            ebx: word_at(pages, o + 28),
+            ecx: word_at(pages, o + 32),
+            edx: word_at(pages, o + 36),
         },
     }
 }

@@ -14,36 +14,36 @@ use Rattle.bits.specs.Bits.{bit}
 use Rattle.bits.specs.BitsLaws.{within-of-and, and-of-within}
 use Rattle.x86defs.specs.declared.CpuidResult.{CpuidResult}
 use Rattle.masking.specs.Kept.{places}
-use Rattle.checks.specs.declared.Verdict.the-variants.{Accepted}
-use Rattle.checks.specs.Rows.{Row, Rows}
-use Rattle.finish.specs.Finish.{ruleAt}
-use Rattle.finish.specs.Kinds.{Kind, Kinds, EntryAtLeast, Registers, kindsOf, fromEntry}
-use Rattle.finish.specs.Kinds.Kind.{feature, featureBut28, area, made, other}
-use Rattle.finish.specs.Table.{rowIn}
-use Rattle.build.specs.Rows.{rowsOf}
+use Rattle.table.specs.declared.Verdict.the-variants.{Accepted}
+use Rattle.table.specs.Rows.{Row, Rows}
+use Rattle.update.specs.Finish.{ruleAt}
+use Rattle.update.specs.Kinds.{Kind, Kinds, EntryAtLeast, Registers, kindsOf, fromEntry}
+use Rattle.update.specs.Kinds.Kind.{feature, featureBut28, area, freed, other}
+use Rattle.table.specs.Table.{rowIn}
+use Rattle.collect.specs.FirstEntries.{rowsOf}
 use Rattle.build.specs.Build.{lawfulVerdict, answer}
-use Rattle.rise.specs.Rise.{EntryRises, Rises}
+use Rattle.rise.specs.Rise.{EntryRises, RiseHypothesis}
 
 -- whether a register of B's entry is as the hypothesis wants it
 abbrev pub risesTest : Kind → ℕ → ℕ → Bool
 risesTest feature a b = eqb (bitAnd a b) a
 risesTest featureBut28 a b = eqb (bitAnd a b) a && eqb (bit 28 a) (bit 28 b)
 risesTest area a b = true
-risesTest made a b = true
+risesTest freed a b = true
 risesTest other a b = eqb a b
 
 pub test-rises : (k : Kind) (a b : ℕ) → risesTest k a b ≡ true → EntryAtLeast k a b
 test-rises feature a b e = within-of-and (eqb-true _ _ e)
 test-rises featureBut28 a b e = (within-of-and (eqb-true _ _ (and-left _ _ e)), eqb-true _ _ (and-right (eqb (bitAnd a b) a) _ e))
 test-rises area a b e = tt
-test-rises made a b e = tt
+test-rises freed a b e = tt
 test-rises other a b e = eqb-true a b e
 
 pub rises-test : (k : Kind) (a b : ℕ) → EntryAtLeast k a b → risesTest k a b ≡ true
 rises-test feature a b h = eq-eqb _ _ (and-of-within h)
 rises-test featureBut28 a b h = and-both (eq-eqb _ _ (and-of-within (h .0))) (eq-eqb _ _ (h .1))
 rises-test area a b h = refl
-rises-test made a b h = refl
+rises-test freed a b h = refl
 rises-test other a b h = eq-eqb a b h
 
 -- a register that the test fails does not compare
@@ -104,7 +104,7 @@ abbrev pub pagesTest : Bool → List ℕ → List ℕ → Bool
 pagesTest avic a b = every (placeTest (inTable avic a) (rowsOf avic a) (rowsOf avic b)) places
 
 pub rises-by-test : (avic : Bool) (a b : List ℕ) → answer avic a .verdict ≡ Accepted → lawfulVerdict b ≡ Accepted → pagesTest avic a b ≡ true
-    → Rises avic a b
+    → RiseHypothesis avic a b
 rises-by-test avic a b v l t = record { accepted = v; lawful = l; entries = at-place }
   where
     at-place : (i : ℕ) → i < places → fromEntry (ruleAt i) ≡ true → inTable avic a i ≡ true → EntryRises i (rowsOf avic a i) (rowsOf avic b i)

@@ -2,5 +2,5 @@ pub mod Rise
 pub mod RuleLaws
 pub mod RowsRise
 pub mod Decide
-pub mod Proof
+pub mod RiseProof
 pub mod Same

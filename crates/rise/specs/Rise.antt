@@ -16,18 +16,18 @@ use Rattle.pages.specs.Entries.{counted}
 use Rattle.masking.specs.Masks.{applyMask}
 use Rattle.masking.specs.Kept.{places, masksAt}
 use Rattle.masking.specs.Place
-use Rattle.finish.specs.declared.CpuidResults.{CpuidResults}
-use Rattle.checks.specs.declared.Subleaf.the-variants.{Some}
-use Rattle.checks.specs.declared.Refusal.the-variants.{MissingRequiredResult, SaveAreaOverflow}
-use Rattle.checks.specs.declared.Verdict.{Verdict}
-use Rattle.checks.specs.declared.Verdict.the-variants.{Accepted, Refused}
-use Rattle.checks.specs.Rows.{Row, Rows}
-use Rattle.finish.specs.Finish.{ruleAt}
-use Rattle.finish.specs.Kinds.{EntryAtLeast, TableAtLeast, Registers, kindsOf, fromEntry}
-use Rattle.finish.specs.Table.{rowIn}
-use Rattle.build.specs.Rows.{firstAt, rowsOf}
+use Rattle.table.specs.declared.CpuidResults.{CpuidResults}
+use Rattle.table.specs.declared.Subleaf.the-variants.{Some}
+use Rattle.table.specs.declared.Refusal.the-variants.{MissingRequiredResult, SaveAreaOverflow}
+use Rattle.table.specs.declared.Verdict.{Verdict}
+use Rattle.table.specs.declared.Verdict.the-variants.{Accepted, Refused}
+use Rattle.table.specs.Rows.{Row, Rows}
+use Rattle.update.specs.Finish.{ruleAt}
+use Rattle.update.specs.Kinds.{EntryAtLeast, TableAtLeast, Registers, kindsOf, fromEntry}
+use Rattle.table.specs.Table.{rowIn}
+use Rattle.collect.specs.FirstEntries.{firstAt, rowsOf}
 use Rattle.build.specs.Build.{lawfulVerdict, answer}
-use Rattle.exactly.specs.Conditions.{Lacking, ComponentFault, AreaFault}
+use Rattle.refusals.specs.Conditions.{Lacking, ComponentFault, AreaFault}
 
 -- B has a row at place i, and its registers compare with A's
 pub record EntryRises (i : ℕ) (a b : Row) : Type 0 where
@@ -35,7 +35,7 @@ pub record EntryRises (i : ℕ) (a b : Row) : Type 0 where
   pub registers : Registers EntryAtLeast (kindsOf (ruleAt i)) (a .result) (b .result)
 
 -- "for every row of A's table but 0 and 80000000h": entries are compared as masked, D.0.EAX with its bits 0 and 1 set
-pub record Rises (avic : Bool) (a b : List ℕ) : Type 0 where
+pub record RiseHypothesis (avic : Bool) (a b : List ℕ) : Type 0 where
   pub accepted : answer avic a .verdict ≡ Accepted
   pub lawful : lawfulVerdict b ≡ Accepted
   pub entries : (i : ℕ) → i < places → fromEntry (ruleAt i) ≡ true → rowIn (answer avic a .table) i .present ≡ true
@@ -46,7 +46,7 @@ pub record FirstEntryRises (avic : Bool) (i : ℕ) (a b : Row) : Type 0 where
   pub present : b .present ≡ true
   pub registers : Registers EntryAtLeast (kindsOf (ruleAt i)) (applyMask (masksAt avic i) (a .result)) (applyMask (masksAt avic i) (b .result))
 
-pub record RisesByTheLetter (avic : Bool) (a b : List ℕ) : Type 0 where
+pub record HypothesisByTheLetter (avic : Bool) (a b : List ℕ) : Type 0 where
   pub accepted : answer avic a .verdict ≡ Accepted
   pub lawful : lawfulVerdict b ≡ Accepted
   pub entries : (i : ℕ) → i < places → fromEntry (ruleAt i) ≡ true → rowIn (answer avic a .table) i .present ≡ true
@@ -77,12 +77,12 @@ pub record TableRises (a b : CpuidResults) : Type 0 where
   pub others : (i : ℕ) → i < places → rowIn b i .present ≡ true → (rowIn a i .present ≡ true) ⊎ Further a b i
   pub mask : Within (a .«max_extended_state») (b .«max_extended_state»)
 
-pub record Risen (avic : Bool) (a b : List ℕ) : Type 0 where
+pub record RiseConclusion (avic : Bool) (a b : List ℕ) : Type 0 where
   pub outcome : Outcome (rowsOf avic b) (answer avic b .verdict)
   pub table : answer avic b .verdict ≡ Accepted → TableRises (answer avic a .table) (answer avic b .table)
 
 abbrev pub Demand3 : Type 0
-Demand3 = (avic : Bool) (a b : List ℕ) → Rises avic a b → Risen avic a b
+Demand3 = (avic : Bool) (a b : List ℕ) → RiseHypothesis avic a b → RiseConclusion avic a b
 
 abbrev pub Demand3ByTheLetter : Type 0
-Demand3ByTheLetter = (avic : Bool) (a b : List ℕ) → RisesByTheLetter avic a b → Risen avic a b
+Demand3ByTheLetter = (avic : Bool) (a b : List ℕ) → HypothesisByTheLetter avic a b → RiseConclusion avic a b

@@ -15,23 +15,23 @@ use Rattle.bits.specs.BitsLaws.{has-mono, within-or}
 use Rattle.topology.specs.Topology.{Inputs, topologyOf}
 use Rattle.masking.specs.Kept.{places}
 use Rattle.masking.specs.Place
-use Rattle.checks.specs.declared.Refusal.the-variants.{InvlpgbUnavailable}
-use Rattle.checks.specs.declared.Verdict.{Verdict}
-use Rattle.checks.specs.declared.Verdict.the-variants.{Accepted, Refused}
-use Rattle.checks.specs.Refusal.{andThen}
-use Rattle.checks.specs.Rows.{Row, Rows, row}
+use Rattle.table.specs.declared.Refusal.the-variants.{InvlpgbUnavailable}
+use Rattle.table.specs.declared.Verdict.{Verdict}
+use Rattle.table.specs.declared.Verdict.the-variants.{Accepted, Refused}
+use Rattle.table.specs.Refusal.{andThen}
+use Rattle.table.specs.Rows.{Row, Rows, row}
 use Rattle.checks.specs.Required.{placeRequired}
 use Rattle.checks.specs.ExtendedState.{xfem, xss, combinedMask, saveArea}
 use Rattle.checks.specs.ExtendedStateLaws.{sumAt, area-mono, xss-mono, xsaves-ecx, in-combined}
-use Rattle.checks.specs.Topology.{inputsOf}
-use Rattle.finish.specs.Finish.{Rule, Settings, ruleAt, enabledBy, settings, finish, remains, finished, unlessNoXss}
-use Rattle.finish.specs.Finish.Rule.{vendorAndMaxFunction, versionAndFeatures, extendedFeatures, threadLevelRow, coreLevelRow, extendedState0, extendedState1, extendedMaxFunction, extendedVersionAndFeatures, extendedAddressSpaceSizes, featureEax, untouched, component}
-use Rattle.finish.specs.Kinds.{EntryAtLeast, TableAtLeast, Registers, kindsOf, fromEntry}
-use Rattle.checks.specs.Checks.{invlpgbVerdict, componentsVerdict, areaVerdict, topologyVerdict, topologyRefusal, rowsVerdict, demand}
+use Rattle.checks.specs.TopologyInputs.{inputsOf}
+use Rattle.update.specs.Finish.{Rule, Settings, ruleAt, enabledBy, settings, finish, remains, finished, unlessNoXss}
+use Rattle.update.specs.Finish.Rule.{vendorAndMaxFunction, versionAndFeatures, extendedFeatures, threadLevelRow, coreLevelRow, extendedState0, extendedState1, extendedMaxFunction, extendedVersionAndFeatures, extendedAddressSpaceSizes, featureEax, untouched, component}
+use Rattle.update.specs.Kinds.{EntryAtLeast, TableAtLeast, Registers, kindsOf, fromEntry}
+use Rattle.checks.specs.Checks.{invlpgbVerdict, componentsVerdict, areaVerdict, topologyVerdict, topologyRefusal, rowsVerdict, refuseUnless}
 use Rattle.checks.specs.ChecksLaws.{AllPass, all-pass, required-present, present-required, component-present, demanded, then-accepted, then-skips}
-use Rattle.finish.specs.PlaceLaws.{always, always-from-entry, required-place, position, always-required, component-rule, Sort, sort}
-use Rattle.finish.specs.RemainsLaws.{finished-present, finished-result, made-remains, always-remains, component-finished}
-use Rattle.finish.specs.PlaceLaws.Sort.{made, required, subleaf}
+use Rattle.update.specs.PlaceLaws.{always, always-from-entry, required-place, position, always-required, component-rule, Sort, sort}
+use Rattle.update.specs.RemainsLaws.{finished-present, finished-result, made-remains, always-remains, component-finished}
+use Rattle.update.specs.PlaceLaws.Sort.{made, required, subleaf}
 use Rattle.rise.specs.Rise.{EntryRises}
 use Rattle.rise.specs.RuleLaws.{SettingsRise, XsavesRow, finish-rises, remains-rises}
 

@@ -9,10 +9,10 @@ use Rattle.bits.specs.ChoiceLaws.{and-left, and-right, and-both}
 use Rattle.bits.specs.Bits.{has, Within}
 use Rattle.bits.specs.BitsLaws.{has-mono, within-or, within-of-and, and-of-within}
 use Rattle.x86defs.specs.declared.CpuidResult.{CpuidResult}
-use Rattle.finish.specs.Finish.{Rule, Enabled, Settings, finish, remains, unlessNoXss, addressSizesEbx, versionEcx, featuresEbx, featuresEcx, featuresEdx, extendedVersionEdx}
-use Rattle.finish.specs.Finish.Rule.{vendorAndMaxFunction, versionAndFeatures, extendedFeatures, threadLevelRow, coreLevelRow, extendedState0, extendedState1, extendedMaxFunction, extendedVersionAndFeatures, extendedAddressSpaceSizes, featureEax, untouched, component}
-use Rattle.finish.specs.Kinds.{EntryAtLeast, TableAtLeast, Registers, kindsOf, fromEntry}
-use Rattle.finish.specs.FeatureLaws.{EnablesAtLeast, at-least-of-and, versionEcx-and, featuresEbx-and, featuresEcx-and, featuresEdx-and, extendedVersionEdx-and, addressSizesEbx-and}
+use Rattle.update.specs.Finish.{Rule, Enabled, Settings, finish, remains, unlessNoXss, addressSizesEbx, versionEcx, featuresEbx, featuresEcx, featuresEdx, extendedVersionEdx}
+use Rattle.update.specs.Finish.Rule.{vendorAndMaxFunction, versionAndFeatures, extendedFeatures, threadLevelRow, coreLevelRow, extendedState0, extendedState1, extendedMaxFunction, extendedVersionAndFeatures, extendedAddressSpaceSizes, featureEax, untouched, component}
+use Rattle.update.specs.Kinds.{EntryAtLeast, TableAtLeast, Registers, kindsOf, fromEntry}
+use Rattle.update.specs.FeatureLaws.{EnablesAtLeast, at-least-of-and, versionEcx-and, featuresEbx-and, featuresEcx-and, featuresEdx-and, extendedVersionEdx-and, addressSizesEbx-and}
 
 -- what B's rows need from each other, compared with A's
 pub record SettingsRise (c d : Settings) : Type 0 where

@@ -12,22 +12,22 @@ use Rattle.bits.specs.ListsLaws.{length-tabulate, tabulated, getD-tabulate, sum
 use Rattle.bits.specs.BitsLaws.{within-refl, within-antisym}
 use Rattle.x86defs.specs.declared.CpuidResult.{CpuidResult}
 use Rattle.masking.specs.Kept.{places}
-use Rattle.checks.specs.declared.Verdict.the-variants.{Accepted}
-use Rattle.checks.specs.Rows.{Row, Rows, row, vacant}
+use Rattle.table.specs.declared.Verdict.the-variants.{Accepted}
+use Rattle.table.specs.Rows.{Row, Rows, row, vacant}
 use Rattle.checks.specs.ExtendedState.{combinedMask}
-use Rattle.finish.specs.Finish.{ruleAt, settings, finish, remains, finished}
-use Rattle.finish.specs.Kinds.{Kind, Kinds, EntryAtLeast, TableAtLeast, Registers, kindsOf}
-use Rattle.finish.specs.Kinds.Kind.{feature, featureBut28, area, made, other}
-use Rattle.finish.specs.RemainsLaws.{finished-entry}
+use Rattle.update.specs.Finish.{ruleAt, settings, finish, remains, finished}
+use Rattle.update.specs.Kinds.{Kind, Kinds, EntryAtLeast, TableAtLeast, Registers, kindsOf}
+use Rattle.update.specs.Kinds.Kind.{feature, featureBut28, area, freed, other}
+use Rattle.update.specs.RemainsLaws.{finished-entry}
 use Rattle.checks.specs.ChecksLaws.{then-left}
-use Rattle.finish.specs.Table.{rowIn, countRows}
-use Rattle.build.specs.Rows.{rowsOf}
+use Rattle.table.specs.Table.{rowIn, countRows}
+use Rattle.collect.specs.FirstEntries.{rowsOf}
 use Rattle.build.specs.Build.{lawfulVerdict, verdictOf, answer}
-use Rattle.rise.specs.Rise.{Rises, TableRises}
-use Rattle.rise.specs.Proof.{answer-table, answer-row, answer-mask, demand-3}
+use Rattle.rise.specs.Rise.{RiseHypothesis, TableRises}
+use Rattle.rise.specs.RiseProof.{answer-table, answer-row, answer-mask, demand-3}
 
 abbrev pub SameFigures : Type 0
-SameFigures = (avic : Bool) (a b : List ℕ) → Rises avic a b → Rises avic b a → answer avic a ≡ answer avic b
+SameFigures = (avic : Bool) (a b : List ℕ) → RiseHypothesis avic a b → RiseHypothesis avic b a → answer avic a ≡ answer avic b
 
 -- ---- every accepted server rises to itself
 
@@ -35,7 +35,7 @@ register-itself : (k : Kind) (a : ℕ) → EntryAtLeast k a a
 register-itself feature a = within-refl a
 register-itself featureBut28 a = (within-refl a, refl)
 register-itself area a = tt
-register-itself made a = tt
+register-itself freed a = tt
 register-itself other a = refl
 
 registers-itself : (k : Kinds) (a : CpuidResult) → Registers EntryAtLeast k a a
@@ -46,7 +46,7 @@ registers-itself k a = record {
   edx = register-itself (k .edx) (a .edx);
 }
 
-pub rises-itself : (avic : Bool) (a : List ℕ) → answer avic a .verdict ≡ Accepted → Rises avic a a
+pub rises-itself : (avic : Bool) (a : List ℕ) → answer avic a .verdict ≡ Accepted → RiseHypothesis avic a a
 unfolding answer verdictOf
 rises-itself avic a e = record {
   accepted = e;
@@ -63,7 +63,7 @@ register-same : (k : Kind) {a b : ℕ} → TableAtLeast k a b → TableAtLeast k
 register-same feature p q = within-antisym p q
 register-same featureBut28 p q = within-antisym (p .0) (q .0)
 register-same area p q = omega (arith, p, q)
-register-same made p q = p
+register-same freed p q = p
 register-same other p q = p
 
 registers-same : (k : Kinds) (a b : CpuidResult) → Registers TableAtLeast k a b → Registers TableAtLeast k b a → a ≡ b
@@ -85,7 +85,7 @@ absent m i = go (remains (settings m) (ruleAt i) (m i .present)) (finish (settin
     go true r e = absurd (never-both refl e)
     go false r e = refl
 
-module _ (avic : Bool) (a b : List ℕ) (rises : Rises avic a b) (back : Rises avic b a) where
+module _ (avic : Bool) (a b : List ℕ) (rises : RiseHypothesis avic a b) (back : RiseHypothesis avic b a) where
   abbrev A : Rows
   A = finished (rowsOf avic a)
 

@@ -2,19 +2,19 @@
 use mathlib.Core.Bool.{Bool}
 use Prim.Native.Nat.{ℕ}
 use Rattle.bits.specs.Choice.{pick}
-use Rattle.results.specs.declared.Built.{Built}
-use Rattle.checks.specs.declared.Verdict.the-variants.{Accepted}
-use Rattle.checks.specs.declared.Subleaf.{Subleaf}
-use Rattle.checks.specs.declared.Subleaf.the-variants.{None, Some}
+use Rattle.build.specs.declared.Built.{Built}
+use Rattle.table.specs.declared.Verdict.the-variants.{Accepted}
+use Rattle.table.specs.declared.Subleaf.{Subleaf}
+use Rattle.table.specs.declared.Subleaf.the-variants.{None, Some}
 use Rattle.lookup.specs.declared.LeafResult.{LeafResult}
 use Rattle.lookup.specs.declared.LeafResult.the-variants.{Some as Found, None as Nothing}
 use Rattle.compare.specs.declared.Compared.{Compared}
 use Rattle.compare.specs.declared.Compared.the-variants.{Rises, RefusedA, UnlawfulB, NoEntry, Differs}
 use Rattle.compare.specs.Means.{order}
-use Rattle.image.specs.declared.Written.{Written}
-use Rattle.image.specs.declared.Written.the-variants.{Bytes, Refused}
-use Rattle.answers.specs.declared.AnswerNumbers.{AnswerNumbers}
-use Rattle.answers.specs.Answers.{numbersOf, refusalNumbers, leafNumbers}
+use Rattle.buffer.specs.declared.Written.{Written}
+use Rattle.buffer.specs.declared.Written.the-variants.{Bytes, Refused}
+use Rattle.numbers.specs.declared.AnswerNumbers.{AnswerNumbers}
+use Rattle.numbers.specs.Numbers.{numbersOf, refusalNumbers, leafNumbers}
 use Rattle.snp_cpuid.specs.declared.SnpCpuidBuilt.{SnpCpuidBuilt}
 use Rattle.snp_cpuid.specs.declared.SnpCpuidFound.{SnpCpuidFound}
 use Rattle.snp_cpuid.specs.declared.SnpCpuidWritten.{SnpCpuidWritten}

@@ -1,16 +1,16 @@
 // The library's functions for C and Rust: numbers and byte slices in, plain numbers out. include/snp_cpuid.h documents each call.
-use answers::AnswerNumbers;
-use checks::Subleaf;
-use checks::Verdict;
+use buffer::Written;
 use compare::Compared;
 use compare::Register;
-use image::Written;
 use lookup::LeafResult;
+use numbers::AnswerNumbers;
+use table::Subleaf;
+use table::Verdict;
 use x86defs::CpuidFunction;
 ghost use mathlib.Core.Path.{_≡_};
 ghost use Rattle.build.specs.Build.{answer};
 ghost use Rattle.lookup.specs.Lookup.{lookup};
-ghost use Rattle.image.specs.Write.{write};
+ghost use Rattle.write.specs.Write.{write};
 ghost use Rattle.compare.specs.Compare.{compared};
 ghost use Rattle.compare.specs.Means.{order};
 ghost use Rattle.snp_cpuid.specs.Exports.{builtNumbers, foundNumbers, writtenNumbers, comparedWith, comparedNumbers, subleafOf};
@@ -64,7 +64,7 @@ pub extern "C" fn snp_cpuid_build(pages: &[u8], secure_avic: bool) -> SnpCpuidBu
     let built = build::build(pages, secure_avic);
     let verdict = built.verdict;
     let table = built.table;
-    let numbers = answers::answer_numbers(verdict);
+    let numbers = numbers::answer_numbers(verdict);
     SnpCpuidBuilt {
         number: numbers.number as u32,
         leaf: numbers.leaf,
@@ -141,7 +141,7 @@ fn written_numbers(written: Written) -> SnpCpuidWritten
             length: n as u64,
         },
         Written::Refused(refusal) => {
-            let numbers = answers::refusal_numbers(refusal);
+            let numbers = numbers::refusal_numbers(refusal);
             SnpCpuidWritten {
                 number: numbers.number as u32,
                 leaf: numbers.leaf,
@@ -164,7 +164,7 @@ pub extern "C" fn snp_cpuid_write_image(
     ensures { λ r. ⌜ r ≡ writtenNumbers (write «secure_avic» (now (pages .entry)) (now (out .entry)) .answer) ⌝ }
     ensures { λ _. ⌜ now (out .exit) ≡ write «secure_avic» (now (pages .entry)) (now (out .entry)) .buffer ⌝ }
 {
-    written_numbers(image::write_image(pages, secure_avic, out))
+    written_numbers(write::write_image(pages, secure_avic, out))
 }
 
 // EAX to EDX as 0 to 3.
@@ -199,14 +199,14 @@ fn compared_numbers(compared: Compared) -> SnpCpuidCompared
     ensures { λ r. ⌜ r ≡ comparedNumbers compared ⌝ }
 {
     match compared {
-        Compared::Rises => compared_with(0, answers::answer_numbers(Verdict::Accepted), 0),
-        Compared::RefusedA(refusal) => compared_with(1, answers::refusal_numbers(refusal), 0),
-        Compared::UnlawfulB(refusal) => compared_with(2, answers::refusal_numbers(refusal), 0),
+        Compared::Rises => compared_with(0, numbers::answer_numbers(Verdict::Accepted), 0),
+        Compared::RefusedA(refusal) => compared_with(1, numbers::refusal_numbers(refusal), 0),
+        Compared::UnlawfulB(refusal) => compared_with(2, numbers::refusal_numbers(refusal), 0),
         Compared::NoEntry(leaf, subleaf) => {
-            compared_with(3, answers::at_leaf(0, leaf.0, subleaf), 0)
+            compared_with(3, numbers::at_leaf(0, leaf.0, subleaf), 0)
         }
         Compared::Differs(leaf, subleaf, register) => {
-            let numbers = answers::at_leaf(0, leaf.0, subleaf);
+            let numbers = numbers::at_leaf(0, leaf.0, subleaf);
             compared_with(4, numbers, register_index(register))
         }
     }

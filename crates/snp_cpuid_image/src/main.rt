@@ -1,6 +1,6 @@
 // Reads a page set of up to 65,536 bytes from standard input and writes its image to standard output, secure AVIC off. On a refusal it
-// writes byte 3 and the refusal, on longer input byte 4. The work is output::write_output's; nothing is proved of what is read or written.
-use image::Written;
+// writes byte 3 and the refusal, on longer input byte 4. The work is program::write_output's; nothing is proved of what is read or written.
+use buffer::Written;
 use libc::STDIN_FILENO;
 use libc::STDOUT_FILENO;
 
@@ -11,7 +11,7 @@ fn main() {
     let mut input = [0u8; ROOM];
     let n = io::read_full(STDIN_FILENO, &mut input);
     let mut out = [0u8; 1024];
-    let written = output::write_output(&input[..n], &mut out);
+    let written = program::write_output(&input[..n], &mut out);
     if let Written::Bytes(m) = written {
         print(&out, m);
     }

@@ -17,35 +17,35 @@ use Rattle.x86defs.specs.declared.CpuidFunction.{CpuidFunction}
 use Rattle.x86defs.specs.declared.CpuidResult.{CpuidResult}
 use Rattle.x86defs.specs.Functions.{result}
 use Rattle.masking.specs.Kept.{places}
-use Rattle.checks.specs.declared.Subleaf.{Subleaf}
+use Rattle.table.specs.declared.Subleaf.{Subleaf}
 use Rattle.topology.specs.declared.TopologyError.{TopologyError}
 use Rattle.topology.specs.declared.TopologyError.the-variants.{Hyperthreading, ProcessorCount, ThreadsPerUnit}
-use Rattle.checks.specs.declared.Refusal.{Refusal}
-use Rattle.checks.specs.declared.Refusal.the-variants.{PagesLength, PageCount, MissingRequiredResult, InvlpgbUnavailable, SaveAreaOverflow, TopologyInconsistent, BufferTooShort}
-use Rattle.checks.specs.Refusal.{details, topologyDetails}
-use Rattle.checks.specs.declared.Verdict.{Verdict}
-use Rattle.checks.specs.declared.Verdict.the-variants.{Accepted, Refused}
-use Rattle.checks.specs.Rows.{Row, Rows}
-use Rattle.finish.specs.Finish.{ruleAt}
-use Rattle.finish.specs.Kinds.{TableAtLeast, Registers, kindsOf}
-use Rattle.finish.specs.Table.{rowIn}
-use Rattle.results.specs.Built.{tableFor}
-use Rattle.build.specs.Rows.{rowsOf}
+use Rattle.table.specs.declared.Refusal.{Refusal}
+use Rattle.table.specs.declared.Refusal.the-variants.{PagesLength, PageCount, MissingRequiredResult, InvlpgbUnavailable, SaveAreaOverflow, TopologyInconsistent, BufferTooShort}
+use Rattle.table.specs.Refusal.{details, topologyDetails}
+use Rattle.table.specs.declared.Verdict.{Verdict}
+use Rattle.table.specs.declared.Verdict.the-variants.{Accepted, Refused}
+use Rattle.table.specs.Rows.{Row, Rows}
+use Rattle.update.specs.Finish.{ruleAt}
+use Rattle.update.specs.Kinds.{TableAtLeast, Registers, kindsOf}
+use Rattle.table.specs.Table.{rowIn}
+use Rattle.build.specs.Built.{tableFor}
+use Rattle.collect.specs.FirstEntries.{rowsOf}
 use Rattle.build.specs.Build.{answer}
 use Rattle.lookup.specs.declared.LeafResult.the-variants.{Some as Found, None as Nothing}
 use Rattle.lookup.specs.Lookup.{lookup, rowResult}
 use Rattle.lookup.specs.LookupLaws.{placeAsked, lookup-at}
-use Rattle.exactly.specs.Conditions.{Lacking, ComponentFault, AreaFault}
-use Rattle.exactly.specs.Proof.{builds-exactly}
-use Rattle.rise.specs.Rise.{Rises, Outcome, Risen, TableRises}
+use Rattle.refusals.specs.Conditions.{Lacking, ComponentFault, AreaFault}
+use Rattle.refusals.specs.ExactlyProof.{builds-exactly}
+use Rattle.rise.specs.Rise.{RiseHypothesis, Outcome, RiseConclusion, TableRises}
 use Rattle.rise.specs.Rise.Outcome.{missing, overflow, accepted}
-use Rattle.rise.specs.Proof.{demand-3}
+use Rattle.rise.specs.RiseProof.{demand-3}
 use Rattle.compare.specs.declared.Compared.{Compared}
 use Rattle.compare.specs.declared.Compared.the-variants.{Rises as Yes, RefusedA, UnlawfulB, NoEntry, Differs}
 use Rattle.compare.specs.Compare.{compared}
 use Rattle.compare.specs.Means.{Means, Decides}
-use Rattle.compare.specs.Proof.{decides}
-use Rattle.answers.specs.Answers.{numbersOf}
+use Rattle.compare.specs.DecidesProof.{decides}
+use Rattle.numbers.specs.Numbers.{numbersOf}
 use Rattle.snp_cpuid.specs.declared.SnpCpuidBuilt.{SnpCpuidBuilt}
 use Rattle.snp_cpuid.specs.declared.SnpCpuidFound.{SnpCpuidFound}
 use Rattle.snp_cpuid.specs.Exports.{builtNumbers, foundNumbers, comparedNumbers}
@@ -142,8 +142,8 @@ present-inside avic s i e = go (ltb i places) refl
         let h : length (answer avic s .table .present) ≤ i = omega (arith, table-whole avic s, ltb-false i places f) in
         absurd (never-both e (List·getD-eq-default (answer avic s .table .present) false h))
 
-module _ (avic : Bool) (a b : List ℕ) (rises : Rises avic a b) where
-  risen : Risen avic a b
+module _ (avic : Bool) (a b : List ℕ) (rises : RiseHypothesis avic a b) where
+  risen : RiseConclusion avic a b
   risen = demand-3 avic a b rises
 
   rowsFound : TableRises (answer avic a .table) (answer avic b .table) → (leaf : CpuidFunction) (subleaf : Subleaf) (enforce : Bool)
@@ -181,8 +181,8 @@ abbrev pub compareAnswer : Bool → List ℕ → List ℕ → ℕ
 compareAnswer avic a b = comparedNumbers (compared avic a b) .answer
 
 pub record ExportsCompare (avic : Bool) (a b : List ℕ) : Type 0 where
-  pub yes : compareAnswer avic a b ≡ 0 → Rises avic a b × ExportsRise avic a b
-  pub complete : Rises avic a b → compareAnswer avic a b ≡ 0
+  pub yes : compareAnswer avic a b ≡ 0 → RiseHypothesis avic a b × ExportsRise avic a b
+  pub complete : RiseHypothesis avic a b → compareAnswer avic a b ≡ 0
 
 answer-numbered : (c : Compared) → comparedNumbers c .answer ≡ 0 → c ≡ Yes
 answer-numbered Yes e = refl
@@ -196,7 +196,7 @@ exports-compare avic a b =
     let d : Decides avic a b (compared avic a b) = decides avic a b in
     record {
       yes = λ e.
-          let rises : Rises avic a b = subst (Means avic a b) (answer-numbered (compared avic a b) e) (d .means) .0 in
+          let rises : RiseHypothesis avic a b = subst (Means avic a b) (answer-numbered (compared avic a b) e) (d .means) .0 in
           (rises, exports-rise avic a b rises);
       complete = λ h. ap (λ (c : Compared). comparedNumbers c .answer) (d .complete h);
     }

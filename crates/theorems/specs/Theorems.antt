@@ -7,11 +7,11 @@ use Prim.Native.Nat.{ℕ, _≤_, _<_}
 use lib.ListN.{length}
 use Rattle.x86defs.specs.Functions.{VersionAndFeatures, ExtendedStateEnumeration}
 use Rattle.x86defs.specs.declared.CpuidFunction.{CpuidFunction}
-use Rattle.checks.specs.declared.Subleaf.{Subleaf}
-use Rattle.checks.specs.declared.Subleaf.the-variants.{None, Some}
-use Rattle.checks.specs.declared.Refusal.{Refusal}
-use Rattle.checks.specs.declared.Refusal.the-variants.{PagesLength, MissingRequiredResult, SaveAreaOverflow}
-use Rattle.checks.specs.declared.Verdict.the-variants.{Accepted, Refused}
+use Rattle.table.specs.declared.Subleaf.{Subleaf}
+use Rattle.table.specs.declared.Subleaf.the-variants.{None, Some}
+use Rattle.table.specs.declared.Refusal.{Refusal}
+use Rattle.table.specs.declared.Refusal.the-variants.{PagesLength, MissingRequiredResult, SaveAreaOverflow}
+use Rattle.table.specs.declared.Verdict.the-variants.{Accepted, Refused}
 use Rattle.pages.specs.Entries.{entries}
 use Rattle.masking.specs.Kept.{places}
 use Rattle.pages.specs.Walk.{firstIndex, parsed}
@@ -22,25 +22,25 @@ use Rattle.lookup.specs.declared.LeafResult.the-variants.{None as Nothing}
 use Rattle.lookup.specs.Lookup.{lookup}
 use Rattle.lookup.specs.LookupLaws.{empty-finds-nothing}
 use Rattle.image.specs.Image.{leafOrder}
-use Rattle.exactly.specs.Exactly.{BuildsExactly, WritesExactly}
-use Rattle.exactly.specs.Proof.{builds-exactly, writes-exactly}
-use Rattle.counting.specs.Counting.{Counted, LeafOrder}
-use Rattle.counting.specs.Proof.{rows-counted, single-page-refused, leaf-order}
-use Rattle.rise.specs.Rise.{Rises, RisesByTheLetter, Risen}
-use Rattle.rise.specs.Proof.{demand-3, demand-3-by-the-letter}
+use Rattle.refusals.specs.Exactly.{BuildsExactly, WritesExactly}
+use Rattle.refusals.specs.ExactlyProof.{builds-exactly, writes-exactly}
+use Rattle.counts.specs.Counts.{Counted, LeafOrder}
+use Rattle.counts.specs.CountsProof.{rows-counted, single-page-refused, leaf-order}
+use Rattle.rise.specs.Rise.{RiseHypothesis, HypothesisByTheLetter, RiseConclusion}
+use Rattle.rise.specs.RiseProof.{demand-3, demand-3-by-the-letter}
 use Rattle.rise.specs.Same.{rises-itself, same-figures}
 use Rattle.compare.specs.declared.Register.the-variants.{Ecx}
 use Rattle.compare.specs.declared.Compared.the-variants.{Rises as Yes, RefusedA, UnlawfulB, NoEntry, Differs}
 use Rattle.compare.specs.Compare.{compared}
 use Rattle.compare.specs.Means.{Decides}
 use Rattle.compare.specs.OrderLaws.{Precedes, places-rise}
-use Rattle.compare.specs.Proof.{decides}
+use Rattle.compare.specs.DecidesProof.{decides}
 use Rattle.theorems.specs.Exported.{ExportsRise, ExportsCompare, exports-rise, exports-compare}
-use Rattle.instances.specs.PageSets.{serverA, serverB, serverWithoutD12, serverWithLargeD6}
-use Rattle.instances.specs.Computed as Computed
-use Rattle.instances.specs.Compared as Pairs
-use Rattle.instances.specs.MarkedRows.{marked, marked-rows}
-use Rattle.instances.specs.MarkedRows.Shown.{core, refusal, area, supervisor}
+use Rattle.examples.specs.PageSets.{serverA, serverB, serverWithoutD12, serverWithLargeD6}
+use Rattle.examples.specs.Computed as Computed
+use Rattle.examples.specs.Compared as Pairs
+use Rattle.examples.specs.MarkedRows.{marked, marked-rows}
+use Rattle.examples.specs.MarkedRows.Shown.{core, refusal, area, supervisor}
 
 -- ---- Demand 1. crates/exactly/specs/Conditions.antt has each condition by itself, Exactly.antt the two records.
 
@@ -60,23 +60,23 @@ refused-finds-nothing avic s r e leaf sub enforce = rw (builds-exactly avic s .e
 -- ---- Demand 3. crates/rise/specs/Rise.antt has the hypothesis, the three outcomes and what B's table then has.
 
 -- B is refused exactly by 3 or 5, or accepted, and then its table rises from A's
-pub rise : (avic : Bool) (a b : List ℕ) → Rises avic a b → Risen avic a b
+pub rise : (avic : Bool) (a b : List ℕ) → RiseHypothesis avic a b → RiseConclusion avic a b
 rise = demand-3
 
 -- the hypothesis by the letter: first counted entries, compared as masked
-pub rise-by-the-letter : (avic : Bool) (a b : List ℕ) → RisesByTheLetter avic a b → Risen avic a b
+pub rise-by-the-letter : (avic : Bool) (a b : List ℕ) → HypothesisByTheLetter avic a b → RiseConclusion avic a b
 rise-by-the-letter = demand-3-by-the-letter
 
 -- the same of what the exported functions return. crates/theorems/specs/Exported.antt
-pub rise-of-exports : (avic : Bool) (a b : List ℕ) → Rises avic a b → ExportsRise avic a b
+pub rise-of-exports : (avic : Bool) (a b : List ℕ) → RiseHypothesis avic a b → ExportsRise avic a b
 rise-of-exports = exports-rise
 
 -- two servers that rise to each other give one answer: the same table, so the same image and lookups. crates/rise/specs/Same.antt
-pub same-figures-both-ways : (avic : Bool) (a b : List ℕ) → Rises avic a b → Rises avic b a → answer avic a ≡ answer avic b
+pub same-figures-both-ways : (avic : Bool) (a b : List ℕ) → RiseHypothesis avic a b → RiseHypothesis avic b a → answer avic a ≡ answer avic b
 same-figures-both-ways = same-figures
 
 -- and each accepted server rises to itself
-pub each-rises-to-itself : (avic : Bool) (a : List ℕ) → answer avic a .verdict ≡ Accepted → Rises avic a a
+pub each-rises-to-itself : (avic : Bool) (a : List ℕ) → answer avic a .verdict ≡ Accepted → RiseHypothesis avic a a
 each-rises-to-itself = rises-itself
 
 -- ---- May a guest of server A move to server B? crates/compare/specs/Compare.antt has the comparison, Means.antt what each answer says.
@@ -144,7 +144,7 @@ pub a-accepted : answer false serverA .verdict ≡ Accepted
 a-accepted = Computed.serverA-accepted
 
 -- B meets the hypothesis with more features, and is accepted with a larger mask
-pub b-rises : Rises false serverA serverB
+pub b-rises : RiseHypothesis false serverA serverB
 b-rises = Computed.serverB-rises
 
 pub b-accepted : answer false serverB .verdict ≡ Accepted
@@ -154,13 +154,13 @@ pub b-richer : answer false serverA .table .«max_extended_state» ∷ answer fa
 b-richer = Computed.masks
 
 -- two more that meet it, one refused by 3 and one by 5
-pub without-d12-rises : Rises false serverA serverWithoutD12
+pub without-d12-rises : RiseHypothesis false serverA serverWithoutD12
 without-d12-rises = Computed.without-rises
 
 pub without-d12-refused : answer false serverWithoutD12 .verdict ≡ Refused (MissingRequiredResult ExtendedStateEnumeration (Some 12))
 without-d12-refused = Computed.without-refused
 
-pub large-d6-rises : Rises false serverA serverWithLargeD6
+pub large-d6-rises : RiseHypothesis false serverA serverWithLargeD6
 large-d6-rises = Computed.large-rises
 
 pub large-d6-refused : answer false serverWithLargeD6 .verdict ≡ Refused SaveAreaOverflow

@@ -75,8 +75,8 @@ fn parse(head: &[u8]) -> Command {
                 secure_avic: head[1] == 1,
                 has_subleaf: head[2] == 1,
                 enforce_subleaf: head[3] == 1,
-                a: pages::word(head, 4),
-                b: pages::word(head, 8),
+                a: pages::word_at(head, 4),
+                b: pages::word_at(head, 8),
             };
         }
     }

@@ -7,21 +7,21 @@ pub data ExtendedAddressSpaceSizesEbx : Type 0 where
   efer-lmsle-unsupported ssbd psfd btc-no : ExtendedAddressSpaceSizesEbx
 
 -- the bit of each name
-abbrev pub place : ExtendedAddressSpaceSizesEbx → ℕ
-place cl-zero = 0
-place inst-ret-cnt-msr = 1
-place x-save-er-ptr = 2
-place invlpgb = 3
-place rdpru = 4
-place wbnoinvd = 9
-place ibpb = 12
-place ibrs = 14
-place stibp = 15
-place stibp-always-on = 17
-place efer-lmsle-unsupported = 20
-place ssbd = 24
-place psfd = 28
-place btc-no = 29
+abbrev pub position : ExtendedAddressSpaceSizesEbx → ℕ
+position cl-zero = 0
+position inst-ret-cnt-msr = 1
+position x-save-er-ptr = 2
+position invlpgb = 3
+position rdpru = 4
+position wbnoinvd = 9
+position ibpb = 12
+position ibrs = 14
+position stibp = 15
+position stibp-always-on = 17
+position efer-lmsle-unsupported = 20
+position ssbd = 24
+position psfd = 28
+position btc-no = 29
 
 -- kept by snp.rs; masking.rs keeps none
 abbrev pub kept : List ExtendedAddressSpaceSizesEbx

@@ -7,27 +7,27 @@ pub data ExtendedFeatureSubleaf0Ebx : Type 0 where
   smap avx512-ifma clflushopt clwb avx512cd sha avx512bw avx512vl : ExtendedFeatureSubleaf0Ebx
 
 -- the bit of each name
-abbrev pub place : ExtendedFeatureSubleaf0Ebx → ℕ
-place rd-wr-fs-gs = 0
-place bmi1 = 3
-place avx2 = 5
-place smep = 7
-place bmi2 = 8
-place enhanced-fast-string = 9
-place inv-pcid = 10
-place dep-x87-fpu-save = 13
-place avx512f = 16
-place avx512dq = 17
-place rd-seed = 18
-place adx = 19
-place smap = 20
-place avx512-ifma = 21
-place clflushopt = 23
-place clwb = 24
-place avx512cd = 28
-place sha = 29
-place avx512bw = 30
-place avx512vl = 31
+abbrev pub position : ExtendedFeatureSubleaf0Ebx → ℕ
+position rd-wr-fs-gs = 0
+position bmi1 = 3
+position avx2 = 5
+position smep = 7
+position bmi2 = 8
+position enhanced-fast-string = 9
+position inv-pcid = 10
+position dep-x87-fpu-save = 13
+position avx512f = 16
+position avx512dq = 17
+position rd-seed = 18
+position adx = 19
+position smap = 20
+position avx512-ifma = 21
+position clflushopt = 23
+position clwb = 24
+position avx512cd = 28
+position sha = 29
+position avx512bw = 30
+position avx512vl = 31
 
 -- kept by masking.rs
 abbrev pub kept : List ExtendedFeatureSubleaf0Ebx

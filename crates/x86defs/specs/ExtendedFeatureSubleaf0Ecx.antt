@@ -7,22 +7,22 @@ pub data ExtendedFeatureSubleaf0Ecx : Type 0 where
   avx512-vpopcntdq rd-pid cldemote movdiri movdir64b : ExtendedFeatureSubleaf0Ecx
 
 -- the bit of each name
-abbrev pub place : ExtendedFeatureSubleaf0Ecx → ℕ
-place avx512-vbmi = 1
-place umip = 2
-place umwait-tpause = 5
-place avx512-vbmi2 = 6
-place cet-ss = 7
-place gfni = 8
-place vaes = 9
-place vpclmulqdq = 10
-place avx512-vnni = 11
-place avx512-bitalg = 12
-place avx512-vpopcntdq = 14
-place rd-pid = 22
-place cldemote = 25
-place movdiri = 27
-place movdir64b = 28
+abbrev pub position : ExtendedFeatureSubleaf0Ecx → ℕ
+position avx512-vbmi = 1
+position umip = 2
+position umwait-tpause = 5
+position avx512-vbmi2 = 6
+position cet-ss = 7
+position gfni = 8
+position vaes = 9
+position vpclmulqdq = 10
+position avx512-vnni = 11
+position avx512-bitalg = 12
+position avx512-vpopcntdq = 14
+position rd-pid = 22
+position cldemote = 25
+position movdiri = 27
+position movdir64b = 28
 
 -- kept by masking.rs
 abbrev pub kept : List ExtendedFeatureSubleaf0Ecx

@@ -6,11 +6,11 @@ pub data ExtendedFeatureSubleaf0Edx : Type 0 where
   fast-short-rep-move avx512-vp2-intersect serialize avx512-fp16 : ExtendedFeatureSubleaf0Edx
 
 -- the bit of each name
-abbrev pub place : ExtendedFeatureSubleaf0Edx → ℕ
-place fast-short-rep-move = 4
-place avx512-vp2-intersect = 8
-place serialize = 14
-place avx512-fp16 = 23
+abbrev pub position : ExtendedFeatureSubleaf0Edx → ℕ
+position fast-short-rep-move = 4
+position avx512-vp2-intersect = 8
+position serialize = 14
+position avx512-fp16 = 23
 
 -- kept by masking.rs
 abbrev pub kept : List ExtendedFeatureSubleaf0Edx

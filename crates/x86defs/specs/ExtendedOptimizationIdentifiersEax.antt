@@ -6,10 +6,10 @@ pub data ExtendedOptimizationIdentifiersEax : Type 0 where
   fp128 mov-u fp256 : ExtendedOptimizationIdentifiersEax
 
 -- the bit of each name
-abbrev pub place : ExtendedOptimizationIdentifiersEax → ℕ
-place fp128 = 0
-place mov-u = 1
-place fp256 = 2
+abbrev pub position : ExtendedOptimizationIdentifiersEax → ℕ
+position fp128 = 0
+position mov-u = 1
+position fp256 = 2
 
 -- kept by snp.rs
 abbrev pub kept : List ExtendedOptimizationIdentifiersEax

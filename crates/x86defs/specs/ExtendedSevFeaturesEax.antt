@@ -6,16 +6,16 @@ pub data ExtendedSevFeaturesEax : Type 0 where
   sme sev vmpage-flush-msr-available sev-es sev-snp vmpl rmp-query tsc-aux-virtualization secure-avic : ExtendedSevFeaturesEax
 
 -- the bit of each name
-abbrev pub place : ExtendedSevFeaturesEax → ℕ
-place sme = 0
-place sev = 1
-place vmpage-flush-msr-available = 2
-place sev-es = 3
-place sev-snp = 4
-place vmpl = 5
-place rmp-query = 6
-place tsc-aux-virtualization = 9
-place secure-avic = 26
+abbrev pub position : ExtendedSevFeaturesEax → ℕ
+position sme = 0
+position sev = 1
+position vmpage-flush-msr-available = 2
+position sev-es = 3
+position sev-snp = 4
+position vmpl = 5
+position rmp-query = 6
+position tsc-aux-virtualization = 9
+position secure-avic = 26
 
 -- kept by snp.rs; secure-avic only where the caller chose secure AVIC
 abbrev pub kept : List ExtendedSevFeaturesEax

@@ -6,13 +6,13 @@ pub data ExtendedStateEnumerationSubleaf0Eax : Type 0 where
   x87 sse avx opmask zmmhi zmm16-31 : ExtendedStateEnumerationSubleaf0Eax
 
 -- the bit of each name
-abbrev pub place : ExtendedStateEnumerationSubleaf0Eax → ℕ
-place x87 = 0
-place sse = 1
-place avx = 2
-place opmask = 5
-place zmmhi = 6
-place zmm16-31 = 7
+abbrev pub position : ExtendedStateEnumerationSubleaf0Eax → ℕ
+position x87 = 0
+position sse = 1
+position avx = 2
+position opmask = 5
+position zmmhi = 6
+position zmm16-31 = 7
 
 -- kept by masking.rs
 abbrev pub kept : List ExtendedStateEnumerationSubleaf0Eax

@@ -6,10 +6,10 @@ pub data ExtendedStateEnumerationSubleaf1Eax : Type 0 where
   xsave-opt xsave-c xsave-s : ExtendedStateEnumerationSubleaf1Eax
 
 -- the bit of each name
-abbrev pub place : ExtendedStateEnumerationSubleaf1Eax → ℕ
-place xsave-opt = 0
-place xsave-c = 1
-place xsave-s = 3
+abbrev pub position : ExtendedStateEnumerationSubleaf1Eax → ℕ
+position xsave-opt = 0
+position xsave-c = 1
+position xsave-s = 3
 
 -- kept by masking.rs
 abbrev pub kept : List ExtendedStateEnumerationSubleaf1Eax

@@ -6,9 +6,9 @@ pub data ExtendedStateEnumerationSubleaf1Ecx : Type 0 where
   cet-u cet-s : ExtendedStateEnumerationSubleaf1Ecx
 
 -- the bit of each name
-abbrev pub place : ExtendedStateEnumerationSubleaf1Ecx → ℕ
-place cet-u = 11
-place cet-s = 12
+abbrev pub position : ExtendedStateEnumerationSubleaf1Ecx → ℕ
+position cet-u = 11
+position cet-s = 12
 
 -- kept by masking.rs
 abbrev pub kept : List ExtendedStateEnumerationSubleaf1Ecx

@@ -6,18 +6,18 @@ pub data ExtendedVersionAndFeaturesEcx : Type 0 where
   lahf-sahf-available cmp-legacy alt-mov-cr8 abm sse4-a mis-align-sse prefetch ibs xop fma4 topology-extensions : ExtendedVersionAndFeaturesEcx
 
 -- the bit of each name
-abbrev pub place : ExtendedVersionAndFeaturesEcx → ℕ
-place lahf-sahf-available = 0
-place cmp-legacy = 1
-place alt-mov-cr8 = 4
-place abm = 5
-place sse4-a = 6
-place mis-align-sse = 7
-place prefetch = 8
-place ibs = 10
-place xop = 11
-place fma4 = 16
-place topology-extensions = 22
+abbrev pub position : ExtendedVersionAndFeaturesEcx → ℕ
+position lahf-sahf-available = 0
+position cmp-legacy = 1
+position alt-mov-cr8 = 4
+position abm = 5
+position sse4-a = 6
+position mis-align-sse = 7
+position prefetch = 8
+position ibs = 10
+position xop = 11
+position fma4 = 16
+position topology-extensions = 22
 
 -- kept by masking.rs
 abbrev pub kept : List ExtendedVersionAndFeaturesEcx

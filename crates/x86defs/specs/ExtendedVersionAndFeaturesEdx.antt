@@ -7,34 +7,34 @@ pub data ExtendedVersionAndFeaturesEdx : Type 0 where
   fast-fxsr page-1gb rdtscp long-mode extended3d-now amd3d-now : ExtendedVersionAndFeaturesEdx
 
 -- the bit of each name
-abbrev pub place : ExtendedVersionAndFeaturesEdx → ℕ
-place fpu = 0
-place vme = 1
-place de = 2
-place pse = 3
-place tsc = 4
-place msr = 5
-place pae = 6
-place mce = 7
-place cx8 = 8
-place apic = 9
-place syscall = 11
-place mtrr = 12
-place pge = 13
-place mca = 14
-place cmov = 15
-place pat = 16
-place pse36 = 17
-place no-execute = 20
-place amd-mmx = 22
-place mmx = 23
-place fxsr = 24
-place fast-fxsr = 25
-place page-1gb = 26
-place rdtscp = 27
-place long-mode = 29
-place extended3d-now = 30
-place amd3d-now = 31
+abbrev pub position : ExtendedVersionAndFeaturesEdx → ℕ
+position fpu = 0
+position vme = 1
+position de = 2
+position pse = 3
+position tsc = 4
+position msr = 5
+position pae = 6
+position mce = 7
+position cx8 = 8
+position apic = 9
+position syscall = 11
+position mtrr = 12
+position pge = 13
+position mca = 14
+position cmov = 15
+position pat = 16
+position pse36 = 17
+position no-execute = 20
+position amd-mmx = 22
+position mmx = 23
+position fxsr = 24
+position fast-fxsr = 25
+position page-1gb = 26
+position rdtscp = 27
+position long-mode = 29
+position extended3d-now = 30
+position amd3d-now = 31
 
 -- kept by masking.rs
 abbrev pub kept : List ExtendedVersionAndFeaturesEdx

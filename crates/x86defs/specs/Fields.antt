@@ -4,11 +4,11 @@ use Prim.Native.Nat.{ℕ, _+_}
 use Rattle.bits.specs.Bits.{field, fieldMask}
 
 -- `width` bits from bit `shift` up
-pub record Span : Type 0 where
+pub record FieldBits : Type 0 where
   pub shift : ℕ
   pub width : ℕ
 
-abbrev bits : ℕ → ℕ → Span
+abbrev bits : ℕ → ℕ → FieldBits
 bits s w = record { shift = s; width = w }
 
 pub data Field : Type 0 where
@@ -31,7 +31,7 @@ pub data Field : Type 0 where
   -- B.0 and B.1: EAX, EBX, ECX
   x2-apic-shift num-lps level-number level-type : Field
 
-abbrev pub span : Field → Span
+abbrev pub span : Field → FieldBits
 span processor-stepping = bits 0 4
 span processor-model = bits 4 4
 span processor-family = bits 8 4

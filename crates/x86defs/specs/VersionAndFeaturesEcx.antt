@@ -7,24 +7,24 @@ pub data VersionAndFeaturesEcx : Type 0 where
   hypervisor-present : VersionAndFeaturesEcx
 
 -- the bit of each name
-abbrev pub place : VersionAndFeaturesEcx → ℕ
-place sse3 = 0
-place pclmulqdq = 1
-place ssse3 = 9
-place fma = 12
-place cx16 = 13
-place pcid = 17
-place sse4-1 = 19
-place sse4-2 = 20
-place movbe = 22
-place pop-cnt = 23
-place aes = 25
-place xsave = 26
-place os-xsave = 27
-place avx = 28
-place f16c = 29
-place rd-rand = 30
-place hypervisor-present = 31
+abbrev pub position : VersionAndFeaturesEcx → ℕ
+position sse3 = 0
+position pclmulqdq = 1
+position ssse3 = 9
+position fma = 12
+position cx16 = 13
+position pcid = 17
+position sse4-1 = 19
+position sse4-2 = 20
+position movbe = 22
+position pop-cnt = 23
+position aes = 25
+position xsave = 26
+position os-xsave = 27
+position avx = 28
+position f16c = 29
+position rd-rand = 30
+position hypervisor-present = 31
 
 -- kept by masking.rs; hypervisor-present is set here and never read from a page
 abbrev pub kept : List VersionAndFeaturesEcx

@@ -6,30 +6,30 @@ pub data VersionAndFeaturesEdx : Type 0 where
   fpu vme de pse tsc msr pae mce cx8 apic sep mtrr pge mca cmov pat pse36 cl-fsh mmx fxsr sse sse2 mt-per-socket : VersionAndFeaturesEdx
 
 -- the bit of each name
-abbrev pub place : VersionAndFeaturesEdx → ℕ
-place fpu = 0
-place vme = 1
-place de = 2
-place pse = 3
-place tsc = 4
-place msr = 5
-place pae = 6
-place mce = 7
-place cx8 = 8
-place apic = 9
-place sep = 11
-place mtrr = 12
-place pge = 13
-place mca = 14
-place cmov = 15
-place pat = 16
-place pse36 = 17
-place cl-fsh = 19
-place mmx = 23
-place fxsr = 24
-place sse = 25
-place sse2 = 26
-place mt-per-socket = 28
+abbrev pub position : VersionAndFeaturesEdx → ℕ
+position fpu = 0
+position vme = 1
+position de = 2
+position pse = 3
+position tsc = 4
+position msr = 5
+position pae = 6
+position mce = 7
+position cx8 = 8
+position apic = 9
+position sep = 11
+position mtrr = 12
+position pge = 13
+position mca = 14
+position cmov = 15
+position pat = 16
+position pse36 = 17
+position cl-fsh = 19
+position mmx = 23
+position fxsr = 24
+position sse = 25
+position sse2 = 26
+position mt-per-socket = 28
 
 -- kept by masking.rs
 abbrev pub kept : List VersionAndFeaturesEdx

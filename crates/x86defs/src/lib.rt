@@ -61,7 +61,7 @@ pub fn threads_per_compute_unit(ebx: u32) -> u32
 
 // 1.EDX: 1 where the package has several threads, by the bit that the APM calls HTT.
 pub fn mt_per_socket(edx: u32) -> u32
-    ensures { λ r. ⌜ r ≡ bit (VersionAndFeaturesEdx.place mt-per-socket) edx ⌝ }
+    ensures { λ r. ⌜ r ≡ bit (VersionAndFeaturesEdx.position mt-per-socket) edx ⌝ }
     ensures small { λ r. ⌜ r < 2 ⌝ }
 {
     (edx >> 28) & 1
@@ -71,35 +71,35 @@ pub fn mt_per_socket(edx: u32) -> u32
 
 // 80000008h.EBX: whether INVLPGB is there.
 pub fn invlpgb(ebx: u32) -> bool
-    ensures { λ r. ⌜ r ≡ has (ExtendedAddressSpaceSizesEbx.place invlpgb) ebx ⌝ }
+    ensures { λ r. ⌜ r ≡ has (ExtendedAddressSpaceSizesEbx.position invlpgb) ebx ⌝ }
 {
     bits::has_bit(ebx, 3)
 }
 
 // 80000008h.EBX: whether the barrier for indirect branches is there.
 pub fn ibpb(ebx: u32) -> bool
-    ensures { λ r. ⌜ r ≡ has (ExtendedAddressSpaceSizesEbx.place ibpb) ebx ⌝ }
+    ensures { λ r. ⌜ r ≡ has (ExtendedAddressSpaceSizesEbx.position ibpb) ebx ⌝ }
 {
     bits::has_bit(ebx, 12)
 }
 
 // D.1.EAX: whether XSAVEC is there.
 pub fn xsave_c(eax: u32) -> bool
-    ensures { λ r. ⌜ r ≡ has (ExtendedStateEnumerationSubleaf1Eax.place xsave-c) eax ⌝ }
+    ensures { λ r. ⌜ r ≡ has (ExtendedStateEnumerationSubleaf1Eax.position xsave-c) eax ⌝ }
 {
     bits::has_bit(eax, 1)
 }
 
 // D.1.EAX: whether XSAVES is there.
 pub fn xsave_s(eax: u32) -> bool
-    ensures { λ r. ⌜ r ≡ has (ExtendedStateEnumerationSubleaf1Eax.place xsave-s) eax ⌝ }
+    ensures { λ r. ⌜ r ≡ has (ExtendedStateEnumerationSubleaf1Eax.position xsave-s) eax ⌝ }
 {
     bits::has_bit(eax, 3)
 }
 
 // 8000001Fh.EAX: whether TSC_AUX is virtualized.
 pub fn tsc_aux_virtualization(eax: u32) -> bool
-    ensures { λ r. ⌜ r ≡ has (ExtendedSevFeaturesEax.place tsc-aux-virtualization) eax ⌝ }
+    ensures { λ r. ⌜ r ≡ has (ExtendedSevFeaturesEax.position tsc-aux-virtualization) eax ⌝ }
 {
     bits::has_bit(eax, 9)
 }

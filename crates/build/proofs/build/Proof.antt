@@ -1,6 +1,6 @@
 -- `build::build` meets its contract: one return a case of the answer.
 use mathlib.Core.Path.{sym, _∙_}
-use Rattle.results.specs.StageLaws.{required-found, required-refuses, required-passes}
+use Rattle.build.specs.StageLaws.{required-found, required-refuses, required-passes}
 use Rattle.build.specs.BuildLaws.{answer-bad-length, answer-bad-count, answer-collected}
 use borrow.Author.Needs.{needs}
 use Rattle.build.proofs.build.Statement.{statement}
@@ -20,8 +20,8 @@ returns-2 c =
     (k .collect .ensures)
     (required-refuses (k .collect .result) (s .validate-required .ensures) (v .verdict .given .1) (c .refused2 .ensures))
 
-update-validated-requires : tie.Need-update-validated-requires
-update-validated-requires c κs =
+from-invlpgb-requires : tie.Need-from-invlpgb-requires
+from-invlpgb-requires c κs =
     let s = c .before .before in
     sym (required-found (s .before .before .collect .result) (s .validate-required .ensures)) ∙ c .enum-told .given .1
 
@@ -31,7 +31,7 @@ returns-3 c =
     let e = k .before in let f = e .before in
     answer-collected _ _ (sym (f .before .before .bad-length .ensures) ∙ f .before .if1 .left) (sym (f .counts-fit .ensures) ∙ e .if2 .taken)
     (k .collect .ensures)
-    (required-passes (k .collect .result) (s .validate-required .ensures) (v .enum-told .given .1) (c .update-validated .ensures))
+    (required-passes (k .collect .result) (s .validate-required .ensures) (v .enum-told .given .1) (c .from-invlpgb .ensures))
 
 returns-4 : tie.Need-returns-4
 returns-4 c =
@@ -53,7 +53,7 @@ build-spec =
     (λ c κs. search needs)
     returns-2
     (λ c. search needs)
-    update-validated-requires
+    from-invlpgb-requires
     returns-3
     (λ c κs. search needs)
     returns-4)

@@ -1,11 +1,11 @@
 -- `compare::compare` meets its contract: one return a case of the comparison.
 use borrow.Author.Needs.{needs}
 use mathlib.Core.Path.{_≡_, sym, ap, _∙_}
-use Rattle.results.specs.declared.Built.{Built}
-use Rattle.checks.specs.declared.Verdict.the-variants.{Accepted}
+use Rattle.build.specs.declared.Built.{Built}
+use Rattle.table.specs.declared.Verdict.the-variants.{Accepted}
 use Rattle.build.specs.Build.{answer}
 use Rattle.compare.specs.ReturnLaws.{accepted-counts, refused-a, bad-length-b, bad-count-b, rows-compared}
-use Rattle.compare.specs.Proof.{decided}
+use Rattle.compare.specs.DecidesProof.{decided}
 use Rattle.compare.proofs.compare.Statement.{statement}
 use Rattle.compare.proofs.compare.Tie as tie
 

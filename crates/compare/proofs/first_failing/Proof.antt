@@ -3,7 +3,7 @@ use borrow.Author.Needs.{needs}
 use mathlib.Core.Path.{_≡_, refl, sym, _∙_}
 use Prim.Native.Nat.{_≤_, _-_}
 use Rattle.masking.specs.Kept.{places}
-use Rattle.finish.specs.Table.{rowsIn}
+use Rattle.table.specs.Table.{rowsIn}
 use Rattle.rise.specs.Decide.{placeTest}
 use Rattle.compare.specs.Compare.{failingAt, comparedRows}
 use Rattle.compare.specs.CompareLaws.{hasRow, failingFrom, turn-passes, turn-stops, turns-end}

@@ -6,7 +6,7 @@ use native.Mathlib.Omega.{arith}
 use borrow.Author.Needs.{needs}
 use lib.ListN.{length}
 use Rattle.masking.specs.Kept.{places}
-use Rattle.finish.specs.Table.{rowIn}
+use Rattle.table.specs.Table.{rowIn}
 use Rattle.image.specs.PiecesLaws.{rows-all, run-end, run-leaf, run-row, Onward, onward-none, onward-join, row-room, onward-row, onward-all}
 use Rattle.image.proofs.put_rows.Statement.{statement}
 use Rattle.image.proofs.put_rows.Tie as tie

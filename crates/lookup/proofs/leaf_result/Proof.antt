@@ -6,7 +6,7 @@ use native.Mathlib.Omega.{arith}
 use borrow.Author.Needs.{needs}
 use lib.ListN.{length, List·getD-eq-default}
 use Rattle.masking.specs.Kept.{places}
-use Rattle.finish.specs.Table.{rowIn}
+use Rattle.table.specs.Table.{rowIn}
 use Rattle.lookup.specs.Lookup.{rowResult, lookup}
 use Rattle.lookup.specs.LookupLaws.{lookup-at}
 use Rattle.lookup.proofs.leaf_result.Statement.{statement}

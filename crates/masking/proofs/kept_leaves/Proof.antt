@@ -4,7 +4,7 @@ use Rattle.bits.specs.Bits.{maskOf, fieldMask}
 use Rattle.x86defs.specs.Fields.{fieldsMask}
 use Rattle.masking.specs.Masks.{versionAndFeatures, extendedFeatures, extendedState0, extendedState1, extendedVersionAndFeatures, extendedAddressSpaceSizes, extendedSvm, extendedOptimization, extendedSev}
 use Rattle.masking.specs.Kept.{keptLeaves}
-use Rattle.masking.specs.Table.{table}
+use Rattle.masking.specs.KeptTable.{table}
 use Rattle.masking.proofs.kept_leaves.Statement.{statement}
 use Rattle.masking.proofs.kept_leaves.Tie as tie
 

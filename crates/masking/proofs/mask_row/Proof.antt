@@ -4,7 +4,7 @@ use Prim.Native.Nat.{_-_, zero-le}
 use borrow.Author.Needs.{needs}
 use Rattle.bits.specs.Lists.{tabulate}
 use Rattle.masking.specs.Kept.{keptLeaves}
-use Rattle.masking.specs.Table.{rowOfPlace}
+use Rattle.masking.specs.KeptTable.{rowOfPlace}
 use Rattle.masking.specs.RunLaws.{on-run}
 use Rattle.masking.proofs.mask_row.Statement.{statement}
 use Rattle.masking.proofs.mask_row.Tie as tie

@@ -4,8 +4,8 @@ use mathlib.Core.Bool.{true}
 use borrow.Author.Needs.{needs}
 use Rattle.bits.specs.Lists.{tabulate}
 use Rattle.masking.specs.RunLaws.{on-run}
-use Rattle.finish.specs.Finish.{ruleAt}
-use Rattle.finish.specs.Kinds.{fromEntry}
+use Rattle.update.specs.Finish.{ruleAt}
+use Rattle.update.specs.Kinds.{fromEntry}
 use Rattle.compare.proofs.kinds.from_entry.Statement.{statement}
 use Rattle.compare.proofs.kinds.from_entry.Tie as tie
 

@@ -5,10 +5,10 @@ use native.Mathlib.Omega.{arith}
 use borrow.Author.Needs.{needs}
 use Rattle.bits.specs.Lists.{tabulate}
 use Rattle.masking.specs.RunLaws.{on-run}
-use Rattle.finish.specs.Finish.{ruleAt}
-use Rattle.finish.specs.Finish.Rule.{threadLevelRow, untouched, featureEax}
-use Rattle.finish.specs.Kinds.{kindsOf}
-use Rattle.compare.specs.Kinds.{kindsIn}
+use Rattle.update.specs.Finish.{ruleAt}
+use Rattle.update.specs.Finish.Rule.{threadLevelRow, untouched, featureEax}
+use Rattle.update.specs.Kinds.{kindsOf}
+use Rattle.compare.specs.KindsInCode.{kindsIn}
 use Rattle.compare.proofs.kinds.kinds_at.Statement.{statement}
 use Rattle.compare.proofs.kinds.kinds_at.Tie as tie
 

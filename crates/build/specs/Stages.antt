@@ -1,0 +1,27 @@
+-- The stages of `build_rows`: the answer from a check on.
+use Rattle.table.specs.declared.Refusal.{Refusal}
+use Rattle.table.specs.declared.Verdict.{Verdict}
+use Rattle.table.specs.declared.Verdict.the-variants.{Refused}
+use Rattle.table.specs.Refusal.{andThen}
+use Rattle.table.specs.Rows.{Rows}
+use Rattle.checks.specs.Checks.{invlpgbVerdict, componentsVerdict, areaVerdict, topologyVerdict}
+use Rattle.table.specs.Table.{emptyTable}
+use Rattle.build.specs.declared.Built.{Built}
+use Rattle.build.specs.Built.{tableFor}
+
+abbrev pub refusedBuilt : Refusal → Built
+refusedBuilt r = record { verdict = Refused r; table = emptyTable }
+
+-- the answer that goes with a verdict on masked first entries
+abbrev pub builtBy : Verdict → Rows → Built
+builtBy v m = record { verdict = v; table = tableFor v m }
+
+-- the checks from each on
+abbrev pub fromArea : Rows → Verdict
+fromArea m = andThen (areaVerdict m) (topologyVerdict m)
+
+abbrev pub fromComponents : Rows → Verdict
+fromComponents m = andThen (componentsVerdict m) (fromArea m)
+
+abbrev pub fromInvlpgb : Rows → Verdict
+fromInvlpgb m = andThen (invlpgbVerdict m) (fromComponents m)

@@ -1,0 +1,317 @@
+-- Collecting entry by entry, where the first at a place wins, gives the masked first entry of every place.
+use mathlib.Core.Path.{_≡_, refl, sym, ap, ap₂, _∙_, subst, fun-ext}
+use mathlib.Core.Bool.{Bool, true, false, not, _||_}
+use mathlib.Core.List.{List, [], _∷_}
+use mathlib.Core.Logic.{_≢_}
+use Prim.Native.Nat.{ℕ, _≤_, _<_}
+use native.Mathlib.Omega.{arith}
+use lib.Dec.{eqb, ltb}
+use lib.ListN.{length, getD, set, length-set, replicate, length-replicate, getD-replicate, List·getD-eq-default}
+use lib.Seq.{getD-set-same, getD-set-other, set-out}
+use borrow.Author.Tests.{eqb-true, eqb-false, ne-eqb, ltb-true, ltb-false}
+use Rattle.bits.specs.Choice.{pick}
+use Rattle.bits.specs.ChoiceLaws.{never-both, pick-same, pick-true, pick-false}
+use Rattle.bits.specs.Lists.{tabulate, keepIf}
+use Rattle.bits.specs.ListsLaws.{tabulated, getD-tabulate, length-tabulate}
+use Rattle.x86defs.specs.declared.CpuidResult.{CpuidResult}
+use Rattle.x86defs.specs.Functions.{result, sameFunction, ExtendedStateEnumeration}
+use Rattle.pages.specs.declared.ParsedCpuidEntry.{ParsedCpuidEntry}
+use Rattle.pages.specs.declared.CpuidPageIndex.{CpuidPageIndex}
+use Rattle.pages.specs.Layout.{Entry, entryAt, pagesIn}
+use Rattle.pages.specs.Walk.{parsed, firstIndex, incremented, rest}
+use Rattle.pages.specs.WalkLaws.{Valid, Turn, turn, first-valid, rest-first, rest-end}
+use Rattle.pages.specs.Entries.{entries, counts, counted}
+use Rattle.masking.specs.declared.KeptLeaf.{KeptLeaf}
+use Rattle.masking.specs.Masks.{Masks, applyMask}
+use Rattle.masking.specs.Kept.{places, placeOf}
+use Rattle.masking.specs.KeptTable.{table, noRow, masksOf, rowOfPlace}
+use Rattle.masking.specs.KeptTableLaws.{masks-of-row}
+use Rattle.table.specs.declared.CpuidResults.{CpuidResults}
+use Rattle.table.specs.Rows.{Row, row, vacant}
+use Rattle.table.specs.Table.{emptyTable, rowIn, rowsIn}
+use Rattle.collect.specs.FirstEntriesLaws.{row-of-place, row-beyond}
+use Rattle.collect.specs.FirstEntries.{placeOfEntry, firstAt, setLegacy, maskedAt, maskRow, rowsOf}
+
+-- where an entry is stored: its place if it counts, else 88, past the last
+unfoldable pub storedAt : Entry → ℕ
+storedAt e = pick (counts e) (placeOfEntry e) places
+
+-- the same from what the code takes of an entry, and its page
+unfoldable pub countedPlace : ℕ → ParsedCpuidEntry → ℕ
+countedPlace p e = pick (not (sameFunction (e .leaf) ExtendedStateEnumeration) || eqb p 1) (placeOf (e .leaf) (e .subleaf)) places
+
+pub counted-place-stored : (s : List ℕ) (p q : ℕ) → countedPlace p (parsed (entryAt s p q)) ≡ storedAt (entryAt s p q)
+unfolding countedPlace storedAt counts entryAt
+counted-place-stored s p q = refl
+
+-- a table with a row stored at place i; past the last nothing changes
+abbrev pub store : CpuidResults → ℕ → CpuidResult → CpuidResults
+store t i r = record {
+  present = set (t .present) i true;
+  results = set (t .results) i r;
+  «row_count» = t .«row_count»;
+  «max_extended_state» = t .«max_extended_state»;
+}
+
+-- one entry: stored unless its place has a row
+unfoldable pub insert : Bool → CpuidResults → Entry → CpuidResults
+insert avic t e = pick (getD (t .present) (storedAt e) false) t (store t (storedAt e) (maskedAt avic (storedAt e) (e .registers)))
+
+unfoldable pub insertAll : Bool → CpuidResults → List Entry → CpuidResults
+insertAll avic t [] = t
+insertAll avic t (e ∷ es) = insertAll avic (insert avic t e) es
+
+-- the table of a page set's masked first entries, not yet finished
+unfoldable pub collected : Bool → List ℕ → CpuidResults
+collected avic s = record {
+  present = tabulate places (λ i. rowsOf avic s i .present);
+  results = tabulate places (λ i. rowsOf avic s i .result);
+  «row_count» = 0;
+  «max_extended_state» = 0;
+}
+
+-- ---- one place
+
+-- a table of 88 places
+pub record Whole (t : CpuidResults) : Type 0 where
+  pub present : length (t .present) ≡ places
+  pub results : length (t .results) ≡ places
+
+whole-store : {t : CpuidResults} (i : ℕ) (r : CpuidResult) → Whole t → Whole (store t i r)
+whole-store {t} i r w = record { present = length-set (t .present) i true ∙ w .present; results = length-set (t .results) i r ∙ w .results }
+
+whole-insert : (avic : Bool) (t : CpuidResults) (e : Entry) → Whole t → Whole (insert avic t e)
+unfolding insert
+whole-insert avic t e w = go (getD (t .present) (storedAt e) false)
+  where
+    go : (b : Bool) → Whole (pick b t (store t (storedAt e) (maskedAt avic (storedAt e) (e .registers))))
+    go true = w
+    go false = whole-store (storedAt e) (maskedAt avic (storedAt e) (e .registers)) w
+
+store-same : (t : CpuidResults) → Whole t → (i : ℕ) → i < places → (r : CpuidResult) → rowIn (store t i r) i ≡ row r
+store-same t w i l r k = record {
+  present = getD-set-same (t .present) i true false (subst (λ (n : ℕ). i < n) (sym (w .present)) l) k;
+  result = getD-set-same (t .results) i r (result 0 0 0 0) (subst (λ (n : ℕ). i < n) (sym (w .results)) l) k;
+}
+
+store-other : (t : CpuidResults) (i j : ℕ) (r : CpuidResult) → j ≢ i → rowIn (store t i r) j ≡ rowIn t j
+store-other t i j r n k = record {
+  present = getD-set-other (t .present) i j true false n k;
+  result = getD-set-other (t .results) i j r (result 0 0 0 0) n k;
+}
+
+-- what a place holds after an entry
+insert-row : (avic : Bool) (t : CpuidResults) (e : Entry) → Whole t → (i : ℕ) → i < places
+    → rowIn (insert avic t e) i ≡ pick (rowIn t i .present) (rowIn t i) (pick (eqb (storedAt e) i) (row (maskedAt avic i (e .registers))) (rowIn t i))
+unfolding insert
+insert-row avic t e w i l = go (eqb (storedAt e) i) refl (getD (t .present) (storedAt e) false) refl
+  where
+    go : (p : Bool) → eqb (storedAt e) i ≡ p → (b : Bool) → getD (t .present) (storedAt e) false ≡ b
+        → rowIn (pick b t (store t (storedAt e) (maskedAt avic (storedAt e) (e .registers)))) i
+        ≡ pick (rowIn t i .present) (rowIn t i) (pick p (row (maskedAt avic i (e .registers))) (rowIn t i))
+    go true f true g = let q : storedAt e ≡ i = eqb-true (storedAt e) i f in rw (rw q at g)
+    go true f false g =
+        let q : storedAt e ≡ i = eqb-true (storedAt e) i f in
+        rw (rw q at g) (rw q (store-same t w i l (maskedAt avic i (e .registers))))
+    go false f true g = sym (pick-same (rowIn t i .present) (rowIn t i))
+    go false f false g =
+        store-other t (storedAt e) i (maskedAt avic (storedAt e) (e .registers)) (λ q. eqb-false (storedAt e) i f (sym q))
+        ∙ sym (pick-same (rowIn t i .present) (rowIn t i))
+
+-- the first counted entry of a place, masked, from a list of entries
+abbrev firstIn : Bool → ℕ → List Entry → Row
+firstIn avic i es = maskRow avic i (firstAt i (keepIf counts es))
+
+first-in-cons : (avic : Bool) (i : ℕ) → i < places → (e : Entry) (es : List Entry)
+    → firstIn avic i (e ∷ es) ≡ pick (eqb (storedAt e) i) (row (maskedAt avic i (e .registers))) (firstIn avic i es)
+unfolding keepIf firstAt storedAt
+first-in-cons avic i l e es = go (counts e) (eqb (placeOfEntry e) i) refl
+  where
+    go : (c p : Bool) → eqb (placeOfEntry e) i ≡ p
+        → maskRow avic i (firstAt i (pick c (e ∷ keepIf counts es) (keepIf counts es)))
+        ≡ pick (eqb (pick c (placeOfEntry e) places) i) (row (maskedAt avic i (e .registers))) (firstIn avic i es)
+    go true true f = rw f
+    go true false f = rw f
+    go false p f = sym (pick-false _ _ (ne-eqb places i (λ (q : places ≡ i). omega arith)))
+
+-- a place without a row is all zeros
+abbrev Clean : CpuidResults → ℕ → Type 0
+Clean t i = rowIn t i .present ≡ false → rowIn t i ≡ vacant
+
+-- and after all of a list
+insertAll-row : (avic : Bool) (es : List Entry) (t : CpuidResults) → Whole t → (i : ℕ) → i < places → Clean t i
+    → rowIn (insertAll avic t es) i ≡ pick (rowIn t i .present) (rowIn t i) (firstIn avic i es)
+unfolding insertAll
+insertAll-row avic [] t w i l v = go (rowIn t i .present) refl
+  where
+    go : (b : Bool) → rowIn t i .present ≡ b → rowIn t i ≡ pick b (rowIn t i) (firstIn avic i [])
+    go true e = refl
+    go false e = v e ∙ unfold keepIf firstAt in refl
+insertAll-row avic (e ∷ es) t w i l v =
+    go (rowIn t i .present) refl (eqb (storedAt e) i) refl (insertAll-row avic es (insert avic t e) (whole-insert avic t e w) i l)
+  where
+    go : (p : Bool) → rowIn t i .present ≡ p → (q : Bool) → eqb (storedAt e) i ≡ q
+        → (Clean (insert avic t e) i
+        → rowIn (insertAll avic (insert avic t e) es) i ≡ pick (rowIn (insert avic t e) i .present) (rowIn (insert avic t e) i) (firstIn avic i es))
+        → rowIn (insertAll avic (insert avic t e) es) i ≡ pick p (rowIn t i) (firstIn avic i (e ∷ es))
+    go true f q g ih =
+        let r : rowIn (insert avic t e) i ≡ rowIn t i = insert-row avic t e w i l ∙ pick-true _ _ f in
+        let h : rowIn (insert avic t e) i .present ≡ true = ap (λ (x : Row). x .present) r ∙ f in
+        ih (λ n. absurd (never-both h n)) ∙ pick-true _ _ h ∙ r
+    go false f true g ih =
+        let r : rowIn (insert avic t e) i ≡ row (maskedAt avic i (e .registers)) = insert-row avic t e w i l ∙ pick-false _ _ f ∙ pick-true _ _ g in
+        let h : rowIn (insert avic t e) i .present ≡ true = ap (λ (x : Row). x .present) r in
+        ih (λ n. absurd (never-both h n)) ∙ pick-true _ _ h ∙ r ∙ sym (first-in-cons avic i l e es ∙ pick-true _ _ g)
+    go false f false g ih =
+        let r : rowIn (insert avic t e) i ≡ rowIn t i = insert-row avic t e w i l ∙ pick-false _ _ f ∙ pick-false _ _ g in
+        let h : rowIn (insert avic t e) i .present ≡ false = ap (λ (x : Row). x .present) r ∙ f in
+        ih (λ n. r ∙ v f) ∙ pick-false _ _ h ∙ sym (first-in-cons avic i l e es ∙ pick-false _ _ g)
+
+whole-all : (avic : Bool) (es : List Entry) (t : CpuidResults) → Whole t → Whole (insertAll avic t es)
+unfolding insertAll
+whole-all avic [] t w = w
+whole-all avic (e ∷ es) t w = whole-all avic es (insert avic t e) (whole-insert avic t e w)
+
+-- the count and the mask are not touched
+rest-insert : (avic : Bool) (t : CpuidResults) (e : Entry)
+    → (insert avic t e .«row_count» ≡ t .«row_count») × (insert avic t e .«max_extended_state» ≡ t .«max_extended_state»)
+unfolding insert
+rest-insert avic t e = go (getD (t .present) (storedAt e) false)
+  where
+    go : (b : Bool) → (pick b t (store t (storedAt e) (maskedAt avic (storedAt e) (e .registers))) .«row_count» ≡ t .«row_count»)
+        × (pick b t (store t (storedAt e) (maskedAt avic (storedAt e) (e .registers))) .«max_extended_state» ≡ t .«max_extended_state»)
+    go true = (refl, refl)
+    go false = (refl, refl)
+
+rest-all : (avic : Bool) (es : List Entry) (t : CpuidResults)
+    → (insertAll avic t es .«row_count» ≡ t .«row_count») × (insertAll avic t es .«max_extended_state» ≡ t .«max_extended_state»)
+unfolding insertAll
+rest-all avic [] t = (refl, refl)
+rest-all avic (e ∷ es) t =
+    let p = rest-all avic es (insert avic t e) in
+    let q = rest-insert avic t e in
+    (p .0 ∙ q .0, p .1 ∙ q .1)
+
+-- ---- from nothing
+
+empty-row : (i : ℕ) → i < places → rowIn emptyTable i ≡ vacant
+empty-row i l k = record {
+  present = getD-replicate places i false false l k;
+  result = getD-replicate places i (result 0 0 0 0) (result 0 0 0 0) l k;
+}
+
+empty-whole : Whole emptyTable
+empty-whole = record { present = length-replicate places false; results = length-replicate places (result 0 0 0 0) }
+
+collected-row : (avic : Bool) (s : List ℕ) (i : ℕ) → i < places → rowIn (insertAll avic emptyTable (entries s)) i ≡ rowsOf avic s i
+unfolding counted
+collected-row avic s i l =
+    let e : rowIn emptyTable i ≡ vacant = empty-row i l in
+    insertAll-row avic (entries s) emptyTable empty-whole i l (λ _. e)
+    ∙ pick-false _ _ (ap (λ (x : Row). x .present) e)
+    ∙ sym (row-of-place avic s i l)
+
+-- all entries of a page set, inserted into the empty table
+pub collect-all : (avic : Bool) (s : List ℕ) → insertAll avic emptyTable (entries s) ≡ collected avic s
+unfolding collected
+collect-all avic s k = record {
+  present = tabulated places (λ i. rowsOf avic s i .present) (insertAll avic emptyTable (entries s) .present) false (whole-all avic (entries s) emptyTable empty-whole .present)
+      (λ i l. ap (λ (x : Row). x .present) (collected-row avic s i l)) k;
+  results = tabulated places (λ i. rowsOf avic s i .result) (insertAll avic emptyTable (entries s) .results) (result 0 0 0 0) (whole-all avic (entries s) emptyTable empty-whole .results)
+      (λ i l. ap (λ (x : Row). x .result) (collected-row avic s i l)) k;
+  «row_count» = rest-all avic (entries s) emptyTable .0 k;
+  «max_extended_state» = rest-all avic (entries s) emptyTable .1 k;
+}
+
+-- ---- a turn of the loop, by what it finds at the entry's place
+
+pub insert-kept : (avic : Bool) (t : CpuidResults) (e : Entry) → getD (t .present) (storedAt e) false ≡ true → t ≡ insert avic t e
+unfolding insert
+insert-kept avic t e p = sym (pick-true _ _ p)
+
+pub insert-new : (avic : Bool) (t : CpuidResults) (e : Entry) → getD (t .present) (storedAt e) false ≡ false
+    → store t (storedAt e) (maskedAt avic (storedAt e) (e .registers)) ≡ insert avic t e
+unfolding insert
+insert-new avic t e p = sym (pick-false _ _ p)
+
+-- past the last place nothing is stored
+pub insert-none : (avic : Bool) (t : CpuidResults) (e : Entry) → Whole t → places ≤ storedAt e → t ≡ insert avic t e
+unfolding insert
+insert-none avic t e w h =
+    let p : length (t .present) ≤ storedAt e = omega (arith, w .present) in
+    let q : length (t .results) ≤ storedAt e = omega (arith, w .results) in
+    sym (pick-false _ _ (List·getD-eq-default (t .present) false p)
+    ∙ (λ k. record {
+      present = set-out (t .present) (storedAt e) true p k;
+      results = set-out (t .results) (storedAt e) (maskedAt avic (storedAt e) (e .registers)) q k;
+      «row_count» = t .«row_count»;
+      «max_extended_state» = t .«max_extended_state»;
+    }))
+
+-- a row of the code's table of kept leaves masks as its place does
+pub row-masks : (avic : Bool) (place row : ℕ) (kept : List KeptLeaf) (r : CpuidResult) → kept ≡ table avic → row ≡ rowOfPlace place
+    → setLegacy place (applyMask (masksOf (getD kept row noRow)) r) ≡ maskedAt avic place r
+row-masks avic place row kept r p q = rw (p, q) (ap (λ (m : Masks). setLegacy place (applyMask m r)) (masks-of-row avic place))
+
+-- the same in the code's terms: the place found, and the table after the turn
+module _ (avic : Bool) (t u : CpuidResults) (e : Entry) (place : ℕ) (at : place ≡ storedAt e) where
+  pub turn-kept : getD (t .present) place false ≡ true → u ≡ t → u ≡ insert avic t e
+  turn-kept p q = q ∙ insert-kept avic t e (rw at at p)
+
+  pub turn-new : (kept : List KeptLeaf) (row : ℕ) (p : ParsedCpuidEntry) (r : CpuidResult) → kept ≡ table avic → row ≡ rowOfPlace place → p ≡ parsed e
+      → getD (t .present) place false ≡ false → r ≡ setLegacy place (applyMask (masksOf (getD kept row noRow)) (p .result)) → u ≡ store t place r
+      → u ≡ insert avic t e
+  turn-new kept row p r k n parse free m q =
+      q ∙ ap₂ (store t) at (m ∙ row-masks avic place row kept (p .result) k n ∙ ap₂ (maskedAt avic) at (ap (λ (x : ParsedCpuidEntry). x .result) parse))
+      ∙ insert-new avic t e (rw at at free)
+
+  pub turn-none : Whole t → places ≤ place → u ≡ t → u ≡ insert avic t e
+  turn-none w l q = q ∙ insert-none avic t e w (rw at at l)
+
+-- what holds before each turn: the entries that are left give what all give
+pub record Collecting (avic : Bool) (s : List ℕ) (t : CpuidResults) (i : CpuidPageIndex) : Type 0 where
+  pub whole : Whole t
+  pub valid : Valid s i
+  pub left : insertAll avic t (rest s i) ≡ collected avic s
+
+pub collecting-first : (avic : Bool) (s : List ℕ) → Collecting avic s emptyTable (firstIndex s)
+collecting-first avic s = record {
+  whole = empty-whole;
+  valid = first-valid s;
+  left = ap (insertAll avic emptyTable) (rest-first s) ∙ collect-all avic s;
+}
+
+pub collecting-next : (avic : Bool) (s : List ℕ) (t u : CpuidResults) (i : CpuidPageIndex) → Collecting avic s t i → i .«page_index» < pagesIn s
+    → u ≡ insert avic t (entryAt s (i .«page_index») (i .«function_index»)) → Collecting avic s u (incremented s i)
+unfolding insertAll
+collecting-next avic s t u i c h e =
+    let turn-i : Turn s i = turn s i (c .valid) h in
+    record {
+      whole = subst Whole (sym e) (whole-insert avic t (entryAt s (i .«page_index») (i .«function_index»)) (c .whole));
+      valid = turn-i .valid;
+      left = ap (λ (x : CpuidResults). insertAll avic x (rest s (incremented s i))) e ∙ sym (ap (insertAll avic t) (turn-i .taken)) ∙ c .left;
+    }
+
+pub collecting-last : (avic : Bool) (s : List ℕ) (t : CpuidResults) (i : CpuidPageIndex) → Collecting avic s t i → pagesIn s ≤ i .«page_index»
+    → t ≡ collected avic s
+unfolding insertAll
+collecting-last avic s t i c h = sym (ap (insertAll avic t) (rest-end s i h)) ∙ c .left
+
+-- the collected table's rows are the masked first entries, at every number
+pub collected-rows : (avic : Bool) (s : List ℕ) → rowsIn (collected avic s) ≡ rowsOf avic s
+unfolding collected
+collected-rows avic s = fun-ext (λ i. go i (ltb i places) refl)
+  where
+    go : (i : ℕ) (b : Bool) → ltb i places ≡ b → rowIn (collected avic s) i ≡ rowsOf avic s i
+    go i true e = λ k. record {
+      present = getD-tabulate places (λ j. rowsOf avic s j .present) i false (ltb-true i places e) k;
+      result = getD-tabulate places (λ j. rowsOf avic s j .result) i (result 0 0 0 0) (ltb-true i places e) k;
+    }
+    go i false e =
+        let p : length (tabulate places (λ j. rowsOf avic s j .present)) ≤ i = omega (arith, length-tabulate places (λ j. rowsOf avic s j .present), ltb-false i places e) in
+        let q : length (tabulate places (λ j. rowsOf avic s j .result)) ≤ i = omega (arith, length-tabulate places (λ j. rowsOf avic s j .result), ltb-false i places e) in
+        (λ k. record {
+          present = List·getD-eq-default (tabulate places (λ j. rowsOf avic s j .present)) false p k;
+          result = List·getD-eq-default (tabulate places (λ j. rowsOf avic s j .result)) (result 0 0 0 0) q k;
+        })
+        ∙ sym (row-beyond avic s i (ltb-false i places e))

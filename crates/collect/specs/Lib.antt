@@ -1,0 +1,3 @@
+pub mod FirstEntries
+pub mod FirstEntriesLaws
+pub mod Collect

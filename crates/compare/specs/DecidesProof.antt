@@ -1,0 +1,218 @@
+-- The answer means what it says, and no other answer does.
+use mathlib.Core.Path.{_≡_, refl, sym, ap, ap₂, _∙_, subst}
+use mathlib.Core.Bool.{Bool, true, false, _&&_}
+use mathlib.Core.List.{List}
+use Prim.Native.Nat.{ℕ, _<_, zero-le}
+use native.Mathlib.Omega.{arith}
+use Rattle.bits.specs.Choice.{pick}
+use Rattle.bits.specs.ChoiceLaws.{never-both, pick-true, pick-false, and-left, and-right, if-fails}
+use Rattle.bits.specs.Search.{Failing, lowest}
+use Rattle.bits.specs.Search.Failing.{at, none}
+use Rattle.bits.specs.SearchLaws.{Lowest, lowest-none, lowest-all, lowest-at, lowest-unique}
+use Rattle.x86defs.specs.declared.CpuidFunction.{CpuidFunction}
+use Rattle.x86defs.specs.declared.CpuidResult.{CpuidResult}
+use Rattle.masking.specs.Kept.{places, leafAt}
+use Rattle.table.specs.declared.Subleaf.{Subleaf}
+use Rattle.table.specs.declared.Verdict.{Verdict}
+use Rattle.table.specs.declared.Verdict.the-variants.{Accepted, Refused}
+use Rattle.table.specs.Rows.{Rows}
+use Rattle.update.specs.Finish.{ruleAt}
+use Rattle.update.specs.Kinds.{Kinds, EntryAtLeast, Registers, kindsOf, fromEntry}
+use Rattle.collect.specs.FirstEntries.{rowsOf}
+use Rattle.build.specs.Build.{lawfulVerdict, answer}
+use Rattle.rise.specs.Rise.{EntryRises, RiseHypothesis as Hypothesis}
+use Rattle.rise.specs.Decide.{risesTest, registersTest, placeTest, inTable, test-rises, rises-test, test-fails, place-rises, rises-place}
+use Rattle.rise.specs.RiseProof.{demand-3}
+use Rattle.compare.specs.declared.Register.{Register}
+use Rattle.compare.specs.declared.Register.the-variants.{Eax, Ebx, Ecx, Edx}
+use Rattle.compare.specs.declared.Compared.{Compared}
+use Rattle.compare.specs.declared.Compared.the-variants.{Rises, RefusedA, UnlawfulB, NoEntry, Differs}
+use Rattle.compare.specs.Compare.{firstRegister, subleafNamed, failingAt, firstFailing, afterA, afterB, comparedRows, compared}
+use Rattle.compare.specs.ReturnLaws.{with-verdicts, refused-a}
+use Rattle.compare.specs.Means.{order, valueOf, kindOf, Reached, Means, Decides}
+
+-- ---- the registers of a row before the first that fails
+
+is-false : (b : Bool) → (b ≡ true → ⊥) → b ≡ false
+is-false true n = absurd (n refl)
+is-false false n = refl
+
+-- the first register that fails, by the tests of the three before EDX
+abbrev first : Bool → Bool → Bool → Register
+first p q r = pick p (pick q (pick r Edx Ecx) Ebx) Eax
+
+module _ (k : Kinds) (a b : CpuidResult) where
+  abbrev passes : Register → Bool
+  passes q = risesTest (kindOf q k) (valueOf q a) (valueOf q b)
+
+  before-first : (p q r : Bool) → passes Eax ≡ p → passes Ebx ≡ q → passes Ecx ≡ r → (x : Register) → order x < order (first p q r) → passes x ≡ true
+  before-first false q r e f g x l = absurd (omega arith)
+  before-first true false r e f g Eax l = e
+  before-first true false r e f g Ebx l = absurd (omega arith)
+  before-first true false r e f g Ecx l = absurd (omega arith)
+  before-first true false r e f g Edx l = absurd (omega arith)
+  before-first true true false e f g Eax l = e
+  before-first true true false e f g Ebx l = f
+  before-first true true false e f g Ecx l = absurd (omega arith)
+  before-first true true false e f g Edx l = absurd (omega arith)
+  before-first true true true e f g Eax l = e
+  before-first true true true e f g Ebx l = f
+  before-first true true true e f g Ecx l = g
+  before-first true true true e f g Edx l = absurd (omega arith)
+
+  first-fails : (p q r s : Bool) → passes Eax ≡ p → passes Ebx ≡ q → passes Ecx ≡ r → passes Edx ≡ s → (p && (q && (r && s))) ≡ false
+      → passes (first p q r) ≡ false
+  first-fails false q r s e f g h n = e
+  first-fails true false r s e f g h n = f
+  first-fails true true false s e f g h n = g
+  first-fails true true true s e f g h n = h ∙ n
+
+  register-fails : registersTest k a b ≡ false
+      → EntryAtLeast (kindOf (firstRegister k a b) k) (valueOf (firstRegister k a b) a) (valueOf (firstRegister k a b) b) → ⊥
+  register-fails n =
+      let q : Register = firstRegister k a b in
+      test-fails (kindOf q k) (valueOf q a) (valueOf q b) (first-fails (passes Eax) (passes Ebx) (passes Ecx) (passes Edx) refl refl refl refl n)
+
+  registers-before : (x : Register) → order x < order (firstRegister k a b) → EntryAtLeast (kindOf x k) (valueOf x a) (valueOf x b)
+  registers-before x l = test-rises (kindOf x k) (valueOf x a) (valueOf x b) (before-first (passes Eax) (passes Ebx) (passes Ecx) refl refl refl x l)
+
+  -- a register that fails where those before it pass is the first
+  first-unique : (q : Register) → (EntryAtLeast (kindOf q k) (valueOf q a) (valueOf q b) → ⊥)
+      → ((x : Register) → order x < order q → EntryAtLeast (kindOf x k) (valueOf x a) (valueOf x b)) → firstRegister k a b ≡ q
+  first-unique q f before = go q f before
+    where
+      pass : (x : Register) → EntryAtLeast (kindOf x k) (valueOf x a) (valueOf x b) → passes x ≡ true
+      pass x h = rises-test (kindOf x k) (valueOf x a) (valueOf x b) h
+
+      fail : (x : Register) → (EntryAtLeast (kindOf x k) (valueOf x a) (valueOf x b) → ⊥) → passes x ≡ false
+      fail x n = is-false (passes x) (λ e. n (test-rises (kindOf x k) (valueOf x a) (valueOf x b) e))
+
+      go : (q : Register) → (EntryAtLeast (kindOf q k) (valueOf q a) (valueOf q b) → ⊥)
+          → ((x : Register) → order x < order q → EntryAtLeast (kindOf x k) (valueOf x a) (valueOf x b)) → firstRegister k a b ≡ q
+      go Eax n h = rw (fail Eax n)
+      go Ebx n h = rw (pass Eax (h Eax (omega arith)), fail Ebx n)
+      go Ecx n h = rw (pass Eax (h Eax (omega arith)), pass Ebx (h Ebx (omega arith)), fail Ecx n)
+      go Edx n h = rw (pass Eax (h Eax (omega arith)), pass Ebx (h Ebx (omega arith)), pass Ecx (h Ecx (omega arith)))
+
+  register-of : Registers EntryAtLeast k a b → (q : Register) → EntryAtLeast (kindOf q k) (valueOf q a) (valueOf q b)
+  register-of h Eax = h .eax
+  register-of h Ebx = h .ebx
+  register-of h Ecx = h .ecx
+  register-of h Edx = h .edx
+
+-- ---- the places before the first that fails
+
+module _ (avic : Bool) (a b : List ℕ) where
+  abbrev A : Rows
+  A = rowsOf avic a
+
+  abbrev B : Rows
+  B = rowsOf avic b
+
+  abbrev test : ℕ → Bool
+  test = placeTest (inTable avic a) A B
+
+  module _ (accepted : answer avic a .verdict ≡ Accepted) (lawful : lawfulVerdict b ≡ Accepted) where
+    reached : (i : ℕ) → Lowest test 0 places i → Reached avic a b (leafAt i) (subleafNamed i) i
+    reached i h =
+        let asked = if-fails (fromEntry (ruleAt i) && inTable avic a i) _ (h .fails) .0 in
+        record {
+          accepted = accepted;
+          lawful = lawful;
+          below = h .below;
+          leafAtPlace = refl;
+          subleafAtPlace = refl;
+          entry = and-left _ _ asked;
+          inA = and-right (fromEntry (ruleAt i)) _ asked;
+          before = λ j l f p. place-rises (inTable avic a) A B j (h .before j zero-le l) f p;
+        }
+
+    failing : (i : ℕ) → Lowest test 0 places i → Means avic a b (failingAt A B i)
+    failing i h = go (B i .present) refl
+      where
+        fails : (B i .present && registersTest (kindsOf (ruleAt i)) (A i .result) (B i .result)) ≡ false
+        fails = if-fails (fromEntry (ruleAt i) && inTable avic a i) _ (h .fails) .1
+
+        go : (p : Bool) → B i .present ≡ p
+            → Means avic a b (pick p (Differs (leafAt i) (subleafNamed i) (firstRegister (kindsOf (ruleAt i)) (A i .result) (B i .result))) (NoEntry (leafAt i) (subleafNamed i)))
+        go true e = record {
+          place = i;
+          reached = reached i h;
+          present = e;
+          fails = register-fails (kindsOf (ruleAt i)) (A i .result) (B i .result) (rw e at fails);
+          registersBefore = registers-before (kindsOf (ruleAt i)) (A i .result) (B i .result);
+        }
+        go false e = record { place = i; reached = reached i h; absent = e }
+
+    rows-mean : (f : Failing) → lowest test 0 places ≡ f → Means avic a b (firstFailing f (failingAt A B))
+    rows-mean (at i) e = failing i (lowest-at test 0 places i e)
+    rows-mean none e =
+        let rises : Hypothesis avic a b = record {
+          accepted = accepted;
+          lawful = lawful;
+          entries = λ i l f p. place-rises (inTable avic a) A B i (lowest-none test 0 places e i zero-le l) f p;
+        } in
+        (rises, demand-3 avic a b rises)
+
+  means : Means avic a b (compared avic a b)
+  unfolding compared comparedRows
+  means = go (answer avic a .verdict) refl (lawfulVerdict b) refl
+    where
+      go : (v : Verdict) → answer avic a .verdict ≡ v → (w : Verdict) → lawfulVerdict b ≡ w
+          → Means avic a b (afterA v (afterB w (comparedRows (inTable avic a) A B)))
+      go (Refused r) e w f = e
+      go Accepted e (Refused r) f = (e, f)
+      go Accepted e Accepted f = rows-mean e f (lowest test 0 places) refl
+
+  complete : Hypothesis avic a b → compared avic a b ≡ Rises
+  unfolding compared comparedRows
+  complete h =
+      rw (h .accepted, h .lawful)
+      (ap (λ (f : Failing). firstFailing f (failingAt A B))
+      (lowest-all test 0 places (λ j l u. rises-place (inTable avic a) A B j (λ f p. h .entries j u f p))))
+
+  -- a place that is reached and fails is the one that the search finds
+  module _ {leaf : CpuidFunction} {subleaf : Subleaf} (i : ℕ) (h : Reached avic a b leaf subleaf i) (fails : EntryRises i (A i) (B i) → ⊥) where
+    lowest-place : Lowest test 0 places i
+    lowest-place = record {
+      from = zero-le;
+      below = h .below;
+      fails = is-false (test i) (λ e. fails (place-rises (inTable avic a) A B i e (h .entry) (h .inA)));
+      before = λ j _ l. rises-place (inTable avic a) A B j (h .before j l);
+    }
+
+    found : (f : Failing) → lowest test 0 places ≡ f → f ≡ at i
+    found none e = absurd (never-both (lowest-none test 0 places e i zero-le (h .below)) (lowest-place .fails))
+    found (at j) e = ap at (lowest-unique (lowest-at test 0 places j e) lowest-place)
+
+    compared-there : compared avic a b ≡ failingAt A B i
+    unfolding comparedRows
+    compared-there =
+        with-verdicts avic a b (h .accepted) (h .lawful)
+        ∙ ap (λ (f : Failing). firstFailing f (failingAt A B)) (found (lowest test 0 places) refl)
+
+  exact : (c : Compared) → Means avic a b c → compared avic a b ≡ c
+  exact Rises m = complete (m .0)
+  exact (RefusedA r) m = sym (refused-a avic a b m)
+  exact (UnlawfulB r) m = with-verdicts avic a b (m .0) (m .1)
+  exact (NoEntry leaf subleaf) m =
+      let i = m .place in
+      let h = m .reached in
+      compared-there i h (λ e. never-both (e .present) (m .absent))
+      ∙ pick-false _ _ (m .absent)
+      ∙ sym (ap₂ NoEntry (h .leafAtPlace) (h .subleafAtPlace))
+  exact (Differs leaf subleaf register) m =
+      let i = m .place in
+      let h = m .reached in
+      let k = kindsOf (ruleAt i) in
+      compared-there i h (λ e. m .fails (register-of k (A i .result) (B i .result) (e .registers) register))
+      ∙ pick-true _ _ (m .present)
+      ∙ ap (Differs (leafAt i) (subleafNamed i)) (first-unique k (A i .result) (B i .result) register (m .fails) (m .registersBefore))
+      ∙ sym (ap₂ (λ (l : CpuidFunction) (s : Subleaf). Differs l s register) (h .leafAtPlace) (h .subleafAtPlace))
+
+  pub decides : Decides avic a b (compared avic a b)
+  decides = record { means = means; exact = exact; complete = complete }
+
+-- what a value has that is the comparison's
+pub decided : (avic : Bool) (a b : List ℕ) {r : Compared} → r ≡ compared avic a b → (r ≡ compared avic a b) × Decides avic a b r
+decided avic a b e = (e, subst (Decides avic a b) (sym e) (decides avic a b))

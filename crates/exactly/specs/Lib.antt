@@ -1,9 +1,0 @@
-pub mod Conditions
-pub mod Exactly
-pub mod Decides
-pub mod PagesLaws
-pub mod RequiredLaws
-pub mod ExtendedStateLaws
-pub mod TopologyLaws
-pub mod StageLaws
-pub mod Proof

@@ -1,0 +1,27 @@
+-- The answer with every definition open: a theorem that unfolds `evaluated` computes with page bytes.
+use mathlib.Core.Bool.{Bool}
+use mathlib.Core.List.{List}
+use Prim.Native.Nat.{ℕ}
+use Rattle.bits.specs.Lists.{tabulate, keepIf, sumTo}
+use Rattle.bits.specs.Search.{lowest}
+use Rattle.bits.specs.Bits.{bit, has, field, fieldMask, maskOf, clear, clearUnless}
+use Rattle.x86defs.specs.Fields.{fieldsMask}
+use Rattle.x86defs.specs.Functions.{AmdMaximum, ExtendedAmdMaximum}
+use Rattle.pages.specs.Layout.{entryAt, badLength, countsFit}
+use Rattle.pages.specs.Entries.{onPage, onPages, entries, counts, counted}
+use Rattle.masking.specs.Masks.{versionAndFeatures, extendedFeatures, extendedState0, extendedState1, extendedVersionAndFeatures, extendedAddressSpaceSizes, extendedSvm, extendedOptimization, extendedSev, secureAvicMask}
+use Rattle.masking.specs.Kept.{keptLeaves, placeOf, slot}
+use Rattle.topology.specs.Topology.{threadsIn, topologyOf, highestOf, shiftOf}
+use Rattle.checks.specs.Required.{commonRequiredLeaves, snpRequiredLeaves, requiredAt, placeRequired}
+use Rattle.checks.specs.ExtendedState.{xfem, xss, combinedMask, supplied, areaBelow}
+use Rattle.checks.specs.TopologyInputs.{inputsOf}
+use Rattle.update.specs.Finish.{finished, settings, enabledBy, versionEcx, featuresEbx, featuresEcx, featuresEdx, extendedVersionEdx, addressSizesEbx, unlessNoXss, ymmVersionEcx, ymmFeaturesEbx, ymmFeaturesEcx, avx512FeaturesEbx, avx512FeaturesEcx, avx512FeaturesEdx, cetSs, rdPid, rdtscp, ibrsAndStibp, btcNo, hypervisorPresent}
+use Rattle.checks.specs.Checks.{requiredVerdict, invlpgbVerdict, componentsVerdict, areaVerdict, topologyVerdict, rowsVerdict}
+use Rattle.table.specs.Table.{countRows}
+use Rattle.build.specs.declared.Built.{Built}
+use Rattle.collect.specs.FirstEntries.{firstAt, legacyFeatures, rowsOf}
+use Rattle.build.specs.Build.{lengthVerdict, countsVerdict, lawfulVerdict, verdictOf, answer}
+
+unfoldable pub evaluated : Bool → List ℕ → Built
+unfolding answer verdictOf lawfulVerdict lengthVerdict countsVerdict badLength countsFit rowsVerdict requiredVerdict invlpgbVerdict componentsVerdict areaVerdict topologyVerdict lowest placeRequired requiredAt commonRequiredLeaves snpRequiredLeaves rowsOf firstAt counted keepIf entries onPages onPage entryAt counts placeOf keptLeaves slot versionAndFeatures extendedFeatures extendedState0 extendedState1 extendedVersionAndFeatures extendedAddressSpaceSizes extendedSvm extendedOptimization extendedSev secureAvicMask fieldsMask fieldMask maskOf legacyFeatures xfem xss combinedMask supplied areaBelow has bit field inputsOf topologyOf threadsIn tabulate sumTo countRows finished settings enabledBy highestOf shiftOf clear clearUnless versionEcx featuresEbx featuresEcx featuresEdx extendedVersionEdx addressSizesEbx unlessNoXss ymmVersionEcx ymmFeaturesEbx ymmFeaturesEcx avx512FeaturesEbx avx512FeaturesEcx avx512FeaturesEdx cetSs rdPid rdtscp ibrsAndStibp btcNo hypervisorPresent AmdMaximum ExtendedAmdMaximum
+evaluated avic s = answer avic s

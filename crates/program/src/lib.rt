@@ -1,0 +1,74 @@
+// The program's output. Input bytes come in; the image, or the bytes that say why there is none, go out.
+use buffer::Written;
+use numbers::AnswerNumbers;
+use table::Refusal;
+use table::Verdict;
+ghost use mathlib.Core.Path.{_≡_};
+ghost use mathlib.Core.List.{[], _∷_};
+ghost use Rattle.buffer.specs.Front.{writeFront};
+ghost use Rattle.program.specs.Output.{output};
+ghost use Rattle.program.specs.Bytes.{codeOf, numberBytes};
+
+const LONGEST_INPUT: usize = 65536;
+
+const REFUSAL_BYTES: usize = 11;
+
+// Document 01's bytes for an input of any length, at the front of a lent buffer that has room for them.
+pub fn write_output(input: &[u8], out: &mut [u8]) -> Written
+    ensures { λ r. ⌜ (r ≡ writeFront (output (now (input .entry))) (now (out .entry)) .answer) × (now (out .exit) ≡ writeFront (output (now (input .entry))) (now (out .entry)) .buffer) ⌝ }
+{
+    if input.len() > LONGEST_INPUT {
+        return put_too_long(out);
+    }
+    let built = build::build(input, false);
+    let verdict = built.verdict;
+    if let Verdict::Refused(refusal) = verdict {
+        return put_refusal(numbers::refusal_numbers(refusal), out);
+    }
+    let table = built.table;
+    image::write_table(table, out)
+}
+
+// Byte 4.
+fn put_too_long(out: &mut [u8]) -> Written
+    ensures { λ r. ⌜ (r ≡ writeFront (4 ∷ []) (now (out .entry)) .answer) × (now (out .exit) ≡ writeFront (4 ∷ []) (now (out .entry)) .buffer) ⌝ }
+{
+    if out.len() < 1 {
+        return Written::Refused(Refusal::BufferTooShort);
+    }
+    out[0] = 4;
+    Written::Bytes(1)
+}
+
+// Byte 3, the number, leaf, subleaf (none FFFFFFFFh), s.
+fn put_refusal(numbers: AnswerNumbers, out: &mut [u8]) -> Written
+    ensures { λ r. ⌜ (r ≡ writeFront (numberBytes numbers) (now (out .entry)) .answer) × (now (out .exit) ≡ writeFront (numberBytes numbers) (now (out .entry)) .buffer) ⌝ }
+{
+    if out.len() < REFUSAL_BYTES {
+        return Written::Refused(Refusal::BufferTooShort);
+    }
+    let leaf = numbers.leaf;
+    let subleaf = subleaf_code(numbers);
+    out[0] = 3;
+    out[1] = numbers.number;
+    out[2] = (leaf % 256) as u8;
+    out[3] = (leaf / 256 % 256) as u8;
+    out[4] = (leaf / 65536 % 256) as u8;
+    out[5] = (leaf / 16777216 % 256) as u8;
+    out[6] = (subleaf % 256) as u8;
+    out[7] = (subleaf / 256 % 256) as u8;
+    out[8] = (subleaf / 65536 % 256) as u8;
+    out[9] = (subleaf / 16777216 % 256) as u8;
+    out[10] = numbers.s;
+    Written::Bytes(REFUSAL_BYTES)
+}
+
+// The subleaf, or FFFFFFFFh for none.
+fn subleaf_code(numbers: AnswerNumbers) -> u32
+    ensures { λ r. ⌜ r ≡ codeOf numbers ⌝ }
+{
+    if numbers.has_subleaf == 0 {
+        return 0xFFFF_FFFF;
+    }
+    numbers.subleaf
+}

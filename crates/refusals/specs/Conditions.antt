@@ -1,0 +1,113 @@
+-- The conditions of document 01's table "Where each check stands", each stated by itself.
+use mathlib.Core.Path.{_≡_}
+use mathlib.Core.Bool.{Bool, true, false}
+use mathlib.Core.List.{List}
+use mathlib.Core.Logic.{_⊎_, _≢_}
+use Prim.Native.Nat.{ℕ, _+_, _/_, _%_, _^_, _≤_, _<_}
+use lib.Dec.{eqb}
+use lib.ListN.{length}
+use Rattle.bits.specs.Choice.{pick}
+use Rattle.bits.specs.Bits.{bit}
+use Rattle.x86defs.specs.Functions.{ExtendedStateEnumeration}
+use Rattle.pages.specs.Layout.{countOf}
+use Rattle.topology.specs.declared.TopologyError.the-variants.{Hyperthreading, ProcessorCount, ThreadsPerUnit}
+use Rattle.topology.specs.Topology.{Inputs}
+use Rattle.masking.specs.Place
+use Rattle.table.specs.declared.Subleaf.the-variants.{Some}
+use Rattle.table.specs.declared.Refusal.{Refusal}
+use Rattle.table.specs.declared.Refusal.the-variants.{PagesLength, PageCount, MissingRequiredResult, InvlpgbUnavailable, SaveAreaOverflow, TopologyInconsistent}
+use Rattle.table.specs.Rows.{Rows}
+use Rattle.checks.specs.Required.{requiredAt, requiredCount, placeRequired}
+use Rattle.checks.specs.ExtendedState.{xfem, combinedMask}
+use Rattle.checks.specs.TopologyInputs.{inputsOf}
+use Rattle.collect.specs.FirstEntries.{rowsOf}
+
+-- 1. length: "0, or not a multiple of 4,096"
+abbrev pub LengthFault : List ℕ → Type 0
+LengthFault s = (length s ≡ 0) ⊎ (length s % 4096 ≢ 0)
+
+-- 2. counts: "some page's count is above 64"
+pub record CountFault (s : List ℕ) : Type 0 where
+  pub page : ℕ
+  pub inside : page < length s / 4096
+  pub above : 64 < countOf s page
+
+-- 3. required leaves, in list order: "no such row; names leaf and subleaf". The j-th of the two lists has no row, and all before it have.
+pub record RequiredFault (m : Rows) (j : ℕ) : Type 0 where
+  pub listed : j < requiredCount
+  pub absent : m (placeRequired j) .present ≡ false
+  pub before : (i : ℕ) → i < j → m (placeRequired i) .present ≡ true
+
+-- 4. after these: "80000008h.EBX bit 3 (INVLPGB) clear"
+abbrev pub InvlpgbFault : Rows → Type 0
+InvlpgbFault m = bit 3 (m Place.extendedAddressSpaceSizes .result .ebx) ≡ 0
+
+-- a D subleaf that the combined mask needs, from 2 up, and that is absent
+pub record Lacking (m : Rows) (k : ℕ) : Type 0 where
+  pub from : 2 ≤ k
+  pub below : k < 64
+  pub needed : bit k (combinedMask m) ≡ 1
+  pub absent : m (Place.extendedState k) .present ≡ false
+
+-- 3. extended state, ascending: "a needed D subleaf is absent". Subleaf k is, and none below it.
+pub record ComponentFault (m : Rows) (k : ℕ) : Type 0 where
+  pub lacking : Lacking m k
+  pub lowest : (j : ℕ) → j < k → Lacking m j → ⊥
+
+-- 5. area size: "a sum overflows". The masked EAX + EBX of a subleaf from 2 up in XFEM is above 4,294,967,295.
+pub record AreaFault (m : Rows) : Type 0 where
+  pub subleaf : ℕ
+  pub from : 2 ≤ subleaf
+  pub below : subleaf < 64
+  pub saved : bit subleaf (xfem m) ≡ 1
+  pub large : 2 ^ 32 ≤ m (Place.extendedState subleaf) .result .eax + m (Place.extendedState subleaf) .result .ebx
+
+-- 7. s = 0, mt = 1: lps must equal nc + 1; s = 1 to 7: nc + 1 at most 2^s and lps = 2^s
+pub data ProcessorCountFault (i : Inputs) : Type 0 where
+  legacy : i .s ≡ 0 → i .mt ≡ 1 → i .lps ≢ i .nc + 1 → ProcessorCountFault i
+  tooMany : 1 ≤ i .s → i .s ≤ 7 → 2 ^ i .s < i .nc + 1 → ProcessorCountFault i
+  notAll : 1 ≤ i .s → i .s ≤ 7 → i .lps ≢ 2 ^ i .s → ProcessorCountFault i
+
+-- 6. s = 0, mt = 0: nc must be 0 and lps at most 1; s = 1 to 7, once 7 does not apply: mt = 1
+pub data HyperthreadingFault (i : Inputs) : Type 0 where
+  manyCores : i .s ≡ 0 → i .mt ≡ 0 → i .nc ≢ 0 → HyperthreadingFault i
+  manyProcessors : i .s ≡ 0 → i .mt ≡ 0 → 1 < i .lps → HyperthreadingFault i
+  unsaid : 1 ≤ i .s → i .s ≤ 7 → i .mt ≢ 1 → HyperthreadingFault i
+
+-- v: 1 or lps by the legacy method, else 2^s
+abbrev pub processorsSaid : Inputs → ℕ
+processorsSaid i = pick (eqb (i .s) 0) (pick (eqb (i .mt) 0) 1 (i .lps)) (2 ^ i .s)
+
+-- 8. "t above 1, or t at least v"
+abbrev pub ThreadsFault : Inputs → Type 0
+ThreadsFault i = (1 < i .t) ⊎ (processorsSaid i ≤ i .t)
+
+-- the checks in order. 6 and 7 exclude each other where s = 0; where s is 1 to 7, 7 comes first
+pub data Check : Type 0 where
+  pagesLength pageCounts requiredLeaves invlpgb components saveArea processorCount hyperthreading threadsPerUnit : Check
+
+abbrev pub rank : Check → ℕ
+rank pagesLength = 0
+rank pageCounts = 1
+rank requiredLeaves = 2
+rank invlpgb = 3
+rank components = 4
+rank saveArea = 5
+rank processorCount = 6
+rank hyperthreading = 7
+rank threadsPerUnit = 8
+
+-- the condition of a check holds of a page set's bytes, and the refusal names these details
+abbrev pub Fault : Bool → List ℕ → Check → Refusal → Type 0
+Fault avic s pagesLength r = LengthFault s × (r ≡ PagesLength)
+Fault avic s pageCounts r = CountFault s × (r ≡ PageCount)
+Fault avic s requiredLeaves r =
+    (j : ℕ) × RequiredFault (rowsOf avic s) j × (r ≡ MissingRequiredResult (requiredAt j .leaf) (requiredAt j .subleaf))
+Fault avic s invlpgb r = InvlpgbFault (rowsOf avic s) × (r ≡ InvlpgbUnavailable)
+Fault avic s components r = (k : ℕ) × ComponentFault (rowsOf avic s) k × (r ≡ MissingRequiredResult ExtendedStateEnumeration (Some k))
+Fault avic s saveArea r = AreaFault (rowsOf avic s) × (r ≡ SaveAreaOverflow)
+Fault avic s processorCount r =
+    ProcessorCountFault (inputsOf (rowsOf avic s)) × (r ≡ TopologyInconsistent (ProcessorCount (inputsOf (rowsOf avic s) .s)))
+Fault avic s hyperthreading r =
+    HyperthreadingFault (inputsOf (rowsOf avic s)) × (r ≡ TopologyInconsistent (Hyperthreading (inputsOf (rowsOf avic s) .s)))
+Fault avic s threadsPerUnit r = ThreadsFault (inputsOf (rowsOf avic s)) × (r ≡ TopologyInconsistent ThreadsPerUnit)

@@ -1,0 +1,9 @@
+pub mod Conditions
+pub mod Exactly
+pub mod Settles
+pub mod PagesSettled
+pub mod RequiredSettled
+pub mod ExtendedStateSettled
+pub mod TopologySettled
+pub mod StagesSettled
+pub mod ExactlyProof

@@ -1,0 +1,42 @@
+-- Checks 1 and 2: the verdicts on a page set's length and on its counts decide their conditions.
+use mathlib.Core.Path.{_≡_, refl}
+use mathlib.Core.Bool.{Bool, true, false, not, _||_}
+use mathlib.Core.List.{List}
+use mathlib.Core.Logic.{inl, inr}
+use Prim.Native.Nat.{ℕ, _%_}
+use native.Mathlib.Omega.{arith}
+use lib.Dec.{eqb, leb}
+use lib.ListN.{length}
+use borrow.Author.Tests.{eqb-true, eqb-false, leb-true, leb-false}
+use Rattle.bits.specs.Search.{every}
+use Rattle.bits.specs.SearchLaws.{every-at, every-fails}
+use Rattle.pages.specs.Layout.{pageSize, mostEntries, pagesIn, countOf, badLength, countsFit}
+use Rattle.table.specs.declared.Refusal.the-variants.{PagesLength, PageCount}
+use Rattle.checks.specs.Checks.{refuseUnless}
+use Rattle.build.specs.Build.{lengthVerdict, countsVerdict}
+use Rattle.refusals.specs.Conditions.{LengthFault, CountFault}
+use Rattle.refusals.specs.Settles.{Settles, never, holds}
+
+pub length-decides : (s : List ℕ) → Settles (λ q. LengthFault s × (q ≡ PagesLength)) (lengthVerdict s)
+unfolding lengthVerdict badLength
+length-decides s = go (eqb (length s) 0) (eqb (length s % pageSize) 0) refl refl
+  where
+    go : (none even : Bool) → eqb (length s) 0 ≡ none → eqb (length s % pageSize) 0 ≡ even
+        → Settles (λ q. LengthFault s × (q ≡ PagesLength)) (refuseUnless (not (none || not even)) PagesLength)
+    go true even p q = holds (inl (eqb-true _ _ p))
+    go false true p q = never (elim [ inl e ↦ eqb-false _ _ p e | inr n ↦ n (eqb-true _ _ q) ])
+    go false false p q = holds (inr (eqb-false _ _ q))
+
+pub counts-decide : (s : List ℕ) → Settles (λ q. CountFault s × (q ≡ PageCount)) (countsVerdict s)
+unfolding countsVerdict countsFit
+counts-decide s = go (every fits (pagesIn s)) refl
+  where
+    fits : ℕ → Bool
+    fits p = leb (countOf s p) mostEntries
+
+    go : (b : Bool) → every fits (pagesIn s) ≡ b → Settles (λ q. CountFault s × (q ≡ PageCount)) (refuseUnless b PageCount)
+    go true e =
+        never (λ f. omega (arith, f .above, leb-true (countOf s (f .page)) mostEntries (every-at fits (pagesIn s) e (f .page) (f .inside))))
+    go false e =
+        let (p, l, f) = every-fails fits (pagesIn s) e in
+        holds (record { page = p; inside = l; above = leb-false _ _ f })

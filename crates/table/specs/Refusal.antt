@@ -1,0 +1,43 @@
+-- Document 01, "Where each check stands": the number of each refusal, and the leaf, subleaf and s that it carries; those not named
+-- are 0 or none.
+use Prim.Native.Nat.{ℕ}
+use Rattle.topology.specs.declared.TopologyError.{TopologyError}
+use Rattle.topology.specs.declared.TopologyError.the-variants.{Hyperthreading, ProcessorCount, ThreadsPerUnit}
+use Rattle.table.specs.declared.Subleaf.{Subleaf}
+use Rattle.table.specs.declared.Subleaf.the-variants.{None}
+use Rattle.table.specs.declared.Refusal.{Refusal}
+use Rattle.table.specs.declared.Refusal.the-variants.{PagesLength, PageCount, MissingRequiredResult, InvlpgbUnavailable, SaveAreaOverflow, TopologyInconsistent, BufferTooShort}
+use Rattle.table.specs.declared.Verdict.{Verdict}
+use Rattle.table.specs.declared.Verdict.the-variants.{Accepted, Refused}
+
+-- what a refusal tells
+pub record Details : Type 0 where
+  pub number : ℕ
+  pub leaf : ℕ
+  pub subleaf : Subleaf
+  pub s : ℕ
+
+abbrev alone : ℕ → Details
+alone n = record { number = n; leaf = 0; subleaf = None; s = 0 }
+
+abbrev sized : ℕ → ℕ → Details
+sized n s = record { number = n; leaf = 0; subleaf = None; s = s }
+
+abbrev pub topologyDetails : TopologyError → Details
+topologyDetails (Hyperthreading s) = sized 6 s
+topologyDetails (ProcessorCount s) = sized 7 s
+topologyDetails ThreadsPerUnit = alone 8
+
+abbrev pub details : Refusal → Details
+details PagesLength = alone 1
+details PageCount = alone 2
+details (MissingRequiredResult leaf subleaf) = record { number = 3; leaf = leaf .0; subleaf = subleaf; s = 0 }
+details InvlpgbUnavailable = alone 4
+details SaveAreaOverflow = alone 5
+details (TopologyInconsistent e) = topologyDetails e
+details BufferTooShort = alone 9
+
+-- the first check that fails decides
+abbrev pub andThen : Verdict → Verdict → Verdict
+andThen Accepted v = v
+andThen (Refused r) v = Refused r

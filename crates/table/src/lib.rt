@@ -1,0 +1,55 @@
+// The table, and why there may be none: what building gives and what lookup, image and every other reader of a table stands on.
+use masking::PLACES;
+use topology::TopologyError;
+use x86defs::CpuidFunction;
+use x86defs::CpuidResult;
+ghost use mathlib.Core.Path.{_≡_};
+ghost use Rattle.table.specs.Table.{emptyTable};
+
+// A subleaf, where a leaf has them.
+pub enum Subleaf {
+    None,
+    Some(u32),
+}
+
+// Why no table is given. specs/Refusal.antt has document 01's number and details for each.
+pub enum Refusal {
+    PagesLength,
+    PageCount,
+    MissingRequiredResult(CpuidFunction, Subleaf),
+    InvlpgbUnavailable,
+    SaveAreaOverflow,
+    TopologyInconsistent(TopologyError),
+    BufferTooShort,
+}
+
+pub enum Verdict {
+    Accepted,
+    Refused(Refusal),
+}
+
+// A table: which of the 88 places have a row, the rows' registers, how many rows there are, and the combined mask.
+pub struct CpuidResults {
+    pub present: [bool; PLACES],
+    pub results: [CpuidResult; PLACES],
+    pub row_count: usize,
+    pub max_extended_state: u64,
+}
+
+// No rows at all.
+pub fn empty_table() -> CpuidResults
+    ensures { λ r. ⌜ r ≡ emptyTable ⌝ }
+{
+    let none = CpuidResult {
+        eax: 0,
+        ebx: 0,
+        ecx: 0,
+        edx: 0,
+    };
+    CpuidResults {
+        present: [false; PLACES],
+        results: [none; PLACES],
+        row_count: 0,
+        max_extended_state: 0,
+    }
+}

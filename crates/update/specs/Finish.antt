@@ -1,0 +1,206 @@
+-- Document 01, "Corners of mod.rs": what becomes of each row. A row's final value depends on its masked entry and on one record of what
+-- rows need from each other.
+use mathlib.Core.Bool.{Bool, true, _&&_}
+use mathlib.Core.List.{[], _∷_}
+use Prim.Native.Nat.{ℕ, _-_}
+use lib.Dec.{eqb, ltb}
+use lib.Bits.{bitOr}
+use Rattle.bits.specs.Choice.{pick}
+use Rattle.bits.specs.Bits.{has, maskOf, clearUnless}
+use Rattle.x86defs.specs.declared.CpuidResult.{CpuidResult}
+use Rattle.x86defs.specs.Functions.{result, AmdMaximum, ExtendedAmdMaximum, vendorEbx, vendorEcx, vendorEdx}
+use Rattle.x86defs.specs.VersionAndFeaturesEcx as Version
+use Rattle.x86defs.specs.ExtendedFeatureSubleaf0Ebx as Ebx7
+use Rattle.x86defs.specs.ExtendedFeatureSubleaf0Ecx as Ecx7
+use Rattle.x86defs.specs.ExtendedFeatureSubleaf0Edx as Edx7
+use Rattle.x86defs.specs.ExtendedVersionAndFeaturesEdx as ExtendedVersion
+use Rattle.x86defs.specs.ExtendedAddressSpaceSizesEbx as Sizes
+use Rattle.x86defs.specs.ExtendedSevFeaturesEax as Sev
+use Rattle.topology.specs.Topology.{topologyOf, processors, threadLevel, coreLevel}
+use Rattle.masking.specs.Place
+use Rattle.table.specs.Rows.{Row, Rows, row, vacant}
+use Rattle.checks.specs.ExtendedState.{xfem, xss, saveArea}
+use Rattle.checks.specs.TopologyInputs.{inputsOf}
+
+-- which rule a place falls under
+pub data Rule : Type 0 where
+  vendorAndMaxFunction versionAndFeatures extendedFeatures threadLevelRow coreLevelRow extendedState0 extendedState1 : Rule
+  extendedMaxFunction extendedVersionAndFeatures extendedAddressSpaceSizes featureEax untouched : Rule
+  -- D.k, k from 2 up
+  component : ℕ → Rule
+
+abbrev pub ruleAt : ℕ → Rule
+ruleAt i =
+    pick (ltb i (Place.extendedState 2))
+    (pick (eqb i Place.vendorAndMaxFunction) vendorAndMaxFunction
+    (pick (eqb i Place.versionAndFeatures) versionAndFeatures
+    (pick (eqb i Place.extendedFeatures) extendedFeatures
+    (pick (eqb i Place.threadLevel) threadLevelRow
+    (pick (eqb i Place.coreLevel) coreLevelRow
+    (pick (eqb i (Place.extendedState 0)) extendedState0
+    (pick (eqb i (Place.extendedState 1)) extendedState1 untouched)))))))
+    (pick (ltb i (Place.extendedState 64)) (component (i - Place.extendedState 0))
+    (pick (eqb i Place.extendedMaxFunction) extendedMaxFunction
+    (pick (eqb i Place.extendedVersionAndFeatures) extendedVersionAndFeatures
+    (pick (eqb i Place.extendedAddressSpaceSizes) extendedAddressSpaceSizes
+    (pick (eqb i Place.extendedOptimizationIdentifiers) featureEax
+    (pick (eqb i Place.extendedSevFeatures) featureEax untouched))))))
+
+-- what decides over feature bits of other rows: the two state masks, and whether TSC_AUX is virtualised
+pub record Enabled : Type 0 where
+  pub xfem : ℕ
+  pub xss : ℕ
+  pub tscAux : Bool
+
+-- what rows need from each other
+pub record Settings : Type 0 where
+  pub enabled : Enabled
+  pub saveArea : ℕ
+  pub threads : CpuidResult
+  pub cores : CpuidResult
+
+unfoldable pub enabledBy : Rows → Enabled
+enabledBy m = record {
+  xfem = xfem m;
+  xss = xss m;
+  tscAux = has (Sev.position Sev.ExtendedSevFeaturesEax.tsc-aux-virtualization) (m Place.extendedSevFeatures .result .eax);
+}
+
+unfoldable pub settings : Rows → Settings
+settings m = record {
+  enabled = enabledBy m;
+  saveArea = saveArea m (xfem m);
+  threads = threadLevel (inputsOf m .t);
+  cores = coreLevel (processors (topologyOf (inputsOf m)));
+}
+
+-- XFEM has bit 2; it has bits 2, 5, 6 and 7; XSS has bits 11 and 12 both
+abbrev pub hasYmm : Enabled → Bool
+hasYmm c = has 2 (c .xfem)
+
+abbrev pub hasAvx512 : Enabled → Bool
+hasAvx512 c = has 2 (c .xfem) && (has 5 (c .xfem) && (has 6 (c .xfem) && has 7 (c .xfem)))
+
+abbrev pub hasCet : Enabled → Bool
+hasCet c = has 11 (c .xss) && has 12 (c .xss)
+
+-- the clear masks, by named bits
+unfoldable pub ymmVersionEcx : ℕ
+ymmVersionEcx = maskOf Version.position (Version.VersionAndFeaturesEcx.fma ∷ Version.VersionAndFeaturesEcx.avx ∷ [])
+
+unfoldable pub ymmFeaturesEbx : ℕ
+ymmFeaturesEbx = maskOf Ebx7.position (Ebx7.ExtendedFeatureSubleaf0Ebx.avx2 ∷ [])
+
+unfoldable pub ymmFeaturesEcx : ℕ
+ymmFeaturesEcx =
+    maskOf Ecx7.position
+    (Ecx7.ExtendedFeatureSubleaf0Ecx.gfni ∷ Ecx7.ExtendedFeatureSubleaf0Ecx.vaes ∷ Ecx7.ExtendedFeatureSubleaf0Ecx.vpclmulqdq ∷ [])
+
+unfoldable pub avx512FeaturesEbx : ℕ
+avx512FeaturesEbx =
+    maskOf Ebx7.position
+    (Ebx7.ExtendedFeatureSubleaf0Ebx.avx512f
+    ∷ Ebx7.ExtendedFeatureSubleaf0Ebx.avx512dq
+    ∷ Ebx7.ExtendedFeatureSubleaf0Ebx.avx512-ifma
+    ∷ Ebx7.ExtendedFeatureSubleaf0Ebx.avx512cd
+    ∷ Ebx7.ExtendedFeatureSubleaf0Ebx.avx512bw
+    ∷ Ebx7.ExtendedFeatureSubleaf0Ebx.avx512vl
+    ∷ [])
+
+unfoldable pub avx512FeaturesEcx : ℕ
+avx512FeaturesEcx =
+    maskOf Ecx7.position
+    (Ecx7.ExtendedFeatureSubleaf0Ecx.avx512-vbmi
+    ∷ Ecx7.ExtendedFeatureSubleaf0Ecx.avx512-vbmi2
+    ∷ Ecx7.ExtendedFeatureSubleaf0Ecx.avx512-vnni
+    ∷ Ecx7.ExtendedFeatureSubleaf0Ecx.avx512-bitalg
+    ∷ Ecx7.ExtendedFeatureSubleaf0Ecx.avx512-vpopcntdq
+    ∷ [])
+
+unfoldable pub avx512FeaturesEdx : ℕ
+avx512FeaturesEdx =
+    maskOf Edx7.position (Edx7.ExtendedFeatureSubleaf0Edx.avx512-vp2-intersect ∷ Edx7.ExtendedFeatureSubleaf0Edx.avx512-fp16 ∷ [])
+
+unfoldable pub cetSs : ℕ
+cetSs = maskOf Ecx7.position (Ecx7.ExtendedFeatureSubleaf0Ecx.cet-ss ∷ [])
+
+unfoldable pub rdPid : ℕ
+rdPid = maskOf Ecx7.position (Ecx7.ExtendedFeatureSubleaf0Ecx.rd-pid ∷ [])
+
+unfoldable pub rdtscp : ℕ
+rdtscp = maskOf ExtendedVersion.position (ExtendedVersion.ExtendedVersionAndFeaturesEdx.rdtscp ∷ [])
+
+unfoldable pub ibrsAndStibp : ℕ
+ibrsAndStibp = maskOf Sizes.position (Sizes.ExtendedAddressSpaceSizesEbx.ibrs ∷ Sizes.ExtendedAddressSpaceSizesEbx.stibp ∷ [])
+
+unfoldable pub btcNo : ℕ
+btcNo = maskOf Sizes.position (Sizes.ExtendedAddressSpaceSizesEbx.btc-no ∷ [])
+
+unfoldable pub hypervisorPresent : ℕ
+hypervisorPresent = maskOf Version.position (Version.VersionAndFeaturesEcx.hypervisor-present ∷ [])
+
+-- the registers of each feature leaf, each a function of its masked value
+unfoldable pub versionEcx : Enabled → ℕ → ℕ
+versionEcx c x = bitOr (clearUnless (hasYmm c) ymmVersionEcx x) hypervisorPresent
+
+unfoldable pub featuresEbx : Enabled → ℕ → ℕ
+featuresEbx c x = clearUnless (hasAvx512 c) avx512FeaturesEbx (clearUnless (hasYmm c) ymmFeaturesEbx x)
+
+unfoldable pub featuresEcx : Enabled → ℕ → ℕ
+featuresEcx c x =
+    clearUnless (c .tscAux) rdPid
+    (clearUnless (hasAvx512 c) avx512FeaturesEcx (clearUnless (hasYmm c) ymmFeaturesEcx (clearUnless (hasCet c) cetSs x)))
+
+unfoldable pub featuresEdx : Enabled → ℕ → ℕ
+featuresEdx c x = clearUnless (hasAvx512 c) avx512FeaturesEdx x
+
+unfoldable pub extendedVersionEdx : Enabled → ℕ → ℕ
+extendedVersionEdx c x = clearUnless (c .tscAux) rdtscp x
+
+-- without IBPB (bit 12) neither IBRS nor STIBP; BTC_NO is always set
+unfoldable pub addressSizesEbx : ℕ → ℕ
+addressSizesEbx x = clearUnless (has (Sizes.position Sizes.ExtendedAddressSpaceSizesEbx.ibpb) x) ibrsAndStibp (bitOr x btcNo)
+
+-- "If XSS is 0, D.1.ECX and D.1.EDX become 0"
+unfoldable pub unlessNoXss : Enabled → ℕ → ℕ
+unlessNoXss c x = pick (eqb (c .xss) 0) 0 x
+
+-- the registers of a row under its rule
+abbrev pub finish : Settings → Rule → CpuidResult → CpuidResult
+finish c vendorAndMaxFunction r = result AmdMaximum vendorEbx vendorEcx vendorEdx
+finish c extendedMaxFunction r = result ExtendedAmdMaximum vendorEbx vendorEcx vendorEdx
+finish c versionAndFeatures r = result (r .eax) (r .ebx) (versionEcx (c .enabled) (r .ecx)) (r .edx)
+finish c extendedFeatures r = result (r .eax) (featuresEbx (c .enabled) (r .ebx)) (featuresEcx (c .enabled) (r .ecx)) (featuresEdx (c .enabled) (r .edx))
+finish c threadLevelRow r = c .threads
+finish c coreLevelRow r = c .cores
+finish c extendedState0 r = result (r .eax) (r .ebx) (c .saveArea) (r .edx)
+finish c extendedState1 r = result (r .eax) (r .ebx) (unlessNoXss (c .enabled) (r .ecx)) (unlessNoXss (c .enabled) (r .edx))
+finish c extendedVersionAndFeatures r = result (r .eax) (r .ebx) (r .ecx) (extendedVersionEdx (c .enabled) (r .edx))
+finish c extendedAddressSpaceSizes r = result (r .eax) (addressSizesEbx (r .ebx)) (r .ecx) (r .edx)
+finish c featureEax r = r
+finish c untouched r = r
+finish c (component k) r = r
+
+-- whether a row is in the table, from whether its entry was there: rows 0 and 80000000h always; "subleaves from 2 up without their bit
+-- are dropped"
+abbrev pub remains : Settings → Rule → Bool → Bool
+remains c vendorAndMaxFunction p = true
+remains c extendedMaxFunction p = true
+remains c versionAndFeatures p = p
+remains c extendedFeatures p = p
+remains c threadLevelRow p = p
+remains c coreLevelRow p = p
+remains c extendedState0 p = p
+remains c extendedState1 p = p
+remains c extendedVersionAndFeatures p = p
+remains c extendedAddressSpaceSizes p = p
+remains c featureEax p = p
+remains c untouched p = p
+remains c (component k) p = has k (bitOr (c .enabled .xfem) (c .enabled .xss)) && p
+
+-- a row of the table; one that is not there is all zeros
+abbrev pub finishRow : Settings → Rule → Row → Row
+finishRow c t r = pick (remains c t (r .present)) (row (finish c t (r .result))) vacant
+
+unfoldable pub finished : Rows → Rows
+finished m i = finishRow (settings m) (ruleAt i) (m i)

@@ -1,0 +1,12 @@
+pub mod Finish
+pub mod Kinds
+pub mod Stores
+pub mod DropLaws
+pub mod CountLaws
+pub mod FinishedTable
+pub mod UpdateMisread
+pub mod FinishLaws
+pub mod FeatureLaws
+pub mod JoinLaws
+pub mod PlaceLaws
+pub mod RemainsLaws
