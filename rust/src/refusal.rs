@@ -107,7 +107,12 @@ impl Refusal {
         match *self {
             Refusal::MissingRequiredResult(leaf, subleaf) => Details { leaf, subleaf, ..Details::default() },
             Refusal::TopologyInconsistent(TopologyError::Hyperthreading(s) | TopologyError::ProcessorCount(s)) => Details { s, ..Details::default() },
-            _ => Details::default(),
+            Refusal::PagesLength
+            | Refusal::PageCount
+            | Refusal::InvlpgbUnavailable
+            | Refusal::SaveAreaOverflow
+            | Refusal::TopologyInconsistent(TopologyError::ThreadsPerUnit)
+            | Refusal::BufferTooShort => Details::default(),
         }
     }
 
