@@ -8,9 +8,15 @@ use std::process::{Command, Stdio};
 /// The shipped page set.
 pub const EPYC: &str = "../tests/epyc-milan.pages";
 
-/// One run of each command that builds the table of one page set and prints nothing where it is refused: the page set is PAGES, the output OUT.
-pub const BUILDING: &[&[&str]] =
-    &[&["table", "PAGES"], &["image", "PAGES", "-o", "OUT"], &["lookup", "PAGES", "1"], &["to-dump", "PAGES", "-o", "OUT"]];
+/// Runs of each command that builds the table of one page set and prints nothing where it is refused: the page set is PAGES, the output OUT.
+#[rustfmt::skip]
+pub const BUILDING: &[&[&str]] = &[
+    &["table", "PAGES"],
+    &["image", "PAGES", "-o", "OUT"],
+    &["lookup", "PAGES", "1"],
+    &["to-dump", "PAGES"],
+    &["to-dump", "PAGES", "-o", "OUT"],
+];
 
 /// Runs of the other commands that read a file.
 pub const READING: &[&[&str]] = &[&["from-dump", "PAGES", "-o", "OUT"], &["compare", "PAGES", EPYC], &["compare", EPYC, "PAGES"]];
