@@ -10,17 +10,19 @@ import sys
 
 ROOT = Path(__file__).resolve().parent.parent
 
-ERROR = re.compile(r'^\S+:\d+:\d+: error(?:\[[^]]*\])?: (.*)$', re.MULTILINE)
+# an error, with the lines below it that are set in
+ERROR = re.compile(r'^\S+:\d+:\d+: error(?:\[[^]]*\])?: (.*(?:\n  .*)*)', re.MULTILINE)
 # an error inside a declaration opens with its name; a line that cannot be read, or an import, has none
-DECLARATION = re.compile(r'`[^`]+`: (.*)$')
+DECLARATION = re.compile(r'`[^`]+`: (.*)')
 # such an error repeats another one
-REPEATS = 'was not admitted'
+REPEATS = re.compile(r'.* was not admitted ')
 # what rattle says of a fact that the proof which it made itself does not show
 UNPROVED = re.compile(r'^note: \S+:\d+:\d+: it is not proved that (.*)$', re.MULTILINE)
 
+# a whole Need that is another one than the code now asks for
+OTHER_NEED = re.compile(r'expected type `[^` ]*Need-')
 NO_FACT = (
     ('a proof that no longer fits', r'has no `Need-[^`]*` that can be named from here'),
-    ('a proof that no longer fits', r'expected type `[^`]*Need-'),
     ('a proof that no longer fits', r'^record `[^`]*` has no field'),
     ('an import', r'has no `[^`]*` that can be named from here'),
     ('an unknown name', r'is not in scope'),
@@ -30,14 +32,17 @@ NO_FACT = (
 
 def no_fact(text):
     """Why the first error of a log is no fact that is refused, with that error; None where it is a fact."""
-    first = next((message for message in ERROR.findall(text) if REPEATS not in message), None)
+    first = next((message for message in ERROR.findall(text) if not REPEATS.match(message)), None)
     if first is None:
         return None if UNPROVED.search(text) else ('no error', '')
-    inside = DECLARATION.match(first)
+    line = first.split('\n')[0]
+    inside = DECLARATION.match(line)
+    if OTHER_NEED.search(first):
+        return 'a proof that no longer fits', line
     for why, pattern in NO_FACT:
-        if re.search(pattern, inside.group(1) if inside else first):
-            return why, first
-    return None if inside else ('an error outside every declaration', first)
+        if re.search(pattern, inside.group(1) if inside else line):
+            return why, line
+    return None if inside else ('an error outside every declaration', line)
 
 
 def edits():

@@ -46,6 +46,13 @@ class Logs(unittest.TestCase):
         for why, error in NO_FACTS:
             self.assertEqual(edits_refused.no_fact(log(error)), (why, error))
 
+    def test_lines_below_an_error(self):
+        line = '`clear-unless-spec`: as printed, the two types first differ where one has `tie.Need-add-result`'
+        below = '\n  (expected), at the start, and the other has `tie.Need-returns` (found)\n  expected type `'
+        misfit = log(line + below + 'Rattle.bits.proofs.Tie.Need-add-result`')
+        self.assertEqual(edits_refused.no_fact(misfit), ('a proof that no longer fits', line))
+        self.assertIsNone(edits_refused.no_fact(log(line + below + 'Path (lts.m17 tie.Need-add-result) (clear x)`')))
+
     def test_the_first_error_decides(self):
         for why, error in NO_FACTS:
             self.assertIsNone(edits_refused.no_fact(log(FACTS[0], error)))
