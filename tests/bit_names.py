@@ -213,7 +213,7 @@ def main(specs):
     for failure in failures:
         print(failure)
     without = sum((named.register, named.name) in NO_PUBLIC_LINE for named in found)
-    print(f'bit_names: {len(found) - without} names held against cpuid-bits.csv, {without} without a public line')
+    print(f'{len(found) - without} names held against cpuid-bits.csv, {without} without a public line')
     return 1 if failures else 0
 
 
