@@ -5,7 +5,7 @@ use mathlib.Core.List.{List, [], _∷_, _++_}
 use Prim.Native.Nat.{ℕ, _≤_}
 use native.Mathlib.Omega.{arith}
 use lib.Dec.{leb, lit≤}
-use lib.ListN.{length, drop}
+use lib.ListN.{length, drop, length-append, length-drop}
 use borrow.Author.Tests.{le-leb}
 use Rattle.bits.specs.Choice.{pick}
 use Rattle.table.specs.declared.Verdict.{Verdict}
@@ -54,3 +54,7 @@ module _ (s buffer : List ℕ) (enough : room ≤ length buffer) {a : Written} (
 pub put-bytes : (s buffer : List ℕ) {b : List ℕ} {n : ℕ} → room ≤ length buffer → b ≡ writeFront (output s) buffer .buffer → n ≡ length (output s)
     → b ≡ output s ++ drop n buffer
 put-bytes s buffer enough e p = e ∙ ap (λ (w : AfterWrite). w .buffer) (output-written s buffer enough) ∙ rw p
+
+pub put-length : (s buffer : List ℕ) {b : List ℕ} {n : ℕ} → length buffer ≡ room → b ≡ output s ++ drop n buffer → n ≡ length (output s) → length b ≡ room
+put-length s buffer {b} {n} h e p =
+    omega (arith, ap length e, length-append (output s) (drop n buffer), length-drop n buffer, output-fits s)

@@ -9,6 +9,7 @@ ghost use lib.ListN.{length, drop};
 ghost use Rattle.buffer.specs.Front.{writeFront};
 ghost use Rattle.program.specs.Output.{output};
 ghost use Rattle.program.specs.Bytes.{codeOf, numberBytes};
+ghost use Rattle.program.specs.Fits.{room};
 
 const LONGEST_INPUT: usize = 65536;
 
@@ -20,6 +21,7 @@ pub const ROOM: usize = 1024;
 // Document 01's bytes for an input of any length, at the front of a buffer in which there is always room for them, and how many they are.
 pub fn put_output(input: &[u8], out: &mut [u8; ROOM]) -> usize
     ensures { λ n. ⌜ (n ≡ length (output (now (input .entry)))) × (now (out .exit) ≡ output (now (input .entry)) ++ drop n (now (out .entry))) ⌝ }
+    ensures kept { λ _. ⌜ length (now (out .exit)) ≡ room ⌝ }
 {
     let written = write_output(input, out);
     match written {
