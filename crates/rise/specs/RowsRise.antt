@@ -21,8 +21,8 @@ use Rattle.table.specs.declared.Verdict.the-variants.{Accepted, Refused}
 use Rattle.table.specs.Refusal.{andThen}
 use Rattle.table.specs.Rows.{Row, Rows, row}
 use Rattle.checks.specs.Required.{placeRequired}
-use Rattle.checks.specs.ExtendedState.{xfem, xss, combinedMask, saveArea}
-use Rattle.checks.specs.ExtendedStateLaws.{sumAt, area-mono, xss-mono, xsaves-ecx, in-combined}
+use Rattle.checks.specs.ExtendedState.{xfem, xss, combinedMask, sumAt, saveArea}
+use Rattle.checks.specs.ExtendedStateLaws.{area-mono, xss-mono, xsaves-ecx, in-combined}
 use Rattle.checks.specs.TopologyInputs.{inputsOf}
 use Rattle.update.specs.Finish.{Rule, Settings, ruleAt, enabledBy, settings, finish, remains, finished, unlessNoXss}
 use Rattle.update.specs.Finish.Rule.{vendorAndMaxFunction, versionAndFeatures, extendedFeatures, threadLevelRow, coreLevelRow, extendedState0, extendedState1, extendedMaxFunction, extendedVersionAndFeatures, extendedAddressSpaceSizes, featureEax, untouched, component}

@@ -15,10 +15,9 @@ use Rattle.masking.specs.Kept.{places}
 use Rattle.masking.specs.Place
 use Rattle.table.specs.declared.Verdict.the-variants.{Accepted}
 use Rattle.table.specs.Rows.{Row, Rows, row, vacant}
-use Rattle.checks.specs.ExtendedState.{xfem, saveArea}
+use Rattle.checks.specs.ExtendedState.{xssOf, xfem, saveArea}
 use Rattle.checks.specs.TopologyInputs.{inputsOf}
 use Rattle.checks.specs.Checks.{requiredVerdict}
-use Rattle.checks.specs.Parts.{xssOf}
 use Rattle.table.specs.declared.CpuidResults.{CpuidResults}
 use Rattle.update.specs.declared.features.Enabled as Declared
 use Rattle.update.specs.Finish.{Enabled}

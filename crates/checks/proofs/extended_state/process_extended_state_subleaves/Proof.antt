@@ -3,7 +3,8 @@
 use borrow.Author.Needs.{needs}
 use mathlib.Core.Path.{_≡_, refl, sym, _∙_}
 use Prim.Native.Nat.{_≤_, _-_}
-use Rattle.checks.specs.Parts.{presentIn, componentsOf}
+use Rattle.checks.specs.Checks.{componentsOf}
+use Rattle.checks.specs.Parts.{presentIn}
 use Rattle.checks.specs.ScanLaws.{refuseFrom, componentsFrom, component-passes, component-stops, components-end, components-none}
 use Rattle.checks.proofs.extended_state.process_extended_state_subleaves.Statement.{statement}
 use Rattle.checks.proofs.extended_state.process_extended_state_subleaves.Tie as tie
