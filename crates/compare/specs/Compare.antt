@@ -14,8 +14,7 @@ use Rattle.table.specs.declared.Subleaf.the-variants.{None, Some}
 use Rattle.table.specs.declared.Verdict.{Verdict}
 use Rattle.table.specs.declared.Verdict.the-variants.{Accepted, Refused}
 use Rattle.table.specs.Rows.{Row, Rows}
-use Rattle.update.specs.Finish.{ruleAt}
-use Rattle.update.specs.Kinds.{Kinds, kindsOf}
+use Rattle.update.specs.Kinds.{Kinds, kindsAt}
 use Rattle.collect.specs.FirstEntries.{rowsOf}
 use Rattle.build.specs.Build.{lawfulVerdict, answer}
 use Rattle.rise.specs.Decide.{risesTest, placeTest, inTable}
@@ -41,7 +40,7 @@ subleafNamed i = pick (indexedAt i) (Some (subleafAt i)) None
 abbrev pub failingOf : ℕ → CpuidResult → Row → Compared
 failingOf i a b =
     pick (b .present)
-    (Differs (leafAt i) (subleafNamed i) (firstRegister (kindsOf (ruleAt i)) a (b .result)))
+    (Differs (leafAt i) (subleafNamed i) (firstRegister (kindsAt i) a (b .result)))
     (NoEntry (leafAt i) (subleafNamed i))
 
 abbrev pub failingAt : Rows → Rows → ℕ → Compared

@@ -30,7 +30,7 @@ pub record UpTo {A : Type 0} (d : A) (new : ℕ → A) (old out : List A) (i : �
   pub below : (j : ℕ) → j < i → getD out j d ≡ new j
   pub above : (j : ℕ) → i ≤ j → getD out j d ≡ getD old j d
 
-up-to-next : {A : Type 0} {d : A} {new : ℕ → A} {old out : List A} {i k : ℕ} {v : A}
+pub up-to-next : {A : Type 0} {d : A} {new : ℕ → A} {old out : List A} {i k : ℕ} {v : A}
     → k ≡ i + 1 → i < length out → v ≡ new i → UpTo d new old out i → UpTo d new old (set out i v) k
 up-to-next {A} {d} {new} {old} {out} {i} {k} {v} q l e u = record {
   size = length-set out i v ∙ u .size;
