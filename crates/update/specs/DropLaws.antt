@@ -74,10 +74,6 @@ dropped-at m x k l u =
     let q : Place.extendedState k - Place.extendedState 0 ≡ k = omega arith in
     rw (le-leb (Place.extendedState 2) (Place.extendedState k) (omega arith), lt-ltb (Place.extendedState k) (Place.extendedState 64) (omega arith), q)
 
-present-picked : (b : Bool) (r : CpuidResult) → pick b (row r) vacant .present ≡ b
-present-picked true r = refl
-present-picked false r = refl
-
 -- ---- the loop
 
 pub record Dropping (t : CpuidResults) (x k : ℕ) (out : CpuidResults) : Type 0 where
