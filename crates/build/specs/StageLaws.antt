@@ -84,7 +84,8 @@ unfolding inputsOf
 topology-inputs m a b c d e f = f ∙ ap topologyOf (rw (a, b, c, d, e))
 
 module _ (m : Rows) {p : Topology} (e : p ≡ topologyOf (inputsOf m)) where
-  pub topology-refuses : {r : TopologyError} {q : Built} → p ≡ Inconsistent r → q ≡ refusedBuilt (TopologyInconsistent r) → q ≡ builtBy (topologyVerdict m) m
+  pub topology-refuses : {r : TopologyError} {q : Built} → p ≡ Inconsistent r → q ≡ refusedBuilt (TopologyInconsistent r)
+      → q ≡ builtBy (topologyVerdict m) m
   unfolding topologyVerdict
   topology-refuses f g = g ∙ rw (← e, f)
 

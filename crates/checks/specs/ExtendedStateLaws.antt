@@ -62,7 +62,9 @@ unless-zero true x = go (eqb x 0) refl
 -- "If XSS is 0, D.1.ECX becomes 0": so it is XSS
 pub xsaves-ecx : (m : Rows) → pick (eqb (xss m) 0) 0 (m (Place.extendedState 1) .result .ecx) ≡ xss m
 unfolding xss
-xsaves-ecx m = unless-zero (has 1 (m (Place.extendedState 1) .result .eax) && has 3 (m (Place.extendedState 1) .result .eax)) (m (Place.extendedState 1) .result .ecx)
+xsaves-ecx m =
+    unless-zero (has 1 (m (Place.extendedState 1) .result .eax) && has 3 (m (Place.extendedState 1) .result .eax))
+    (m (Place.extendedState 1) .result .ecx)
 
 pub in-combined : (m : Rows) (k : ℕ) → has k (xfem m) ≡ true → has k (combinedMask m) ≡ true
 unfolding combinedMask

@@ -120,7 +120,8 @@ module _ (m : Rows) (x k : ℕ) {used : Bool} (h : k < 64) (e : used ≡ has k x
   component-passes t = scan-passes (supplied m x) missingComponent 64 k h (not-missing (has k x) (m (Place.extendedState k) .present) (rw e at t))
 
   pub component-stops : (used && not (m (Place.extendedState k) .present)) ≡ true → Refused (missingComponent k) ≡ componentsFrom m x k
-  component-stops t = sym (scan-stops (supplied m x) missingComponent 64 k h (needed-missing (has k x) (m (Place.extendedState k) .present) (rw e at t)))
+  component-stops t =
+      sym (scan-stops (supplied m x) missingComponent 64 k h (needed-missing (has k x) (m (Place.extendedState k) .present) (rw e at t)))
 
 pub components-end : (m : Rows) (x k : ℕ) → 64 ≤ k → Accepted ≡ componentsFrom m x k
 components-end m x k h = sym (scan-ends (supplied m x) missingComponent 64 k (λ i l u. absurd (omega arith)))

@@ -134,7 +134,9 @@ module _ (avic : Bool) (a b : List ℕ) where
         fails = if-fails (fromEntry (ruleAt i) && inTable avic a i) _ (h .fails) .1
 
         go : (p : Bool) → B i .present ≡ p
-            → Means avic a b (pick p (Differs (leafAt i) (subleafNamed i) (firstRegister (kindsAt i) (A i .result) (B i .result))) (NoEntry (leafAt i) (subleafNamed i)))
+            → Means avic a b
+            (pick p (Differs (leafAt i) (subleafNamed i) (firstRegister (kindsAt i) (A i .result) (B i .result)))
+            (NoEntry (leafAt i) (subleafNamed i)))
         go true e = record {
           place = i;
           reached = reached i h;

@@ -108,4 +108,6 @@ pub rises-by-test : (avic : Bool) (a b : List ℕ) → answer avic a .verdict �
 rises-by-test avic a b v l t = record { accepted = v; lawful = l; entries = at-place }
   where
     at-place : (i : ℕ) → i < places → fromEntry (ruleAt i) ≡ true → inTable avic a i ≡ true → EntryRises i (rowsOf avic a i) (rowsOf avic b i)
-    at-place i u f p = place-rises (inTable avic a) (rowsOf avic a) (rowsOf avic b) i (every-at (placeTest (inTable avic a) (rowsOf avic a) (rowsOf avic b)) places t i u) f p
+    at-place i u f p =
+        place-rises (inTable avic a) (rowsOf avic a) (rowsOf avic b) i
+        (every-at (placeTest (inTable avic a) (rowsOf avic a) (rowsOf avic b)) places t i u) f p

@@ -47,7 +47,8 @@ use Rattle.rise.specs.RowsRise.{present-rises, registers-rise, others-fu
 
 -- ---- the answer of an accepted page set
 
-pub answer-table : (avic : Bool) (s : List ℕ) → answer avic s .verdict ≡ Accepted → answer avic s .table ≡ tableOf (finished (rowsOf avic s)) (combinedMask (rowsOf avic s))
+pub answer-table : (avic : Bool) (s : List ℕ) → answer avic s .verdict ≡ Accepted
+    → answer avic s .table ≡ tableOf (finished (rowsOf avic s)) (combinedMask (rowsOf avic s))
 unfolding answer
 answer-table avic s e = ap (λ (v : Verdict). tableFor v (rowsOf avic s)) e
 
@@ -61,10 +62,12 @@ pub accepted-rows : (avic : Bool) (s : List ℕ) → answer avic s .verdict ≡ 
 unfolding answer verdictOf
 accepted-rows avic s e = then-right (lawfulVerdict s) _ e
 
-pub answer-row : (avic : Bool) (s : List ℕ) → answer avic s .verdict ≡ Accepted → (i : ℕ) → i < places → rowIn (answer avic s .table) i ≡ finished (rowsOf avic s) i
+pub answer-row : (avic : Bool) (s : List ℕ) → answer avic s .verdict ≡ Accepted → (i : ℕ) → i < places
+    → rowIn (answer avic s .table) i ≡ finished (rowsOf avic s) i
 answer-row avic s e i l = ap (λ t. rowIn t i) (answer-table avic s e) ∙ table-row (finished (rowsOf avic s)) (combinedMask (rowsOf avic s)) i l
 
-pub answer-mask : (avic : Bool) (s : List ℕ) → answer avic s .verdict ≡ Accepted → answer avic s .table .«max_extended_state» ≡ combinedMask (rowsOf avic s)
+pub answer-mask : (avic : Bool) (s : List ℕ) → answer avic s .verdict ≡ Accepted
+    → answer avic s .table .«max_extended_state» ≡ combinedMask (rowsOf avic s)
 answer-mask avic s e = ap (λ t. t .«max_extended_state») (answer-table avic s e)
 
 -- ---- D.1.EDX is masked to 0
@@ -170,7 +173,8 @@ demand-3 avic a b rises = record {
 
 -- at D.0 itself, where two bits are set in both
 letter-state : (avic : Bool) (x y : CpuidResult)
-    → Registers EntryAtLeast (kindsAt (Place.extendedState 0)) (applyMask (masksAt avic (Place.extendedState 0)) x) (applyMask (masksAt avic (Place.extendedState 0)) y)
+    → Registers EntryAtLeast (kindsAt (Place.extendedState 0)) (applyMask (masksAt avic (Place.extendedState 0)) x)
+    (applyMask (masksAt avic (Place.extendedState 0)) y)
     → Registers EntryAtLeast (kindsAt (Place.extendedState 0)) (maskedAt avic (Place.extendedState 0) x) (maskedAt avic (Place.extendedState 0) y)
 unfolding kindsAt registerKinds slot keptLeaves
 letter-state avic x y h = record { eax = within-or (h .eax) (within-refl legacyFeatures); ebx = h .ebx; ecx = h .ecx; edx = h .edx }

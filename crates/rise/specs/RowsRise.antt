@@ -120,11 +120,13 @@ module _ (A B : Rows) (zeroA : XsavesEdx A) (zeroB : XsavesEdx B) (accepted : ro
       (xsaves-at A zeroA i l) (xsaves-at B zeroB i l))
 
   -- beyond these only the subleaves of further bits
-  pub others-further : (i : ℕ) → i < places → finished B i .present ≡ true
-      → (finished A i .present ≡ true) ⊎ ((k : ℕ) × (i ≡ Place.extendedState k) × (2 ≤ k) × (k < 64) × (has k (combinedMask B) ≡ true) × (has k (combinedMask A) ≡ false))
+  abbrev pub Beyond : ℕ → Type 0
+  Beyond i = (k : ℕ) × (i ≡ Place.extendedState k) × (2 ≤ k) × (k < 64) × (has k (combinedMask B) ≡ true) × (has k (combinedMask A) ≡ false)
+
+  pub others-further : (i : ℕ) → i < places → finished B i .present ≡ true → (finished A i .present ≡ true) ⊎ Beyond i
   others-further i l h = go (sort i l)
     where
-      go : Sort i → (finished A i .present ≡ true) ⊎ ((k : ℕ) × (i ≡ Place.extendedState k) × (2 ≤ k) × (k < 64) × (has k (combinedMask B) ≡ true) × (has k (combinedMask A) ≡ false))
+      go : Sort i → (finished A i .present ≡ true) ⊎ Beyond i
       go (made e) = inl (finished-present A i ∙ made-remains (settings A) (λ j. A j .present) i l e)
       go (required e) = inl (inTableA i l e)
       go (subleaf k e p q) = inMask (has k (combinedMask A)) refl
@@ -132,8 +134,7 @@ module _ (A B : Rows) (zeroA : XsavesEdx A) (zeroB : XsavesEdx B) (accepted : ro
           inB : has k (combinedMask B) ≡ true
           inB = and-left _ _ (sym (component-finished B k p q) ∙ subst (λ (n : ℕ). finished B n .present ≡ true) e h)
 
-          inMask : (b : Bool) → has k (combinedMask A) ≡ b
-              → (finished A i .present ≡ true) ⊎ ((k : ℕ) × (i ≡ Place.extendedState k) × (2 ≤ k) × (k < 64) × (has k (combinedMask B) ≡ true) × (has k (combinedMask A) ≡ false))
+          inMask : (b : Bool) → has k (combinedMask A) ≡ b → (finished A i .present ≡ true) ⊎ Beyond i
           inMask true f = inl (subst (λ (n : ℕ). finished A n .present ≡ true) (sym e) (componentInTableA k p q f))
           inMask false f = inr (k, e, p, q, inB, f)
 

@@ -83,7 +83,8 @@ pub record ExportsRise (avic : Bool) (a b : List ℕ) : Type 0 where
   pub mask : built avic b .number ≡ 0 → Within (built avic a .«max_extended_state») (built avic b .«max_extended_state»)
   pub rows : built avic b .number ≡ 0 → (leaf : CpuidFunction) (subleaf : Subleaf) (enforce : Bool) → found avic a leaf subleaf enforce .found ≡ 1
       → (found avic b leaf subleaf enforce .found ≡ 1)
-      × Registers TableAtLeast (kindsAt (placeAsked leaf subleaf enforce)) (registersOf (found avic a leaf subleaf enforce)) (registersOf (found avic b leaf subleaf enforce))
+      × Registers TableAtLeast (kindsAt (placeAsked leaf subleaf enforce)) (registersOf (found avic a leaf subleaf enforce))
+      (registersOf (found avic b leaf subleaf enforce))
 
 -- ---- the proof
 
@@ -121,7 +122,8 @@ rise-answers avic b (overflow n f e) = refused-5 n f (rw (builds-exactly avic b 
 rise-answers avic b (accepted n f e) = accepted-0 n f (rw e)
 
 -- what is found is the row of the place that is asked for
-found-numbers : (r : Row) → r .present ≡ true → foundNumbers (rowResult r) ≡ record { found = 1; eax = r .result .eax; ebx = r .result .ebx; ecx = r .result .ecx; edx = r .result .edx }
+found-numbers : (r : Row) → r .present ≡ true
+    → foundNumbers (rowResult r) ≡ record { found = 1; eax = r .result .eax; ebx = r .result .ebx; ecx = r .result .ecx; edx = r .result .edx }
 found-numbers r e = ap foundNumbers (pick-true _ _ e)
 
 found-present : (r : Row) → foundNumbers (rowResult r) .found ≡ 1 → r .present ≡ true
@@ -148,7 +150,8 @@ module _ (avic : Bool) (a b : List ℕ) (rises : RiseHypothesis avic a b) where
   rowsFound : TableRises (answer avic a .table) (answer avic b .table) → (leaf : CpuidFunction) (subleaf : Subleaf) (enforce : Bool)
       → found avic a leaf subleaf enforce .found ≡ 1
       → (found avic b leaf subleaf enforce .found ≡ 1)
-      × Registers TableAtLeast (kindsAt (placeAsked leaf subleaf enforce)) (registersOf (found avic a leaf subleaf enforce)) (registersOf (found avic b leaf subleaf enforce))
+      × Registers TableAtLeast (kindsAt (placeAsked leaf subleaf enforce)) (registersOf (found avic a leaf subleaf enforce))
+      (registersOf (found avic b leaf subleaf enforce))
   rowsFound t leaf subleaf enforce e =
       let i : ℕ = placeAsked leaf subleaf enforce in
       let ra : Row = rowIn (answer avic a .table) i in

@@ -100,7 +100,8 @@ pub mask-join : (a b : Rows) → MaskedState a → MaskedState b → combinedMas
 unfolding combinedMask
 mask-join a b p q = ap₂ bitOr (xfem-join a b) (xss-join a b) ∙ bits-ext _ _ at-bit
   where
-    at-bit : (k : ℕ) → bit k (bitOr (bitAnd (xfem a) (xfem b)) (bitAnd (xss a) (xss b))) ≡ bit k (bitAnd (bitOr (xfem a) (xss a)) (bitOr (xfem b) (xss b)))
+    at-bit : (k : ℕ)
+        → bit k (bitOr (bitAnd (xfem a) (xfem b)) (bitAnd (xss a) (xss b))) ≡ bit k (bitAnd (bitOr (xfem a) (xss a)) (bitOr (xfem b) (xss b)))
     at-bit k =
         rw (
           bit-or k (bitAnd (xfem a) (xfem b)) (bitAnd (xss a) (xss b)),

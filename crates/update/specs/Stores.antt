@@ -53,7 +53,8 @@ dropped m x i = droppedRow x i (m i)
 
 abbrev pub droppedTable : CpuidResults → ℕ → CpuidResults
 droppedTable t x =
-    table (tabulate places (λ i. dropped (rowsIn t) x i .present)) (tabulate places (λ i. dropped (rowsIn t) x i .result)) (t .«row_count») (t .«max_extended_state»)
+    table (tabulate places (λ i. dropped (rowsIn t) x i .present)) (tabulate places (λ i. dropped (rowsIn t) x i .result)) (t .«row_count»)
+    (t .«max_extended_state»)
 
 -- what the checks have shown once rows are finished
 pub record Ready (m : Rows) (size processors : ℕ) : Type 0 where
