@@ -43,7 +43,7 @@ use Rattle.examples.specs.Compared as Pairs
 use Rattle.examples.specs.MarkedRows.{marked, marked-rows}
 use Rattle.examples.specs.MarkedRows.Shown.{core, refusal, area, supervisor}
 
--- ---- Demand 1. crates/exactly/specs/Conditions.antt has each condition by itself, Exactly.antt the two records.
+-- ---- Demand 1. crates/refusals/specs/Conditions.antt has each condition by itself, Exactly.antt the two records.
 
 -- For each refusal 1 to 8: given if and only if its condition holds and no earlier one does; accepted if and only if none holds.
 pub each-refusal-exactly : (avic : Bool) (s : List ℕ) → BuildsExactly avic s
@@ -94,7 +94,7 @@ comparison-in-order = places-rise
 pub comparison-of-exports : (avic : Bool) (a b : List ℕ) → ExportsCompare avic a b
 comparison-of-exports = exports-compare
 
--- ---- The fourteen marked rows of document 01, T1 to T10, X1 to X3 (two figures) and C1. crates/instances/specs/MarkedRows.antt.
+-- ---- The fourteen marked rows of document 01, T1 to T10, X1 to X3 (two figures) and C1. crates/examples/specs/MarkedRows.antt.
 
 pub fourteen-rows : marked
     ≡ core 0 1
