@@ -1,4 +1,4 @@
--- `build::counted_place` meets its contract: leaf Dh on page 1, Dh elsewhere, any other leaf.
+-- `collect::counted_place` meets its contract: leaf Dh on page 1, Dh elsewhere, any other leaf.
 use borrow.Author.Needs.{needs}
 use borrow.Author.Tests.{eq-eqb, ne-eqb}
 use Rattle.collect.specs.Collect.{countedPlace}
