@@ -5,8 +5,11 @@ use table::Refusal;
 use table::Subleaf;
 use table::Verdict;
 ghost use mathlib.Core.Path.{_≡_};
+ghost use Prim.Native.Nat.{_<_};
+ghost use Rattle.masking.specs.Kept.{places};
 ghost use Rattle.checks.specs.Checks.{requiredVerdict};
 ghost use Rattle.checks.specs.Parts.{presentIn, subleafWith};
+ghost use Rattle.checks.specs.ScanLaws.{missingAt};
 
 // The places of COMMON_REQUIRED_LEAVES of mod.rs, then of SNP_REQUIRED_LEAVES of snp.rs. As bytes, because the table is written out anew
 // by each call.
@@ -50,7 +53,7 @@ fn subleaf_of(indexed: bool, number: u32) -> Subleaf
 // The refusal of a table without a row at a place.
 fn missing_at(place: usize) -> Verdict
     requires { ⌜ place < places ⌝ }
-    ensures { λ r. ⌜ r ≡ Refused (MissingRequiredResult (leafAt place) (subleafWith (indexedAt place) (subleafAt place))) ⌝ }
+    ensures { λ r. ⌜ r ≡ Verdict.Refused (missingAt place) ⌝ }
 {
     let subleaf = subleaf_of(masking::indexed_at(place), masking::subleaf_at(place));
     Verdict::Refused(Refusal::MissingRequiredResult(masking::leaf_at(place), subleaf))
