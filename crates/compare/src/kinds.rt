@@ -39,18 +39,53 @@ pub fn kinds_at(place: usize) -> Kinds
     ensures { λ r. ⌜ kindsIn r ≡ kindsOf (ruleAt place) ⌝ }
 {
     match place {
-        place::VENDOR_AND_MAX_FUNCTION => row_of(Kind::Freed, Kind::Freed, Kind::Freed, Kind::Freed),
-        place::VERSION_AND_FEATURES => row_of(Kind::Other, Kind::Other, Kind::Feature, Kind::FeatureBut28),
-        place::EXTENDED_FEATURES => row_of(Kind::Other, Kind::Feature, Kind::Feature, Kind::Feature),
+        place::VENDOR_AND_MAX_FUNCTION => row_of(
+            Kind::Freed,
+            Kind::Freed,
+            Kind::Freed,
+            Kind::Freed,
+        ),
+        place::VERSION_AND_FEATURES => row_of(
+            Kind::Other,
+            Kind::Other,
+            Kind::Feature,
+            Kind::FeatureBut28,
+        ),
+        place::EXTENDED_FEATURES => row_of(
+            Kind::Other,
+            Kind::Feature,
+            Kind::Feature,
+            Kind::Feature,
+        ),
         place::THREAD_LEVEL => row_of(Kind::Freed, Kind::Freed, Kind::Freed, Kind::Freed),
         place::CORE_LEVEL => row_of(Kind::Freed, Kind::Freed, Kind::Freed, Kind::Freed),
         place::EXTENDED_STATE_0 => row_of(Kind::Feature, Kind::Other, Kind::Area, Kind::Other),
         place::EXTENDED_STATE_1 => row_of(Kind::Feature, Kind::Other, Kind::Feature, Kind::Other),
         place::EXTENDED_MAX_FUNCTION => row_of(Kind::Freed, Kind::Freed, Kind::Freed, Kind::Freed),
-        place::EXTENDED_VERSION_AND_FEATURES => row_of(Kind::Other, Kind::Other, Kind::Feature, Kind::Feature),
-        place::EXTENDED_ADDRESS_SPACE_SIZES => row_of(Kind::Other, Kind::Feature, Kind::Other, Kind::Other),
-        place::EXTENDED_OPTIMIZATION_IDENTIFIERS => row_of(Kind::Feature, Kind::Other, Kind::Other, Kind::Other),
-        place::EXTENDED_SEV_FEATURES => row_of(Kind::Feature, Kind::Other, Kind::Other, Kind::Other),
+        place::EXTENDED_VERSION_AND_FEATURES => row_of(
+            Kind::Other,
+            Kind::Other,
+            Kind::Feature,
+            Kind::Feature,
+        ),
+        place::EXTENDED_ADDRESS_SPACE_SIZES => row_of(
+            Kind::Other,
+            Kind::Feature,
+            Kind::Other,
+            Kind::Other,
+        ),
+        place::EXTENDED_OPTIMIZATION_IDENTIFIERS => row_of(
+            Kind::Feature,
+            Kind::Other,
+            Kind::Other,
+            Kind::Other,
+        ),
+        place::EXTENDED_SEV_FEATURES => row_of(
+            Kind::Feature,
+            Kind::Other,
+            Kind::Other,
+            Kind::Other,
+        ),
         _ => row_of(Kind::Other, Kind::Other, Kind::Other, Kind::Other),
     }
 }

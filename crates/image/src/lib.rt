@@ -40,7 +40,11 @@ pub fn image_length(t: CpuidResults) -> usize
         + rows_among(&present, run::EXTENDED.first, run::CACHE_TOPOLOGY.first)
         + rows_among(&present, run::PROCESSOR_TOPOLOGY_AND_SEV.first, PLACES);
     let indexed = rows_among(&present, run::EXTENDED_FEATURES.first, run::EXTENDED.first)
-        + rows_among(&present, run::CACHE_TOPOLOGY.first, run::PROCESSOR_TOPOLOGY_AND_SEV.first);
+        + rows_among(
+            &present,
+            run::CACHE_TOPOLOGY.first,
+            run::PROCESSOR_TOPOLOGY_AND_SEV.first,
+        );
     21 * (whole as usize) + 25 * (indexed as usize)
 }
 

@@ -11,9 +11,9 @@ ghost use Rattle.masking.specs.Place.{extendedMaxFunction};
 ghost use Rattle.masking.specs.Runs.{lawful};
 ghost use Rattle.masking.specs.KeptTable.{rows, table, rowAt, masksOf, rowOfPlace};
 
+mod kept;
 pub mod place;
 pub mod run;
-mod kept;
 
 pub use kept::KEPT_LEAVES;
 pub use run::Run;
@@ -167,7 +167,11 @@ pub fn mask_row(place: usize) -> usize
     if place < run::PROCESSOR_TOPOLOGY_AND_SEV.first {
         return row_from(run::EXTENDED, place, run::CACHE_TOPOLOGY.last_row);
     }
-    row_from(run::PROCESSOR_TOPOLOGY_AND_SEV, place, run::PROCESSOR_TOPOLOGY_AND_SEV.last_row)
+    row_from(
+        run::PROCESSOR_TOPOLOGY_AND_SEV,
+        place,
+        run::PROCESSOR_TOPOLOGY_AND_SEV.last_row,
+    )
 }
 
 // As many rows after the run's first as the place stands after the run's first, but no row after `last`.
@@ -198,7 +202,11 @@ pub fn leaf_at(place: usize) -> CpuidFunction
 {
     let run = run_at(place);
     let leaf = run.leaf;
-    if run.indexed { leaf } else { CpuidFunction(leaf.0 + (place - run.first) as u32) }
+    if run.indexed {
+        leaf
+    } else {
+        CpuidFunction(leaf.0 + (place - run.first) as u32)
+    }
 }
 
 // Whether the row of a place carries a subleaf.
@@ -216,5 +224,9 @@ pub fn subleaf_at(place: usize) -> u32
     ensures { λ r. ⌜ r ≡ subleafAt place ⌝ }
 {
     let run = run_at(place);
-    if run.indexed { (place - run.first) as u32 } else { 0 }
+    if run.indexed {
+        (place - run.first) as u32
+    } else {
+        0
+    }
 }

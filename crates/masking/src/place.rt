@@ -22,19 +22,26 @@ pub const EXTENDED_MAX_FUNCTION: usize = run::EXTENDED.first;
 
 pub const EXTENDED_VERSION_AND_FEATURES: usize = run::EXTENDED.first + 1;
 
-pub const EXTENDED_BRANDING_STRING_1: usize = run::EXTENDED.first + (leaf::EXTENDED_BRANDING_STRING_1 - leaf::EXTENDED_MAX_FUNCTION) as usize;
+pub const EXTENDED_BRANDING_STRING_1: usize = run::EXTENDED.first
+    + (leaf::EXTENDED_BRANDING_STRING_1 - leaf::EXTENDED_MAX_FUNCTION) as usize;
 
-pub const EXTENDED_BRANDING_STRING_2: usize = run::EXTENDED.first + (leaf::EXTENDED_BRANDING_STRING_2 - leaf::EXTENDED_MAX_FUNCTION) as usize;
+pub const EXTENDED_BRANDING_STRING_2: usize = run::EXTENDED.first
+    + (leaf::EXTENDED_BRANDING_STRING_2 - leaf::EXTENDED_MAX_FUNCTION) as usize;
 
-pub const EXTENDED_BRANDING_STRING_3: usize = run::EXTENDED.first + (leaf::EXTENDED_BRANDING_STRING_3 - leaf::EXTENDED_MAX_FUNCTION) as usize;
+pub const EXTENDED_BRANDING_STRING_3: usize = run::EXTENDED.first
+    + (leaf::EXTENDED_BRANDING_STRING_3 - leaf::EXTENDED_MAX_FUNCTION) as usize;
 
-pub const EXTENDED_L1_CACHE_PARAMETERS: usize = run::EXTENDED.first + (leaf::EXTENDED_L1_CACHE_PARAMETERS - leaf::EXTENDED_MAX_FUNCTION) as usize;
+pub const EXTENDED_L1_CACHE_PARAMETERS: usize = run::EXTENDED.first
+    + (leaf::EXTENDED_L1_CACHE_PARAMETERS - leaf::EXTENDED_MAX_FUNCTION) as usize;
 
-pub const EXTENDED_L2_CACHE_PARAMETERS: usize = run::EXTENDED.first + (leaf::EXTENDED_L2_CACHE_PARAMETERS - leaf::EXTENDED_MAX_FUNCTION) as usize;
+pub const EXTENDED_L2_CACHE_PARAMETERS: usize = run::EXTENDED.first
+    + (leaf::EXTENDED_L2_CACHE_PARAMETERS - leaf::EXTENDED_MAX_FUNCTION) as usize;
 
-pub const EXTENDED_POWER_MANAGEMENT: usize = run::EXTENDED.first + (leaf::EXTENDED_POWER_MANAGEMENT - leaf::EXTENDED_MAX_FUNCTION) as usize;
+pub const EXTENDED_POWER_MANAGEMENT: usize = run::EXTENDED.first
+    + (leaf::EXTENDED_POWER_MANAGEMENT - leaf::EXTENDED_MAX_FUNCTION) as usize;
 
-pub const EXTENDED_ADDRESS_SPACE_SIZES: usize = run::EXTENDED.first + (leaf::EXTENDED_ADDRESS_SPACE_SIZES - leaf::EXTENDED_MAX_FUNCTION) as usize;
+pub const EXTENDED_ADDRESS_SPACE_SIZES: usize = run::EXTENDED.first
+    + (leaf::EXTENDED_ADDRESS_SPACE_SIZES - leaf::EXTENDED_MAX_FUNCTION) as usize;
 
 pub const EXTENDED_SVM_VERSION_AND_FEATURES: usize = run::SVM.first;
 

@@ -1,10 +1,10 @@
 -- `kinds::from_entry` meets its contract: the two rows made here by their place, any other by computation over the places.
-use mathlib.Core.Path.{_≡_, refl}
-use mathlib.Core.Bool.{true, _||_}
+use mathlib.Core.Path.{_≡_, refl, sym, _∙_}
+use mathlib.Core.Bool.{true, false}
 use Prim.Native.Nat.{ℕ, _<_}
-use lib.Dec.{eqb}
 use borrow.Author.Tests.{ne-eqb}
 use Rattle.bits.specs.Choice.{pick}
+use Rattle.bits.specs.ChoiceLaws.{pick-false}
 use Rattle.bits.specs.Lists.{tabulate}
 use Rattle.bits.specs.ListsLaws.{tabulate-at}
 use Rattle.masking.specs.Kept.{places}
@@ -21,8 +21,8 @@ others i h = tabulate-at places (λ i. pick (madeHere i) true (fromEntry (ruleAt
 returns-3 : tie.Need-returns-3
 returns-3 c =
     let r = c .match .rest in
-    let e = rw (ne-eqb _ 0 (r .0 .1), ne-eqb _ 70 (r .1)) at (others _ (c .before .pre)) in
-    cc
+    let none : madeHere (c .before .args .place) ≡ false = rw (ne-eqb _ 0 (r .0 .1), ne-eqb _ 70 (r .1)) in
+    sym (others _ (c .before .pre)) ∙ pick-false _ _ none
 
 pub from-entry-spec : {M : Type 1} → statement M
 from-entry-spec = tie.close (tie.spec (λ c. rw (c .match .keys1)) (λ c. rw (c .match .keys2)) returns-3)

@@ -7,6 +7,7 @@ use lib.Dec.{eqb}
 use borrow.Author.Needs.{needs}
 use borrow.Author.Tests.{ne-eqb}
 use Rattle.bits.specs.Choice.{pick}
+use Rattle.bits.specs.ChoiceLaws.{pick-false}
 use Rattle.bits.specs.Lists.{tabulate}
 use Rattle.bits.specs.ListsLaws.{tabulate-at}
 use Rattle.masking.specs.Kept.{places}
@@ -35,8 +36,22 @@ others i h = tabulate-at places (λ i. pick (named i) (kindsOf untouched) (kinds
 returns-13 : tie.Need-returns-13
 returns-13 c =
     let r = c .before .match .rest in
-    let e = rw (ne-eqb _ 0 (r .0 .0 .0 .0 .0 .0 .0 .0 .0 .0 .0 .1), ne-eqb _ 1 (r .0 .0 .0 .0 .0 .0 .0 .0 .0 .0 .1), ne-eqb _ 3 (r .0 .0 .0 .0 .0 .0 .0 .0 .0 .1), ne-eqb _ 4 (r .0 .0 .0 .0 .0 .0 .0 .0 .1), ne-eqb _ 5 (r .0 .0 .0 .0 .0 .0 .0 .1), ne-eqb _ 6 (r .0 .0 .0 .0 .0 .0 .1), ne-eqb _ 7 (r .0 .0 .0 .0 .0 .1), ne-eqb _ 70 (r .0 .0 .0 .0 .1), ne-eqb _ 71 (r .0 .0 .0 .1), ne-eqb _ 78 (r .0 .0 .1), ne-eqb _ 81 (r .0 .1), ne-eqb _ 87 (r .1)) at (others _ (c .before .before .pre)) in
-    ap kindsIn (c .row-of13 .ensures) ∙ sym e
+    let none : named (c .before .before .args .place) ≡ false =
+    rw (
+      ne-eqb _ 0 (r .0 .0 .0 .0 .0 .0 .0 .0 .0 .0 .0 .1),
+      ne-eqb _ 1 (r .0 .0 .0 .0 .0 .0 .0 .0 .0 .0 .1),
+      ne-eqb _ 3 (r .0 .0 .0 .0 .0 .0 .0 .0 .0 .1),
+      ne-eqb _ 4 (r .0 .0 .0 .0 .0 .0 .0 .0 .1),
+      ne-eqb _ 5 (r .0 .0 .0 .0 .0 .0 .0 .1),
+      ne-eqb _ 6 (r .0 .0 .0 .0 .0 .0 .1),
+      ne-eqb _ 7 (r .0 .0 .0 .0 .0 .1),
+      ne-eqb _ 70 (r .0 .0 .0 .0 .1),
+      ne-eqb _ 71 (r .0 .0 .0 .1),
+      ne-eqb _ 78 (r .0 .0 .1),
+      ne-eqb _ 81 (r .0 .1),
+      ne-eqb _ 87 (r .1),
+    ) in
+    ap kindsIn (c .row-of13 .ensures) ∙ sym (others _ (c .before .before .pre)) ∙ pick-false _ _ none
 
 pub kinds-at-spec : {M : Type 1} → statement M
 kinds-at-spec =
