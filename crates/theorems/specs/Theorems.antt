@@ -13,12 +13,13 @@ use Rattle.table.specs.declared.Subleaf.the-variants.{None, Some}
 use Rattle.table.specs.declared.Refusal.{Refusal}
 use Rattle.table.specs.declared.Refusal.the-variants.{PagesLength, MissingRequiredResult, SaveAreaOverflow}
 use Rattle.table.specs.declared.Verdict.the-variants.{Accepted, Refused}
-use Rattle.pages.specs.Entries.{entries}
+use Rattle.bits.specs.Lists.{keepIf}
+use Rattle.pages.specs.Entries.{entries, counted}
 use Rattle.masking.specs.Kept.{places}
-use Rattle.pages.specs.Walk.{firstIndex, parsed}
+use Rattle.pages.specs.Walk.{firstIndex, parsed, countsRead}
 use Rattle.build.specs.Build.{answer}
 use Rattle.reader.specs.Read.{given}
-use Rattle.reader.specs.ReadLaws.{reader-gives}
+use Rattle.reader.specs.ReadLaws.{reader-gives, reader-gives-counted}
 use Rattle.lookup.specs.declared.LeafResult.the-variants.{None as Nothing}
 use Rattle.lookup.specs.Lookup.{lookup}
 use Rattle.lookup.specs.LookupLaws.{empty-finds-nothing}
@@ -137,9 +138,11 @@ leaf-order-lawful = leaf-order
 
 -- ---- The page reader in the source's form. crates/reader/specs/Read.antt.
 
--- asked often enough, a new reader gives the entries of the pages, each once and in order, and then the end; `collect` stores those that count
-pub reader-in-order : (s : List ℕ) (n : ℕ) → length (entries s) ≤ n → given s n (firstIndex s) ≡ map parsed (entries s)
-reader-in-order = reader-gives
+-- asked often enough, a new reader gives the entries of the pages, each once and in order, and then the end; those that by what it gives
+-- count are the counted entries, each once and in order
+pub reader-in-order : (s : List ℕ) (n : ℕ) → length (entries s) ≤ n
+    → (given s n (firstIndex s) ≡ map parsed (entries s)) × (keepIf countsRead (given s n (firstIndex s)) ≡ map parsed (counted s))
+reader-in-order s n l = (reader-gives s n l, reader-gives-counted s n l)
 
 -- ---- Not empty words. crates/instances/specs/PageSets.antt has four page sets, byte by byte.
 
