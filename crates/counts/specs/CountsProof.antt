@@ -48,13 +48,3 @@ rows-counted avic s e = record {
 
 pub single-page-refused : SinglePageRefused
 single-page-refused avic s n e = single-refused avic s n (rows-pass avic s e)
-
-pub leaf-order : LeafOrder leafOrder
-unfolding leafOrder
-leaf-order = record {
-  position = λ i. i;
-  inside = λ i h. rw length-tabulate h;
-  stands = λ i h. getD-tabulate places (λ i. i) i places h;
-  once = λ n h. let inside : n < places = rw length-tabulate at h in rw (getD-tabulate places (λ i. i) n places inside) (inside, refl);
-  subleaves = λ i j h l e. omega (arith, place-from-first i h, place-from-first j l, ap firstPlace e);
-}

@@ -1,3 +1,5 @@
 pub mod Refusal
 pub mod Rows
 pub mod Table
+pub mod Order
+pub mod OrderLaws

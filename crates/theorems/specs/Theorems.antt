@@ -21,11 +21,10 @@ use Rattle.reader.specs.ReadLaws.{reader-gives}
 use Rattle.lookup.specs.declared.LeafResult.the-variants.{None as Nothing}
 use Rattle.lookup.specs.Lookup.{lookup}
 use Rattle.lookup.specs.LookupLaws.{empty-finds-nothing}
-use Rattle.image.specs.Image.{leafOrder}
 use Rattle.refusals.specs.Exactly.{BuildsExactly, WritesExactly}
 use Rattle.refusals.specs.ExactlyProof.{builds-exactly, writes-exactly}
-use Rattle.counts.specs.Counts.{Counted, LeafOrder}
-use Rattle.counts.specs.CountsProof.{rows-counted, single-page-refused, leaf-order}
+use Rattle.counts.specs.Counts.{Counted}
+use Rattle.counts.specs.CountsProof.{rows-counted, single-page-refused}
 use Rattle.rise.specs.Rise.{RiseHypothesis, HypothesisByTheLetter, RiseConclusion}
 use Rattle.rise.specs.RiseProof.{demand-3, demand-3-by-the-letter}
 use Rattle.rise.specs.Same.{rises-itself, same-figures}
@@ -33,7 +32,8 @@ use Rattle.compare.specs.declared.Register.the-variants.{Ecx}
 use Rattle.compare.specs.declared.Compared.the-variants.{Rises as Yes, RefusedA, UnlawfulB, NoEntry, Differs}
 use Rattle.compare.specs.Compare.{compared}
 use Rattle.compare.specs.Means.{Decides}
-use Rattle.compare.specs.OrderLaws.{Precedes, places-rise}
+use Rattle.table.specs.Order.{Precedes}
+use Rattle.table.specs.OrderLaws.{places-rise}
 use Rattle.compare.specs.DecidesProof.{decides}
 use Rattle.theorems.specs.Exported.{ExportsRise, ExportsCompare, exports-rise, exports-compare}
 use Rattle.examples.specs.PageSets.{serverA, serverB, serverWithoutD12, serverWithLargeD6}
@@ -85,7 +85,7 @@ each-rises-to-itself = rises-itself
 pub comparison-decides : (avic : Bool) (a b : List ℕ) → Decides avic a b (compared avic a b)
 comparison-decides = decides
 
--- its order: places rise by leaf, then by subleaf. crates/compare/specs/OrderLaws.antt
+-- its order: places rise by leaf, then by subleaf. crates/table/specs/Order.antt
 pub comparison-in-order : (i j : ℕ) → i < j → j < places → Precedes i j
 comparison-in-order = places-rise
 
@@ -123,10 +123,6 @@ counts = rows-counted
 -- page 1 is missing, and with it Dh
 pub single-page-never-accepted : (avic : Bool) (s : List ℕ) → length s ≡ 4096 → answer avic s .verdict ≡ Accepted → ⊥
 single-page-never-accepted = single-page-refused
-
--- what holds of the one free part, the order of the image's leaves
-pub leaf-order-lawful : LeafOrder leafOrder
-leaf-order-lawful = leaf-order
 
 -- ---- The page reader in the source's form. crates/reader/specs/Read.antt.
 
