@@ -10,3 +10,4 @@ pub mod FeatureLaws
 pub mod JoinLaws
 pub mod PlaceLaws
 pub mod RemainsLaws
+pub mod FitLaws

@@ -1,0 +1,4 @@
+pub mod Images
+pub mod AscendLaws
+pub mod RowLaws
+pub mod TableLaws
