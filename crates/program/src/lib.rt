@@ -32,7 +32,8 @@ pub fn put_output(input: &[u8], out: &mut [u8; ROOM]) -> usize
 
 // Document 01's bytes for an input of any length, at the front of a lent buffer that has room for them.
 pub fn write_output(input: &[u8], out: &mut [u8]) -> Written
-    ensures { λ r. ⌜ (r ≡ writeFront (output (now (input .entry))) (now (out .entry)) .answer) × (now (out .exit) ≡ writeFront (output (now (input .entry))) (now (out .entry)) .buffer) ⌝ }
+    ensures { λ r. ⌜ (r ≡ writeFront (output (now (input .entry))) (now (out .entry)) .answer)
+        × (now (out .exit) ≡ writeFront (output (now (input .entry))) (now (out .entry)) .buffer) ⌝ }
 {
     if input.len() > LONGEST_INPUT {
         return put_too_long(out);
@@ -59,7 +60,8 @@ fn put_too_long(out: &mut [u8]) -> Written
 
 // Byte 3, the number, leaf, subleaf (none FFFFFFFFh), s.
 fn put_refusal(numbers: AnswerNumbers, out: &mut [u8]) -> Written
-    ensures { λ r. ⌜ (r ≡ writeFront (numberBytes numbers) (now (out .entry)) .answer) × (now (out .exit) ≡ writeFront (numberBytes numbers) (now (out .entry)) .buffer) ⌝ }
+    ensures { λ r. ⌜ (r ≡ writeFront (numberBytes numbers) (now (out .entry)) .answer)
+        × (now (out .exit) ≡ writeFront (numberBytes numbers) (now (out .entry)) .buffer) ⌝ }
 {
     if out.len() < REFUSAL_BYTES {
         return Written::Refused(Refusal::BufferTooShort);

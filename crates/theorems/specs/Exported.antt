@@ -28,8 +28,7 @@ use Rattle.table.specs.Refusal.{details, topologyDetails}
 use Rattle.table.specs.declared.Verdict.{Verdict}
 use Rattle.table.specs.declared.Verdict.the-variants.{Accepted, Refused}
 use Rattle.table.specs.Rows.{Row, Rows}
-use Rattle.update.specs.Finish.{ruleAt}
-use Rattle.update.specs.Kinds.{TableAtLeast, Registers, kindsOf}
+use Rattle.update.specs.Kinds.{TableAtLeast, Registers, kindsAt}
 use Rattle.table.specs.Table.{rowIn}
 use Rattle.build.specs.Built.{tableFor}
 use Rattle.collect.specs.FirstEntries.{rowsOf}
@@ -86,7 +85,8 @@ pub record ExportsRise (avic : Bool) (a b : List ℕ) : Type 0 where
   pub mask : built avic b .number ≡ 0 → Within (built avic a .«max_extended_state») (built avic b .«max_extended_state»)
   pub rows : built avic b .number ≡ 0 → (leaf : CpuidFunction) (subleaf : Subleaf) (enforce : Bool) → found avic a leaf subleaf enforce .found ≡ 1
       → (found avic b leaf subleaf enforce .found ≡ 1)
-      × Registers TableAtLeast (kindsOf (ruleAt (placeAsked leaf subleaf enforce))) (registersOf (found avic a leaf subleaf enforce)) (registersOf (found avic b leaf subleaf enforce))
+      × Registers TableAtLeast (kindsAt (placeAsked leaf subleaf enforce)) (registersOf (found avic a leaf subleaf enforce))
+      (registersOf (found avic b leaf subleaf enforce))
   -- beyond these only: what is found in B's table and not in A's is a Dh subleaf from 2 up that B's mask has and A's has not
   pub others : built avic b .number ≡ 0 → (leaf : CpuidFunction) (subleaf : Subleaf) (enforce : Bool) → found avic b leaf subleaf enforce .found ≡ 1
       → (found avic a leaf subleaf enforce .found ≡ 1) ⊎ Further (answer avic a .table) (answer avic b .table) (placeAsked leaf subleaf enforce)
@@ -127,7 +127,8 @@ rise-answers avic b (overflow n f e) = refused-5 n f (rw (builds-exactly avic b 
 rise-answers avic b (accepted n f e) = accepted-0 n f (rw e)
 
 -- what is found is the row of the place that is asked for
-found-numbers : (r : Row) → r .present ≡ true → foundNumbers (rowResult r) ≡ record { found = 1; eax = r .result .eax; ebx = r .result .ebx; ecx = r .result .ecx; edx = r .result .edx }
+found-numbers : (r : Row) → r .present ≡ true
+    → foundNumbers (rowResult r) ≡ record { found = 1; eax = r .result .eax; ebx = r .result .ebx; ecx = r .result .ecx; edx = r .result .edx }
 found-numbers r e = ap foundNumbers (pick-true _ _ e)
 
 found-present : (r : Row) → foundNumbers (rowResult r) .found ≡ 1 → r .present ≡ true
@@ -154,7 +155,8 @@ module _ (avic : Bool) (a b : List ℕ) (rises : RiseHypothesis avic a b) where
   rowsFound : TableRises (answer avic a .table) (answer avic b .table) → (leaf : CpuidFunction) (subleaf : Subleaf) (enforce : Bool)
       → found avic a leaf subleaf enforce .found ≡ 1
       → (found avic b leaf subleaf enforce .found ≡ 1)
-      × Registers TableAtLeast (kindsOf (ruleAt (placeAsked leaf subleaf enforce))) (registersOf (found avic a leaf subleaf enforce)) (registersOf (found avic b leaf subleaf enforce))
+      × Registers TableAtLeast (kindsAt (placeAsked leaf subleaf enforce)) (registersOf (found avic a leaf subleaf enforce))
+      (registersOf (found avic b leaf subleaf enforce))
   rowsFound t leaf subleaf enforce e =
       let i : ℕ = placeAsked leaf subleaf enforce in
       let ra : Row = rowIn (answer avic a .table) i in
@@ -169,7 +171,7 @@ module _ (avic : Bool) (a b : List ℕ) (rises : RiseHypothesis avic a b) where
       let na = found-numbers ra pa in
       let nb = found-numbers rb pb in (
         sym (ap (λ (f : SnpCpuidFound). f .found) fb) ∙ ap (λ (f : SnpCpuidFound). f .found) nb,
-        subst₂ (λ (x y : SnpCpuidFound). Registers TableAtLeast (kindsOf (ruleAt i)) (registersOf x) (registersOf y)) (sym na ∙ fa) (sym nb ∙ fb)
+        subst₂ (λ (x y : SnpCpuidFound). Registers TableAtLeast (kindsAt i) (registersOf x) (registersOf y)) (sym na ∙ fa) (sym nb ∙ fb)
             (t .registers i l pa),
       )
 

@@ -17,13 +17,16 @@ extended-topology-spec =
     (λ c.
     let one = c .before .before in
     let mt = one .before in
-    one-agrees _ _ _ _ _ (mt .before .if1 .taken) (mt .if2 .taken) (sym (one .one-processor .ensures) ∙ c .before .if3 .taken) (c .threads-in .ensures))
+    one-agrees _ _ _ _ _ (mt .before .if1 .taken) (mt .if2 .taken) (sym (one .one-processor .ensures) ∙ c .before .if3 .taken)
+    (c .threads-in .ensures))
     (λ c.
     let mt = c .before .before in
     one-differs _ _ _ _ _ (mt .before .if1 .taken) (mt .if2 .taken) (sym (c .before .one-processor .ensures) ∙ c .if3 .left))
     (λ c. search needs)
     (λ c κs. search needs)
-    (λ c. let mt = c .before .before in legacy-agrees _ _ _ _ _ (mt .before .if1 .taken) (mt .if2 .left) (c .before .if4 .taken) (c .threads-in2 .ensures))
+    (λ c.
+    let mt = c .before .before in
+    legacy-agrees _ _ _ _ _ (mt .before .if1 .taken) (mt .if2 .left) (c .before .if4 .taken) (c .threads-in2 .ensures))
     (λ c. legacy-differs _ _ _ _ _ (c .before .before .if1 .taken) (c .before .if2 .left) (c .if4 .left))
     (λ c. search needs)
     (λ c κs. search needs)
@@ -31,14 +34,16 @@ extended-topology-spec =
     (λ c.
     let agree = c .before .before .before in
     let size = agree .before in
-    counts-agree _ _ _ _ _ (one-shifted _ (omega arith)) (size .before .if1 .left) (size .if5 .taken) (sym (agree .counts-agree .ensures) ∙ c .before .before .if6 .taken) (c .before .if7 .taken)
-    (c .threads-in3 .ensures))
+    counts-agree _ _ _ _ _ (one-shifted _ (omega arith)) (size .before .if1 .left) (size .if5 .taken)
+    (sym (agree .counts-agree .ensures) ∙ c .before .before .if6 .taken) (c .before .if7 .taken) (c .threads-in3 .ensures))
     (λ c.
     let agree = c .before .before in
     let size = agree .before in
-    threads-unsaid _ _ _ _ _ (one-shifted _ (omega arith)) (size .before .if1 .left) (size .if5 .taken) (sym (agree .counts-agree .ensures) ∙ c .before .if6 .taken) (c .if7 .left))
+    threads-unsaid _ _ _ _ _ (one-shifted _ (omega arith)) (size .before .if1 .left) (size .if5 .taken)
+    (sym (agree .counts-agree .ensures) ∙ c .before .if6 .taken) (c .if7 .left))
     (λ c.
     let size = c .before .before in
-    counts-differ _ _ _ _ _ (one-shifted _ (omega arith)) (size .before .if1 .left) (size .if5 .taken) (sym (c .before .counts-agree .ensures) ∙ c .if6 .left))
+    counts-differ _ _ _ _ _ (one-shifted _ (omega arith)) (size .before .if1 .left) (size .if5 .taken)
+    (sym (c .before .counts-agree .ensures) ∙ c .if6 .left))
     (λ c κs. search needs)
     (λ c. size-decides _ _ _ _ _ (one-shifted _ (omega arith)) (c .before .before .if1 .left) (c .before .if5 .left) (c .threads-in4 .ensures)))
