@@ -7,3 +7,4 @@ pub mod KeptLaws
 pub mod KeptTableLaws
 pub mod RunLaws
 pub mod PlaceOfLaws
+pub mod MasksFit

@@ -27,6 +27,9 @@ use Rattle.refusals.specs.Exactly.{BuildsExactly, WritesExactly}
 use Rattle.refusals.specs.ExactlyProof.{builds-exactly, writes-exactly}
 use Rattle.counts.specs.Counts.{Counted}
 use Rattle.counts.specs.CountsProof.{rows-counted, at-most-32, at-most-732, single-page-refused}
+use Rattle.images.specs.Images.{ImageAscends, EqualImages}
+use Rattle.images.specs.AscendLaws.{image-ascends}
+use Rattle.images.specs.ImagesProof.{equal-images}
 use Rattle.rise.specs.Rise.{RiseHypothesis, HypothesisByTheLetter, RiseConclusion}
 use Rattle.rise.specs.RiseProof.{demand-3, demand-3-by-the-letter}
 use Rattle.rise.specs.Same.{rises-itself, same-figures}
@@ -34,6 +37,7 @@ use Rattle.compare.specs.declared.Register.the-variants.{Ecx}
 use Rattle.compare.specs.declared.Compared.the-variants.{Rises as Yes, RefusedA, UnlawfulB, NoEntry, Differs}
 use Rattle.compare.specs.Compare.{compared}
 use Rattle.compare.specs.Means.{Decides}
+use Rattle.table.specs.declared.CpuidResults.{CpuidResults}
 use Rattle.table.specs.Order.{Precedes}
 use Rattle.table.specs.OrderLaws.{places-rise}
 use Rattle.compare.specs.DecidesProof.{decides}
@@ -131,6 +135,16 @@ at-most-732-bytes = at-most-732
 -- page 1 is missing, and with it Dh
 pub single-page-never-accepted : (avic : Bool) (s : List ℕ) → length s ≡ 4096 → answer avic s .verdict ≡ Accepted → ⊥
 single-page-never-accepted = single-page-refused
+
+-- ---- P1: leaves in rising order. crates/table/specs/Order.antt, crates/images/specs/Images.antt.
+
+-- in the image of any table each row is below the next by leaf and subleaf, unsigned
+pub rows-ascend : (t : CpuidResults) → ImageAscends t
+rows-ascend = image-ascends
+
+-- two accepted page sets, each under a choice of its own, have equal images if and only if their rows and combined masks are equal
+pub images-tell-tables : EqualImages
+images-tell-tables = equal-images
 
 -- ---- The page reader in the source's form. crates/reader/specs/Read.antt.
 
