@@ -11,7 +11,8 @@ use Rattle.x86defs.specs.Functions.{function}
 use Rattle.masking.specs.declared.run.Run.{Run}
 use Rattle.table.specs.declared.CpuidResults.{CpuidResults}
 use Rattle.buffer.specs.Front.{bytesOf, resultBytes}
-use Rattle.image.specs.Image.{imageIn, leafOrder}
+use Rattle.table.specs.Order.{rowOrder}
+use Rattle.image.specs.Image.{imageIn}
 
 -- ---- rows
 
@@ -23,7 +24,7 @@ wholeRow leaf r = 1 ∷ bytesOf (leaf .0) ++ resultBytes r
 
 -- the rows from place i on: what is left to write
 unfoldable pub rowsFrom : CpuidResults → ℕ → List ℕ
-rowsFrom t i = imageIn (drop i leafOrder) t
+rowsFrom t i = imageIn (drop i rowOrder) t
 
 -- how many rows there are among the places from first up to end
 unfoldable pub rowsAmong : List Bool → ℕ → ℕ → ℕ

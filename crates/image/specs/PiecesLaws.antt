@@ -22,7 +22,9 @@ use Rattle.masking.specs.RunLaws.{leaf-in-run, indexed-in-run, subleaf-in-run}
 use Rattle.table.specs.declared.CpuidResults.{CpuidResults}
 use Rattle.table.specs.Rows.{Row}
 use Rattle.table.specs.Table.{rowIn}
-use Rattle.image.specs.Image.{placeBytes, imageIn, leafOrder, image}
+use Rattle.table.specs.Order.{rowOrder}
+use Rattle.table.specs.OrderLaws.{row-order}
+use Rattle.image.specs.Image.{placeBytes, imageIn, image}
 use Rattle.buffer.specs.Front.{wordBytes, registerBytes}
 use Rattle.buffer.specs.FrontLaws.{sets-append}
 use Rattle.image.specs.Pieces.{indexedRow, wholeRow, rowsFrom, runRow}
@@ -84,20 +86,24 @@ run-row g l i r low high =
 
 -- ---- the rows from a place on
 
+-- the places in the order of their rows, from place i on
+order-from : (i : ℕ) → i < places → drop i rowOrder ≡ i ∷ drop (i + 1) rowOrder
+order-from i h =
+    rw (add-one, row-order)
+    (drop-cons (tabulate places (λ j. j)) i 0 (rw length-tabulate h)
+    ∙ ap (λ n. n ∷ drop (suc i) (tabulate places (λ j. j))) (getD-tabulate places (λ j. j) i 0 h))
+
 pub rows-more : (t : CpuidResults) (i : ℕ) → i < places → rowsFrom t i ≡ placeBytes i (rowIn t i) ++ rowsFrom t (i + 1)
-unfolding rowsFrom imageIn leafOrder
-rows-more t i h =
-    let d : drop i leafOrder ≡ i ∷ drop (i + 1) leafOrder =
-    rw add-one (drop-cons leafOrder i 0 (rw length-tabulate h) ∙ ap (λ n. n ∷ drop (suc i) leafOrder) (getD-tabulate places (λ i. i) i 0 h)) in
-    ap (λ l. imageIn l t) d
+unfolding rowsFrom imageIn
+rows-more t i h = ap (λ l. imageIn l t) (order-from i h)
 
 pub rows-all : (t : CpuidResults) → rowsFrom t 0 ≡ image t
 unfolding rowsFrom image
 rows-all t = refl
 
 pub rows-none : (t : CpuidResults) → rowsFrom t places ≡ []
-unfolding rowsFrom imageIn leafOrder tabulate
-rows-none t = refl
+unfolding rowsFrom imageIn tabulate
+rows-none t = rw row-order
 
 -- ---- writing from place to place
 

@@ -8,3 +8,4 @@ pub mod KeptTableLaws
 pub mod Runs
 pub mod RunLaws
 pub mod PlaceOfLaws
+pub mod MasksFit

@@ -23,11 +23,14 @@ use Rattle.reader.specs.ReadLaws.{reader-gives, reader-gives-counted}
 use Rattle.lookup.specs.declared.LeafResult.the-variants.{None as Nothing}
 use Rattle.lookup.specs.Lookup.{lookup}
 use Rattle.lookup.specs.LookupLaws.{empty-finds-nothing}
-use Rattle.image.specs.Image.{leafOrder, image}
+use Rattle.image.specs.Image.{image}
 use Rattle.refusals.specs.Exactly.{BuildsExactly, WritesExactly}
 use Rattle.refusals.specs.ExactlyProof.{builds-exactly, writes-exactly}
-use Rattle.counts.specs.Counts.{Counted, LeafOrder}
-use Rattle.counts.specs.CountsProof.{rows-counted, at-most-32, at-most-732, single-page-refused, leaf-order}
+use Rattle.counts.specs.Counts.{Counted}
+use Rattle.counts.specs.CountsProof.{rows-counted, at-most-32, at-most-732, single-page-refused}
+use Rattle.images.specs.Images.{ImageAscends, EqualImages}
+use Rattle.images.specs.AscendLaws.{image-ascends}
+use Rattle.images.specs.ImagesProof.{equal-images}
 use Rattle.rise.specs.Rise.{RiseHypothesis, HypothesisByTheLetter, RiseConclusion}
 use Rattle.rise.specs.RiseProof.{demand-3, demand-3-by-the-letter}
 use Rattle.rise.specs.Same.{rises-itself, same-figures}
@@ -35,7 +38,9 @@ use Rattle.compare.specs.declared.Register.the-variants.{Ecx}
 use Rattle.compare.specs.declared.Compared.the-variants.{Rises as Yes, RefusedA, UnlawfulB, NoEntry, Differs}
 use Rattle.compare.specs.Compare.{compared}
 use Rattle.compare.specs.Means.{Decides}
-use Rattle.compare.specs.OrderLaws.{Precedes, places-rise}
+use Rattle.table.specs.declared.CpuidResults.{CpuidResults}
+use Rattle.table.specs.Order.{Precedes}
+use Rattle.table.specs.OrderLaws.{places-rise}
 use Rattle.compare.specs.DecidesProof.{decides}
 use Rattle.theorems.specs.Exported.{ExportsRise, ExportsCompare, exports-rise, exports-compare}
 use Rattle.examples.specs.PageSets.{serverA, serverB, serverWithoutD12, serverWithLargeD6}
@@ -87,7 +92,7 @@ each-rises-to-itself = rises-itself
 pub comparison-decides : (avic : Bool) (a b : List ℕ) → Decides avic a b (compared avic a b)
 comparison-decides = decides
 
--- its order: places rise by leaf, then by subleaf. crates/compare/specs/OrderLaws.antt
+-- its order: places rise by leaf, then by subleaf. crates/table/specs/Order.antt
 pub comparison-in-order : (i j : ℕ) → i < j → j < places → Precedes i j
 comparison-in-order = places-rise
 
@@ -132,9 +137,15 @@ at-most-732-bytes = at-most-732
 pub single-page-never-accepted : (avic : Bool) (s : List ℕ) → length s ≡ 4096 → answer avic s .verdict ≡ Accepted → ⊥
 single-page-never-accepted = single-page-refused
 
--- what holds of the one free part, the order of the image's leaves
-pub leaf-order-lawful : LeafOrder leafOrder
-leaf-order-lawful = leaf-order
+-- ---- P1: leaves in rising order. crates/table/specs/Order.antt, crates/images/specs/Images.antt.
+
+-- in the image of any table each row is below the next by leaf and subleaf, unsigned
+pub rows-ascend : (t : CpuidResults) → ImageAscends t
+rows-ascend = image-ascends
+
+-- two accepted page sets, each under a choice of its own, have equal images if and only if their rows and combined masks are equal
+pub images-tell-tables : EqualImages
+images-tell-tables = equal-images
 
 -- ---- The page reader in the source's form. crates/reader/specs/Read.antt.
 
