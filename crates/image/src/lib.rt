@@ -18,11 +18,11 @@ use table::Refusal;
 use x86defs::CpuidResult;
 
 // Places from `first` up to `end` that stand together: leaves that follow one another from `leaf` on, or the subleaves of one leaf.
-struct Run {
-    first: usize,
-    end: usize,
-    leaf: u32,
-    indexed: bool,
+pub struct Run {
+    pub first: usize,
+    pub end: usize,
+    pub leaf: u32,
+    pub indexed: bool,
 }
 
 // Writes a table's image at the front of a lent buffer. A buffer that is too short is refused, and stays as it was.
@@ -50,7 +50,7 @@ pub fn image_length(t: CpuidResults) -> usize
 }
 
 // How many of the places from `first` up to `end` have a row. The count is a byte, so that many can be added at once.
-fn rows_among(present: &[bool; PLACES], first: usize, end: usize) -> u8
+pub fn rows_among(present: &[bool; PLACES], first: usize, end: usize) -> u8
     requires { ⌜ (first ≤ end) × (end ≤ places) ⌝ }
     ensures { λ r. ⌜ (r ≡ rowsAmong (now (present .entry)) first end) × (r + first ≤ end) ⌝ }
 {
@@ -129,7 +129,7 @@ fn put_whole_row(out: &mut [u8], at: usize, leaf: u32, r: CpuidResult)
 }
 
 // The run in which a place stands. Crate masking's specs/Kept.antt has the 88 places.
-fn run_at(i: usize) -> Run
+pub fn run_at(i: usize) -> Run
     requires { ⌜ i < places ⌝ }
     ensures { λ r. ⌜ (lawful r ≡ true) × (r .first ≤ i) × (i < r .end) ⌝ }
 {
