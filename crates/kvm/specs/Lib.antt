@@ -2,4 +2,4 @@ pub mod Words
 pub mod WordsLaws
 pub mod Format
 pub mod FormatLaws
-pub mod ZerosLaws
+pub mod StoresLaws

@@ -15,7 +15,7 @@ use Rattle.buffer.specs.FrontLaws.{sets-append}
 use Rattle.kvm.specs.Words.{bytesOfWords}
 use Rattle.kvm.specs.WordsLaws.{bytes-append}
 use Rattle.kvm.specs.Format.{ListRow, rowCount, rowAt, rowsIn}
-use Rattle.kvm.specs.ZerosLaws.{sets-join, sets-swap}
+use Rattle.kvm.specs.StoresLaws.{sets-join, sets-swap, word-length, registers-length, five-pieces}
 use Rattle.kvm_import.specs.Import.{isExtendedState, rowsOn0, rowsOn1, entryWords, entriesWords}
 use Rattle.kvm_import.specs.Pieces.{registersAt, entryBytes, entriesBytes, rowsLeft, entryIndex, entered}
 use Rattle.kvm_import.specs.RowLaws.{row-leaf, row-index, row-registers}
@@ -31,24 +31,6 @@ entry-pieces : (r : ListRow)
     → (((wordBytes (r .leaf) ++ wordBytes (r .index)) ++ replicate 16 0) ++ registerBytes (r .registers)) ++ replicate 8 0 ≡ entryBytes r
 unfolding wordBytes registerBytes entryBytes bytesOfWords
 entry-pieces r = refl
-
-pub word-length : (n : ℕ) → length (wordBytes n) ≡ 4
-unfolding wordBytes
-word-length n = refl
-
-registers-length : (r : CpuidResult) → length (registerBytes r) ≡ 16
-unfolding registerBytes
-registers-length r = refl
-
--- five stores, each after the one before
-five-pieces : (out : List ℕ) (at : ℕ) (a b c d e : List ℕ) (j k m n : ℕ) → j ≡ at + length a → k ≡ at + length a + length b
-    → m ≡ at + length a + length b + length c → n ≡ at + length a + length b + length c + length d
-    → sets (sets (sets (sets (sets out at a) j b) k c) m d) n e ≡ sets out at ((((a ++ b) ++ c) ++ d) ++ e)
-five-pieces out at a b c d e j k m n p q r s =
-    ap (λ (l : List ℕ). sets (sets (sets l k c) m d) n e) (sets-join out at a b j p)
-    ∙ ap (λ (l : List ℕ). sets (sets l m d) n e) (sets-join out at (a ++ b) c k (omega (arith, length-append a b)))
-    ∙ ap (λ (l : List ℕ). sets l n e) (sets-join out at ((a ++ b) ++ c) d m (omega (arith, length-append a b, length-append (a ++ b) c)))
-    ∙ sets-join out at (((a ++ b) ++ c) ++ d) e n (omega (arith, length-append a b, length-append (a ++ b) c, length-append ((a ++ b) ++ c) d))
 
 entry-sets : (out : List ℕ) (at : ℕ) (r : ListRow) {a b c d e : List ℕ} → a ≡ wordBytes (r .leaf) → b ≡ wordBytes (r .index)
     → c ≡ replicate 16 0 → d ≡ registerBytes (r .registers) → e ≡ replicate 8 0

@@ -5,7 +5,7 @@ use native.Mathlib.Omega.{arith}
 use borrow.Author.Needs.{needs}
 use lib.ListN.{length, replicate, length-set}
 use lib.Seq.{sets}
-use Rattle.kvm.specs.ZerosLaws.{clear-more, clear-none}
+use Rattle.kvm.specs.StoresLaws.{clear-more, clear-none}
 use Rattle.kvm.proofs.put_zeros.Statement.{statement}
 use Rattle.kvm.proofs.put_zeros.Tie as tie
 
