@@ -67,11 +67,11 @@ count-from t k (suc n) = go (rowIn t k .present) refl (count-from t (suc k) n)
         last true m = omega (arith, ih, m)
         last false m = omega (arith, ih, m)
 
-count-rows : (t : CpuidResults) → rowsAmong (t .present) 0 places ≡ length (listRows t)
+pub count-rows : (t : CpuidResults) → rowsAmong (t .present) 0 places ≡ length (listRows t)
 unfolding listRows
 count-rows t = omega (arith, count-from t 0 places, among-none (t .present) 0)
 
-list-length : (t : CpuidResults) → length (listOf t) ≡ 8 + 40 * length (listRows t)
+pub list-length : (t : CpuidResults) → length (listOf t) ≡ 8 + 40 * length (listRows t)
 unfolding listOf listBytes
 list-length t =
     length-bytes (length (listRows t) ∷ 0 ∷ allWords (listRows t))
