@@ -12,7 +12,7 @@ use Rattle.table.specs.declared.CpuidResults.{CpuidResults}
 use Rattle.table.specs.Table.{rowIn}
 use Rattle.build.specs.Build.{answer}
 use Rattle.buffer.specs.Front.{AfterWrite, writeVerdict}
-use Rattle.kvm.specs.Format.{ListRow, listBytes}
+use Rattle.kvm_list.specs.Format.{ListRow, listBytes}
 
 -- a row by its function, index and flags
 abbrev pub plainRow : ℕ → ℕ → ℕ → CpuidResult → ListRow

@@ -16,11 +16,11 @@ use Rattle.buffer.specs.Front.{wordBytes}
 use Rattle.image.specs.declared.Run.{Run}
 use Rattle.image.specs.Pieces.{rowsAmong, lawful}
 use Rattle.image.specs.LengthLaws.{among-none, among-more}
-use Rattle.kvm.specs.Words.{bytesOfWords}
-use Rattle.kvm.specs.WordsLaws.{length-bytes, bytes-append}
-use Rattle.kvm.specs.Format.{rowWords, allWords, listBytes}
-use Rattle.kvm.specs.FormatLaws.{length-all}
-use Rattle.kvm.specs.StoresLaws.{sets-join, word-length}
+use Rattle.kvm_list.specs.Words.{bytesOfWords}
+use Rattle.kvm_list.specs.WordsLaws.{length-bytes, bytes-append}
+use Rattle.kvm_list.specs.Format.{rowWords, allWords, listBytes}
+use Rattle.kvm_list.specs.FormatLaws.{length-all}
+use Rattle.kvm_list.specs.StoresLaws.{sets-join, word-length}
 use Rattle.kvm_export.specs.Export.{listRow, rowsFrom, listRows, listOf}
 use Rattle.kvm_export.specs.Pieces.{runRow, rowsLeft}
 use Rattle.kvm_export.specs.RunRowLaws.{placeBytes, run-row}

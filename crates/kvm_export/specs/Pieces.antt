@@ -7,8 +7,8 @@ use Rattle.x86defs.specs.declared.CpuidResult.{CpuidResult}
 use Rattle.masking.specs.Kept.{places}
 use Rattle.table.specs.declared.CpuidResults.{CpuidResults}
 use Rattle.image.specs.declared.Run.{Run}
-use Rattle.kvm.specs.Words.{bytesOfWords}
-use Rattle.kvm.specs.Format.{rowWords, allWords}
+use Rattle.kvm_list.specs.Words.{bytesOfWords}
+use Rattle.kvm_list.specs.Format.{rowWords, allWords}
 use Rattle.kvm_export.specs.Export.{plainRow, rowsFrom}
 
 unfoldable pub rowBytes : ℕ → ℕ → ℕ → CpuidResult → List ℕ

@@ -19,9 +19,9 @@ use Rattle.table.specs.Table.{rowIn}
 use Rattle.buffer.specs.Front.{wordBytes, registerBytes}
 use Rattle.image.specs.declared.Run.{Run}
 use Rattle.image.specs.Pieces.{stands, lawful}
-use Rattle.kvm.specs.Words.{bytesOfWords}
-use Rattle.kvm.specs.Format.{rowWords}
-use Rattle.kvm.specs.StoresLaws.{five-pieces, word-length, registers-length}
+use Rattle.kvm_list.specs.Words.{bytesOfWords}
+use Rattle.kvm_list.specs.Format.{rowWords}
+use Rattle.kvm_list.specs.StoresLaws.{five-pieces, word-length, registers-length}
 use Rattle.kvm_export.specs.Export.{listRow}
 use Rattle.kvm_export.specs.Pieces.{rowBytes, runRow}
 

@@ -14,7 +14,7 @@ use Rattle.buffer.specs.declared.Written.{Written}
 use Rattle.buffer.specs.declared.Written.the-variants.{Bytes, Refused}
 use Rattle.buffer.specs.Front.{AfterWrite}
 use Rattle.buffer.specs.FrontLaws.{front-short, front-whole}
-use Rattle.kvm.specs.Format.{rowCount, rowsIn}
+use Rattle.kvm_list.specs.Format.{rowCount, rowsIn}
 use Rattle.kvm_import.specs.Import.{badListLength, fieldsLawful, rowsOn0, rowsOn1, rowsFit, listVerdict, pagesOf, readList}
 use Rattle.kvm_import.specs.PagesLaws.{pages-length}
 

@@ -12,10 +12,10 @@ use Rattle.x86defs.specs.declared.CpuidResult.{CpuidResult}
 use Rattle.pages.specs.Layout.{wordAt}
 use Rattle.buffer.specs.Front.{wordBytes, registerBytes}
 use Rattle.buffer.specs.FrontLaws.{sets-append}
-use Rattle.kvm.specs.Words.{bytesOfWords}
-use Rattle.kvm.specs.WordsLaws.{bytes-append}
-use Rattle.kvm.specs.Format.{ListRow, rowCount, rowAt, rowsIn}
-use Rattle.kvm.specs.StoresLaws.{sets-join, sets-swap, word-length, registers-length, five-pieces}
+use Rattle.kvm_list.specs.Words.{bytesOfWords}
+use Rattle.kvm_list.specs.WordsLaws.{bytes-append}
+use Rattle.kvm_list.specs.Format.{ListRow, rowCount, rowAt, rowsIn}
+use Rattle.kvm_list.specs.StoresLaws.{sets-join, sets-swap, word-length, registers-length, five-pieces}
 use Rattle.kvm_import.specs.Import.{isExtendedState, rowsOn0, rowsOn1, entryWords, entriesWords}
 use Rattle.kvm_import.specs.Pieces.{registersAt, entryBytes, entriesBytes, rowsLeft, entryIndex, entered}
 use Rattle.kvm_import.specs.RowLaws.{row-leaf, row-index, row-registers}

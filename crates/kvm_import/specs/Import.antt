@@ -15,8 +15,8 @@ use Rattle.table.specs.declared.Refusal.the-variants.{ListLength, ListRows, Lis
 use Rattle.table.specs.declared.Verdict.{Verdict}
 use Rattle.table.specs.declared.Verdict.the-variants.{Accepted, Refused}
 use Rattle.buffer.specs.Front.{AfterWrite, writeVerdict}
-use Rattle.kvm.specs.Words.{bytesOfWords}
-use Rattle.kvm.specs.Format.{ListRow, headSize, rowSize, rowCount, zeroWord, rowsIn}
+use Rattle.kvm_list.specs.Words.{bytesOfWords}
+use Rattle.kvm_list.specs.Format.{ListRow, headSize, rowSize, rowCount, zeroWord, rowsIn}
 
 -- ---- what is refused
 

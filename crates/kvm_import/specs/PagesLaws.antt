@@ -7,10 +7,10 @@ use lib.ListN.{length, replicate, length-append, length-replicate}
 use lib.Seq.{sets}
 use Rattle.pages.specs.Layout.{mostEntries}
 use Rattle.buffer.specs.Front.{wordBytes}
-use Rattle.kvm.specs.Words.{bytesOfWords}
-use Rattle.kvm.specs.WordsLaws.{length-bytes, bytes-append, zero-words}
-use Rattle.kvm.specs.Format.{ListRow}
-use Rattle.kvm.specs.StoresLaws.{sets-join, sets-swap, word-length}
+use Rattle.kvm_list.specs.Words.{bytesOfWords}
+use Rattle.kvm_list.specs.WordsLaws.{length-bytes, bytes-append, zero-words}
+use Rattle.kvm_list.specs.Format.{ListRow}
+use Rattle.kvm_list.specs.StoresLaws.{sets-join, sets-swap, word-length}
 use Rattle.kvm_import.specs.Import.{rowsOn0, rowsOn1, entriesWords, pageWords, pagesOf}
 use Rattle.kvm_import.specs.Pieces.{countBytes, entriesBytes, pageBytes, entered}
 use Rattle.kvm_import.specs.EntriesLaws.{entries-length}

@@ -10,8 +10,8 @@ use Rattle.x86defs.specs.declared.CpuidResult.{CpuidResult}
 use Rattle.x86defs.specs.Functions.{result}
 use Rattle.pages.specs.Layout.{wordAt}
 use Rattle.buffer.specs.Front.{wordBytes}
-use Rattle.kvm.specs.Words.{bytesOfWords}
-use Rattle.kvm.specs.Format.{ListRow, rowCount, rowAt}
+use Rattle.kvm_list.specs.Words.{bytesOfWords}
+use Rattle.kvm_list.specs.Format.{ListRow, rowCount, rowAt}
 use Rattle.kvm_import.specs.Import.{rowsOn0, rowsOn1, entryWords, entriesWords, pageWords}
 
 -- the four registers at offset o

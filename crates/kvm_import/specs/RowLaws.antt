@@ -8,7 +8,7 @@ use lib.Dec.{eqb}
 use borrow.Author.Tests.{le-leb, lt-leb, eq-eqb, ne-eqb}
 use Rattle.x86defs.specs.Functions.{result}
 use Rattle.pages.specs.Layout.{wordAt}
-use Rattle.kvm.specs.Format.{rowAt}
+use Rattle.kvm_list.specs.Format.{rowAt}
 use Rattle.kvm_import.specs.Import.{rowLawful, isExtendedState}
 use Rattle.kvm_import.specs.Pieces.{registersAt}
 

@@ -10,7 +10,7 @@ use borrow.Author.Tests.{eq-eqb, ne-eqb}
 use Rattle.bits.specs.Choice.{pick}
 use Rattle.bits.specs.Lists.{tabulate, keepIf, one}
 use Rattle.bits.specs.ListsLaws.{length-tabulate}
-use Rattle.kvm.specs.Format.{ListRow, rowCount, zeroWord, rowAt, rowsIn}
+use Rattle.kvm_list.specs.Format.{ListRow, rowCount, zeroWord, rowAt, rowsIn}
 use Rattle.kvm_import.specs.Import.{rowLawful, allLawful, fieldsLawful, isExtendedState, rowsOn0, rowsOn1}
 use Rattle.kvm_import.specs.Pieces.{rowsLeft}
 

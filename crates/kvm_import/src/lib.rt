@@ -2,9 +2,9 @@
 use buffer::Written;
 use buffer::put_registers;
 use buffer::put_word;
-use kvm::HEAD_SIZE;
-use kvm::ROW_SIZE;
-use kvm::put_zeros;
+use kvm_list::HEAD_SIZE;
+use kvm_list::ROW_SIZE;
+use kvm_list::put_zeros;
 use pages::word_at;
 use table::Refusal;
 use x86defs::CpuidResult;
@@ -14,7 +14,7 @@ ghost use Prim.Native.Nat.{_+_, _*_, _≤_, _<_};
 ghost use lib.ListN.{length};
 ghost use lib.Seq.{sets};
 ghost use Rattle.bits.specs.Lists.{one};
-ghost use Rattle.kvm.specs.Format.{rowCount, rowAt, rowsIn};
+ghost use Rattle.kvm_list.specs.Format.{rowCount, rowAt, rowsIn};
 ghost use Rattle.kvm_import.specs.Import.{badListLength, rowLawful, fieldsLawful, isExtendedState, rowsOn0, rowsOn1, pagesOf, readList};
 ghost use Rattle.kvm_import.specs.Pieces.{registersAt, countBytes, entryBytes, entryIndex, entered};
 

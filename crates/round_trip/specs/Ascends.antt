@@ -11,7 +11,7 @@ use Rattle.table.specs.declared.CpuidResults.{CpuidResults}
 use Rattle.table.specs.Table.{rowIn}
 use Rattle.compare.specs.OrderLaws.{Precedes, places-rise}
 use Rattle.x86defs.specs.declared.CpuidResult.{CpuidResult}
-use Rattle.kvm.specs.Format.{ListRow}
+use Rattle.kvm_list.specs.Format.{ListRow}
 use Rattle.kvm_export.specs.Export.{listRow, rowsFrom, listRows}
 
 abbrev pub Before : ListRow → ListRow → Type 0

@@ -20,10 +20,10 @@ use Rattle.masking.specs.Kept.{placeOf, places, leafAt}
 use Rattle.masking.specs.KeptLaws.{entry-belongs}
 use Rattle.table.specs.Rows.{Row, row, vacant}
 use Rattle.collect.specs.FirstEntries.{firstAt}
-use Rattle.kvm.specs.Words.{bytesOfWords, cut}
-use Rattle.kvm.specs.WordsLaws.{cut-small, length-bytes, bytes-append, word-bytes}
-use Rattle.kvm.specs.Format.{ListRow}
-use Rattle.kvm.specs.FormatLaws.{cutRow}
+use Rattle.kvm_list.specs.Words.{bytesOfWords, cut}
+use Rattle.kvm_list.specs.WordsLaws.{cut-small, length-bytes, bytes-append, word-bytes}
+use Rattle.kvm_list.specs.Format.{ListRow}
+use Rattle.kvm_list.specs.FormatLaws.{cutRow}
 use Rattle.kvm_import.specs.Import.{isExtendedState, rowsOn0, rowsOn1, entryWords, entriesWords, pageWords, pagesOf}
 use Rattle.kvm_import.specs.PagesLaws.{length-page}
 use Rattle.round_trip.specs.Reads.{LeafRow, ofRow, ofEntry}

@@ -6,7 +6,7 @@ use lib.ListN.{length, getD, drop}
 use Rattle.x86defs.specs.declared.CpuidResult.{CpuidResult}
 use Rattle.pages.specs.Layout.{Entry, countOf}
 use Rattle.pages.specs.Entries.{onPage, counted}
-use Rattle.kvm.specs.Format.{ListRow, rowsIn}
+use Rattle.kvm_list.specs.Format.{ListRow, rowsIn}
 use Rattle.kvm_import.specs.Import.{rowsOn0, rowsOn1, pagesOf, readList}
 
 -- what an entry and a row of a list have in common: EAX_IN and function, ECX_IN and index, the registers

@@ -9,7 +9,7 @@ use lib.ListN.{length, drop}
 use Rattle.table.specs.declared.Refusal.{Refusal}
 use Rattle.table.specs.declared.Refusal.the-variants.{ListLength, ListRows, ListFields, BufferTooShort}
 use Rattle.buffer.specs.declared.Written.the-variants.{Bytes, Refused}
-use Rattle.kvm.specs.Format.{ListRow, rowCount, zeroWord, rowAt, rowsIn}
+use Rattle.kvm_list.specs.Format.{ListRow, rowCount, zeroWord, rowAt, rowsIn}
 use Rattle.kvm_import.specs.Import.{rowsOn0, rowsOn1, pagesOf, readList}
 
 -- ---- what must hold, each by itself

@@ -14,12 +14,12 @@ use Rattle.table.specs.declared.Refusal.{Refusal}
 use Rattle.table.specs.declared.Refusal.the-variants.{ListLength, ListRows, ListFields, BufferTooShort}
 use Rattle.buffer.specs.declared.Written.the-variants.{Bytes, Refused}
 use Rattle.buffer.specs.Front.{writeFront}
-use Rattle.kvm.specs.Words.{cut}
-use Rattle.kvm.specs.WordsLaws.{cut-small}
+use Rattle.kvm_list.specs.Words.{cut}
+use Rattle.kvm_list.specs.WordsLaws.{cut-small}
 use Rattle.pages.specs.Layout.{wordAt}
 use Rattle.x86defs.specs.Functions.{result}
-use Rattle.kvm.specs.Format.{ListRow, rowCount, zeroWord, rowAt, rowsIn}
-use Rattle.kvm.specs.FormatLaws.{cutRow}
+use Rattle.kvm_list.specs.Format.{ListRow, rowCount, zeroWord, rowAt, rowsIn}
+use Rattle.kvm_list.specs.FormatLaws.{cutRow}
 use Rattle.kvm_import.specs.Import.{badListLength, rowLawful, allLawful, fieldsLawful, rowsOn0, rowsOn1, rowsFit, listVerdict, pagesOf, readList}
 use Rattle.kvm_import.specs.PagesLaws.{pages-length}
 use Rattle.round_trip.specs.Reads.{AreBytes, ReadMakes}

@@ -33,7 +33,7 @@ use Rattle.buffer.specs.WritesExactly.{front-exactly}
 use Rattle.image.specs.Pieces.{rowsAmong}
 use Rattle.refusals.specs.ExactlyProof.{not-short}
 use Rattle.rise.specs.RiseProof.{answer-table, answer-row}
-use Rattle.kvm.specs.Format.{rowsIn}
+use Rattle.kvm_list.specs.Format.{rowsIn}
 use Rattle.kvm_import.specs.Import.{listVerdict, pagesOf, readList}
 use Rattle.kvm_import.specs.PagesLaws.{pages-length as two-pages}
 use Rattle.kvm_export.specs.Export.{listRows, listOf, writeList}

@@ -16,9 +16,9 @@ use Rattle.masking.specs.Kept.{keptLeaves, slot, places, leafAt, indexedAt}
 use Rattle.table.specs.declared.CpuidResults.{CpuidResults}
 use Rattle.table.specs.declared.Verdict.the-variants.{Accepted}
 use Rattle.table.specs.Table.{rowIn}
-use Rattle.kvm.specs.Words.{cut}
-use Rattle.kvm.specs.Format.{ListRow, rowCount, rowsIn, listBytes}
-use Rattle.kvm.specs.FormatLaws.{cutRow, list-count, list-zero, list-rows, list-length}
+use Rattle.kvm_list.specs.Words.{cut}
+use Rattle.kvm_list.specs.Format.{ListRow, rowCount, rowsIn, listBytes}
+use Rattle.kvm_list.specs.FormatLaws.{cutRow, list-count, list-zero, list-rows, list-length}
 use Rattle.kvm_import.specs.Import.{badListLength, allLawful, fieldsLawful, isExtendedState, rowsOn0, rowsOn1, rowsFit, listVerdict}
 use Rattle.kvm_export.specs.Export.{listRow, rowsFrom, listRows, listOf}
 

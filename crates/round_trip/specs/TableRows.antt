@@ -26,10 +26,10 @@ use Rattle.update.specs.Finish.{ruleAt}
 use Rattle.update.specs.Kinds.{fromEntry}
 use Rattle.table.specs.Table.{rowIn}
 use Rattle.collect.specs.FirstEntries.{maskedAt, maskRow}
-use Rattle.kvm.specs.Words.{cut}
-use Rattle.kvm.specs.WordsLaws.{cut-cut}
-use Rattle.kvm.specs.Format.{ListRow, rowFrom}
-use Rattle.kvm.specs.FormatLaws.{cutRow}
+use Rattle.kvm_list.specs.Words.{cut}
+use Rattle.kvm_list.specs.WordsLaws.{cut-cut}
+use Rattle.kvm_list.specs.Format.{ListRow, rowFrom}
+use Rattle.kvm_list.specs.FormatLaws.{cutRow}
 use Rattle.kvm_export.specs.Export.{listRow, rowsFrom}
 use Rattle.round_trip.specs.PagesRead.{firstRow, AllFit}
 use Rattle.round_trip.specs.Reads.{ofRow}

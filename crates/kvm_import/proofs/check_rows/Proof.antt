@@ -7,7 +7,7 @@ use native.Mathlib.Omega.{arith}
 use lib.ListN.{length}
 use Rattle.bits.specs.ChoiceLaws.{never-both}
 use Rattle.bits.specs.Lists.{one}
-use Rattle.kvm.specs.Format.{ListRow, rowCount, rowsIn}
+use Rattle.kvm_list.specs.Format.{ListRow, rowCount, rowsIn}
 use Rattle.kvm_import.specs.Import.{allLawful, fieldsLawful, rowsOn1}
 use Rattle.kvm_import.specs.Pieces.{rowsLeft}
 use Rattle.kvm_import.specs.RowsLeftLaws.{left-all, left-none, on1-none, extended-more, fields-bad, fields-head, lawful-next, lawful-stops, lawful-ends}

@@ -4,7 +4,7 @@ use Prim.Native.Nat.{_-_, _≤_, _<_}
 use native.Mathlib.Omega.{arith}
 use lib.ListN.{length}
 use Rattle.bits.specs.Lists.{one}
-use Rattle.kvm.specs.Format.{rowCount}
+use Rattle.kvm_list.specs.Format.{rowCount}
 use Rattle.kvm_import.specs.EntriesLaws.{Entering, entering-first, entering-room, entering-next, entering-last}
 use borrow.Author.Needs.{needs}
 use Rattle.kvm_import.proofs.put_entries.Statement.{statement}

@@ -1,13 +1,13 @@
--- `kvm::put_zeros` meets its contract. The invariant: the zeros that are left, stored from `i` on, come to the same.
+-- `kvm_list::put_zeros` meets its contract. The invariant: the zeros that are left, stored from `i` on, come to the same.
 use mathlib.Core.Path.{_≡_, refl, sym, _∙_}
 use Prim.Native.Nat.{_-_, _≤_}
 use native.Mathlib.Omega.{arith}
 use borrow.Author.Needs.{needs}
 use lib.ListN.{length, replicate, length-set}
 use lib.Seq.{sets}
-use Rattle.kvm.specs.StoresLaws.{clear-more, clear-none}
-use Rattle.kvm.proofs.put_zeros.Statement.{statement}
-use Rattle.kvm.proofs.put_zeros.Tie as tie
+use Rattle.kvm_list.specs.StoresLaws.{clear-more, clear-none}
+use Rattle.kvm_list.proofs.put_zeros.Statement.{statement}
+use Rattle.kvm_list.proofs.put_zeros.Tie as tie
 
 abbrev Inv-loop : tie.InvT-loop
 Inv-loop out₀ from end i₀ out i =

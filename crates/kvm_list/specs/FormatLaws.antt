@@ -7,9 +7,9 @@ use lib.ListN.{length, getD}
 use lib.Seq.{getD-append-add}
 use Rattle.bits.specs.Lists.{tabulate}
 use Rattle.pages.specs.Layout.{wordAt}
-use Rattle.kvm.specs.Words.{cut}
-use Rattle.kvm.specs.WordsLaws.{cut-small, length-bytes, word-bytes}
-use Rattle.kvm.specs.Format.{ListRow, rowWords, rowFrom, allWords, listBytes, rowAt, rowsIn}
+use Rattle.kvm_list.specs.Words.{cut}
+use Rattle.kvm_list.specs.WordsLaws.{cut-small, length-bytes, word-bytes}
+use Rattle.kvm_list.specs.Format.{ListRow, rowWords, rowFrom, allWords, listBytes, rowAt, rowsIn}
 
 -- a row of 32-bit words
 abbrev pub cutRow : ListRow → ListRow

@@ -7,7 +7,7 @@ use Rattle.bits.specs.Lists.{tabulate}
 use Rattle.x86defs.specs.declared.CpuidResult.{CpuidResult}
 use Rattle.x86defs.specs.Functions.{result}
 use Rattle.pages.specs.Layout.{wordAt}
-use Rattle.kvm.specs.Words.{bytesOfWords}
+use Rattle.kvm_list.specs.Words.{bytesOfWords}
 
 -- struct kvm_cpuid_entry2
 pub record ListRow : Type 0 where

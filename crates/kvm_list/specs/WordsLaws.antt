@@ -8,7 +8,7 @@ use lib.Pow.{mod-pow-add}
 use lib.Seq.{getD-append-add}
 use Rattle.pages.specs.Layout.{wordAt}
 use Rattle.buffer.specs.Front.{bytesOf}
-use Rattle.kvm.specs.Words.{bytesOfWords, cut}
+use Rattle.kvm_list.specs.Words.{bytesOfWords, cut}
 
 pub cut-cut : (n : ℕ) → cut (cut n) ≡ cut n
 cut-cut n = omega arith
