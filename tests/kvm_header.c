@@ -106,6 +106,6 @@ int main(int argc, char **argv) {
     }
     given_to_kvm(kvm);
     uint32_t supported = supported_to_file(kvm, argv[2]);
-    printf("%u rows are as <linux/kvm.h> has them, KVM_SET_CPUID2 takes them, KVM_GET_SUPPORTED_CPUID gives %u\n", rows, supported);
+    printf("%u rows are as <linux/kvm.h> has them, KVM_SET_CPUID2 takes them, KVM_GET_SUPPORTED_CPUID gives %u rows\n", rows, supported);
     return 0;
 }
