@@ -25,9 +25,10 @@ use Rattle.table.specs.declared.Verdict.the-variants.{Accepted, Refused}
 use Rattle.checks.specs.declared.required.RequiredLeaf.{RequiredLeaf}
 use Rattle.table.specs.Rows.{Rows}
 use Rattle.checks.specs.Required.{commonRequiredLeaves, snpRequiredLeaves, subleafNumber, requiredAt, requiredCount, placeRequired}
+use Rattle.checks.specs.ExtendedState.{supplied}
 use Rattle.checks.specs.Checks.{refuseAt, missingRequired, missingComponent}
 use Rattle.checks.specs.MaskLaws.{none-from}
-use Rattle.checks.specs.Parts.{subleafWith, suppliedFor}
+use Rattle.checks.specs.Parts.{subleafWith}
 
 -- refused at the first of the numbers from k up to n that fails the test
 unfoldable pub refuseFrom : (ℕ → Bool) → (ℕ → Refusal) → ℕ → ℕ → Verdict
@@ -101,7 +102,7 @@ required-ends p j h = sym (scan-ends _ missingRequired requiredCount j (λ i l u
 -- ---- the subleaves that a mask needs
 
 abbrev pub componentsFrom : Rows → ℕ → ℕ → Verdict
-componentsFrom m x k = refuseFrom (suppliedFor m x) missingComponent 64 k
+componentsFrom m x k = refuseFrom (supplied m x) missingComponent 64 k
 
 -- one turn, at subleaf k: it is needed and not there, or it is not
 needed-missing : (b p : Bool) → (b && not p) ≡ true → pick b p true ≡ false
@@ -116,14 +117,15 @@ not-missing false p e = refl
 
 module _ (m : Rows) (x k : ℕ) {used : Bool} (h : k < 64) (e : used ≡ has k x) where
   pub component-passes : (used && not (m (Place.extendedState k) .present)) ≡ false → componentsFrom m x k ≡ componentsFrom m x (k + 1)
-  component-passes t = scan-passes (suppliedFor m x) missingComponent 64 k h (not-missing (has k x) (m (Place.extendedState k) .present) (rw e at t))
+  component-passes t = scan-passes (supplied m x) missingComponent 64 k h (not-missing (has k x) (m (Place.extendedState k) .present) (rw e at t))
 
   pub component-stops : (used && not (m (Place.extendedState k) .present)) ≡ true → Refused (missingComponent k) ≡ componentsFrom m x k
-  component-stops t = sym (scan-stops (suppliedFor m x) missingComponent 64 k h (needed-missing (has k x) (m (Place.extendedState k) .present) (rw e at t)))
+  component-stops t =
+      sym (scan-stops (supplied m x) missingComponent 64 k h (needed-missing (has k x) (m (Place.extendedState k) .present) (rw e at t)))
 
 pub components-end : (m : Rows) (x k : ℕ) → 64 ≤ k → Accepted ≡ componentsFrom m x k
-components-end m x k h = sym (scan-ends (suppliedFor m x) missingComponent 64 k (λ i l u. absurd (omega arith)))
+components-end m x k h = sym (scan-ends (supplied m x) missingComponent 64 k (λ i l u. absurd (omega arith)))
 
 -- no bit is left
 pub components-none : (m : Rows) (x k : ℕ) → x / 2 ^ k ≡ 0 → Accepted ≡ componentsFrom m x k
-components-none m x k z = sym (scan-ends (suppliedFor m x) missingComponent 64 k (λ j l u. rw (none-from x k z j l)))
+components-none m x k z = sym (scan-ends (supplied m x) missingComponent 64 k (λ j l u. rw (none-from x k z j l)))

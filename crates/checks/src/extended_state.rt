@@ -12,8 +12,9 @@ use x86defs::xsave_s;
 ghost use mathlib.Core.Path.{_≡_};
 ghost use Prim.Native.Nat.{_+_};
 ghost use lib.Bits.{bitOr};
-ghost use Rattle.checks.specs.Parts.{presentIn, resultsIn, xssOf, componentsOf, grownOf, sizeOf};
-ghost use Rattle.checks.specs.ExtendedState.{saveArea};
+ghost use Rattle.checks.specs.ExtendedState.{xssOf, grown, saveArea, sizeOf};
+ghost use Rattle.checks.specs.Checks.{componentsOf};
+ghost use Rattle.checks.specs.Parts.{presentIn, resultsIn};
 
 // The smallest save area.
 const XSAVE_MINIMUM_XSAVE_AREA_SIZE: u32 = 576;
@@ -58,7 +59,7 @@ pub fn process_extended_state_subleaves(present: [bool; PLACES], mask: u64) -> V
 
 // The area so far, grown by a subleaf's size and offset if the mask has it.
 fn grown(area: u32, used: bool, subleaf: CpuidResult) -> Size
-    ensures { λ r. ⌜ r ≡ grownOf area used (subleaf .eax + subleaf .ebx) ⌝ }
+    ensures { λ r. ⌜ r ≡ sizeOf (grown area used (subleaf .eax + subleaf .ebx)) ⌝ }
 {
     if used {
         let left = 0xFFFFFFFF - subleaf.eax;

@@ -5,11 +5,11 @@ ghost use mathlib.Core.Path.{_≡_};
 ghost use Prim.Native.Nat.{_<_};
 ghost use Rattle.masking.specs.Kept.{places};
 ghost use Rattle.update.specs.Finish.{ruleAt};
-ghost use Rattle.update.specs.Kinds.{kindsOf, fromEntry};
+ghost use Rattle.update.specs.Kinds.{kindsAt, fromEntry};
 ghost use Rattle.rise.specs.Decide.{risesTest};
 ghost use Rattle.compare.specs.KindsInCode.{kindIn, kindsIn};
 
-// The kinds of specs/Kinds.antt of crate finish.
+// The kinds of specs/Kinds.antt of crate update.
 pub enum Kind {
     Feature,
     FeatureBut28,
@@ -35,7 +35,7 @@ fn row_of(eax: Kind, ebx: Kind, ecx: Kind, edx: Kind) -> Kinds
 // The kinds of a place's registers.
 pub fn kinds_at(place: usize) -> Kinds
     requires { ⌜ place < places ⌝ }
-    ensures { λ r. ⌜ kindsIn r ≡ kindsOf (ruleAt place) ⌝ }
+    ensures { λ r. ⌜ kindsIn r ≡ kindsAt place ⌝ }
 {
     match place {
         0 => row_of(Kind::Freed, Kind::Freed, Kind::Freed, Kind::Freed),

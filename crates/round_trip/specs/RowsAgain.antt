@@ -27,10 +27,10 @@ use Rattle.table.specs.declared.Verdict.{Verdict}
 use Rattle.table.specs.declared.Verdict.the-variants.{Accepted, Refused}
 use Rattle.table.specs.Rows.{Row, Rows, row, vacant}
 use Rattle.checks.specs.Required.{placeRequired, requiredCount}
-use Rattle.checks.specs.ExtendedState.{xfem, xss, combinedMask, supplied, saveArea}
-use Rattle.checks.specs.ExtendedStateLaws.{sumAt, area-mono, xsaves-ecx, in-combined}
+use Rattle.checks.specs.ExtendedState.{xfem, xss, combinedMask, supplied, sumAt, saveArea}
+use Rattle.checks.specs.ExtendedStateLaws.{area-mono, xsaves-ecx, in-combined}
 use Rattle.checks.specs.TopologyInputs.{inputsOf}
-use Rattle.checks.specs.Checks.{refuseAt, missingComponent, invlpgbVerdict, componentsVerdict, areaVerdict, topologyVerdict, topologyRefusal, rowsVerdict}
+use Rattle.checks.specs.Checks.{refuseAt, missingComponent, invlpgbVerdict, componentsOf, componentsVerdict, areaVerdict, topologyVerdict, topologyRefusal, rowsVerdict}
 use Rattle.checks.specs.ChecksLaws.{AllPass, all-pass, required-present, present-required, component-present, demanded, then-skips}
 use Rattle.update.specs.Finish.{Rule, Settings, ruleAt, enabledBy, settings, finish, remains, finishRow, finished, unlessNoXss, addressSizesEbx}
 use Rattle.update.specs.Kinds.{fromEntry}
@@ -240,8 +240,7 @@ module _ (avic : Bool) (m : Rows) (masked : Masked avic m) where
     unfolding invlpgbVerdict
     invlpgb-again = rw invlpgb-bit (pass .invlpgb)
 
-    supplied-again : (k : ℕ) → 2 ≤ k → k < 64 → supplied n k ≡ true
-    unfolding supplied
+    supplied-again : (k : ℕ) → 2 ≤ k → k < 64 → supplied n (combinedMask n) k ≡ true
     supplied-again k l u = rw mask-again (go (has k (combinedMask m)) refl)
       where
         go : (b : Bool) → has k (combinedMask m) ≡ b → pick b (n (Place.extendedState k) .present) true ≡ true
@@ -249,8 +248,8 @@ module _ (avic : Bool) (m : Rows) (masked : Masked avic m) where
         go false e = refl
 
     components-again : componentsVerdict n ≡ Accepted
-    unfolding componentsVerdict
-    components-again = ap (λ (f : Failing). refuseAt f missingComponent) (lowest-all (supplied n) 2 62 (λ k l u. supplied-again k l (omega arith)))
+    unfolding componentsVerdict componentsOf
+    components-again = ap (λ (f : Failing). refuseAt f missingComponent) (lowest-all (supplied n (combinedMask n)) 2 62 (λ k l u. supplied-again k l (omega arith)))
 
     area-verdict-again : areaVerdict n ≡ Accepted
     unfolding areaVerdict

@@ -12,8 +12,9 @@ use Rattle.x86defs.specs.declared.CpuidResult.{CpuidResult}
 use Rattle.x86defs.specs.Functions.{result}
 use Rattle.masking.specs.Kept.{masksAt}
 use Rattle.table.specs.Rows.{Row, Rows, row, vacant}
-use Rattle.update.specs.Finish.{Rule, Enabled, Settings, hasYmm, hasAvx512, hasCet, ymmVersionEcx, ymmFeaturesEbx, ymmFeaturesEcx, avx512FeaturesEbx, avx512FeaturesEcx, avx512FeaturesEdx, cetSs, rdPid, rdtscp, ibrsAndStibp, btcNo, hypervisorPresent, versionEcx, featuresEbx, featuresEcx, featuresEdx, extendedVersionEdx, addressSizesEbx, unlessNoXss, finish, remains}
-use Rattle.update.specs.Finish.Rule.{vendorAndMaxFunction, versionAndFeatures, extendedFeatures, threadLevelRow, coreLevelRow, extendedState0, extendedState1, extendedMaxFunction, extendedVersionAndFeatures, extendedAddressSpaceSizes, featureEax, untouched, component}
+use Rattle.update.specs.Finish.{Needed, Rule, changeRow, Enabled, Settings, hasYmm, hasAvx512, hasCet, ymmVersionEcx, ymmFeaturesEbx, ymmFeaturesEcx, avx512FeaturesEbx, avx512FeaturesEcx, avx512FeaturesEdx, cetSs, rdPid, rdtscp, ibrsAndStibp, btcNo, hypervisorPresent, versionEcx, featuresEbx, featuresEcx, featuresEdx, extendedVersionEdx, addressSizesEbx, unlessNoXss, finish, remains}
+use Rattle.update.specs.Finish.Needed.{versionAndFeatures, extendedFeatures, threadLevelRow, coreLevelRow, extendedState0, extendedState1, extendedVersionAndFeatures, extendedAddressSpaceSizes, untouched}
+use Rattle.update.specs.Finish.Rule.{made, needed, component}
 use Rattle.update.specs.Kinds.{fromEntry}
 use Rattle.collect.specs.FirstEntries.{maskedAt}
 
@@ -119,62 +120,54 @@ addressSizesEbx-again m x h e =
 
 -- ---- each rule: a row that masking leaves as it is
 
+abbrev sizesNeeded : Needed → Bool
+sizesNeeded extendedAddressSpaceSizes = true
+sizesNeeded versionAndFeatures = false
+sizesNeeded extendedFeatures = false
+sizesNeeded threadLevelRow = false
+sizesNeeded coreLevelRow = false
+sizesNeeded extendedState0 = false
+sizesNeeded extendedState1 = false
+sizesNeeded extendedVersionAndFeatures = false
+sizesNeeded untouched = false
+
 abbrev pub isSizes : Rule → Bool
-isSizes extendedAddressSpaceSizes = true
-isSizes vendorAndMaxFunction = false
-isSizes versionAndFeatures = false
-isSizes extendedFeatures = false
-isSizes threadLevelRow = false
-isSizes coreLevelRow = false
-isSizes extendedState0 = false
-isSizes extendedState1 = false
-isSizes extendedMaxFunction = false
-isSizes extendedVersionAndFeatures = false
-isSizes featureEax = false
-isSizes untouched = false
+isSizes (made t) = false
+isSizes (needed t) = sizesNeeded t
 isSizes (component k) = false
 
 module _ (c : Settings) (avic : Bool) (i : ℕ) (r : CpuidResult) where
+  change-again : (t : Needed) → maskedAt avic i r ≡ r → (sizesNeeded t ≡ true → bit 12 (masksAt avic i .ebx) ≡ 1)
+      → changeRow c t (maskedAt avic i (changeRow c t r)) ≡ changeRow c t r
+  change-again versionAndFeatures e h = λ k. result (e k .eax) (e k .ebx) (versionEcx-again (c .enabled) _ _ (λ j. e j .ecx) k) (e k .edx)
+  change-again extendedFeatures e h = λ k.
+      result (e k .eax)
+      (featuresEbx-again (c .enabled) _ _ (λ j. e j .ebx) k)
+      (featuresEcx-again (c .enabled) _ _ (λ j. e j .ecx) k)
+      (featuresEdx-again (c .enabled) _ _ (λ j. e j .edx) k)
+  change-again threadLevelRow e h = refl
+  change-again coreLevelRow e h = refl
+  change-again extendedState0 e h = λ k. result (e k .eax) (e k .ebx) (c .saveArea) (e k .edx)
+  change-again extendedState1 e h = λ k.
+      result (e k .eax) (e k .ebx)
+      (unlessNoXss-again (c .enabled) _ _ (λ j. e j .ecx) k)
+      (unlessNoXss-again (c .enabled) _ _ (λ j. e j .edx) k)
+  change-again extendedVersionAndFeatures e h = λ k.
+      result (e k .eax) (e k .ebx) (e k .ecx) (extendedVersionEdx-again (c .enabled) _ _ (λ j. e j .edx) k)
+  change-again extendedAddressSpaceSizes e h = λ k.
+      result (e k .eax) (addressSizesEbx-again _ _ (h refl) (λ j. e j .ebx) k) (e k .ecx) (e k .edx)
+  change-again untouched e h = e
+
   pub finish-again : (t : Rule) → (fromEntry t ≡ true → maskedAt avic i r ≡ r) → (isSizes t ≡ true → bit 12 (masksAt avic i .ebx) ≡ 1)
       → finish c t (pick (fromEntry t) (row (maskedAt avic i (finish c t r))) vacant .result) ≡ finish c t r
-  finish-again vendorAndMaxFunction e h = refl
-  finish-again extendedMaxFunction e h = refl
-  finish-again versionAndFeatures e h = λ k.
-      result (e refl k .eax) (e refl k .ebx) (versionEcx-again (c .enabled) _ _ (λ j. e refl j .ecx) k) (e refl k .edx)
-  finish-again extendedFeatures e h = λ k.
-      result (e refl k .eax)
-      (featuresEbx-again (c .enabled) _ _ (λ j. e refl j .ebx) k)
-      (featuresEcx-again (c .enabled) _ _ (λ j. e refl j .ecx) k)
-      (featuresEdx-again (c .enabled) _ _ (λ j. e refl j .edx) k)
-  finish-again threadLevelRow e h = refl
-  finish-again coreLevelRow e h = refl
-  finish-again extendedState0 e h = λ k. result (e refl k .eax) (e refl k .ebx) (c .saveArea) (e refl k .edx)
-  finish-again extendedState1 e h = λ k.
-      result (e refl k .eax) (e refl k .ebx)
-      (unlessNoXss-again (c .enabled) _ _ (λ j. e refl j .ecx) k)
-      (unlessNoXss-again (c .enabled) _ _ (λ j. e refl j .edx) k)
-  finish-again extendedVersionAndFeatures e h = λ k.
-      result (e refl k .eax) (e refl k .ebx) (e refl k .ecx) (extendedVersionEdx-again (c .enabled) _ _ (λ j. e refl j .edx) k)
-  finish-again extendedAddressSpaceSizes e h = λ k.
-      result (e refl k .eax) (addressSizesEbx-again _ _ (h refl) (λ j. e refl j .ebx) k) (e refl k .ecx) (e refl k .edx)
-  finish-again featureEax e h = e refl
-  finish-again untouched e h = e refl
+  finish-again (made t) e h = refl
+  finish-again (needed t) e h = change-again t (e refl) h
   finish-again (component n) e h = e refl
 
 -- whether a row remains, from whether it remained
 pub remains-again : (c : Settings) (t : Rule) (p : Bool) → remains c t (pick (fromEntry t) (remains c t p) false) ≡ remains c t p
-remains-again c vendorAndMaxFunction p = refl
-remains-again c extendedMaxFunction p = refl
-remains-again c versionAndFeatures p = refl
-remains-again c extendedFeatures p = refl
-remains-again c threadLevelRow p = refl
-remains-again c coreLevelRow p = refl
-remains-again c extendedState0 p = refl
-remains-again c extendedState1 p = refl
-remains-again c extendedVersionAndFeatures p = refl
-remains-again c extendedAddressSpaceSizes p = refl
-remains-again c featureEax p = refl
-remains-again c untouched p = refl
+remains-again c (made t) p = refl
+remains-again c (needed t) p = refl
 remains-again c (component k) p = go (has k (bitOr (c .enabled .xfem) (c .enabled .xss)))
   where
     go : (b : Bool) → (b && (b && p)) ≡ (b && p)

@@ -27,13 +27,17 @@ array-read-if1 c = let s = c .before .before in required-row-place (s .before .a
 
 loop-again : tie.Need-loop-again Inv-loop μ-loop
 loop-again c =
-    let s = c .before .before .before in
-    (search needs, s .loop .inv .1, s .loop .inv .2 ∙ required-passes (s .before .args .t1) (s .loop .j) _ (s .loop .inv .1) (search needs) (c .if1 .taken))
+    let s = c .before .before .before in (
+      search needs,
+      s .loop .inv .1,
+      s .loop .inv .2 ∙ required-passes (s .before .args .t1) (s .loop .j) _ (s .loop .inv .1) (search needs) (c .if1 .taken),
+    )
 
 returns : tie.Need-returns Inv-loop μ-loop
 returns c =
     let s = c .before .before .before .before in
-    required-stops (s .before .args .t1) (s .loop .j) _ (s .loop .inv .1) (search needs) (c .before .if1 .left) (c .subleaf-of .ensures) ∙ sym (s .loop .inv .2)
+    required-stops (s .before .args .t1) (s .loop .j) _ (s .loop .inv .1) (search needs) (c .before .if1 .left) (c .subleaf-of .ensures)
+    ∙ sym (s .loop .inv .2)
 
 returns-2 : tie.Need-returns-2 Inv-loop μ-loop
 returns-2 c = let s = c .before in required-ends (s .before .args .t1) (s .loop .j) (search needs) ∙ sym (s .loop .inv .2)
