@@ -6,3 +6,4 @@ pub mod BitsLaws
 pub mod ChoiceLaws
 pub mod SearchLaws
 pub mod ListsLaws
+pub mod WidthLaws

@@ -1,3 +1,4 @@
 pub mod FirstEntries
 pub mod FirstEntriesLaws
 pub mod Collect
+pub mod RowsFit

@@ -1,7 +1,6 @@
 pub mod KindsInCode
 pub mod Compare
 pub mod Means
-pub mod OrderLaws
 pub mod CompareLaws
 pub mod ReturnLaws
 pub mod DecidesProof

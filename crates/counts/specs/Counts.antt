@@ -1,5 +1,5 @@
 -- Document 01: "An accepted table has 17 rows without subleaf, 9 with, and one for each combined bit from 2 up: 26 to 32"; the image's
--- "length 582 + 25 for each combined bit from 2 up"; "a single page is never accepted"; the order of the image's leaves.
+-- "length 582 + 25 for each combined bit from 2 up"; "a single page is never accepted".
 use mathlib.Core.Path.{_≡_}
 use mathlib.Core.Bool.{Bool}
 use mathlib.Core.List.{List}
@@ -29,12 +29,3 @@ RowsCounted = (avic : Bool) (s : List ℕ) → answer avic s .verdict ≡ Accept
 
 abbrev pub SinglePageRefused : Type 0
 SinglePageRefused = (avic : Bool) (s : List ℕ) → length s ≡ pageSize → answer avic s .verdict ≡ Accepted → ⊥
-
--- what holds of the free part of the image, the order of its leaves: every place stands in it once, the subleaves of a leaf stand
--- together and ascend
-pub record LeafOrder (order : List ℕ) : Type 0 where
-  pub position : ℕ → ℕ
-  pub inside : (i : ℕ) → i < places → position i < length order
-  pub stands : (i : ℕ) → i < places → getD order (position i) places ≡ i
-  pub once : (n : ℕ) → n < length order → (getD order n places < places) × (position (getD order n places) ≡ n)
-  pub subleaves : (i j : ℕ) → i < places → j < places → leafAt i ≡ leafAt j → position i + subleafAt j ≡ position j + subleafAt i

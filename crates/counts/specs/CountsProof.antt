@@ -1,13 +1,11 @@
 -- The proofs of the statements of Counts.
-use mathlib.Core.Path.{_≡_, refl, ap}
+use mathlib.Core.Path.{_≡_, ap}
 use mathlib.Core.Bool.{Bool}
 use mathlib.Core.List.{List}
 use Prim.Native.Nat.{ℕ, _≤_, _<_}
 use lib.ListN.{length}
 use native.Mathlib.Omega.{arith}
-use Rattle.bits.specs.ListsLaws.{length-tabulate, getD-tabulate}
 use Rattle.masking.specs.Kept.{places}
-use Rattle.masking.specs.KeptLaws.{firstPlace, place-from-first}
 use Rattle.table.specs.declared.Verdict.{Verdict}
 use Rattle.table.specs.declared.Verdict.the-variants.{Accepted}
 use Rattle.table.specs.Rows.{Rows}
@@ -18,8 +16,8 @@ use Rattle.table.specs.Table.{tableOf}
 use Rattle.build.specs.Built.{tableFor}
 use Rattle.collect.specs.FirstEntries.{rowsOf}
 use Rattle.build.specs.Build.{lawfulVerdict, verdictOf, answer}
-use Rattle.image.specs.Image.{leafOrder, image}
-use Rattle.counts.specs.Counts.{Counted, RowsCounted, SinglePageRefused, LeafOrder}
+use Rattle.image.specs.Image.{image}
+use Rattle.counts.specs.Counts.{Counted, RowsCounted, SinglePageRefused}
 use Rattle.counts.specs.Standing.{stands, row-stands}
 use Rattle.counts.specs.Sizes.{rows-count, bytes-count}
 use Rattle.counts.specs.Mask.{mask-within, components-most}
@@ -58,13 +56,3 @@ at-most-732 avic s e =
 
 pub single-page-refused : SinglePageRefused
 single-page-refused avic s n e = single-refused avic s n (rows-pass avic s e)
-
-pub leaf-order : LeafOrder leafOrder
-unfolding leafOrder
-leaf-order = record {
-  position = λ i. i;
-  inside = λ i h. rw length-tabulate h;
-  stands = λ i h. getD-tabulate places (λ i. i) i places h;
-  once = λ n h. let inside : n < places = rw length-tabulate at h in rw (getD-tabulate places (λ i. i) n places inside) (inside, refl);
-  subleaves = λ i j h l e. omega (arith, place-from-first i h, place-from-first j l, ap firstPlace e);
-}

@@ -10,7 +10,8 @@ use Rattle.masking.specs.Kept.{keptLeaves, slot, places}
 use Rattle.table.specs.declared.CpuidResults.{CpuidResults}
 use Rattle.table.specs.Rows.{Rows}
 use Rattle.table.specs.Table.{countRows, tableOf, rowIn}
-use Rattle.image.specs.Image.{placeBytes, imageIn, leafOrder, image}
+use Rattle.table.specs.OrderLaws.{row-order}
+use Rattle.image.specs.Image.{placeBytes, imageIn, image}
 use Rattle.image.specs.LengthLaws.{width, place-length}
 use Rattle.counts.specs.Counts.{componentsIn}
 use Rattle.counts.specs.Standing.{stands}
@@ -45,8 +46,9 @@ module _ (m : Rows) (x : ℕ) (standing : (i : ℕ) → i < places → m i .pres
   rows-count = sum-ext _ _ places (λ i h. ap one (standing i h)) ∙ rows-sum x
 
   pub bytes-count : length (image (tableOf m x)) ≡ 582 + 25 * componentsIn x
-  unfolding image leafOrder
+  unfolding image
   bytes-count =
-      image-length (tableOf m x) places (λ i. i)
+      ap (λ l. length (imageIn l (tableOf m x))) row-order
+      ∙ image-length (tableOf m x) places (λ i. i)
       ∙ sum-ext _ _ places (λ i h. ap (λ b. width i * one b) (getD-tabulate places (λ i. m i .present) i false h ∙ standing i h))
       ∙ bytes-sum x

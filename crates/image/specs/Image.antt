@@ -1,14 +1,14 @@
 -- Document 01, "Image and lookup": byte 1, then leaf, EAX, EBX, ECX, EDX (4 bytes each, little-endian) for a row without subleaf; byte 2,
--- leaf, subleaf and the four for one with. Leaves stand in any order; subleaves of a leaf ascend.
+-- leaf, subleaf and the four for one with. Document 02, P1: "Rows of the image shall ascend by leaf as an unsigned number, then by subleaf."
 use mathlib.Core.List.{List, [], _∷_, _++_}
 use Prim.Native.Nat.{ℕ}
 use Rattle.bits.specs.Choice.{pick}
-use Rattle.bits.specs.Lists.{tabulate}
 use Rattle.x86defs.specs.declared.CpuidResult.{CpuidResult}
-use Rattle.masking.specs.Kept.{places, leafAt, indexedAt, subleafAt}
+use Rattle.masking.specs.Kept.{leafAt, indexedAt, subleafAt}
 use Rattle.table.specs.declared.CpuidResults.{CpuidResults}
 use Rattle.table.specs.Rows.{Row}
 use Rattle.table.specs.Table.{rowIn}
+use Rattle.table.specs.Order.{rowOrder}
 use Rattle.buffer.specs.Front.{bytesOf, resultBytes}
 
 -- a row of place i
@@ -25,9 +25,6 @@ unfoldable pub imageIn : List ℕ → CpuidResults → List ℕ
 imageIn [] t = []
 imageIn (i ∷ is) t = placeBytes i (rowIn t i) ++ imageIn is t
 
--- The free part: the order of the leaves. What holds of it is `LeafOrder`, crates/counting/specs/Counting.antt.
-unfoldable pub leafOrder : List ℕ
-leafOrder = tabulate places (λ i. i)
-
+-- the rows ascend by leaf and subleaf
 unfoldable pub image : CpuidResults → List ℕ
-image t = imageIn leafOrder t
+image t = imageIn rowOrder t

@@ -13,8 +13,10 @@ use Rattle.masking.specs.Kept.{places}
 use Rattle.table.specs.declared.CpuidResults.{CpuidResults}
 use Rattle.table.specs.Table.{rowIn}
 use Rattle.buffer.specs.Front.{wordBytes}
-use Rattle.image.specs.declared.Run.{Run}
-use Rattle.image.specs.Pieces.{rowsAmong, lawful}
+use Rattle.masking.specs.declared.run.Run.{Run}
+use Rattle.masking.specs.Runs.{lawful}
+use Rattle.masking.specs.RunLaws.{run-end}
+use Rattle.image.specs.Pieces.{rowsAmong}
 use Rattle.image.specs.LengthLaws.{among-none, among-more}
 use Rattle.kvm_list.specs.Words.{bytesOfWords}
 use Rattle.kvm_list.specs.WordsLaws.{length-bytes, bytes-append}
@@ -41,9 +43,9 @@ rows-more t i h =
     go false = refl
 
 -- the first of them, by the run in which the place stands
-pub run-more : (t : CpuidResults) (g : Run) → lawful g ≡ true → (i : ℕ) → i < places → g .first ≤ i → i < g .end
+pub run-more : (t : CpuidResults) (g : Run) → lawful g ≡ true → (i : ℕ) → g .first ≤ i → i < g .first + g .count
     → rowsLeft t i ≡ runRow g (i - g .first) (rowIn t i .present) (rowIn t i .result) ++ rowsLeft t (i + 1)
-run-more t g h i l low high = rows-more t i l ∙ ap (λ (b : List ℕ). b ++ rowsLeft t (i + 1)) (run-row t g h i l low high)
+run-more t g h i low high = rows-more t i (omega (arith, run-end g h)) ∙ ap (λ (b : List ℕ). b ++ rowsLeft t (i + 1)) (run-row t g h i low high)
 
 -- ---- the whole list
 

@@ -6,7 +6,7 @@ use Rattle.bits.specs.Choice.{pick}
 use Rattle.x86defs.specs.declared.CpuidResult.{CpuidResult}
 use Rattle.masking.specs.Kept.{places}
 use Rattle.table.specs.declared.CpuidResults.{CpuidResults}
-use Rattle.image.specs.declared.Run.{Run}
+use Rattle.masking.specs.declared.run.Run.{Run}
 use Rattle.kvm_list.specs.Words.{bytesOfWords}
 use Rattle.kvm_list.specs.Format.{rowWords, allWords}
 use Rattle.kvm_export.specs.Export.{plainRow, rowsFrom}
@@ -16,7 +16,7 @@ rowBytes leaf index flags r = bytesOfWords (rowWords (plainRow leaf index flags 
 
 -- the row of the k-th place of a run
 unfoldable pub runRow : Run → ℕ → Bool → CpuidResult → List ℕ
-runRow g k present r = pick present (pick (g .indexed) (rowBytes (g .leaf) k 1 r) (rowBytes (g .leaf + k) 0 0 r)) []
+runRow g k present r = pick present (pick (g .indexed) (rowBytes (g .leaf .0) k 1 r) (rowBytes (g .leaf .0 + k) 0 0 r)) []
 
 -- the rows from place i on: what is left to write
 unfoldable pub rowsLeft : CpuidResults → ℕ → List ℕ

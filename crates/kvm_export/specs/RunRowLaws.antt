@@ -1,24 +1,22 @@
 -- One row of a list as it is written, and the row that a run gives a place.
 use mathlib.Core.Path.{_≡_, refl, ap, _∙_}
-use mathlib.Core.Bool.{Bool, true, false, not}
+use mathlib.Core.Bool.{Bool, true, false}
 use mathlib.Core.List.{List, [], _++_}
-use Prim.Native.Nat.{ℕ, _+_, _-_, _^_, _≤_, _<_}
+use Prim.Native.Nat.{ℕ, _+_, _-_, _≤_, _<_}
 use native.Mathlib.Omega.{arith}
-use lib.Dec.{eqb, leb, ltb}
 use lib.ListN.{length, replicate}
 use lib.Seq.{sets}
-use borrow.Author.Tests.{eqb-true, not-true}
 use Rattle.bits.specs.Choice.{pick}
-use Rattle.bits.specs.ChoiceLaws.{and-left, and-right}
-use Rattle.bits.specs.Search.{every}
-use Rattle.bits.specs.SearchLaws.{every-at}
+use Rattle.x86defs.specs.declared.CpuidFunction.{CpuidFunction}
 use Rattle.x86defs.specs.declared.CpuidResult.{CpuidResult}
-use Rattle.masking.specs.Kept.{keptLeaves, slot, places, leafAt, indexedAt, subleafAt}
+use Rattle.x86defs.specs.Functions.{function}
+use Rattle.masking.specs.declared.run.Run.{Run}
+use Rattle.masking.specs.Kept.{leafAt, indexedAt, subleafAt}
+use Rattle.masking.specs.Runs.{lawful}
+use Rattle.masking.specs.RunLaws.{indexed-in-run, leaf-in-run, subleaf-in-run}
 use Rattle.table.specs.declared.CpuidResults.{CpuidResults}
 use Rattle.table.specs.Table.{rowIn}
 use Rattle.buffer.specs.Front.{wordBytes, registerBytes}
-use Rattle.image.specs.declared.Run.{Run}
-use Rattle.image.specs.Pieces.{stands, lawful}
 use Rattle.kvm_list.specs.Words.{bytesOfWords}
 use Rattle.kvm_list.specs.Format.{rowWords}
 use Rattle.kvm_list.specs.StoresLaws.{five-pieces, word-length, registers-length}
@@ -54,15 +52,15 @@ row-done out at leaf index flags r e₁ e₂ e₃ e₄ e₅ =
 -- ---- a place of a run
 
 module _ (g : Run) (k : ℕ) (r : CpuidResult) (out : List ℕ) (at : ℕ) where
-  pub run-indexed : {p : Bool} {out′ : List ℕ} → p ≡ true → g .indexed ≡ true → out′ ≡ sets out at (rowBytes (g .leaf) k 1 r)
+  pub run-indexed : {p : Bool} {out′ : List ℕ} → p ≡ true → g .indexed ≡ true → out′ ≡ sets out at (rowBytes (g .leaf .0) k 1 r)
       → (at + 40 ≡ at + length (runRow g k p r)) × (out′ ≡ sets out at (runRow g k p r))
   unfolding runRow
-  run-indexed p q w = rw (p, q) (omega (arith, row-length (g .leaf) k 1 r), w)
+  run-indexed p q w = rw (p, q) (omega (arith, row-length (g .leaf .0) k 1 r), w)
 
-  pub run-whole : {p : Bool} {out′ : List ℕ} → p ≡ true → g .indexed ≡ false → out′ ≡ sets out at (rowBytes (g .leaf + k) 0 0 r)
+  pub run-whole : {p : Bool} {out′ : List ℕ} → p ≡ true → g .indexed ≡ false → out′ ≡ sets out at (rowBytes (g .leaf .0 + k) 0 0 r)
       → (at + 40 ≡ at + length (runRow g k p r)) × (out′ ≡ sets out at (runRow g k p r))
   unfolding runRow
-  run-whole p q w = rw (p, q) (omega (arith, row-length (g .leaf + k) 0 0 r), w)
+  run-whole p q w = rw (p, q) (omega (arith, row-length (g .leaf .0 + k) 0 0 r), w)
 
   pub run-absent : {p : Bool} → p ≡ false → (at ≡ at + length (runRow g k p r)) × (out ≡ sets out at (runRow g k p r))
   unfolding runRow
@@ -72,40 +70,24 @@ module _ (g : Run) (k : ℕ) (r : CpuidResult) (out : List ℕ) (at : ℕ) where
   unfolding runRow
   run-length p = rw p (go (g .indexed))
     where
-      go : (b : Bool) → length (pick b (rowBytes (g .leaf) k 1 r) (rowBytes (g .leaf + k) 0 0 r)) ≡ 40
-      go true = row-length (g .leaf) k 1 r
-      go false = row-length (g .leaf + k) 0 0 r
-
--- a row without a subleaf has none
-all-whole : every (λ i. pick (indexedAt i) true (eqb (subleafAt i) 0)) places ≡ true
-unfolding slot keptLeaves
-all-whole = refl
-
-whole-index : (i : ℕ) → i < places → indexedAt i ≡ false → subleafAt i ≡ 0
-whole-index i l e = eqb-true (subleafAt i) 0 (go (indexedAt i) e (every-at (λ i. pick (indexedAt i) true (eqb (subleafAt i) 0)) places all-whole i l))
-  where
-    go : (b : Bool) → b ≡ false → pick b true (eqb (subleafAt i) 0) ≡ true → eqb (subleafAt i) 0 ≡ true
-    go true p q = absurd (let z : _≡_ {A = ℕ} 0 1 = cc in omega arith)
-    go false p q = q
+      go : (b : Bool) → length (pick b (rowBytes (g .leaf .0) k 1 r) (rowBytes (g .leaf .0 + k) 0 0 r)) ≡ 40
+      go true = row-length (g .leaf .0) k 1 r
+      go false = row-length (g .leaf .0 + k) 0 0 r
 
 -- what place i writes
 abbrev pub placeBytes : CpuidResults → ℕ → List ℕ
 placeBytes t i = pick (rowIn t i .present) (bytesOfWords (rowWords (listRow i (rowIn t i .result)))) []
 
-stands-row : (b : Bool) (leaf k i : ℕ) (p : Bool) (r : CpuidResult) → i < places → stands b leaf k i ≡ true
-    → pick p (bytesOfWords (rowWords (listRow i r))) [] ≡ pick p (pick b (rowBytes leaf k 1 r) (rowBytes (leaf + k) 0 0 r)) []
+stands-row : (b : Bool) (leaf : CpuidFunction) (k i : ℕ) (p : Bool) (r : CpuidResult)
+    → b ≡ indexedAt i → pick b leaf (function (leaf .0 + k)) ≡ leafAt i → pick b k 0 ≡ subleafAt i
+    → pick p (bytesOfWords (rowWords (listRow i r))) [] ≡ pick p (pick b (rowBytes (leaf .0) k 1 r) (rowBytes (leaf .0 + k) 0 0 r)) []
 unfolding rowBytes
-stands-row true leaf k i p r l e =
-    let f = and-right (indexedAt i) _ e in
-    rw (and-left (indexedAt i) _ e, eqb-true (leafAt i .0) leaf (and-left _ _ f), eqb-true (subleafAt i) k (and-right (eqb (leafAt i .0) leaf) _ f))
-stands-row false leaf k i p r l e =
-    let n : indexedAt i ≡ false = not-true (indexedAt i) (and-left _ _ e) in
-    rw (n, eqb-true (leafAt i .0) (leaf + k) (and-right (not (indexedAt i)) _ e), whole-index i l n)
+stands-row true leaf k i p r e f g = rw (← e, ← f, ← g)
+stands-row false leaf k i p r e f g = rw (← e, ← f, ← g)
 
-pub run-row : (t : CpuidResults) (g : Run) → lawful g ≡ true → (i : ℕ) → i < places → g .first ≤ i → i < g .end
+pub run-row : (t : CpuidResults) (g : Run) → lawful g ≡ true → (i : ℕ) → g .first ≤ i → i < g .first + g .count
     → placeBytes t i ≡ runRow g (i - g .first) (rowIn t i .present) (rowIn t i .result)
-unfolding lawful runRow
-run-row t g h i l low high =
-    let all = and-right (ltb (g .leaf + places) (2 ^ 32)) _ (and-right (leb (g .end) places) _ h) in
-    let e : g .first + (i - g .first) ≡ i = omega arith in
-    stands-row (g .indexed) (g .leaf) (i - g .first) i (rowIn t i .present) (rowIn t i .result) l (rw e at (every-at _ (g .end - g .first) all (i - g .first) (omega arith)))
+unfolding runRow
+run-row t g l i low high =
+    stands-row (g .indexed) (g .leaf) (i - g .first) i (rowIn t i .present) (rowIn t i .result)
+    (indexed-in-run g l low high) (leaf-in-run g l low high) (subleaf-in-run g l low high)

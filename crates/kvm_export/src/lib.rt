@@ -2,11 +2,11 @@
 use buffer::Written;
 use buffer::put_registers;
 use buffer::put_word;
-use image::Run;
 use kvm_list::HEAD_SIZE;
 use kvm_list::ROW_SIZE;
 use kvm_list::put_zeros;
 use masking::PLACES;
+use masking::Run;
 use table::CpuidResults;
 use table::Refusal;
 use table::Verdict;
@@ -57,9 +57,9 @@ fn put_rows(t: CpuidResults, out: &mut [u8])
     let mut at = HEAD_SIZE;
     let mut i = 0;
     while i < PLACES {
-        let run = image::run_at(i);
+        let run = masking::run_at(i);
         let first = run.first;
-        let end = run.end;
+        let end = first + run.count as usize;
         while i < end {
             let present = t.present[i];
             let r = t.results[i];
@@ -71,11 +71,11 @@ fn put_rows(t: CpuidResults, out: &mut [u8])
 
 // Writes the row of the `k`-th place of a run, if it is there, and gives the index after it.
 fn put_place(out: &mut [u8], at: usize, run: Run, k: u32, present: bool, r: CpuidResult) -> usize
-    requires { ⌜ (run .leaf + k < 2 ^ 32) × (at + length (runRow run k present r) ≤ length (now out)) ⌝ }
+    requires { ⌜ (run .leaf .0 + k < 2 ^ 32) × (at + length (runRow run k present r) ≤ length (now out)) ⌝ }
     ensures { λ n. ⌜ (n ≡ at + length (runRow run k present r)) × (now (out .exit) ≡ sets (now (out .entry)) at (runRow run k present r)) ⌝ }
 {
     if present {
-        let leaf = run.leaf;
+        let leaf = run.leaf.0;
         if run.indexed {
             put_row(out, at, leaf, k, 1, r);
             return at + ROW_SIZE;

@@ -4,3 +4,4 @@ pub mod RowsRise
 pub mod Decide
 pub mod RiseProof
 pub mod Same
+pub mod BuiltLaws

@@ -77,9 +77,9 @@ registers-same k a b p q = λ i. record {
 -- ---- tables that are at least each other have equal rows
 
 -- a row that is not there is all zeros
-absent : (m : Rows) (i : ℕ) → finished m i .present ≡ false → finished m i ≡ vacant
+pub finished-absent : (m : Rows) (i : ℕ) → finished m i .present ≡ false → finished m i ≡ vacant
 unfolding finished
-absent m i = go (remains (settings m) (ruleAt i) (m i .present)) (finish (settings m) (ruleAt i) (m i .result))
+finished-absent m i = go (remains (settings m) (ruleAt i) (m i .present)) (finish (settings m) (ruleAt i) (m i .result))
   where
     go : (b : Bool) (r : CpuidResult) → pick b (row r) vacant .present ≡ false → pick b (row r) vacant ≡ vacant
     go true r e = absurd (never-both refl e)
@@ -118,8 +118,8 @@ module _ (avic : Bool) (a b : List ℕ) (rises : RiseHypothesis avic a b) (back 
       go true false e f = absurd (never-both (forth .rows i l e) f)
       go false true e f = absurd (never-both (return .rows i l f) e)
       go false false e f =
-          absent (rowsOf avic a) i (sym (ap (λ (r : Row). r .present) (atA i l)) ∙ e)
-          ∙ sym (absent (rowsOf avic b) i (sym (ap (λ (r : Row). r .present) (atB i l)) ∙ f))
+          finished-absent (rowsOf avic a) i (sym (ap (λ (r : Row). r .present) (atA i l)) ∙ e)
+          ∙ sym (finished-absent (rowsOf avic b) i (sym (ap (λ (r : Row). r .present) (atB i l)) ∙ f))
 
   mask-same : combinedMask (rowsOf avic a) ≡ combinedMask (rowsOf avic b)
   mask-same =

@@ -9,7 +9,7 @@ use Rattle.bits.specs.Choice.{pick}
 use Rattle.masking.specs.Kept.{places}
 use Rattle.table.specs.declared.CpuidResults.{CpuidResults}
 use Rattle.table.specs.Table.{rowIn}
-use Rattle.compare.specs.OrderLaws.{Precedes, places-rise}
+use Rattle.table.specs.OrderLaws.{places-rise}
 use Rattle.x86defs.specs.declared.CpuidResult.{CpuidResult}
 use Rattle.kvm_list.specs.Format.{ListRow}
 use Rattle.kvm_export.specs.Export.{listRow, rowsFrom, listRows}

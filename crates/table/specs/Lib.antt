@@ -1,3 +1,6 @@
 pub mod Refusal
 pub mod Rows
 pub mod Table
+pub mod Fits
+pub mod Order
+pub mod OrderLaws

@@ -14,20 +14,24 @@ use Rattle.table.specs.declared.Refusal.{Refusal}
 use Rattle.table.specs.declared.Refusal.the-variants.{PagesLength, MissingRequiredResult, SaveAreaOverflow, BufferTooShort, ListLength, ListRows, ListFields}
 use Rattle.table.specs.declared.CpuidResults.{CpuidResults}
 use Rattle.table.specs.declared.Verdict.the-variants.{Accepted, Refused}
-use Rattle.pages.specs.Entries.{entries}
+use Rattle.bits.specs.Lists.{keepIf}
+use Rattle.pages.specs.Entries.{entries, counted}
 use Rattle.masking.specs.Kept.{places}
-use Rattle.pages.specs.Walk.{firstIndex, parsed}
+use Rattle.pages.specs.Walk.{firstIndex, parsed, countsRead}
 use Rattle.build.specs.Build.{answer}
 use Rattle.reader.specs.Read.{given}
-use Rattle.reader.specs.ReadLaws.{reader-gives}
+use Rattle.reader.specs.ReadLaws.{reader-gives, reader-gives-counted}
 use Rattle.lookup.specs.declared.LeafResult.the-variants.{None as Nothing}
 use Rattle.lookup.specs.Lookup.{lookup}
 use Rattle.lookup.specs.LookupLaws.{empty-finds-nothing}
-use Rattle.image.specs.Image.{leafOrder, image}
+use Rattle.image.specs.Image.{image}
 use Rattle.refusals.specs.Exactly.{BuildsExactly, WritesExactly}
 use Rattle.refusals.specs.ExactlyProof.{builds-exactly, writes-exactly}
-use Rattle.counts.specs.Counts.{Counted, LeafOrder}
-use Rattle.counts.specs.CountsProof.{rows-counted, at-most-32, at-most-732, single-page-refused, leaf-order}
+use Rattle.counts.specs.Counts.{Counted}
+use Rattle.counts.specs.CountsProof.{rows-counted, at-most-32, at-most-732, single-page-refused}
+use Rattle.images.specs.Images.{ImageAscends, EqualImages}
+use Rattle.images.specs.AscendLaws.{image-ascends}
+use Rattle.images.specs.ImagesProof.{equal-images}
 use Rattle.rise.specs.Rise.{RiseHypothesis, HypothesisByTheLetter, RiseConclusion}
 use Rattle.rise.specs.RiseProof.{demand-3, demand-3-by-the-letter}
 use Rattle.rise.specs.Same.{rises-itself, same-figures}
@@ -35,7 +39,9 @@ use Rattle.compare.specs.declared.Register.the-variants.{Ecx}
 use Rattle.compare.specs.declared.Compared.the-variants.{Rises as Yes, RefusedA, UnlawfulB, NoEntry, Differs}
 use Rattle.compare.specs.Compare.{compared}
 use Rattle.compare.specs.Means.{Decides}
-use Rattle.compare.specs.OrderLaws.{Precedes, places-rise}
+use Rattle.table.specs.declared.CpuidResults.{CpuidResults}
+use Rattle.table.specs.Order.{Precedes}
+use Rattle.table.specs.OrderLaws.{places-rise}
 use Rattle.compare.specs.DecidesProof.{decides}
 use Rattle.theorems.specs.Exported.{ExportsRise, ExportsCompare, exports-rise, exports-compare}
 use Rattle.buffer.specs.declared.Written.the-variants.{Bytes, Refused as NotWritten}
@@ -99,7 +105,7 @@ each-rises-to-itself = rises-itself
 pub comparison-decides : (avic : Bool) (a b : List ℕ) → Decides avic a b (compared avic a b)
 comparison-decides = decides
 
--- its order: places rise by leaf, then by subleaf. crates/compare/specs/OrderLaws.antt
+-- its order: places rise by leaf, then by subleaf. crates/table/specs/Order.antt
 pub comparison-in-order : (i j : ℕ) → i < j → j < places → Precedes i j
 comparison-in-order = places-rise
 
@@ -144,9 +150,15 @@ at-most-732-bytes = at-most-732
 pub single-page-never-accepted : (avic : Bool) (s : List ℕ) → length s ≡ 4096 → answer avic s .verdict ≡ Accepted → ⊥
 single-page-never-accepted = single-page-refused
 
--- what holds of the one free part, the order of the image's leaves
-pub leaf-order-lawful : LeafOrder leafOrder
-leaf-order-lawful = leaf-order
+-- ---- P1: leaves in rising order. crates/table/specs/Order.antt, crates/images/specs/Images.antt.
+
+-- in the image of any table each row is below the next by leaf and subleaf, unsigned
+pub rows-ascend : (t : CpuidResults) → ImageAscends t
+rows-ascend = image-ascends
+
+-- two accepted page sets, each under a choice of its own, have equal images if and only if their rows and combined masks are equal
+pub images-tell-tables : EqualImages
+images-tell-tables = equal-images
 
 -- ---- Document 02, P2: lists for and from KVM. crates/kvm_list/specs/Format.antt has the list's bytes, crates/kvm_export/specs/Export.antt what is
 -- written, crates/kvm_import/specs/Import.antt what is read; the statements are in crates/round_trip/specs.
@@ -196,9 +208,11 @@ an-empty-list = KvmLists.empty-list
 
 -- ---- The page reader in the source's form. crates/reader/specs/Read.antt.
 
--- asked often enough, a new reader gives the entries of the pages, each once and in order, and then the end; `collect` stores those that count
-pub reader-in-order : (s : List ℕ) (n : ℕ) → length (entries s) ≤ n → given s n (firstIndex s) ≡ map parsed (entries s)
-reader-in-order = reader-gives
+-- asked often enough, a new reader gives the entries of the pages, each once and in order, and then the end; those that by what it gives
+-- count are the counted entries, each once and in order
+pub reader-in-order : (s : List ℕ) (n : ℕ) → length (entries s) ≤ n
+    → (given s n (firstIndex s) ≡ map parsed (entries s)) × (keepIf countsRead (given s n (firstIndex s)) ≡ map parsed (counted s))
+reader-in-order s n l = (reader-gives s n l, reader-gives-counted s n l)
 
 -- ---- Not empty words. crates/instances/specs/PageSets.antt has four page sets, byte by byte.
 

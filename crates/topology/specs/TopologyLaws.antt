@@ -1,20 +1,21 @@
 -- Laws of the topology: one for each return of the code, the shift by leading zeros, and a power of two by a shift.
 use mathlib.Core.Path.{_≡_, refl, sym, ap, _∙_}
-use mathlib.Core.Bool.{true, false, _&&_}
+use mathlib.Core.Bool.{Bool, true, false, _&&_, _||_}
 use mathlib.Core.Logic.{inl, inr, _≢_}
 use Prim.Native.Nat.{ℕ, zero, suc, _+_, _-_, _*_, _/_, _%_, _^_, _≤_, _<_}
 use native.Mathlib.Nat.{div-eq-of-lt, div-eq-of-lt-le, lt-of-lt-of-le, eq-or-lt-of-le, one-mul, pow-suc}
 use native.Mathlib.Omega.{arith}
-use lib.Dec.{lit<, eqb, leb}
+use lib.Dec.{lit<, eqb, ltb, leb}
 use lib.Count.{leadingZeros, leading-top}
 use lib.Pow.{pow-mono, shl-exact}
+use Rattle.bits.specs.Choice.{pick}
 use Rattle.bits.specs.Bits.{bit, has}
 use Rattle.bits.specs.BitsLaws.{bit-has, bit-has-not}
 use borrow.Author.Tests.{eq-eqb, ne-eqb, lt-ltb, le-ltb, le-leb, lt-leb}
 use Rattle.topology.specs.declared.TopologyError.the-variants.{Hyperthreading, ProcessorCount, ThreadsPerUnit}
 use Rattle.topology.specs.declared.Topology.{Topology}
 use Rattle.topology.specs.declared.Topology.the-variants.{Processors, Inconsistent}
-use Rattle.topology.specs.Topology.{inputs, threadsIn, topologyOf, highestOf, shiftOf}
+use Rattle.topology.specs.Topology.{Inputs, inputs, threadsIn, topologyOf, processors, highestOf, shiftOf}
 
 -- ---- the last check
 
@@ -100,3 +101,50 @@ shift-by-zeros v p h =
 
 pub one-shifted : (s : ℕ) → s < 32 → 1 * 2 ^ s % 2 ^ 32 ≡ 2 ^ s
 one-shifted s h = shl-exact 1 s 32 (lit< tt) (omega arith) ∙ one-mul (2 ^ s)
+
+-- ---- how large the figures of leaf Bh are
+
+threads-processors : (v t : ℕ) → v < 2 ^ 32 → processors (threadsIn v t) < 2 ^ 32
+unfolding threadsIn
+threads-processors v t h = go (ltb 1 t || leb v t)
+  where
+    go : (b : Bool) → processors (pick b (Inconsistent ThreadsPerUnit) (Processors v)) < 2 ^ 32
+    go true = lit< tt
+    go false = h
+
+-- 1, lps or 2^s
+pub processors-fit : (i : Inputs) → i .lps < 256 → i .s < 16 → processors (topologyOf i) < 2 ^ 32
+unfolding topologyOf
+processors-fit i l s =
+    go (eqb (i .s) 0) (eqb (i .mt) 0) (eqb (i .nc) 0 && leb (i .lps) 1) (eqb (i .lps) (i .nc + 1)) (ltb (i .s) 8)
+    (leb (i .nc + 1) (2 ^ i .s) && eqb (i .lps) (2 ^ i .s)) (eqb (i .mt) 1)
+  where
+    power : 2 ^ i .s < 2 ^ 32
+    power = let h : i .s ≤ 15 = omega arith in let p : 2 ^ i .s ≤ 2 ^ 15 = pow-mono h in omega arith
+
+    go : (a b c d e f g : Bool)
+        → processors
+        (pick a (pick b (pick c (threadsIn 1 (i .t)) (Inconsistent (Hyperthreading (i .s)))) (pick d (threadsIn (i .lps) (i .t)) (Inconsistent (ProcessorCount (i .s)))))
+        (pick e (pick f (pick g (threadsIn (2 ^ i .s) (i .t)) (Inconsistent (Hyperthreading (i .s)))) (Inconsistent (ProcessorCount (i .s)))) (threadsIn (2 ^ i .s) (i .t))))
+        < 2 ^ 32
+    go true true true d e f g = threads-processors 1 (i .t) (lit< tt)
+    go true true false d e f g = lit< tt
+    go true false c true e f g = threads-processors (i .lps) (i .t) (omega arith)
+    go true false c false e f g = lit< tt
+    go false b c d true true true = threads-processors (2 ^ i .s) (i .t) power
+    go false b c d true true false = lit< tt
+    go false b c d true false g = lit< tt
+    go false b c d false f g = threads-processors (2 ^ i .s) (i .t) power
+
+highest-below : (n v : ℕ) → highestOf n v ≤ n
+unfolding highestOf
+highest-below zero v = omega arith
+highest-below (suc k) v = go (has k v) (highest-below k v)
+  where
+    go : (b : Bool) → highestOf k v ≤ k → pick b k (highestOf k v) ≤ suc k
+    go true h = omega arith
+    go false h = omega arith
+
+pub shift-fits : (v : ℕ) → shiftOf v < 2 ^ 32
+unfolding shiftOf
+shift-fits v = omega (arith, highest-below 32 v)

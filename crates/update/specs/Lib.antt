@@ -12,3 +12,4 @@ pub mod JoinLaws
 pub mod PlaceLaws
 pub mod XsavesLaws
 pub mod RemainsLaws
+pub mod FitLaws

@@ -5,8 +5,8 @@ use native.Mathlib.Omega.{arith}
 use borrow.Author.Needs.{needs}
 use Rattle.masking.specs.Kept.{places}
 use Rattle.table.specs.Table.{rowIn}
+use Rattle.masking.specs.RunLaws.{run-end, run-leaf}
 use Rattle.buffer.specs.OnwardLaws.{Onward, onward-none, onward-join, piece-room, onward-piece, onward-all}
-use Rattle.image.specs.PiecesLaws.{run-end, run-leaf}
 use Rattle.kvm_export.specs.Pieces.{runRow, rowsLeft}
 use Rattle.kvm_export.specs.ListLaws.{run-more, rows-none}
 use Rattle.kvm_export.proofs.put_rows.Statement.{statement}
@@ -26,19 +26,19 @@ abbrev μ-loop : tie.MeasureT-loop
 
 loop-again : tie.Need-loop-again Inv-loop2 μ-loop2 Inv-loop μ-loop
 loop-again c =
-    let call = c .before .before .run-at in
-    let outer = c .before .before .before .before .loop in
+    let call = c .before .before .before .run-at in
+    let outer = c .before .before .before .before .before .loop in
     (omega (arith, run-end (call .result) (call .ensures .0)), onward-join _ (outer .inv .1) (c .before .loop2 .inv .2))
 
 put-place-requires : tie.Need-put-place-requires Inv-loop2 μ-loop2 Inv-loop μ-loop
 put-place-requires c κs =
     let inner = c .before .before .before .before in
-    let call = inner .before .run-at in
-    let outer = inner .before .before .before .loop in
-    let t = inner .before .before .before .before .before .args .t1 in
+    let call = inner .before .before .run-at in
+    let outer = inner .before .before .before .before .loop in
+    let t = inner .before .before .before .before .before .before .args .t1 in
     let i = inner .loop2 .i in
     let high = run-end (call .result) (call .ensures .0) in
-    let more = run-more t (call .result) (call .ensures .0) i (omega arith) (omega arith) (omega arith) in
+    let more = run-more t (call .result) (call .ensures .0) i (omega arith) (omega arith) in
     let row = runRow (call .result) (i - call .result .first) (rowIn t i .present) (rowIn t i .result) in (
       omega (arith, run-leaf (call .result) (call .ensures .0)),
       omega (arith, piece-room (rowsLeft t) row i more, inner .loop2 .inv .2 .room, outer .inv .1 .room),
@@ -48,11 +48,11 @@ loop2-again : tie.Need-loop2-again Inv-loop2 μ-loop2 Inv-loop μ-loop
 loop2-again c =
     let put = c .before .before .put-place in
     let inner = c .before .before .before .before .before .before .before in
-    let call = inner .before .run-at in
-    let t = inner .before .before .before .before .before .args .t1 in
+    let call = inner .before .before .run-at in
+    let t = inner .before .before .before .before .before .before .args .t1 in
     let i = inner .loop2 .i in
     let high = run-end (call .result) (call .ensures .0) in
-    let more = run-more t (call .result) (call .ensures .0) i (omega arith) (omega arith) (omega arith) in
+    let more = run-more t (call .result) (call .ensures .0) i (omega arith) (omega arith) in
     let row = runRow (call .result) (i - call .result .first) (rowIn t i .present) (rowIn t i .result) in
     let further = onward-piece (rowsLeft t) row i more (inner .loop2 .out) (put .last .0) (inner .loop2 .at) (put .ensures .1) in
     (omega arith, omega arith, onward-join _ (inner .loop2 .inv .2) (rw (put .ensures .0) further))
@@ -70,14 +70,16 @@ put-rows-spec =
     μ-loop
     (λ c. (search needs, onward-none _ _ _ _))
     (λ c κs. search needs)
+    (λ c. search needs)
+    (λ c. record { fits = omega (arith, run-end _ (c .before .run-at .ensures .0)) })
     (λ c. (search needs, search needs, onward-none _ _ _ _))
-    (λ c. omega (arith, run-end _ (c .before .before .run-at .ensures .0)))
+    (λ c. omega (arith, run-end _ (c .before .before .before .run-at .ensures .0)))
     loop-again
-    (λ c. omega (arith, run-end _ (c .before .before .run-at .ensures .0)))
     (λ c. omega (arith, run-end _ (c .before .before .before .run-at .ensures .0)))
-    (λ c. omega (arith, run-end _ (c .before .before .before .run-at .ensures .0)))
+    (λ c. omega (arith, run-end _ (c .before .before .before .before .run-at .ensures .0)))
+    (λ c. omega (arith, run-end _ (c .before .before .before .before .run-at .ensures .0)))
     (λ c. omega arith)
-    (λ c. omega (arith, run-end _ (c .before .before .before .before .before .run-at .ensures .0)))
+    (λ c. omega (arith, run-end _ (c .before .before .before .before .before .before .run-at .ensures .0)))
     put-place-requires
     (λ c. omega arith)
     (λ c. search needs)

@@ -1,4 +1,4 @@
--- Places rise by leaf, as an unsigned number, then by subleaf: the first place that fails is the first leaf and subleaf that does.
+-- The 88 places stand in the order of their rows: they rise by leaf, as an unsigned number, then by subleaf.
 use mathlib.Core.Path.{_≡_, refl, _∙_}
 use mathlib.Core.Bool.{Bool, true, false, _&&_, _||_}
 use mathlib.Core.Logic.{_⊎_, inl, inr}
@@ -10,11 +10,9 @@ use borrow.Author.Tests.{eqb-true, ltb-true}
 use Rattle.bits.specs.ChoiceLaws.{and-left, and-right}
 use Rattle.bits.specs.Search.{every}
 use Rattle.bits.specs.SearchLaws.{every-at}
+use Rattle.bits.specs.Lists.{tabulate}
 use Rattle.masking.specs.Kept.{places, leafAt, subleafAt, slot, keptLeaves}
-
--- the leaf and subleaf of place i come before those of place j
-abbrev pub Precedes : ℕ → ℕ → Type 0
-Precedes i j = (leafAt i .0 < leafAt j .0) ⊎ ((leafAt i .0 ≡ leafAt j .0) × (subleafAt i < subleafAt j))
+use Rattle.table.specs.Order.{Precedes, rowOrder}
 
 abbrev precedesNext : ℕ → Bool
 precedesNext i = ltb (leafAt i .0) (leafAt (suc i) .0) || (eqb (leafAt i .0) (leafAt (suc i) .0) && ltb (subleafAt i) (subleafAt (suc i)))
@@ -44,3 +42,8 @@ places-rise i (suc j) l u =
       | inl q ↦ rw (← q) (next i (omega arith))
       | inr q ↦ precedes-trans i j (suc j) (places-rise i j (omega arith) (omega arith)) (next j (omega arith))
     ]
+
+-- so the order of the rows is that of the places
+pub row-order : rowOrder ≡ tabulate places (λ i. i)
+unfolding rowOrder tabulate slot keptLeaves
+row-order = refl

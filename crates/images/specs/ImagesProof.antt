@@ -1,0 +1,94 @@
+-- The proof of `EqualImages`: accepted tables are plain, so their images tell their rows, and the rows of Dh tell the combined mask.
+use mathlib.Core.Path.{_≡_, refl, sym, ap, ap₂, _∙_, subst}
+use mathlib.Core.Bool.{Bool, true, false, _&&_}
+use mathlib.Core.List.{List}
+use Prim.Native.Nat.{ℕ, _^_, _<_}
+use lib.Dec.{lit<, eqb}
+use lib.Bits.{bitOr}
+use native.Mathlib.Omega.{arith}
+use Rattle.bits.specs.Choice.{pick}
+use Rattle.bits.specs.BitsLaws.{field-lt}
+use Rattle.x86defs.specs.declared.CpuidResult.{CpuidResult}
+use Rattle.topology.specs.Topology.{topologyOf, processors, threadLevel, coreLevel}
+use Rattle.topology.specs.TopologyLaws.{processors-fit, shift-fits}
+use Rattle.masking.specs.Kept.{places}
+use Rattle.masking.specs.Place
+use Rattle.table.specs.declared.CpuidResults.{CpuidResults}
+use Rattle.table.specs.declared.Verdict.the-variants.{Accepted}
+use Rattle.table.specs.Rows.{Row, Rows, vacant}
+use Rattle.table.specs.Table.{rowIn, rowsIn}
+use Rattle.table.specs.Fits.{Fits}
+use Rattle.checks.specs.ExtendedState.{xssOf, xfem, xss, combinedMask, saveArea, sizeOf}
+use Rattle.checks.specs.TopologyInputs.{inputsOf}
+use Rattle.checks.specs.declared.Size.{Size}
+use Rattle.checks.specs.declared.Size.the-variants.{Bytes, TooLarge}
+use Rattle.checks.specs.Checks.{sizeVerdict, areaVerdict}
+use Rattle.checks.specs.SaveAreaLaws.{size-bytes}
+use Rattle.update.specs.Finish.{settings, finished}
+use Rattle.update.specs.FitLaws.{SettingsFit, finished-fits}
+use Rattle.collect.specs.FirstEntries.{rowsOf}
+use Rattle.collect.specs.RowsFit.{rows-fit}
+use Rattle.build.specs.Build.{answer}
+use Rattle.rise.specs.RiseProof.{answer-row, answer-mask}
+use Rattle.rise.specs.Same.{finished-absent}
+use Rattle.rise.specs.BuiltLaws.{accepted-passes, built-mask}
+use Rattle.images.specs.TableLaws.{Plain, rows-told, same-image}
+use Rattle.images.specs.Images.{SameTable, EqualImages}
+
+threads-fit : (t : ℕ) → Fits (threadLevel t)
+threads-fit t = go (eqb t 1)
+  where
+    go : (b : Bool) → Fits (pick b (record { eax = 1; ebx = 2; ecx = 0x100; edx = 0 }) (record { eax = 0; ebx = 1; ecx = 0x100; edx = 0 }))
+    go true = record { eax = lit< tt; ebx = lit< tt; ecx = lit< tt; edx = lit< tt }
+    go false = record { eax = lit< tt; ebx = lit< tt; ecx = lit< tt; edx = lit< tt }
+
+size-fits : (n : ℕ) → sizeVerdict (sizeOf n) ≡ Accepted → n < 2 ^ 32
+size-fits n = go (sizeOf n) refl
+  where
+    go : (z : Size) → sizeOf n ≡ z → sizeVerdict z ≡ Accepted → n < 2 ^ 32
+    go (Bytes v) f g = let (q, h) = size-bytes n v (sym f) in omega arith
+    go TooLarge f g = let z : _≡_ {A = ℕ} 0 1 = cc in absurd (omega arith)
+
+module _ (avic : Bool) (s : List ℕ) (e : answer avic s .verdict ≡ Accepted) where
+  abbrev m : Rows
+  m = rowsOf avic s
+
+  area-fits : saveArea m (xfem m) < 2 ^ 32
+  unfolding areaVerdict
+  area-fits = size-fits (saveArea m (xfem m)) (accepted-passes avic s e .area)
+
+  cores-fit : Fits (coreLevel (processors (topologyOf (inputsOf m))))
+  unfolding inputsOf
+  cores-fit = record {
+    eax = shift-fits (processors (topologyOf (inputsOf m)));
+    ebx = processors-fit (inputsOf m) (field-lt 16 8 _) (field-lt 12 4 _);
+    ecx = lit< tt;
+    edx = lit< tt;
+  }
+
+  settings-fit : SettingsFit (settings m)
+  unfolding settings
+  settings-fit = record { area = area-fits; threads = threads-fit (inputsOf m .t); cores = cores-fit }
+
+  pub accepted-plain : Plain (answer avic s .table)
+  accepted-plain = record {
+    absent = λ i h f. answer-row avic s e i h ∙ finished-absent m i (sym (ap (λ (r : Row). r .present) (answer-row avic s e i h)) ∙ f);
+    fits = λ i h. subst (λ (r : Row). Fits (r .result)) (sym (answer-row avic s e i h)) (finished-fits m settings-fit i (rows-fit avic s i));
+  }
+
+-- the combined mask, from the table's own rows of D.0 and D.1
+mask-of-rows : (t u : CpuidResults) → ((i : ℕ) → i < places → rowIn t i ≡ rowIn u i) → combinedMask (rowsIn t) ≡ combinedMask (rowsIn u)
+unfolding combinedMask xfem xss
+mask-of-rows t u same =
+    ap₂ (λ (a b : Row). bitOr (a .result .eax) (xssOf (b .result))) (same (Place.extendedState 0) (lit< tt)) (same (Place.extendedState 1) (lit< tt))
+
+pub equal-images : EqualImages
+equal-images avic avic′ s s′ e e′ = (
+  λ i.
+      let same = rows-told (answer avic s .table) (answer avic′ s′ .table) (accepted-plain avic s e) (accepted-plain avic′ s′ e′) i in
+      record {
+        rows = same;
+        mask = answer-mask avic s e ∙ sym (built-mask avic s e) ∙ mask-of-rows (answer avic s .table) (answer avic′ s′ .table) same ∙ built-mask avic′ s′ e′ ∙ sym (answer-mask avic′ s′ e′);
+      },
+  λ same. same-image (answer avic s .table) (answer avic′ s′ .table) (same .rows),
+)

@@ -1,0 +1,1 @@
+// What images tell of tables: statements and proofs, no code.

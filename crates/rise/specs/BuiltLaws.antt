@@ -1,0 +1,77 @@
+-- What an accepted page set's table has of its own: its XFEM, XSS and combined mask are those of the entries that it was made of.
+use mathlib.Core.Path.{_≡_, refl, ap, ap₂, _∙_, subst}
+use mathlib.Core.Bool.{Bool, true, false, _&&_}
+use mathlib.Core.List.{List}
+use Prim.Native.Nat.{ℕ, _<_}
+use lib.Dec.{lit<}
+use lib.Bits.{bitOr}
+use Rattle.bits.specs.Choice.{pick}
+use Rattle.bits.specs.Bits.{has}
+use Rattle.x86defs.specs.declared.CpuidResult.{CpuidResult}
+use Rattle.masking.specs.Kept.{places}
+use Rattle.masking.specs.Place
+use Rattle.table.specs.declared.CpuidResults.{CpuidResults}
+use Rattle.table.specs.declared.Verdict.the-variants.{Accepted}
+use Rattle.table.specs.Rows.{Row, Rows}
+use Rattle.table.specs.Table.{rowIn, rowsIn}
+use Rattle.checks.specs.ExtendedState.{xfem, xss, combinedMask}
+use Rattle.checks.specs.ExtendedStateLaws.{xsaves-ecx}
+use Rattle.checks.specs.ChecksLaws.{AllPass, all-pass, required-present, then-right}
+use Rattle.update.specs.Finish.{ruleAt, settings, enabledBy, finish, finished, unlessNoXss}
+use Rattle.update.specs.PlaceLaws.{always, position, always-required}
+use Rattle.update.specs.RemainsLaws.{finished-present, finished-result, always-remains}
+use Rattle.collect.specs.FirstEntries.{rowsOf}
+use Rattle.build.specs.Build.{lawfulVerdict, verdictOf, answer}
+use Rattle.rise.specs.RiseProof.{answer-row}
+
+twice : (p : Bool) (x : ℕ) → pick p (pick p x 0) 0 ≡ pick p x 0
+twice true x = refl
+twice false x = refl
+
+module _ (avic : Bool) (s : List ℕ) (e : answer avic s .verdict ≡ Accepted) where
+  abbrev m : Rows
+  m = rowsOf avic s
+
+  abbrev t : CpuidResults
+  t = answer avic s .table
+
+  pub accepted-passes : AllPass m
+  unfolding answer verdictOf
+  accepted-passes = all-pass m (then-right (lawfulVerdict s) _ e)
+
+  pub always-finished : (i : ℕ) → i < places → always (ruleAt i) ≡ true → finished m i .present ≡ true
+  always-finished i l f =
+      finished-present m i
+      ∙ always-remains (settings m) (λ j. m j .present) i l f
+      ∙ subst (λ (n : ℕ). m n .present ≡ true) (always-required i l f .1)
+      (required-present m (accepted-passes .required) (position i) (always-required i l f .0))
+
+  pub result-at : (i : ℕ) → i < places → finished m i .present ≡ true → rowIn t i .result ≡ finish (settings m) (ruleAt i) (m i .result)
+  result-at i l f = ap (λ (r : Row). r .result) (answer-row avic s e i l) ∙ finished-result m i f
+
+  state0 : rowIn t (Place.extendedState 0) .result ≡ finish (settings m) (ruleAt (Place.extendedState 0)) (m (Place.extendedState 0) .result)
+  state0 = result-at (Place.extendedState 0) (lit< tt) (always-finished (Place.extendedState 0) (lit< tt) refl)
+
+  state1 : rowIn t (Place.extendedState 1) .result ≡ finish (settings m) (ruleAt (Place.extendedState 1)) (m (Place.extendedState 1) .result)
+  state1 = result-at (Place.extendedState 1) (lit< tt) (always-finished (Place.extendedState 1) (lit< tt) refl)
+
+  pub built-xfem : xfem (rowsIn t) ≡ xfem m
+  unfolding xfem
+  built-xfem = ap (λ (r : CpuidResult). r .eax) state0
+
+  built-eax : rowIn t (Place.extendedState 1) .result .eax ≡ m (Place.extendedState 1) .result .eax
+  built-eax = ap (λ (r : CpuidResult). r .eax) state1
+
+  built-ecx : rowIn t (Place.extendedState 1) .result .ecx ≡ xss m
+  unfolding settings enabledBy unlessNoXss
+  built-ecx = ap (λ (r : CpuidResult). r .ecx) state1 ∙ xsaves-ecx m
+
+  pub built-xss : xss (rowsIn t) ≡ xss m
+  unfolding xss
+  built-xss =
+      ap₂ (λ (a c : ℕ). pick (has 1 a && has 3 a) c 0) built-eax built-ecx
+      ∙ twice (has 1 (m (Place.extendedState 1) .result .eax) && has 3 (m (Place.extendedState 1) .result .eax)) (m (Place.extendedState 1) .result .ecx)
+
+  pub built-mask : combinedMask (rowsIn t) ≡ combinedMask m
+  unfolding combinedMask
+  built-mask = ap₂ bitOr built-xfem built-xss
