@@ -54,7 +54,7 @@ use Rattle.round_trip.specs.RoundTripProof.{round-trip, list-writes-exactly}
 use Rattle.round_trip.specs.Reads.{AreBytes, ReadMakes}
 use Rattle.round_trip.specs.ReadsExactly.{ReadsExactly}
 use Rattle.round_trip.specs.ReadsExactlyProof.{reads-exactly, read-makes}
-use Rattle.round_trip.specs.Ascends.{Ascend, rows-ascend}
+use Rattle.round_trip.specs.Ascends.{Ascend, rows-ascend as list-ascends}
 use Rattle.examples.specs.KvmLists as KvmLists
 use Rattle.examples.specs.PageSets.{serverA, serverB, serverWithoutD12, serverWithLargeD6}
 use Rattle.examples.specs.Computed as Computed
@@ -181,7 +181,7 @@ kvm-reads-exactly = reads-exactly
 
 -- the rows of a list ascend by leaf, then by subleaf
 pub kvm-rows-ascend : (t : CpuidResults) → Ascend (listRows t)
-kvm-rows-ascend = rows-ascend
+kvm-rows-ascend = list-ascends
 
 -- server A's list goes round; its head and its first row; and a list for each answer of reading
 pub a-goes-round : (buffer pages : List ℕ) → 1088 ≤ length buffer → 8192 ≤ length pages → Returns false serverA buffer pages
