@@ -72,6 +72,8 @@ pub fn refusal_numbers(refusal: Refusal) -> AnswerNumbers
         Refusal::SaveAreaOverflow => sized(5, 0),
         Refusal::TopologyInconsistent(e) => topology_numbers(e),
         Refusal::BufferTooShort => sized(9, 0),
+        Refusal::StateBeyondTable => sized(13, 0),
+        Refusal::CompactSizeTooLarge => sized(14, 0),
     }
 }
 

@@ -12,7 +12,7 @@ pub enum Subleaf {
     Some(u32),
 }
 
-// Why no table is given. specs/Refusal.antt has document 01's number and details for each.
+// Why no table is given, or no answer from one. specs/Refusal.antt has the number and the details of each.
 pub enum Refusal {
     PagesLength,
     PageCount,
@@ -21,6 +21,8 @@ pub enum Refusal {
     SaveAreaOverflow,
     TopologyInconsistent(TopologyError),
     BufferTooShort,
+    StateBeyondTable,
+    CompactSizeTooLarge,
 }
 
 pub enum Verdict {
