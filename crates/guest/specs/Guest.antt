@@ -25,15 +25,15 @@ use Rattle.guest.specs.State.{saveRegister, compactRegister, stateVerdic
 -- ---- the registers that differ
 
 -- "Leaf 1 EBX bits 24-31 are the number's low eight bits. Leaf 1 ECX bit 27 is set if OSXSAVE is on and bit 26 is set, else clear."
-unfoldable pub versionEbx : ℕ → ℕ → ℕ
-versionEbx n x = x % 2 ^ 24 + n % 2 ^ 8 * 2 ^ 24
+unfoldable pub numberSeen : ℕ → ℕ → ℕ
+numberSeen n x = x % 2 ^ 24 + n % 2 ^ 8 * 2 ^ 24
 
-unfoldable pub versionEcx : Bool → ℕ → ℕ
-versionEcx on x =
+unfoldable pub osxsaveSeen : Bool → ℕ → ℕ
+osxsaveSeen on x =
     pick (on && has (Version.position xsave) x) (bitOr x (2 ^ Version.position os-xsave)) (clear (2 ^ Version.position os-xsave) x)
 
 abbrev pub versionSeen : Processor → CpuidResult → CpuidResult
-versionSeen v r = result (r .eax) (versionEbx (v .x2apic) (r .ebx)) (versionEcx (v .osxsave) (r .ecx)) (r .edx)
+versionSeen v r = result (r .eax) (numberSeen (v .x2apic) (r .ebx)) (osxsaveSeen (v .osxsave) (r .ecx)) (r .edx)
 
 -- "B.0 and B.1 EDX are the number."
 abbrev pub levelSeen : Processor → CpuidResult → CpuidResult

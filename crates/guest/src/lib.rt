@@ -9,7 +9,7 @@ ghost use mathlib.Core.Path.{_≡_};
 ghost use Rattle.bits.specs.Choice.{pick};
 ghost use Rattle.table.specs.Table.{rowsIn};
 ghost use Rattle.guest.specs.State.{stateVerdict};
-ghost use Rattle.guest.specs.Guest.{versionEcx, versionSeen, levelSeen, sizeSeen, guestAnswer, answerFor, refusedAnswer};
+ghost use Rattle.guest.specs.Guest.{osxsaveSeen, versionSeen, levelSeen, sizeSeen, guestAnswer, answerFor, refusedAnswer};
 
 mod state;
 
@@ -103,7 +103,7 @@ fn see_version(present: bool, v: Processor, r: CpuidResult) -> CpuidResult
 
 // Leaf 1 ECX: bit 27 set where OSXSAVE is on and bit 26 is set, else clear.
 fn see_osxsave(osxsave: bool, ecx: u32) -> u32
-    ensures { λ q. ⌜ q ≡ versionEcx osxsave ecx ⌝ }
+    ensures { λ q. ⌜ q ≡ osxsaveSeen osxsave ecx ⌝ }
 {
     if osxsave & bits::has_bit(ecx, 26) {
         return ecx | 0x08000000;

@@ -7,9 +7,8 @@ use Rattle.table.specs.Refusal.{andThen}
 use Rattle.table.specs.Table.{rowsIn}
 use Rattle.build.specs.declared.Built.{Built}
 use Rattle.build.specs.Build.{answer}
-use Rattle.buffer.specs.Front.{AfterWrite}
+use Rattle.buffer.specs.Front.{AfterWrite, writeVerdict}
 use Rattle.image.specs.Image.{image}
-use Rattle.write.specs.Write.{writeBuilt}
 use Rattle.guest.specs.declared.Processor.{Processor}
 use Rattle.guest.specs.declared.GuestAnswer.{GuestAnswer}
 use Rattle.guest.specs.State.{stateVerdict}
@@ -24,4 +23,4 @@ guestPages avic s v = guestOf (answer avic s) v
 
 -- the guest's table as an image: 9 comes after all of these, and a refused write changes no lent byte
 unfoldable pub writeGuest : Bool → List ℕ → Processor → List ℕ → AfterWrite
-writeGuest avic s v buffer = writeBuilt (guestPages avic s v .verdict) (image (guestPages avic s v .table)) buffer
+writeGuest avic s v buffer = writeVerdict (guestPages avic s v .verdict) (image (guestPages avic s v .table)) buffer

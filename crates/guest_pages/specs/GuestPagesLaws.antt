@@ -16,7 +16,7 @@ use Rattle.image.specs.Image.{image}
 use Rattle.guest.specs.declared.Processor.{Processor}
 use Rattle.guest.specs.declared.GuestAnswer.{GuestAnswer}
 use Rattle.guest.specs.State.{stateVerdict}
-use Rattle.guest.specs.Guest.{answerFor, guestAnswer, refusedAnswer}
+use Rattle.guest.specs.Guest.{guestTable, tableGiven, answerFor, guestAnswer, refusedAnswer}
 use Rattle.guest_pages.specs.GuestPages.{guestOf, guestPages, writeGuest}
 
 -- ---- by building's verdict
@@ -41,6 +41,19 @@ module _ (avic : Bool) (s : List ℕ) (v : Processor) where
   pub accepted-guest : answer avic s .verdict ≡ Accepted → guestPages avic s v ≡ guestAnswer (answer avic s .table) v
   unfolding guestPages
   accepted-guest = of-accepted (answer avic s) v
+
+  -- a view of an accepted page set is that of its table
+  pub guest-verdict : answer avic s .verdict ≡ Accepted → guestPages avic s v .verdict ≡ stateVerdict (rowsIn (answer avic s .table)) (v .xcr0) (v .xss)
+  unfolding guestAnswer
+  guest-verdict e = ap (λ (g : GuestAnswer). g .verdict) (accepted-guest e)
+
+  pub given-guest : answer avic s .verdict ≡ Accepted → guestPages avic s v .verdict ≡ Accepted → guestPages avic s v .table ≡ guestTable (answer avic s .table) v
+  unfolding guestPages
+  given-guest e f = ap (λ (w : Verdict). tableGiven w (answer avic s .table) v) f
+
+  pub refused-guest : (r : Refusal) → guestPages avic s v .verdict ≡ Refused r → guestPages avic s v ≡ refusedAnswer r
+  unfolding guestPages
+  refused-guest r f = ap (λ (w : Verdict). answerFor w (answer avic s .table) v) f
 
   -- in the terms of the code's returns
   module _ {b : Built} (e : b ≡ answer avic s) where
