@@ -22,8 +22,8 @@ extern "C" {
  *   2 a page's count is above 64                    7 topology: processor count (names s)
  *   3 a required result is missing (names leaf      8 topology: threads per unit
  *     and, where the leaf has them, subleaf)        9 the buffer is shorter than the image
- *   4 INVLPGB is unavailable
- *   5 a save-area size overflows
+ *   4 INVLPGB is unavailable                       13 XCR0 or XSS is beyond the table
+ *   5 a save-area size overflows                   14 a compacted save-area size overflows
  * A leaf, subleaf or s that the number does not name is 0. */
 
 /* What building gives. A refused table has row_count 0 and max_extended_state 0. */
@@ -88,6 +88,25 @@ struct snp_cpuid_found snp_cpuid_lookup(const uint8_t *pages, size_t length, boo
 /* Builds, and writes the image at the front of out: for each row byte 1, leaf, EAX, EBX, ECX, EDX, or byte 2, leaf, subleaf and the
  * four, each number 4 bytes little-endian. Where it refuses, out is as it was; bytes beyond the image are as they were. */
 struct snp_cpuid_written snp_cpuid_write_image(const uint8_t *pages, size_t length, bool secure_avic, uint8_t *out, size_t room);
+
+/* What the guest of one processor sees, which differs from the paravisor's row. The functions below take the processor's x2APIC number,
+ * its XCR0 and XSS, and whether OSXSAVE is on. Of the table of the pages, 1.EBX bits 24-31, B.0.EDX and B.1.EDX have the number; 1.ECX
+ * bit 27 is set where osxsave is true and bit 26 is set; D.0.EBX is the size of the save area of XCR0, and D.1.EBX that of the compacted
+ * area of XCR0 and XSS, or 0 where the processor has neither XSAVEC nor XSAVES. After building's refusals: 13 where XCR0 lacks bit 0 or
+ * has a bit that D.0.EAX lacks, or XSS one that D.1.ECX lacks; then 14 where the compacted size does not fit 32 bits. */
+
+/* Builds, and tells whether the guest is given its table, which has the rows and the mask of the paravisor's. */
+struct snp_cpuid_built snp_cpuid_guest_build(const uint8_t *pages, size_t length, bool secure_avic, uint32_t x2apic, uint64_t xcr0,
+                                             uint64_t xss, bool osxsave);
+
+/* Builds, and looks a row up in the guest's table as snp_cpuid_lookup does. Nothing is found where the answer is a refusal. */
+struct snp_cpuid_found snp_cpuid_guest_lookup(const uint8_t *pages, size_t length, bool secure_avic, uint32_t x2apic, uint64_t xcr0,
+                                              uint64_t xss, bool osxsave, uint32_t leaf, bool has_subleaf, uint32_t subleaf,
+                                              bool enforce_subleaf);
+
+/* Builds, and writes the image of the guest's table at the front of out, as snp_cpuid_write_image does; 9 comes after 13 and 14. */
+struct snp_cpuid_written snp_cpuid_write_guest_image(const uint8_t *pages, size_t length, bool secure_avic, uint32_t x2apic, uint64_t xcr0,
+                                                     uint64_t xss, bool osxsave, uint8_t *out, size_t room);
 
 /* Compares two servers by their pages, under one choice of secure AVIC: may a guest of A move to B? Registers are compared as masked.
  * After a yes, building B gives a table with every row of A's, at least A's bits in every feature register, a save area no smaller and

@@ -20,6 +20,10 @@ pub enum Refusal {
     TopologyInconsistent(TopologyError),
     /// 9: the buffer is shorter than the image.
     BufferTooShort,
+    /// 13: XCR0 lacks bit 0, or XCR0 or XSS has a bit that the table does not.
+    StateBeyondTable,
+    /// 14: the size of the compacted save area of XCR0 and XSS does not fit 32 bits.
+    CompactSizeTooLarge,
 }
 
 /// How the topology leaves disagree. The number is s, bits 12 to 15 of 80000008h.ECX: the size of the APIC core id.
@@ -94,6 +98,16 @@ const TABLE: &[Line] = &[
         name: |_| Refusal::BufferTooShort,
         words: |_| format!("the buffer is shorter than the image: {} bytes always suffice", crate::MOST_IMAGE_BYTES),
     },
+    Line {
+        number: 13,
+        name: |_| Refusal::StateBeyondTable,
+        words: |_| "XCR0 lacks bit 0 (x87) or has a bit that D.0.EAX lacks, or XSS has a bit that D.1.ECX lacks".into(),
+    },
+    Line {
+        number: 14,
+        name: |_| Refusal::CompactSizeTooLarge,
+        words: |_| "the size of the compacted save area of XCR0 and XSS (D.1.EBX) does not fit 32 bits".into(),
+    },
 ];
 
 impl Refusal {
@@ -112,7 +126,9 @@ impl Refusal {
             | Refusal::InvlpgbUnavailable
             | Refusal::SaveAreaOverflow
             | Refusal::TopologyInconsistent(TopologyError::ThreadsPerUnit)
-            | Refusal::BufferTooShort => Details::default(),
+            | Refusal::BufferTooShort
+            | Refusal::StateBeyondTable
+            | Refusal::CompactSizeTooLarge => Details::default(),
         }
     }
 
@@ -165,7 +181,7 @@ impl Error for TopologyError {}
 mod tests {
     use super::*;
 
-    /// The variants with their numbers (document 01, "Where each check stands") and what each names.
+    /// The variants with their numbers (document 01, "Where each check stands"; document 02) and what each names.
     #[test]
     fn numbers_and_details_lead_to_the_name_and_back() {
         let (none, s) = (Details::default(), Details { s: 7, ..Details::default() });
@@ -181,6 +197,8 @@ mod tests {
             (7, s, Refusal::TopologyInconsistent(TopologyError::ProcessorCount(7))),
             (8, none, Refusal::TopologyInconsistent(TopologyError::ThreadsPerUnit)),
             (9, none, Refusal::BufferTooShort),
+            (13, none, Refusal::StateBeyondTable),
+            (14, none, Refusal::CompactSizeTooLarge),
         ] {
             assert_eq!((refusal.number(), refusal.details()), (number, named));
             assert_eq!(Refusal::of(number, named), refusal);

@@ -2,6 +2,7 @@
 
 mod compare;
 mod from_dump;
+mod guest;
 mod image;
 mod lookup;
 mod table;
@@ -15,6 +16,7 @@ pub const ALL: &[Command] = &[
     table::COMMAND,
     image::COMMAND,
     lookup::COMMAND,
+    guest::COMMAND,
     from_dump::COMMAND,
     to_dump::COMMAND,
     compare::COMMAND,
