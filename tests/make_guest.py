@@ -107,7 +107,8 @@ def building_first():
 
 def lookups():
     """Every form of a lookup, in rows that differ and in rows that do not."""
-    for leaf, subleaf in (1, None), (1, 0), (1, 9), (0xB, 0), (0xB, 1), (0xB, None), (0xB, 2), (STATE, 0), (STATE, 1), (STATE, 2), (STATE, 9), (7, 0), (0, None), (6, None):
+    places = [(leaf, subleaf) for leaf in (1, 0xB, STATE) for subleaf in (None, 0, 1, 2, 9)]
+    for leaf, subleaf in places + [(7, 0), (0, None), (6, None)]:
         for enforce in False, True:
             yield MILAN, ('l', view(9, 7, 0x800, True), leaf, subleaf, enforce)
             yield MILAN, ('l', view(9, 2, 0x800, True), leaf, subleaf, enforce)

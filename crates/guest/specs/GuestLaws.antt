@@ -65,9 +65,11 @@ module _ (t : CpuidResults) (v : Processor) where
       → cores ≡ ifThere (m 5) (levelSeen v (m 5 .result))
       → state0 ≡ ifThere (m 6) (sizeSeen a (m 6 .result))
       → state1 ≡ ifThere (m 7) (sizeSeen c (m 7 .result))
-      → _≡_ {A = GuestAnswer} (record { verdict = Accepted; table = tableWith t (storing version threads cores state0 state1 (t .results)) }) (answerFor Accepted t v)
+      → _≡_ {A = GuestAnswer} (record { verdict = Accepted; table = tableWith t (storing version threads cores state0 state1 (t .results)) })
+      (answerFor Accepted t v)
   given {a} {c} {version} {threads} {cores} {state0} {state1} n ea ec e₁ e₄ e₅ e₆ e₇ =
-      let whole : t .results ≡ tabulate places (λ i. m i .result) = tabulated places (λ i. m i .result) (t .results) (result 0 0 0 0) n (λ i l. refl) in
+      let whole : t .results ≡ tabulate places (λ i. m i .result) =
+      tabulated places (λ i. m i .result) (t .results) (result 0 0 0 0) n (λ i l. refl) in
       let p : storing version threads cores state0 state1 (t .results) ≡ storingAll (seenIn t v) (t .results) = rw (e₁, e₄, e₅, e₆, e₇, ea, ec) in
       ap (λ (l : List CpuidResult). record { verdict = Accepted; table = tableWith t l })
       (p ∙ ap (storingAll (seenIn t v)) whole ∙ stores m v (saveRegister m (v .xcr0)) (compactRegister m (v .xcr0) (v .xss)))

@@ -13,9 +13,9 @@ ghost use Rattle.guest.specs.Guest.{osxsaveSeen, versionSeen, levelSeen,
 
 mod state;
 
-pub use state::state_verdict;
 use state::compact_register;
 use state::save_register;
+pub use state::state_verdict;
 
 // A processor: its x2APIC number, XCR0, XSS, and whether OSXSAVE is on.
 pub struct Processor {

@@ -22,7 +22,8 @@ use Rattle.guest_pages.specs.GuestPages.{guestOf, guestPages, writeGuest
 -- ---- by building's verdict
 
 module _ (b : Built) (v : Processor) where
-  with-verdict : {w : Verdict} → b .verdict ≡ w → guestOf b v ≡ answerFor (andThen w (stateVerdict (rowsIn (b .table)) (v .xcr0) (v .xss))) (b .table) v
+  with-verdict : {w : Verdict} → b .verdict ≡ w
+      → guestOf b v ≡ answerFor (andThen w (stateVerdict (rowsIn (b .table)) (v .xcr0) (v .xss))) (b .table) v
   with-verdict e = ap (λ (w : Verdict). answerFor (andThen w (stateVerdict (rowsIn (b .table)) (v .xcr0) (v .xss))) (b .table) v) e
 
   of-refused : {r : Refusal} → b .verdict ≡ Refused r → guestOf b v ≡ refusedAnswer r
@@ -43,11 +44,13 @@ module _ (avic : Bool) (s : List ℕ) (v : Processor) where
   accepted-guest = of-accepted (answer avic s) v
 
   -- a view of an accepted page set is that of its table
-  pub guest-verdict : answer avic s .verdict ≡ Accepted → guestPages avic s v .verdict ≡ stateVerdict (rowsIn (answer avic s .table)) (v .xcr0) (v .xss)
+  pub guest-verdict : answer avic s .verdict ≡ Accepted
+      → guestPages avic s v .verdict ≡ stateVerdict (rowsIn (answer avic s .table)) (v .xcr0) (v .xss)
   unfolding guestAnswer
   guest-verdict e = ap (λ (g : GuestAnswer). g .verdict) (accepted-guest e)
 
-  pub given-guest : answer avic s .verdict ≡ Accepted → guestPages avic s v .verdict ≡ Accepted → guestPages avic s v .table ≡ guestTable (answer avic s .table) v
+  pub given-guest : answer avic s .verdict ≡ Accepted → guestPages avic s v .verdict ≡ Accepted
+      → guestPages avic s v .table ≡ guestTable (answer avic s .table) v
   unfolding guestPages
   given-guest e f = ap (λ (w : Verdict). tableGiven w (answer avic s .table) v) f
 
@@ -70,7 +73,8 @@ module _ (avic : Bool) (s : List ℕ) (v : Processor) where
 -- ---- a write
 
 module _ (avic : Bool) (s : List ℕ) (v : Processor) (buffer : List ℕ) {g : GuestAnswer} (e : g ≡ guestPages avic s v) where
-  pub write-refused : {r : Refusal} → g .verdict ≡ Refused r → _≡_ {A = AfterWrite} (record { answer = NotWritten r; buffer = buffer }) (writeGuest avic s v buffer)
+  pub write-refused : {r : Refusal} → g .verdict ≡ Refused r
+      → _≡_ {A = AfterWrite} (record { answer = NotWritten r; buffer = buffer }) (writeGuest avic s v buffer)
   unfolding writeGuest
   write-refused f = rw (← e, f)
 

@@ -85,7 +85,7 @@ module _ (avic : Bool) (s : List ℕ) (e : answer avic s .verdict ≡ Accepted) 
   unfolding xss
   built-xss =
       ap₂ (λ (a c : ℕ). pick (has 1 a && has 3 a) c 0) built-eax built-ecx
-      ∙ twice (has 1 (m (Place.extendedState 1) .result .eax) && has 3 (m (Place.extendedState 1) .result .eax)) (m (Place.extendedState 1) .result .ecx)
+      ∙ twice (has 1 (m (Place.extendedState 1) .result .eax) && has 3 (m (Place.extendedState 1) .result .eax)) _
 
   pub built-mask : combinedMask (rowsIn t) ≡ combinedMask m
   unfolding combinedMask
@@ -97,11 +97,13 @@ module _ (avic : Bool) (s : List ℕ) (e : answer avic s .verdict ≡ Accepted) 
   pub built-supplied : Supplied t
   built-supplied = record {
     required = λ i l f. ap (λ (r : Row). r .present) (at i l) ∙ always-finished i l f;
-    components = λ k l u h. ap (λ (r : Row). r .present) (at (Place.extendedState k) (omega arith)) ∙ component-in k l u (ap (has k) (sym built-mask) ∙ h);
+    components = λ k l u h.
+        ap (λ (r : Row). r .present) (at (Place.extendedState k) (omega arith)) ∙ component-in k l u (ap (has k) (sym built-mask) ∙ h);
   }
 
   -- D.k of the table is the entry's
-  component-kept : (k : ℕ) → 2 ≤ k → k < 64 → has k (combinedMask m) ≡ true → rowIn t (Place.extendedState k) .result ≡ m (Place.extendedState k) .result
+  component-kept : (k : ℕ) → 2 ≤ k → k < 64 → has k (combinedMask m) ≡ true
+      → rowIn t (Place.extendedState k) .result ≡ m (Place.extendedState k) .result
   component-kept k l u h =
       result-at (Place.extendedState k) (omega arith) (component-in k l u h)
       ∙ ap (λ (q : Rule). finish (settings m) q (m (Place.extendedState k) .result)) (component-rule k l u)

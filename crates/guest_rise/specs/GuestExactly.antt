@@ -75,7 +75,8 @@ module _ (avic : Bool) (s : List ℕ) (v : Processor) where
   -- 13 and 14 are the table's
   answers : answer avic s .verdict ≡ Accepted → StateAnswers (tableRows avic s) (v .xcr0) (v .xss) (g .verdict)
   answers e =
-      subst (StateAnswers (tableRows avic s) (v .xcr0) (v .xss)) (sym (guest-verdict avic s v e)) (state-answers (tableRows avic s) (v .xcr0) (v .xss))
+      subst (StateAnswers (tableRows avic s) (v .xcr0) (v .xss)) (sym (guest-verdict avic s v e))
+      (state-answers (tableRows avic s) (v .xcr0) (v .xss))
 
   onTable : answer avic s .verdict ≡ Accepted → StateAnswers (tableRows avic s) (v .xcr0) (v .xss) (g .verdict) → GuestExactly avic s v
   onTable e (beyond f o) = record {

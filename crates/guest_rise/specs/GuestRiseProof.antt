@@ -44,11 +44,13 @@ module _ (avic : Bool) (a b : List ℕ) (v : Processor) (rises : RiseHypothesis 
 
   outcome : GuestOutcome (guestPages avic a v .table) (guestPages avic b v)
   outcome =
-      subst₂ (λ (g h : GuestAnswer). GuestOutcome (g .table) h) (sym (accepted-guest avic a v (rises .accepted))) (sym (accepted-guest avic b v acceptedB))
+      subst₂ (λ (g h : GuestAnswer). GuestOutcome (g .table) h)
+      (sym (accepted-guest avic a v (rises .accepted))) (sym (accepted-guest avic b v acceptedB))
       (table-outcome t (answer avic b .table) v tables (built-supplied avic a (rises .accepted)) allowedA givenA)
 
   -- where A's D.1.EAX has either bit: given, and the whole of demand 3's comparison, D.0.EBX and D.1.EBX equal in it
-  pub guest-rise-whole : compactsIn t ≡ true → (guestPages avic b v .verdict ≡ Accepted) × TableRises (guestPages avic a v .table) (guestPages avic b v .table)
+  pub guest-rise-whole : compactsIn t ≡ true
+      → (guestPages avic b v .verdict ≡ Accepted) × TableRises (guestPages avic a v .table) (guestPages avic b v .table)
   guest-rise-whole c =
       subst₂ (λ (g h : GuestAnswer). (h .verdict ≡ Accepted) × TableRises (g .table) (h .table))
       (sym (accepted-guest avic a v (rises .accepted))) (sym (accepted-guest avic b v acceptedB))
@@ -59,7 +61,8 @@ guest-rise = outcome
 
 -- ---- D.0.EBX of a built table is the size itself, and never passes 32 bits
 
-module _ (avic : Bool) (s : List ℕ) (v : Processor) (accepted : answer avic s .verdict ≡ Accepted) (isGiven : guestPages avic s v .verdict ≡ Accepted) where
+module _ (avic : Bool) (s : List ℕ) (v : Processor) (accepted : answer avic s .verdict ≡ Accepted)
+    (isGiven : guestPages avic s v .verdict ≡ Accepted) where
   abbrev w : CpuidResults
   w = answer avic s .table
 
@@ -71,8 +74,11 @@ module _ (avic : Bool) (s : List ℕ) (v : Processor) (accepted : answer avic s 
   unfolding saveRegister
   area-seen =
       ap (λ (q : CpuidResults). rowIn q (Place.extendedState 0) .result .ebx) (given-guest avic s v accepted isGiven)
-      ∙ ap (λ (r : CpuidResult). r .ebx) (seen-there w v (Place.extendedState 0) (lit< tt) (built-supplied avic s accepted .required (Place.extendedState 0) (lit< tt) refl))
+      ∙ ap (λ (r : CpuidResult). r .ebx) (seen-there w v (Place.extendedState 0) (lit< tt) there)
       ∙ fits (saveArea (rowsIn w) (v .xcr0)) never-overflows
     where
+      there : rowIn w (Place.extendedState 0) .present ≡ true
+      there = built-supplied avic s accepted .required (Place.extendedState 0) (lit< tt) refl
+
       fits : (n : ℕ) → n < 2 ^ 32 → min n (2 ^ 32 - 1) ≡ n
       fits n l = omega arith

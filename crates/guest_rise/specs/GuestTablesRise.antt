@@ -75,7 +75,8 @@ module _ (t u : CpuidResults) (v : Processor) (rises : TableRises t u) (supplied
   same-row : (k : ℕ) → 2 ≤ k → k < 64 → has k (combinedMask T) ≡ true → T (Place.extendedState k) .result ≡ U (Place.extendedState k) .result
   same-row k l h p =
       let q : Registers TableAtLeast (kindsOf (component k)) (T (Place.extendedState k) .result) (U (Place.extendedState k) .result) =
-      subst (λ (w : Rule). Registers TableAtLeast (kindsOf w) (T (Place.extendedState k) .result) (U (Place.extendedState k) .result)) (component-rule k l h)
+      subst (λ (w : Rule). Registers TableAtLeast (kindsOf w) (T (Place.extendedState k) .result) (U (Place.extendedState k) .result))
+      (component-rule k l h)
       (rises .registers (Place.extendedState k) (omega arith) (supplied .components k l h p)) in
       λ j. record { eax = q .eax j; ebx = q .ebx j; ecx = q .ecx j; edx = q .edx j }
 
@@ -127,7 +128,8 @@ module _ (t u : CpuidResults) (v : Processor) (rises : TableRises t u) (supplied
     rows = rises .rows;
     registers = λ i l p f.
         subst₂ (RowRises i) (sym (seen-there t v i l p)) (sym (seen-there u v i l (rises .rows i l p)))
-        (seen-rises v i (rowIn t i .result) (rowIn u i .result) save-same (λ e. compact-register-same (sym seen-compacts ∙ f e)) (rises .registers i l p));
+        (seen-rises v i (rowIn t i .result) (rowIn u i .result) save-same (λ e. compact-register-same (sym seen-compacts ∙ f e))
+        (rises .registers i l p));
     xsaveEax = subst₂ Within (sym (seen1 t there1 (λ r. r .eax) (λ r n. refl))) (sym (seen1 u in-b (λ r. r .eax) (λ r n. refl))) (state1 .eax);
     xsaveEcx = subst₂ Within (sym (seen1 t there1 (λ r. r .ecx) (λ r n. refl))) (sym (seen1 u in-b (λ r. r .ecx) (λ r n. refl))) (state1 .ecx);
     xsaveEdx = seen1 t there1 (λ r. r .edx) (λ r n. refl) ∙ state1 .edx ∙ sym (seen1 u in-b (λ r. r .edx) (λ r n. refl));
@@ -144,7 +146,8 @@ module _ (t u : CpuidResults) (v : Processor) (rises : TableRises t u) (supplied
   module _ (isGiven : stateVerdict T (v .xcr0) (v .xss) ≡ Accepted) where
     -- a size that is too large for U is too large for T, if T compacts
     no-fault : compactsIn t ≡ true → SizeFault U (v .xcr0) (v .xss) → ⊥
-    no-fault e f = given-fits T (v .xcr0) (v .xss) isGiven (record { compacted = test-either _ e; large = omega (arith, f .large, compact-size-same) })
+    no-fault e f =
+        given-fits T (v .xcr0) (v .xss) isGiven (record { compacted = test-either _ e; large = omega (arith, f .large, compact-size-same) })
 
     pub table-outcome : GuestOutcome (guestAnswer t v .table) (guestAnswer u v)
     unfolding guestAnswer

@@ -89,7 +89,7 @@ pub seen-there : (t : CpuidResults) (v : Processor) (i : ℕ) → i < places →
 seen-there t v i l p =
     seen-row t v i l
     ∙ ap (λ (b : Bool). seenAt v (saveRegister (rowsIn t) (v .xcr0)) (compactRegister (rowsIn t) (v .xcr0) (v .xss)) i
-        (record { present = b; result = rowIn t i .result })) p
+    (record { present = b; result = rowIn t i .result })) p
 
 -- "differs in these places": every other row is the table's
 pub elsewhere : (t : CpuidResults) (v : Processor) (i : ℕ) → i < places
@@ -103,8 +103,7 @@ pub absent-stays : (t : CpuidResults) (v : Processor) (i : ℕ) → i < places �
     → rowIn (guestTable t v) i .result ≡ rowIn t i .result
 absent-stays t v i l p =
     seen-row t v i l
-    ∙ rw (p, none (eqb i Place.versionAndFeatures), none (eqb i Place.threadLevel), none (eqb i Place.coreLevel), none (eqb i (Place.extendedState 0)),
-        none (eqb i (Place.extendedState 1)))
+    ∙ rw (p, none (eqb i 1), none (eqb i 4), none (eqb i 5), none (eqb i 6), none (eqb i 7))
   where
     none : (b : Bool) → (b && false) ≡ false
     none true = refl

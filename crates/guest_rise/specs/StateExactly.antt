@@ -96,7 +96,7 @@ module _ (m : Rows) (x s : ℕ) where
   size-answers h b true e f =
       given h
       (λ q. absurd (let z : compactRegister m x s ≡ compactSize m (bitOr x s) = pick-true _ _ (either-test _ (q .compacted)) in
-          omega (arith, q .large, ltb-true (compactRegister m x s) (2 ^ 32) f)))
+      omega (arith, q .large, ltb-true (compactRegister m x s) (2 ^ 32) f)))
       refl
   size-answers h true false e f =
       let z : compactRegister m x s ≡ compactSize m (bitOr x s) = pick-true _ _ e in

@@ -8,10 +8,9 @@ use super::written_numbers;
 use guest::Processor;
 use x86defs::CpuidFunction;
 ghost use mathlib.Core.Path.{_≡_};
-ghost use Rattle.lookup.specs.Lookup.{lookup};
 ghost use Rattle.guest_pages.specs.GuestPages.{guestPages, writeGuest};
-ghost use Rattle.snp_cpuid.specs.Exports.{foundNumbers, writtenNumbers, subleafOf};
-ghost use Rattle.snp_cpuid.specs.GuestExports.{processorOf, guestNumbers};
+ghost use Rattle.snp_cpuid.specs.Exports.{writtenNumbers, subleafOf};
+ghost use Rattle.snp_cpuid.specs.GuestExports.{processorOf, guestNumbers, guestFound};
 
 // The processor that a caller describes.
 fn processor(x2apic: u32, xcr0: u64, xss: u64, osxsave: bool) -> Processor
@@ -67,7 +66,7 @@ pub extern "C" fn snp_cpuid_guest_lookup(
     subleaf: u32,
     enforce_subleaf: bool,
 ) -> SnpCpuidFound
-    ensures { λ r. ⌜ r ≡ foundNumbers (lookup (guestPages «secure_avic» (now (pages .entry)) (processorOf x2apic xcr0 xss osxsave) .table) (record { 0 = leaf }) (subleafOf «has_subleaf» subleaf) «enforce_subleaf») ⌝ }
+    ensures { λ r. ⌜ r ≡ guestFound «secure_avic» (now (pages .entry)) (processorOf x2apic xcr0 xss osxsave) leaf (subleafOf «has_subleaf» subleaf) «enforce_subleaf» ⌝ }
 {
     let v = processor(x2apic, xcr0, xss, osxsave);
     let seen = guest_pages::guest_pages(pages, secure_avic, v);

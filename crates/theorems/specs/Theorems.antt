@@ -55,6 +55,7 @@ use Rattle.guest_rise.specs.SeenRises as Seen
 use Rattle.guest_examples.specs.CompactSizes.{sizes, sizes-are}
 use Rattle.guest_examples.specs.Seen.{processor, figures}
 use Rattle.guest_examples.specs.Views as Views
+use Rattle.guest_exception.specs.Exception as Exception
 use Rattle.theorems.specs.Exported.{ExportsRise, ExportsCompare, exports-rise, exports-compare}
 use Rattle.examples.specs.PageSets.{serverA, serverB, serverWithoutD12, serverWithLargeD6}
 use Rattle.examples.specs.Computed as Computed
@@ -137,7 +138,8 @@ pub no-other-row-differs : (t : CpuidResults) (v : Processor) (i : ℕ) → i < 
 no-other-row-differs = Seen.elsewhere
 
 -- D.0.EBX of a table that building accepted never overflows: it is the size itself
-pub guest-size-never-overflows : (avic : Bool) (s : List ℕ) (v : Processor) → answer avic s .verdict ≡ Accepted → guestPages avic s v .verdict ≡ Accepted
+pub guest-size-never-overflows : (avic : Bool) (s : List ℕ) (v : Processor) → answer avic s .verdict ≡ Accepted
+    → guestPages avic s v .verdict ≡ Accepted
     → (saveArea (rowsIn (answer avic s .table)) (v .xcr0) < 2 ^ 32)
     × (rowIn (guestPages avic s v .table) (Place.extendedState 0) .result .ebx ≡ saveArea (rowsIn (answer avic s .table)) (v .xcr0))
 guest-size-never-overflows avic s v a g = (GuestRiseProof.never-overflows avic s v a g, GuestRiseProof.area-seen avic s v a g)
@@ -177,18 +179,19 @@ guest-from-a-to-b = Views.a-to-b
 pub guest-of-b : figures (guestPages false serverB (processor 1 0xE7 0x1800 true) .table) ≡ 0x01010000 ∷ 0xFEDA3203 ∷ 1 ∷ 1 ∷ 2432 ∷ 2472 ∷ []
 guest-of-b = Views.b-figures
 
--- the exception: a server with neither bit, where D.1.EBX is 0 and D.0.EBX the largest size, and one with bit 1, which 14 refuses
-pub exception-rises : RiseHypothesis false Views.plain Views.compacting
-exception-rises = Views.plain-to-compacting
+-- the exception: a server with neither bit, where D.1.EBX is 0 and D.0.EBX the largest size, and one with bit 1, which refuses by 14.
+-- crates/guest_exception/specs/Exception.antt
+pub exception-rises : RiseHypothesis false Exception.plain Exception.compacting
+exception-rises = Exception.plain-to-compacting
 
-pub exception-given : figures (guestPages false Views.plain Views.viewA .table) ≡ 0x45010000 ∷ 0xBED83203 ∷ 0x12345 ∷ 0x12345 ∷ 0xFFFFFFFF ∷ 0 ∷ []
-exception-given = Views.plain-figures
+pub exception-given : figures (guestPages false Exception.plain Views.viewA .table) ≡ 0x45010000 ∷ 0xBED83203 ∷ 0x12345 ∷ 0x12345 ∷ 0xFFFFFFFF ∷ 0 ∷ []
+exception-given = Exception.plain-figures
 
-pub exception-refused : guestPages false Views.compacting Views.viewA .verdict ≡ Refused CompactSizeTooLarge
-exception-refused = Views.compacting-refused
+pub exception-refused : guestPages false Exception.compacting Views.viewA .verdict ≡ Refused CompactSizeTooLarge
+exception-refused = Exception.compacting-refused
 
-pub exception-outcome : GuestOutcome (guestPages false Views.plain Views.viewA .table) (guestPages false Views.compacting Views.viewA)
-exception-outcome = Views.plain-outcome
+pub exception-outcome : GuestOutcome (guestPages false Exception.plain Views.viewA .table) (guestPages false Exception.compacting Views.viewA)
+exception-outcome = Exception.plain-outcome
 
 -- compacted sizes: order, alignment of the start, the largest that is given and the first that is not. crates/guest_examples/specs/CompactSizes.antt
 pub compacted-sizes : sizes ≡ 576 ∷ 832 ∷ 840 ∷ 856 ∷ 920 ∷ 856 ∷ 0xFFFFFFFF ∷ 0x100000000 ∷ []

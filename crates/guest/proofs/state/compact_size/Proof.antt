@@ -26,7 +26,8 @@ returns c =
 loop-again : tie.Need-loop-again Inv-loop μ-loop
 loop-again c =
     let b = c .before in let s = b .before .before .before .before in let i = s .loop .inv in
-    (omega arith, omega arith, compact-next (resultsIn (s .before .args .t1)) _ (s .loop .k) (i .0) (i .2) (b .has-bit64 .ensures) (c .place-component .ensures .0), omega (arith, c .place-component .ensures .1))
+    let next = compact-next (resultsIn (s .before .args .t1)) _ (s .loop .k) (i .0) (i .2) (b .has-bit64 .ensures) (c .place-component .ensures .0) in
+    (omega arith, omega arith, next, omega (arith, c .place-component .ensures .1))
 
 returns-2 : tie.Need-returns-2 Inv-loop μ-loop
 returns-2 c =

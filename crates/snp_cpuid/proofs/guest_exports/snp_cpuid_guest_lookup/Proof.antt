@@ -6,7 +6,8 @@ use Rattle.snp_cpuid.proofs.guest_exports.snp_cpuid_guest_lookup.Tie as
 returns : tie.Need-returns
 returns c =
     let g = c .before .before .before .before in
-    rw (← g .before .processor .ensures, ← g .guest-pages .ensures, ← c .before .before .subleaf-of .ensures, ← c .before .leaf-result .ensures) (c .found-numbers .ensures)
+    let l = c .before in
+    rw (← g .before .processor .ensures, ← g .guest-pages .ensures, ← l .before .subleaf-of .ensures, ← l .leaf-result .ensures) (c .found-numbers .ensures)
 
 pub snp-cpuid-guest-lookup-spec : {M : Type 1} → statement M
 snp-cpuid-guest-lookup-spec =

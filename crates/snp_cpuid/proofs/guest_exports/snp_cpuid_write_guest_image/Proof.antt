@@ -8,7 +8,8 @@ use Rattle.snp_cpuid.proofs.guest_exports.snp_cpuid_write_guest_image.T
 returns : tie.Need-returns
 returns c =
     let w = c .before .before .before in let p = w .before .before in
-    rw (← p .processor .ensures) (c .written-numbers .ensures ∙ ap writtenNumbers (w .write-guest-image .ensures .0), w .write-guest-image .ensures .1)
+    let o = w .write-guest-image .ensures in
+    rw (← p .processor .ensures) (c .written-numbers .ensures ∙ ap writtenNumbers (o .0), o .1)
 
 pub snp-cpuid-write-guest-image-spec : {M : Type 1} → statement M
 snp-cpuid-write-guest-image-spec =
