@@ -60,15 +60,7 @@ unsafe extern "C" {
         enforce_subleaf: bool,
     ) -> Found;
     pub fn snp_cpuid_write_image(pages: *const u8, length: usize, secure_avic: bool, out: *mut u8, room: usize) -> Written;
-    pub fn snp_cpuid_guest_build(
-        pages: *const u8,
-        length: usize,
-        secure_avic: bool,
-        x2apic: u32,
-        xcr0: u64,
-        xss: u64,
-        osxsave: bool,
-    ) -> Built;
+    pub fn snp_cpuid_guest_build(pages: *const u8, length: usize, secure_avic: bool, x2apic: u32, xcr0: u64, xss: u64, osxsave: bool) -> Built;
     pub fn snp_cpuid_guest_lookup(
         pages: *const u8,
         length: usize,

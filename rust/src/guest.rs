@@ -49,8 +49,7 @@ pub fn write_guest_image(pages: &[u8], secure_avic: bool, processor: Processor, 
     let Processor { x2apic, xcr0, xss, osxsave } = processor;
     let (room, out) = (out.len(), out.as_mut_ptr());
     // SAFETY: both pointers and lengths are those of slices; the function reads the first and writes within the second
-    let written =
-        unsafe { exports::snp_cpuid_write_guest_image(pages.as_ptr(), pages.len(), secure_avic, x2apic, xcr0, xss, osxsave, out, room) };
+    let written = unsafe { exports::snp_cpuid_write_guest_image(pages.as_ptr(), pages.len(), secure_avic, x2apic, xcr0, xss, osxsave, out, room) };
     written.accepted().map(|written| written.length as usize)
 }
 
