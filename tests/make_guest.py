@@ -19,7 +19,7 @@ import model
 from make_vectors import differences
 from model_guest import guest
 from pagesets import STATE, changed, minimal, page, rich, spread, with_topology, without
-from vector_groups import Damage
+from vectors_document_01 import Damage
 
 FILE = Path(__file__).resolve().parent.parent / 'rust' / 'tests' / 'guest.txt'
 MILAN = Path(__file__).with_name('epyc-milan.pages').read_bytes()

@@ -11,7 +11,7 @@ import unittest
 import model
 from model_guest import guest, guest_of
 from pagesets import STATE, changed, minimal, page, rich, spread, with_topology, without
-from vector_groups import Damage
+from vectors_document_01 import Damage
 
 MILAN = Path(__file__).with_name('epyc-milan.pages').read_bytes()
 EAX, EBX, ECX, EDX = range(4)

@@ -179,5 +179,6 @@ unfolding clearUnless clear
 clear-unless-and true true m x y = refl
 clear-unless-and true false m x y = and-assoc x y (2 ^ 32 - 1 - m)
 clear-unless-and false true m x y =
-    bits-ext _ _ (λ k. omega (arith, bit-and k (bitAnd x y) (2 ^ 32 - 1 - m), bit-and k x y, bit-and k (bitAnd x (2 ^ 32 - 1 - m)) y, bit-and k x (2 ^ 32 - 1 - m)))
+    let n : ℕ = 2 ^ 32 - 1 - m in
+    bits-ext _ _ (λ k. omega (arith, bit-and k (bitAnd x y) n, bit-and k x y, bit-and k (bitAnd x n) y, bit-and k x n))
 clear-unless-and false false m x y = and-both x y (2 ^ 32 - 1 - m)

@@ -15,7 +15,8 @@ use Rattle.collect.specs.FirstEntries.{rowsOf}
 use Rattle.collect.specs.Collect.{collected, collected-rows}
 use Rattle.build.specs.Build.{lengthVerdict, countsVerdict, lawfulVerdict, verdictOf, answer}
 
-built-with : (avic : Bool) (s : List ℕ) {v : Verdict} → verdictOf avic s ≡ v → answer avic s ≡ record { verdict = v; table = tableFor v (rowsOf avic s) }
+built-with : (avic : Bool) (s : List ℕ) {v : Verdict} → verdictOf avic s ≡ v
+    → answer avic s ≡ record { verdict = v; table = tableFor v (rowsOf avic s) }
 unfolding answer
 built-with avic s e = ap (λ (x : Verdict). record { verdict = x; table = tableFor x (rowsOf avic s) }) e
 

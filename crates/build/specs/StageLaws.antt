@@ -1,12 +1,7 @@
 -- The stages, joined: a check that refuses gives the answer, one that passes leaves it to the checks after it.
-use mathlib.Core.Path.{_≡_, refl, sym, ap, ap₂, _∙_}
-use mathlib.Core.Bool.{_&&_}
-use Prim.Native.Nat.{ℕ, zero, suc, _^_, max}
-use lib.Dec.{leb}
-use lib.Bits.{bitOr}
-use borrow.Author.Tests.{lt-ltb, le-ltb}
-use Rattle.bits.specs.Choice.{pick}
-use Rattle.bits.specs.Bits.{bit, has}
+use mathlib.Core.Path.{_≡_, refl, sym, ap, _∙_}
+use Prim.Native.Nat.{ℕ}
+use Rattle.bits.specs.Bits.{bit}
 use Rattle.x86defs.specs.Fields.{cut}
 use Rattle.x86defs.specs.Fields.Field.{nc, apic-core-id-size, lps-per-package, threads-per-compute-unit}
 use Rattle.x86defs.specs.VersionAndFeaturesEdx
@@ -18,23 +13,23 @@ use Rattle.masking.specs.Place
 use Rattle.build.specs.declared.Built.{Built}
 use Rattle.table.specs.declared.CpuidResults.{CpuidResults}
 use Rattle.table.specs.declared.Refusal.{Refusal}
-use Rattle.table.specs.declared.Refusal.the-variants.{SaveAreaOverflow, TopologyInconsistent}
+use Rattle.table.specs.declared.Refusal.the-variants.{TopologyInconsistent}
 use Rattle.table.specs.declared.Verdict.{Verdict}
 use Rattle.table.specs.declared.Verdict.the-variants.{Accepted, Refused}
 use Rattle.checks.specs.declared.Size.{Size}
-use Rattle.checks.specs.declared.Size.the-variants.{Bytes, TooLarge}
+use Rattle.checks.specs.declared.Size.the-variants.{Bytes}
 use Rattle.table.specs.Refusal.{andThen}
 use Rattle.table.specs.Rows.{Rows}
-use Rattle.checks.specs.ExtendedState.{xfem, xss, combinedMask, supplied, areaBelow, saveArea}
-use Rattle.checks.specs.ExtendedStateLaws.{sumAt}
+use Rattle.checks.specs.ExtendedState.{xfem, combinedMask, saveArea, sizeOf}
+use Rattle.checks.specs.ExtendedStateLaws.{area-same}
 use Rattle.checks.specs.TopologyInputs.{inputsOf}
 use Rattle.update.specs.Finish.{finished}
-use Rattle.checks.specs.Checks.{requiredVerdict, componentsVerdict, areaVerdict, topologyVerdict, rowsVerdict}
+use Rattle.checks.specs.Checks.{requiredVerdict, sizeVerdict, areaVerdict, topologyVerdict, rowsVerdict}
 use Rattle.table.specs.Table.{tableOf, rowsIn}
 use Rattle.build.specs.Built.{builtFrom}
-use Rattle.checks.specs.Parts.{presentIn, resultsIn, componentsOf, sizeOf}
+use Rattle.checks.specs.Parts.{presentIn, resultsIn}
 use Rattle.build.specs.Stages.{refusedBuilt, builtBy, fromInvlpgb}
-use Rattle.checks.specs.SaveAreaLaws.{size-bytes, size-large}
+use Rattle.checks.specs.SaveAreaLaws.{size-bytes}
 
 -- ---- a check with verdict u, of which the code found v, before those with verdict w
 
@@ -60,19 +55,7 @@ module _ (t : CpuidResults) {v : Verdict} (e : v ≡ requiredVerdict (presentIn 
   unfolding builtFrom rowsVerdict
   required-passes = stage-passes (rowsIn t) (requiredVerdict (rowsIn t)) (fromInvlpgb (rowsIn t)) required-found
 
--- ---- the D subleaves, by the combined mask
-
-pub components-combined : (m : Rows) {x s : ℕ} → s ≡ xss m → x ≡ bitOr (xfem m) s → componentsOf m x ≡ componentsVerdict m
-unfolding componentsOf componentsVerdict supplied combinedMask
-components-combined m f e = rw (e, f)
-
--- ---- the save area
-
--- only the registers count
-area-same : (A B : Rows) (x n : ℕ) → ((k : ℕ) → sumAt A k ≡ sumAt B k) → areaBelow A x n ≡ areaBelow B x n
-unfolding areaBelow
-area-same A B x zero f = refl
-area-same A B x (suc n) f = ap₂ max (area-same A B x n f) (ap (λ (s : ℕ). pick (leb 2 n && has n x) s 0) (f n))
+-- ---- the save area: z is the size over the registers of t
 
 module _ (t : CpuidResults) {z : Size} (e : z ≡ sizeOf (saveArea (resultsIn (t .results)) (xfem (rowsIn t)))) where
   abbrev m : Rows
@@ -81,15 +64,9 @@ module _ (t : CpuidResults) {z : Size} (e : z ≡ sizeOf (saveArea (resultsIn (t
   same : saveArea (resultsIn (t .results)) (xfem m) ≡ saveArea m (xfem m)
   same = area-same (resultsIn (t .results)) m (xfem m) 64 (λ k. refl)
 
-  pub area-refuses : z ≡ TooLarge → Refused SaveAreaOverflow ≡ areaVerdict m
+  pub area-verdict : sizeVerdict z ≡ areaVerdict m
   unfolding areaVerdict
-  area-refuses f = rw (← same, le-ltb _ (2 ^ 32) (size-large _ (sym f ∙ e)))
-
-  pub area-passes : {n : ℕ} → z ≡ Bytes n → Accepted ≡ areaVerdict m
-  unfolding areaVerdict
-  area-passes {n} f =
-      let (q, h) = size-bytes _ n (sym f ∙ e) in
-      rw (← same, ← q, lt-ltb n (2 ^ 32) h)
+  area-verdict = ap sizeVerdict (e ∙ ap sizeOf same)
 
   pub area-found : {n : ℕ} → z ≡ Bytes n → n ≡ saveArea m (xfem m)
   area-found {n} f = size-bytes _ n (sym f ∙ e) .0 ∙ same
@@ -107,7 +84,8 @@ unfolding inputsOf
 topology-inputs m a b c d e f = f ∙ ap topologyOf (rw (a, b, c, d, e))
 
 module _ (m : Rows) {p : Topology} (e : p ≡ topologyOf (inputsOf m)) where
-  pub topology-refuses : {r : TopologyError} {q : Built} → p ≡ Inconsistent r → q ≡ refusedBuilt (TopologyInconsistent r) → q ≡ builtBy (topologyVerdict m) m
+  pub topology-refuses : {r : TopologyError} {q : Built} → p ≡ Inconsistent r → q ≡ refusedBuilt (TopologyInconsistent r)
+      → q ≡ builtBy (topologyVerdict m) m
   unfolding topologyVerdict
   topology-refuses f g = g ∙ rw (← e, f)
 

@@ -16,7 +16,7 @@ use Rattle.table.specs.Refusal.{andThen}
 use Rattle.table.specs.Rows.{Rows}
 use Rattle.checks.specs.Required.{requiredCount, placeRequired}
 use Rattle.checks.specs.ExtendedState.{combinedMask, supplied}
-use Rattle.checks.specs.Checks.{refuseAt, refuseUnless, missingRequired, missingComponent, requiredVerdict, invlpgbVerdict, componentsVerdict, areaVerdict, topologyVerdict, rowsVerdict}
+use Rattle.checks.specs.Checks.{refuseAt, refuseUnless, missingRequired, missingComponent, requiredVerdict, invlpgbVerdict, componentsOf, componentsVerdict, areaVerdict, topologyVerdict, rowsVerdict}
 
 pub then-left : (u v : Verdict) → andThen u v ≡ Accepted → u ≡ Accepted
 then-left Accepted v e = refl
@@ -43,16 +43,19 @@ demanded false r e = cc
 
 pub required-present : (m : Rows) → requiredVerdict m ≡ Accepted → (j : ℕ) → j < requiredCount → m (placeRequired j) .present ≡ true
 unfolding requiredVerdict
-required-present m e j l = lowest-none (λ j. m (placeRequired j) .present) 0 requiredCount (found-none _ missingRequired e) j (omega arith) (omega arith)
+required-present m e j l =
+    lowest-none (λ j. m (placeRequired j) .present) 0 requiredCount (found-none _ missingRequired e) j (omega arith) (omega arith)
 
 pub present-required : (m : Rows) → ((j : ℕ) → j < requiredCount → m (placeRequired j) .present ≡ true) → requiredVerdict m ≡ Accepted
 unfolding requiredVerdict
-present-required m f = ap (λ (x : Failing). refuseAt x missingRequired) (lowest-all (λ j. m (placeRequired j) .present) 0 requiredCount (λ j l h. f j (omega arith)))
+present-required m f =
+    ap (λ (x : Failing). refuseAt x missingRequired) (lowest-all (λ j. m (placeRequired j) .present) 0 requiredCount (λ j l h. f j (omega arith)))
 
 pub component-present : (m : Rows) → componentsVerdict m ≡ Accepted → (k : ℕ) → 2 ≤ k → k < 64 → has k (combinedMask m) ≡ true
     → m (Place.extendedState k) .present ≡ true
-unfolding componentsVerdict supplied
-component-present m e k l u h = if-holds (has k (combinedMask m)) _ (lowest-none (supplied m) 2 62 (found-none _ missingComponent e) k l (omega arith)) h
+unfolding componentsVerdict componentsOf
+component-present m e k l u h =
+    if-holds (has k (combinedMask m)) _ (lowest-none (supplied m (combinedMask m)) 2 62 (found-none _ missingComponent e) k l (omega arith)) h
 
 -- all five, of an accepted verdict
 pub record AllPass (m : Rows) : Type 0 where

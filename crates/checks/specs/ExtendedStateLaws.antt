@@ -1,5 +1,5 @@
 -- Laws of the extended state: the area grows with the mask, XSS grows with its registers, and D.1.ECX ends as XSS.
-use mathlib.Core.Path.{_≡_, refl, sym}
+use mathlib.Core.Path.{_≡_, refl, sym, ap, ap₂}
 use mathlib.Core.Bool.{Bool, true, false, _&&_}
 use Prim.Native.Nat.{ℕ, zero, suc, _+_, _≤_, _<_, max}
 use native.Mathlib.Nat.{le-refl}
@@ -12,13 +12,9 @@ use Rattle.bits.specs.Bits.{has, Within}
 use Rattle.bits.specs.BitsLaws.{has-mono, within-zero, or-within-left}
 use Rattle.masking.specs.Place
 use Rattle.table.specs.Rows.{Rows}
-use Rattle.checks.specs.ExtendedState.{xfem, xss, combinedMask, areaBelow}
+use Rattle.checks.specs.ExtendedState.{xfem, xss, combinedMask, sumAt, grown, areaBelow}
 
--- what a subleaf of the mask adds to the area
-abbrev pub sumAt : Rows → ℕ → ℕ
-sumAt m k = m (Place.extendedState k) .result .eax + m (Place.extendedState k) .result .ebx
-
-area-step : (p q : Bool) (a b u v : ℕ) → a ≤ b → (p ≡ true → q ≡ true) → (p ≡ true → u ≡ v) → max a (pick p u 0) ≤ max b (pick q v 0)
+area-step : (p q : Bool) (a b u v : ℕ) → a ≤ b → (p ≡ true → q ≡ true) → (p ≡ true → u ≡ v) → grown a p u ≤ grown b q v
 area-step true true a b u v l f g = omega (arith, g refl)
 area-step true false a b u v l f g = absurd (never-both (f refl) refl)
 area-step false true a b u v l f g = omega arith
@@ -34,6 +30,12 @@ area-mono A B {x} {y} (suc k) h f =
     (area-mono A B k h (λ j l m. f j l (omega arith)))
     (and-mono (leb 2 k) (has k x) (λ e. e) (has-mono k h))
     (λ e. f k (leb-true 2 k (and-left _ _ e)) (omega arith) (and-right (leb 2 k) _ e))
+
+-- only the sums count
+pub area-same : (A B : Rows) (x n : ℕ) → ((k : ℕ) → sumAt A k ≡ sumAt B k) → areaBelow A x n ≡ areaBelow B x n
+unfolding areaBelow
+area-same A B x zero f = refl
+area-same A B x (suc n) f = ap₂ max (area-same A B x n f) (ap (λ (s : ℕ). pick (leb 2 n && has n x) s 0) (f n))
 
 pick-within : (p q : Bool) {a b : ℕ} → (p ≡ true → q ≡ true) → Within a b → Within (pick p a 0) (pick q b 0)
 pick-within true true f h = h
@@ -60,7 +62,9 @@ unless-zero true x = go (eqb x 0) refl
 -- "If XSS is 0, D.1.ECX becomes 0": so it is XSS
 pub xsaves-ecx : (m : Rows) → pick (eqb (xss m) 0) 0 (m (Place.extendedState 1) .result .ecx) ≡ xss m
 unfolding xss
-xsaves-ecx m = unless-zero (has 1 (m (Place.extendedState 1) .result .eax) && has 3 (m (Place.extendedState 1) .result .eax)) (m (Place.extendedState 1) .result .ecx)
+xsaves-ecx m =
+    unless-zero (has 1 (m (Place.extendedState 1) .result .eax) && has 3 (m (Place.extendedState 1) .result .eax))
+    (m (Place.extendedState 1) .result .ecx)
 
 pub in-combined : (m : Rows) (k : ℕ) → has k (xfem m) ≡ true → has k (combinedMask m) ≡ true
 unfolding combinedMask

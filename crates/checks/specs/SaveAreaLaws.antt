@@ -12,10 +12,8 @@ use Rattle.bits.specs.Choice.{pick}
 use Rattle.bits.specs.Bits.{has}
 use Rattle.checks.specs.declared.Size.the-variants.{Bytes, TooLarge}
 use Rattle.table.specs.Rows.{Rows}
-use Rattle.checks.specs.ExtendedState.{areaBelow, saveArea}
-use Rattle.checks.specs.ExtendedStateLaws.{sumAt}
+use Rattle.checks.specs.ExtendedState.{sumAt, grown, areaBelow, saveArea, sizeOf}
 use Rattle.checks.specs.MaskLaws.{none-from}
-use Rattle.checks.specs.Parts.{sizeOf, grownOf}
 
 area-up : (m : Rows) (x j n : ℕ) → j ≤ n → areaBelow m x j ≤ areaBelow m x n
 unfolding areaBelow
@@ -23,7 +21,7 @@ area-up m x j zero h = let e : j ≡ 0 = omega arith in rw e (le-refl 576)
 area-up m x j (suc n) h =
     elim (eq-or-lt-of-le h) [ inl q ↦ le-of-eq (ap (areaBelow m x) q) | inr q ↦ le-trans (area-up m x j n (omega arith)) (omega arith) ]
 
-area-next : (m : Rows) (x k : ℕ) → 2 ≤ k → areaBelow m x (k + 1) ≡ max (areaBelow m x k) (pick (has k x) (sumAt m k) 0)
+area-next : (m : Rows) (x k : ℕ) → 2 ≤ k → areaBelow m x (k + 1) ≡ grown (areaBelow m x k) (has k x) (sumAt m k)
 unfolding areaBelow
 area-next m x k l = rw (add-one, areaBelow, le-leb 2 k l)
 
@@ -37,7 +35,7 @@ area-stays m x k (suc n) h f =
       | inr q ↦ step (leb 2 n) (f n (omega arith)) ∙ area-stays m x k n (omega arith) f
     ]
   where
-    step : (b : Bool) → has n x ≡ false → max (areaBelow m x n) (pick (b && has n x) (sumAt m n) 0) ≡ areaBelow m x n
+    step : (b : Bool) → has n x ≡ false → grown (areaBelow m x n) (b && has n x) (sumAt m n) ≡ areaBelow m x n
     step true e = rw e (omega arith)
     step false e = omega arith
 
@@ -70,20 +68,16 @@ exceeds a h = rw (le-ltb a (2 ^ 32) h)
 -- ---- one subleaf
 
 module _ (n : ℕ) {used : Bool} (sum : ℕ) where
-  pub grown-over : used ≡ true → 2 ^ 32 ≤ sum → TooLarge ≡ grownOf n used sum
-  unfolding grownOf
+  pub grown-over : used ≡ true → 2 ^ 32 ≤ sum → TooLarge ≡ sizeOf (grown n used sum)
   grown-over e h = rw e (exceeds _ (omega arith))
 
-  pub grown-to : used ≡ true → n ≤ sum → sum < 2 ^ 32 → Bytes sum ≡ grownOf n used sum
-  unfolding grownOf
+  pub grown-to : used ≡ true → n ≤ sum → sum < 2 ^ 32 → Bytes sum ≡ sizeOf (grown n used sum)
   grown-to e l h = let m : sum ≡ max n sum = omega arith in rw (e, ← m) (fits sum h)
 
-  pub grown-within : used ≡ true → sum ≤ n → n < 2 ^ 32 → Bytes n ≡ grownOf n used sum
-  unfolding grownOf
+  pub grown-within : used ≡ true → sum ≤ n → n < 2 ^ 32 → Bytes n ≡ sizeOf (grown n used sum)
   grown-within e l h = let m : max n sum ≡ n = omega arith in rw (e, m) (fits n h)
 
-  pub grown-unused : used ≡ false → n < 2 ^ 32 → Bytes n ≡ grownOf n used sum
-  unfolding grownOf
+  pub grown-unused : used ≡ false → n < 2 ^ 32 → Bytes n ≡ sizeOf (grown n used sum)
   grown-unused e h = let m : max n 0 ≡ n = omega arith in rw (e, m) (fits n h)
 
 -- ---- the loop, at subleaf k with the area n so far
@@ -93,14 +87,12 @@ unfolding areaBelow
 area-starts m x = refl
 
 module _ (m : Rows) (x n k : ℕ) (l : 2 ≤ k) (e : n ≡ areaBelow m x k) where
-  pub area-grows : {used : Bool} {v : ℕ} → used ≡ has k x → Bytes v ≡ grownOf n used (sumAt m k) → (v ≡ areaBelow m x (k + 1)) × (v < 2 ^ 32)
-  unfolding grownOf
+  pub area-grows : {used : Bool} {v : ℕ} → used ≡ has k x → Bytes v ≡ sizeOf (grown n used (sumAt m k)) → (v ≡ areaBelow m x (k + 1)) × (v < 2 ^ 32)
   area-grows {used} {v} f g =
       let h : (v ≡ _) × (v < 2 ^ 32) = size-bytes _ v (rw (e, f) at g) in
       (h .0 ∙ sym (area-next m x k l), h .1)
 
-  pub area-overflows : {used : Bool} → k < 64 → used ≡ has k x → TooLarge ≡ grownOf n used (sumAt m k) → TooLarge ≡ sizeOf (saveArea m x)
-  unfolding grownOf
+  pub area-overflows : {used : Bool} → k < 64 → used ≡ has k x → TooLarge ≡ sizeOf (grown n used (sumAt m k)) → TooLarge ≡ sizeOf (saveArea m x)
   area-overflows u f g =
       exceeds _ (le-trans (size-large _ (rw (e, f) at g)) (le-trans (le-of-eq (sym (area-next m x k l))) (area-up m x (k + 1) 64 (omega arith))))
 

@@ -7,13 +7,15 @@ use table::Subleaf;
 use table::Verdict;
 use x86defs::CpuidFunction;
 use x86defs::CpuidResult;
+use x86defs::leaf;
 use x86defs::xsave_c;
 use x86defs::xsave_s;
 ghost use mathlib.Core.Path.{_≡_};
 ghost use Prim.Native.Nat.{_+_};
 ghost use lib.Bits.{bitOr};
-ghost use Rattle.checks.specs.Parts.{presentIn, resultsIn, xssOf, componentsOf, grownOf, sizeOf};
-ghost use Rattle.checks.specs.ExtendedState.{saveArea};
+ghost use Rattle.checks.specs.ExtendedState.{xssOf, grown, saveArea, sizeOf};
+ghost use Rattle.checks.specs.Checks.{componentsOf};
+ghost use Rattle.checks.specs.Parts.{presentIn, resultsIn};
 
 // The smallest save area.
 const XSAVE_MINIMUM_XSAVE_AREA_SIZE: u32 = 576;
@@ -47,7 +49,7 @@ pub fn process_extended_state_subleaves(present: [bool; PLACES], mask: u64) -> V
         let place = place::EXTENDED_STATE_0 + k as usize;
         if bits::has_bit64(mask, k) & !present[place] {
             return Verdict::Refused(Refusal::MissingRequiredResult(
-                CpuidFunction(0xD),
+                CpuidFunction(leaf::EXTENDED_STATE_ENUMERATION),
                 Subleaf::Some(k),
             ));
         }
@@ -58,7 +60,7 @@ pub fn process_extended_state_subleaves(present: [bool; PLACES], mask: u64) -> V
 
 // The area so far, grown by a subleaf's size and offset if the mask has it.
 fn grown(area: u32, used: bool, subleaf: CpuidResult) -> Size
-    ensures { λ r. ⌜ r ≡ grownOf area used (subleaf .eax + subleaf .ebx) ⌝ }
+    ensures { λ r. ⌜ r ≡ sizeOf (grown area used (subleaf .eax + subleaf .ebx)) ⌝ }
 {
     if used {
         let left = 0xFFFFFFFF - subleaf.eax;

@@ -4,7 +4,7 @@ use table::Verdict;
 use x86defs::CpuidResult;
 use x86defs::invlpgb;
 ghost use mathlib.Core.Path.{_≡_};
-ghost use Rattle.checks.specs.Parts.{invlpgbOf};
+ghost use Rattle.checks.specs.Checks.{invlpgbOf};
 
 mod extended_state;
 mod required;

@@ -1,6 +1,6 @@
 -- May a guest of server A move to server B? The hypothesis of demand 3 (crates/rise/specs/Rise.antt), decided, or the first thing that
 -- fails: A's own refusal; then B's length, then its counts; then, among the rows of A's table that come from an entry, by rising leaf and
--- subleaf, whether B has a first counted entry, and its EAX, EBX, ECX, EDX, each as its kind asks (crates/finish/specs/Kinds.antt).
+-- subleaf, whether B has a first counted entry, and its EAX, EBX, ECX, EDX, each as its kind asks (crates/update/specs/Kinds.antt).
 use mathlib.Core.Bool.{Bool}
 use mathlib.Core.List.{List}
 use Prim.Native.Nat.{ℕ}
@@ -14,8 +14,7 @@ use Rattle.table.specs.declared.Subleaf.the-variants.{None, Some}
 use Rattle.table.specs.declared.Verdict.{Verdict}
 use Rattle.table.specs.declared.Verdict.the-variants.{Accepted, Refused}
 use Rattle.table.specs.Rows.{Row, Rows}
-use Rattle.update.specs.Finish.{ruleAt}
-use Rattle.update.specs.Kinds.{Kinds, kindsOf}
+use Rattle.update.specs.Kinds.{Kinds, kindsAt}
 use Rattle.collect.specs.FirstEntries.{rowsOf}
 use Rattle.build.specs.Build.{lawfulVerdict, answer}
 use Rattle.rise.specs.Decide.{risesTest, placeTest, inTable}
@@ -41,7 +40,7 @@ subleafNamed i = pick (indexedAt i) (Some (subleafAt i)) None
 abbrev pub failingOf : ℕ → CpuidResult → Row → Compared
 failingOf i a b =
     pick (b .present)
-    (Differs (leafAt i) (subleafNamed i) (firstRegister (kindsOf (ruleAt i)) a (b .result)))
+    (Differs (leafAt i) (subleafNamed i) (firstRegister (kindsAt i) a (b .result)))
     (NoEntry (leafAt i) (subleafNamed i))
 
 abbrev pub failingAt : Rows → Rows → ℕ → Compared

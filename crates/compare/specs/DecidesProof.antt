@@ -17,7 +17,7 @@ use Rattle.table.specs.declared.Verdict.{Verdict}
 use Rattle.table.specs.declared.Verdict.the-variants.{Accepted, Refused}
 use Rattle.table.specs.Rows.{Rows}
 use Rattle.update.specs.Finish.{ruleAt}
-use Rattle.update.specs.Kinds.{Kinds, EntryAtLeast, Registers, kindsOf, fromEntry}
+use Rattle.update.specs.Kinds.{Kinds, EntryAtLeast, Registers, kindsAt, fromEntry}
 use Rattle.collect.specs.FirstEntries.{rowsOf}
 use Rattle.build.specs.Build.{lawfulVerdict, answer}
 use Rattle.rise.specs.Rise.{EntryRises, RiseHypothesis as Hypothesis}
@@ -130,17 +130,19 @@ module _ (avic : Bool) (a b : List ℕ) where
     failing : (i : ℕ) → Lowest test 0 places i → Means avic a b (failingAt A B i)
     failing i h = go (B i .present) refl
       where
-        fails : (B i .present && registersTest (kindsOf (ruleAt i)) (A i .result) (B i .result)) ≡ false
+        fails : (B i .present && registersTest (kindsAt i) (A i .result) (B i .result)) ≡ false
         fails = if-fails (fromEntry (ruleAt i) && inTable avic a i) _ (h .fails) .1
 
         go : (p : Bool) → B i .present ≡ p
-            → Means avic a b (pick p (Differs (leafAt i) (subleafNamed i) (firstRegister (kindsOf (ruleAt i)) (A i .result) (B i .result))) (NoEntry (leafAt i) (subleafNamed i)))
+            → Means avic a b
+            (pick p (Differs (leafAt i) (subleafNamed i) (firstRegister (kindsAt i) (A i .result) (B i .result)))
+            (NoEntry (leafAt i) (subleafNamed i)))
         go true e = record {
           place = i;
           reached = reached i h;
           present = e;
-          fails = register-fails (kindsOf (ruleAt i)) (A i .result) (B i .result) (rw e at fails);
-          registersBefore = registers-before (kindsOf (ruleAt i)) (A i .result) (B i .result);
+          fails = register-fails (kindsAt i) (A i .result) (B i .result) (rw e at fails);
+          registersBefore = registers-before (kindsAt i) (A i .result) (B i .result);
         }
         go false e = record { place = i; reached = reached i h; absent = e }
 
@@ -204,7 +206,7 @@ module _ (avic : Bool) (a b : List ℕ) where
   exact (Differs leaf subleaf register) m =
       let i = m .place in
       let h = m .reached in
-      let k = kindsOf (ruleAt i) in
+      let k = kindsAt i in
       compared-there i h (λ e. m .fails (register-of k (A i .result) (B i .result) (e .registers) register))
       ∙ pick-true _ _ (m .present)
       ∙ ap (Differs (leafAt i) (subleafNamed i)) (first-unique k (A i .result) (B i .result) register (m .fails) (m .registersBefore))

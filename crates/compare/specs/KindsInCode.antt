@@ -1,4 +1,4 @@
--- The kinds of registers as the code has them, one for one those of crates/finish/specs/Kinds.antt.
+-- The kinds of registers as the code has them, one for one those of crates/update/specs/Kinds.antt.
 use Rattle.update.specs.Kinds as Definition
 use Rattle.update.specs.Kinds.Kind.{feature, featureBut28, area, freed, other}
 use Rattle.compare.specs.declared.kinds.Kind.{Kind}

@@ -10,7 +10,7 @@ use Rattle.table.specs.declared.Subleaf.{Subleaf}
 use Rattle.table.specs.declared.Verdict.the-variants.{Accepted, Refused}
 use Rattle.table.specs.Rows.{Row}
 use Rattle.update.specs.Finish.{ruleAt}
-use Rattle.update.specs.Kinds.{Kind, Kinds, EntryAtLeast, kindsOf, fromEntry}
+use Rattle.update.specs.Kinds.{Kind, Kinds, EntryAtLeast, kindsAt, fromEntry}
 use Rattle.collect.specs.FirstEntries.{rowsOf}
 use Rattle.build.specs.Build.{lawfulVerdict, answer}
 use Rattle.rise.specs.Rise.{EntryRises, RiseConclusion, RiseHypothesis as Hypothesis}
@@ -42,7 +42,7 @@ kindOf Edx k = k .edx
 
 -- one register of B's row at place i beside A's
 abbrev pub RegisterRises : ℕ → Row → Row → Register → Type 0
-RegisterRises i a b q = EntryAtLeast (kindOf q (kindsOf (ruleAt i))) (valueOf q (a .result)) (valueOf q (b .result))
+RegisterRises i a b q = EntryAtLeast (kindOf q (kindsAt i)) (valueOf q (a .result)) (valueOf q (b .result))
 
 -- i is the place of a leaf and subleaf that A's table has from an entry, and B's entries compare at every such place before it
 pub record Reached (avic : Bool) (a b : List ℕ) (leaf : CpuidFunction) (subleaf : Subleaf) (i : ℕ) : Type 0 where

@@ -24,7 +24,8 @@ use Rattle.counts.specs.Sums.{sum-mono}
 -- ---- the mask
 
 -- a register that stays within x when a first entry is masked, and in a vacant row, does so in the rows of any page set
-register-within : (register : CpuidResult → ℕ) (avic : Bool) (s : List ℕ) (i : ℕ) {x : ℕ} → ((r : CpuidResult) → Within (register (maskedAt avic i r)) x)
+pub register-within : (register : CpuidResult → ℕ) (avic : Bool) (s : List ℕ) (i : ℕ) {x : ℕ}
+    → ((r : CpuidResult) → Within (register (maskedAt avic i r)) x)
     → Within (register (vacant .result)) x → Within (register (rowsOf avic s i .result)) x
 unfolding rowsOf
 register-within register avic s i {x} masked absent = go (ltb i places) (first .present)
@@ -38,22 +39,24 @@ register-within register avic s i {x} masked absent = go (ltb i places) (first .
     go false b = absent
 
 -- D.0.EAX, with bits 0 and 1 set, and D.1.ECX
-xfem-within : (avic : Bool) (s : List ℕ) → Within (xfem (rowsOf avic s)) (extendedState0 .eax)
+pub xfem-within : (avic : Bool) (s : List ℕ) → Within (xfem (rowsOf avic s)) (extendedState0 .eax)
 unfolding xfem slot keptLeaves legacyFeatures extendedState0 maskOf
 xfem-within avic s =
-    register-within (λ r. r .eax) avic s (Place.extendedState 0) (λ r. or-least (and-within-right (r .eax) (extendedState0 .eax)) (within-of-and refl))
+    register-within (λ r. r .eax) avic s (Place.extendedState 0)
+    (λ r. or-least (and-within-right (r .eax) (extendedState0 .eax)) (within-of-and refl))
     (within-zero (extendedState0 .eax))
 
 subleaf-1-within : (avic : Bool) (s : List ℕ) → Within (rowsOf avic s (Place.extendedState 1) .result .ecx) (extendedState1 .ecx)
 unfolding slot keptLeaves
 subleaf-1-within avic s =
-    register-within (λ r. r .ecx) avic s (Place.extendedState 1) (λ r. and-within-right (r .ecx) (extendedState1 .ecx)) (within-zero (extendedState1 .ecx))
+    register-within (λ r. r .ecx) avic s (Place.extendedState 1) (λ r. and-within-right (r .ecx) (extendedState1 .ecx))
+    (within-zero (extendedState1 .ecx))
 
 pick-within : (b : Bool) (a : ℕ) → Within (pick b a 0) a
 pick-within true a = within-refl a
 pick-within false a = within-zero a
 
-xss-within : (m : Rows) → Within (xss m) (m (Place.extendedState 1) .result .ecx)
+pub xss-within : (m : Rows) → Within (xss m) (m (Place.extendedState 1) .result .ecx)
 unfolding xss
 xss-within m = let eax : ℕ = m (Place.extendedState 1) .result .eax in pick-within (has 1 eax && has 3 eax) _
 

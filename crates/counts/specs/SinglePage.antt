@@ -53,4 +53,5 @@ module _ (avic : Bool) (s : List ℕ) (single : length s ≡ pageSize) where
   -- D.0 stands at position 13 of the required leaves
   pub single-refused : AllPass (rowsOf avic s) → ⊥
   unfolding placeRequired requiredAt placeOf slot keptLeaves
-  single-refused pass = never-both (required-present (rowsOf avic s) (pass .required) 13 (lit< tt)) (row-absent (Place.extendedState 0) (lit< tt) refl)
+  single-refused pass =
+      never-both (required-present (rowsOf avic s) (pass .required) 13 (lit< tt)) (row-absent (Place.extendedState 0) (lit< tt) refl)

@@ -1,25 +1,20 @@
 -- How many rows a table has and how many bytes its image, where its rows are known by the mask alone.
 use mathlib.Core.Path.{_≡_, refl, sym, ap, ap₂, _∙_}
-use mathlib.Core.Bool.{Bool, true, false}
-use mathlib.Core.List.{List, []}
+use mathlib.Core.Bool.{Bool, false}
 use Prim.Native.Nat.{ℕ, zero, suc, _+_, _*_, _<_}
 use native.Mathlib.Omega.{arith}
 use lib.ListN.{length, length-append}
-use Rattle.bits.specs.Choice.{pick}
 use Rattle.bits.specs.Lists.{tabulate, sumTo, one}
 use Rattle.bits.specs.ListsLaws.{getD-tabulate, sum-ext}
-use Rattle.masking.specs.Kept.{keptLeaves, slot, places, indexedAt}
+use Rattle.masking.specs.Kept.{keptLeaves, slot, places}
 use Rattle.table.specs.declared.CpuidResults.{CpuidResults}
-use Rattle.table.specs.Rows.{Row, Rows}
+use Rattle.table.specs.Rows.{Rows}
 use Rattle.table.specs.Table.{countRows, tableOf, rowIn}
 use Rattle.image.specs.Image.{placeBytes, imageIn, leafOrder, image}
+use Rattle.image.specs.LengthLaws.{width, place-length}
 use Rattle.counts.specs.Counts.{componentsIn}
 use Rattle.counts.specs.Standing.{stands}
 use Rattle.counts.specs.Sums.{sum-front}
-
--- 25 bytes of a row with a subleaf, 21 of one without
-abbrev width : ℕ → ℕ
-width i = pick (indexedAt i) 25 21
 
 -- ---- the two sums over the places
 
@@ -32,15 +27,6 @@ unfolding sumTo componentsIn slot keptLeaves
 bytes-sum x = omega arith
 
 -- ---- the image
-
-picked-length : (p q : Bool) (a b : List ℕ) → length a ≡ 25 → length b ≡ 21 → length (pick p (pick q a b) []) ≡ pick q 25 21 * one p
-picked-length true true a b e f = e
-picked-length true false a b e f = f
-picked-length false true a b e f = refl
-picked-length false false a b e f = refl
-
-place-length : (i : ℕ) (r : Row) → length (placeBytes i r) ≡ width i * one (r .present)
-place-length i r = picked-length (r .present) (indexedAt i) _ _ refl refl
 
 -- the image in any order is as long as its rows together
 image-length : (t : CpuidResults) (n : ℕ) (f : ℕ → ℕ) → length (imageIn (tabulate n f) t) ≡ sumTo (λ k. width (f k) * one (rowIn t (f k) .present)) n

@@ -13,15 +13,23 @@ use Rattle.masking.specs.Masks.{versionAndFeatures, extendedFeatures, extendedS
 use Rattle.masking.specs.Kept.{keptLeaves, placeOf, slot}
 use Rattle.topology.specs.Topology.{threadsIn, topologyOf, highestOf, shiftOf}
 use Rattle.checks.specs.Required.{commonRequiredLeaves, snpRequiredLeaves, requiredAt, placeRequired}
-use Rattle.checks.specs.ExtendedState.{xfem, xss, combinedMask, supplied, areaBelow}
+use Rattle.checks.specs.ExtendedState.{xfem, xss, combinedMask, areaBelow, sizeOf}
 use Rattle.checks.specs.TopologyInputs.{inputsOf}
+use Rattle.update.specs.Kinds.{registerKinds, kindsAt}
 use Rattle.update.specs.Finish.{finished, settings, enabledBy, versionEcx, featuresEbx, featuresEcx, featuresEdx, extendedVersionEdx, addressSizesEbx, unlessNoXss, ymmVersionEcx, ymmFeaturesEbx, ymmFeaturesEcx, avx512FeaturesEbx, avx512FeaturesEcx, avx512FeaturesEdx, cetSs, rdPid, rdtscp, ibrsAndStibp, btcNo, hypervisorPresent}
-use Rattle.checks.specs.Checks.{requiredVerdict, invlpgbVerdict, componentsVerdict, areaVerdict, topologyVerdict, rowsVerdict}
+use Rattle.checks.specs.Checks.{requiredVerdict, invlpgbVerdict, componentsOf, componentsVerdict, areaVerdict, topologyVerdict, rowsVerdict}
 use Rattle.table.specs.Table.{countRows}
 use Rattle.build.specs.declared.Built.{Built}
 use Rattle.collect.specs.FirstEntries.{firstAt, legacyFeatures, rowsOf}
 use Rattle.build.specs.Build.{lengthVerdict, countsVerdict, lawfulVerdict, verdictOf, answer}
 
 unfoldable pub evaluated : Bool → List ℕ → Built
-unfolding answer verdictOf lawfulVerdict lengthVerdict countsVerdict badLength countsFit rowsVerdict requiredVerdict invlpgbVerdict componentsVerdict areaVerdict topologyVerdict lowest placeRequired requiredAt commonRequiredLeaves snpRequiredLeaves rowsOf firstAt counted keepIf entries onPages onPage entryAt counts placeOf keptLeaves slot versionAndFeatures extendedFeatures extendedState0 extendedState1 extendedVersionAndFeatures extendedAddressSpaceSizes extendedSvm extendedOptimization extendedSev secureAvicMask fieldsMask fieldMask maskOf legacyFeatures xfem xss combinedMask supplied areaBelow has bit field inputsOf topologyOf threadsIn tabulate sumTo countRows finished settings enabledBy highestOf shiftOf clear clearUnless versionEcx featuresEbx featuresEcx featuresEdx extendedVersionEdx addressSizesEbx unlessNoXss ymmVersionEcx ymmFeaturesEbx ymmFeaturesEcx avx512FeaturesEbx avx512FeaturesEcx avx512FeaturesEdx cetSs rdPid rdtscp ibrsAndStibp btcNo hypervisorPresent AmdMaximum ExtendedAmdMaximum
+unfolding answer verdictOf lawfulVerdict lengthVerdict countsVerdict badLength countsFit rowsVerdict requiredVerdict invlpgbVerdict componentsOf
+    componentsVerdict areaVerdict topologyVerdict lowest placeRequired requiredAt commonRequiredLeaves snpRequiredLeaves rowsOf firstAt counted
+    keepIf entries onPages onPage entryAt counts placeOf keptLeaves slot versionAndFeatures extendedFeatures extendedState0 extendedState1
+    extendedVersionAndFeatures extendedAddressSpaceSizes extendedSvm extendedOptimization extendedSev secureAvicMask fieldsMask fieldMask maskOf
+    legacyFeatures xfem xss combinedMask areaBelow sizeOf has bit field inputsOf topologyOf threadsIn tabulate sumTo countRows finished settings
+    enabledBy highestOf shiftOf clear clearUnless versionEcx featuresEbx featuresEcx featuresEdx extendedVersionEdx addressSizesEbx unlessNoXss
+    ymmVersionEcx ymmFeaturesEbx ymmFeaturesEcx avx512FeaturesEbx avx512FeaturesEcx avx512FeaturesEdx cetSs rdPid rdtscp ibrsAndStibp btcNo
+    hypervisorPresent AmdMaximum ExtendedAmdMaximum registerKinds kindsAt
 evaluated avic s = answer avic s

@@ -45,9 +45,9 @@ unfoldable pub allowedVerdict : Rows → ℕ → ℕ → Verdict
 allowedVerdict m xcr0 xss = refuseUnless (allowed (xfem m) (maxXss m) xcr0 xss) StateBeyondTable
 
 -- 14: D.1.EBX passes 32 bits. It is 0 where D.1.EAX has neither bit.
-unfoldable pub sizeVerdict : Rows → ℕ → ℕ → Verdict
-sizeVerdict m xcr0 xss = refuseUnless (ltb (compactRegister m xcr0 xss) (2 ^ 32)) CompactSizeTooLarge
+unfoldable pub compactVerdict : Rows → ℕ → ℕ → Verdict
+compactVerdict m xcr0 xss = refuseUnless (ltb (compactRegister m xcr0 xss) (2 ^ 32)) CompactSizeTooLarge
 
 -- "Answers: 13 .. then 14"
 unfoldable pub stateVerdict : Rows → ℕ → ℕ → Verdict
-stateVerdict m xcr0 xss = andThen (allowedVerdict m xcr0 xss) (sizeVerdict m xcr0 xss)
+stateVerdict m xcr0 xss = andThen (allowedVerdict m xcr0 xss) (compactVerdict m xcr0 xss)

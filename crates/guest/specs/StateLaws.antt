@@ -23,12 +23,12 @@ use Rattle.checks.specs.declared.Size.{Size}
 use Rattle.checks.specs.declared.Size.the-variants.{Bytes, TooLarge}
 use Rattle.checks.specs.Checks.{refuseUnless}
 use Rattle.checks.specs.ChecksLaws.{then-right, demanded}
-use Rattle.checks.specs.ExtendedState.{xfem, xss as maxXss, saveArea}
+use Rattle.checks.specs.ExtendedState.{xfem, xss as maxXss, saveArea, sizeOf}
 use Rattle.checks.specs.ExtendedStateLaws.{area-mono}
-use Rattle.checks.specs.Parts.{resultsIn, sizeOf}
+use Rattle.checks.specs.Parts.{resultsIn}
 use Rattle.checks.specs.SaveAreaLaws.{size-bytes, size-large}
 use Rattle.guest.specs.CompactLaws.{compact-same}
-use Rattle.guest.specs.State.{allowed, compacts, saveRegister, compactRegister, allowedVerdict, sizeVerdict, stateVerdict}
+use Rattle.guest.specs.State.{allowed, compacts, saveRegister, compactRegister, allowedVerdict, compactVerdict, stateVerdict}
 
 -- ---- the size over XCR0, from what `xsave_size` gives
 
@@ -48,20 +48,20 @@ module _ (m : Rows) (x s : ℕ) {ok : Bool} (e : ok ≡ allowed (xfem m) (maxXss
   unfolding stateVerdict allowedVerdict
   state-beyond f = rw (← e, f)
 
-  state-of-size : ok ≡ true → {v : Verdict} → v ≡ sizeVerdict m x s → v ≡ stateVerdict m x s
+  state-of-size : ok ≡ true → {v : Verdict} → v ≡ compactVerdict m x s → v ≡ stateVerdict m x s
   unfolding stateVerdict allowedVerdict
   state-of-size f g = g ∙ rw (← e, f)
 
   module _ {n : ℕ} (g : n ≡ compactRegister m x s) (f : ok ≡ true) where
     pub state-large : 2 ^ 32 ≤ n → Refused CompactSizeTooLarge ≡ stateVerdict m x s
-    state-large h = state-of-size f (unfold sizeVerdict in rw (← g, le-ltb n (2 ^ 32) h))
+    state-large h = state-of-size f (unfold compactVerdict in rw (← g, le-ltb n (2 ^ 32) h))
 
     pub state-accepted : n < 2 ^ 32 → Accepted ≡ stateVerdict m x s
-    state-accepted h = state-of-size f (unfold sizeVerdict in rw (← g, lt-ltb n (2 ^ 32) h))
+    state-accepted h = state-of-size f (unfold compactVerdict in rw (← g, lt-ltb n (2 ^ 32) h))
 
 -- an accepted state's compacted size is a register's
 pub accepted-fits : (m : Rows) (x s : ℕ) → stateVerdict m x s ≡ Accepted → compactRegister m x s < 2 ^ 32
-unfolding stateVerdict sizeVerdict
+unfolding stateVerdict compactVerdict
 accepted-fits m x s e = ltb-true _ _ (demanded _ CompactSizeTooLarge (then-right (allowedVerdict m x s) _ e))
 
 -- ---- leaf Dh alone
@@ -95,8 +95,8 @@ module _ (A B : Rows) (same : (k : ℕ) → k < 64 → A (Place.extendedState k)
   unfolding allowedVerdict
   allowed-of-state = ap₂ (λ (f t : ℕ). refuseUnless (allowed f t x s) StateBeyondTable) xfem-of-state xss-of-state
 
-  size-of-state : sizeVerdict A x s ≡ sizeVerdict B x s
-  unfolding sizeVerdict
+  size-of-state : compactVerdict A x s ≡ compactVerdict B x s
+  unfolding compactVerdict
   size-of-state = ap (λ (n : ℕ). refuseUnless (ltb n (2 ^ 32)) CompactSizeTooLarge) compact-of-state
 
   pub verdict-of-state : stateVerdict A x s ≡ stateVerdict B x s

@@ -18,14 +18,14 @@ use Rattle.rise.specs.RiseProof.{answer-table}
 use Rattle.examples.specs.Evaluation.{evaluated}
 use Rattle.guest.specs.declared.Processor.{Processor}
 use Rattle.guest.specs.Compact.{startOf, placed, compactBelow}
-use Rattle.guest.specs.State.{saveRegister, compacts, compactRegister, allowed, allowedVerdict, sizeVerdict, stateVerdict}
+use Rattle.guest.specs.State.{saveRegister, compacts, compactRegister, allowed, allowedVerdict, compactVerdict, stateVerdict}
 use Rattle.guest.specs.Guest.{numberSeen, osxsaveSeen, guestTable}
 use Rattle.guest_pages.specs.GuestPages.{guestPages}
 use Rattle.guest_pages.specs.GuestPagesLaws.{guest-verdict, given-guest}
 
 -- with every definition open
 unfoldable pub computed : Bool → List ℕ → Built
-unfolding evaluated stateVerdict allowedVerdict sizeVerdict allowed compactRegister compacts saveRegister compactBelow placed startOf numberSeen osxsaveSeen clear
+unfolding evaluated stateVerdict allowedVerdict compactVerdict allowed compactRegister compacts saveRegister compactBelow placed startOf numberSeen osxsaveSeen clear
 computed avic s = answer avic s
 
 abbrev pub processor : ℕ → ℕ → ℕ → Bool → Processor

@@ -7,7 +7,6 @@ use Prim.Native.Nat.{ℕ, _+_, _-_, _^_, _≤_, _<_}
 use native.Mathlib.Omega.{arith}
 use lib.Dec.{lit<}
 use lib.Bits.{bitOr}
-use borrow.Author.Tests.{ltb-true}
 use Rattle.bits.specs.Choice.{pick}
 use Rattle.bits.specs.ChoiceLaws.{and-both}
 use Rattle.bits.specs.Bits.{has, Within}
@@ -15,13 +14,15 @@ use Rattle.bits.specs.BitsLaws.{within-eq, within-trans, has-mono, or-within-le
 use Rattle.x86defs.specs.declared.CpuidResult.{CpuidResult}
 use Rattle.masking.specs.Kept.{places}
 use Rattle.masking.specs.Place
-use Rattle.table.specs.declared.Refusal.the-variants.{SaveAreaOverflow}
 use Rattle.table.specs.declared.Verdict.the-variants.{Accepted}
 use Rattle.table.specs.Rows.{Row, Rows}
-use Rattle.checks.specs.ExtendedState.{xfem, xss, combinedMask, saveArea}
-use Rattle.checks.specs.ExtendedStateLaws.{sumAt, area-mono, xsaves-ecx, in-combined}
-use Rattle.checks.specs.Checks.{areaVerdict, rowsVerdict}
-use Rattle.checks.specs.ChecksLaws.{AllPass, all-pass, required-present, component-present, demanded, then-right}
+use Rattle.checks.specs.ExtendedState.{xfem, xss, combinedMask, saveArea, sizeOf}
+use Rattle.checks.specs.ExtendedStateLaws.{area-mono, xsaves-ecx, in-combined}
+use Rattle.checks.specs.declared.Size.{Size}
+use Rattle.checks.specs.declared.Size.the-variants.{Bytes, TooLarge}
+use Rattle.checks.specs.SaveAreaLaws.{size-bytes}
+use Rattle.checks.specs.Checks.{sizeVerdict, areaVerdict}
+use Rattle.checks.specs.ChecksLaws.{AllPass, all-pass, required-present, component-present, then-right}
 use Rattle.table.specs.declared.CpuidResults.{CpuidResults}
 use Rattle.update.specs.Finish.{Rule, ruleAt, settings, enabledBy, finish, finished, unlessNoXss}
 use Rattle.update.specs.PlaceLaws.{always, position, always-required, component-rule}
@@ -39,6 +40,10 @@ pub record Supplied (t : CpuidResults) : Type 0 where
 twice : (p : Bool) (x : ℕ) → pick p (pick p x 0) 0 ≡ pick p x 0
 twice true x = refl
 twice false x = refl
+
+size-fits : (n : ℕ) (z : Size) → z ≡ sizeOf n → sizeVerdict z ≡ Accepted → n < 2 ^ 32
+size-fits n (Bytes k) e f = let h = size-bytes n k e in omega (arith, h .0, h .1)
+size-fits n TooLarge e f = absurd (let z : _≡_ {A = ℕ} 0 1 = cc in omega arith)
 
 module _ (avic : Bool) (s : List ℕ) (e : answer avic s .verdict ≡ Accepted) where
   abbrev m : Rows
@@ -110,7 +115,7 @@ module _ (avic : Bool) (s : List ℕ) (e : answer avic s .verdict ≡ Accepted) 
 
   built-area : saveArea m (xfem m) < 2 ^ 32
   unfolding areaVerdict
-  built-area = ltb-true _ _ (demanded _ SaveAreaOverflow (pass .area))
+  built-area = size-fits (saveArea m (xfem m)) (sizeOf (saveArea m (xfem m))) refl (pass .area)
 
   -- "D.0.EBX never overflows": over any mask within XFEM the size fits 32 bits
   pub built-fits : (x : ℕ) → Within x (xfem (rowsIn t)) → saveArea (rowsIn t) x < 2 ^ 32

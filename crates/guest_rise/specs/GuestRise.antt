@@ -13,8 +13,7 @@ use Rattle.table.specs.declared.CpuidResults.{CpuidResults}
 use Rattle.table.specs.declared.Refusal.the-variants.{CompactSizeTooLarge}
 use Rattle.table.specs.declared.Verdict.the-variants.{Accepted, Refused}
 use Rattle.table.specs.Table.{rowIn}
-use Rattle.update.specs.Finish.{ruleAt}
-use Rattle.update.specs.Kinds.{TableAtLeast, Registers, kindsOf}
+use Rattle.update.specs.Kinds.{TableAtLeast, Registers, kindsAt}
 use Rattle.build.specs.Build.{answer}
 use Rattle.rise.specs.Rise.{Further, RiseHypothesis}
 use Rattle.guest.specs.declared.Processor.{Processor}
@@ -28,7 +27,7 @@ compactsIn t = compacts (rowIn t (Place.extendedState 1) .result .eax)
 
 -- how the registers of two rows at a place compare, as tables do
 abbrev pub RowRises : ℕ → CpuidResult → CpuidResult → Type 0
-RowRises i r s = Registers TableAtLeast (kindsOf (ruleAt i)) r s
+RowRises i r s = Registers TableAtLeast (kindsAt i) r s
 
 -- how B's guest table compares with A's: as tables do (TableRises), D.0.EBX and D.1.EBX equal; of D.1.EBX nothing is said where A's
 -- D.1.EAX has neither bit, and then D.1's other registers compare as before

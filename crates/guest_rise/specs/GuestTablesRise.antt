@@ -18,10 +18,9 @@ use Rattle.table.specs.Rows.{Rows}
 use Rattle.table.specs.Table.{rowIn, rowsIn}
 use Rattle.checks.specs.ExtendedState.{xfem, combinedMask, saveArea}
 use Rattle.checks.specs.ExtendedStateLaws.{area-mono, xss-mono}
-use Rattle.update.specs.Finish.{Rule}
-use Rattle.update.specs.Finish.Rule.{component}
-use Rattle.update.specs.Kinds.{TableAtLeast, Registers, kindsOf}
-use Rattle.update.specs.PlaceLaws.{component-rule}
+use Rattle.update.specs.Kinds.{Kinds, TableAtLeast, Registers, kinds}
+use Rattle.update.specs.Kinds.Kind.{other}
+use Rattle.update.specs.RuleKinds.{component-kinds}
 use Rattle.rise.specs.Rise.{Further, TableRises}
 use Rattle.guest.specs.declared.Processor.{Processor}
 use Rattle.guest.specs.Compact.{compactSize}
@@ -34,7 +33,7 @@ use Rattle.guest_rise.specs.StateExactly.{Allowed, SizeFault, StateAnswe
 use Rattle.guest_rise.specs.StateExactly.StateAnswers.{beyond, large}
 use Rattle.guest_rise.specs.StateExactly.StateAnswers.{given as accepted}
 use Rattle.guest_rise.specs.BuiltState.{Supplied}
-use Rattle.guest_rise.specs.SeenRises.{seen-rises, seen-there}
+use Rattle.guest_rise.specs.SeenRises.{state0-eax, state1-eax, state1-ecx, state1-edx, seen-rises, seen-there}
 
 module _ (t u : CpuidResults) (v : Processor) (rises : TableRises t u) (supplied : Supplied t) (allows : Allowed (rowsIn t) (v .xcr0) (v .xss)) where
   abbrev T : Rows
@@ -65,8 +64,8 @@ module _ (t u : CpuidResults) (v : Processor) (rises : TableRises t u) (supplied
   unfolding xfem
   allows-too = record {
     x87 = allows .x87;
-    user = within-trans (allows .user) (state0 .eax);
-    supervisor = within-trans (allows .supervisor) (xss-mono T U (state1 .eax) (state1 .ecx));
+    user = within-trans (allows .user) (state0-eax _ _ state0);
+    supervisor = within-trans (allows .supervisor) (xss-mono T U (state1-eax _ _ state1) (state1-ecx _ _ state1));
   }
 
   -- ---- the two sizes
@@ -74,9 +73,9 @@ module _ (t u : CpuidResults) (v : Processor) (rises : TableRises t u) (supplied
   -- the subleaves of T's masks are the same in U
   same-row : (k : ℕ) → 2 ≤ k → k < 64 → has k (combinedMask T) ≡ true → T (Place.extendedState k) .result ≡ U (Place.extendedState k) .result
   same-row k l h p =
-      let q : Registers TableAtLeast (kindsOf (component k)) (T (Place.extendedState k) .result) (U (Place.extendedState k) .result) =
-      subst (λ (w : Rule). Registers TableAtLeast (kindsOf w) (T (Place.extendedState k) .result) (U (Place.extendedState k) .result))
-      (component-rule k l h)
+      let q : Registers TableAtLeast (kinds other other other other) (T (Place.extendedState k) .result) (U (Place.extendedState k) .result) =
+      subst (λ (w : Kinds). Registers TableAtLeast w (T (Place.extendedState k) .result) (U (Place.extendedState k) .result))
+      (component-kinds k l h)
       (rises .registers (Place.extendedState k) (omega arith) (supplied .components k l h p)) in
       λ j. record { eax = q .eax j; ebx = q .ebx j; ecx = q .ecx j; edx = q .edx j }
 
@@ -104,7 +103,7 @@ module _ (t u : CpuidResults) (v : Processor) (rises : TableRises t u) (supplied
   -- D.1.EBX, where T compacts
   compact-register-same : compactsIn t ≡ true → compactRegister T (v .xcr0) (v .xss) ≡ compactRegister U (v .xcr0) (v .xss)
   unfolding compactRegister
-  compact-register-same e = pick-true _ _ e ∙ compact-size-same ∙ sym (pick-true _ _ (compacts-mono (state1 .eax) e))
+  compact-register-same e = pick-true _ _ e ∙ compact-size-same ∙ sym (pick-true _ _ (compacts-mono (state1-eax _ _ state1) e))
 
   -- ---- the guest's tables
 
@@ -130,9 +129,9 @@ module _ (t u : CpuidResults) (v : Processor) (rises : TableRises t u) (supplied
         subst₂ (RowRises i) (sym (seen-there t v i l p)) (sym (seen-there u v i l (rises .rows i l p)))
         (seen-rises v i (rowIn t i .result) (rowIn u i .result) save-same (λ e. compact-register-same (sym seen-compacts ∙ f e))
         (rises .registers i l p));
-    xsaveEax = subst₂ Within (sym (seen1 t there1 (λ r. r .eax) (λ r n. refl))) (sym (seen1 u in-b (λ r. r .eax) (λ r n. refl))) (state1 .eax);
-    xsaveEcx = subst₂ Within (sym (seen1 t there1 (λ r. r .ecx) (λ r n. refl))) (sym (seen1 u in-b (λ r. r .ecx) (λ r n. refl))) (state1 .ecx);
-    xsaveEdx = seen1 t there1 (λ r. r .edx) (λ r n. refl) ∙ state1 .edx ∙ sym (seen1 u in-b (λ r. r .edx) (λ r n. refl));
+    xsaveEax = subst₂ Within (sym (seen1 t there1 (λ r. r .eax) (λ r n. refl))) (sym (seen1 u in-b (λ r. r .eax) (λ r n. refl))) (state1-eax _ _ state1);
+    xsaveEcx = subst₂ Within (sym (seen1 t there1 (λ r. r .ecx) (λ r n. refl))) (sym (seen1 u in-b (λ r. r .ecx) (λ r n. refl))) (state1-ecx _ _ state1);
+    xsaveEdx = seen1 t there1 (λ r. r .edx) (λ r n. refl) ∙ state1-edx _ _ state1 ∙ sym (seen1 u in-b (λ r. r .edx) (λ r n. refl));
     others = λ i l p. ⊎-elim (λ q. inl q) (λ q. inr (further i q)) (rises .others i l p);
     mask = rises .mask;
   }

@@ -12,11 +12,12 @@ use Rattle.bits.specs.Bits.{has, clear, Within}
 use Rattle.bits.specs.BitsLaws.{has-mono, within-or, within-and, within-refl, within-trans, clear-within, or-within-left}
 use Rattle.x86defs.specs.declared.CpuidResult.{CpuidResult}
 use Rattle.x86defs.specs.Functions.{result}
-use Rattle.masking.specs.Kept.{places}
+use Rattle.masking.specs.Kept.{places, keptLeaves, slot}
 use Rattle.masking.specs.Place
 use Rattle.table.specs.declared.CpuidResults.{CpuidResults}
 use Rattle.table.specs.Rows.{Row, row}
 use Rattle.table.specs.Table.{rowIn, rowsIn}
+use Rattle.update.specs.Kinds.{registerKinds, kindsAt}
 use Rattle.guest.specs.declared.Processor.{Processor}
 use Rattle.guest.specs.State.{saveRegister, compactRegister}
 use Rattle.guest.specs.Guest.{numberSeen, osxsaveSeen, versionSeen, levelSeen, sizeSeen, seenAt, seenIn, guestTable}
@@ -41,20 +42,44 @@ osxsave-rises on {a} {b} h =
 
 module _ (v : Processor) (r s : CpuidResult) where
   version-rises : RowRises Place.versionAndFeatures r s → RowRises Place.versionAndFeatures (versionSeen v r) (versionSeen v s)
+  unfolding kindsAt registerKinds slot keptLeaves
   version-rises h = record { eax = h .eax; ebx = ap (numberSeen (v .x2apic)) (h .ebx); ecx = osxsave-rises (v .osxsave) (h .ecx); edx = h .edx }
 
   threads-rise : RowRises Place.threadLevel r s → RowRises Place.threadLevel (levelSeen v r) (levelSeen v s)
+  unfolding kindsAt registerKinds slot keptLeaves
   threads-rise h = record { eax = h .eax; ebx = h .ebx; ecx = h .ecx; edx = refl }
 
   cores-rise : RowRises Place.coreLevel r s → RowRises Place.coreLevel (levelSeen v r) (levelSeen v s)
+  unfolding kindsAt registerKinds slot keptLeaves
   cores-rise h = record { eax = h .eax; ebx = h .ebx; ecx = h .ecx; edx = refl }
 
 module _ {a b : ℕ} (r s : CpuidResult) (e : a ≡ b) where
   state0-rises : RowRises (Place.extendedState 0) r s → RowRises (Place.extendedState 0) (sizeSeen a r) (sizeSeen b s)
+  unfolding kindsAt registerKinds slot keptLeaves
   state0-rises h = record { eax = h .eax; ebx = e; ecx = h .ecx; edx = h .edx }
 
   state1-rises : RowRises (Place.extendedState 1) r s → RowRises (Place.extendedState 1) (sizeSeen a r) (sizeSeen b s)
+  unfolding kindsAt registerKinds slot keptLeaves
   state1-rises h = record { eax = h .eax; ebx = e; ecx = h .ecx; edx = h .edx }
+
+-- ---- what D.0 and D.1 compare
+
+module _ (r s : CpuidResult) where
+  pub state0-eax : RowRises (Place.extendedState 0) r s → Within (r .eax) (s .eax)
+  unfolding kindsAt registerKinds slot keptLeaves
+  state0-eax h = h .eax
+
+  pub state1-eax : RowRises (Place.extendedState 1) r s → Within (r .eax) (s .eax)
+  unfolding kindsAt registerKinds slot keptLeaves
+  state1-eax h = h .eax
+
+  pub state1-ecx : RowRises (Place.extendedState 1) r s → Within (r .ecx) (s .ecx)
+  unfolding kindsAt registerKinds slot keptLeaves
+  state1-ecx h = h .ecx
+
+  pub state1-edx : RowRises (Place.extendedState 1) r s → r .edx ≡ s .edx
+  unfolding kindsAt registerKinds slot keptLeaves
+  state1-edx h = h .edx
 
 -- ---- at any place
 

@@ -20,7 +20,7 @@ use Rattle.table.specs.Rows.{Rows}
 use Rattle.checks.specs.Checks.{refuseUnless}
 use Rattle.checks.specs.ExtendedState.{xfem, xss as maxXss}
 use Rattle.guest.specs.Compact.{compactSize}
-use Rattle.guest.specs.State.{within, allowed, compacts, compactRegister, allowedVerdict, sizeVerdict, stateVerdict}
+use Rattle.guest.specs.State.{within, allowed, compacts, compactRegister, allowedVerdict, compactVerdict, stateVerdict}
 
 -- ---- the conditions, each by itself
 
@@ -105,10 +105,10 @@ module _ (m : Rows) (x s : ℕ) where
       absurd (let z : compactRegister m x s ≡ 0 = pick-false _ _ e in omega (arith, ltb-false (compactRegister m x s) (2 ^ 32) f))
 
   pub state-answers : StateAnswers m x s (stateVerdict m x s)
-  unfolding stateVerdict allowedVerdict sizeVerdict
+  unfolding stateVerdict allowedVerdict compactVerdict
   state-answers = go (allowed (xfem m) (maxXss m) x s) refl
     where
-      go : (b : Bool) → allowed (xfem m) (maxXss m) x s ≡ b → StateAnswers m x s (andThen (refuseUnless b StateBeyondTable) (sizeVerdict m x s))
+      go : (b : Bool) → allowed (xfem m) (maxXss m) x s ≡ b → StateAnswers m x s (andThen (refuseUnless b StateBeyondTable) (compactVerdict m x s))
       go true e = size-answers (test-allowed m x s e) _ _ refl refl
       go false e = beyond (λ h. never-both (allowed-test m x s h) e) refl
 

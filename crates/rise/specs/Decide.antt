@@ -17,7 +17,7 @@ use Rattle.masking.specs.Kept.{places}
 use Rattle.table.specs.declared.Verdict.the-variants.{Accepted}
 use Rattle.table.specs.Rows.{Row, Rows}
 use Rattle.update.specs.Finish.{ruleAt}
-use Rattle.update.specs.Kinds.{Kind, Kinds, EntryAtLeast, Registers, kindsOf, fromEntry}
+use Rattle.update.specs.Kinds.{Kind, Kinds, EntryAtLeast, Registers, kindsAt, fromEntry}
 use Rattle.update.specs.Kinds.Kind.{feature, featureBut28, area, freed, other}
 use Rattle.table.specs.Table.{rowIn}
 use Rattle.collect.specs.FirstEntries.{rowsOf}
@@ -76,7 +76,7 @@ rise-registers k a b h =
 
 -- at a place: asked where A's table has a row that comes from an entry
 abbrev pub rowTest : ℕ → Bool → CpuidResult → Row → Bool
-rowTest i inA a b = pick (fromEntry (ruleAt i) && inA) (b .present && registersTest (kindsOf (ruleAt i)) a (b .result)) true
+rowTest i inA a b = pick (fromEntry (ruleAt i) && inA) (b .present && registersTest (kindsAt i) a (b .result)) true
 
 abbrev pub placeTest : (ℕ → Bool) → Rows → Rows → ℕ → Bool
 placeTest inA A B i = rowTest i (inA i) (A i .result) (B i)
@@ -84,7 +84,7 @@ placeTest inA A B i = rowTest i (inA i) (A i .result) (B i)
 module _ (inA : ℕ → Bool) (A B : Rows) (i : ℕ) where
   pub place-rises : placeTest inA A B i ≡ true → fromEntry (ruleAt i) ≡ true → inA i ≡ true → EntryRises i (A i) (B i)
   place-rises t f p =
-      let e : (B i .present && registersTest (kindsOf (ruleAt i)) (A i .result) (B i .result)) ≡ true =
+      let e : (B i .present && registersTest (kindsAt i) (A i .result) (B i .result)) ≡ true =
       if-holds (fromEntry (ruleAt i) && inA i) _ t (and-both f p) in
       record { present = and-left _ _ e; registers = registers-rise _ _ _ (and-right (B i .present) _ e) }
 
@@ -92,7 +92,7 @@ module _ (inA : ℕ → Bool) (A B : Rows) (i : ℕ) where
   rises-place h = go (fromEntry (ruleAt i)) refl (inA i) refl
     where
       go : (f : Bool) → fromEntry (ruleAt i) ≡ f → (p : Bool) → inA i ≡ p
-          → pick (f && p) (B i .present && registersTest (kindsOf (ruleAt i)) (A i .result) (B i .result)) true ≡ true
+          → pick (f && p) (B i .present && registersTest (kindsAt i) (A i .result) (B i .result)) true ≡ true
       go true f true p = and-both (h f p .present) (rise-registers _ _ _ (h f p .registers))
       go true f false p = refl
       go false f p e = refl
@@ -108,4 +108,6 @@ pub rises-by-test : (avic : Bool) (a b : List ℕ) → answer avic a .verdict �
 rises-by-test avic a b v l t = record { accepted = v; lawful = l; entries = at-place }
   where
     at-place : (i : ℕ) → i < places → fromEntry (ruleAt i) ≡ true → inTable avic a i ≡ true → EntryRises i (rowsOf avic a i) (rowsOf avic b i)
-    at-place i u f p = place-rises (inTable avic a) (rowsOf avic a) (rowsOf avic b) i (every-at (placeTest (inTable avic a) (rowsOf avic a) (rowsOf avic b)) places t i u) f p
+    at-place i u f p =
+        place-rises (inTable avic a) (rowsOf avic a) (rowsOf avic b) i
+        (every-at (placeTest (inTable avic a) (rowsOf avic a) (rowsOf avic b)) places t i u) f p

@@ -23,7 +23,7 @@ use Rattle.table.specs.declared.Verdict.{Verdict}
 use Rattle.table.specs.declared.Verdict.the-variants.{Accepted, Refused}
 use Rattle.table.specs.Rows.{Row, Rows}
 use Rattle.update.specs.Finish.{ruleAt}
-use Rattle.update.specs.Kinds.{EntryAtLeast, TableAtLeast, Registers, kindsOf, fromEntry}
+use Rattle.update.specs.Kinds.{EntryAtLeast, TableAtLeast, Registers, kindsAt, fromEntry}
 use Rattle.table.specs.Table.{rowIn}
 use Rattle.collect.specs.FirstEntries.{firstAt, rowsOf}
 use Rattle.build.specs.Build.{lawfulVerdict, answer}
@@ -32,7 +32,7 @@ use Rattle.refusals.specs.Conditions.{Lacking, ComponentFault, AreaFault}
 -- B has a row at place i, and its registers compare with A's
 pub record EntryRises (i : ℕ) (a b : Row) : Type 0 where
   pub present : b .present ≡ true
-  pub registers : Registers EntryAtLeast (kindsOf (ruleAt i)) (a .result) (b .result)
+  pub registers : Registers EntryAtLeast (kindsAt i) (a .result) (b .result)
 
 -- "for every row of A's table but 0 and 80000000h": entries are compared as masked, D.0.EAX with its bits 0 and 1 set
 pub record RiseHypothesis (avic : Bool) (a b : List ℕ) : Type 0 where
@@ -44,7 +44,7 @@ pub record RiseHypothesis (avic : Bool) (a b : List ℕ) : Type 0 where
 -- the same by the letter: a first counted entry, compared as masked and as nothing more
 pub record FirstEntryRises (avic : Bool) (i : ℕ) (a b : Row) : Type 0 where
   pub present : b .present ≡ true
-  pub registers : Registers EntryAtLeast (kindsOf (ruleAt i)) (applyMask (masksAt avic i) (a .result)) (applyMask (masksAt avic i) (b .result))
+  pub registers : Registers EntryAtLeast (kindsAt i) (applyMask (masksAt avic i) (a .result)) (applyMask (masksAt avic i) (b .result))
 
 pub record HypothesisByTheLetter (avic : Bool) (a b : List ℕ) : Type 0 where
   pub accepted : answer avic a .verdict ≡ Accepted
@@ -73,7 +73,7 @@ pub record Further (a b : CpuidResults) (i : ℕ) : Type 0 where
 pub record TableRises (a b : CpuidResults) : Type 0 where
   pub rows : (i : ℕ) → i < places → rowIn a i .present ≡ true → rowIn b i .present ≡ true
   pub registers : (i : ℕ) → i < places → rowIn a i .present ≡ true
-      → Registers TableAtLeast (kindsOf (ruleAt i)) (rowIn a i .result) (rowIn b i .result)
+      → Registers TableAtLeast (kindsAt i) (rowIn a i .result) (rowIn b i .result)
   pub others : (i : ℕ) → i < places → rowIn b i .present ≡ true → (rowIn a i .present ≡ true) ⊎ Further a b i
   pub mask : Within (a .«max_extended_state») (b .«max_extended_state»)
 

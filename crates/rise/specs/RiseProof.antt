@@ -26,9 +26,9 @@ use Rattle.table.specs.Refusal.{andThen}
 use Rattle.table.specs.Rows.{Row, Rows, row, vacant}
 use Rattle.checks.specs.ExtendedState.{combinedMask}
 use Rattle.update.specs.Finish.{ruleAt, finished}
-use Rattle.update.specs.Finish.Rule.{extendedState0}
 use Rattle.update.specs.RemainsLaws.{finished-entry}
-use Rattle.update.specs.Kinds.{EntryAtLeast, TableAtLeast, Registers, kindsOf, fromEntry}
+use Rattle.update.specs.XsavesLaws.{XsavesEdx}
+use Rattle.update.specs.Kinds.{EntryAtLeast, TableAtLeast, Registers, registerKinds, kindsAt, fromEntry}
 use Rattle.update.specs.Kinds.Kind.{area, other}
 use Rattle.checks.specs.Checks.{missingComponent, componentsVerdict, areaVerdict, rowsVerdict}
 use Rattle.checks.specs.ChecksLaws.{component-present, then-right, then-skips}
@@ -43,28 +43,31 @@ use Rattle.refusals.specs.Settles.Settles.{passes, refuses}
 use Rattle.refusals.specs.ExtendedStateSettled.{components-decide, area-decides}
 use Rattle.rise.specs.Rise.{EntryRises, FirstEntryRises, RiseHypothesis, HypothesisByTheLetter, Outcome, Further, TableRises, Demand3, Demand3ByTheLetter}
 use Rattle.rise.specs.Rise.Outcome.{missing, overflow, accepted}
-use Rattle.rise.specs.RowsRise.{XsavesEdx, present-rises, registers-rise, others-further, mask-rises, verdict-rises}
+use Rattle.rise.specs.RowsRise.{present-rises, registers-rise, others-further, mask-rises, verdict-rises}
 
 -- ---- the answer of an accepted page set
 
-pub answer-table : (avic : Bool) (s : List ℕ) → answer avic s .verdict ≡ Accepted → answer avic s .table ≡ tableOf (finished (rowsOf avic s)) (combinedMask (rowsOf avic s))
+pub answer-table : (avic : Bool) (s : List ℕ) → answer avic s .verdict ≡ Accepted
+    → answer avic s .table ≡ tableOf (finished (rowsOf avic s)) (combinedMask (rowsOf avic s))
 unfolding answer
 answer-table avic s e = ap (λ (v : Verdict). tableFor v (rowsOf avic s)) e
 
-table-row : (m : Rows) (x i : ℕ) → i < places → rowIn (tableOf m x) i ≡ m i
+pub table-row : (m : Rows) (x i : ℕ) → i < places → rowIn (tableOf m x) i ≡ m i
 table-row m x i l k = record {
   present = getD-tabulate places (λ j. m j .present) i false l k;
   result = getD-tabulate places (λ j. m j .result) i (result 0 0 0 0) l k;
 }
 
-accepted-rows : (avic : Bool) (s : List ℕ) → answer avic s .verdict ≡ Accepted → rowsVerdict (rowsOf avic s) ≡ Accepted
+pub accepted-rows : (avic : Bool) (s : List ℕ) → answer avic s .verdict ≡ Accepted → rowsVerdict (rowsOf avic s) ≡ Accepted
 unfolding answer verdictOf
 accepted-rows avic s e = then-right (lawfulVerdict s) _ e
 
-pub answer-row : (avic : Bool) (s : List ℕ) → answer avic s .verdict ≡ Accepted → (i : ℕ) → i < places → rowIn (answer avic s .table) i ≡ finished (rowsOf avic s) i
+pub answer-row : (avic : Bool) (s : List ℕ) → answer avic s .verdict ≡ Accepted → (i : ℕ) → i < places
+    → rowIn (answer avic s .table) i ≡ finished (rowsOf avic s) i
 answer-row avic s e i l = ap (λ t. rowIn t i) (answer-table avic s e) ∙ table-row (finished (rowsOf avic s)) (combinedMask (rowsOf avic s)) i l
 
-pub answer-mask : (avic : Bool) (s : List ℕ) → answer avic s .verdict ≡ Accepted → answer avic s .table .«max_extended_state» ≡ combinedMask (rowsOf avic s)
+pub answer-mask : (avic : Bool) (s : List ℕ) → answer avic s .verdict ≡ Accepted
+    → answer avic s .table .«max_extended_state» ≡ combinedMask (rowsOf avic s)
 answer-mask avic s e = ap (λ t. t .«max_extended_state») (answer-table avic s e)
 
 -- ---- D.1.EDX is masked to 0
@@ -80,7 +83,7 @@ mask-row-edx avic i r e = go (r .present)
     go true = rw e (and-zero-r (r .result .edx))
     go false = refl
 
-xsaves-edx : (avic : Bool) (s : List ℕ) → XsavesEdx (rowsOf avic s)
+pub xsaves-edx : (avic : Bool) (s : List ℕ) → XsavesEdx (rowsOf avic s)
 unfolding rowsOf
 xsaves-edx avic s = mask-row-edx avic (Place.extendedState 1) (firstAt (Place.extendedState 1) (counted s)) (xsaves-mask avic)
 
@@ -132,9 +135,9 @@ module _ (avic : Bool) (a b : List ℕ) (rises : RiseHypothesis avic a b) where
         ∙ present-rises (rowsOf avic a) (rowsOf avic b) (xsaves-edx avic a) (xsaves-edx avic b) rowsA entriesAB i l (toA i l p)
 
     registersAB : (i : ℕ) → i < places → rowIn (answer avic a .table) i .present ≡ true
-        → Registers TableAtLeast (kindsOf (ruleAt i)) (rowIn (answer avic a .table) i .result) (rowIn (answer avic b .table) i .result)
+        → Registers TableAtLeast (kindsAt i) (rowIn (answer avic a .table) i .result) (rowIn (answer avic b .table) i .result)
     registersAB i l p =
-        subst₂ (λ (x y : Row). Registers TableAtLeast (kindsOf (ruleAt i)) (x .result) (y .result)) (sym (rowA i l)) (sym (rowB i l))
+        subst₂ (λ (x y : Row). Registers TableAtLeast (kindsAt i) (x .result) (y .result)) (sym (rowA i l)) (sym (rowB i l))
         (registers-rise (rowsOf avic a) (rowsOf avic b) (xsaves-edx avic a) (xsaves-edx avic b) rowsA entriesAB i l (toA i l p))
 
     othersAB : (i : ℕ) → i < places → rowIn (answer avic b .table) i .present ≡ true
@@ -170,25 +173,27 @@ demand-3 avic a b rises = record {
 
 -- at D.0 itself, where two bits are set in both
 letter-state : (avic : Bool) (x y : CpuidResult)
-    → Registers EntryAtLeast (kindsOf extendedState0) (applyMask (masksAt avic (Place.extendedState 0)) x) (applyMask (masksAt avic (Place.extendedState 0)) y)
-    → Registers EntryAtLeast (kindsOf extendedState0) (maskedAt avic (Place.extendedState 0) x) (maskedAt avic (Place.extendedState 0) y)
+    → Registers EntryAtLeast (kindsAt (Place.extendedState 0)) (applyMask (masksAt avic (Place.extendedState 0)) x)
+    (applyMask (masksAt avic (Place.extendedState 0)) y)
+    → Registers EntryAtLeast (kindsAt (Place.extendedState 0)) (maskedAt avic (Place.extendedState 0) x) (maskedAt avic (Place.extendedState 0) y)
+unfolding kindsAt registerKinds slot keptLeaves
 letter-state avic x y h = record { eax = within-or (h .eax) (within-refl legacyFeatures); ebx = h .ebx; ecx = h .ecx; edx = h .edx }
 
 letter-registers : (avic : Bool) (x y : CpuidResult) (i : ℕ)
-    → Registers EntryAtLeast (kindsOf (ruleAt i)) (applyMask (masksAt avic i) x) (applyMask (masksAt avic i) y)
-    → Registers EntryAtLeast (kindsOf (ruleAt i)) (maskedAt avic i x) (maskedAt avic i y)
+    → Registers EntryAtLeast (kindsAt i) (applyMask (masksAt avic i) x) (applyMask (masksAt avic i) y)
+    → Registers EntryAtLeast (kindsAt i) (maskedAt avic i x) (maskedAt avic i y)
 letter-registers avic x y i = go (eqb i (Place.extendedState 0)) refl
   where
     go : (b : Bool) → eqb i (Place.extendedState 0) ≡ b
-        → Registers EntryAtLeast (kindsOf (ruleAt i)) (applyMask (masksAt avic i) x) (applyMask (masksAt avic i) y)
-        → Registers EntryAtLeast (kindsOf (ruleAt i)) (maskedAt avic i x) (maskedAt avic i y)
+        → Registers EntryAtLeast (kindsAt i) (applyMask (masksAt avic i) x) (applyMask (masksAt avic i) y)
+        → Registers EntryAtLeast (kindsAt i) (maskedAt avic i x) (maskedAt avic i y)
     go true e =
         subst
-        (λ (n : ℕ). Registers EntryAtLeast (kindsOf (ruleAt n)) (applyMask (masksAt avic n) x) (applyMask (masksAt avic n) y)
-        → Registers EntryAtLeast (kindsOf (ruleAt n)) (maskedAt avic n x) (maskedAt avic n y))
+        (λ (n : ℕ). Registers EntryAtLeast (kindsAt n) (applyMask (masksAt avic n) x) (applyMask (masksAt avic n) y)
+        → Registers EntryAtLeast (kindsAt n) (maskedAt avic n x) (maskedAt avic n y))
         (sym (eqb-true i (Place.extendedState 0) e)) (letter-state avic x y)
     go false e = λ h. record {
-      eax = subst₂ (EntryAtLeast (kindsOf (ruleAt i) .eax)) (sym (pick-false _ _ e)) (sym (pick-false _ _ e)) (h .eax);
+      eax = subst₂ (EntryAtLeast (kindsAt i .eax)) (sym (pick-false _ _ e)) (sym (pick-false _ _ e)) (h .eax);
       ebx = h .ebx;
       ecx = h .ecx;
       edx = h .edx;
@@ -208,7 +213,7 @@ letter-entry : (avic : Bool) (i : ℕ) (x y : Row) → x .present ≡ true → F
 letter-entry avic i x y e h = record {
   present = mask-row-present avic i y ∙ h .present;
   registers =
-      subst₂ (Registers EntryAtLeast (kindsOf (ruleAt i))) (sym (mask-row-result avic i x e)) (sym (mask-row-result avic i y (h .present)))
+      subst₂ (Registers EntryAtLeast (kindsAt i)) (sym (mask-row-result avic i x e)) (sym (mask-row-result avic i y (h .present)))
       (letter-registers avic (x .result) (y .result) i (h .registers));
 }
 

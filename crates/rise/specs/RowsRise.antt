@@ -4,12 +4,8 @@ use mathlib.Core.Bool.{Bool, true, false}
 use mathlib.Core.Logic.{_⊎_, inl, inr}
 use Prim.Native.Nat.{ℕ, _+_, _≤_, _<_}
 use native.Mathlib.Omega.{arith}
-use lib.Dec.{eqb, lit<}
-use Rattle.bits.specs.Choice.{pick}
-use borrow.Author.Tests.{eqb-true}
-use Rattle.bits.specs.ChoiceLaws.{and-left, and-both, pick-true, if-holds}
-use Rattle.bits.specs.Search.{every}
-use Rattle.bits.specs.SearchLaws.{every-at}
+use lib.Dec.{lit<}
+use Rattle.bits.specs.ChoiceLaws.{and-left, and-both, pick-true}
 use Rattle.bits.specs.Bits.{has, Within}
 use Rattle.bits.specs.BitsLaws.{has-mono, within-or}
 use Rattle.topology.specs.Topology.{Inputs, topologyOf}
@@ -21,57 +17,21 @@ use Rattle.table.specs.declared.Verdict.the-variants.{Accepted, Refused}
 use Rattle.table.specs.Refusal.{andThen}
 use Rattle.table.specs.Rows.{Row, Rows, row}
 use Rattle.checks.specs.Required.{placeRequired}
-use Rattle.checks.specs.ExtendedState.{xfem, xss, combinedMask, saveArea}
-use Rattle.checks.specs.ExtendedStateLaws.{sumAt, area-mono, xss-mono, xsaves-ecx, in-combined}
+use Rattle.checks.specs.ExtendedState.{xfem, xss, combinedMask, sumAt, saveArea}
+use Rattle.checks.specs.ExtendedStateLaws.{area-mono, xss-mono, in-combined}
 use Rattle.checks.specs.TopologyInputs.{inputsOf}
-use Rattle.update.specs.Finish.{Rule, Settings, ruleAt, enabledBy, settings, finish, remains, finished, unlessNoXss}
-use Rattle.update.specs.Finish.Rule.{vendorAndMaxFunction, versionAndFeatures, extendedFeatures, threadLevelRow, coreLevelRow, extendedState0, extendedState1, extendedMaxFunction, extendedVersionAndFeatures, extendedAddressSpaceSizes, featureEax, untouched, component}
-use Rattle.update.specs.Kinds.{EntryAtLeast, TableAtLeast, Registers, kindsOf, fromEntry}
+use Rattle.update.specs.Finish.{Settings, ruleAt, enabledBy, settings, remains, finished}
+use Rattle.update.specs.Kinds.{Kinds, kinds, EntryAtLeast, TableAtLeast, Registers, kindsAt, fromEntry}
+use Rattle.update.specs.Kinds.Kind.{other}
+use Rattle.update.specs.RuleKinds.{featureEax, kindsOf, kinds-at, component-kinds}
+use Rattle.update.specs.XsavesLaws.{XsavesEdx, xsaves-at}
 use Rattle.checks.specs.Checks.{invlpgbVerdict, componentsVerdict, areaVerdict, topologyVerdict, topologyRefusal, rowsVerdict, refuseUnless}
 use Rattle.checks.specs.ChecksLaws.{AllPass, all-pass, required-present, present-required, component-present, demanded, then-accepted, then-skips}
 use Rattle.update.specs.PlaceLaws.{always, always-from-entry, required-place, position, always-required, component-rule, Sort, sort}
 use Rattle.update.specs.RemainsLaws.{finished-present, finished-result, made-remains, always-remains, component-finished}
 use Rattle.update.specs.PlaceLaws.Sort.{made, required, subleaf}
 use Rattle.rise.specs.Rise.{EntryRises}
-use Rattle.rise.specs.RuleLaws.{SettingsRise, XsavesRow, finish-rises, remains-rises}
-
--- ---- what is asked of row D.1, from masked rows
-
--- D.1.EDX is 0
-abbrev pub XsavesEdx : Rows → Type 0
-XsavesEdx m = m (Place.extendedState 1) .result .edx ≡ 0
-
-xsaves-row : (m : Rows) → XsavesEdx m → XsavesRow (settings m) (m (Place.extendedState 1) .result)
-unfolding settings enabledBy unlessNoXss
-xsaves-row m z = record { ecx = xsaves-ecx m; edx = z }
-
--- the only place under that rule
-abbrev isXsaves : Rule → Bool
-isXsaves vendorAndMaxFunction = false
-isXsaves versionAndFeatures = false
-isXsaves extendedFeatures = false
-isXsaves threadLevelRow = false
-isXsaves coreLevelRow = false
-isXsaves extendedState0 = false
-isXsaves extendedState1 = true
-isXsaves extendedMaxFunction = false
-isXsaves extendedVersionAndFeatures = false
-isXsaves extendedAddressSpaceSizes = false
-isXsaves featureEax = false
-isXsaves untouched = false
-isXsaves (component k) = false
-
-abbrev xsavesTest : ℕ → Bool
-xsavesTest i = pick (isXsaves (ruleAt i)) (eqb i (Place.extendedState 1)) true
-
-only-xsaves : every xsavesTest places ≡ true
-only-xsaves = refl
-
-xsaves-at : (m : Rows) → XsavesEdx m → (i : ℕ) → i < places → ruleAt i ≡ extendedState1 → XsavesRow (settings m) (m i .result)
-xsaves-at m z i l e =
-    let p : i ≡ Place.extendedState 1 =
-    eqb-true i (Place.extendedState 1) (if-holds (isXsaves (ruleAt i)) _ (every-at xsavesTest places only-xsaves i l) (ap isXsaves e)) in
-    subst (λ (n : ℕ). XsavesRow (settings m) (m n .result)) (sym p) (xsaves-row m z)
+use Rattle.rise.specs.RuleLaws.{SettingsRise, finish-rises, remains-rises}
 
 -- ---- the theorem on rows
 
@@ -91,44 +51,51 @@ module _ (A B : Rows) (zeroA : XsavesEdx A) (zeroB : XsavesEdx B) (accepted : ro
   entry : (i : ℕ) → i < places → always (ruleAt i) ≡ true → EntryRises i (A i) (B i)
   entry i l e = entries i l (always-from-entry (ruleAt i) e) (inTableA i l e)
 
+  -- its registers, by its rule's kinds
+  byRule : (i : ℕ) → i < places → Registers EntryAtLeast (kindsAt i) (A i .result) (B i .result)
+      → Registers EntryAtLeast (kindsOf (featureEax i) (ruleAt i)) (A i .result) (B i .result)
+  byRule i l = subst (λ (k : Kinds). Registers EntryAtLeast k (A i .result) (B i .result)) (kinds-at i l)
+
+  at : (i : ℕ) → i < places → always (ruleAt i) ≡ true → Registers EntryAtLeast (kindsOf (featureEax i) (ruleAt i)) (A i .result) (B i .result)
+  at i l e = byRule i l (entry i l e .registers)
+
   componentInTableA : (k : ℕ) → 2 ≤ k → k < 64 → has k (combinedMask A) ≡ true → finished A (Place.extendedState k) .present ≡ true
   componentInTableA k l u h = component-finished A k l u ∙ and-both h (component-present A (pass .components) k l u h)
 
   componentEntry : (k : ℕ) → 2 ≤ k → k < 64 → has k (combinedMask A) ≡ true
-      → Registers EntryAtLeast (kindsOf (component k)) (A (Place.extendedState k) .result) (B (Place.extendedState k) .result)
+      → Registers EntryAtLeast (kinds other other other other) (A (Place.extendedState k) .result) (B (Place.extendedState k) .result)
   componentEntry k l u h =
-      subst (λ (t : Rule). Registers EntryAtLeast (kindsOf t) (A (Place.extendedState k) .result) (B (Place.extendedState k) .result))
-      (component-rule k l u)
-      (entries (Place.extendedState k) (omega arith) (ap fromEntry (component-rule k l u)) (componentInTableA k l u h) .registers)
+      let i : ℕ = Place.extendedState k in
+      subst (λ (q : Kinds). Registers EntryAtLeast q (A i .result) (B i .result)) (component-kinds k l u)
+      (entries i (omega arith) (ap fromEntry (component-rule k l u)) (componentInTableA k l u h) .registers)
 
   sameInputs : inputsOf A ≡ inputsOf B
   unfolding inputsOf
   sameInputs =
       cc (
-        entry Place.extendedAddressSpaceSizes (lit< tt) refl .registers .ecx,
-        entry Place.versionAndFeatures (lit< tt) refl .registers .ebx,
-        entry Place.versionAndFeatures (lit< tt) refl .registers .edx .1,
-        entry Place.processorTopologyDefinition (lit< tt) refl .registers .ebx,
+        at Place.extendedAddressSpaceSizes (lit< tt) refl .ecx,
+        at Place.versionAndFeatures (lit< tt) refl .ebx,
+        at Place.versionAndFeatures (lit< tt) refl .edx .1,
+        at Place.processorTopologyDefinition (lit< tt) refl .ebx,
       )
 
   xfemRises : Within (xfem A) (xfem B)
   unfolding xfem
-  xfemRises = entry (Place.extendedState 0) (lit< tt) refl .registers .eax
+  xfemRises = at (Place.extendedState 0) (lit< tt) refl .eax
 
   xssRises : Within (xss A) (xss B)
   xssRises =
-      xss-mono A B (entry (Place.extendedState 1) (lit< tt) refl .registers .eax) (entry (Place.extendedState 1) (lit< tt) refl .registers .ecx)
+      xss-mono A B (at (Place.extendedState 1) (lit< tt) refl .eax) (at (Place.extendedState 1) (lit< tt) refl .ecx)
 
   sums : (k : ℕ) → 2 ≤ k → k < 64 → has k (xfem A) ≡ true → sumAt A k ≡ sumAt B k
   sums k l u h =
-      let e : Registers EntryAtLeast (kindsOf (component k)) (A (Place.extendedState k) .result) (B (Place.extendedState k) .result) =
-      componentEntry k l u (in-combined A k h) in
+      let e = componentEntry k l u (in-combined A k h) in
       ap₂ _+_ (e .eax) (e .ebx)
 
   settingsRise : SettingsRise (settings A) (settings B)
   unfolding settings enabledBy
   settingsRise = record {
-    enabled = record { xfem = xfemRises; xss = xssRises; tscAux = has-mono 9 (entry Place.extendedSevFeatures (lit< tt) refl .registers .eax) };
+    enabled = record { xfem = xfemRises; xss = xssRises; tscAux = has-mono 9 (at Place.extendedSevFeatures (lit< tt) refl .eax) };
     saveArea = area-mono A B 64 xfemRises sums;
     threads = cc sameInputs;
     cores = cc sameInputs;
@@ -145,18 +112,20 @@ module _ (A B : Rows) (zeroA : XsavesEdx A) (zeroB : XsavesEdx B) (accepted : ro
       go false e = made-remains (settings B) (λ j. B j .present) i l e
 
   pub registers-rise : (i : ℕ) → i < places → finished A i .present ≡ true
-      → Registers TableAtLeast (kindsOf (ruleAt i)) (finished A i .result) (finished B i .result)
+      → Registers TableAtLeast (kindsAt i) (finished A i .result) (finished B i .result)
   registers-rise i l h =
-      rw (finished-result A i h, finished-result B i (present-rises i l h))
-      (finish-rises settingsRise (ruleAt i) (A i .result) (B i .result) (λ e. entries i l e h .registers)
+      rw (kinds-at i l, finished-result A i h, finished-result B i (present-rises i l h))
+      (finish-rises settingsRise (featureEax i) (ruleAt i) (A i .result) (B i .result) (λ e. byRule i l (entries i l e h .registers))
       (xsaves-at A zeroA i l) (xsaves-at B zeroB i l))
 
   -- beyond these only the subleaves of further bits
-  pub others-further : (i : ℕ) → i < places → finished B i .present ≡ true
-      → (finished A i .present ≡ true) ⊎ ((k : ℕ) × (i ≡ Place.extendedState k) × (2 ≤ k) × (k < 64) × (has k (combinedMask B) ≡ true) × (has k (combinedMask A) ≡ false))
+  abbrev pub Beyond : ℕ → Type 0
+  Beyond i = (k : ℕ) × (i ≡ Place.extendedState k) × (2 ≤ k) × (k < 64) × (has k (combinedMask B) ≡ true) × (has k (combinedMask A) ≡ false)
+
+  pub others-further : (i : ℕ) → i < places → finished B i .present ≡ true → (finished A i .present ≡ true) ⊎ Beyond i
   others-further i l h = go (sort i l)
     where
-      go : Sort i → (finished A i .present ≡ true) ⊎ ((k : ℕ) × (i ≡ Place.extendedState k) × (2 ≤ k) × (k < 64) × (has k (combinedMask B) ≡ true) × (has k (combinedMask A) ≡ false))
+      go : Sort i → (finished A i .present ≡ true) ⊎ Beyond i
       go (made e) = inl (finished-present A i ∙ made-remains (settings A) (λ j. A j .present) i l e)
       go (required e) = inl (inTableA i l e)
       go (subleaf k e p q) = inMask (has k (combinedMask A)) refl
@@ -164,8 +133,7 @@ module _ (A B : Rows) (zeroA : XsavesEdx A) (zeroB : XsavesEdx B) (accepted : ro
           inB : has k (combinedMask B) ≡ true
           inB = and-left _ _ (sym (component-finished B k p q) ∙ subst (λ (n : ℕ). finished B n .present ≡ true) e h)
 
-          inMask : (b : Bool) → has k (combinedMask A) ≡ b
-              → (finished A i .present ≡ true) ⊎ ((k : ℕ) × (i ≡ Place.extendedState k) × (2 ≤ k) × (k < 64) × (has k (combinedMask B) ≡ true) × (has k (combinedMask A) ≡ false))
+          inMask : (b : Bool) → has k (combinedMask A) ≡ b → (finished A i .present ≡ true) ⊎ Beyond i
           inMask true f = inl (subst (λ (n : ℕ). finished A n .present ≡ true) (sym e) (componentInTableA k p q f))
           inMask false f = inr (k, e, p, q, inB, f)
 
@@ -177,7 +145,7 @@ module _ (A B : Rows) (zeroA : XsavesEdx A) (zeroB : XsavesEdx B) (accepted : ro
   unfolding invlpgbVerdict
   invlpgbB =
       pick-true Accepted (Refused InvlpgbUnavailable)
-      (has-mono 3 (entry Place.extendedAddressSpaceSizes (lit< tt) refl .registers .ebx) (demanded _ InvlpgbUnavailable (pass .invlpgb)))
+      (has-mono 3 (at Place.extendedAddressSpaceSizes (lit< tt) refl .ebx) (demanded _ InvlpgbUnavailable (pass .invlpgb)))
 
   topologyB : topologyVerdict B ≡ Accepted
   unfolding topologyVerdict

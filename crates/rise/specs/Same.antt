@@ -16,7 +16,7 @@ use Rattle.table.specs.declared.Verdict.the-variants.{Accepted}
 use Rattle.table.specs.Rows.{Row, Rows, row, vacant}
 use Rattle.checks.specs.ExtendedState.{combinedMask}
 use Rattle.update.specs.Finish.{ruleAt, settings, finish, remains, finished}
-use Rattle.update.specs.Kinds.{Kind, Kinds, EntryAtLeast, TableAtLeast, Registers, kindsOf}
+use Rattle.update.specs.Kinds.{Kind, Kinds, EntryAtLeast, TableAtLeast, Registers, kindsAt}
 use Rattle.update.specs.Kinds.Kind.{feature, featureBut28, area, freed, other}
 use Rattle.update.specs.RemainsLaws.{finished-entry}
 use Rattle.checks.specs.ChecksLaws.{then-left}
@@ -53,7 +53,7 @@ rises-itself avic a e = record {
   lawful = then-left (lawfulVerdict a) _ e;
   entries = λ i l f p. record {
     present = finished-entry (rowsOf avic a) i l f (sym (ap (λ (r : Row). r .present) (answer-row avic a e i l)) ∙ p);
-    registers = registers-itself (kindsOf (ruleAt i)) (rowsOf avic a i .result);
+    registers = registers-itself (kindsAt i) (rowsOf avic a i .result);
   };
 }
 

@@ -120,7 +120,8 @@ pub extern "C" fn snp_cpuid_lookup(
     subleaf: u32,
     enforce_subleaf: bool,
 ) -> SnpCpuidFound
-    ensures { λ r. ⌜ r ≡ foundNumbers (lookup (answer «secure_avic» (now (pages .entry)) .table) (record { 0 = leaf }) (subleafOf «has_subleaf» subleaf) «enforce_subleaf») ⌝ }
+    ensures { λ r. ⌜ r ≡ foundNumbers (lookup (answer «secure_avic» (now (pages .entry)) .table) (record { 0 = leaf })
+        (subleafOf «has_subleaf» subleaf) «enforce_subleaf») ⌝ }
 {
     let built = build::build(pages, secure_avic);
     let table = built.table;

@@ -1,4 +1,5 @@
--- What is proved, statement by statement: the page to open first. Each names the file where its words are defined.
+-- What is proved, statement by statement: the page to open first. Each names the file where its words are defined. The contracts tie the
+-- code to the definition: `build::build` promises `answer`, and every other entry point an equation with a definition over it.
 -- `answer avic s` is the answer of the definition (crates/build/specs/Build.antt) to the page bytes s under the secure-AVIC choice avic.
 use mathlib.Core.Path.{_≡_}
 use mathlib.Core.Bool.{Bool, true, false}
@@ -15,22 +16,23 @@ use Rattle.table.specs.Rows.{Rows}
 use Rattle.table.specs.Table.{rowIn, rowsIn}
 use Rattle.checks.specs.ExtendedState.{saveArea}
 use Rattle.table.specs.declared.Verdict.the-variants.{Accepted, Refused}
-use Rattle.pages.specs.Entries.{entries}
+use Rattle.bits.specs.Lists.{keepIf}
+use Rattle.pages.specs.Entries.{entries, counted}
 use Rattle.masking.specs.Kept.{places}
 use Rattle.masking.specs.Place
 use Rattle.table.specs.declared.CpuidResults.{CpuidResults}
-use Rattle.pages.specs.Walk.{firstIndex, parsed}
+use Rattle.pages.specs.Walk.{firstIndex, parsed, countsRead}
 use Rattle.build.specs.Build.{answer}
 use Rattle.reader.specs.Read.{given}
-use Rattle.reader.specs.ReadLaws.{reader-gives}
+use Rattle.reader.specs.ReadLaws.{reader-gives, reader-gives-counted}
 use Rattle.lookup.specs.declared.LeafResult.the-variants.{None as Nothing}
 use Rattle.lookup.specs.Lookup.{lookup}
 use Rattle.lookup.specs.LookupLaws.{empty-finds-nothing}
-use Rattle.image.specs.Image.{leafOrder}
+use Rattle.image.specs.Image.{leafOrder, image}
 use Rattle.refusals.specs.Exactly.{BuildsExactly, WritesExactly}
 use Rattle.refusals.specs.ExactlyProof.{builds-exactly, writes-exactly}
 use Rattle.counts.specs.Counts.{Counted, LeafOrder}
-use Rattle.counts.specs.CountsProof.{rows-counted, single-page-refused, leaf-order}
+use Rattle.counts.specs.CountsProof.{rows-counted, at-most-32, at-most-732, single-page-refused, leaf-order}
 use Rattle.rise.specs.Rise.{RiseHypothesis, HypothesisByTheLetter, RiseConclusion}
 use Rattle.rise.specs.RiseProof.{demand-3, demand-3-by-the-letter}
 use Rattle.rise.specs.Same.{rises-itself, same-figures}
@@ -63,7 +65,7 @@ use Rattle.examples.specs.Compared as Pairs
 use Rattle.examples.specs.MarkedRows.{marked, marked-rows}
 use Rattle.examples.specs.MarkedRows.Shown.{core, refusal, area, supervisor}
 
--- ---- Demand 1. crates/exactly/specs/Conditions.antt has each condition by itself, Exactly.antt the two records.
+-- ---- Demand 1. crates/refusals/specs/Conditions.antt has each condition by itself, Exactly.antt the two records.
 
 -- For each refusal 1 to 8: given if and only if its condition holds and no earlier one does; accepted if and only if none holds.
 pub each-refusal-exactly : (avic : Bool) (s : List ℕ) → BuildsExactly avic s
@@ -197,7 +199,7 @@ exception-outcome = Exception.plain-outcome
 pub compacted-sizes : sizes ≡ 576 ∷ 832 ∷ 840 ∷ 856 ∷ 920 ∷ 856 ∷ 0xFFFFFFFF ∷ 0x100000000 ∷ []
 compacted-sizes = sizes-are
 
--- ---- The fourteen marked rows of document 01, T1 to T10, X1 to X3 (two figures) and C1. crates/instances/specs/MarkedRows.antt.
+-- ---- The fourteen marked rows of document 01, T1 to T10, X1 to X3 (two figures) and C1. crates/examples/specs/MarkedRows.antt.
 
 pub fourteen-rows : marked
     ≡ core 0 1
@@ -224,6 +226,12 @@ fourteen-rows = marked-rows
 pub counts : (avic : Bool) (s : List ℕ) → answer avic s .verdict ≡ Accepted → Counted avic s
 counts = rows-counted
 
+pub at-most-32-rows : (avic : Bool) (s : List ℕ) → answer avic s .verdict ≡ Accepted → answer avic s .table .«row_count» ≤ 32
+at-most-32-rows = at-most-32
+
+pub at-most-732-bytes : (avic : Bool) (s : List ℕ) → answer avic s .verdict ≡ Accepted → length (image (answer avic s .table)) ≤ 732
+at-most-732-bytes = at-most-732
+
 -- page 1 is missing, and with it Dh
 pub single-page-never-accepted : (avic : Bool) (s : List ℕ) → length s ≡ 4096 → answer avic s .verdict ≡ Accepted → ⊥
 single-page-never-accepted = single-page-refused
@@ -234,9 +242,11 @@ leaf-order-lawful = leaf-order
 
 -- ---- The page reader in the source's form. crates/reader/specs/Read.antt.
 
--- asked often enough, a new reader gives the entries of the pages, each once and in order, and then the end; `collect` stores those that count
-pub reader-in-order : (s : List ℕ) (n : ℕ) → length (entries s) ≤ n → given s n (firstIndex s) ≡ map parsed (entries s)
-reader-in-order = reader-gives
+-- asked often enough, a new reader gives the entries of the pages, each once and in order, and then the end; those that by what it gives
+-- count are the counted entries, each once and in order
+pub reader-in-order : (s : List ℕ) (n : ℕ) → length (entries s) ≤ n
+    → (given s n (firstIndex s) ≡ map parsed (entries s)) × (keepIf countsRead (given s n (firstIndex s)) ≡ map parsed (counted s))
+reader-in-order s n l = (reader-gives s n l, reader-gives-counted s n l)
 
 -- ---- Not empty words. crates/instances/specs/PageSets.antt has four page sets, byte by byte.
 

@@ -30,7 +30,7 @@ pub record UpTo {A : Type 0} (d : A) (new : ℕ → A) (old out : List A) (i : �
   pub below : (j : ℕ) → j < i → getD out j d ≡ new j
   pub above : (j : ℕ) → i ≤ j → getD out j d ≡ getD old j d
 
-up-to-next : {A : Type 0} {d : A} {new : ℕ → A} {old out : List A} {i k : ℕ} {v : A}
+pub up-to-next : {A : Type 0} {d : A} {new : ℕ → A} {old out : List A} {i k : ℕ} {v : A}
     → k ≡ i + 1 → i < length out → v ≡ new i → UpTo d new old out i → UpTo d new old (set out i v) k
 up-to-next {A} {d} {new} {old} {out} {i} {k} {v} q l e u = record {
   size = length-set out i v ∙ u .size;
@@ -72,11 +72,11 @@ dropped-at : (m : Rows) (x k : ℕ) → 2 ≤ k → k < 64
 unfolding droppedRow
 dropped-at m x k l u =
     let q : Place.extendedState k - Place.extendedState 0 ≡ k = omega arith in
-    rw (le-leb (Place.extendedState 2) (Place.extendedState k) (omega arith), lt-ltb (Place.extendedState k) (Place.extendedState 64) (omega arith), q)
-
-present-picked : (b : Bool) (r : CpuidResult) → pick b (row r) vacant .present ≡ b
-present-picked true r = refl
-present-picked false r = refl
+    rw (
+      le-leb (Place.extendedState 2) (Place.extendedState k) (omega arith),
+      lt-ltb (Place.extendedState k) (Place.extendedState 64) (omega arith),
+      q,
+    )
 
 -- ---- the loop
 
@@ -111,7 +111,8 @@ module _ (t : CpuidResults) (x : ℕ) (p : length (t .present) ≡ places) (q : 
     abbrev i : ℕ
     i = Place.extendedState k
 
-    keep : (here used : Bool) → getD (out .present) i false ≡ here → has k x ≡ used → dropped (rowsIn t) x i ≡ pick (used && here) (row (getD (out .results) i (result 0 0 0 0))) vacant
+    keep : (here used : Bool) → getD (out .present) i false ≡ here → has k x ≡ used
+        → dropped (rowsIn t) x i ≡ pick (used && here) (row (getD (out .results) i (result 0 0 0 0))) vacant
     keep here used e f = dropped-at (rowsIn t) x k l u ∙ rw (f, ← d .present .above i (le-refl i), e, d .results .above i (le-refl i))
 
     next : Place.extendedState (k + 1) ≡ i + 1
@@ -128,7 +129,8 @@ module _ (t : CpuidResults) (x : ℕ) (p : length (t .present) ≡ places) (q : 
         }
 
     pub dropping-goes : getD (out .present) i false ≡ true → has k x ≡ false
-        → Dropping t x (k + 1) (table (set (out .present) i false) (set (out .results) i (result 0 0 0 0)) (out .«row_count») (out .«max_extended_state»))
+        → Dropping t x (k + 1)
+        (table (set (out .present) i false) (set (out .results) i (result 0 0 0 0)) (out .«row_count») (out .«max_extended_state»))
     dropping-goes e f =
         let z = keep true false e f in
         record {
@@ -156,7 +158,10 @@ module _ (t : CpuidResults) (x : ℕ) (p : length (t .present) ≡ places) (q : 
   pub dropping-ends : {out : CpuidResults} (k : ℕ) → k ≡ 64 → Dropping t x k out → out ≡ droppedTable t x
   dropping-ends {out} k e d =
       let d₁ : Dropping t x 64 out = rw e at d in
-      let e₁ = all-dropped false (λ j. dropped (rowsIn t) x j .present) p (λ j h. ap (λ (r : Row). r .present) (dropped-high (rowsIn t) x j h)) (d₁ .present) in
-      let e₂ = all-dropped (result 0 0 0 0) (λ j. dropped (rowsIn t) x j .result) q (λ j h. ap (λ (r : Row). r .result) (dropped-high (rowsIn t) x j h)) (d₁ .results) in
+      let m : Rows = rowsIn t in
+      let e₁ =
+      all-dropped false (λ j. dropped m x j .present) p (λ j h. ap (λ (r : Row). r .present) (dropped-high m x j h)) (d₁ .present) in
+      let e₂ =
+      all-dropped (result 0 0 0 0) (λ j. dropped m x j .result) q (λ j h. ap (λ (r : Row). r .result) (dropped-high m x j h)) (d₁ .results) in
       let whole : out ≡ table (out .present) (out .results) (out .«row_count») (out .«max_extended_state») = refl in
       whole ∙ rw (e₁, e₂, d₁ .count, d₁ .mask)

@@ -3,7 +3,7 @@
 use mathlib.Core.Bool.{Bool, true, _&&_}
 use mathlib.Core.List.{[], _∷_}
 use Prim.Native.Nat.{ℕ, _-_}
-use lib.Dec.{eqb, ltb}
+use lib.Dec.{eqb, ltb, leb}
 use lib.Bits.{bitOr}
 use Rattle.bits.specs.Choice.{pick}
 use Rattle.bits.specs.Bits.{has, maskOf, clearUnless}
@@ -22,29 +22,37 @@ use Rattle.table.specs.Rows.{Row, Rows, row, vacant}
 use Rattle.checks.specs.ExtendedState.{xfem, xss, saveArea}
 use Rattle.checks.specs.TopologyInputs.{inputsOf}
 
--- which rule a place falls under
+-- the rows that are made here
+pub data Made : Type 0 where
+  vendorAndMaxFunction extendedMaxFunction : Made
+
+-- the rows of required leaves, by what becomes of their entries
+pub data Needed : Type 0 where
+  versionAndFeatures extendedFeatures threadLevelRow coreLevelRow extendedState0 extendedState1 : Needed
+  extendedVersionAndFeatures extendedAddressSpaceSizes untouched : Needed
+
+-- which rule a place falls under; D.k is a component, k from 2 up
 pub data Rule : Type 0 where
-  vendorAndMaxFunction versionAndFeatures extendedFeatures threadLevelRow coreLevelRow extendedState0 extendedState1 : Rule
-  extendedMaxFunction extendedVersionAndFeatures extendedAddressSpaceSizes featureEax untouched : Rule
-  -- D.k, k from 2 up
+  made : Made → Rule
+  needed : Needed → Rule
   component : ℕ → Rule
 
-abbrev pub ruleAt : ℕ → Rule
-ruleAt i =
-    pick (ltb i (Place.extendedState 2))
-    (pick (eqb i Place.vendorAndMaxFunction) vendorAndMaxFunction
-    (pick (eqb i Place.versionAndFeatures) versionAndFeatures
+abbrev neededAt : ℕ → Needed
+neededAt i =
+    pick (eqb i Place.versionAndFeatures) versionAndFeatures
     (pick (eqb i Place.extendedFeatures) extendedFeatures
     (pick (eqb i Place.threadLevel) threadLevelRow
     (pick (eqb i Place.coreLevel) coreLevelRow
     (pick (eqb i (Place.extendedState 0)) extendedState0
-    (pick (eqb i (Place.extendedState 1)) extendedState1 untouched)))))))
-    (pick (ltb i (Place.extendedState 64)) (component (i - Place.extendedState 0))
-    (pick (eqb i Place.extendedMaxFunction) extendedMaxFunction
+    (pick (eqb i (Place.extendedState 1)) extendedState1
     (pick (eqb i Place.extendedVersionAndFeatures) extendedVersionAndFeatures
-    (pick (eqb i Place.extendedAddressSpaceSizes) extendedAddressSpaceSizes
-    (pick (eqb i Place.extendedOptimizationIdentifiers) featureEax
-    (pick (eqb i Place.extendedSevFeatures) featureEax untouched))))))
+    (pick (eqb i Place.extendedAddressSpaceSizes) extendedAddressSpaceSizes untouched)))))))
+
+abbrev pub ruleAt : ℕ → Rule
+ruleAt i =
+    pick (leb (Place.extendedState 2) i && ltb i (Place.extendedState 64)) (component (i - Place.extendedState 0))
+    (pick (eqb i Place.vendorAndMaxFunction) (made vendorAndMaxFunction)
+    (pick (eqb i Place.extendedMaxFunction) (made extendedMaxFunction) (needed (neededAt i))))
 
 -- what decides over feature bits of other rows: the two state masks, and whether TSC_AUX is virtualised
 pub record Enabled : Type 0 where
@@ -165,37 +173,35 @@ addressSizesEbx x = clearUnless (has (Sizes.position Sizes.ExtendedAddressSpaceS
 unfoldable pub unlessNoXss : Enabled → ℕ → ℕ
 unlessNoXss c x = pick (eqb (c .xss) 0) 0 x
 
+-- "Rows 0 and 80000000h are made here"
+abbrev pub makeRow : Made → CpuidResult
+makeRow vendorAndMaxFunction = result AmdMaximum vendorEbx vendorEcx vendorEdx
+makeRow extendedMaxFunction = result ExtendedAmdMaximum vendorEbx vendorEcx vendorEdx
+
+-- the registers of a required row, from its entry's
+abbrev pub changeRow : Settings → Needed → CpuidResult → CpuidResult
+changeRow c versionAndFeatures r = result (r .eax) (r .ebx) (versionEcx (c .enabled) (r .ecx)) (r .edx)
+changeRow c extendedFeatures r =
+    result (r .eax) (featuresEbx (c .enabled) (r .ebx)) (featuresEcx (c .enabled) (r .ecx)) (featuresEdx (c .enabled) (r .edx))
+changeRow c threadLevelRow r = c .threads
+changeRow c coreLevelRow r = c .cores
+changeRow c extendedState0 r = result (r .eax) (r .ebx) (c .saveArea) (r .edx)
+changeRow c extendedState1 r = result (r .eax) (r .ebx) (unlessNoXss (c .enabled) (r .ecx)) (unlessNoXss (c .enabled) (r .edx))
+changeRow c extendedVersionAndFeatures r = result (r .eax) (r .ebx) (r .ecx) (extendedVersionEdx (c .enabled) (r .edx))
+changeRow c extendedAddressSpaceSizes r = result (r .eax) (addressSizesEbx (r .ebx)) (r .ecx) (r .edx)
+changeRow c untouched r = r
+
 -- the registers of a row under its rule
 abbrev pub finish : Settings → Rule → CpuidResult → CpuidResult
-finish c vendorAndMaxFunction r = result AmdMaximum vendorEbx vendorEcx vendorEdx
-finish c extendedMaxFunction r = result ExtendedAmdMaximum vendorEbx vendorEcx vendorEdx
-finish c versionAndFeatures r = result (r .eax) (r .ebx) (versionEcx (c .enabled) (r .ecx)) (r .edx)
-finish c extendedFeatures r = result (r .eax) (featuresEbx (c .enabled) (r .ebx)) (featuresEcx (c .enabled) (r .ecx)) (featuresEdx (c .enabled) (r .edx))
-finish c threadLevelRow r = c .threads
-finish c coreLevelRow r = c .cores
-finish c extendedState0 r = result (r .eax) (r .ebx) (c .saveArea) (r .edx)
-finish c extendedState1 r = result (r .eax) (r .ebx) (unlessNoXss (c .enabled) (r .ecx)) (unlessNoXss (c .enabled) (r .edx))
-finish c extendedVersionAndFeatures r = result (r .eax) (r .ebx) (r .ecx) (extendedVersionEdx (c .enabled) (r .edx))
-finish c extendedAddressSpaceSizes r = result (r .eax) (addressSizesEbx (r .ebx)) (r .ecx) (r .edx)
-finish c featureEax r = r
-finish c untouched r = r
+finish c (made t) r = makeRow t
+finish c (needed t) r = changeRow c t r
 finish c (component k) r = r
 
 -- whether a row is in the table, from whether its entry was there: rows 0 and 80000000h always; "subleaves from 2 up without their bit
 -- are dropped"
 abbrev pub remains : Settings → Rule → Bool → Bool
-remains c vendorAndMaxFunction p = true
-remains c extendedMaxFunction p = true
-remains c versionAndFeatures p = p
-remains c extendedFeatures p = p
-remains c threadLevelRow p = p
-remains c coreLevelRow p = p
-remains c extendedState0 p = p
-remains c extendedState1 p = p
-remains c extendedVersionAndFeatures p = p
-remains c extendedAddressSpaceSizes p = p
-remains c featureEax p = p
-remains c untouched p = p
+remains c (made t) p = true
+remains c (needed t) p = p
 remains c (component k) p = has k (bitOr (c .enabled .xfem) (c .enabled .xss)) && p
 
 -- a row of the table; one that is not there is all zeros

@@ -49,7 +49,8 @@ storeResults c r l =
     (at c r Place.vendorAndMaxFunction l)))))))))
 
 -- from the values that are stored, one by one
-pub stores : (c : Settings) (r : ℕ → CpuidResult) (l : List CpuidResult) {made version features threads cores state0 state1 extendedMade extendedVersion sizes : CpuidResult}
+pub stores : (c : Settings) (r : ℕ → CpuidResult) (l : List CpuidResult)
+    {made version features threads cores state0 state1 extendedMade extendedVersion sizes : CpuidResult}
     → made ≡ finish c (ruleAt Place.vendorAndMaxFunction) (r Place.vendorAndMaxFunction)
     → version ≡ finish c (ruleAt Place.versionAndFeatures) (r Place.versionAndFeatures)
     → features ≡ finish c (ruleAt Place.extendedFeatures) (r Place.extendedFeatures)
@@ -60,7 +61,8 @@ pub stores : (c : Settings) (r : ℕ → CpuidResult) (l : List CpuidResult) {ma
     → extendedMade ≡ finish c (ruleAt Place.extendedMaxFunction) (r Place.extendedMaxFunction)
     → extendedVersion ≡ finish c (ruleAt Place.extendedVersionAndFeatures) (r Place.extendedVersionAndFeatures)
     → sizes ≡ finish c (ruleAt Place.extendedAddressSpaceSizes) (r Place.extendedAddressSpaceSizes)
-    → set (set (set (set (set (set (set (set (set (set l 0 made) 1 version) 3 features) 4 threads) 5 cores) 6 state0) 7 state1) 70 extendedMade) 71 extendedVersion) 78 sizes
+    → set (set (set (set (set (set (set (set (set (set l 0 made) 1 version) 3 features) 4 threads) 5 cores) 6 state0) 7 state1)
+    70 extendedMade) 71 extendedVersion) 78 sizes
     ≡ storeResults c r l
 stores c r l e₀ e₁ e₃ e₄ e₅ e₆ e₇ e₇₀ e₇₁ e₇₈ = rw (e₀, e₁, e₃, e₄, e₅, e₆, e₇, e₇₀, e₇₁, e₇₈)
 
@@ -108,10 +110,12 @@ module _ (m : Rows) (h : requiredVerdict m ≡ Accepted) where
       ∙ stored-present (settings m) p r
       ∙ tabulate-ext places _ _ (λ i l. ap (λ (w : Row). finishRow (settings m) (ruleAt i) w .present) (known-at i l))
 
-  finished-results : storeResults (settings m) r (tabulate places (λ i. dropped m (combinedMask m) i .result)) ≡ tabulate places (λ i. finished m i .result)
+  finished-results :
+      storeResults (settings m) r (tabulate places (λ i. dropped m (combinedMask m) i .result)) ≡ tabulate places (λ i. finished m i .result)
   unfolding combinedMask settings enabledBy finished
   finished-results =
-      ap (storeResults (settings m) r) (tabulate-ext places _ _ (λ i l. ap (λ (w : Row). droppedRow (combinedMask m) i w .result) (sym (known-at i l))))
+      ap (storeResults (settings m) r)
+      (tabulate-ext places _ _ (λ i l. ap (λ (w : Row). droppedRow (combinedMask m) i w .result) (sym (known-at i l))))
       ∙ stored-results (settings m) p r
       ∙ tabulate-ext places _ _ (λ i l. ap (λ (w : Row). finishRow (settings m) (ruleAt i) w .result) (known-at i l))
 
@@ -130,7 +134,8 @@ table-eq : {p q : List Bool} {l k : List CpuidResult} {n m x y : ℕ} → p ≡ 
 table-eq a b c d = rw (a, b, c, d)
 
 pub finished-table : (t : CpuidResults) {e : Enabled} {x size v n : ℕ} {d : CpuidResults} {l : List CpuidResult} → Ready (rowsIn t) size v
-    → e ≡ enabledFrom (rowsIn t (Place.extendedState 0) .result) (rowsIn t (Place.extendedState 1) .result) (rowsIn t Place.extendedSevFeatures .result)
+    → e
+    ≡ enabledFrom (rowsIn t (Place.extendedState 0) .result) (rowsIn t (Place.extendedState 1) .result) (rowsIn t Place.extendedSevFeatures .result)
     → x ≡ bitOr (e .xfem) (e .xss) → d ≡ droppedTable t x → n ≡ presentCount (markPresent (d .present)) places
     → l ≡ storeResults (settingsWith e size (inputsOf (rowsIn t) .t) v) (λ i. rowsIn t i .result) (d .results)
     → table (markPresent (d .present)) l n x ≡ tableOf (finished (rowsIn t)) (combinedMask (rowsIn t))

@@ -1,19 +1,21 @@
--- Document 01, "Feature registers of demand 3": one table gives each register of each row its kind. It has two readings, one for masked
+-- Document 01, "Feature registers of demand 3": one table gives the registers of each leaf their kinds. It has two readings, one for masked
 -- entries and one for tables.
---   1.ECX; 1.EDX but bit 28; 7.0.EBX, ECX, EDX; 80000001h.ECX, EDX; 80000008h.EBX; D.0.EAX; D.1.EAX, ECX; 8000001Ah.EAX; 8000001Fh.EAX.
---   The save area is D.0.ECX. Freed, so that entries may differ: D.0.ECX and all of B.0 and B.1.
 use mathlib.Core.Path.{_≡_}
-use mathlib.Core.Bool.{Bool, true, false}
+use mathlib.Core.Bool.{Bool, true, false, _&&_}
+use mathlib.Core.List.{List, [], _∷_}
 use Prim.Native.Nat.{ℕ, _≤_}
-use lib.Bits.{bitAnd}
+use lib.Dec.{eqb}
+use Rattle.bits.specs.Choice.{pick}
 use Rattle.bits.specs.Bits.{bit, Within}
+use Rattle.x86defs.specs.declared.CpuidFunction.{CpuidFunction}
 use Rattle.x86defs.specs.declared.CpuidResult.{CpuidResult}
-use Rattle.x86defs.specs.Functions.{result}
+use Rattle.x86defs.specs.Functions.{function, sameFunction}
+use Rattle.masking.specs.Kept.{leafAt, subleafAt}
 use Rattle.update.specs.Finish.{Rule}
-use Rattle.update.specs.Finish.Rule.{vendorAndMaxFunction, versionAndFeatures, extendedFeatures, threadLevelRow, coreLevelRow, extendedState0, extendedState1, extendedMaxFunction, extendedVersionAndFeatures, extendedAddressSpaceSizes, featureEax, untouched, component}
+use Rattle.update.specs.Finish.Rule.{made, needed, component}
 
 pub data Kind : Type 0 where
-  -- a feature register; 1.EDX, whose bit 28 is none; the save area; made here, whatever an entry says; any other register
+  -- a feature register; 1.EDX, whose bit 28 is none; the save area; freed, so that entries may differ; any other register
   feature featureBut28 area freed other : Kind
 
 pub record Kinds : Type 0 where
@@ -22,23 +24,45 @@ pub record Kinds : Type 0 where
   pub ecx : Kind
   pub edx : Kind
 
-abbrev kinds : Kind → Kind → Kind → Kind → Kinds
+abbrev pub kinds : Kind → Kind → Kind → Kind → Kinds
 kinds a b c d = record { eax = a; ebx = b; ecx = c; edx = d }
 
-abbrev pub kindsOf : Rule → Kinds
-kindsOf vendorAndMaxFunction = kinds freed freed freed freed
-kindsOf versionAndFeatures = kinds other other feature featureBut28
-kindsOf extendedFeatures = kinds other feature feature feature
-kindsOf threadLevelRow = kinds freed freed freed freed
-kindsOf coreLevelRow = kinds freed freed freed freed
-kindsOf extendedState0 = kinds feature other area other
-kindsOf extendedState1 = kinds feature other feature other
-kindsOf extendedMaxFunction = kinds freed freed freed freed
-kindsOf extendedVersionAndFeatures = kinds other other feature feature
-kindsOf extendedAddressSpaceSizes = kinds other feature other other
-kindsOf featureEax = kinds feature other other other
-kindsOf untouched = kinds other other other other
-kindsOf (component k) = kinds other other other other
+-- a leaf, its subleaf (0 where it has none), and the kinds of EAX, EBX, ECX and EDX
+pub record LeafKinds : Type 0 where
+  pub leaf : CpuidFunction
+  pub subleaf : ℕ
+  pub kinds : Kinds
+
+abbrev leaf : CpuidFunction → ℕ → Kind → Kind → Kind → Kind → LeafKinds
+leaf l k a b c d = record { leaf = l; subleaf = k; kinds = kinds a b c d }
+
+-- "1.ECX; 1.EDX but bit 28; 7.0.EBX, ECX, EDX; 80000001h.ECX, EDX; 80000008h.EBX; D.0.EAX; D.1.EAX, ECX; 8000001Ah.EAX; 8000001Fh.EAX. The
+-- save area is D.0.ECX. Freed, so that entries may differ: D.0.ECX and all of B.0 and B.1." Rows 0 and 80000000h are made here, from no
+-- entry: nothing is asked of one.
+unfoldable pub registerKinds : List LeafKinds
+registerKinds =
+    leaf (function 0x1) 0 other other feature featureBut28
+    ∷ leaf (function 0x7) 0 other feature feature feature
+    ∷ leaf (function 0x80000001) 0 other other feature feature
+    ∷ leaf (function 0x80000008) 0 other feature other other
+    ∷ leaf (function 0xD) 0 feature other area other
+    ∷ leaf (function 0xD) 1 feature other feature other
+    ∷ leaf (function 0x8000001A) 0 feature other other other
+    ∷ leaf (function 0x8000001F) 0 feature other other other
+    ∷ leaf (function 0xB) 0 freed freed freed freed
+    ∷ leaf (function 0xB) 1 freed freed freed freed
+    ∷ leaf (function 0x0) 0 freed freed freed freed
+    ∷ leaf (function 0x80000000) 0 freed freed freed freed
+    ∷ []
+
+-- a register that the table does not name is of kind `other`
+abbrev kindsIn : List LeafKinds → CpuidFunction → ℕ → Kinds
+kindsIn [] l k = kinds other other other other
+kindsIn (r ∷ rs) l k = pick (sameFunction (r .leaf) l && eqb (r .subleaf) k) (r .kinds) (kindsIn rs l k)
+
+-- the kinds of the row at a place
+unfoldable pub kindsAt : ℕ → Kinds
+kindsAt i = kindsIn registerKinds (leafAt i) (subleafAt i)
 
 -- how B's masked entry compares with A's
 abbrev pub EntryAtLeast : Kind → ℕ → ℕ → Type 0
@@ -65,27 +89,6 @@ pub record Registers (R : Kind → ℕ → ℕ → Type 0) (k : Kinds) (a b : Cp
 
 -- rows 0 and 80000000h come from no entry
 abbrev pub fromEntry : Rule → Bool
-fromEntry vendorAndMaxFunction = false
-fromEntry versionAndFeatures = true
-fromEntry extendedFeatures = true
-fromEntry threadLevelRow = true
-fromEntry coreLevelRow = true
-fromEntry extendedState0 = true
-fromEntry extendedState1 = true
-fromEntry extendedMaxFunction = false
-fromEntry extendedVersionAndFeatures = true
-fromEntry extendedAddressSpaceSizes = true
-fromEntry featureEax = true
-fromEntry untouched = true
+fromEntry (made t) = false
+fromEntry (needed t) = true
 fromEntry (component k) = true
-
--- joined by and where the register holds features; else the first's
-abbrev pub joined : Kind → ℕ → ℕ → ℕ
-joined feature a b = bitAnd a b
-joined featureBut28 a b = bitAnd a b
-joined area a b = a
-joined freed a b = a
-joined other a b = a
-
-abbrev pub joinResults : Kinds → CpuidResult → CpuidResult → CpuidResult
-joinResults k a b = result (joined (k .eax) (a .eax) (b .eax)) (joined (k .ebx) (a .ebx) (b .ebx)) (joined (k .ecx) (a .ecx) (b .ecx)) (joined (k .edx) (a .edx) (b .edx))

@@ -1,5 +1,6 @@
 pub mod Finish
 pub mod Kinds
+pub mod RuleKinds
 pub mod Stores
 pub mod DropLaws
 pub mod CountLaws
@@ -9,4 +10,5 @@ pub mod FinishLaws
 pub mod FeatureLaws
 pub mod JoinLaws
 pub mod PlaceLaws
+pub mod XsavesLaws
 pub mod RemainsLaws

@@ -5,7 +5,7 @@ use mathlib.Core.Bool.{Bool, true, false, _&&_}
 use Prim.Native.Nat.{ℕ, zero, suc, _-_, _≤_, _<_}
 use native.Mathlib.Omega.{arith}
 use lib.Dec.{eqb, ltb, leb}
-use borrow.Author.Tests.{ltb-true, leb-true, eqb-true, lt-ltb, le-ltb}
+use borrow.Author.Tests.{ltb-true, leb-true, eqb-true, le-leb, lt-ltb}
 use Rattle.bits.specs.Choice.{pick}
 use Rattle.bits.specs.ChoiceLaws.{and-left, and-right, if-holds}
 use Rattle.bits.specs.Search.{every}
@@ -14,38 +14,18 @@ use Rattle.masking.specs.Kept.{keptLeaves, placeOf, places}
 use Rattle.masking.specs.Place
 use Rattle.checks.specs.Required.{commonRequiredLeaves, snpRequiredLeaves, requiredAt, requiredCount, placeRequired}
 use Rattle.update.specs.Finish.{Rule, ruleAt}
-use Rattle.update.specs.Finish.Rule.{vendorAndMaxFunction, versionAndFeatures, extendedFeatures, threadLevelRow, coreLevelRow, extendedState0, extendedState1, extendedMaxFunction, extendedVersionAndFeatures, extendedAddressSpaceSizes, featureEax, untouched, component}
+use Rattle.update.specs.Finish.Rule.{made as madeRule, needed, component}
 use Rattle.update.specs.Kinds.{fromEntry}
 
 -- the rules of rows that every accepted table has from an entry
 abbrev pub always : Rule → Bool
-always vendorAndMaxFunction = false
-always versionAndFeatures = true
-always extendedFeatures = true
-always threadLevelRow = true
-always coreLevelRow = true
-always extendedState0 = true
-always extendedState1 = true
-always extendedMaxFunction = false
-always extendedVersionAndFeatures = true
-always extendedAddressSpaceSizes = true
-always featureEax = true
-always untouched = true
+always (madeRule t) = false
+always (needed t) = true
 always (component k) = false
 
 pub always-from-entry : (t : Rule) → always t ≡ true → fromEntry t ≡ true
-always-from-entry vendorAndMaxFunction e = e
-always-from-entry versionAndFeatures e = refl
-always-from-entry extendedFeatures e = refl
-always-from-entry threadLevelRow e = refl
-always-from-entry coreLevelRow e = refl
-always-from-entry extendedState0 e = refl
-always-from-entry extendedState1 e = refl
-always-from-entry extendedMaxFunction e = e
-always-from-entry extendedVersionAndFeatures e = refl
-always-from-entry extendedAddressSpaceSizes e = refl
-always-from-entry featureEax e = refl
-always-from-entry untouched e = refl
+always-from-entry (madeRule t) e = e
+always-from-entry (needed t) e = refl
 always-from-entry (component k) e = refl
 
 -- ---- the required lists hold exactly these places
@@ -87,7 +67,11 @@ always-required i l e =
 
 pub component-rule : (k : ℕ) → 2 ≤ k → k < 64 → ruleAt (Place.extendedState k) ≡ component k
 component-rule k l u =
-    rw (le-ltb (Place.extendedState k) (Place.extendedState 2) (omega arith), lt-ltb (Place.extendedState k) (Place.extendedState 64) (omega arith)) (ap component (omega arith))
+    rw (
+      le-leb (Place.extendedState 2) (Place.extendedState k) (omega arith),
+      lt-ltb (Place.extendedState k) (Place.extendedState 64) (omega arith),
+    )
+    (ap component (omega arith))
 
 -- ---- every place is of one of three sorts
 

@@ -15,10 +15,9 @@ use Rattle.masking.specs.Kept.{places}
 use Rattle.masking.specs.Place
 use Rattle.table.specs.declared.Verdict.the-variants.{Accepted}
 use Rattle.table.specs.Rows.{Row, Rows, row, vacant}
-use Rattle.checks.specs.ExtendedState.{xfem, saveArea}
+use Rattle.checks.specs.ExtendedState.{xssOf, xfem, saveArea}
 use Rattle.checks.specs.TopologyInputs.{inputsOf}
 use Rattle.checks.specs.Checks.{requiredVerdict}
-use Rattle.checks.specs.Parts.{xssOf}
 use Rattle.table.specs.declared.CpuidResults.{CpuidResults}
 use Rattle.update.specs.declared.features.Enabled as Declared
 use Rattle.update.specs.Finish.{Enabled}
@@ -54,7 +53,8 @@ dropped m x i = droppedRow x i (m i)
 
 abbrev pub droppedTable : CpuidResults → ℕ → CpuidResults
 droppedTable t x =
-    table (tabulate places (λ i. dropped (rowsIn t) x i .present)) (tabulate places (λ i. dropped (rowsIn t) x i .result)) (t .«row_count») (t .«max_extended_state»)
+    table (tabulate places (λ i. dropped (rowsIn t) x i .present)) (tabulate places (λ i. dropped (rowsIn t) x i .result)) (t .«row_count»)
+    (t .«max_extended_state»)
 
 -- what the checks have shown once rows are finished
 pub record Ready (m : Rows) (size processors : ℕ) : Type 0 where

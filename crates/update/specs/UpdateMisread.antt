@@ -32,5 +32,6 @@ pub cet-needs-both :
     ∷ finished (stateRows 3 0x1800) Place.extendedFeatures .result .ecx
     ∷ []
     ≡ 0 ∷ 0 ∷ 0x80 ∷ []
-unfolding finished settings enabledBy featuresEcx cetSs rdPid ymmFeaturesEcx avx512FeaturesEcx maskOf clear clearUnless xfem xss areaBelow has bit field inputsOf topologyOf threadsIn highestOf shiftOf
+unfolding finished settings enabledBy featuresEcx cetSs rdPid ymmFeaturesEcx avx512FeaturesEcx maskOf clear clearUnless xfem xss areaBelow has
+    bit field inputsOf topologyOf threadsIn highestOf shiftOf
 cet-needs-both = refl

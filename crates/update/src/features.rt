@@ -82,17 +82,13 @@ pub fn version_and_features(e: Enabled, r: CpuidResult) -> CpuidResult
     ensures { λ q. ⌜ q ≡ result (r .eax) (r .ebx) (versionEcx (enabledWith e) (r .ecx)) (r .edx) ⌝ }
 {
     let ecx = bits::clear_unless(e.has_ymm(), YMM_VERSION_ECX, r.ecx) | HYPERVISOR_PRESENT;
-    CpuidResult {
-        eax: r.eax,
-        ebx: r.ebx,
-        ecx,
-        edx: r.edx,
-    }
+    CpuidResult { ecx, ..r }
 }
 
 // Leaf 7.
 pub fn extended_features(e: Enabled, r: CpuidResult) -> CpuidResult
-    ensures { λ q. ⌜ q ≡ result (r .eax) (featuresEbx (enabledWith e) (r .ebx)) (featuresEcx (enabledWith e) (r .ecx)) (featuresEdx (enabledWith e) (r .edx)) ⌝ }
+    ensures { λ q. ⌜ q ≡ result (r .eax) (featuresEbx (enabledWith e) (r .ebx)) (featuresEcx (enabledWith e) (r .ecx))
+        (featuresEdx (enabledWith e) (r .edx)) ⌝ }
 {
     let ymm = e.has_ymm();
     let avx512 = e.has_avx512();
@@ -103,12 +99,7 @@ pub fn extended_features(e: Enabled, r: CpuidResult) -> CpuidResult
     let avx512_ecx = bits::clear_unless(avx512, AVX512_FEATURES_ECX, ymm_ecx);
     let ecx = bits::clear_unless(e.tsc_aux, RD_PID, avx512_ecx);
     let edx = bits::clear_unless(avx512, AVX512_FEATURES_EDX, r.edx);
-    CpuidResult {
-        eax: r.eax,
-        ebx,
-        ecx,
-        edx,
-    }
+    CpuidResult { ebx, ecx, edx, ..r }
 }
 
 // D.1: nothing of XSS where XSS is 0.
@@ -117,10 +108,9 @@ pub fn extended_state_1(e: Enabled, r: CpuidResult) -> CpuidResult
 {
     if e.xss == 0 {
         return CpuidResult {
-            eax: r.eax,
-            ebx: r.ebx,
             ecx: 0,
             edx: 0,
+            ..r
         };
     }
     r
@@ -131,12 +121,7 @@ pub fn extended_version_and_features(e: Enabled, r: CpuidResult) -> CpuidResult
     ensures { λ q. ⌜ q ≡ result (r .eax) (r .ebx) (r .ecx) (extendedVersionEdx (enabledWith e) (r .edx)) ⌝ }
 {
     let edx = bits::clear_unless(e.tsc_aux, RDTSCP, r.edx);
-    CpuidResult {
-        eax: r.eax,
-        ebx: r.ebx,
-        ecx: r.ecx,
-        edx,
-    }
+    CpuidResult { edx, ..r }
 }
 
 // Leaf 80000008h.
@@ -144,10 +129,5 @@ pub fn update_extended_address_space_sizes(r: CpuidResult) -> CpuidResult
     ensures { λ q. ⌜ q ≡ result (r .eax) (addressSizesEbx (r .ebx)) (r .ecx) (r .edx) ⌝ }
 {
     let ebx = bits::clear_unless(ibpb(r.ebx), IBRS_AND_STIBP, r.ebx | BTC_NO);
-    CpuidResult {
-        eax: r.eax,
-        ebx,
-        ecx: r.ecx,
-        edx: r.edx,
-    }
+    CpuidResult { ebx, ..r }
 }

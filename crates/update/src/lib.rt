@@ -116,10 +116,8 @@ pub fn finish(t: CpuidResults, size: u32, processors: u32) -> CpuidResults
     out.results[place::THREAD_LEVEL] = thread_level(threads_per_compute_unit(topology.ebx));
     out.results[place::CORE_LEVEL] = core_level(processors);
     out.results[place::EXTENDED_STATE_0] = CpuidResult {
-        eax: subleaf0.eax,
-        ebx: subleaf0.ebx,
         ecx: size,
-        edx: subleaf0.edx,
+        ..subleaf0
     };
     out.results[place::EXTENDED_STATE_1] = extended_state_1(e, subleaf1);
     out.results[place::EXTENDED_MAX_FUNCTION] = vendor_and_max_function(EXTENDED_AMD_MAXIMUM);

@@ -13,7 +13,8 @@ use Rattle.buffer.specs.Front.{AfterWrite, writeFront}
 use Rattle.write.specs.Write.{write}
 
 module _ (avic : Bool) (s buffer : List ℕ) {b : Built} (built : b ≡ answer avic s) where
-  pub write-refused : {r : Refusal} → b .verdict ≡ NotBuilt r → _≡_ {A = AfterWrite} (record { answer = Refused r; buffer = buffer }) (write avic s buffer)
+  pub write-refused : {r : Refusal} → b .verdict ≡ NotBuilt r
+      → _≡_ {A = AfterWrite} (record { answer = Refused r; buffer = buffer }) (write avic s buffer)
   unfolding write
   write-refused e = rw (← built, e)
 

@@ -1,10 +1,10 @@
 -- `from_area` meets its contract: refused where the area is too large, or what the topology answers.
 use borrow.Author.Needs.{needs}
-use mathlib.Core.Path.{refl}
+use mathlib.Core.Path.{ap}
 use Rattle.checks.specs.ExtendedState.{xfem}
-use Rattle.checks.specs.Checks.{areaVerdict, topologyVerdict}
+use Rattle.checks.specs.Checks.{sizeVerdict, areaVerdict, topologyVerdict}
 use Rattle.table.specs.Table.{rowsIn}
-use Rattle.build.specs.StageLaws.{stage-refuses, stage-passes, area-refuses, area-passes, area-found}
+use Rattle.build.specs.StageLaws.{stage-refuses, stage-passes, area-verdict, area-found}
 use Rattle.build.proofs.from_area.Statement.{statement}
 use Rattle.build.proofs.from_area.Tie as tie
 
@@ -12,7 +12,8 @@ returns : tie.Need-returns
 unfolding xfem
 returns c =
     let v = c .before in let s = v .before .before in let t = s .before .before .before .before .args .t1 in let m = rowsIn t in
-    stage-refuses m (areaVerdict m) (topologyVerdict m) (area-refuses t (s .xsave-size .ensures) (v .enum-told .given .1)) refl (c .refused .ensures)
+    stage-refuses m (areaVerdict m) (topologyVerdict m) (area-verdict t (s .xsave-size .ensures)) (ap sizeVerdict (v .enum-told .given .1))
+    (c .refused .ensures)
 
 from-topology-requires : tie.Need-from-topology-requires
 unfolding xfem
@@ -24,7 +25,8 @@ returns-2 : tie.Need-returns-2
 unfolding xfem
 returns-2 c =
     let v = c .before .before in let s = v .before .before in let t = s .before .before .before .before .args .t1 in let m = rowsIn t in
-    stage-passes m (areaVerdict m) (topologyVerdict m) (area-passes t (s .xsave-size .ensures) (v .size .given .1)) refl (c .from-topology .ensures)
+    stage-passes m (areaVerdict m) (topologyVerdict m) (area-verdict t (s .xsave-size .ensures)) (ap sizeVerdict (v .size .given .1))
+    (c .from-topology .ensures)
 
 pub from-area-spec : {M : Type 1} → statement M
 from-area-spec =

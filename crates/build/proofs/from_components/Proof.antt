@@ -1,32 +1,35 @@
 -- `from_components` meets its contract: refused at a missing subleaf, or what the checks after it answer.
 use borrow.Author.Needs.{needs}
-use mathlib.Core.Path.{_≡_, _∙_}
-use Rattle.checks.specs.ExtendedState.{xfem, xss}
-use Rattle.checks.specs.Checks.{componentsVerdict}
+use mathlib.Core.Path.{_≡_, ap, _∙_}
+use lib.Bits.{bitOr}
+use Rattle.checks.specs.ExtendedState.{xfem, xss, combinedMask}
+use Rattle.checks.specs.Checks.{componentsOf, componentsVerdict}
+use Rattle.table.specs.Rows.{Rows}
 use Rattle.table.specs.Table.{rowsIn}
-use Rattle.checks.specs.Parts.{componentsOf}
 use Rattle.build.specs.Stages.{fromArea}
-use Rattle.build.specs.StageLaws.{stage-refuses, stage-passes, components-combined}
+use Rattle.build.specs.StageLaws.{stage-refuses, stage-passes}
 use Rattle.build.proofs.from_components.Statement.{statement}
 use Rattle.build.proofs.from_components.Tie as tie
 
--- the verdict that the code found is the definition's
-found : (c : tie.After-process-extended-state-subleaves)
-    → c .process-extended-state-subleaves .result ≡ componentsVerdict (rowsIn (c .before .before .before .before .before .before .args .t1))
-unfolding xfem xss componentsOf
+-- the rows, and the verdict on them that the code found, which is the definition's
+abbrev rowsBefore : tie.After-process-extended-state-subleaves → Rows
+rowsBefore c = let mask = c .before .before in let subleaf1 = mask .before .before in rowsIn (subleaf1 .before .before .args .t1)
+
+found : (c : tie.After-process-extended-state-subleaves) → c .process-extended-state-subleaves .result ≡ componentsVerdict (rowsBefore c)
+unfolding xfem xss combinedMask componentsOf componentsVerdict
 found c =
-    let x = c .before .before in
+    let mask = c .before .before in let m = rowsBefore c in
     c .process-extended-state-subleaves .ensures
-    ∙ components-combined (rowsIn (x .before .before .before .before .args .t1)) (x .before .max-xss .ensures) (x .max-extended-state .ensures)
+    ∙ ap (componentsOf m) (mask .max-extended-state .ensures ∙ ap (bitOr (xfem m)) (mask .before .max-xss .ensures))
 
 returns : tie.Need-returns
 returns c =
-    let v = c .before .before in let s = v .before .before in let m = rowsIn (s .before .before .before .before .before .before .args .t1) in
+    let v = c .before .before in let s = v .before .before in let m = rowsBefore s in
     stage-refuses m (componentsVerdict m) (fromArea m) (found s) (v .verdict .given .1) (c .refused .ensures)
 
 returns-2 : tie.Need-returns-2
 returns-2 c =
-    let v = c .before in let s = v .before .before in let m = rowsIn (s .before .before .before .before .before .before .args .t1) in
+    let v = c .before in let s = v .before .before in let m = rowsBefore s in
     stage-passes m (componentsVerdict m) (fromArea m) (found s) (v .enum-told .given .1) (c .from-area .ensures)
 
 pub from-components-spec : {M : Type 1} → statement M

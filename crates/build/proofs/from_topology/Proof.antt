@@ -3,6 +3,7 @@ use borrow.Author.Needs.{needs}
 use mathlib.Core.Path.{_≡_}
 use Rattle.topology.specs.Topology.{topologyOf}
 use Rattle.checks.specs.TopologyInputs.{inputsOf}
+use Rattle.table.specs.Rows.{Rows}
 use Rattle.table.specs.Table.{rowsIn}
 use Rattle.build.specs.StageLaws.{topology-inputs, topology-refuses, topology-found, topology-passes}
 use Rattle.build.proofs.from_topology.Statement.{statement}
@@ -11,28 +12,34 @@ use Rattle.build.proofs.from_topology.Tie as tie
 extended-topology-requires : tie.Need-extended-topology-requires
 extended-topology-requires c κs = let n = c .before .before .before in (n .before .apic-core-id-size .ensures .1, n .nc .ensures .1)
 
+-- where the function starts, and its rows
+abbrev start : tie.After-extended-topology → tie.Start
+start c = let n = c .before .before .before .before in let sizes = n .before .before in sizes .before .before .before
+
+abbrev rows : tie.After-extended-topology → Rows
+rows c = rowsIn (start c .args .t1)
+
 -- the topology that the code found is the definition's
-found : (c : tie.After-extended-topology)
-    → c .extended-topology .result ≡ topologyOf (inputsOf (rowsIn (c .before .before .before .before .before .before .before .before .before .args .t1)))
+found : (c : tie.After-extended-topology) → c .extended-topology .result ≡ topologyOf (inputsOf (rows c))
 found c =
     let t = c .before in let h = t .before in let l = h .before in let n = l .before in let s = n .before in
-    topology-inputs (rowsIn (s .before .before .before .before .args .t1)) (s .apic-core-id-size .ensures .0) (n .nc .ensures .0) (l .lps-per-package .ensures .0)
+    topology-inputs (rows c) (s .apic-core-id-size .ensures .0) (n .nc .ensures .0) (l .lps-per-package .ensures .0)
     (h .mt-per-socket .ensures .0) (t .threads-per-compute-unit .ensures .0) (c .extended-topology .ensures)
 
 finish-requires : tie.Need-finish-requires
 finish-requires c κs =
-    let s = c .before .before .before in let start = s .before .before .before .before .before .before .before .before .before in
-    record { required = start .pre .0; area = start .pre .1; topology = topology-found (rowsIn (start .args .t1)) (found s) (c .before .topology .given .1) }
+    let s = c .before .before .before in let pre = start s .pre in
+    record { required = pre .0; area = pre .1; topology = topology-found (rows s) (found s) (c .before .topology .given .1) }
 
 returns : tie.Need-returns
 returns c =
     let v = c .before .before in let s = v .before .before in
-    topology-passes (rowsIn (s .before .before .before .before .before .before .before .before .before .args .t1)) (found s) (v .topology .given .1) (c .finish .ensures)
+    topology-passes (rows s) (found s) (v .topology .given .1) (c .finish .ensures)
 
 returns-2 : tie.Need-returns-2
 returns-2 c =
     let v = c .before .before in let s = v .before .before in
-    topology-refuses (rowsIn (s .before .before .before .before .before .before .before .before .before .args .t1)) (found s) (v .topology2 .given .1) (c .refused .ensures)
+    topology-refuses (rows s) (found s) (v .topology2 .given .1) (c .refused .ensures)
 
 pub from-topology-spec : {M : Type 1} → statement M
 from-topology-spec =

@@ -16,7 +16,7 @@ returns c =
 
 -- where A is accepted
 abbrev start : tie.After-enum-told → tie.Start
-start c = c .before .before .before .before .before
+start c = let built = c .before .before in built .before .before .before
 
 accepted : (c : tie.After-enum-told) → answer (start c .args .secure-avic) (start c .args .a .now) .verdict ≡ Accepted
 accepted c = sym (ap (λ (x : Built). x .verdict) (c .before .before .build .ensures)) ∙ c .enum-told .given .1
@@ -27,7 +27,7 @@ returns-2 c =
     decided _ _ _ (bad-length-b _ _ _ (accepted (l .before)) (sym (l .bad-length .ensures) ∙ c .if1 .taken))
 
 collect-requires : tie.Need-collect-requires
-collect-requires c κs = accepted-counts _ _ (accepted (c .before .before .before .before .before))
+collect-requires c κs = let l = c .before .before .before in accepted-counts _ _ (accepted (l .before .before))
 
 collect-requires-2 : tie.Need-collect-requires-2
 collect-requires-2 c κs = let t = c .before .before in sym (t .before .counts-fit .ensures) ∙ t .if2 .taken
@@ -37,14 +37,17 @@ returns-3 c =
     let t = c .before .before .before .before in
     let l = t .before .before in
     decided _ _ _
-    (rows-compared _ _ _ (accepted (l .before .before)) (sym (l .before .bad-length .ensures) ∙ l .if1 .left) (sym (t .before .counts-fit .ensures) ∙ t .if2 .taken)
-    (l .before .before .before .before .build .ensures) (c .before .before .collect .ensures) (c .before .collect2 .ensures) (c .first-failing .ensures))
+    (rows-compared _ _ _ (accepted (l .before .before)) (sym (l .before .bad-length .ensures) ∙ l .if1 .left)
+    (sym (t .before .counts-fit .ensures) ∙ t .if2 .taken)
+    (l .before .before .before .before .build .ensures) (c .before .before .collect .ensures) (c .before .collect2 .ensures)
+    (c .first-failing .ensures))
 
 returns-4 : tie.Need-returns-4
 returns-4 c =
     let l = c .before .before in
     decided _ _ _
-    (bad-count-b _ _ _ (accepted (l .before .before)) (sym (l .before .bad-length .ensures) ∙ l .if1 .left) (sym (c .before .counts-fit .ensures) ∙ c .if2 .left))
+    (bad-count-b _ _ _ (accepted (l .before .before)) (sym (l .before .bad-length .ensures) ∙ l .if1 .left)
+    (sym (c .before .counts-fit .ensures) ∙ c .if2 .left))
 
 pub compare-spec : {M : Type 1} → statement M
 compare-spec =

@@ -26,13 +26,13 @@ loop-holds c = (search needs, refl)
 loop-again : tie.Need-loop-again Inv-loop μ-loop
 loop-again c =
     let p = c .before in
-    let s = p .before .before .before .before .before .before in
+    let entry = p .before .before .before in let s = entry .before .before .before in
     (search needs, s .loop .inv .1 ∙ turn-passes _ _ (s .loop .place) (search needs) (sym (p .place-rises .ensures) ∙ c .if1 .taken))
 
 returns : tie.Need-returns Inv-loop μ-loop
 returns c =
     let p = c .before .before in
-    let s = p .before .before .before .before .before .before in
+    let entry = p .before .before .before in let s = entry .before .before .before in
     c .failing-at .ensures
     ∙ sym (turn-stops _ _ (s .loop .place) (search needs) (sym (p .place-rises .ensures) ∙ c .before .if1 .left))
     ∙ sym (s .loop .inv .1)

@@ -10,7 +10,14 @@ returns c =
     let present = k .before in
     let inA = present .before in
     let entry = inA .before in
-    rw (r .registers-rise .ensures, ← k .kinds-at .ensures, ← entry .before .from-entry .ensures, entry .if1 .taken, inA .if2 .taken, present .if3 .taken)
+    rw (
+      r .registers-rise .ensures,
+      ← k .kinds-at .ensures,
+      ← entry .before .from-entry .ensures,
+      entry .if1 .taken,
+      inA .if2 .taken,
+      present .if3 .taken,
+    )
 
 returns-2 : tie.Need-returns-2
 returns-2 c =

@@ -11,7 +11,10 @@ use Rattle.program.proofs.put_refusal.Statement.{statement}
 use Rattle.program.proofs.put_refusal.Tie as tie
 
 returns : tie.Need-returns
-returns c = let e = front-short (numberBytes (c .before .before .args .numbers)) (now (c .before .before .args .out)) (c .if1 .taken) in (ap (λ (o : AfterWrite). o .answer) (sym e), ap (λ (o : AfterWrite). o .buffer) (sym e))
+returns c =
+    let start = c .before .before in
+    let e = front-short (numberBytes (start .args .numbers)) (now (start .args .out)) (c .if1 .taken) in
+    (ap (λ (o : AfterWrite). o .answer) (sym e), ap (λ (o : AfterWrite). o .buffer) (sym e))
 
 slice-write-out-2 : tie.Need-slice-write-out-2
 slice-write-out-2 c = simp length-set (omega arith)

@@ -13,7 +13,8 @@ returns-2 c =
     let n = p .before .before in
     let v = n .before .before in
     let b = v .before .before in
-    rw (← output-refused _ (b .before .if1 .left) (b .build .ensures) _ _ (v .verdict .given .1) (n .refusal-numbers .ensures)) (p .put-refusal .ensures)
+    rw (← output-refused _ (b .before .if1 .left) (b .build .ensures) _ _ (v .verdict .given .1) (n .refusal-numbers .ensures))
+    (p .put-refusal .ensures)
 
 returns-3 : tie.Need-returns-3
 returns-3 c =

@@ -6,7 +6,9 @@ use Rattle.snp_cpuid.proofs.compared_numbers.Statement.{statement}
 use Rattle.snp_cpuid.proofs.compared_numbers.Tie as tie
 
 returns : tie.Need-returns
-returns c = let n = c .before in rw (n .before .enum-told .given .1) (c .compared-with .ensures ∙ ap (λ m. comparedWith 0 m 0) (n .answer-numbers .ensures))
+returns c =
+    let n = c .before in
+    rw (n .before .enum-told .given .1) (c .compared-with .ensures ∙ ap (λ m. comparedWith 0 m 0) (n .answer-numbers .ensures))
 
 returns-2 : tie.Need-returns-2
 returns-2 c =
@@ -27,7 +29,8 @@ returns-5 : tie.Need-returns-5
 returns-5 c =
     let i = c .before in
     let n = i .before in
-    rw (n .before .before .compared4 .given .1) (c .compared-with5 .ensures ∙ ap₂ (comparedWith 4) (n .at-leaf2 .ensures) (i .register-index .ensures))
+    rw (n .before .before .compared4 .given .1)
+    (c .compared-with5 .ensures ∙ ap₂ (comparedWith 4) (n .at-leaf2 .ensures) (i .register-index .ensures))
 
 pub compared-numbers-spec : {M : Type 1} → statement M
 compared-numbers-spec =

@@ -5,7 +5,8 @@ use Rattle.snp_cpuid.proofs.snp_cpuid_lookup.Tie as tie
 
 returns : tie.Need-returns
 returns c =
-    rw (← c .before .before .before .before .build .ensures, ← c .before .before .subleaf-of .ensures, ← c .before .leaf-result .ensures) (c .found-numbers .ensures)
+    rw (← c .before .before .before .before .build .ensures, ← c .before .before .subleaf-of .ensures, ← c .before .leaf-result .ensures)
+    (c .found-numbers .ensures)
 
 pub snp-cpuid-lookup-spec : {M : Type 1} → statement M
 snp-cpuid-lookup-spec =

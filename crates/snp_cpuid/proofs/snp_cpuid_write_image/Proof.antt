@@ -6,7 +6,9 @@ use Rattle.snp_cpuid.proofs.snp_cpuid_write_image.Statement.{statement}
 use Rattle.snp_cpuid.proofs.snp_cpuid_write_image.Tie as tie
 
 returns : tie.Need-returns
-returns c = (c .written-numbers .ensures ∙ ap writtenNumbers (c .before .before .before .write-image .ensures .0), c .before .before .before .write-image .ensures .1)
+returns c =
+    let w = c .before .before .before .write-image .ensures in
+    (c .written-numbers .ensures ∙ ap writtenNumbers (w .0), w .1)
 
 pub snp-cpuid-write-image-spec : {M : Type 1} → statement M
 snp-cpuid-write-image-spec =

@@ -1,4 +1,4 @@
--- `finish::count_rows` meets its contract: the count is that of the places passed.
+-- `count_rows` meets its contract: the count is that of the places passed.
 use borrow.Author.Needs.{needs}
 use mathlib.Core.Path.{_≡_}
 use mathlib.Core.Bool.{false}
@@ -27,8 +27,11 @@ add-count c = let s = c .before in omega (arith, byte-le (getD (s .before .args 
 
 loop-again : tie.Need-loop-again Inv-loop μ-loop
 loop-again c =
-    let s = c .before in
-    (search needs, omega (arith, byte-le (getD (s .before .args .t1) (s .loop .i) false)), count-next (s .before .args .t1) (s .loop .i) (s .loop .inv .2))
+    let s = c .before in (
+      search needs,
+      omega (arith, byte-le (getD (s .before .args .t1) (s .loop .i) false)),
+      count-next (s .before .args .t1) (s .loop .i) (s .loop .inv .2),
+    )
 
 returns : tie.Need-returns Inv-loop μ-loop
 returns c = let s = c .before in let q : s .loop .i ≡ 88 = omega arith in rw q at (s .loop .inv .2)

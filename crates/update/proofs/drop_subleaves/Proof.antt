@@ -1,4 +1,4 @@
--- `finish::drop_subleaves` meets its contract: a turn drops or keeps one subleaf.
+-- `drop_subleaves` meets its contract: a turn drops or keeps one subleaf.
 use borrow.Author.Needs.{needs}
 use mathlib.Core.Path.{_≡_, sym, _∙_}
 use mathlib.Core.Logic.{⊎-elim}

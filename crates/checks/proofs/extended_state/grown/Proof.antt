@@ -9,10 +9,10 @@ returns : tie.Need-returns
 returns c = grown-over _ _ (c .before .before .before .if1 .taken) (omega arith)
 
 returns-2 : tie.Need-returns-2
-returns-2 c = grown-to _ _ (c .before .before .before .before .before .if1 .taken) (omega arith) (omega arith)
+returns-2 c = let sum = c .before .before in grown-to _ _ (sum .before .before .before .if1 .taken) (omega arith) (omega arith)
 
 returns-3 : tie.Need-returns-3
-returns-3 c = grown-within _ _ (c .before .before .before .before .before .if1 .taken) (omega arith) (omega arith)
+returns-3 c = let sum = c .before .before in grown-within _ _ (sum .before .before .before .if1 .taken) (omega arith) (omega arith)
 
 returns-4 : tie.Need-returns-4
 returns-4 c = grown-unused _ _ (c .if1 .left) (omega arith)

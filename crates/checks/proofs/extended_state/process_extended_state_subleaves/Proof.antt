@@ -3,7 +3,8 @@
 use borrow.Author.Needs.{needs}
 use mathlib.Core.Path.{_≡_, refl, sym, _∙_}
 use Prim.Native.Nat.{_≤_, _-_}
-use Rattle.checks.specs.Parts.{presentIn, componentsOf}
+use Rattle.checks.specs.Checks.{componentsOf}
+use Rattle.checks.specs.Parts.{presentIn}
 use Rattle.checks.specs.ScanLaws.{refuseFrom, componentsFrom, component-passes, component-stops, components-end, components-none}
 use Rattle.checks.proofs.extended_state.process_extended_state_subleaves.Statement.{statement}
 use Rattle.checks.proofs.extended_state.process_extended_state_subleaves.Tie as tie
@@ -30,8 +31,11 @@ returns-2 c =
 
 loop-again : tie.Need-loop-again Inv-loop μ-loop
 loop-again c =
-    let b = c .before in let s = b .before .before .before in
-    (search needs, s .loop .inv .1 ∙ component-passes (presentIn (s .before .args .t1)) _ (s .loop .k) (search needs) (b .has-bit64 .ensures) (c .if2 .left))
+    let b = c .before in let s = b .before .before .before in (
+      search needs,
+      s .loop .inv .1
+          ∙ component-passes (presentIn (s .before .args .t1)) _ (s .loop .k) (search needs) (b .has-bit64 .ensures) (c .if2 .left),
+    )
 
 returns-3 : tie.Need-returns-3 Inv-loop μ-loop
 returns-3 c = let s = c .before in components-end (presentIn (s .before .args .t1)) _ (s .loop .k) (search needs) ∙ sym (s .loop .inv .1)

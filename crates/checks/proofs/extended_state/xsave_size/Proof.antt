@@ -32,7 +32,8 @@ returns-2 c =
 loop-again : tie.Need-loop-again Inv-loop μ-loop
 loop-again c =
     let g = c .before .before .before in let b = g .before in let s = b .before .before .before .before in
-    let n = area-grows _ _ (s .loop .area) (s .loop .k) (s .loop .inv .0) (s .loop .inv .2) (b .has-bit64 .ensures) (sym (c .before .size .given .1) ∙ g .grown .ensures) in
+    let n = area-grows _ _ (s .loop .area) (s .loop .k) (s .loop .inv .0) (s .loop .inv .2) (b .has-bit64 .ensures)
+    (sym (c .before .size .given .1) ∙ g .grown .ensures) in
     (search needs, search needs, n .0, n .1)
 
 returns-3 : tie.Need-returns-3 Inv-loop μ-loop

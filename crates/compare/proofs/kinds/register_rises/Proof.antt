@@ -7,7 +7,13 @@ use Rattle.compare.proofs.kinds.register_rises.Tie as tie
 returns : tie.Need-returns
 returns c =
     let w = c .before .before .before in
-    rw (w .before .enum-told2 .given .1, ← w .within2 .ensures, c .before .before .if1 .taken, c .before .mt-per-socket .ensures .0, c .mt-per-socket2 .ensures .0)
+    rw (
+      w .before .enum-told2 .given .1,
+      ← w .within2 .ensures,
+      c .before .before .if1 .taken,
+      c .before .mt-per-socket .ensures .0,
+      c .mt-per-socket2 .ensures .0,
+    )
 
 returns-2 : tie.Need-returns-2
 returns-2 c = rw (c .before .enum-told .given .1) (c .within .ensures)
