@@ -1,5 +1,5 @@
 -- Document 02, P3, "What one processor's guest sees": the guest's whole table, from the paravisor's.
-use mathlib.Core.Bool.{Bool, true, false, _&&_}
+use mathlib.Core.Bool.{Bool, _&&_}
 use Prim.Native.Nat.{ℕ, _+_, _*_, _%_, _^_}
 use lib.Dec.{eqb}
 use lib.Bits.{bitOr}

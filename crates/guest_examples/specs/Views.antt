@@ -1,7 +1,7 @@
 -- Not empty words: a view for each answer, and a pair of servers whose guests' tables rise, all by computation.
 use mathlib.Core.Path.{_≡_, refl}
 use mathlib.Core.Bool.{true, false}
-use mathlib.Core.List.{List, [], _∷_}
+use mathlib.Core.List.{[], _∷_}
 use Rattle.table.specs.declared.Refusal.the-variants.{SaveAreaOverflow, StateBeyondTable}
 use Rattle.table.specs.declared.Verdict.the-variants.{Accepted, Refused}
 use Rattle.table.specs.Table.{rowsIn}

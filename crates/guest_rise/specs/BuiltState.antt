@@ -10,7 +10,7 @@ use lib.Bits.{bitOr}
 use Rattle.bits.specs.Choice.{pick}
 use Rattle.bits.specs.ChoiceLaws.{and-both}
 use Rattle.bits.specs.Bits.{has, Within}
-use Rattle.bits.specs.BitsLaws.{within-eq, within-trans, has-mono, or-within-left}
+use Rattle.bits.specs.BitsLaws.{within-eq, within-trans, has-mono}
 use Rattle.x86defs.specs.declared.CpuidResult.{CpuidResult}
 use Rattle.masking.specs.Kept.{places}
 use Rattle.masking.specs.Place

@@ -1,5 +1,5 @@
 -- Refusals of what a guest sees, from pages: building's first, then 13 and 14, each if and only if its condition holds.
-use mathlib.Core.Path.{_≡_, refl, sym, ap, _∙_, subst}
+use mathlib.Core.Path.{_≡_, refl, sym, ap, subst}
 use mathlib.Core.Bool.{Bool}
 use mathlib.Core.List.{List}
 use mathlib.Core.Logic.{_↔_}
@@ -19,7 +19,6 @@ use Rattle.refusals.specs.Exactly.{FirstFault, BuildsExactly}
 use Rattle.refusals.specs.ExactlyProof.{builds-exactly, fault-number}
 use Rattle.guest.specs.declared.Processor.{Processor}
 use Rattle.guest.specs.declared.GuestAnswer.{GuestAnswer}
-use Rattle.guest.specs.State.{stateVerdict}
 use Rattle.guest.specs.Guest.{guestTable, refusedAnswer}
 use Rattle.guest_pages.specs.GuestPages.{guestPages, writeGuest}
 use Rattle.guest_pages.specs.GuestPagesLaws.{building-first, guest-verdict, refused-guest, given-guest}

@@ -17,7 +17,6 @@ use Rattle.rise.specs.RiseProof.{demand-3}
 use Rattle.guest.specs.declared.Processor.{Processor}
 use Rattle.guest.specs.declared.GuestAnswer.{GuestAnswer}
 use Rattle.guest.specs.State.{saveRegister, stateVerdict}
-use Rattle.guest.specs.Guest.{guestAnswer}
 use Rattle.guest_pages.specs.GuestPages.{guestPages}
 use Rattle.guest_pages.specs.GuestPagesLaws.{accepted-guest, guest-verdict, given-guest}
 use Rattle.guest_rise.specs.GuestRise.{compactsIn, GuestOutcome, GuestRise}

@@ -15,7 +15,7 @@ use Rattle.x86defs.specs.Functions.{result}
 use Rattle.masking.specs.Kept.{places, keptLeaves, slot}
 use Rattle.masking.specs.Place
 use Rattle.table.specs.declared.CpuidResults.{CpuidResults}
-use Rattle.table.specs.Rows.{Row, row}
+use Rattle.table.specs.Rows.{row}
 use Rattle.table.specs.Table.{rowIn, rowsIn}
 use Rattle.update.specs.Kinds.{registerKinds, kindsAt}
 use Rattle.guest.specs.declared.Processor.{Processor}

@@ -1,13 +1,12 @@
 -- Refusals 13 and 14 of rows in document 02's words: each is given exactly where it says, and the view is given exactly where neither is.
-use mathlib.Core.Path.{_≡_, refl, sym, _∙_}
-use mathlib.Core.Bool.{Bool, true, false, _&&_, _||_}
+use mathlib.Core.Path.{_≡_, refl}
+use mathlib.Core.Bool.{Bool, true, false, _||_}
 use mathlib.Core.Logic.{_⊎_, inl, inr}
-use Prim.Native.Nat.{ℕ, _^_, _≤_, _<_}
+use Prim.Native.Nat.{ℕ, _^_, _≤_}
 use native.Mathlib.Omega.{arith}
-use lib.Dec.{eqb, ltb}
-use lib.Bits.{bitAnd, bitOr}
+use lib.Dec.{ltb}
+use lib.Bits.{bitOr}
 use borrow.Author.Tests.{eqb-true, eq-eqb, ltb-true, ltb-false}
-use Rattle.bits.specs.Choice.{pick}
 use Rattle.bits.specs.ChoiceLaws.{never-both, and-left, and-right, and-both, pick-true, pick-false}
 use Rattle.bits.specs.Bits.{bit, has, Within}
 use Rattle.bits.specs.BitsLaws.{has-bit, bit-has, has-mono, within-of-and, and-of-within}

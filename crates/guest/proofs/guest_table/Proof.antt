@@ -1,6 +1,6 @@
 -- `guest::guest_table` meets its contract: the state's refusal, or the rows.
 use borrow.Author.Needs.{needs}
-use mathlib.Core.Path.{_≡_, sym, _∙_}
+use mathlib.Core.Path.{sym, _∙_}
 use Rattle.guest.specs.StateLaws.{verdict-registers}
 use Rattle.guest.specs.GuestLaws.{guest-refuses, guest-passes}
 use Rattle.guest.proofs.guest_table.Statement.{statement}

@@ -1,7 +1,7 @@
 -- `guest::state::compact_size` meets its contract: the size so far is that of the subleaves below k, and at most 576 and 2^33 for each.
 use borrow.Author.Needs.{needs}
 use mathlib.Core.Path.{_≡_, ap, _∙_}
-use Prim.Native.Nat.{ℕ, _+_, _-_, _*_, _^_, _≤_}
+use Prim.Native.Nat.{_+_, _-_, _*_, _^_, _≤_}
 use native.Mathlib.Omega.{arith}
 use Rattle.checks.specs.Parts.{resultsIn}
 use Rattle.guest.specs.Compact.{compactBelow}
