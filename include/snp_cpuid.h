@@ -25,6 +25,8 @@ extern "C" {
  *   4 INVLPGB is unavailable                       10 a list's length is under 8, or not 8 + 40 * its count
  *   5 a save-area size overflows                   11 a list has more than 64 rows for one page
  *                                                  12 a list's flag is not 0 or 1, or a word that is to be zero is not
+ *                                                  13 XCR0 or XSS is beyond the table
+ *                                                  14 a compacted save-area size overflows
  * A leaf, subleaf or s that the number does not name is 0. */
 
 /* What building gives. A refused table has row_count 0 and max_extended_state 0. */
@@ -101,6 +103,24 @@ struct snp_cpuid_written snp_cpuid_write_kvm(const uint8_t *pages, size_t length
  * as EAX_IN and index as ECX_IN, all other bytes of the pages 0. Refusals in this order: 10, 12, 11, 9. Where it refuses, out is as it was;
  * bytes beyond the pages are as they were. */
 struct snp_cpuid_written snp_cpuid_read_kvm(const uint8_t *list, size_t length, uint8_t *out, size_t room);
+/* What the guest of one processor sees, which differs from the paravisor's row. The functions below take the processor's x2APIC number,
+ * its XCR0 and XSS, and whether OSXSAVE is on. Of the table of the pages, 1.EBX bits 24-31, B.0.EDX and B.1.EDX have the number; 1.ECX
+ * bit 27 is set where osxsave is true and bit 26 is set; D.0.EBX is the size of the save area of XCR0, and D.1.EBX that of the compacted
+ * area of XCR0 and XSS, or 0 where the processor has neither XSAVEC nor XSAVES. After building's refusals: 13 where XCR0 lacks bit 0 or
+ * has a bit that D.0.EAX lacks, or XSS one that D.1.ECX lacks; then 14 where the compacted size does not fit 32 bits. */
+
+/* Builds, and tells whether the guest is given its table, which has the rows and the mask of the paravisor's. */
+struct snp_cpuid_built snp_cpuid_guest_build(const uint8_t *pages, size_t length, bool secure_avic, uint32_t x2apic, uint64_t xcr0,
+                                             uint64_t xss, bool osxsave);
+
+/* Builds, and looks a row up in the guest's table as snp_cpuid_lookup does. Nothing is found where the answer is a refusal. */
+struct snp_cpuid_found snp_cpuid_guest_lookup(const uint8_t *pages, size_t length, bool secure_avic, uint32_t x2apic, uint64_t xcr0,
+                                              uint64_t xss, bool osxsave, uint32_t leaf, bool has_subleaf, uint32_t subleaf,
+                                              bool enforce_subleaf);
+
+/* Builds, and writes the image of the guest's table at the front of out, as snp_cpuid_write_image does; 9 comes after 13 and 14. */
+struct snp_cpuid_written snp_cpuid_write_guest_image(const uint8_t *pages, size_t length, bool secure_avic, uint32_t x2apic, uint64_t xcr0,
+                                                     uint64_t xss, bool osxsave, uint8_t *out, size_t room);
 
 /* Compares two servers by their pages, under one choice of secure AVIC: may a guest of A move to B? Registers are compared as masked.
  * After a yes, building B gives a table with every row of A's, at least A's bits in every feature register, a save area no smaller and

@@ -19,6 +19,7 @@ mod answer;
 mod comparison;
 pub mod exports;
 mod kvm;
+mod guest;
 mod refusal;
 mod table;
 
@@ -26,6 +27,7 @@ use answer::Answer;
 
 pub use comparison::{Comparison, Register};
 pub use kvm::{KVM_PAGES_BYTES, MOST_KVM_BYTES, read_kvm, write_kvm};
+pub use guest::{Processor, guest, guest_lookup, write_guest_image};
 pub use refusal::{Details, Refusal, TopologyError};
 pub use table::{CpuidResult, Row, Rows, Table};
 
@@ -58,7 +60,7 @@ pub fn lookup(pages: &[u8], secure_avic: bool, leaf: u32, subleaf: Option<u32>, 
     let found = unsafe {
         exports::snp_cpuid_lookup(pages.as_ptr(), pages.len(), secure_avic, leaf, subleaf.is_some(), subleaf.unwrap_or(0), enforce_subleaf)
     };
-    (found.found != 0).then_some(CpuidResult { eax: found.eax, ebx: found.ebx, ecx: found.ecx, edx: found.edx })
+    found.result()
 }
 
 /// Compares two servers by their pages, under one choice of secure AVIC: may a guest of `a` move to `b`?

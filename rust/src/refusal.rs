@@ -26,6 +26,10 @@ pub enum Refusal {
     ListRows,
     /// 12: a flag of a list is not 0 or 1, or a word that is to be zero is not.
     ListFields,
+    /// 13: XCR0 lacks bit 0, or XCR0 or XSS has a bit that the table does not.
+    StateBeyondTable,
+    /// 14: the size of the compacted save area of XCR0 and XSS does not fit 32 bits.
+    CompactSizeTooLarge,
 }
 
 /// How the topology leaves disagree. The number is s, bits 12 to 15 of 80000008h.ECX: the size of the APIC core id.
@@ -110,6 +114,16 @@ const TABLE: &[Line] = &[
         name: |_| Refusal::ListFields,
         words: |_| "the list for KVM has a flag other than 0 or 1, or a word that must be zero is not".into(),
     },
+    Line {
+        number: 13,
+        name: |_| Refusal::StateBeyondTable,
+        words: |_| "XCR0 lacks bit 0 (x87) or has a bit that D.0.EAX lacks, or XSS has a bit that D.1.ECX lacks".into(),
+    },
+    Line {
+        number: 14,
+        name: |_| Refusal::CompactSizeTooLarge,
+        words: |_| "the size of the compacted save area of XCR0 and XSS (D.1.EBX) does not fit 32 bits".into(),
+    },
 ];
 
 impl Refusal {
@@ -131,7 +145,9 @@ impl Refusal {
             | Refusal::BufferTooShort
             | Refusal::ListLength
             | Refusal::ListRows
-            | Refusal::ListFields => Details::default(),
+            | Refusal::ListFields
+            | Refusal::StateBeyondTable
+            | Refusal::CompactSizeTooLarge => Details::default(),
         }
     }
 
@@ -203,6 +219,8 @@ mod tests {
             (10, none, Refusal::ListLength),
             (11, none, Refusal::ListRows),
             (12, none, Refusal::ListFields),
+            (13, none, Refusal::StateBeyondTable),
+            (14, none, Refusal::CompactSizeTooLarge),
         ] {
             assert_eq!((refusal.number(), refusal.details()), (number, named));
             assert_eq!(Refusal::of(number, named), refusal);

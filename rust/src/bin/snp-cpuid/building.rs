@@ -4,7 +4,7 @@ use crate::arguments::Arguments;
 use crate::failure::Failure;
 use crate::input::{read, shown};
 use crate::option::Opt;
-use snp_cpuid::{Comparison, MOST_KVM_BYTES, Refusal, Table};
+use snp_cpuid::{Comparison, MOST_KVM_BYTES, Processor, Refusal, Table};
 use std::ffi::OsStr;
 use std::fmt::Display;
 
@@ -46,6 +46,14 @@ impl Building {
     /// The table of a file of pages.
     pub fn table(&self, file: &OsStr) -> Result<Table, Failure> {
         self.build(&read(file)?).map_err(|refusal| self.refused(shown(file), refusal))
+    }
+
+    /// The table of a file of pages as a processor's guest sees it; as the paravisor has it where no processor is given.
+    pub fn seen(&self, file: &OsStr, processor: Option<Processor>) -> Result<Table, Failure> {
+        match processor {
+            None => self.table(file),
+            Some(processor) => snp_cpuid::guest(&read(file)?, self.secure_avic, processor).map_err(|refusal| self.refused(shown(file), refusal)),
+        }
     }
 
     /// The refusal of a page set: its number, words, and what it carries. "Those not named are 0 or none" (document 01).

@@ -3,6 +3,7 @@
 mod compare;
 mod from_dump;
 mod from_kvm;
+mod guest;
 mod image;
 mod lookup;
 mod table;
@@ -17,6 +18,7 @@ pub const ALL: &[Command] = &[
     table::COMMAND,
     image::COMMAND,
     lookup::COMMAND,
+    guest::COMMAND,
     from_dump::COMMAND,
     to_dump::COMMAND,
     from_kvm::COMMAND,
