@@ -104,7 +104,7 @@ comparison-of-exports = exports-compare
 pub fourteen-rows : marked
     ≡ core 0 1
     ∷ refusal 6
-    ∷ core 1 3
+    ∷ core 2 3
     ∷ refusal 7
     ∷ core 7 128
     ∷ refusal 7
