@@ -1,5 +1,5 @@
 -- The loops that look for the first row that is missing: a turn passes a number, or stops there; after the last, all is accepted.
-use mathlib.Core.Path.{_≡_, refl, sym, ap}
+use mathlib.Core.Path.{_≡_, refl, sym, ap, _∙_}
 use mathlib.Core.Bool.{Bool, true, false, not, _&&_}
 use mathlib.Core.List.{List}
 use Prim.Native.Nat.{ℕ, _+_, _-_, _/_, _^_, _≤_, _<_}
@@ -11,20 +11,16 @@ use Rattle.bits.specs.Choice.{pick}
 use Rattle.bits.specs.Search.{Failing, lowest, every}
 use Rattle.bits.specs.SearchLaws.{every-at, lowest-all, lowest-passes, lowest-stops}
 use Rattle.bits.specs.Lists.{tabulate}
-use Rattle.bits.specs.ListsLaws.{getD-tabulate}
+use Rattle.bits.specs.ListsLaws.{getD-tabulate, tabulate-at}
 use Rattle.bits.specs.Bits.{has}
-use Rattle.x86defs.specs.Functions.{function}
-use Rattle.masking.specs.Kept.{keptLeaves, placeOf, places}
+use Rattle.masking.specs.Kept.{keptLeaves, placeOf, places, slot, leafAt, indexedAt, subleafAt}
 use Rattle.masking.specs.Place
 use Rattle.table.specs.declared.Refusal.{Refusal}
 use Rattle.table.specs.declared.Refusal.the-variants.{MissingRequiredResult}
-use Rattle.table.specs.declared.Subleaf.{Subleaf}
-use Rattle.table.specs.declared.Subleaf.the-variants.{None, Some}
 use Rattle.table.specs.declared.Verdict.{Verdict}
 use Rattle.table.specs.declared.Verdict.the-variants.{Accepted, Refused}
-use Rattle.checks.specs.declared.required.RequiredLeaf.{RequiredLeaf}
 use Rattle.table.specs.Rows.{Rows}
-use Rattle.checks.specs.Required.{commonRequiredLeaves, snpRequiredLeaves, subleafNumber, requiredAt, requiredCount, placeRequired}
+use Rattle.checks.specs.Required.{commonRequiredLeaves, snpRequiredLeaves, requiredAt, requiredCount, placeRequired}
 use Rattle.checks.specs.ExtendedState.{supplied}
 use Rattle.checks.specs.Checks.{refuseAt, missingRequired, missingComponent}
 use Rattle.checks.specs.MaskLaws.{none-from}
@@ -47,15 +43,10 @@ module _ (test : ℕ → Bool) (reason : ℕ → Refusal) (n k : ℕ) where
   unfolding refuseFrom
   scan-ends f = rw (lowest-all test k (n - k) (λ j l h. f j l (omega arith)))
 
--- ---- the required leaves, as the code's table has them
+-- ---- the required leaves, as the code has their places
 
-abbrev indexed : Subleaf → Bool
-indexed None = false
-indexed (Some k) = true
-
-subleaf-again : (s : Subleaf) → subleafWith (indexed s) (subleafNumber s) ≡ s
-subleaf-again None = refl
-subleaf-again (Some k) = refl
+unfoldable pub requiredPlaces : List ℕ
+requiredPlaces = tabulate requiredCount placeRequired
 
 all-placed : every (λ j. ltb (placeRequired j) places) requiredCount ≡ true
 unfolding placeRequired requiredAt commonRequiredLeaves snpRequiredLeaves placeOf keptLeaves
@@ -64,37 +55,34 @@ all-placed = refl
 required-place : (j : ℕ) → j < requiredCount → placeRequired j < places
 required-place j l = ltb-true (placeRequired j) places (every-at (λ i. ltb (placeRequired i) places) requiredCount all-placed j l)
 
-abbrev pub requiredRow : ℕ → RequiredLeaf
-requiredRow j = record {
-  0 = requiredAt j .leaf .0;
-  1 = indexed (requiredAt j .subleaf);
-  2 = subleafNumber (requiredAt j .subleaf);
-  3 = placeRequired j;
-}
+-- the refusal of a table without a row at place i
+abbrev pub missingAt : ℕ → Refusal
+missingAt i = MissingRequiredResult (leafAt i) (subleafWith (indexedAt i) (subleafAt i))
 
-unfoldable pub requiredRows : List RequiredLeaf
-requiredRows = tabulate requiredCount requiredRow
+-- the place of a required leaf leads back to it
+required-missing : (j : ℕ) → j < requiredCount → missingAt (placeRequired j) ≡ missingRequired j
+unfolding placeRequired requiredAt commonRequiredLeaves snpRequiredLeaves placeOf slot keptLeaves tabulate
+required-missing j l = tabulate-at requiredCount (λ i. missingAt (placeRequired i)) missingRequired refl j l
 
 -- the search among them, from row j on
 abbrev pub requiredFrom : List Bool → ℕ → Verdict
 requiredFrom p j = refuseFrom (λ i. getD p (placeRequired i) false) missingRequired requiredCount j
 
--- one turn, at row j of the code's table l
-module _ (p : List Bool) {l : List RequiredLeaf} (j : ℕ) (d : RequiredLeaf) (e : l ≡ requiredRows) (h : j < requiredCount) where
-  row : getD l j d ≡ requiredRow j
-  unfolding requiredRows
-  row = rw e (getD-tabulate requiredCount requiredRow j d h)
+-- one turn, at row j of the code's places l
+module _ (p : List Bool) {l : List ℕ} (j : ℕ) (e : l ≡ requiredPlaces) (h : j < requiredCount) where
+  row : getD l j 0 ≡ placeRequired j
+  unfolding requiredPlaces
+  row = rw e (getD-tabulate requiredCount placeRequired j 0 h)
 
-  pub required-row-place : getD l j d .3 < places
+  pub required-row-place : getD l j 0 < places
   required-row-place = rw row (required-place j h)
 
-  pub required-passes : getD p (getD l j d .3) false ≡ true → requiredFrom p j ≡ requiredFrom p (j + 1)
+  pub required-passes : getD p (getD l j 0) false ≡ true → requiredFrom p j ≡ requiredFrom p (j + 1)
   required-passes t = scan-passes _ missingRequired requiredCount j h (rw row at t)
 
-  pub required-stops : {s : Subleaf} → getD p (getD l j d .3) false ≡ false → s ≡ subleafWith (getD l j d .1) (getD l j d .2)
-      → Refused (MissingRequiredResult (function (getD l j d .0)) s) ≡ requiredFrom p j
-  required-stops t f =
-      rw (f, row, subleaf-again (requiredAt j .subleaf)) (sym (scan-stops _ missingRequired requiredCount j h (rw row at t)))
+  pub required-stops : getD p (getD l j 0) false ≡ false → Refused (missingAt (getD l j 0)) ≡ requiredFrom p j
+  required-stops t =
+      ap (λ (i : ℕ). Refused (missingAt i)) row ∙ ap Refused (required-missing j h) ∙ sym (scan-stops _ missingRequired requiredCount j h (rw row at t))
 
 pub required-ends : (p : List Bool) (j : ℕ) → requiredCount ≤ j → Accepted ≡ requiredFrom p j
 required-ends p j h = sym (scan-ends _ missingRequired requiredCount j (λ i l u. absurd (omega arith)))

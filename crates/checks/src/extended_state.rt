@@ -7,6 +7,7 @@ use table::Subleaf;
 use table::Verdict;
 use x86defs::CpuidFunction;
 use x86defs::CpuidResult;
+use x86defs::leaf;
 use x86defs::xsave_c;
 use x86defs::xsave_s;
 ghost use mathlib.Core.Path.{_≡_};
@@ -48,7 +49,7 @@ pub fn process_extended_state_subleaves(present: [bool; PLACES], mask: u64) -> V
         let place = place::EXTENDED_STATE_0 + k as usize;
         if bits::has_bit64(mask, k) & !present[place] {
             return Verdict::Refused(Refusal::MissingRequiredResult(
-                CpuidFunction(0xD),
+                CpuidFunction(leaf::EXTENDED_STATE_ENUMERATION),
                 Subleaf::Some(k),
             ));
         }

@@ -1,42 +1,43 @@
 // The required leaves. Which places have a row comes in; the first required leaf without one, or nothing, goes out.
 use masking::PLACES;
+use masking::place;
 use table::Refusal;
 use table::Subleaf;
 use table::Verdict;
-use x86defs::CpuidFunction;
 ghost use mathlib.Core.Path.{_≡_};
+ghost use Prim.Native.Nat.{_<_};
+ghost use Rattle.masking.specs.Kept.{places};
 ghost use Rattle.checks.specs.Checks.{requiredVerdict};
 ghost use Rattle.checks.specs.Parts.{presentIn, subleafWith};
+ghost use Rattle.checks.specs.ScanLaws.{missingAt};
 
-// A required leaf: its number, whether it has subleaves, which, and the place of its row.
-pub struct RequiredLeaf(pub u32, pub bool, pub u32, pub usize);
-
-// COMMON_REQUIRED_LEAVES of mod.rs, then SNP_REQUIRED_LEAVES of snp.rs.
-const REQUIRED_LEAVES: [RequiredLeaf; 24] = [
-    RequiredLeaf(0x1, false, 0, 1),
-    RequiredLeaf(0x5, false, 0, 2),
-    RequiredLeaf(0x7, true, 0, 3),
-    RequiredLeaf(0xB, true, 0, 4),
-    RequiredLeaf(0xB, true, 1, 5),
-    RequiredLeaf(0x80000001, false, 0, 71),
-    RequiredLeaf(0x80000005, false, 0, 75),
-    RequiredLeaf(0x80000006, false, 0, 76),
-    RequiredLeaf(0x80000007, false, 0, 77),
-    RequiredLeaf(0x80000008, false, 0, 78),
-    RequiredLeaf(0x80000002, false, 0, 72),
-    RequiredLeaf(0x80000003, false, 0, 73),
-    RequiredLeaf(0x80000004, false, 0, 74),
-    RequiredLeaf(0xD, true, 0, 6),
-    RequiredLeaf(0xD, true, 1, 7),
-    RequiredLeaf(0x8000001F, false, 0, 87),
-    RequiredLeaf(0x8000000A, false, 0, 79),
-    RequiredLeaf(0x80000019, false, 0, 80),
-    RequiredLeaf(0x8000001A, false, 0, 81),
-    RequiredLeaf(0x8000001D, true, 0, 82),
-    RequiredLeaf(0x8000001D, true, 1, 83),
-    RequiredLeaf(0x8000001D, true, 2, 84),
-    RequiredLeaf(0x8000001D, true, 3, 85),
-    RequiredLeaf(0x8000001E, false, 0, 86),
+// The places of COMMON_REQUIRED_LEAVES of mod.rs, then of SNP_REQUIRED_LEAVES of snp.rs. As bytes, because the table is written out anew
+// by each call.
+const REQUIRED_PLACES: [u8; 24] = [
+    place::VERSION_AND_FEATURES as u8,
+    place::MONITOR_MWAIT as u8,
+    place::EXTENDED_FEATURES as u8,
+    place::THREAD_LEVEL as u8,
+    place::CORE_LEVEL as u8,
+    place::EXTENDED_VERSION_AND_FEATURES as u8,
+    place::EXTENDED_L1_CACHE_PARAMETERS as u8,
+    place::EXTENDED_L2_CACHE_PARAMETERS as u8,
+    place::EXTENDED_POWER_MANAGEMENT as u8,
+    place::EXTENDED_ADDRESS_SPACE_SIZES as u8,
+    place::EXTENDED_BRANDING_STRING_1 as u8,
+    place::EXTENDED_BRANDING_STRING_2 as u8,
+    place::EXTENDED_BRANDING_STRING_3 as u8,
+    place::EXTENDED_STATE_0 as u8,
+    place::EXTENDED_STATE_1 as u8,
+    place::EXTENDED_SEV_FEATURES as u8,
+    place::EXTENDED_SVM_VERSION_AND_FEATURES as u8,
+    place::EXTENDED_TLB1GB_IDENTIFIERS as u8,
+    place::EXTENDED_OPTIMIZATION_IDENTIFIERS as u8,
+    place::CACHE_TOPOLOGY_0 as u8,
+    place::CACHE_TOPOLOGY_0 as u8 + 1,
+    place::CACHE_TOPOLOGY_0 as u8 + 2,
+    place::CACHE_TOPOLOGY_0 as u8 + 3,
+    place::PROCESSOR_TOPOLOGY_DEFINITION as u8,
 ];
 
 // A subleaf, where the leaf has them.
@@ -49,20 +50,27 @@ fn subleaf_of(indexed: bool, number: u32) -> Subleaf
     Subleaf::None
 }
 
+// The refusal of a table without a row at a place.
+fn missing_at(place: usize) -> Verdict
+    requires { ⌜ place < places ⌝ }
+    ensures { λ r. ⌜ r ≡ Verdict.Refused (missingAt place) ⌝ }
+{
+    let subleaf = subleaf_of(masking::indexed_at(place), masking::subleaf_at(place));
+    Verdict::Refused(Refusal::MissingRequiredResult(masking::leaf_at(place), subleaf))
+}
+
 // The first required leaf, in list order, that has no row.
 pub fn validate_required(present: [bool; PLACES]) -> Verdict
     ensures { λ r. ⌜ r ≡ requiredVerdict (presentIn present) ⌝ }
 {
-    let required = REQUIRED_LEAVES;
+    let required = REQUIRED_PLACES;
     let mut j: usize = 0;
     while j < 24 {
-        let row = required[j];
-        let place = row.3;
+        let place = required[j] as usize;
         if present[place] {
             j += 1;
         } else {
-            let subleaf = subleaf_of(row.1, row.2);
-            return Verdict::Refused(Refusal::MissingRequiredResult(CpuidFunction(row.0), subleaf));
+            return missing_at(place);
         }
     }
     Verdict::Accepted

@@ -1,6 +1,6 @@
 -- Collecting entry by entry, where the first at a place wins, gives the masked first entry of every place.
 use mathlib.Core.Path.{_≡_, refl, sym, ap, ap₂, _∙_, subst, fun-ext}
-use mathlib.Core.Bool.{Bool, true, false, not, _||_}
+use mathlib.Core.Bool.{Bool, true, false}
 use mathlib.Core.List.{List, [], _∷_}
 use mathlib.Core.Logic.{_≢_}
 use Prim.Native.Nat.{ℕ, _≤_, _<_}
@@ -14,11 +14,11 @@ use Rattle.bits.specs.ChoiceLaws.{never-both, pick-same, pick-true, pick-false}
 use Rattle.bits.specs.Lists.{tabulate, keepIf}
 use Rattle.bits.specs.ListsLaws.{tabulated, getD-tabulate, length-tabulate}
 use Rattle.x86defs.specs.declared.CpuidResult.{CpuidResult}
-use Rattle.x86defs.specs.Functions.{result, sameFunction, ExtendedStateEnumeration}
+use Rattle.x86defs.specs.Functions.{result}
 use Rattle.pages.specs.declared.ParsedCpuidEntry.{ParsedCpuidEntry}
 use Rattle.pages.specs.declared.CpuidPageIndex.{CpuidPageIndex}
 use Rattle.pages.specs.Layout.{Entry, entryAt, pagesIn}
-use Rattle.pages.specs.Walk.{parsed, firstIndex, incremented, rest}
+use Rattle.pages.specs.Walk.{parsed, countsRead, firstIndex, incremented, rest}
 use Rattle.pages.specs.WalkLaws.{Valid, Turn, turn, first-valid, rest-first, rest-end}
 use Rattle.pages.specs.Entries.{entries, counts, counted}
 use Rattle.masking.specs.declared.KeptLeaf.{KeptLeaf}
@@ -36,13 +36,13 @@ use Rattle.collect.specs.FirstEntries.{placeOfEntry, firstAt, setLegacy,
 unfoldable pub storedAt : Entry → ℕ
 storedAt e = pick (counts e) (placeOfEntry e) places
 
--- the same from what the code takes of an entry, and its page
-unfoldable pub countedPlace : ℕ → ParsedCpuidEntry → ℕ
-countedPlace p e = pick (not (sameFunction (e .leaf) ExtendedStateEnumeration) || eqb p 1) (placeOf (e .leaf) (e .subleaf)) places
+-- the same from what the reader gives of an entry
+unfoldable pub countedPlace : ParsedCpuidEntry → ℕ
+countedPlace e = pick (countsRead e) (placeOf (e .leaf) (e .subleaf)) places
 
-pub counted-place-stored : (s : List ℕ) (p q : ℕ) → countedPlace p (parsed (entryAt s p q)) ≡ storedAt (entryAt s p q)
-unfolding countedPlace storedAt counts entryAt
-counted-place-stored s p q = refl
+pub counted-place-stored : (e : Entry) → countedPlace (parsed e) ≡ storedAt e
+unfolding countedPlace storedAt counts
+counted-place-stored e = refl
 
 -- a table with a row stored at place i; past the last nothing changes
 abbrev pub store : CpuidResults → ℕ → CpuidResult → CpuidResults

@@ -5,6 +5,7 @@ use masking::place;
 use pages::ParsedCpuidEntry;
 use table::CpuidResults;
 use x86defs::CpuidResult;
+use x86defs::leaf;
 ghost use mathlib.Core.Path.{_≡_};
 ghost use mathlib.Core.Bool.{true};
 ghost use Rattle.pages.specs.Layout.{countsFit};
@@ -13,17 +14,15 @@ ghost use Rattle.masking.specs.KeptTable.{masksOf};
 ghost use Rattle.collect.specs.FirstEntries.{setLegacy};
 ghost use Rattle.collect.specs.Collect.{collected, countedPlace};
 
-const EXTENDED_STATE: u32 = 0xD;
-
 const LEGACY_FEATURES: u32 = 3;
 
-// The place of an entry, or 88 where its leaf is filtered or, for leaf Dh, it does not stand on page 1.
-fn counted_place(page: usize, entry: ParsedCpuidEntry) -> usize
-    ensures { λ r. ⌜ r ≡ countedPlace page entry ⌝ }
+// The place of an entry, or 88 where its leaf is filtered or it does not count: leaf Dh counts on page 1 alone.
+fn counted_place(entry: ParsedCpuidEntry) -> usize
+    ensures { λ r. ⌜ r ≡ countedPlace entry ⌝ }
 {
     let leaf = entry.leaf;
-    if leaf.0 == EXTENDED_STATE {
-        if page == 1 {
+    if leaf.0 == leaf::EXTENDED_STATE_ENUMERATION {
+        if entry.page == 1 {
             return masking::place_of(leaf, entry.subleaf);
         }
         return PLACES;
@@ -61,7 +60,7 @@ pub fn collect(pages: &[u8], secure_avic: bool) -> CpuidResults
         while index.page_index == page {
             let taken = reader::take(pages, index);
             let entry = taken.found;
-            let place = counted_place(page, entry);
+            let place = counted_place(entry);
             if place < PLACES {
                 if t.present[place] {} else {
                     let row = masking::mask_row(place);

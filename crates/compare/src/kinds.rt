@@ -1,5 +1,6 @@
 // How demand 3 compares each register. A place comes in; the kinds of its four registers go out, and two values of a register are held
 // against each other by its kind.
+use masking::place;
 use x86defs::mt_per_socket;
 ghost use mathlib.Core.Path.{_≡_};
 ghost use Prim.Native.Nat.{_<_};
@@ -38,22 +39,54 @@ pub fn kinds_at(place: usize) -> Kinds
     ensures { λ r. ⌜ kindsIn r ≡ kindsAt place ⌝ }
 {
     match place {
-        0 => row_of(Kind::Freed, Kind::Freed, Kind::Freed, Kind::Freed),
-        1 => row_of(Kind::Other, Kind::Other, Kind::Feature, Kind::FeatureBut28),
-        2 => row_of(Kind::Other, Kind::Other, Kind::Other, Kind::Other),
-        3 => row_of(Kind::Other, Kind::Feature, Kind::Feature, Kind::Feature),
-        4..=5 => row_of(Kind::Freed, Kind::Freed, Kind::Freed, Kind::Freed),
-        6 => row_of(Kind::Feature, Kind::Other, Kind::Area, Kind::Other),
-        7 => row_of(Kind::Feature, Kind::Other, Kind::Feature, Kind::Other),
-        8..=69 => row_of(Kind::Other, Kind::Other, Kind::Other, Kind::Other),
-        70 => row_of(Kind::Freed, Kind::Freed, Kind::Freed, Kind::Freed),
-        71 => row_of(Kind::Other, Kind::Other, Kind::Feature, Kind::Feature),
-        72..=77 => row_of(Kind::Other, Kind::Other, Kind::Other, Kind::Other),
-        78 => row_of(Kind::Other, Kind::Feature, Kind::Other, Kind::Other),
-        79..=80 => row_of(Kind::Other, Kind::Other, Kind::Other, Kind::Other),
-        81 => row_of(Kind::Feature, Kind::Other, Kind::Other, Kind::Other),
-        82..=86 => row_of(Kind::Other, Kind::Other, Kind::Other, Kind::Other),
-        _ => row_of(Kind::Feature, Kind::Other, Kind::Other, Kind::Other),
+        place::VENDOR_AND_MAX_FUNCTION => row_of(
+            Kind::Freed,
+            Kind::Freed,
+            Kind::Freed,
+            Kind::Freed,
+        ),
+        place::VERSION_AND_FEATURES => row_of(
+            Kind::Other,
+            Kind::Other,
+            Kind::Feature,
+            Kind::FeatureBut28,
+        ),
+        place::EXTENDED_FEATURES => row_of(
+            Kind::Other,
+            Kind::Feature,
+            Kind::Feature,
+            Kind::Feature,
+        ),
+        place::THREAD_LEVEL => row_of(Kind::Freed, Kind::Freed, Kind::Freed, Kind::Freed),
+        place::CORE_LEVEL => row_of(Kind::Freed, Kind::Freed, Kind::Freed, Kind::Freed),
+        place::EXTENDED_STATE_0 => row_of(Kind::Feature, Kind::Other, Kind::Area, Kind::Other),
+        place::EXTENDED_STATE_1 => row_of(Kind::Feature, Kind::Other, Kind::Feature, Kind::Other),
+        place::EXTENDED_MAX_FUNCTION => row_of(Kind::Freed, Kind::Freed, Kind::Freed, Kind::Freed),
+        place::EXTENDED_VERSION_AND_FEATURES => row_of(
+            Kind::Other,
+            Kind::Other,
+            Kind::Feature,
+            Kind::Feature,
+        ),
+        place::EXTENDED_ADDRESS_SPACE_SIZES => row_of(
+            Kind::Other,
+            Kind::Feature,
+            Kind::Other,
+            Kind::Other,
+        ),
+        place::EXTENDED_OPTIMIZATION_IDENTIFIERS => row_of(
+            Kind::Feature,
+            Kind::Other,
+            Kind::Other,
+            Kind::Other,
+        ),
+        place::EXTENDED_SEV_FEATURES => row_of(
+            Kind::Feature,
+            Kind::Other,
+            Kind::Other,
+            Kind::Other,
+        ),
+        _ => row_of(Kind::Other, Kind::Other, Kind::Other, Kind::Other),
     }
 }
 
@@ -63,9 +96,8 @@ pub fn from_entry(place: usize) -> bool
     ensures { λ r. ⌜ r ≡ fromEntry (ruleAt place) ⌝ }
 {
     match place {
-        0 => false,
-        1..=69 => true,
-        70 => false,
+        place::VENDOR_AND_MAX_FUNCTION => false,
+        place::EXTENDED_MAX_FUNCTION => false,
         _ => true,
     }
 }

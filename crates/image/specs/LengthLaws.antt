@@ -13,6 +13,7 @@ use Rattle.bits.specs.ChoiceLaws.{and-left, and-right}
 use Rattle.bits.specs.Lists.{sumTo, one}
 use Rattle.bits.specs.Search.{every}
 use Rattle.masking.specs.Kept.{keptLeaves, slot, places, indexedAt}
+use Rattle.masking.specs.Place
 use Rattle.table.specs.declared.CpuidResults.{CpuidResults}
 use Rattle.table.specs.Rows.{Row}
 use Rattle.table.specs.Table.{rowIn}
@@ -68,17 +69,22 @@ module _ (t : CpuidResults) where
 
   pub image-length :
       length (image t)
-      ≡ 21 * (rowsAmong (t .present) 0 3 + rowsAmong (t .present) 70 82 + rowsAmong (t .present) 86 88)
-      + 25 * (rowsAmong (t .present) 3 70 + rowsAmong (t .present) 82 86)
+      ≡ 21
+      * (rowsAmong (t .present) 0 Place.extendedFeatures
+      + rowsAmong (t .present) Place.extendedMaxFunction (Place.cacheTopology 0)
+      + rowsAmong (t .present) Place.processorTopologyDefinition places)
+      + 25
+      * (rowsAmong (t .present) Place.extendedFeatures Place.extendedMaxFunction
+      + rowsAmong (t .present) (Place.cacheTopology 0) Place.processorTopologyDefinition)
   unfolding rowsAmong slot keptLeaves
   image-length =
       omega (
         arith,
         ap length (rows-all t),
-        stretch 21 0 3 (lit≤ tt) refl,
-        stretch 25 3 67 (lit≤ tt) refl,
-        stretch 21 70 12 (lit≤ tt) refl,
-        stretch 25 82 4 (lit≤ tt) refl,
-        stretch 21 86 2 (lit≤ tt) refl,
+        stretch 21 0 Place.extendedFeatures (lit≤ tt) refl,
+        stretch 25 Place.extendedFeatures 67 (lit≤ tt) refl,
+        stretch 21 Place.extendedMaxFunction 12 (lit≤ tt) refl,
+        stretch 25 (Place.cacheTopology 0) 4 (lit≤ tt) refl,
+        stretch 21 Place.processorTopologyDefinition 2 (lit≤ tt) refl,
         ap length (rows-none t),
       )

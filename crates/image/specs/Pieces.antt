@@ -1,27 +1,26 @@
 -- The image piece by piece, as it is written. Each piece is a name that stays shut, so that a contract shows one list and not its bytes.
-use mathlib.Core.Bool.{Bool, false, not, _&&_}
+use mathlib.Core.Bool.{Bool, false}
 use mathlib.Core.List.{List, [], _∷_, _++_}
-use Prim.Native.Nat.{ℕ, _+_, _-_, _^_}
-use lib.Dec.{eqb, leb, ltb}
+use Prim.Native.Nat.{ℕ, _+_, _-_}
 use lib.ListN.{drop, getD}
 use Rattle.bits.specs.Choice.{pick}
 use Rattle.bits.specs.Lists.{sumTo, one}
-use Rattle.bits.specs.Search.{every}
+use Rattle.x86defs.specs.declared.CpuidFunction.{CpuidFunction}
 use Rattle.x86defs.specs.declared.CpuidResult.{CpuidResult}
-use Rattle.masking.specs.Kept.{places, leafAt, indexedAt, subleafAt}
+use Rattle.x86defs.specs.Functions.{function}
+use Rattle.masking.specs.declared.run.Run.{Run}
 use Rattle.table.specs.declared.CpuidResults.{CpuidResults}
-use Rattle.image.specs.declared.Run.{Run}
 use Rattle.buffer.specs.Front.{bytesOf, resultBytes}
 use Rattle.table.specs.Order.{rowOrder}
 use Rattle.image.specs.Image.{imageIn}
 
 -- ---- rows
 
-unfoldable pub indexedRow : ℕ → ℕ → CpuidResult → List ℕ
-indexedRow leaf subleaf r = 2 ∷ bytesOf leaf ++ bytesOf subleaf ++ resultBytes r
+unfoldable pub indexedRow : CpuidFunction → ℕ → CpuidResult → List ℕ
+indexedRow leaf subleaf r = 2 ∷ bytesOf (leaf .0) ++ bytesOf subleaf ++ resultBytes r
 
-unfoldable pub wholeRow : ℕ → CpuidResult → List ℕ
-wholeRow leaf r = 1 ∷ bytesOf leaf ++ resultBytes r
+unfoldable pub wholeRow : CpuidFunction → CpuidResult → List ℕ
+wholeRow leaf r = 1 ∷ bytesOf (leaf .0) ++ resultBytes r
 
 -- the rows from place i on: what is left to write
 unfoldable pub rowsFrom : CpuidResults → ℕ → List ℕ
@@ -33,20 +32,6 @@ rowsAmong present first end = sumTo (λ k. one (getD present (first + k) false))
 
 -- ---- runs of places
 
-abbrev pub run : ℕ → ℕ → ℕ → Bool → Run
-run first end leaf indexed = record { first = first; end = end; leaf = leaf; indexed = indexed }
-
 -- the row of the k-th place of a run
 unfoldable pub runRow : Run → ℕ → Bool → CpuidResult → List ℕ
-runRow g k present r = pick present (pick (g .indexed) (indexedRow (g .leaf) k r) (wholeRow (g .leaf + k) r)) []
-
--- whether place i has this leaf with the subleaf k, or, without one, the k-th leaf after it
-abbrev pub stands : Bool → ℕ → ℕ → ℕ → Bool
-stands indexed leaf k i =
-    pick indexed (indexedAt i && (eqb (leafAt i .0) leaf && eqb (subleafAt i) k)) (not (indexedAt i) && eqb (leafAt i .0) (leaf + k))
-
--- whether the places of a run are what it says
-unfoldable pub lawful : Run → Bool
-lawful g =
-    leb (g .end) places
-    && (ltb (g .leaf + places) (2 ^ 32) && every (λ k. stands (g .indexed) (g .leaf) k (g .first + k)) (g .end - g .first))
+runRow g k present r = pick present (pick (g .indexed) (indexedRow (g .leaf) k r) (wholeRow (function (g .leaf .0 + k)) r)) []

@@ -1,33 +1,33 @@
 -- The pieces put together: stores one after another are one run of stores, a run gives each of its places its row, and the rows from
 -- place 0 on are the image.
 use mathlib.Core.Path.{_≡_, refl, ap, _∙_}
-use mathlib.Core.Bool.{Bool, true, false, not}
+use mathlib.Core.Bool.{Bool, true, false}
 use mathlib.Core.List.{List, [], _∷_, _++_}
-use Prim.Native.Nat.{ℕ, suc, _+_, _-_, _^_, _≤_, _<_}
+use Prim.Native.Nat.{ℕ, suc, _+_, _-_, _≤_, _<_}
 use native.Mathlib.Nat.{add-zero, zero-add}
 use native.Mathlib.Numerals.{add-one, towards-suc}
 use native.Mathlib.Omega.{arith}
-use lib.Dec.{eqb, leb, ltb}
 use lib.ListN.{length, set, drop, length-append}
 use lib.Seq.{sets, sets-eq, length-sets, drop-cons}
-use borrow.Author.Tests.{eqb-true, leb-true, ltb-true, not-true, le-leb, lt-leb}
 use Rattle.bits.specs.Choice.{pick}
-use Rattle.bits.specs.ChoiceLaws.{and-left, and-right}
 use Rattle.bits.specs.Lists.{tabulate}
 use Rattle.bits.specs.ListsLaws.{length-tabulate, getD-tabulate}
-use Rattle.bits.specs.SearchLaws.{every-at}
+use Rattle.x86defs.specs.declared.CpuidFunction.{CpuidFunction}
 use Rattle.x86defs.specs.declared.CpuidResult.{CpuidResult}
+use Rattle.x86defs.specs.Functions.{function}
+use Rattle.masking.specs.declared.run.Run.{Run}
 use Rattle.masking.specs.Kept.{places, leafAt, indexedAt, subleafAt}
+use Rattle.masking.specs.Runs.{lawful}
+use Rattle.masking.specs.RunLaws.{leaf-in-run, indexed-in-run, subleaf-in-run}
 use Rattle.table.specs.declared.CpuidResults.{CpuidResults}
 use Rattle.table.specs.Rows.{Row}
 use Rattle.table.specs.Table.{rowIn}
-use Rattle.image.specs.declared.Run.{Run}
 use Rattle.table.specs.Order.{rowOrder}
 use Rattle.table.specs.OrderLaws.{row-order}
 use Rattle.image.specs.Image.{placeBytes, imageIn, image}
 use Rattle.buffer.specs.Front.{wordBytes, registerBytes}
 use Rattle.buffer.specs.FrontLaws.{sets-append}
-use Rattle.image.specs.Pieces.{indexedRow, wholeRow, rowsFrom, runRow, stands, lawful}
+use Rattle.image.specs.Pieces.{indexedRow, wholeRow, rowsFrom, runRow}
 
 -- ---- stores one after another
 
@@ -35,14 +35,14 @@ module _ (out : List ℕ) (at : ℕ) where
   nine : at + 9 ≡ suc (at + 8)
   nine = omega arith
 
-  pub indexed-sets : (leaf subleaf : ℕ) (r : CpuidResult)
-      → sets (sets (sets (set out at 2) (at + 1) (wordBytes leaf)) (at + 5) (wordBytes subleaf)) (at + 9) (registerBytes r)
+  pub indexed-sets : (leaf : CpuidFunction) (subleaf : ℕ) (r : CpuidResult)
+      → sets (sets (sets (set out at 2) (at + 1) (wordBytes (leaf .0))) (at + 5) (wordBytes subleaf)) (at + 9) (registerBytes r)
       ≡ sets out at (indexedRow leaf subleaf r)
   unfolding wordBytes registerBytes indexedRow
   indexed-sets leaf subleaf r = simp (nine, towards-suc)
 
-  pub whole-sets : (leaf : ℕ) (r : CpuidResult)
-      → sets (sets (set out at 1) (at + 1) (wordBytes leaf)) (at + 5) (registerBytes r) ≡ sets out at (wholeRow leaf r)
+  pub whole-sets : (leaf : CpuidFunction) (r : CpuidResult)
+      → sets (sets (set out at 1) (at + 1) (wordBytes (leaf .0))) (at + 5) (registerBytes r) ≡ sets out at (wholeRow leaf r)
   unfolding wordBytes registerBytes wholeRow
   whole-sets leaf r = simp towards-suc
 
@@ -54,7 +54,7 @@ module _ (g : Run) (k : ℕ) (r : CpuidResult) where
   unfolding runRow
   run-indexed p q = rw (p, q)
 
-  pub run-whole : {present : Bool} → present ≡ true → g .indexed ≡ false → runRow g k present r ≡ wholeRow (g .leaf + k) r
+  pub run-whole : {present : Bool} → present ≡ true → g .indexed ≡ false → runRow g k present r ≡ wholeRow (function (g .leaf .0 + k)) r
   unfolding runRow
   run-whole p q = rw (p, q)
 
@@ -62,39 +62,27 @@ module _ (g : Run) (k : ℕ) (r : CpuidResult) where
   unfolding runRow
   run-absent p = rw p
 
-pub indexed-length : (leaf subleaf : ℕ) (r : CpuidResult) → length (indexedRow leaf subleaf r) ≡ 25
+pub indexed-length : (leaf : CpuidFunction) (subleaf : ℕ) (r : CpuidResult) → length (indexedRow leaf subleaf r) ≡ 25
 unfolding indexedRow
 indexed-length leaf subleaf r = refl
 
-pub whole-length : (leaf : ℕ) (r : CpuidResult) → length (wholeRow leaf r) ≡ 21
+pub whole-length : (leaf : CpuidFunction) (r : CpuidResult) → length (wholeRow leaf r) ≡ 21
 unfolding wholeRow
 whole-length leaf r = refl
 
 -- a place's own row, by the run in which it stands
-stands-row : (b : Bool) (leaf k i : ℕ) (r : Row) → stands b leaf k i ≡ true
-    → placeBytes i r ≡ pick (r .present) (pick b (indexedRow leaf k (r .result)) (wholeRow (leaf + k) (r .result))) []
+stands-row : (b : Bool) (leaf : CpuidFunction) (k i : ℕ) (r : Row)
+    → b ≡ indexedAt i → pick b leaf (function (leaf .0 + k)) ≡ leafAt i → pick b k 0 ≡ subleafAt i
+    → placeBytes i r ≡ pick (r .present) (pick b (indexedRow leaf k (r .result)) (wholeRow (function (leaf .0 + k)) (r .result))) []
 unfolding indexedRow wholeRow
-stands-row true leaf k i r e =
-    let f = and-right (indexedAt i) _ e in
-    rw (and-left (indexedAt i) _ e, eqb-true (leafAt i .0) leaf (and-left _ _ f), eqb-true (subleafAt i) k (and-right (eqb (leafAt i .0) leaf) _ f))
-stands-row false leaf k i r e =
-    rw (not-true (indexedAt i) (and-left _ _ e), eqb-true (leafAt i .0) (leaf + k) (and-right (not (indexedAt i)) _ e))
+stands-row true leaf k i r p q e = rw (← p, ← q, ← e)
+stands-row false leaf k i r p q e = rw (← p, ← q)
 
-module _ (g : Run) (lawfully : lawful g ≡ true) where
-  pub run-end : g .end ≤ places
-  unfolding lawful
-  run-end = leb-true _ _ (and-left _ _ lawfully)
-
-  pub run-leaf : g .leaf + places < 2 ^ 32
-  unfolding lawful
-  run-leaf = ltb-true _ _ (and-left _ _ (and-right (leb (g .end) places) _ lawfully))
-
-  pub run-row : (i : ℕ) (r : Row) → g .first ≤ i → i < g .end → placeBytes i r ≡ runRow g (i - g .first) (r .present) (r .result)
-  unfolding lawful runRow
-  run-row i r low high =
-      let all = and-right (ltb (g .leaf + places) (2 ^ 32)) _ (and-right (leb (g .end) places) _ lawfully) in
-      let e : g .first + (i - g .first) ≡ i = omega arith in
-      stands-row (g .indexed) (g .leaf) (i - g .first) i r (rw e at (every-at _ (g .end - g .first) all (i - g .first) (omega arith)))
+pub run-row : (g : Run) → lawful g ≡ true → (i : ℕ) (r : Row) → g .first ≤ i → i < g .first + g .count
+    → placeBytes i r ≡ runRow g (i - g .first) (r .present) (r .result)
+unfolding runRow
+run-row g l i r low high =
+    stands-row (g .indexed) (g .leaf) (i - g .first) i r (indexed-in-run g l low high) (leaf-in-run g l low high) (subleaf-in-run g l low high)
 
 -- ---- the rows from a place on
 

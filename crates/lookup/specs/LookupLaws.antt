@@ -1,17 +1,20 @@
 -- A lookup is one read, of the place that is asked for.
-use mathlib.Core.Path.{_≡_, refl, sym, _∙_}
+use mathlib.Core.Path.{_≡_, refl, sym, ap, _∙_}
 use mathlib.Core.Bool.{Bool, true, false}
-use mathlib.Core.Logic.{_⊎_, inl, inr}
-use Prim.Native.Nat.{ℕ, _≤_}
+use Prim.Native.Nat.{ℕ, _≤_, _<_}
 use lib.Dec.{ltb}
 use lib.ListN.{length, replicate, length-replicate, getD-replicate, List·getD-eq-default}
 use native.Mathlib.Nat.{le-of-eq}
 use native.Mathlib.Omega.{arith}
-use borrow.Author.Tests.{ne-eqb, ltb-true, ltb-false}
+use borrow.Author.Tests.{eqb-true, ltb-true, ltb-false}
 use Rattle.bits.specs.Choice.{pick}
 use Rattle.bits.specs.ChoiceLaws.{pick-false}
+use Rattle.bits.specs.Lists.{tabulate}
+use Rattle.bits.specs.ListsLaws.{tabulate-at}
 use Rattle.x86defs.specs.declared.CpuidFunction.{CpuidFunction}
-use Rattle.masking.specs.Kept.{places, placeOf}
+use Rattle.x86defs.specs.Functions.{function, sameFunction, ExtendedFeatures, ExtendedTopologyEnumeration, ExtendedStateEnumeration, CacheTopologyDefinition}
+use Rattle.masking.specs.Kept.{keptLeaves, places, placeOf, slot, leafAt, indexedAt}
+use Rattle.masking.specs.KeptLaws.{entry-belongs}
 use Rattle.table.specs.declared.CpuidResults.{CpuidResults}
 use Rattle.table.specs.declared.Subleaf.{Subleaf}
 use Rattle.table.specs.declared.Subleaf.the-variants.{None, Some}
@@ -19,26 +22,35 @@ use Rattle.table.specs.Table.{rowIn, emptyTable}
 use Rattle.lookup.specs.declared.LeafResult.the-variants.{None as Nothing}
 use Rattle.lookup.specs.Lookup.{withSubleaves, placeWhole, rowResult, lookup}
 
--- ---- the leaves with subleaves, as a list of numbers
+-- ---- the leaves with subleaves, by the place of their subleaf 0
 
-abbrev Listed : ℕ → Type 0
-Listed n = (n ≡ 0x7) ⊎ ((n ≡ 0xB) ⊎ ((n ≡ 0xD) ⊎ (n ≡ 0x8000001D)))
+-- a leaf of the table has subleaves where its rows carry one
+subleaves-at : (i : ℕ) → i < places → indexedAt i ≡ withSubleaves (leafAt i)
+unfolding withSubleaves slot keptLeaves tabulate
+subleaves-at i h = tabulate-at places indexedAt (λ i. withSubleaves (leafAt i)) refl i h
 
-pub subleaves-listed : (l : CpuidFunction) → Listed (l .0) → true ≡ withSubleaves l
-unfolding withSubleaves
-subleaves-listed l (inl e) = rw e
-subleaves-listed l (inr (inl e)) = rw e
-subleaves-listed l (inr (inr (inl e))) = rw e
-subleaves-listed l (inr (inr (inr e))) = rw e
+module _ (l : CpuidFunction) (p : ℕ) (at : p ≡ placeOf l 0) where
+  pub subleaves-placed : p < places → indexedAt p ≡ withSubleaves l
+  subleaves-placed h = subleaves-at p h ∙ ap withSubleaves (entry-belongs l 0 p (sym at) h .leaf)
 
-pub subleaves-not-listed : (l : CpuidFunction) → (Listed (l .0) → ⊥) → false ≡ withSubleaves l
-unfolding withSubleaves
-subleaves-not-listed l h =
-    let a = ne-eqb (l .0) 0x7 (λ e. h (inl e)) in
-    let b = ne-eqb (l .0) 0xB (λ e. h (inr (inl e))) in
-    let c = ne-eqb (l .0) 0xD (λ e. h (inr (inr (inl e)))) in
-    let d = ne-eqb (l .0) 0x8000001D (λ e. h (inr (inr (inr e)))) in
-    rw (a, b, c, d)
+  -- a leaf whose subleaf 0 has a place is not one that has none
+  elsewhere : places ≤ p → (m : CpuidFunction) → ltb (placeOf m 0) places ≡ true → sameFunction l m ≡ false
+  elsewhere h m c = go (sameFunction l m) refl
+    where
+      go : (b : Bool) → sameFunction l m ≡ b → b ≡ false
+      go true e =
+          let same : placeOf l 0 ≡ placeOf m 0 = ap (λ (n : ℕ). placeOf (function n) 0) (eqb-true (l .0) (m .0) e) in
+          absurd (omega (arith, same, at, ltb-true (placeOf m 0) places c))
+      go false e = refl
+
+  pub subleaves-unplaced : places ≤ p → false ≡ withSubleaves l
+  unfolding withSubleaves placeOf keptLeaves
+  subleaves-unplaced h =
+      let a = elsewhere h ExtendedFeatures refl in
+      let b = elsewhere h ExtendedTopologyEnumeration refl in
+      let c = elsewhere h ExtendedStateEnumeration refl in
+      let d = elsewhere h CacheTopologyDefinition refl in
+      rw (a, b, c, d)
 
 -- ---- the place that is asked for
 

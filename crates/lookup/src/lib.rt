@@ -5,10 +5,12 @@ ghost use Rattle.masking.specs.Kept.{places};
 ghost use Rattle.lookup.specs.Lookup.{withSubleaves, placeWhole, lookup};
 ghost use Rattle.lookup.specs.LookupLaws.{placeAsked};
 use masking::PLACES;
+use masking::place;
 use table::CpuidResults;
 use table::Subleaf;
 use x86defs::CpuidFunction;
 use x86defs::CpuidResult;
+use x86defs::leaf;
 
 pub enum LeafResult {
     Some(CpuidResult),
@@ -58,15 +60,15 @@ fn place_asked(leaf: CpuidFunction, subleaf: Subleaf, enforce_subleaf: bool) -> 
     }
 }
 
-// Whether a leaf has subleaves.
+// Whether a leaf has subleaves: each that has them has subleaf 0.
 fn with_subleaves(leaf: CpuidFunction) -> bool
     ensures { λ r. ⌜ r ≡ withSubleaves leaf ⌝ }
 {
-    let n = leaf.0;
-    match n {
-        0x7 | 0xB | 0xD | 0x8000_001D => true,
-        _ => false,
+    let place = masking::place_of(leaf, 0);
+    if place < PLACES {
+        return masking::indexed_at(place);
     }
+    false
 }
 
 // The place of a leaf without subleaves, the two made here included; 88 where no table has it.
@@ -75,8 +77,8 @@ fn place_whole(leaf: CpuidFunction) -> usize
 {
     let n = leaf.0;
     match n {
-        0x0 => 0,
-        0x8000_0000 => 70,
+        leaf::VENDOR_AND_MAX_FUNCTION => place::VENDOR_AND_MAX_FUNCTION,
+        leaf::EXTENDED_MAX_FUNCTION => place::EXTENDED_MAX_FUNCTION,
         _ => masking::place_of(leaf, 0),
     }
 }

@@ -12,7 +12,7 @@ use Rattle.bits.specs.Choice.{pick}
 use Rattle.bits.specs.ChoiceLaws.{and-left, and-right}
 use Rattle.bits.specs.SearchLaws.{every-at}
 use Rattle.x86defs.specs.declared.CpuidFunction.{CpuidFunction}
-use Rattle.x86defs.specs.Functions.{function, sameFunction, VendorAndMaxFunction, VersionAndFeatures, MonitorMwait, ExtendedFeatures, ExtendedTopologyEnumeration, ExtendedStateEnumeration, ExtendedMaxFunction, ExtendedVersionAndFeatures, ExtendedAddressSpaceSizes, ExtendedOptimizationIdentifiers, ProcessorTopologyDefinition, ExtendedSevFeatures}
+use Rattle.x86defs.specs.Functions.{function, sameFunction, VendorAndMaxFunction, VersionAndFeatures, MonitorMwait, ExtendedFeatures, ExtendedTopologyEnumeration, ExtendedStateEnumeration, ExtendedMaxFunction, ExtendedVersionAndFeatures, ExtendedAddressSpaceSizes, ExtendedOptimizationIdentifiers, CacheTopologyDefinition, ProcessorTopologyDefinition, ExtendedSevFeatures}
 use Rattle.masking.specs.Kept.{Span, Kept, keptLeaves, placesOf, places, subleafOf, hasSubleaf, takes, within, placeFrom, placeOf, Slot, slotIn, slot, leafAt, subleafAt}
 use Rattle.masking.specs.Kept.Span.{made, whole, subleaves}
 use Rattle.masking.specs.Place
@@ -55,8 +55,8 @@ named-leaves k = refl
 
 -- of a leaf with subleaves
 pub named-subleaves :
-    placeOf ExtendedFeatures 0 ∷ placeOf ExtendedTopologyEnumeration 0 ∷ placeOf ExtendedTopologyEnumeration 1 ∷ []
-    ≡ Place.extendedFeatures ∷ Place.threadLevel ∷ Place.coreLevel ∷ []
+    placeOf ExtendedFeatures 0 ∷ placeOf ExtendedTopologyEnumeration 0 ∷ placeOf ExtendedTopologyEnumeration 1 ∷ placeOf CacheTopologyDefinition 0 ∷ []
+    ≡ Place.extendedFeatures ∷ Place.threadLevel ∷ Place.coreLevel ∷ Place.cacheTopology 0 ∷ []
 unfolding placeOf keptLeaves
 named-subleaves = refl
 

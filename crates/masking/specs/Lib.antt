@@ -5,6 +5,7 @@ pub mod KeptTable
 pub mod MasksLaws
 pub mod KeptLaws
 pub mod KeptTableLaws
+pub mod Runs
 pub mod RunLaws
 pub mod PlaceOfLaws
 pub mod MasksFit

@@ -36,6 +36,10 @@ extendedAddressSpaceSizes = 78
 abbrev pub extendedOptimizationIdentifiers : ℕ
 extendedOptimizationIdentifiers = 81
 
+-- 8000001Dh.k
+abbrev pub cacheTopology : ℕ → ℕ
+cacheTopology k = 82 + k
+
 abbrev pub processorTopologyDefinition : ℕ
 processorTopologyDefinition = 86
 

@@ -1,20 +1,25 @@
 // The table of kept leaves. A leaf and a subleaf come in; their place among the 88 goes out, and from a place its masks, its leaf and its
 // subleaf.
 ghost use mathlib.Core.Path.{_≡_};
-ghost use mathlib.Core.Bool.{false};
-ghost use Prim.Native.Nat.{_+_, _≤_, _<_};
+ghost use mathlib.Core.Bool.{true, false};
+ghost use Prim.Native.Nat.{_+_, _-_, _≤_, _<_, min};
 ghost use lib.Dec.{ltb};
 ghost use Rattle.bits.specs.Choice.{pick};
 ghost use Rattle.masking.specs.Masks.{secureAvicMask, applyMask};
 ghost use Rattle.masking.specs.Kept.{places, placeOf, leafAt, indexedAt, subleafAt};
+ghost use Rattle.masking.specs.Place.{extendedMaxFunction};
+ghost use Rattle.masking.specs.Runs.{lawful};
 ghost use Rattle.masking.specs.KeptTable.{rows, table, rowAt, masksOf, rowOfPlace};
 
+mod kept;
 pub mod place;
-mod table;
+pub mod run;
 
-pub use table::KEPT_LEAVES;
+pub use kept::KEPT_LEAVES;
+pub use run::Run;
 use x86defs::CpuidFunction;
 use x86defs::CpuidResult;
+use x86defs::leaf;
 
 // How one leaf, or a run of its subleaves, is kept: whether its rows carry a subleaf; the first and the last subleaf that pages are read
 // for, which are all where the leaf has no subleaves and none where its row is made here; and the masks.
@@ -35,41 +40,90 @@ pub const PLACES: usize = 88;
 // 8000001Fh.EAX: the bit that the secure-AVIC choice adds, and the row of the table that it is added to.
 pub const SECURE_AVIC: u32 = 0x0400_0000;
 
-const SECURE_AVIC_ROW: usize = 22;
+const SECURE_AVIC_ROW: usize = run::PROCESSOR_TOPOLOGY_AND_SEV.last_row;
 
-// The place of a page entry's leaf and subleaf; 88 where the entry is filtered.
+// The place of a page entry's leaf and subleaf; 88 where the entry is filtered. This finds a place by its leaf, `run_at` a run by its place.
 pub fn place_of(leaf: CpuidFunction, subleaf: u32) -> usize
     ensures { λ r. ⌜ r ≡ placeOf leaf subleaf ⌝ }
     ensures small { λ r. ⌜ r ≤ places ⌝ }
 {
     let n = leaf.0;
     match n {
-        0x1 => 1,
-        0x5 => 2,
-        0x7 => subleaf_place(3, 1, subleaf),
-        0xB => subleaf_place(4, 2, subleaf),
-        0xD => subleaf_place(6, 64, subleaf),
-        0x8000_0001..=0x8000_0008 => 71 + (n - 0x8000_0001) as usize,
-        0x8000_000A => 79,
-        0x8000_0019 => 80,
-        0x8000_001A => 81,
-        0x8000_001D => subleaf_place(82, 4, subleaf),
-        0x8000_001E => 86,
-        0x8000_001F => 87,
+        leaf::VERSION_AND_FEATURES => place::VERSION_AND_FEATURES,
+        leaf::MONITOR_MWAIT => place::MONITOR_MWAIT,
+        leaf::EXTENDED_FEATURES => subleaf_place(run::EXTENDED_FEATURES, subleaf),
+        leaf::EXTENDED_TOPOLOGY_ENUMERATION => subleaf_place(run::EXTENDED_TOPOLOGY, subleaf),
+        leaf::EXTENDED_STATE_ENUMERATION => subleaf_place(run::EXTENDED_STATE, subleaf),
+        leaf::EXTENDED_VERSION_AND_FEATURES..=leaf::EXTENDED_ADDRESS_SPACE_SIZES => {
+            run::EXTENDED.first + (n - leaf::EXTENDED_MAX_FUNCTION) as usize
+        }
+        leaf::EXTENDED_SVM_VERSION_AND_FEATURES => place::EXTENDED_SVM_VERSION_AND_FEATURES,
+        leaf::EXTENDED_TLB1GB_IDENTIFIERS => place::EXTENDED_TLB1GB_IDENTIFIERS,
+        leaf::EXTENDED_OPTIMIZATION_IDENTIFIERS => place::EXTENDED_OPTIMIZATION_IDENTIFIERS,
+        leaf::CACHE_TOPOLOGY_DEFINITION => subleaf_place(run::CACHE_TOPOLOGY, subleaf),
+        leaf::PROCESSOR_TOPOLOGY_DEFINITION => place::PROCESSOR_TOPOLOGY_DEFINITION,
+        leaf::EXTENDED_SEV_FEATURES => place::EXTENDED_SEV_FEATURES,
         _ => PLACES,
     }
 }
 
-// The place of a subleaf of a leaf whose subleaves below `count` have the places from `first` on; 88 for any other subleaf.
-fn subleaf_place(first: usize, count: u32, subleaf: u32) -> usize
-    requires { ⌜ first + count ≤ places ⌝ }
-    ensures { λ r. ⌜ r ≡ pick (ltb subleaf count) (first + subleaf) places ⌝ }
+// The place of a subleaf in the run of a leaf's subleaves; 88 where the run has none.
+fn subleaf_place(run: Run, subleaf: u32) -> usize
+    requires { ⌜ run .first + run .count ≤ places ⌝ }
+    ensures { λ r. ⌜ r ≡ pick (ltb subleaf (run .count)) (run .first + subleaf) places ⌝ }
     ensures small { λ r. ⌜ r ≤ places ⌝ }
 {
-    if subleaf < count {
-        first + subleaf as usize
+    if subleaf < run.count {
+        run.first + subleaf as usize
     } else {
         PLACES
+    }
+}
+
+// The run in which a place stands.
+pub fn run_at(place: usize) -> Run
+    requires { ⌜ place < places ⌝ }
+    ensures { λ r. ⌜ (lawful r ≡ true) × (r .first ≤ place) × (place < r .first + r .count) ⌝ }
+{
+    if place < run::EXTENDED.first {
+        return basic_run_at(place);
+    }
+    extended_run_at(place)
+}
+
+// Among the leaves below 80000000h.
+fn basic_run_at(place: usize) -> Run
+    requires { ⌜ place < extendedMaxFunction ⌝ }
+    ensures { λ r. ⌜ (lawful r ≡ true) × (r .first ≤ place) × (place < r .first + r .count) ⌝ }
+{
+    if place < run::MONITOR_MWAIT.first {
+        run::BASIC
+    } else if place < run::EXTENDED_FEATURES.first {
+        run::MONITOR_MWAIT
+    } else if place < run::EXTENDED_TOPOLOGY.first {
+        run::EXTENDED_FEATURES
+    } else if place < run::EXTENDED_STATE.first {
+        run::EXTENDED_TOPOLOGY
+    } else {
+        run::EXTENDED_STATE
+    }
+}
+
+// From 80000000h on.
+fn extended_run_at(place: usize) -> Run
+    requires { ⌜ (extendedMaxFunction ≤ place) × (place < places) ⌝ }
+    ensures { λ r. ⌜ (lawful r ≡ true) × (r .first ≤ place) × (place < r .first + r .count) ⌝ }
+{
+    if place < run::SVM.first {
+        run::EXTENDED
+    } else if place < run::TLB_AND_OPTIMIZATION.first {
+        run::SVM
+    } else if place < run::CACHE_TOPOLOGY.first {
+        run::TLB_AND_OPTIMIZATION
+    } else if place < run::PROCESSOR_TOPOLOGY_AND_SEV.first {
+        run::CACHE_TOPOLOGY
+    } else {
+        run::PROCESSOR_TOPOLOGY_AND_SEV
     }
 }
 
@@ -98,20 +152,35 @@ pub fn kept_leaf(row: usize) -> KeptLeaf
     kept[row]
 }
 
-// The row of the table that a place belongs to.
+// The row of the table that a place belongs to. Rows and places rise together, but for the subleaves that share the last row of their run.
 pub fn mask_row(place: usize) -> usize
     requires { ⌜ place < places ⌝ }
     ensures { λ r. ⌜ r ≡ rowOfPlace place ⌝ }
     ensures small { λ r. ⌜ r < rows ⌝ }
 {
-    match place {
-        0..=4 => place,
-        5..=7 => place - 1,
-        8..=69 => 7,
-        70..=81 => place - 62,
-        82..=85 => 20,
-        _ => place - 65,
+    if place < run::EXTENDED_STATE.first {
+        return row_from(run::BASIC, place, run::EXTENDED_TOPOLOGY.last_row);
     }
+    if place < run::EXTENDED.first {
+        return row_from(run::EXTENDED_STATE, place, run::EXTENDED_STATE.last_row);
+    }
+    if place < run::PROCESSOR_TOPOLOGY_AND_SEV.first {
+        return row_from(run::EXTENDED, place, run::CACHE_TOPOLOGY.last_row);
+    }
+    row_from(
+        run::PROCESSOR_TOPOLOGY_AND_SEV,
+        place,
+        run::PROCESSOR_TOPOLOGY_AND_SEV.last_row,
+    )
+}
+
+// As many rows after the run's first as the place stands after the run's first, but no row after `last`.
+fn row_from(run: Run, place: usize, last: usize) -> usize
+    requires { ⌜ (run .first ≤ place) × (place < places) × (run .row < rows) ⌝ }
+    ensures { λ r. ⌜ r ≡ min (run .row + (place - run .first)) last ⌝ }
+{
+    let row = run.row + (place - run.first);
+    if row < last { row } else { last }
 }
 
 // Each register joined with its mask by and.
@@ -131,18 +200,12 @@ pub fn leaf_at(place: usize) -> CpuidFunction
     requires { ⌜ place < places ⌝ }
     ensures { λ r. ⌜ r ≡ leafAt place ⌝ }
 {
-    let p = place as u32;
-    match p {
-        0..=1 => CpuidFunction(p),
-        2 => CpuidFunction(0x5),
-        3 => CpuidFunction(0x7),
-        4..=5 => CpuidFunction(0xB),
-        6..=69 => CpuidFunction(0xD),
-        70..=78 => CpuidFunction(0x8000_0000 + (p - 70)),
-        79 => CpuidFunction(0x8000_000A),
-        80..=81 => CpuidFunction(0x8000_0019 + (p - 80)),
-        82..=85 => CpuidFunction(0x8000_001D),
-        _ => CpuidFunction(0x8000_001E + (p - 86)),
+    let run = run_at(place);
+    let leaf = run.leaf;
+    if run.indexed {
+        leaf
+    } else {
+        CpuidFunction(leaf.0 + (place - run.first) as u32)
     }
 }
 
@@ -151,13 +214,8 @@ pub fn indexed_at(place: usize) -> bool
     requires { ⌜ place < places ⌝ }
     ensures { λ r. ⌜ r ≡ indexedAt place ⌝ }
 {
-    match place {
-        0..=2 => false,
-        3..=69 => true,
-        70..=81 => false,
-        82..=85 => true,
-        _ => false,
-    }
+    let run = run_at(place);
+    run.indexed
 }
 
 // The subleaf of a place; 0 where its row carries none.
@@ -165,13 +223,10 @@ pub fn subleaf_at(place: usize) -> u32
     requires { ⌜ place < places ⌝ }
     ensures { λ r. ⌜ r ≡ subleafAt place ⌝ }
 {
-    let p = place as u32;
-    match p {
-        0..=3 => 0,
-        4..=5 => p - 4,
-        6..=69 => p - 6,
-        70..=81 => 0,
-        82..=85 => p - 82,
-        _ => 0,
+    let run = run_at(place);
+    if run.indexed {
+        (place - run.first) as u32
+    } else {
+        0
     }
 }

@@ -5,6 +5,7 @@ use mathlib.Core.List.{List, [], _∷_, _++_}
 use Prim.Native.Nat.{ℕ, zero, suc}
 use lib.Dec.{eqb}
 use Rattle.bits.specs.Lists.{keepIf}
+use Rattle.x86defs.specs.declared.CpuidFunction.{CpuidFunction}
 use Rattle.x86defs.specs.Functions.{sameFunction, ExtendedStateEnumeration}
 use Rattle.pages.specs.Layout.{Entry, entryAt, countOf, pagesIn}
 
@@ -22,9 +23,13 @@ onPages s p (suc n) = onPage s p 0 (countOf s p) ++ onPages s (suc p) n
 unfoldable pub entries : List ℕ → List Entry
 entries s = onPages s 0 (pagesIn s)
 
+-- whether an entry of leaf l counts on page p
+abbrev pub countsOn : ℕ → CpuidFunction → Bool
+countsOn p l = not (sameFunction l ExtendedStateEnumeration) || eqb p 1
+
 -- whether an entry counts where it stands
 unfoldable pub counts : Entry → Bool
-counts e = not (sameFunction (e .leaf) ExtendedStateEnumeration) || eqb (e .page) 1
+counts e = countsOn (e .page) (e .leaf)
 
 -- the counted entries, in order
 unfoldable pub counted : List ℕ → List Entry

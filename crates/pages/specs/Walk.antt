@@ -10,7 +10,7 @@ use Rattle.bits.specs.Search.Failing.{at, none}
 use Rattle.pages.specs.declared.CpuidPageIndex.{CpuidPageIndex}
 use Rattle.pages.specs.declared.ParsedCpuidEntry.{ParsedCpuidEntry}
 use Rattle.pages.specs.Layout.{Entry, pagesIn, countOf}
-use Rattle.pages.specs.Entries.{onPage, onPages}
+use Rattle.pages.specs.Entries.{onPage, onPages, countsOn}
 
 -- position q of page p
 abbrev pub index : ℕ → ℕ → CpuidPageIndex
@@ -57,4 +57,8 @@ rest s i =
 
 -- what the code takes of an entry
 abbrev pub parsed : Entry → ParsedCpuidEntry
-parsed e = record { leaf = e .leaf; subleaf = e .subleaf; result = e .registers }
+parsed e = record { page = e .page; leaf = e .leaf; subleaf = e .subleaf; result = e .registers }
+
+-- whether what was taken is of an entry that counts
+abbrev pub countsRead : ParsedCpuidEntry → Bool
+countsRead e = countsOn (e .page) (e .leaf)

@@ -21,8 +21,9 @@ pub struct CpuidPageIndex {
     pub function_index: usize,
 }
 
-// What is read of an entry.
+// What is read of an entry, and the page that it stands on, which decides whether an entry of leaf Dh counts.
 pub struct ParsedCpuidEntry {
+    pub page: usize,
     pub leaf: CpuidFunction,
     pub subleaf: u32,
     pub result: CpuidResult,
@@ -149,6 +150,7 @@ pub fn entry_at(pages: &[u8], index: CpuidPageIndex) -> ParsedCpuidEntry
 {
     let o = PAGE_SIZE * index.page_index + FIRST_ENTRY + ENTRY_SIZE * index.function_index;
     ParsedCpuidEntry {
+        page: index.page_index,
         leaf: CpuidFunction(word_at(pages, o)),
         subleaf: word_at(pages, o + 4),
         result: CpuidResult {

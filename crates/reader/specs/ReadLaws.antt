@@ -1,4 +1,4 @@
--- A new reader gives every entry of the pages, each once and in order.
+-- A new reader gives every entry of the pages, each once and in order, and of each it says whether it counts.
 use mathlib.Core.Path.{_≡_, refl, sym, ap, _∙_}
 use mathlib.Core.Bool.{Bool, true, false}
 use mathlib.Core.List.{List, [], _∷_, map}
@@ -8,11 +8,12 @@ use lib.Dec.{ltb}
 use lib.ListN.{length}
 use borrow.Author.Tests.{ltb-true, ltb-false}
 use Rattle.bits.specs.Choice.{pick}
+use Rattle.bits.specs.Lists.{keepIf}
 use Rattle.pages.specs.declared.CpuidPageIndex.{CpuidPageIndex}
 use Rattle.pages.specs.declared.ParsedCpuidEntry.{ParsedCpuidEntry}
-use Rattle.pages.specs.Layout.{pagesIn, entryAt}
-use Rattle.pages.specs.Entries.{entries}
-use Rattle.pages.specs.Walk.{incremented, parsed, rest, firstIndex}
+use Rattle.pages.specs.Layout.{Entry, pagesIn, entryAt}
+use Rattle.pages.specs.Entries.{entries, counts, counted}
+use Rattle.pages.specs.Walk.{incremented, parsed, countsRead, rest, firstIndex}
 use Rattle.pages.specs.WalkLaws.{Valid, Turn, turn, first-valid, rest-first, rest-end}
 use Rattle.reader.specs.Read.{given}
 
@@ -36,3 +37,19 @@ gives-rest s (suc n) i v l = go (gives-rest s n (incremented s i)) (ltb (i .«pa
 
 pub reader-gives : (s : List ℕ) (n : ℕ) → length (entries s) ≤ n → given s n (firstIndex s) ≡ map parsed (entries s)
 reader-gives s n l = gives-rest s n (firstIndex s) (first-valid s) (rw (rest-first s) l) ∙ ap (map parsed) (rest-first s)
+
+-- what is taken of an entry says whether the entry counts
+says-counts : (es : List Entry) → keepIf countsRead (map parsed es) ≡ map parsed (keepIf counts es)
+unfolding keepIf counts
+says-counts [] = refl
+says-counts (e ∷ es) = go (says-counts es) (counts e)
+  where
+    go : keepIf countsRead (map parsed es) ≡ map parsed (keepIf counts es) → (b : Bool)
+        → pick b (parsed e ∷ keepIf countsRead (map parsed es)) (keepIf countsRead (map parsed es)) ≡ map parsed (pick b (e ∷ keepIf counts es) (keepIf counts es))
+    go ih true = ap (λ (ps : List ParsedCpuidEntry). parsed e ∷ ps) ih
+    go ih false = ih
+
+-- those that count are the counted entries
+pub reader-gives-counted : (s : List ℕ) (n : ℕ) → length (entries s) ≤ n → keepIf countsRead (given s n (firstIndex s)) ≡ map parsed (counted s)
+unfolding counted
+reader-gives-counted s n l = ap (keepIf countsRead) (reader-gives s n l) ∙ says-counts (entries s)

@@ -20,10 +20,10 @@ use Rattle.checks.specs.Required.{placeRequired}
 use Rattle.checks.specs.ExtendedState.{xfem, xss, combinedMask, sumAt, saveArea}
 use Rattle.checks.specs.ExtendedStateLaws.{area-mono, xss-mono, in-combined}
 use Rattle.checks.specs.TopologyInputs.{inputsOf}
-use Rattle.update.specs.Finish.{Rule, Settings, ruleAt, enabledBy, settings, remains, finished}
-use Rattle.update.specs.Finish.Rule.{component}
-use Rattle.update.specs.Kinds.{Kinds, EntryAtLeast, TableAtLeast, Registers, kindsAt, fromEntry}
-use Rattle.update.specs.RuleKinds.{featureEax, kindsOf, kinds-at}
+use Rattle.update.specs.Finish.{Settings, ruleAt, enabledBy, settings, remains, finished}
+use Rattle.update.specs.Kinds.{Kinds, kinds, EntryAtLeast, TableAtLeast, Registers, kindsAt, fromEntry}
+use Rattle.update.specs.Kinds.Kind.{other}
+use Rattle.update.specs.RuleKinds.{featureEax, kindsOf, kinds-at, component-kinds}
 use Rattle.update.specs.XsavesLaws.{XsavesEdx, xsaves-at}
 use Rattle.checks.specs.Checks.{invlpgbVerdict, componentsVerdict, areaVerdict, topologyVerdict, topologyRefusal, rowsVerdict, refuseUnless}
 use Rattle.checks.specs.ChecksLaws.{AllPass, all-pass, required-present, present-required, component-present, demanded, then-accepted, then-skips}
@@ -63,11 +63,11 @@ module _ (A B : Rows) (zeroA : XsavesEdx A) (zeroB : XsavesEdx B) (accepted : ro
   componentInTableA k l u h = component-finished A k l u ∙ and-both h (component-present A (pass .components) k l u h)
 
   componentEntry : (k : ℕ) → 2 ≤ k → k < 64 → has k (combinedMask A) ≡ true
-      → Registers EntryAtLeast (kindsOf false (component k)) (A (Place.extendedState k) .result) (B (Place.extendedState k) .result)
+      → Registers EntryAtLeast (kinds other other other other) (A (Place.extendedState k) .result) (B (Place.extendedState k) .result)
   componentEntry k l u h =
       let i : ℕ = Place.extendedState k in
-      subst (λ (t : Rule). Registers EntryAtLeast (kindsOf (featureEax i) t) (A i .result) (B i .result)) (component-rule k l u)
-      (byRule i (omega arith) (entries i (omega arith) (ap fromEntry (component-rule k l u)) (componentInTableA k l u h) .registers))
+      subst (λ (q : Kinds). Registers EntryAtLeast q (A i .result) (B i .result)) (component-kinds k l u)
+      (entries i (omega arith) (ap fromEntry (component-rule k l u)) (componentInTableA k l u h) .registers)
 
   sameInputs : inputsOf A ≡ inputsOf B
   unfolding inputsOf
@@ -89,8 +89,7 @@ module _ (A B : Rows) (zeroA : XsavesEdx A) (zeroB : XsavesEdx B) (accepted : ro
 
   sums : (k : ℕ) → 2 ≤ k → k < 64 → has k (xfem A) ≡ true → sumAt A k ≡ sumAt B k
   sums k l u h =
-      let e : Registers EntryAtLeast (kindsOf false (component k)) (A (Place.extendedState k) .result) (B (Place.extendedState k) .result) =
-      componentEntry k l u (in-combined A k h) in
+      let e = componentEntry k l u (in-combined A k h) in
       ap₂ _+_ (e .eax) (e .ebx)
 
   settingsRise : SettingsRise (settings A) (settings B)

@@ -13,12 +13,13 @@ use Rattle.table.specs.declared.Subleaf.the-variants.{None, Some}
 use Rattle.table.specs.declared.Refusal.{Refusal}
 use Rattle.table.specs.declared.Refusal.the-variants.{PagesLength, MissingRequiredResult, SaveAreaOverflow}
 use Rattle.table.specs.declared.Verdict.the-variants.{Accepted, Refused}
-use Rattle.pages.specs.Entries.{entries}
+use Rattle.bits.specs.Lists.{keepIf}
+use Rattle.pages.specs.Entries.{entries, counted}
 use Rattle.masking.specs.Kept.{places}
-use Rattle.pages.specs.Walk.{firstIndex, parsed}
+use Rattle.pages.specs.Walk.{firstIndex, parsed, countsRead}
 use Rattle.build.specs.Build.{answer}
 use Rattle.reader.specs.Read.{given}
-use Rattle.reader.specs.ReadLaws.{reader-gives}
+use Rattle.reader.specs.ReadLaws.{reader-gives, reader-gives-counted}
 use Rattle.lookup.specs.declared.LeafResult.the-variants.{None as Nothing}
 use Rattle.lookup.specs.Lookup.{lookup}
 use Rattle.lookup.specs.LookupLaws.{empty-finds-nothing}
@@ -48,7 +49,7 @@ use Rattle.examples.specs.Compared as Pairs
 use Rattle.examples.specs.MarkedRows.{marked, marked-rows}
 use Rattle.examples.specs.MarkedRows.Shown.{core, refusal, area, supervisor}
 
--- ---- Demand 1. crates/exactly/specs/Conditions.antt has each condition by itself, Exactly.antt the two records.
+-- ---- Demand 1. crates/refusals/specs/Conditions.antt has each condition by itself, Exactly.antt the two records.
 
 -- For each refusal 1 to 8: given if and only if its condition holds and no earlier one does; accepted if and only if none holds.
 pub each-refusal-exactly : (avic : Bool) (s : List ℕ) → BuildsExactly avic s
@@ -99,7 +100,7 @@ comparison-in-order = places-rise
 pub comparison-of-exports : (avic : Bool) (a b : List ℕ) → ExportsCompare avic a b
 comparison-of-exports = exports-compare
 
--- ---- The fourteen marked rows of document 01, T1 to T10, X1 to X3 (two figures) and C1. crates/instances/specs/MarkedRows.antt.
+-- ---- The fourteen marked rows of document 01, T1 to T10, X1 to X3 (two figures) and C1. crates/examples/specs/MarkedRows.antt.
 
 pub fourteen-rows : marked
     ≡ core 0 1
@@ -148,9 +149,11 @@ images-tell-tables = equal-images
 
 -- ---- The page reader in the source's form. crates/reader/specs/Read.antt.
 
--- asked often enough, a new reader gives the entries of the pages, each once and in order, and then the end; `collect` stores those that count
-pub reader-in-order : (s : List ℕ) (n : ℕ) → length (entries s) ≤ n → given s n (firstIndex s) ≡ map parsed (entries s)
-reader-in-order = reader-gives
+-- asked often enough, a new reader gives the entries of the pages, each once and in order, and then the end; those that by what it gives
+-- count are the counted entries, each once and in order
+pub reader-in-order : (s : List ℕ) (n : ℕ) → length (entries s) ≤ n
+    → (given s n (firstIndex s) ≡ map parsed (entries s)) × (keepIf countsRead (given s n (firstIndex s)) ≡ map parsed (counted s))
+reader-in-order s n l = (reader-gives s n l, reader-gives-counted s n l)
 
 -- ---- Not empty words. crates/instances/specs/PageSets.antt has four page sets, byte by byte.
 

@@ -2,7 +2,7 @@
 -- combined mask and every feature register of the finished rows are the and of the two sets'.
 use mathlib.Core.Path.{_≡_, refl, sym, ap, ap₂, _∙_}
 use mathlib.Core.Bool.{Bool, true, false, _&&_}
-use Prim.Native.Nat.{ℕ, _≤_, min, max}
+use Prim.Native.Nat.{ℕ, _≤_, _<_, min, max}
 use native.Mathlib.Omega.{arith}
 use lib.Dec.{eqb}
 use lib.Bits.{bitAnd, bitOr, and-zero-l, and-zero-r}
@@ -13,7 +13,7 @@ use Rattle.bits.specs.Bits.{bit, has, Within}
 use Rattle.bits.specs.BitsLaws.{bit-and, bit-or, bits-ext, has-and, zero-bit}
 use Rattle.x86defs.specs.declared.CpuidResult.{CpuidResult}
 use Rattle.x86defs.specs.Functions.{result}
-use Rattle.masking.specs.Kept.{keptLeaves, slot}
+use Rattle.masking.specs.Kept.{places, keptLeaves, slot}
 use Rattle.masking.specs.Place
 use Rattle.table.specs.Rows.{Row, Rows}
 use Rattle.checks.specs.ExtendedState.{xfem, xss, combinedMask}
@@ -22,7 +22,7 @@ use Rattle.update.specs.Finish.Needed.{versionAndFeatures, extendedFeatu
 use Rattle.update.specs.Finish.Rule.{made, needed, component}
 use Rattle.update.specs.Kinds.{Kind, Kinds, registerKinds, kindsAt}
 use Rattle.update.specs.Kinds.Kind.{feature, featureBut28, area, freed, other}
-use Rattle.update.specs.RuleKinds.{kindsOf}
+use Rattle.update.specs.RuleKinds.{featureEax, kindsOf, kinds-at}
 use Rattle.update.specs.FeatureLaws.{bothEnable, versionEcx-and, featuresEbx-and, featuresEcx-and, featuresEdx-and, extendedVersionEdx-and, addressSizesEbx-and}
 
 -- joined by and where the register holds features; else the first's
@@ -161,3 +161,18 @@ module _ (e c d : Settings) (joins : e .enabled ≡ bothEnable (c .enabled) (d .
   finish-join true (needed untouched) a b h = record { eax = refl; ebx = tt; ecx = tt; edx = tt }
   finish-join false (needed untouched) a b h = record { eax = tt; ebx = tt; ecx = tt; edx = tt }
   finish-join f (component k) a b h = record { eax = tt; ebx = tt; ecx = tt; edx = tt }
+
+  -- at a place
+  pub finish-join-at : (a b : Rows) (i : ℕ) → i < places
+      → (ruleAt i ≡ needed extendedState1 → EndsAsXss e (joinRows a b i .result) × EndsAsXss c (a i .result) × EndsAsXss d (b i .result))
+      → FeaturesJoin (kindsAt i) (finish e (ruleAt i) (joinRows a b i .result)) (finish c (ruleAt i) (a i .result))
+      (finish d (ruleAt i) (b i .result))
+  unfolding joinRows
+  finish-join-at a b i l h = at (kindsAt i) (kinds-at i l) h
+    where
+      at : (k : Kinds) → k ≡ kindsOf (featureEax i) (ruleAt i)
+          → (ruleAt i ≡ needed extendedState1
+          → EndsAsXss e (joinResults k (a i .result) (b i .result)) × EndsAsXss c (a i .result) × EndsAsXss d (b i .result))
+          → FeaturesJoin k (finish e (ruleAt i) (joinResults k (a i .result) (b i .result))) (finish c (ruleAt i) (a i .result))
+          (finish d (ruleAt i) (b i .result))
+      at k q h = rw q (finish-join (featureEax i) (ruleAt i) (a i .result) (b i .result) (rw q at h))

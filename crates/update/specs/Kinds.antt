@@ -29,11 +29,11 @@ kinds a b c d = record { eax = a; ebx = b; ecx = c; edx = d }
 
 -- a leaf, its subleaf (0 where it has none), and the kinds of EAX, EBX, ECX and EDX
 pub record LeafKinds : Type 0 where
-  pub leaf : ℕ
+  pub leaf : CpuidFunction
   pub subleaf : ℕ
   pub kinds : Kinds
 
-abbrev leaf : ℕ → ℕ → Kind → Kind → Kind → Kind → LeafKinds
+abbrev leaf : CpuidFunction → ℕ → Kind → Kind → Kind → Kind → LeafKinds
 leaf l k a b c d = record { leaf = l; subleaf = k; kinds = kinds a b c d }
 
 -- "1.ECX; 1.EDX but bit 28; 7.0.EBX, ECX, EDX; 80000001h.ECX, EDX; 80000008h.EBX; D.0.EAX; D.1.EAX, ECX; 8000001Ah.EAX; 8000001Fh.EAX. The
@@ -41,24 +41,24 @@ leaf l k a b c d = record { leaf = l; subleaf = k; kinds = kinds a b c d }
 -- entry: nothing is asked of one.
 unfoldable pub registerKinds : List LeafKinds
 registerKinds =
-    leaf 0x1 0 other other feature featureBut28
-    ∷ leaf 0x7 0 other feature feature feature
-    ∷ leaf 0x80000001 0 other other feature feature
-    ∷ leaf 0x80000008 0 other feature other other
-    ∷ leaf 0xD 0 feature other area other
-    ∷ leaf 0xD 1 feature other feature other
-    ∷ leaf 0x8000001A 0 feature other other other
-    ∷ leaf 0x8000001F 0 feature other other other
-    ∷ leaf 0xB 0 freed freed freed freed
-    ∷ leaf 0xB 1 freed freed freed freed
-    ∷ leaf 0x0 0 freed freed freed freed
-    ∷ leaf 0x80000000 0 freed freed freed freed
+    leaf (function 0x1) 0 other other feature featureBut28
+    ∷ leaf (function 0x7) 0 other feature feature feature
+    ∷ leaf (function 0x80000001) 0 other other feature feature
+    ∷ leaf (function 0x80000008) 0 other feature other other
+    ∷ leaf (function 0xD) 0 feature other area other
+    ∷ leaf (function 0xD) 1 feature other feature other
+    ∷ leaf (function 0x8000001A) 0 feature other other other
+    ∷ leaf (function 0x8000001F) 0 feature other other other
+    ∷ leaf (function 0xB) 0 freed freed freed freed
+    ∷ leaf (function 0xB) 1 freed freed freed freed
+    ∷ leaf (function 0x0) 0 freed freed freed freed
+    ∷ leaf (function 0x80000000) 0 freed freed freed freed
     ∷ []
 
--- all other registers are of the last kind
+-- a register that the table does not name is of kind `other`
 abbrev kindsIn : List LeafKinds → CpuidFunction → ℕ → Kinds
 kindsIn [] l k = kinds other other other other
-kindsIn (r ∷ rs) l k = pick (sameFunction (function (r .leaf)) l && eqb (r .subleaf) k) (r .kinds) (kindsIn rs l k)
+kindsIn (r ∷ rs) l k = pick (sameFunction (r .leaf) l && eqb (r .subleaf) k) (r .kinds) (kindsIn rs l k)
 
 -- the kinds of the row at a place
 unfoldable pub kindsAt : ℕ → Kinds

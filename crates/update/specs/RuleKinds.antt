@@ -1,8 +1,9 @@
 -- The kinds of registers by rule, as laws on rules use them: those of a place are its rule's. Of the rows that no rule touches, two have
 -- features in EAX.
-use mathlib.Core.Path.{_≡_, refl}
+use mathlib.Core.Path.{_≡_, refl, ap, _∙_}
 use mathlib.Core.Bool.{Bool, _||_}
-use Prim.Native.Nat.{ℕ, _<_}
+use Prim.Native.Nat.{ℕ, _≤_, _<_}
+use native.Mathlib.Omega.{arith}
 use lib.Dec.{eqb}
 use Rattle.bits.specs.Choice.{pick}
 use Rattle.bits.specs.Lists.{tabulate}
@@ -12,6 +13,7 @@ use Rattle.masking.specs.Place
 use Rattle.update.specs.Finish.{Needed, Rule, ruleAt}
 use Rattle.update.specs.Finish.Needed.{versionAndFeatures, extendedFeatures, threadLevelRow, coreLevelRow, extendedState0, extendedState1, extendedVersionAndFeatures, extendedAddressSpaceSizes, untouched}
 use Rattle.update.specs.Finish.Rule.{made, needed, component}
+use Rattle.update.specs.PlaceLaws.{component-rule}
 use Rattle.update.specs.Kinds.{Kinds, kinds, registerKinds, kindsAt}
 use Rattle.update.specs.Kinds.Kind.{feature, featureBut28, area, freed, other}
 
@@ -41,3 +43,8 @@ all-kinds = refl
 
 pub kinds-at : (i : ℕ) → i < places → kindsAt i ≡ kindsOf (featureEax i) (ruleAt i)
 kinds-at i l = tabulate-at places _ _ all-kinds i l
+
+-- D.k, k from 2 up
+pub component-kinds : (k : ℕ) → 2 ≤ k → k < 64 → kindsAt (Place.extendedState k) ≡ kinds other other other other
+component-kinds k l u =
+    kinds-at (Place.extendedState k) (omega arith) ∙ ap (kindsOf (featureEax (Place.extendedState k))) (component-rule k l u)

@@ -14,6 +14,8 @@ ghost use Rattle.x86defs.specs.ExtendedStateEnumerationSubleaf1Eax.Exten
 ghost use Rattle.x86defs.specs.ExtendedSevFeaturesEax;
 ghost use Rattle.x86defs.specs.ExtendedSevFeaturesEax.ExtendedSevFeaturesEax.{tsc-aux-virtualization};
 
+pub mod leaf;
+
 // A leaf, the value of EAX going in. A subleaf is a plain u32, so one is never taken for the other.
 pub struct CpuidFunction(pub u32);
 

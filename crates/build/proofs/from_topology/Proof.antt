@@ -14,7 +14,7 @@ extended-topology-requires c κs = let n = c .before .before .before in (n .befo
 
 -- where the function starts, and its rows
 abbrev start : tie.After-extended-topology → tie.Start
-start c = let s = c .before .before .before .before .before in s .before .before .before .before
+start c = let n = c .before .before .before .before in let sizes = n .before .before in sizes .before .before .before
 
 abbrev rows : tie.After-extended-topology → Rows
 rows c = rowsIn (start c .args .t1)

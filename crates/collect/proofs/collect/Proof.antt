@@ -1,7 +1,7 @@
--- `build::collect` meets its contract: before each turn the entries that are left give what all give. The inner loop keeps to one page, so a turn of the outer one ends on a later page.
+-- `collect::collect` meets its contract: before each turn the entries that are left give what all give. The inner loop keeps to one page, so a turn of the outer one ends on a later page.
 use borrow.Author.Needs.{needs}
 use native.Mathlib.Omega.{arith}
-use mathlib.Core.Path.{sym, ap, _∙_}
+use mathlib.Core.Path.{ap, _∙_}
 use mathlib.Core.Logic.{⊎-elim}
 use Prim.Native.Nat.{_-_, _≤_, _<_}
 use lib.ListN.{length}
@@ -58,7 +58,7 @@ loop2-again c =
     let e = k .before in
     let l = e .before .before in
     let h = take-requires e (k .take .lifetimes) .0 in
-    let at = c .before .before .counted-place .ensures ∙ ap (λ p. countedPlace p (k .take .result .found)) (sym (e .if2 .taken)) ∙ ap (countedPlace _) (k .take .ensures .0) ∙ counted-place-stored _ _ _ in (
+    let at = c .before .before .counted-place .ensures ∙ ap countedPlace (k .take .ensures .0) ∙ counted-place-stored _ in (
       rw (k .take .ensures .1)
           (collecting-next _ _ (l .loop2 .t) _ _ (l .loop2 .inv .0) h
           (⊎-elim

@@ -7,7 +7,8 @@ use borrow.Author.Needs.{needs}
 use lib.ListN.{length}
 use Rattle.masking.specs.Kept.{places}
 use Rattle.table.specs.Table.{rowIn}
-use Rattle.image.specs.PiecesLaws.{rows-all, run-end, run-leaf, run-row, Onward, onward-none, onward-join, row-room, onward-row, onward-all}
+use Rattle.masking.specs.RunLaws.{run-end, run-leaf}
+use Rattle.image.specs.PiecesLaws.{rows-all, run-row, Onward, onward-none, onward-join, row-room, onward-row, onward-all}
 use Rattle.image.proofs.put_rows.Statement.{statement}
 use Rattle.image.proofs.put_rows.Tie as tie
 
@@ -25,16 +26,16 @@ abbrev μ-loop : tie.MeasureT-loop
 
 loop-again : tie.Need-loop-again Inv-loop2 μ-loop2 Inv-loop μ-loop
 loop-again c =
-    let call = c .before .before .run-at in
-    let outer = c .before .before .before .before .loop in
+    let call = c .before .before .before .run-at in
+    let outer = c .before .before .before .before .before .loop in
     (omega (arith, run-end (call .result) (call .ensures .0)), onward-join _ (outer .inv .1) (c .before .loop2 .inv .2))
 
 put-place-requires : tie.Need-put-place-requires Inv-loop2 μ-loop2 Inv-loop μ-loop
 put-place-requires c κs =
     let inner = c .before .before .before .before in
-    let call = inner .before .run-at in
-    let outer = inner .before .before .before .loop in
-    let t = inner .before .before .before .before .before .args .t1 in
+    let call = inner .before .before .run-at in
+    let outer = inner .before .before .before .before .loop in
+    let t = inner .before .before .before .before .before .before .args .t1 in
     let i = inner .loop2 .i in
     let high = run-end (call .result) (call .ensures .0) in
     let e = run-row (call .result) (call .ensures .0) i (rowIn t i) (omega arith) (omega arith) in (
@@ -46,8 +47,8 @@ loop2-again : tie.Need-loop2-again Inv-loop2 μ-loop2 Inv-loop μ-loop
 loop2-again c =
     let put = c .before .before .put-place in
     let inner = c .before .before .before .before .before .before .before in
-    let call = inner .before .run-at in
-    let t = inner .before .before .before .before .before .args .t1 in
+    let call = inner .before .before .run-at in
+    let t = inner .before .before .before .before .before .before .args .t1 in
     let i = inner .loop2 .i in
     let high = run-end (call .result) (call .ensures .0) in
     let e = run-row (call .result) (call .ensures .0) i (rowIn t i) (omega arith) (omega arith) in
@@ -67,14 +68,16 @@ put-rows-spec =
     μ-loop
     (λ c. (search needs, onward-none _ _ _ _))
     (λ c κs. search needs)
+    (λ c. search needs)
+    (λ c. record { fits = omega (arith, run-end _ (c .before .run-at .ensures .0)) })
     (λ c. (search needs, search needs, onward-none _ _ _ _))
-    (λ c. omega (arith, run-end _ (c .before .before .run-at .ensures .0)))
+    (λ c. omega (arith, run-end _ (c .before .before .before .run-at .ensures .0)))
     loop-again
-    (λ c. omega (arith, run-end _ (c .before .before .run-at .ensures .0)))
     (λ c. omega (arith, run-end _ (c .before .before .before .run-at .ensures .0)))
-    (λ c. omega (arith, run-end _ (c .before .before .before .run-at .ensures .0)))
+    (λ c. omega (arith, run-end _ (c .before .before .before .before .run-at .ensures .0)))
+    (λ c. omega (arith, run-end _ (c .before .before .before .before .run-at .ensures .0)))
     (λ c. omega arith)
-    (λ c. omega (arith, run-end _ (c .before .before .before .before .before .run-at .ensures .0)))
+    (λ c. omega (arith, run-end _ (c .before .before .before .before .before .before .run-at .ensures .0)))
     put-place-requires
     (λ c. omega arith)
     (λ c. search needs)

@@ -1,20 +1,11 @@
--- `masking::indexed_at` meets its contract, by computation over each run of places.
-use mathlib.Core.Path.{refl}
-use mathlib.Core.Bool.{true, false}
-use Prim.Native.Nat.{zero-le}
-use Rattle.bits.specs.Lists.{tabulate}
-use Rattle.masking.specs.Kept.{keptLeaves, slot, indexedAt}
-use Rattle.masking.specs.RunLaws.{on-run}
+-- `masking::indexed_at` meets its contract, by what a lawful run says of its places.
+use borrow.Author.Needs.{needs}
+use Rattle.masking.specs.RunLaws.{indexed-in-run}
 use Rattle.masking.proofs.indexed_at.Statement.{statement}
 use Rattle.masking.proofs.indexed_at.Tie as tie
 
+returns : tie.Need-returns
+returns c = let run = c .run-at in indexed-in-run (run .result) (run .ensures .0) (run .ensures .1) (run .ensures .2)
+
 pub indexed-at-spec : {M : Type 1} → statement M
-unfolding slot keptLeaves tabulate
-indexed-at-spec =
-    tie.close
-    (tie.spec
-    (λ c. on-run (λ i. false) indexedAt zero-le (c .if1 .taken) refl)
-    (λ c. on-run (λ i. true) indexedAt (c .before .if1 .left) (c .if2 .taken) refl)
-    (λ c. on-run (λ i. false) indexedAt (c .before .if2 .left) (c .if3 .taken) refl)
-    (λ c. on-run (λ i. true) indexedAt (c .before .if3 .left) (c .if4 .taken) refl)
-    (λ c. on-run (λ i. false) indexedAt (c .if4 .left) (c .before .before .before .before .pre) refl))
+indexed-at-spec = tie.close (tie.spec (λ c κs. search needs) returns)

@@ -1,6 +1,7 @@
--- `masking::mask_row` meets its contract: in each run of places the row that the code gives is the table's, by computation over the run.
-use mathlib.Core.Path.{refl}
-use Prim.Native.Nat.{_-_, zero-le}
+-- `masking::mask_row` meets its contract: in each stretch of places the row that the code gives is the table's, by computation over it.
+use mathlib.Core.Path.{refl, _∙_}
+use Prim.Native.Nat.{_+_, _-_, min, zero-le}
+use native.Mathlib.Omega.{arith}
 use borrow.Author.Needs.{needs}
 use Rattle.bits.specs.Lists.{tabulate}
 use Rattle.masking.specs.Kept.{keptLeaves}
@@ -14,12 +15,11 @@ unfolding rowOfPlace keptLeaves tabulate
 mask-row-spec =
     tie.close
     (tie.spec
-    (λ c. search needs)
-    (λ c. search needs)
-    (λ c. search needs)
-    (λ c. (on-run (λ i. i) rowOfPlace zero-le (c .if1 .taken) refl, search needs))
-    (λ c. (on-run (λ i. i - 1) rowOfPlace (c .before .if1 .left) (c .if2 .taken) refl, search needs))
-    (λ c. (on-run (λ i. 7) rowOfPlace (c .before .if2 .left) (c .if3 .taken) refl, search needs))
-    (λ c. (on-run (λ i. i - 62) rowOfPlace (c .before .if3 .left) (c .if4 .taken) refl, search needs))
-    (λ c. (on-run (λ i. 20) rowOfPlace (c .before .if4 .left) (c .if5 .taken) refl, search needs))
-    (λ c. (on-run (λ i. i - 65) rowOfPlace (c .if5 .left) (c .before .before .before .before .before .pre) refl, search needs)))
+    (λ c κs. search needs)
+    (λ c. (c .row-from .ensures ∙ on-run (λ i. min (0 + (i - 0)) 4) rowOfPlace zero-le (c .before .if1 .taken) refl, omega (arith, c .row-from .ensures)))
+    (λ c κs. search needs)
+    (λ c. (c .row-from2 .ensures ∙ on-run (λ i. min (5 + (i - 6)) 7) rowOfPlace (c .before .before .before .if1 .left) (c .before .if2 .taken) refl, omega (arith, c .row-from2 .ensures)))
+    (λ c κs. search needs)
+    (λ c. (c .row-from3 .ensures ∙ on-run (λ i. min (8 + (i - 70)) 20) rowOfPlace (c .before .before .before .if2 .left) (c .before .if3 .taken) refl, omega (arith, c .row-from3 .ensures)))
+    (λ c κs. search needs)
+    (λ c. (c .row-from4 .ensures ∙ on-run (λ i. min (21 + (i - 86)) 22) rowOfPlace (c .before .if3 .left) (c .before .before .before .before .before .before .before .pre) refl, omega (arith, c .row-from4 .ensures))))

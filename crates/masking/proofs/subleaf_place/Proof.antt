@@ -9,5 +9,5 @@ subleaf-place-spec =
     tie.close
     (tie.spec
     (λ c. search needs)
-    (λ c. (rw (lt-ltb _ _ (c .if1 .taken)), search needs))
+    (λ c. (rw (lt-ltb _ _ (c .before .if1 .taken)), search needs))
     (λ c. (rw (le-ltb _ _ (c .if1 .left)), search needs)))

@@ -1,6 +1,7 @@
--- `required::validate_required` meets its contract: the code's table is the definition's list, and each turn passes one of its rows or
--- stops there.
+-- `required::validate_required` meets its contract: the code's places are those of the definition's list, and each turn passes one of them
+-- or stops there.
 use borrow.Author.Needs.{needs}
+use native.Mathlib.Omega.{arith}
 use mathlib.Core.Path.{_≡_, refl, sym, _∙_}
 use Prim.Native.Nat.{_≤_, _-_}
 use Rattle.bits.specs.Lists.{tabulate}
@@ -8,36 +9,40 @@ use Rattle.masking.specs.Kept.{keptLeaves, placeOf}
 use Rattle.checks.specs.Required.{commonRequiredLeaves, snpRequiredLeaves, requiredAt, placeRequired}
 use Rattle.checks.specs.Checks.{requiredVerdict}
 use Rattle.checks.specs.Parts.{presentIn}
-use Rattle.checks.specs.ScanLaws.{refuseFrom, requiredRows, requiredFrom, required-row-place, required-passes, required-stops, required-ends}
+use Rattle.checks.specs.ScanLaws.{refuseFrom, requiredPlaces, requiredFrom, required-row-place, required-passes, required-stops, required-ends}
 use Rattle.checks.proofs.required.validate_required.Statement.{statement}
 use Rattle.checks.proofs.required.validate_required.Tie as tie
 
 abbrev Inv-loop : tie.InvT-loop
-Inv-loop present required j₀ j = (j ≤ 24) × (required ≡ requiredRows) × (requiredVerdict (presentIn present) ≡ requiredFrom present j)
+Inv-loop present required j₀ j = (j ≤ 24) × (required ≡ requiredPlaces) × (requiredVerdict (presentIn present) ≡ requiredFrom present j)
 
 abbrev μ-loop : tie.MeasureT-loop
 μ-loop present required j₀ j = 24 - j
 
 loop-holds : tie.Need-loop-holds Inv-loop μ-loop
-unfolding requiredRows tabulate requiredAt placeRequired commonRequiredLeaves snpRequiredLeaves placeOf keptLeaves requiredVerdict refuseFrom
+unfolding requiredPlaces tabulate requiredAt placeRequired commonRequiredLeaves snpRequiredLeaves placeOf keptLeaves requiredVerdict refuseFrom
 loop-holds c = (search needs, refl, refl)
 
+cast-place : tie.Need-cast-place Inv-loop μ-loop
+cast-place c =
+    let s = c .before in
+    record { fits = omega (arith, required-row-place (s .before .args .t1) (s .loop .j) (s .loop .inv .1) (search needs)) }
+
 array-read-if1 : tie.Need-array-read-if1 Inv-loop μ-loop
-array-read-if1 c = let s = c .before .before in required-row-place (s .before .args .t1) (s .loop .j) _ (s .loop .inv .1) (search needs)
+array-read-if1 c = let s = c .before in required-row-place (s .before .args .t1) (s .loop .j) (s .loop .inv .1) (search needs)
 
 loop-again : tie.Need-loop-again Inv-loop μ-loop
 loop-again c =
-    let s = c .before .before .before in (
-      search needs,
-      s .loop .inv .1,
-      s .loop .inv .2 ∙ required-passes (s .before .args .t1) (s .loop .j) _ (s .loop .inv .1) (search needs) (c .if1 .taken),
-    )
+    let s = c .before .before in
+    (search needs, s .loop .inv .1, s .loop .inv .2 ∙ required-passes (s .before .args .t1) (s .loop .j) (s .loop .inv .1) (search needs) (c .if1 .taken))
+
+missing-at-requires : tie.Need-missing-at-requires Inv-loop μ-loop
+missing-at-requires c κs = let s = c .before .before in required-row-place (s .before .args .t1) (s .loop .j) (s .loop .inv .1) (search needs)
 
 returns : tie.Need-returns Inv-loop μ-loop
 returns c =
-    let s = c .before .before .before .before in
-    required-stops (s .before .args .t1) (s .loop .j) _ (s .loop .inv .1) (search needs) (c .before .if1 .left) (c .subleaf-of .ensures)
-    ∙ sym (s .loop .inv .2)
+    let s = c .before .before .before in
+    c .missing-at .ensures ∙ required-stops (s .before .args .t1) (s .loop .j) (s .loop .inv .1) (search needs) (c .before .if1 .left) ∙ sym (s .loop .inv .2)
 
 returns-2 : tie.Need-returns-2 Inv-loop μ-loop
 returns-2 c = let s = c .before in required-ends (s .before .args .t1) (s .loop .j) (search needs) ∙ sym (s .loop .inv .2)
@@ -50,11 +55,11 @@ validate-required-spec =
     μ-loop
     loop-holds
     (λ c. search needs)
-    (λ c. search needs)
+    cast-place
     array-read-if1
     (λ c. search needs)
     (λ c. search needs)
     loop-again
-    (λ c κs. search needs)
+    missing-at-requires
     returns
     returns-2)

@@ -1,29 +1,68 @@
--- `kinds::kinds_at` meets its contract: a place of its own by computation, a run of places by computation over it.
-use mathlib.Core.Path.{_≡_, refl, ap, _∙_}
-use Prim.Native.Nat.{ℕ, _≤_, _<_, zero-le}
-use native.Mathlib.Omega.{arith}
+-- `kinds::kinds_at` meets its contract: a place with kinds of its own by computation, any other by computation over the places.
+use mathlib.Core.Path.{_≡_, refl, sym, ap, _∙_}
+use mathlib.Core.Bool.{Bool, false, _||_}
+use mathlib.Core.List.{List, [], _∷_}
+use Prim.Native.Nat.{ℕ, _<_}
+use lib.Dec.{eqb}
 use borrow.Author.Needs.{needs}
+use borrow.Author.Tests.{ne-eqb}
+use Rattle.bits.specs.Choice.{pick}
+use Rattle.bits.specs.ChoiceLaws.{pick-false}
 use Rattle.bits.specs.Lists.{tabulate}
-use Rattle.masking.specs.RunLaws.{on-run}
-use Rattle.masking.specs.Kept.{keptLeaves, slot}
+use Rattle.bits.specs.ListsLaws.{tabulate-at}
+use Rattle.masking.specs.Kept.{keptLeaves, slot, places}
+use Rattle.masking.specs.Place
 use Rattle.update.specs.Kinds.{Kinds, kinds, registerKinds, kindsAt}
-use Rattle.update.specs.Kinds.Kind.{feature, freed, other}
+use Rattle.update.specs.Kinds.Kind.{other}
 use Rattle.compare.specs.KindsInCode.{kindsIn}
 use Rattle.compare.proofs.kinds.kinds_at.Statement.{statement}
 use Rattle.compare.proofs.kinds.kinds_at.Tie as tie
 
--- above k, for what is not k
-past : (k i : ℕ) → k ≤ i → (i ≡ k → ⊥) → k < i
-past k i l n = omega arith
+abbrev isOne : List ℕ → ℕ → Bool
+isOne [] i = false
+isOne (n ∷ ns) i = eqb i n || isOne ns i
+
+-- the places that the code names
+abbrev named : ℕ → Bool
+named =
+    isOne
+    (Place.vendorAndMaxFunction ∷ Place.versionAndFeatures ∷ Place.extendedFeatures ∷ Place.threadLevel ∷ Place.coreLevel
+    ∷ Place.extendedState 0 ∷ Place.extendedState 1 ∷ Place.extendedMaxFunction ∷ Place.extendedVersionAndFeatures
+    ∷ Place.extendedAddressSpaceSizes ∷ Place.extendedOptimizationIdentifiers ∷ Place.extendedSevFeatures ∷ [])
+
+-- any other has no register of demand 3's list
+abbrev plain : Kinds
+plain = kinds other other other other
+
+others : (i : ℕ) → i < places → pick (named i) plain (kindsAt i) ≡ plain
+unfolding tabulate kindsAt registerKinds slot keptLeaves
+others i h = tabulate-at places (λ i. pick (named i) plain (kindsAt i)) (λ i. plain) refl i h
+
+returns-13 : tie.Need-returns-13
+returns-13 c =
+    let r = c .before .match .rest in
+    let none : named (c .before .before .args .place) ≡ false =
+    rw (
+      ne-eqb _ 0 (r .0 .0 .0 .0 .0 .0 .0 .0 .0 .0 .0 .1),
+      ne-eqb _ 1 (r .0 .0 .0 .0 .0 .0 .0 .0 .0 .0 .1),
+      ne-eqb _ 3 (r .0 .0 .0 .0 .0 .0 .0 .0 .0 .1),
+      ne-eqb _ 4 (r .0 .0 .0 .0 .0 .0 .0 .0 .1),
+      ne-eqb _ 5 (r .0 .0 .0 .0 .0 .0 .0 .1),
+      ne-eqb _ 6 (r .0 .0 .0 .0 .0 .0 .1),
+      ne-eqb _ 7 (r .0 .0 .0 .0 .0 .1),
+      ne-eqb _ 70 (r .0 .0 .0 .0 .1),
+      ne-eqb _ 71 (r .0 .0 .0 .1),
+      ne-eqb _ 78 (r .0 .0 .1),
+      ne-eqb _ 81 (r .0 .1),
+      ne-eqb _ 87 (r .1),
+    ) in
+    ap kindsIn (c .row-of13 .ensures) ∙ sym (others _ (c .before .before .pre)) ∙ pick-false _ _ none
 
 pub kinds-at-spec : {M : Type 1} → statement M
-unfolding tabulate kindsAt registerKinds slot keptLeaves
+unfolding kindsAt registerKinds slot keptLeaves
 kinds-at-spec =
     tie.close
     (tie.spec
-    (λ c κs. search needs)
-    (λ c κs. search needs)
-    (λ c κs. search needs)
     (λ c κs. search needs)
     (λ c κs. search needs)
     (λ c κs. search needs)
@@ -47,9 +86,6 @@ kinds-at-spec =
     (λ c. rw (c .row-of8 .ensures, c .before .match .keys8))
     (λ c. rw (c .row-of9 .ensures, c .before .match .keys9))
     (λ c. rw (c .row-of10 .ensures, c .before .match .keys10))
-    (λ c. let r = c .before .before .match .rest in ap kindsIn (c .row-of11 .ensures) ∙ on-run (λ i. kinds freed freed freed freed) kindsAt (past 3 _ (past 2 _ (past 1 _ (past 0 _ zero-le (r .0 .0 .0 .0 .0 .0 .0 .0 .0 .1)) (r .0 .0 .0 .0 .0 .0 .0 .0 .1)) (r .0 .0 .0 .0 .0 .0 .0 .1)) (r .0 .0 .0 .0 .0 .0 .1)) (c .before .if1 .taken) refl)
-    (λ c. let r = c .before .before .before .match .rest in ap kindsIn (c .row-of12 .ensures) ∙ on-run (λ i. kinds other other other other) kindsAt (past 7 _ (past 6 _ (c .before .before .if1 .left) (r .0 .0 .0 .0 .0 .1)) (r .0 .0 .0 .0 .1)) (c .before .if2 .taken) refl)
-    (λ c. let r = c .before .before .before .before .match .rest in ap kindsIn (c .row-of13 .ensures) ∙ on-run (λ i. kinds other other other other) kindsAt (past 71 _ (past 70 _ (c .before .before .if2 .left) (r .0 .0 .0 .1)) (r .0 .0 .1)) (c .before .if3 .taken) refl)
-    (λ c. let r = c .before .before .before .before .before .match .rest in ap kindsIn (c .row-of14 .ensures) ∙ on-run (λ i. kinds other other other other) kindsAt (past 78 _ (c .before .before .if3 .left) (r .0 .1)) (c .before .if4 .taken) refl)
-    (λ c. let r = c .before .before .before .before .before .before .match .rest in ap kindsIn (c .row-of15 .ensures) ∙ on-run (λ i. kinds other other other other) kindsAt (past 81 _ (c .before .before .if4 .left) (r .1)) (c .before .if5 .taken) refl)
-    (λ c. ap kindsIn (c .row-of16 .ensures) ∙ on-run (λ i. kinds feature other other other) kindsAt (c .before .if5 .left) (c .before .before .before .before .before .before .before .pre) refl))
+    (λ c. rw (c .row-of11 .ensures, c .before .match .keys11))
+    (λ c. rw (c .row-of12 .ensures, c .before .match .keys12))
+    returns-13)

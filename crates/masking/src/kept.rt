@@ -2,13 +2,14 @@
 // one that its named bits and fields give.
 use crate::KeptLeaf;
 use x86defs::CpuidFunction;
+use x86defs::leaf;
 
 const ONES: u32 = 0xFFFF_FFFF;
 
 pub const KEPT_LEAVES: [KeptLeaf; 23] = [
-    // VendorAndMaxFunction: made here
+    // made here
     KeptLeaf {
-        leaf: CpuidFunction(0x0),
+        leaf: CpuidFunction(leaf::VENDOR_AND_MAX_FUNCTION),
         subleaf: false,
         first: 1,
         last: 0,
@@ -17,9 +18,8 @@ pub const KEPT_LEAVES: [KeptLeaf; 23] = [
         ecx: 0,
         edx: 0,
     },
-    // VersionAndFeatures
     KeptLeaf {
-        leaf: CpuidFunction(0x1),
+        leaf: CpuidFunction(leaf::VERSION_AND_FEATURES),
         subleaf: false,
         first: 0,
         last: ONES,
@@ -28,9 +28,8 @@ pub const KEPT_LEAVES: [KeptLeaf; 23] = [
         ecx: 0x7EDA_3203,
         edx: 0x178B_FBFF,
     },
-    // MonitorMwait
     KeptLeaf {
-        leaf: CpuidFunction(0x5),
+        leaf: CpuidFunction(leaf::MONITOR_MWAIT),
         subleaf: false,
         first: 0,
         last: ONES,
@@ -39,9 +38,8 @@ pub const KEPT_LEAVES: [KeptLeaf; 23] = [
         ecx: ONES,
         edx: ONES,
     },
-    // ExtendedFeatures
     KeptLeaf {
-        leaf: CpuidFunction(0x7),
+        leaf: CpuidFunction(leaf::EXTENDED_FEATURES),
         subleaf: true,
         first: 0,
         last: 0,
@@ -50,9 +48,8 @@ pub const KEPT_LEAVES: [KeptLeaf; 23] = [
         ecx: 0x1A40_5FE6,
         edx: 0x0080_4110,
     },
-    // ExtendedTopologyEnumeration
     KeptLeaf {
-        leaf: CpuidFunction(0xB),
+        leaf: CpuidFunction(leaf::EXTENDED_TOPOLOGY_ENUMERATION),
         subleaf: true,
         first: 0,
         last: 1,
@@ -61,9 +58,9 @@ pub const KEPT_LEAVES: [KeptLeaf; 23] = [
         ecx: ONES,
         edx: ONES,
     },
-    // ExtendedStateEnumeration, subleaf 0
+    // subleaf 0
     KeptLeaf {
-        leaf: CpuidFunction(0xD),
+        leaf: CpuidFunction(leaf::EXTENDED_STATE_ENUMERATION),
         subleaf: true,
         first: 0,
         last: 0,
@@ -72,9 +69,9 @@ pub const KEPT_LEAVES: [KeptLeaf; 23] = [
         ecx: ONES,
         edx: 0,
     },
-    // ExtendedStateEnumeration, subleaf 1
+    // subleaf 1
     KeptLeaf {
-        leaf: CpuidFunction(0xD),
+        leaf: CpuidFunction(leaf::EXTENDED_STATE_ENUMERATION),
         subleaf: true,
         first: 1,
         last: 1,
@@ -83,9 +80,9 @@ pub const KEPT_LEAVES: [KeptLeaf; 23] = [
         ecx: 0x0000_1800,
         edx: 0,
     },
-    // ExtendedStateEnumeration, subleaves 2 to 63
+    // subleaves 2 to 63
     KeptLeaf {
-        leaf: CpuidFunction(0xD),
+        leaf: CpuidFunction(leaf::EXTENDED_STATE_ENUMERATION),
         subleaf: true,
         first: 2,
         last: 63,
@@ -94,9 +91,9 @@ pub const KEPT_LEAVES: [KeptLeaf; 23] = [
         ecx: ONES,
         edx: ONES,
     },
-    // ExtendedMaxFunction: made here
+    // made here
     KeptLeaf {
-        leaf: CpuidFunction(0x8000_0000),
+        leaf: CpuidFunction(leaf::EXTENDED_MAX_FUNCTION),
         subleaf: false,
         first: 1,
         last: 0,
@@ -105,9 +102,9 @@ pub const KEPT_LEAVES: [KeptLeaf; 23] = [
         ecx: 0,
         edx: 0,
     },
-    // ExtendedVersionAndFeatures: the masks of masking.rs and snp.rs, joined
+    // the masks of masking.rs and snp.rs, joined
     KeptLeaf {
-        leaf: CpuidFunction(0x8000_0001),
+        leaf: CpuidFunction(leaf::EXTENDED_VERSION_AND_FEATURES),
         subleaf: false,
         first: 0,
         last: ONES,
@@ -116,9 +113,8 @@ pub const KEPT_LEAVES: [KeptLeaf; 23] = [
         ecx: 0x0041_0DF3,
         edx: 0xEFD3_FBFF,
     },
-    // ExtendedBrandingString1
     KeptLeaf {
-        leaf: CpuidFunction(0x8000_0002),
+        leaf: CpuidFunction(leaf::EXTENDED_BRANDING_STRING_1),
         subleaf: false,
         first: 0,
         last: ONES,
@@ -127,9 +123,8 @@ pub const KEPT_LEAVES: [KeptLeaf; 23] = [
         ecx: ONES,
         edx: ONES,
     },
-    // ExtendedBrandingString2
     KeptLeaf {
-        leaf: CpuidFunction(0x8000_0003),
+        leaf: CpuidFunction(leaf::EXTENDED_BRANDING_STRING_2),
         subleaf: false,
         first: 0,
         last: ONES,
@@ -138,9 +133,8 @@ pub const KEPT_LEAVES: [KeptLeaf; 23] = [
         ecx: ONES,
         edx: ONES,
     },
-    // ExtendedBrandingString3
     KeptLeaf {
-        leaf: CpuidFunction(0x8000_0004),
+        leaf: CpuidFunction(leaf::EXTENDED_BRANDING_STRING_3),
         subleaf: false,
         first: 0,
         last: ONES,
@@ -149,9 +143,8 @@ pub const KEPT_LEAVES: [KeptLeaf; 23] = [
         ecx: ONES,
         edx: ONES,
     },
-    // ExtendedL1CacheParameters
     KeptLeaf {
-        leaf: CpuidFunction(0x8000_0005),
+        leaf: CpuidFunction(leaf::EXTENDED_L1_CACHE_PARAMETERS),
         subleaf: false,
         first: 0,
         last: ONES,
@@ -160,9 +153,8 @@ pub const KEPT_LEAVES: [KeptLeaf; 23] = [
         ecx: ONES,
         edx: ONES,
     },
-    // ExtendedL2CacheParameters
     KeptLeaf {
-        leaf: CpuidFunction(0x8000_0006),
+        leaf: CpuidFunction(leaf::EXTENDED_L2_CACHE_PARAMETERS),
         subleaf: false,
         first: 0,
         last: ONES,
@@ -171,9 +163,8 @@ pub const KEPT_LEAVES: [KeptLeaf; 23] = [
         ecx: ONES,
         edx: ONES,
     },
-    // ExtendedPowerManagement
     KeptLeaf {
-        leaf: CpuidFunction(0x8000_0007),
+        leaf: CpuidFunction(leaf::EXTENDED_POWER_MANAGEMENT),
         subleaf: false,
         first: 0,
         last: ONES,
@@ -182,9 +173,9 @@ pub const KEPT_LEAVES: [KeptLeaf; 23] = [
         ecx: ONES,
         edx: ONES,
     },
-    // ExtendedAddressSpaceSizes: the masks of masking.rs and snp.rs, joined
+    // the masks of masking.rs and snp.rs, joined
     KeptLeaf {
-        leaf: CpuidFunction(0x8000_0008),
+        leaf: CpuidFunction(leaf::EXTENDED_ADDRESS_SPACE_SIZES),
         subleaf: false,
         first: 0,
         last: ONES,
@@ -193,9 +184,8 @@ pub const KEPT_LEAVES: [KeptLeaf; 23] = [
         ecx: 0x0000_F0FF,
         edx: ONES,
     },
-    // ExtendedSvmVersionAndFeatures
     KeptLeaf {
-        leaf: CpuidFunction(0x8000_000A),
+        leaf: CpuidFunction(leaf::EXTENDED_SVM_VERSION_AND_FEATURES),
         subleaf: false,
         first: 0,
         last: ONES,
@@ -204,9 +194,8 @@ pub const KEPT_LEAVES: [KeptLeaf; 23] = [
         ecx: 0,
         edx: 0,
     },
-    // ExtendedTlb1GBIdentifiers
     KeptLeaf {
-        leaf: CpuidFunction(0x8000_0019),
+        leaf: CpuidFunction(leaf::EXTENDED_TLB1GB_IDENTIFIERS),
         subleaf: false,
         first: 0,
         last: ONES,
@@ -215,9 +204,8 @@ pub const KEPT_LEAVES: [KeptLeaf; 23] = [
         ecx: 0,
         edx: 0,
     },
-    // ExtendedOptimizationIdentifiers
     KeptLeaf {
-        leaf: CpuidFunction(0x8000_001A),
+        leaf: CpuidFunction(leaf::EXTENDED_OPTIMIZATION_IDENTIFIERS),
         subleaf: false,
         first: 0,
         last: ONES,
@@ -226,9 +214,8 @@ pub const KEPT_LEAVES: [KeptLeaf; 23] = [
         ecx: 0,
         edx: 0,
     },
-    // CacheTopologyDefinition
     KeptLeaf {
-        leaf: CpuidFunction(0x8000_001D),
+        leaf: CpuidFunction(leaf::CACHE_TOPOLOGY_DEFINITION),
         subleaf: true,
         first: 0,
         last: 3,
@@ -237,9 +224,8 @@ pub const KEPT_LEAVES: [KeptLeaf; 23] = [
         ecx: ONES,
         edx: ONES,
     },
-    // ProcessorTopologyDefinition
     KeptLeaf {
-        leaf: CpuidFunction(0x8000_001E),
+        leaf: CpuidFunction(leaf::PROCESSOR_TOPOLOGY_DEFINITION),
         subleaf: false,
         first: 0,
         last: ONES,
@@ -248,9 +234,9 @@ pub const KEPT_LEAVES: [KeptLeaf; 23] = [
         ecx: ONES,
         edx: 0,
     },
-    // ExtendedSevFeatures: without secure AVIC
+    // without secure AVIC
     KeptLeaf {
-        leaf: CpuidFunction(0x8000_001F),
+        leaf: CpuidFunction(leaf::EXTENDED_SEV_FEATURES),
         subleaf: false,
         first: 0,
         last: ONES,

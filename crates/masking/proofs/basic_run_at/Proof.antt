@@ -1,0 +1,10 @@
+-- `masking::basic_run_at` meets its contract: that each run is lawful is computed.
+use borrow.Author.Needs.{needs}
+use Rattle.masking.specs.Kept.{slot, keptLeaves}
+use Rattle.masking.specs.Runs.{lawful}
+use Rattle.masking.proofs.basic_run_at.Statement.{statement}
+use Rattle.masking.proofs.basic_run_at.Tie as tie
+
+pub basic-run-at-spec : {M : Type 1} → statement M
+unfolding lawful slot keptLeaves
+basic-run-at-spec = tie.close (tie.spec (λ c. search needs) (λ c. search needs) (λ c. search needs) (λ c. search needs) (λ c. search needs))
