@@ -52,15 +52,16 @@ class TheRust(unittest.TestCase):
 
     def test_list(self):
         lower = set()
-        for vector, line in rust_list.listed():
-            answer = model.build(vector.pages, vector.secure_avic)
-            if vector.kind != 'w' or answer[0] == 'refusal':
+        for vector, secure_avic, line in rust_list.listed():
+            answer = model.build(vector.pages, secure_avic)
+            if not line.startswith('w') or answer[0] == 'refusal':
                 continue
             given = line.split()[-1]
+            room = len(given) // 2
             images = [model.image(table) for table in (answer, model.rust_answer(answer))]
-            if len(images[0]) > vector.room:
+            if len(images[0]) > room:
                 continue
-            new, old = [(image + FILL * (vector.room - len(image))).hex() for image in images]
+            new, old = [(image + FILL * (room - len(image))).hex() for image in images]
             self.assertEqual(old, given)
             v = answer[1][0xB, 1][model.EBX]
             self.assertEqual(new != given, v & (v - 1) != 0)

@@ -2,6 +2,7 @@
 -- rule gave, the place of the highest one bit of v, but where v comes from the legacy method and is no power of two: there it is one more.
 use mathlib.Core.Path.{_≡_, refl, ap, _∙_, subst}
 use mathlib.Core.Bool.{Bool, true, false, _&&_, _||_}
+use mathlib.Core.List.{[], _∷_}
 use mathlib.Core.Logic.{_≢_, inl, inr}
 use Prim.Native.Nat.{ℕ, suc, _+_, _*_, _^_, _≤_, _<_}
 use native.Mathlib.Nat.{eq-or-lt-of-le, pow-suc}
@@ -13,7 +14,7 @@ use Rattle.bits.specs.Choice.{pick}
 use Rattle.topology.specs.declared.TopologyError.the-variants.{Hyperthreading, ProcessorCount, ThreadsPerUnit}
 use Rattle.topology.specs.declared.Topology.{Topology}
 use Rattle.topology.specs.declared.Topology.the-variants.{Processors, Inconsistent}
-use Rattle.topology.specs.Topology.{Inputs, threadsIn, topologyOf, processors, shiftOf}
+use Rattle.topology.specs.Topology.{Inputs, threadsIn, topologyOf, processors, leastPower, shiftOf}
 use Rattle.topology.specs.TopologyLaws.{LeastShift, shift-least, processors-fit}
 
 -- p is the place of the highest one bit of v
@@ -129,3 +130,7 @@ shift-changes i v p l s e b = go (eqb v (2 ^ p)) refl
         let n : v ≢ 2 ^ p = eqb-false _ _ f in
         let q : Legacy i v = no-power i v p e b n in
         more (q .size) (q .threads) (q .count) n (shift-of-other v p some fits b n)
+
+pub three-and-128 : shiftOf 3 ∷ shiftOf 128 ∷ [] ≡ 2 ∷ 7 ∷ []
+unfolding shiftOf leastPower
+three-and-128 = refl
