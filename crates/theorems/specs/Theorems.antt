@@ -18,6 +18,10 @@ use Rattle.table.specs.Table.{rowIn, rowsIn}
 use Rattle.checks.specs.ExtendedState.{saveArea}
 use Rattle.table.specs.declared.Verdict.the-variants.{Accepted, Refused}
 use Rattle.bits.specs.Lists.{keepIf}
+use Rattle.topology.specs.declared.Topology.the-variants.{Processors}
+use Rattle.topology.specs.Topology.{Inputs, topologyOf, shiftOf}
+use Rattle.topology.specs.TopologyLaws.{LeastShift, shift-least}
+use Rattle.topology.specs.ShiftChange.{HighestBit, ShiftChange, shift-changes, three-and-128}
 use Rattle.pages.specs.Entries.{entries, counted}
 use Rattle.masking.specs.Kept.{places}
 use Rattle.masking.specs.Place
@@ -218,7 +222,7 @@ compacted-sizes = sizes-are
 pub fourteen-rows : marked
     ≡ core 0 1
     ∷ refusal 6
-    ∷ core 1 3
+    ∷ core 2 3
     ∷ refusal 7
     ∷ core 7 128
     ∷ refusal 7
@@ -234,7 +238,22 @@ pub fourteen-rows : marked
     ∷ []
 fourteen-rows = marked-rows
 
--- ---- Counts. crates/counting/specs/Counting.antt.
+-- ---- P5: three processors need two bits. crates/topology/specs/Topology.antt, ShiftChange.antt.
+
+-- the shift of v processors, v at least 1: its power of two is at least v, and no lower number's is
+pub shift-is-least : (v : ℕ) → 0 < v → v ≤ 2 ^ 32 → LeastShift v (shiftOf v)
+shift-is-least = shift-least
+
+-- of an accepted topology it is the place of the highest one bit of v, but where v comes from the legacy method and is no power of two: there
+-- it is one more
+pub shift-changed-only-there : (i : Inputs) (v p : ℕ) → i .lps < 256 → i .s < 16 → topologyOf i ≡ Processors v → HighestBit v p → ShiftChange i v p
+shift-changed-only-there = shift-changes
+
+-- both happen: three processors, and 128
+pub three-need-two-bits : shiftOf 3 ∷ shiftOf 128 ∷ [] ≡ 2 ∷ 7 ∷ []
+three-need-two-bits = three-and-128
+
+-- ---- Counts. crates/counts/specs/Counts.antt.
 
 -- 26 rows and one for each combined bit from 2 up, at most 32; an image of 582 bytes and 25 for each such bit
 pub counts : (avic : Bool) (s : List ℕ) → answer avic s .verdict ≡ Accepted → Counted avic s
