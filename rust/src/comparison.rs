@@ -1,6 +1,7 @@
 //! Two servers compared.
 
-use crate::{Refusal, exports};
+use crate::answer::Answer;
+use crate::{Details, Refusal, exports};
 use std::fmt;
 
 /// Whether a guest of server A may move to server B, or the first thing in the way.
@@ -47,8 +48,8 @@ pub enum Register {
 impl Comparison {
     /// The comparison that an answer's plain numbers stand for.
     pub(crate) fn from_numbers(c: exports::Compared) -> Comparison {
-        let refusal = || Refusal::from_numbers(c.number, c.leaf, c.has_subleaf, c.subleaf, c.s).expect("answers 1 and 2 carry a refusal");
-        let (leaf, subleaf) = (c.leaf, (c.has_subleaf != 0).then_some(c.subleaf));
+        let refusal = || c.accepted().expect_err("answers 1 and 2 carry a refusal");
+        let Details { leaf, subleaf, .. } = c.details();
         match c.answer {
             0 => Comparison::Rises,
             1 => Comparison::RefusedA(refusal()),

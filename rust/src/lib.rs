@@ -15,13 +15,16 @@
 //! What is proved is what the library's exported functions return (the repository's README has the statements). This crate turns their numbers into
 //! Rust's types and reads rows from the image; its tests hold every lookup in a table against the library's own.
 
+mod answer;
 mod comparison;
 pub mod exports;
 mod refusal;
 mod table;
 
+use answer::Answer;
+
 pub use comparison::{Comparison, Register};
-pub use refusal::{Refusal, TopologyError};
+pub use refusal::{Details, Refusal, TopologyError};
 pub use table::{CpuidResult, Row, Rows, Table};
 
 /// The bytes of a CPUID page.
@@ -33,10 +36,7 @@ pub const MOST_IMAGE_BYTES: usize = 732;
 /// Builds the table of CPUID pages that stand end to end. `secure_avic` adds one bit to the mask of 8000001Fh.EAX.
 pub fn build(pages: &[u8], secure_avic: bool) -> Result<Table, Refusal> {
     // SAFETY: the pointer and length are those of a slice, which the function only reads
-    let built = unsafe { exports::snp_cpuid_build(pages.as_ptr(), pages.len(), secure_avic) };
-    if let Some(refusal) = Refusal::from_numbers(built.number, built.leaf, built.has_subleaf, built.subleaf, built.s) {
-        return Err(refusal);
-    }
+    let built = unsafe { exports::snp_cpuid_build(pages.as_ptr(), pages.len(), secure_avic) }.accepted()?;
     let mut image = [0; MOST_IMAGE_BYTES];
     let length = write_image(pages, secure_avic, &mut image)?;
     Ok(Table::new(image, length, built.max_extended_state))
@@ -47,10 +47,7 @@ pub fn build(pages: &[u8], secure_avic: bool) -> Result<Table, Refusal> {
 pub fn write_image(pages: &[u8], secure_avic: bool, out: &mut [u8]) -> Result<usize, Refusal> {
     // SAFETY: both pointers and lengths are those of slices; the function reads the first and writes within the second
     let written = unsafe { exports::snp_cpuid_write_image(pages.as_ptr(), pages.len(), secure_avic, out.as_mut_ptr(), out.len()) };
-    match Refusal::from_numbers(written.number, written.leaf, written.has_subleaf, written.subleaf, written.s) {
-        Some(refusal) => Err(refusal),
-        None => Ok(written.length as usize),
-    }
+    written.accepted().map(|written| written.length as usize)
 }
 
 /// Builds and looks one row up, both in the library. [`Table::lookup`] gives the same and builds once.

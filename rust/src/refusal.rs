@@ -1,4 +1,4 @@
-//! The nine refusals, by the names that OpenHCL's `cvm_cpuid` gives the ones that it has.
+//! The refusals, by the names that OpenHCL's `cvm_cpuid` gives the ones that it has.
 
 use std::error::Error;
 use std::fmt;
@@ -33,72 +33,120 @@ pub enum TopologyError {
     ThreadsPerUnit,
 }
 
+/// What a refusal names beside its number; what it does not name is 0 or none.
+#[derive(Clone, Copy, Debug, Default, PartialEq, Eq, Hash)]
+pub struct Details {
+    /// the leaf
+    pub leaf: u32,
+    /// the subleaf; none for a leaf without
+    pub subleaf: Option<u32>,
+    /// bits 12 to 15 of 80000008h.ECX
+    pub s: u8,
+}
+
+/// One refusal of the table: its number, its name with what it names, and its words.
+struct Line {
+    number: u32,
+    name: fn(Details) -> Refusal,
+    words: fn(Details) -> String,
+}
+
+/// The refusals.
+const TABLE: &[Line] = &[
+    Line { number: 1, name: |_| Refusal::PagesLength, words: |_| "the CPUID pages must be one or more whole pages of 4,096 bytes".into() },
+    Line {
+        number: 2,
+        name: |_| Refusal::PageCount,
+        words: |_| "a CPUID page counts more than 64 entries: the page is damaged or no CPUID page".into(),
+    },
+    Line {
+        number: 3,
+        name: |d| Refusal::MissingRequiredResult(d.leaf, d.subleaf),
+        words: |d| match (d.leaf, d.subleaf) {
+            (leaf, None) => format!("no entry for leaf {leaf:X}h, which every guest needs"),
+            (0xD, Some(subleaf)) => format!("no entry for leaf Dh subleaf {subleaf:X}h on page 1, where the entries of Dh must stand"),
+            (leaf, Some(subleaf)) => format!("no entry for leaf {leaf:X}h subleaf {subleaf:X}h, which every guest needs"),
+        },
+    },
+    Line { number: 4, name: |_| Refusal::InvlpgbUnavailable, words: |_| "INVLPGB (80000008h.EBX bit 3) is required but unavailable".into() },
+    Line {
+        number: 5,
+        name: |_| Refusal::SaveAreaOverflow,
+        words: |_| "the size of an extended state (Dh: EAX + EBX of a subleaf) does not fit 32 bits".into(),
+    },
+    Line {
+        number: 6,
+        name: |d| Refusal::TopologyInconsistent(TopologyError::Hyperthreading(d.s)),
+        words: |d| format!("the processor count does not go with the hyperthreading flag, 1.EDX bit 28 (APIC core id size {})", d.s),
+    },
+    Line {
+        number: 7,
+        name: |d| Refusal::TopologyInconsistent(TopologyError::ProcessorCount(d.s)),
+        words: |d| format!("1.EBX and 80000008h.ECX give different processor counts (APIC core id size {})", d.s),
+    },
+    Line {
+        number: 8,
+        name: |_| Refusal::TopologyInconsistent(TopologyError::ThreadsPerUnit),
+        words: |_| "8000001Eh.EBX gives more threads per unit than there can be".into(),
+    },
+    Line {
+        number: 9,
+        name: |_| Refusal::BufferTooShort,
+        words: |_| format!("the buffer is shorter than the image: {} bytes always suffice", crate::MOST_IMAGE_BYTES),
+    },
+];
+
 impl Refusal {
-    /// Its number, 1 to 9.
+    /// Its number.
     pub fn number(&self) -> u32 {
-        match self {
-            Refusal::PagesLength => 1,
-            Refusal::PageCount => 2,
-            Refusal::MissingRequiredResult(..) => 3,
-            Refusal::InvlpgbUnavailable => 4,
-            Refusal::SaveAreaOverflow => 5,
-            Refusal::TopologyInconsistent(TopologyError::Hyperthreading(_)) => 6,
-            Refusal::TopologyInconsistent(TopologyError::ProcessorCount(_)) => 7,
-            Refusal::TopologyInconsistent(TopologyError::ThreadsPerUnit) => 8,
-            Refusal::BufferTooShort => 9,
+        self.line().number
+    }
+
+    /// What it names beside its number.
+    pub fn details(&self) -> Details {
+        match *self {
+            Refusal::MissingRequiredResult(leaf, subleaf) => Details { leaf, subleaf, ..Details::default() },
+            Refusal::TopologyInconsistent(TopologyError::Hyperthreading(s) | TopologyError::ProcessorCount(s)) => Details { s, ..Details::default() },
+            Refusal::PagesLength
+            | Refusal::PageCount
+            | Refusal::InvlpgbUnavailable
+            | Refusal::SaveAreaOverflow
+            | Refusal::TopologyInconsistent(TopologyError::ThreadsPerUnit)
+            | Refusal::BufferTooShort => Details::default(),
         }
     }
 
-    /// The refusal that an answer's plain numbers stand for; none for 0.
-    pub(crate) fn from_numbers(number: u32, leaf: u32, has_subleaf: u32, subleaf: u32, s: u32) -> Option<Refusal> {
-        // s is cut from four bits
-        let s = s as u8;
-        Some(match number {
-            0 => return None,
-            1 => Refusal::PagesLength,
-            2 => Refusal::PageCount,
-            3 => Refusal::MissingRequiredResult(leaf, (has_subleaf != 0).then_some(subleaf)),
-            4 => Refusal::InvlpgbUnavailable,
-            5 => Refusal::SaveAreaOverflow,
-            6 => Refusal::TopologyInconsistent(TopologyError::Hyperthreading(s)),
-            7 => Refusal::TopologyInconsistent(TopologyError::ProcessorCount(s)),
-            8 => Refusal::TopologyInconsistent(TopologyError::ThreadsPerUnit),
-            9 => Refusal::BufferTooShort,
+    /// The refusal of a number, with those of the details that it names.
+    pub(crate) fn of(number: u32, details: Details) -> Refusal {
+        match TABLE.iter().find(|line| line.number == number) {
+            Some(line) => (line.name)(details),
             // the library is proved to give no other number
-            _ => unreachable!("answer {number}"),
-        })
+            None => unreachable!("answer {number}"),
+        }
+    }
+
+    /// Its line of the table: the one whose name with its details it is.
+    fn line(&self) -> &'static Line {
+        TABLE.iter().find(|line| (line.name)(self.details()) == *self).expect("every refusal stands in the table")
+    }
+
+    fn words(&self) -> String {
+        (self.line().words)(self.details())
     }
 }
 
 impl fmt::Display for Refusal {
     fn fmt(&self, f: &mut fmt::Formatter<'_>) -> fmt::Result {
         match self {
-            Refusal::PagesLength => write!(f, "the CPUID pages must be one or more whole pages of 4,096 bytes"),
-            Refusal::PageCount => write!(f, "a CPUID page counts more than 64 entries: the page is damaged or no CPUID page"),
-            Refusal::MissingRequiredResult(leaf, None) => write!(f, "no entry for leaf {leaf:X}h, which every guest needs"),
-            Refusal::MissingRequiredResult(leaf, Some(subleaf)) if *leaf == 0xD => {
-                write!(f, "no entry for leaf Dh subleaf {subleaf:X}h on page 1, where the entries of Dh must stand")
-            }
-            Refusal::MissingRequiredResult(leaf, Some(subleaf)) => {
-                write!(f, "no entry for leaf {leaf:X}h subleaf {subleaf:X}h, which every guest needs")
-            }
-            Refusal::InvlpgbUnavailable => write!(f, "INVLPGB (80000008h.EBX bit 3) is required but unavailable"),
-            Refusal::SaveAreaOverflow => write!(f, "the size of an extended state (Dh: EAX + EBX of a subleaf) does not fit 32 bits"),
             Refusal::TopologyInconsistent(why) => write!(f, "the topology leaves disagree: {why}"),
-            Refusal::BufferTooShort => write!(f, "the buffer is shorter than the image: {} bytes always suffice", crate::MOST_IMAGE_BYTES),
+            _ => f.write_str(&self.words()),
         }
     }
 }
 
 impl fmt::Display for TopologyError {
     fn fmt(&self, f: &mut fmt::Formatter<'_>) -> fmt::Result {
-        match self {
-            TopologyError::Hyperthreading(s) => {
-                write!(f, "the processor count does not go with the hyperthreading flag, 1.EDX bit 28 (APIC core id size {s})")
-            }
-            TopologyError::ProcessorCount(s) => write!(f, "1.EBX and 80000008h.ECX give different processor counts (APIC core id size {s})"),
-            TopologyError::ThreadsPerUnit => write!(f, "8000001Eh.EBX gives more threads per unit than there can be"),
-        }
+        f.write_str(&Refusal::TopologyInconsistent(*self).words())
     }
 }
 
@@ -112,3 +160,30 @@ impl Error for Refusal {
 }
 
 impl Error for TopologyError {}
+
+#[cfg(test)]
+mod tests {
+    use super::*;
+
+    /// The variants with their numbers (document 01, "Where each check stands") and what each names.
+    #[test]
+    fn numbers_and_details_lead_to_the_name_and_back() {
+        let (none, s) = (Details::default(), Details { s: 7, ..Details::default() });
+        let leaf = Details { leaf: 0x8000_001D, subleaf: Some(3), ..none };
+        for (number, named, refusal) in [
+            (1, none, Refusal::PagesLength),
+            (2, none, Refusal::PageCount),
+            (3, leaf, Refusal::MissingRequiredResult(0x8000_001D, Some(3))),
+            (3, Details { leaf: 5, ..none }, Refusal::MissingRequiredResult(5, None)),
+            (4, none, Refusal::InvlpgbUnavailable),
+            (5, none, Refusal::SaveAreaOverflow),
+            (6, s, Refusal::TopologyInconsistent(TopologyError::Hyperthreading(7))),
+            (7, s, Refusal::TopologyInconsistent(TopologyError::ProcessorCount(7))),
+            (8, none, Refusal::TopologyInconsistent(TopologyError::ThreadsPerUnit)),
+            (9, none, Refusal::BufferTooShort),
+        ] {
+            assert_eq!((refusal.number(), refusal.details()), (number, named));
+            assert_eq!(Refusal::of(number, named), refusal);
+        }
+    }
+}

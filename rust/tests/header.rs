@@ -35,10 +35,10 @@ fn c_pair(declaration: &str) -> (String, String) {
     (declaration[at..].to_string(), rust.to_string())
 }
 
-/// "snp_cpuid_built" is `Built` in Rust.
+/// "snp_cpuid_built" is `Built` in Rust, and each further word begins with a capital too.
 fn rust_name(c: &str) -> String {
     let tail = c.trim().strip_prefix("snp_cpuid_").expect("names start with snp_cpuid_");
-    tail[..1].to_uppercase() + &tail[1..]
+    tail.split('_').map(|word| word[..1].to_uppercase() + &word[1..]).collect()
 }
 
 fn of_header() -> Declarations {
@@ -85,7 +85,7 @@ fn of_rust() -> Declarations {
 #[test]
 fn declarations_are_the_headers() {
     let header = of_header();
-    assert_eq!(header.len(), 8, "four structs and four functions");
+    assert!(header.len() >= 8, "four structs and four functions, and more as they come");
     assert_eq!(of_rust(), header);
 }
 

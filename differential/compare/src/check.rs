@@ -53,9 +53,9 @@ const ROOM: usize = 800;
 
 /// Leaves to look up: kept ones, their neighbours, the hypervisor's, and the ends.
 const LEAVES: [u32; 40] = [
-    0, 1, 2, 4, 5, 6, 7, 8, 0xa, 0xb, 0xc, 0xd, 0xe, 0x40000000, 0x40000003, 0x7fffffff, 0x80000000, 0x80000001, 0x80000002, 0x80000003,
-    0x80000004, 0x80000005, 0x80000006, 0x80000007, 0x80000008, 0x80000009, 0x8000000a, 0x8000000b, 0x80000018, 0x80000019, 0x8000001a,
-    0x8000001b, 0x8000001c, 0x8000001d, 0x8000001e, 0x8000001f, 0x80000020, 0x8000000d, 0xfffffffe, 0xffffffff,
+    0, 1, 2, 4, 5, 6, 7, 8, 0xa, 0xb, 0xc, 0xd, 0xe, 0x40000000, 0x40000003, 0x7fffffff, 0x80000000, 0x80000001, 0x80000002, 0x80000003, 0x80000004,
+    0x80000005, 0x80000006, 0x80000007, 0x80000008, 0x80000009, 0x8000000a, 0x8000000b, 0x80000018, 0x80000019, 0x8000001a, 0x8000001b, 0x8000001c,
+    0x8000001d, 0x8000001e, 0x8000001f, 0x80000020, 0x8000000d, 0xfffffffe, 0xffffffff,
 ];
 
 const SUBLEAVES: [u32; 18] = [0, 1, 2, 3, 4, 5, 6, 7, 8, 9, 11, 12, 13, 62, 63, 64, 0x80000000, 0xffffffff];
@@ -87,14 +87,9 @@ fn same<T: PartialEq + std::fmt::Debug>(what: &str, rust: &T, port: &T) -> Resul
 fn expected_built(answer: &Answer) -> Built {
     match answer {
         Answer::Table { rows, mask } => Built { row_count: rows.len() as u64, max_extended_state: *mask, ..Built::default() },
-        Answer::Refusal(Refusal { number, leaf, subleaf, s }) => Built {
-            number: *number,
-            leaf: *leaf,
-            has_subleaf: subleaf.is_some().into(),
-            subleaf: subleaf.unwrap_or(0),
-            s: *s,
-            ..Built::default()
-        },
+        Answer::Refusal(Refusal { number, leaf, subleaf, s }) => {
+            Built { number: *number, leaf: *leaf, has_subleaf: subleaf.is_some().into(), subleaf: subleaf.unwrap_or(0), s: *s, ..Built::default() }
+        }
         Answer::Unknown(_) => unreachable!("returned before"),
     }
 }
@@ -103,8 +98,7 @@ fn expected_built(answer: &Answer) -> Built {
 fn expected_written(answer: &Answer, room: usize) -> Written {
     let built = expected_built(answer);
     let length = image_length(answer);
-    let written =
-        Written { number: built.number, leaf: built.leaf, has_subleaf: built.has_subleaf, subleaf: built.subleaf, s: built.s, length: 0 };
+    let written = Written { number: built.number, leaf: built.leaf, has_subleaf: built.has_subleaf, subleaf: built.subleaf, s: built.s, length: 0 };
     match answer {
         Answer::Table { .. } if room < length => Written { number: 9, ..written },
         _ => Written { length: length as u64, ..written },

@@ -33,7 +33,8 @@ const FILL: u8 = 0xa5;
 /// Parts that are closer to each other are one.
 const CLOSE: usize = 8;
 
-/// What tells one set from another: a length at a page's boundary, the highest count from 64 up, for a refusal all that it names, for a table its mask and its shift.
+/// What tells one set from another: a length at a page's boundary, the highest count from 64 up, for a refusal all that it names, for a table its
+/// mask and its shift.
 #[derive(PartialEq, Eq, PartialOrd, Ord)]
 enum Kind {
     Length(usize),

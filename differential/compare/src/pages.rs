@@ -52,8 +52,7 @@ pub const REQUIRED: [(u32, u32); 24] = [
 pub const COMPONENTS: [u32; 6] = [2, 5, 6, 7, 11, 12];
 
 pub fn minimal() -> Set {
-    let entries =
-        REQUIRED.map(|(leaf, subleaf)| Entry { leaf, subleaf, registers: [0, if leaf == 0x80000008 { 1 << 3 } else { 0 }, 0, 0] });
+    let entries = REQUIRED.map(|(leaf, subleaf)| Entry { leaf, subleaf, registers: [0, if leaf == 0x80000008 { 1 << 3 } else { 0 }, 0, 0] });
     spread(&entries)
 }
 

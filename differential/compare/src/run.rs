@@ -2,6 +2,8 @@
 
 use std::collections::BTreeSet;
 use std::fmt;
+use std::io::IsTerminal;
+use std::io::stderr;
 use std::sync::atomic::AtomicU64;
 use std::sync::atomic::Ordering::Relaxed;
 use std::thread;
@@ -128,10 +130,17 @@ pub fn one(port: &Port, family: &Family, quick: bool, seed: u64) -> Result<Count
         }
         counts
     });
-    eprintln!("\r{}: done{:24}", family.name, "");
+    progress(format_args!("{}: done{:24}\n", family.name, ""));
     match lowest.into_inner() {
         u64::MAX => Ok(counts),
         number => Err(Box::new(difference(port, family, seed, number))),
+    }
+}
+
+/// Writes over the line of the terminal; nothing where standard error is none, as in a log.
+fn progress(text: fmt::Arguments<'_>) {
+    if stderr().is_terminal() {
+        eprint!("\r{text}");
     }
 }
 
@@ -153,7 +162,7 @@ fn work(port: &Port, family: &Family, (quick, seed): (bool, u64), (worker, worke
         }
         if worker == 0 && told.elapsed() > Duration::from_secs(1) {
             told = Instant::now();
-            eprint!("\r{}: {number} of {}   ", family.name, family.cases);
+            progress(format_args!("{}: {number} of {}   ", family.name, family.cases));
         }
     }
     counts

@@ -124,13 +124,8 @@ fn marked_rows_of_topology() {
     for (inputs, refusal) in refused {
         assert_eq!(number(&topology(inputs)), refusal, "{inputs:?}");
     }
-    let accepted = [
-        ([0, 0, 0, 0, 0], 0, 1),
-        ([0, 2, 3, 1, 0], 1, 3),
-        ([7, 127, 128, 1, 1], 7, 128),
-        ([8, 0, 0, 0, 1], 8, 256),
-        ([15, 0, 0, 0, 0], 15, 32768),
-    ];
+    let accepted =
+        [([0, 0, 0, 0, 0], 0, 1), ([0, 2, 3, 1, 0], 1, 3), ([7, 127, 128, 1, 1], 7, 128), ([8, 0, 0, 0, 1], 8, 256), ([15, 0, 0, 0, 0], 15, 32768)];
     for (inputs, shift, processors) in accepted {
         let one = registers(&topology(inputs), 0xb, 1);
         assert_eq!(one, Some([shift, processors, 0x201, 0]), "{inputs:?}");

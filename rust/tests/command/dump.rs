@@ -91,9 +91,8 @@ fn sections_of_something_else_are_passed_over() {
     let rows = dashed(&kept(epyc()));
     let other = "  CPU Type : 64-Core\nCPU:\nCPUID 00000005: 00000001-00000002-00000003-00000004\n\u{e9}\n";
     let expected = (set(&kept(epyc())), String::new());
-    let text = format!(
-        "------[ CPU Info ]------\n{other}\n------[ CPUID Registers / Logical CPU #0 ]------\n\n{rows}\n------[ MSR Registers / Logical CPU #0 ]------\n{other}"
-    );
+    let (before, after) = (format!("------[ CPU Info ]------\n{other}\n"), format!("\n------[ MSR Registers / Logical CPU #0 ]------\n{other}"));
+    let text = format!("{before}------[ CPUID Registers / Logical CPU #0 ]------\n\n{rows}{after}");
     assert_eq!(pages_of(&text), expected);
     // rows of a section of something else alone are none
     let ran = run_on(format!("------[ CPU Info ]------\n{rows}").as_bytes(), &["from-dump", "-", "-o", "-"]);

@@ -3,11 +3,11 @@
 
 mod compare;
 mod debian;
+mod documents;
 mod dump;
 mod lookup;
 mod names;
 mod page_sets;
-mod readme;
 mod refusals;
 mod run;
 mod table;

@@ -1,7 +1,7 @@
 //! Every refusal that a page set can have: its line, its status, and nothing written.
 
 use crate::page_sets::{epyc, set, with, without};
-use crate::run::{Folder, run};
+use crate::run::{BUILDING, Folder, run, with_files};
 use std::fs;
 
 /// Page sets with the number, leaf, subleaf and s that document 01 gives them.
@@ -37,8 +37,8 @@ fn each_is_one_line_with_all_it_carries() {
         assert!(line.starts_with(&format!("{file}: refusal {number}: ")), "{line}");
         assert!(line.ends_with(carries), "{line}");
         // every command that builds says the same
-        for arguments in [&["lookup", &file, "1"][..], &["to-dump", &file], &["image", &file, "-o", &folder.path("out")]] {
-            assert_eq!(run(arguments), ran);
+        for arguments in BUILDING {
+            assert_eq!(run(&with_files(arguments, &file, &folder.path("out"))), ran);
         }
     }
 }
@@ -49,9 +49,9 @@ fn nothing_is_written() {
     for (pages, ..) in cases() {
         let file = folder.file("pages", &pages);
         let old = folder.file("old", "as it was");
-        for command in ["image", "to-dump"] {
+        for arguments in BUILDING {
             for out in [&old, &folder.path("new")] {
-                assert_eq!(run(&[command, &file, "-o", out]).status, 1);
+                assert_eq!(run(&with_files(arguments, &file, out)).status, 1);
             }
         }
         assert_eq!(fs::read(&old).unwrap(), b"as it was");

@@ -8,6 +8,29 @@ use std::process::{Command, Stdio};
 /// The shipped page set.
 pub const EPYC: &str = "../tests/epyc-milan.pages";
 
+/// Runs of each command that builds the table of one page set and prints nothing where it is refused: the page set is PAGES, the output OUT.
+#[rustfmt::skip]
+pub const BUILDING: &[&[&str]] = &[
+    &["table", "PAGES"],
+    &["image", "PAGES", "-o", "OUT"],
+    &["lookup", "PAGES", "1"],
+    &["to-dump", "PAGES"],
+    &["to-dump", "PAGES", "-o", "OUT"],
+];
+
+/// Runs of the other commands that read a file.
+pub const READING: &[&[&str]] = &[&["from-dump", "PAGES", "-o", "OUT"], &["compare", "PAGES", EPYC], &["compare", EPYC, "PAGES"]];
+
+/// A run of these lists with its files.
+pub fn with_files(run: &[&str], pages: &str, out: &str) -> Vec<String> {
+    let file = |word: &&str| match *word {
+        "PAGES" => pages.to_string(),
+        "OUT" => out.to_string(),
+        other => other.to_string(),
+    };
+    run.iter().map(file).collect()
+}
+
 /// What a run gave.
 #[derive(Debug, PartialEq, Eq)]
 pub struct Ran {

@@ -1,20 +1,35 @@
 //! Help, bad usage, files that cannot be read or written, closed pipes.
 
-use crate::run::{EPYC, Folder, command, finish, run, run_on};
+use crate::run::{BUILDING, EPYC, Folder, READING, command, finish, run, run_on, with_files};
 use std::fs;
 use std::process::{Command, Stdio};
 
-const COMMANDS: [&str; 6] = ["table", "image", "lookup", "from-dump", "to-dump", "compare"];
+/// The commands by their lines in the main help.
+fn commands() -> Vec<String> {
+    let help = run(&["--help"]);
+    let (_, list) = help.text().split_once("\nCommands:\n").expect("the list");
+    let names = list.lines().take_while(|line| !line.is_empty()).filter_map(|line| line.strip_prefix("  ")?.split(' ').next());
+    names.filter(|name| !name.is_empty() && *name != "help").map(String::from).collect()
+}
 
 #[test]
-fn help_of_all_and_of_each() {
+fn help_of_all() {
     for arguments in [&["--help"][..], &["-h"], &["help"]] {
         let ran = run(arguments);
         assert_eq!((ran.status, ran.err.as_str()), (0, ""));
         assert!(ran.text().starts_with("Usage: snp-cpuid COMMAND"));
-        assert!(COMMANDS.iter().all(|name| ran.text().contains(&format!("\n  {name} "))));
+        assert!(ran.text().lines().all(|line| line.len() <= 100 && line.is_ascii()));
+        assert_eq!(ran, run(&["--help"]));
     }
-    for name in COMMANDS {
+    let told = commands();
+    assert!(BUILDING.iter().chain(READING).all(|run| told.iter().any(|name| name == run[0])), "{told:?}");
+    assert!(run(&["--version"]).text().starts_with("snp-cpuid "));
+}
+
+#[test]
+fn help_of_each() {
+    for name in commands() {
+        let name = name.as_str();
         let ran = run(&[name, "--help"]);
         assert_eq!((ran.status, ran.err.as_str()), (0, ""));
         assert!(ran.text().starts_with(&format!("Usage: snp-cpuid {name} ")));
@@ -23,13 +38,24 @@ fn help_of_all_and_of_each() {
         // wherever it stands, and under its other names
         assert_eq!(run(&["help", name]), ran);
         assert_eq!(run(&[name, EPYC, "-h"]), ran);
-        // every option of the first line is explained
-        let usage = ran.text().lines().next().unwrap();
-        for option in usage.split(['[', ']', ' ']).filter(|word| word.starts_with('-')) {
+        // every option of the usage is explained
+        let (usage, _) = ran.text().split_once("\n\n").unwrap();
+        for option in usage.split(['[', ']', ' ', '\n']).filter(|word| word.starts_with('-')) {
             assert!(ran.text().lines().any(|line| line.trim_start().starts_with(option)), "{name} {option}");
         }
     }
-    assert!(run(&["--version"]).text().starts_with("snp-cpuid "));
+}
+
+/// The options of all commands that build are told by each of them in the same words, and by no other.
+#[test]
+fn shared_options_are_told_alike() {
+    for name in commands() {
+        let builds = name == "compare" || BUILDING.iter().any(|run| run[0] == name);
+        let ran = run(&[name.as_str(), "--help"]);
+        let line = ran.text().lines().find(|line| line.starts_with("  --secure-avic "));
+        let words = line.map(|line| line.split_whitespace().collect::<Vec<_>>().join(" "));
+        assert_eq!(words.as_deref(), builds.then_some("--secure-avic keep the secure-AVIC bit of 8000001Fh.EAX"), "{name}");
+    }
 }
 
 #[test]
@@ -69,26 +95,13 @@ fn numbers_that_are_none() {
     }
 }
 
-/// Each command on a file that is to be read, its output in a folder.
-fn reading(file: &str, folder: &Folder) -> Vec<Vec<String>> {
-    let text = |arguments: &[&str]| arguments.iter().map(|a| a.to_string()).collect();
-    vec![
-        text(&["table", file]),
-        text(&["image", file, "-o", &folder.path("out")]),
-        text(&["lookup", file, "1"]),
-        text(&["from-dump", file, "-o", &folder.path("out")]),
-        text(&["to-dump", file, "-o", &folder.path("out")]),
-        text(&["compare", file, EPYC]),
-        text(&["compare", EPYC, file]),
-    ]
-}
-
 #[test]
 fn files_that_cannot_be_read() {
     let folder = Folder::new("unreadable");
     let missing = folder.path("missing");
     for (file, why) in [(missing.as_str(), "no such file or directory"), ("..", "is a directory"), ("/dev/zero", "longer than 64 MiB")] {
-        for arguments in reading(file, &folder) {
+        for run_of in BUILDING.iter().chain(READING) {
+            let arguments = with_files(run_of, file, &folder.path("out"));
             let ran = run(&arguments);
             assert_eq!((ran.status, ran.line()), (2, format!("{file}: {why}").as_str()), "{arguments:?}");
         }

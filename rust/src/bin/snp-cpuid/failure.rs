@@ -1,8 +1,5 @@
 //! How a command fails: with one line and an exit status.
 
-use snp_cpuid::{Refusal, TopologyError};
-use std::fmt::Display;
-
 /// A failure with its line.
 #[derive(Debug)]
 pub enum Failure {
@@ -15,6 +12,11 @@ pub enum Failure {
 }
 
 impl Failure {
+    /// Bad usage of a command, with where its help is.
+    pub fn usage(command: &str, why: &str) -> Failure {
+        Failure::Bad(format!("{command}: {why} (see 'snp-cpuid {command} --help')"))
+    }
+
     /// The exit status.
     pub fn status(&self) -> u8 {
         match self {
@@ -30,15 +32,4 @@ impl Failure {
             Failure::AnswerNo => None,
         }
     }
-}
-
-/// The refusal of a page set: its number, words, and what it carries. "Those not named are 0 or none" (document 01).
-pub fn refused(name: impl Display, refusal: Refusal) -> Failure {
-    let (leaf, subleaf, s) = match refusal {
-        Refusal::MissingRequiredResult(leaf, subleaf) => (leaf, subleaf, 0),
-        Refusal::TopologyInconsistent(TopologyError::Hyperthreading(s) | TopologyError::ProcessorCount(s)) => (0, None, s),
-        _ => (0, None, 0),
-    };
-    let subleaf = subleaf.map_or("none".into(), |subleaf| format!("{subleaf:X}"));
-    Failure::No(format!("{name}: refusal {}: {refusal} (leaf {leaf:08X}, subleaf {subleaf}, s {s})", refusal.number()))
 }

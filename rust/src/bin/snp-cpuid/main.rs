@@ -1,40 +1,65 @@
 //! The command `snp-cpuid`: CPUID pages of an SEV-SNP guest as a table in words, an image or a dump, and two servers compared.
 //!
 //! Every answer is the proved library's; what stands here reads arguments and files, and puts the answers into words.
+//! A further command is a file in commands/ and its line in commands/mod.rs.
 
 mod arguments;
-mod compare;
+mod building;
+mod command;
+mod commands;
 mod components;
 mod differences;
 mod failure;
 mod features;
 mod fields;
-mod from_dump;
 mod help;
-mod image;
 mod input;
-mod lookup;
 mod numbers;
+mod option;
 mod output;
 mod pages;
+mod parse;
 mod print;
-mod table;
-mod to_dump;
 mod words;
+mod wrap;
 
-use arguments::Asked;
+use command::Command;
 use failure::Failure;
+use std::ffi::{OsStr, OsString};
 use std::process::ExitCode;
 
-fn run() -> Result<(), Failure> {
-    match arguments::parse(std::env::args_os().skip(1))? {
-        Asked::Text(text) => output::print(&text),
-        Asked::Command(command, arguments) => (command.run)(&arguments),
+const VERSION: &str = concat!("snp-cpuid ", env!("CARGO_PKG_VERSION"), "\n");
+
+/// The command of a name.
+fn command(name: &OsStr) -> Result<&'static Command, Failure> {
+    let found = commands::ALL.iter().find(|command| name == command.name);
+    found.ok_or_else(|| Failure::Bad(format!("no command '{}' (see 'snp-cpuid --help')", input::shown(name))))
+}
+
+/// Does what the command line asks for, the program's own name left out.
+fn run(mut given: impl Iterator<Item = OsString>) -> Result<(), Failure> {
+    let Some(first) = given.next() else {
+        return Err(Failure::Bad("no command is given (see 'snp-cpuid --help')".into()));
+    };
+    match first.to_str() {
+        Some("-h" | "--help") => output::print(help::of_program(commands::ALL)),
+        Some("-V" | "--version") => output::print(VERSION),
+        Some("help") => match given.next() {
+            None => output::print(help::of_program(commands::ALL)),
+            Some(name) => output::print(help::of_command(command(&name)?)),
+        },
+        _ => {
+            let command = command(&first)?;
+            match parse::parse(command, given)? {
+                None => output::print(help::of_command(command)),
+                Some(arguments) => (command.run)(&arguments),
+            }
+        }
     }
 }
 
 fn main() -> ExitCode {
-    match run() {
+    match run(std::env::args_os().skip(1)) {
         Ok(()) => ExitCode::SUCCESS,
         Err(failure) => {
             failure.line().into_iter().for_each(output::say);

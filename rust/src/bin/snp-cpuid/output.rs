@@ -1,12 +1,36 @@
 //! Writing: text to standard output, files whole or not at all, and lines to standard error.
 
+use crate::arguments::Arguments;
 use crate::failure::Failure;
 use crate::input::{reason, shown};
+use crate::option::{Opt, Value};
 use std::ffi::OsStr;
 use std::fs::{self, File, OpenOptions};
 use std::io::{self, ErrorKind, Write};
 use std::path::{Path, PathBuf};
 use std::process;
+
+const NAMES: &[&str] = &["-o", "--output"];
+
+/// The option of a command that writes a file, which the help calls so.
+pub const fn file(name: &'static str) -> Opt {
+    let help = "the file to write; it is replaced as a whole, and only where all went well";
+    Opt { names: NAMES, value: Value::File(name), required: true, help }
+}
+
+/// The option of a command that writes a file, or to standard output where none is given.
+pub const fn file_or_standard_output(name: &'static str) -> Opt {
+    let help = "write to a file; it is replaced as a whole, and only where all went well";
+    Opt { names: NAMES, value: Value::File(name), required: false, help }
+}
+
+/// Bytes to the file that `-o` names, and to standard output where it is not given.
+pub fn write(arguments: &Arguments, bytes: &[u8]) -> Result<(), Failure> {
+    match arguments.value(NAMES[0]) {
+        Some(name) => to_file(name, bytes),
+        None => print(bytes),
+    }
+}
 
 /// A line to standard error. Where that is closed there is nobody to tell.
 pub fn say(line: &str) {
@@ -23,7 +47,7 @@ pub fn print(data: impl AsRef<[u8]>) -> Result<(), Failure> {
 }
 
 /// Bytes to a file, or to standard output for `-`.
-pub fn write(name: &OsStr, bytes: &[u8]) -> Result<(), Failure> {
+fn to_file(name: &OsStr, bytes: &[u8]) -> Result<(), Failure> {
     if name == "-" {
         return print(bytes);
     }

@@ -1,6 +1,7 @@
 //! `from-dump`: pages from the text of a dump.
 
 use crate::arguments::Arguments;
+use crate::command::Command;
 use crate::failure::Failure;
 use crate::input::{read, shown};
 use crate::numbers::{digits, prefixed};
@@ -8,12 +9,38 @@ use crate::output;
 use crate::pages::{Entry, read_by_table, two_pages};
 use crate::words::counted;
 
-pub fn run(arguments: &Arguments) -> Result<(), Failure> {
+pub const COMMAND: Command = Command {
+    name: "from-dump",
+    operands: &["FILE"],
+    options: &[&[output::file("PAGES")]],
+    summary: "make pages from the text of 'cpuid -r'",
+    about: "\
+Makes two CPUID pages from the text of Debian's 'cpuid -r', or from the other common form:
+
+   0x0000000d 0x00: eax=0x00000007 ebx=0x00000340 ecx=0x00000340 edx=0x00000000
+CPUID 0000000D: 00000007-00000340-00000340-00000000 [SL 00]
+
+A row without subleaf has subleaf 0. Headings 'CPU 0:', 'CPU:' and '------[ Logical CPU #0 ]------'
+and empty lines may stand between rows; any other line is an error. A section of another title, from
+a line '------[ TITLE ]------' to the next such line, is passed over. Of several CPUs the first is
+taken. Rows go in in the order of the file, leaf Dh on page 1 and all others on page 0. Only rows
+that the table reads go in: leaves 1, 5, 7.0, B.0, B.1, D.0 to D.3F, 80000001 to 80000008, 8000000A,
+80000019, 8000001A, 8000001D.0 to .3, 8000001E and 8000001F. The others would fill page 0 and change
+nothing; a note on standard error counts them.
+",
+    status: "\
+Exit status: 0 written, 2 bad usage, or a file that is empty, has a line that is no row and no
+heading, has more than the 64 rows that a page holds, or cannot be read or written.
+",
+    run,
+};
+
+fn run(arguments: &Arguments) -> Result<(), Failure> {
     let name = shown(&arguments.operands[0]);
     let dump = parse(&read(&arguments.operands[0])?).map_err(|why| Failure::Bad(format!("{name}: {why}")))?;
     let (kept, left): (Vec<Entry>, Vec<Entry>) = dump.rows.into_iter().partition(|row| read_by_table(row.leaf, row.subleaf));
     let pages = two_pages(&kept).map_err(|why| Failure::Bad(format!("{name}: {why}")))?;
-    output::write(arguments.output.as_ref().expect("the command must have -o"), &pages)?;
+    output::write(arguments, &pages)?;
     if dump.cpus > 1 {
         output::say(&format!("note: {name} has {} CPUs, the first is taken", dump.cpus));
     }

@@ -1,10 +1,13 @@
 //! `compare`: the tables of two servers, and what the theorem on them promises in either direction.
 
-use crate::arguments::{Arguments, SECURE_AVIC};
+use crate::arguments::Arguments;
+use crate::building::{self, Building};
+use crate::command::Command;
 use crate::differences::differences;
-use crate::failure::{Failure, refused};
+use crate::failure::Failure;
 use crate::features::REGISTERS;
 use crate::input::{read, shown};
+use crate::wrap::wrapped;
 use crate::{output, print, words};
 use snp_cpuid::{Comparison, Refusal, Register, Row, Table};
 
@@ -16,18 +19,42 @@ struct Server {
     table: Result<Table, Refusal>,
 }
 
-pub fn run(arguments: &Arguments) -> Result<(), Failure> {
+pub const COMMAND: Command = Command {
+    name: "compare",
+    operands: &["A", "B"],
+    options: &[building::OPTIONS],
+    summary: "print how the tables of two servers differ, and what is promised",
+    about: "\
+Compares the page sets of two servers: whether their tables are equal, B is at least A, A is at
+least B, or neither. Then every feature bit that one table has and the other has not, by name, and
+every other register that differs, by value; and for a guest that moves from A to B, and from B to
+A, what the theorem promises of this pair. B is at least A where it is accepted and meets the
+theorem's hypothesis: for every row of A's table but 0 and 80000000 B has a first entry with at
+least the bits of A's in feature registers, and equal in all others but D.0.ECX and the rows of leaf
+B, which are free. The library decides that by a proved function.
+
+Give the pages that the servers have, or both from dumps of the same kind: pages made from the text
+of to-dump hold what the table's rules have set and cleared, such as BTC_NO.
+",
+    status: "\
+Exit status: 0 where the tables are equal or B is at least A, 1 otherwise (also where one of them
+is refused, which a line on standard error says), 2 bad usage or a file that cannot be read.
+",
+    run,
+};
+
+fn run(arguments: &Arguments) -> Result<(), Failure> {
     if arguments.operands.iter().all(|file| file == "-") {
-        return Err(Failure::Bad("compare: A and B cannot both be standard input (see 'snp-cpuid compare --help')".into()));
+        return Err(Failure::usage(COMMAND.name, "A and B cannot both be standard input"));
     }
-    let secure_avic = arguments.has(SECURE_AVIC);
+    let building = Building::of(arguments);
     let server = |name, place: usize| {
         let pages = read(&arguments.operands[place])?;
-        Ok(Server { name, file: shown(&arguments.operands[place]), table: snp_cpuid::build(&pages, secure_avic), pages })
+        Ok(Server { name, file: shown(&arguments.operands[place]), table: building.build(&pages), pages })
     };
     let (a, b): (Server, Server) = (server("A", 0)?, server("B", 1)?);
-    let rises = Direction::new(&a, &b, secure_avic);
-    let falls = Direction::new(&b, &a, secure_avic);
+    let rises = Direction::new(&a, &b, building);
+    let falls = Direction::new(&b, &a, building);
     let equal = a.table.is_ok() && a.table == b.table;
 
     let mut report = format!("A  {}\nB  {}\n\n{}\n\n", a.file, b.file, verdict(equal, &rises, &falls));
@@ -37,8 +64,8 @@ pub fn run(arguments: &Arguments) -> Result<(), Failure> {
     report += &(rises.told() + &falls.told());
     output::print(report)?;
     match (&a.table, &b.table) {
-        (Err(refusal), _) => Err(refused(a.file, *refusal)),
-        (_, Err(refusal)) => Err(refused(b.file, *refusal)),
+        (Err(refusal), _) => Err(building.refused(a.file, *refusal)),
+        (_, Err(refusal)) => Err(building.refused(b.file, *refusal)),
         _ if equal || rises.holds() => Ok(()),
         _ => Err(Failure::AnswerNo),
     }
@@ -66,8 +93,8 @@ struct Direction<'a> {
 }
 
 impl Direction<'_> {
-    fn new<'a>(from: &'a Server, to: &'a Server, secure_avic: bool) -> Direction<'a> {
-        Direction { from, to, answer: snp_cpuid::compare(&from.pages, &to.pages, secure_avic) }
+    fn new<'a>(from: &'a Server, to: &'a Server, building: Building) -> Direction<'a> {
+        Direction { from, to, answer: building.compare(&from.pages, &to.pages) }
     }
 
     /// Whether the hypothesis holds.
@@ -85,7 +112,7 @@ impl Direction<'_> {
             Comparison::NoEntry { leaf, subleaf } => format!("{to} has no entry for leaf {}", print::place(leaf, subleaf)),
             Comparison::Differs { leaf, subleaf, register } => self.differs(leaf, subleaf, register),
         };
-        print::wrapped(&self.label(), &format!("no: {why}, so nothing is promised."))
+        wrapped(&self.label(), &format!("no: {why}, so nothing is promised."))
     }
 
     fn label(&self) -> String {
@@ -98,7 +125,7 @@ impl Direction<'_> {
             Ok(_) => "it is accepted here".to_string(),
             Err(refusal) => format!("it is refused here, by {}", refusal.number()),
         };
-        print::wrapped(
+        wrapped(
             &self.label(),
             &format!(
                 "yes: {to} is refused only by 3, for a leaf Dh subleaf that its own mask needs and that has no entry, or by 5 ({here}); \

@@ -1,36 +1,49 @@
 //! `table`: the table in words.
 
-use crate::arguments::{Arguments, SECURE_AVIC};
+use crate::arguments::Arguments;
+use crate::building::{self, Building};
+use crate::command::Command;
 use crate::components;
-use crate::failure::{Failure, refused};
+use crate::failure::Failure;
 use crate::fields::cut;
-use crate::input::{read, shown};
 use crate::output;
 use crate::print;
 use crate::words::counted;
+use crate::wrap::wrapped;
 use snp_cpuid::{Row, Table};
 
-pub fn run(arguments: &Arguments) -> Result<(), Failure> {
-    let table = built(arguments)?;
+pub const COMMAND: Command = Command {
+    name: "table",
+    operands: &["PAGES"],
+    options: &[building::OPTIONS],
+    summary: "print the table, its features and its topology in words",
+    about: "\
+Prints the table of the pages: for each row its leaf, subleaf and registers in hexadecimal, under it
+the feature bits that are set, by the AMD manual's names, and fields in words; then the combined
+mask of extended states, the size of their save area, and the topology.
+",
+    status: "\
+Exit status: 0 accepted, 1 refused (the line on standard error has the refusal's number, leaf,
+subleaf and s), 2 bad usage or a file that cannot be read. An empty page file is refusal 1.
+",
+    run,
+};
+
+fn run(arguments: &Arguments) -> Result<(), Failure> {
+    let table = Building::of(arguments).table(&arguments.operands[0])?;
     let rows: String = table.rows().map(|row| print::row(&row)).collect();
     output::print(print::HEADING.to_string() + &rows + &summary(&table))
-}
-
-/// The table of the command's first operand.
-pub fn built(arguments: &Arguments) -> Result<Table, Failure> {
-    let name = &arguments.operands[0];
-    snp_cpuid::build(&read(name)?, arguments.has(SECURE_AVIC)).map_err(|refusal| refused(shown(name), refusal))
 }
 
 /// What a reader asks of the whole table.
 fn summary(table: &Table) -> String {
     let mask = table.max_extended_state();
     let mut text = format!("\n{:15}{}\n", "rows", table.rows().count());
-    text += &print::wrapped(&format!("{:15}", "combined mask"), &format!("{mask:08X}: {}", components::names(mask).join(" ")));
+    text += &wrapped(&format!("{:15}", "combined mask"), &format!("{mask:08X}: {}", components::names(mask).join(" ")));
     if let Some(first) = table.row(0xD, Some(0)) {
         text += &format!("{:15}{} bytes\n", "save area", first.ecx);
     }
-    text + &print::wrapped(&format!("{:15}", "topology"), &topology(table))
+    text + &wrapped(&format!("{:15}", "topology"), &topology(table))
 }
 
 /// The two levels of leaf Bh.

@@ -1,13 +1,13 @@
-//! The README's lines after `$` give what stands under them.
+//! The lines after `$` in docs/COMMAND.md and README.md give what stands under them.
 
 use crate::debian;
 use crate::run::Folder;
 use std::path::Path;
 use std::process::Command;
 
-/// The README's command lines, each with its output: the block of indented and empty lines under it.
-fn sessions() -> Vec<(String, String)> {
-    let text = std::fs::read_to_string("../README.md").expect("the README");
+/// The command lines of a document, each with its output: the block of indented and empty lines under it.
+fn sessions(document: &str) -> Vec<(String, String)> {
+    let text = std::fs::read_to_string(document).expect("the document");
     let mut found: Vec<(String, String)> = vec![];
     let mut inside = false;
     for line in text.lines() {
@@ -24,21 +24,31 @@ fn sessions() -> Vec<(String, String)> {
     found
 }
 
-#[test]
-fn every_line_is_true() {
-    let folder = Folder::new("readme");
+/// Runs every line in a new folder that has tests/, in the order of the document.
+fn every_line_is_true(document: &str, folder: &str, least: usize) {
+    let folder = Folder::new(folder);
     std::os::unix::fs::symlink(std::fs::canonicalize("../tests").unwrap(), folder.path("tests")).unwrap();
     let binaries = Path::new(env!("CARGO_BIN_EXE_snp-cpuid")).parent().unwrap().display().to_string();
     let path = format!("{binaries}:{}", std::env::var("PATH").unwrap());
-    let sessions = sessions();
-    assert!(sessions.len() >= 8);
+    let sessions = sessions(document);
+    assert!(sessions.len() >= least);
     for (command, expected) in sessions {
         if command.starts_with("cpuid ") && debian::installed().is_none() {
             continue;
         }
         let output =
             Command::new("sh").args(["-c", &format!("{{ {command}; }} 2>&1")]).current_dir(folder.path("")).env("PATH", &path).output().unwrap();
-        // the empty line that ends a block is the README's
+        // the empty line that ends a block is the document's
         assert_eq!(String::from_utf8_lossy(&output.stdout).trim_end(), expected.trim_end(), "{command}");
     }
+}
+
+#[test]
+fn command_md() {
+    every_line_is_true("../docs/COMMAND.md", "command_md", 8);
+}
+
+#[test]
+fn readme() {
+    every_line_is_true("../README.md", "readme", 2);
 }

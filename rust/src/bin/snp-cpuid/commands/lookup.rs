@@ -1,17 +1,40 @@
 //! `lookup`: the row of one leaf.
 
-use crate::arguments::{Arguments, ENFORCE};
+use crate::arguments::Arguments;
+use crate::building::{self, Building};
+use crate::command::Command;
 use crate::failure::Failure;
 use crate::input::shown;
 use crate::numbers::{digits, prefixed};
-use crate::{output, print, table};
+use crate::option::Opt;
+use crate::{output, print};
 use snp_cpuid::{Row, Table};
 use std::ffi::OsStr;
 
-pub fn run(arguments: &Arguments) -> Result<(), Failure> {
+const ENFORCE: Opt = Opt::flag(&["--enforce"], "take the subleaf by the letter");
+
+pub const COMMAND: Command = Command {
+    name: "lookup",
+    operands: &["PAGES", "LEAF[.SUB]"],
+    options: &[&[ENFORCE], building::OPTIONS],
+    summary: "print the row of one leaf",
+    about: "\
+Prints the row of one leaf, and subleaf where one is given, as leaf_result_ref of OpenHCL finds it.
+Both numbers are hexadecimal, with or without 0x: 80000008 and 0x80000008 are the same leaf, D.B is
+leaf Dh subleaf 11. A leaf with subleaves is found only under a subleaf that the table has; one
+without is found under any subleaf, and with --enforce only where none is given.
+",
+    status: "\
+Exit status: 0 found, 1 not found or the pages are refused, 2 bad usage or a file that cannot be
+read.
+",
+    run,
+};
+
+fn run(arguments: &Arguments) -> Result<(), Failure> {
     let (leaf, subleaf) = asked(&arguments.operands[1])?;
-    let table = table::built(arguments)?;
-    match table.lookup(leaf, subleaf, arguments.has(ENFORCE)) {
+    let table = Building::of(arguments).table(&arguments.operands[0])?;
+    match table.lookup(leaf, subleaf, arguments.has(&ENFORCE)) {
         Some(result) => {
             // the row that was found: a leaf without subleaves answers under any
             let subleaf = subleaf.filter(|_| table.row(leaf, subleaf).is_some());
@@ -31,7 +54,7 @@ fn asked(operand: &OsStr) -> Result<(u32, Option<u32>), Failure> {
     };
     numbers.ok_or_else(|| {
         let given = shown(operand);
-        Failure::Bad(format!("lookup: '{given}' is no LEAF[.SUB], hexadecimal numbers as in 80000008 or 0xD.1 (see 'snp-cpuid lookup --help')"))
+        Failure::usage(COMMAND.name, &format!("'{given}' is no LEAF[.SUB], hexadecimal numbers as in 80000008 or 0xD.1"))
     })
 }
 

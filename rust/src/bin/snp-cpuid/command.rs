@@ -1,0 +1,30 @@
+//! What a command is: what it takes, what its help says, and what runs it.
+
+use crate::arguments::Arguments;
+use crate::failure::Failure;
+use crate::option::Opt;
+
+/// One command. Its usage line, its option lines and its line in the main help are made from these.
+pub struct Command {
+    /// its name
+    pub name: &'static str,
+    /// its operands, each by the name that the help gives it
+    pub operands: &'static [&'static str],
+    /// its options, by groups: its own, and those that it shares with others
+    pub options: &'static [&'static [Opt]],
+    /// what it does, in the main help
+    pub summary: &'static str,
+    /// what it does, in its own help
+    pub about: &'static str,
+    /// its exit status, in its own help
+    pub status: &'static str,
+    /// runs it
+    pub run: fn(&Arguments) -> Result<(), Failure>,
+}
+
+impl Command {
+    /// All its options, in the order of the help.
+    pub fn options(&self) -> impl Iterator<Item = &'static Opt> {
+        self.options.iter().copied().flatten()
+    }
+}

@@ -1,0 +1,21 @@
+//! The commands: one file each, with its name, operands, options, help and `run`, and its line in the list.
+
+mod compare;
+mod from_dump;
+mod image;
+mod lookup;
+mod table;
+mod to_dump;
+
+use crate::command::Command;
+
+/// The commands, in the order of the help.
+#[rustfmt::skip]
+pub const ALL: &[Command] = &[
+    table::COMMAND,
+    image::COMMAND,
+    lookup::COMMAND,
+    from_dump::COMMAND,
+    to_dump::COMMAND,
+    compare::COMMAND,
+];

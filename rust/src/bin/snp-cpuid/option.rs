@@ -1,0 +1,76 @@
+//! An option of a command.
+
+/// An option: how it is written, what stands after it, and its line in the help.
+pub struct Opt {
+    /// its spellings; messages use the first
+    pub names: &'static [&'static str],
+    /// what stands after it
+    pub value: Value,
+    /// whether it must be given
+    pub required: bool,
+    /// what it does, in the help
+    pub help: &'static str,
+}
+
+/// What stands after an option.
+pub enum Value {
+    /// nothing
+    None,
+    /// the name of a file, which the help calls so
+    File(&'static str),
+}
+
+impl Opt {
+    /// An option without a value.
+    pub const fn flag(names: &'static [&'static str], help: &'static str) -> Opt {
+        Opt { names, value: Value::None, required: false, help }
+    }
+
+    /// The spelling by which messages call it.
+    pub fn name(&self) -> &'static str {
+        self.names[0]
+    }
+
+    /// As the usage line has it: `-o FILE`, and `[-o FILE]` where it may be left out.
+    pub fn usage(&self) -> String {
+        let text = with_value(self.name(), self.value.name());
+        if self.required { text } else { format!("[{text}]") }
+    }
+
+    /// As a message calls it where it is missing.
+    pub fn wanted(&self) -> String {
+        with_value(self.name(), self.value.kind().map(|(kind, _)| kind))
+    }
+
+    /// As its line in the help begins: `-o, --output FILE`.
+    pub fn spelled(&self) -> String {
+        with_value(&self.names.join(", "), self.value.name())
+    }
+}
+
+impl Value {
+    /// Its name in the help.
+    fn name(&self) -> Option<&'static str> {
+        match self {
+            Value::None => None,
+            Value::File(name) => Some(name),
+        }
+    }
+
+    /// Whether it is the name of a file.
+    pub fn is_file(&self) -> bool {
+        matches!(self, Value::File(_))
+    }
+
+    /// What a message asks for where it is missing: the kind in capitals, and in words.
+    pub fn kind(&self) -> Option<(&'static str, &'static str)> {
+        match self {
+            Value::None => None,
+            Value::File(_) => Some(("FILE", "a file name")),
+        }
+    }
+}
+
+fn with_value(option: &str, value: Option<&str>) -> String {
+    value.map_or(option.into(), |value| format!("{option} {value}"))
+}
