@@ -1,0 +1,11 @@
+pub mod Digits
+pub mod DigitsLaws
+pub mod NumbersInUse
+pub mod NumbersInUseLaws
+pub mod Line
+pub mod LineLaws
+pub mod WriteLine
+pub mod ReadLine
+pub mod ReadLineLaws
+pub mod WriteLineLaws
+pub mod LinePromises
