@@ -1,5 +1,3 @@
-pub mod Digits
-pub mod DigitsLaws
 pub mod NumbersInUse
 pub mod NumbersInUseLaws
 pub mod Line

@@ -9,7 +9,7 @@ use Rattle.table.specs.declared.Subleaf.{Subleaf}
 use Rattle.table.specs.declared.Subleaf.the-variants.{None, Some}
 use Rattle.lines.specs.declared.LineDetails.{LineDetails}
 use Rattle.lines.specs.declared.names.Named.{Named}
-use Rattle.lines.specs.Digits.{decimal, hex}
+use Rattle.digits.specs.Digits.{decimal, hex}
 use Rattle.lines.specs.NumbersInUse.{names}
 
 abbrev pub space : ℕ

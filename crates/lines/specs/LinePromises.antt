@@ -22,8 +22,8 @@ use Rattle.lines.specs.declared.LineDetails.{LineDetails}
 use Rattle.lines.specs.declared.names.Named.{Named}
 use Rattle.lines.specs.declared.LineRead.the-variants.{Line, NoSuchLine}
 use Rattle.lines.specs.declared.LineWritten.the-variants.{Line as Answered, NoSuchLine as NotWritten}
-use Rattle.lines.specs.Digits.{width, decimal}
-use Rattle.lines.specs.DigitsLaws.{AtLeast, none, next, at-least-append, digits-at-least}
+use Rattle.digits.specs.Digits.{width, decimal}
+use Rattle.digits.specs.DigitsLaws.{AtLeast, none, next, at-least-append, digits-at-least}
 use Rattle.lines.specs.NumbersInUse.{rows, names}
 use Rattle.lines.specs.Line.{newline, space, Fits, mostS, leafField, subleafField, sField, fieldsAs, fields, writable, line}
 use Rattle.lines.specs.WriteLine.{AfterLine, leaves, writeLine}

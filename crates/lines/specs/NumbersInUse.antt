@@ -23,20 +23,20 @@ onlyS = record { used = true; leaf = false; subleaf = false; s = true }
 unfoldable pub rows : List Named
 rows =
     notInUse ∷
-    nothing ∷ -- 1
-    nothing ∷ -- 2
-    leafAndSubleaf ∷ -- 3
-    nothing ∷ -- 4
-    nothing ∷ -- 5
-    onlyS ∷ -- 6
-    onlyS ∷ -- 7
-    nothing ∷ -- 8
-    nothing ∷ -- 9
-    nothing ∷ -- 10
-    nothing ∷ -- 11
-    nothing ∷ -- 12
-    nothing ∷ -- 13
-    nothing ∷ -- 14
+    nothing ∷  -- 1
+    nothing ∷  -- 2
+    leafAndSubleaf ∷  -- 3
+    nothing ∷  -- 4
+    nothing ∷  -- 5
+    onlyS ∷  -- 6
+    onlyS ∷  -- 7
+    nothing ∷  -- 8
+    nothing ∷  -- 9
+    nothing ∷  -- 10
+    nothing ∷  -- 11
+    nothing ∷  -- 12
+    nothing ∷  -- 13
+    nothing ∷  -- 14
     []
 
 -- what a number names

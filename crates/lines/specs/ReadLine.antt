@@ -1,30 +1,20 @@
 -- Document 02, P6: "A reader takes such a line back to the refusal, .. "no such line" .. from the reader for anything else". It takes the fields for
--- what they would be in a line, and accepts exactly where the writer writes these same bytes. A field ends before the first byte below '0', as a
--- space and a newline are. No number names both a subleaf and s, so either stands after the leaf.
+-- what they would be in a line, and accepts exactly where the writer writes these same bytes. No number names both a subleaf and s, so either stands
+-- after the leaf.
 use mathlib.Core.Bool.{Bool, true, false, _&&_}
 use mathlib.Core.List.{List, [], _∷_}
 use Prim.Native.Nat.{ℕ}
-use lib.Dec.{eqb, ltb}
+use lib.Dec.{eqb}
 use Rattle.bits.specs.Choice.{pick}
+use Rattle.digits.specs.Field.{fieldFrom, after}
 use Rattle.table.specs.declared.Subleaf.{Subleaf}
 use Rattle.table.specs.declared.Subleaf.the-variants.{None, Some}
 use Rattle.lines.specs.declared.LineDetails.{LineDetails}
 use Rattle.lines.specs.declared.names.Named.{Named}
 use Rattle.lines.specs.declared.LineRead.{LineRead}
 use Rattle.lines.specs.declared.LineRead.the-variants.{Line, NoSuchLine}
-use Rattle.lines.specs.Digits.{more}
 use Rattle.lines.specs.NumbersInUse.{names}
 use Rattle.lines.specs.Line.{writable, line}
-
--- the number that a field's digits stand for, after those of n
-unfoldable pub fieldFrom : ℕ → ℕ → List ℕ → ℕ
-fieldFrom base n [] = n
-fieldFrom base n (b ∷ bs) = pick (ltb b 48) n (fieldFrom base (more base n b) bs)
-
--- what stands after a field and the byte that ends it
-unfoldable pub after : List ℕ → List ℕ
-after [] = []
-after (b ∷ bs) = pick (ltb b 48) bs (after bs)
 
 -- a detail that may be named, and what stands after it
 abbrev pub fieldIf : Bool → ℕ → List ℕ → ℕ

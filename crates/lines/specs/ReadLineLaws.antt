@@ -1,4 +1,4 @@
--- The fields of a line, as they are read index by index, and as they are after the writer.
+-- The details of a line, as they are read, and as they are after the writer.
 use mathlib.Core.Path.{_≡_, refl, sym, ap, _∙_}
 use mathlib.Core.Bool.{Bool, true, false, _&&_, _||_, not}
 use mathlib.Core.List.{List, [], _∷_, _++_, append-assoc, append-nil}
@@ -12,32 +12,20 @@ use lib.Seq.{drop-cons}
 use borrow.Author.Tests.{lt-ltb, le-ltb, eqb-true, eq-eqb, leb-true}
 use Rattle.bits.specs.Choice.{pick}
 use Rattle.bits.specs.ChoiceLaws.{never-both, and-left, and-right, and-both}
+use Rattle.digits.specs.Digits.{width, decimal, hex}
+use Rattle.digits.specs.Field.{fieldFrom, after}
+use Rattle.digits.specs.FieldLaws.{decimal-read, hex-read, after-number, field-fits}
 use Rattle.table.specs.declared.Subleaf.{Subleaf}
 use Rattle.table.specs.declared.Subleaf.the-variants.{None, Some}
 use Rattle.lines.specs.declared.LineDetails.{LineDetails}
 use Rattle.lines.specs.declared.names.Named.{Named}
 use Rattle.lines.specs.declared.LineRead.the-variants.{Line, NoSuchLine}
-use Rattle.lines.specs.Digits.{width, digits, decimal, hex, digitOf, more, valueFrom}
-use Rattle.lines.specs.DigitsLaws.{value-decimal, value-hex, AtLeast, none, next, digits-at-least}
 use Rattle.lines.specs.NumbersInUse.{names}
 use Rattle.lines.specs.NumbersInUseLaws.{used-below, subleaf-or-s}
 use Rattle.lines.specs.Line.{newline, space, isNone, mostS, subleafOr0, Fits, writableAs, writable, leafField, subleafField, sField, fieldsAs, fields, line}
-use Rattle.lines.specs.ReadLine.{fieldFrom, after, fieldIf, afterIf, subleafIn, subleafIf, guessAs, guess, sameBytes, readLine}
+use Rattle.lines.specs.ReadLine.{fieldIf, afterIf, subleafIn, subleafIf, guessAs, guess, sameBytes, readLine}
 
 -- ---- index by index
-
-module _ (base n : ℕ) (s : List ℕ) (i : ℕ) where
-  pub field-stop : i < length s → getD s i 0 < 48 → (n ≡ fieldFrom base n (drop i s)) × (drop (i + 1) s ≡ after (drop i s))
-  unfolding fieldFrom after
-  field-stop l h = rw (add-one, drop-cons s i 0 l, lt-ltb _ _ h) (refl, refl)
-
-  pub field-step : i < length s → 48 ≤ getD s i 0 → (fieldFrom base (more base n (getD s i 0)) (drop (i + 1) s) ≡ fieldFrom base n (drop i s)) × (after (drop (i + 1) s) ≡ after (drop i s))
-  unfolding fieldFrom after
-  field-step l h = rw (add-one, drop-cons s i 0 l, le-ltb _ _ h) (refl, refl)
-
-  pub field-end : length s ≤ i → (n ≡ fieldFrom base n (drop i s)) × (drop i s ≡ after (drop i s))
-  unfolding fieldFrom after
-  field-end h = rw (drop-of-length-le s h) (refl, refl)
 
 pub subleaf-some : (s : List ℕ) (i : ℕ) → i < length s → Some (fieldFrom 10 0 (drop i s)) ≡ subleafIn (drop i s)
 subleaf-some s i h = rw (drop-cons s i 0 h)
@@ -61,27 +49,6 @@ same-eq (a ∷ l) (b ∷ k) e =
     let p : a ≡ b = eqb-true a b (and-left (eqb a b) (sameBytes l k) e) in
     let q : l ≡ k = same-eq l k (and-right (eqb a b) (sameBytes l k) e) in
     cc
-
--- ---- fields that the writer wrote
-
-field-digits : (base n : ℕ) {l : List ℕ} (x : ℕ) (t : List ℕ) → AtLeast 48 l → x < 48 → fieldFrom base n (l ++ x ∷ t) ≡ valueFrom base n l
-unfolding fieldFrom valueFrom
-field-digits base n x t none h = rw (lt-ltb x 48 h)
-field-digits base n x t (next {b} l r) h = rw (le-ltb b 48 l) (field-digits base (more base n b) x t r h)
-
-after-digits : {l : List ℕ} (x : ℕ) (t : List ℕ) → AtLeast 48 l → x < 48 → after (l ++ x ∷ t) ≡ t
-unfolding after
-after-digits x t none h = rw (lt-ltb x 48 h)
-after-digits x t (next {b} l r) h = rw (le-ltb b 48 l) (after-digits x t r h)
-
-decimal-read : (n x : ℕ) (t : List ℕ) → n < 2 ^ 32 → x < 48 → fieldFrom 10 0 (decimal n ++ x ∷ t) ≡ n
-decimal-read n x t h l = field-digits 10 0 x t (digits-at-least 48 10 (width n) n (omega arith)) l ∙ value-decimal n h
-
-hex-read : (n x : ℕ) (t : List ℕ) → n < 2 ^ 32 → x < 48 → fieldFrom 16 0 (hex n ++ x ∷ t) ≡ n
-hex-read n x t h l = field-digits 16 0 x t (digits-at-least 48 16 8 n (omega arith)) l ∙ value-hex n h
-
-after-number : (base w n x : ℕ) (t : List ℕ) → x < 48 → after (digits base w n ++ x ∷ t) ≡ t
-after-number base w n x t l = after-digits x t (digits-at-least 48 base w n (omega arith)) l
 
 -- no subleaf is set
 none-set : (k : Subleaf) → isNone k ≡ true → None ≡ k
@@ -149,7 +116,7 @@ unfolding fields
 guess-fields d true e n h p r =
     guess-line d space (hex (d .leaf) ++ (r .separator ∷ r .behind)) (omega arith) n (rw e (simp append-assoc (rw (r .same))))
     ∙ rw (e, after-number 16 8 (d .leaf) (r .separator) (r .behind) (r .below))
-      (same-details d (hex-read (d .leaf) (r .separator) (r .behind) h (r .below)) (r .subleafBack) (r .sBack))
+    (same-details d (hex-read (d .leaf) (r .separator) (r .behind) h (r .below)) (r .subleafBack) (r .sBack))
 guess-fields d false e n h p r =
     guess-line d (r .separator) (r .behind) (r .below) n (rw e (simp append-assoc (r .same)))
     ∙ rw e (same-details d (sym (eqb-true (d .leaf) 0 p)) (r .subleafBack) (r .sBack))
@@ -182,15 +149,6 @@ guess-written d f h =
     (f .subleaf))
 
 -- ---- what is guessed fits its widths
-
-field-fits : (base n : ℕ) (l : List ℕ) → n < 2 ^ 32 → fieldFrom base n l < 2 ^ 32
-unfolding fieldFrom
-field-fits base n [] h = h
-field-fits base n (b ∷ l) h = go (ltb b 48) (field-fits base (more base n b) l (mod-lt (n * base + digitOf b) (omega arith)))
-  where
-    go : (c : Bool) → fieldFrom base (more base n b) l < 2 ^ 32 → pick c n (fieldFrom base (more base n b) l) < 2 ^ 32
-    go true r = h
-    go false r = r
 
 leaf-fits : (c : Bool) (l : List ℕ) → fieldIf c 16 l < 2 ^ 32
 leaf-fits true l = field-fits 16 0 l (omega arith)

@@ -83,7 +83,10 @@ fn is_writable(d: LineDetails) -> bool
 {
     let subleaf = d.subleaf;
     let named = names_of(d.number);
-    named.used & may_have_leaf(named.leaf, d.leaf) & may_have_subleaf(named.subleaf, subleaf) & may_have_s(named.s, d.s)
+    named.used
+        & may_have_leaf(named.leaf, d.leaf)
+        & may_have_subleaf(named.subleaf, subleaf)
+        & may_have_s(named.s, d.s)
 }
 
 fn may_have_leaf(named: bool, leaf: u32) -> bool

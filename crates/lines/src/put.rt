@@ -1,13 +1,13 @@
 // Lines into lent bytes. What a line says comes in with an index; its bytes are stored there, and the index after them goes out.
 use crate::LineDetails;
 use crate::names::names_of;
+use digits::put_decimal;
+use digits::put_digits;
 use table::Subleaf;
 ghost use mathlib.Core.Path.{_≡_};
-ghost use Prim.Native.Nat.{_+_, _≤_, _<_};
+ghost use Prim.Native.Nat.{_+_, _≤_};
 ghost use lib.ListN.{length};
 ghost use lib.Seq.{sets};
-ghost use Rattle.bits.specs.Lists.{one};
-ghost use Rattle.lines.specs.Digits.{capital, digits, width, decimal};
 ghost use Rattle.lines.specs.Line.{leafField, subleafField, sField, spaced, fields, line};
 
 // Stores the line at the front of bytes that have room for it. Gives its length.
@@ -78,58 +78,4 @@ fn put_spaced(out: &mut [u8], at: usize, n: u32) -> usize
 {
     out[at] = b' ';
     put_decimal(out, at + 1, n)
-}
-
-// A decimal without leading zeros.
-fn put_decimal(out: &mut [u8], at: usize, n: u32) -> usize
-    requires { ⌜ at + length (decimal n) ≤ length (now out) ⌝ }
-    ensures { λ r. ⌜ (r ≡ at + length (decimal n)) × (now (out .exit) ≡ sets (now (out .entry)) at (decimal n)) ⌝ }
-{
-    let count = width_of(n);
-    put_digits(out, at, count, 10, n);
-    at + count
-}
-
-// The lowest digits of a number in a base, the last one first.
-fn put_digits(out: &mut [u8], at: usize, count: usize, base: u32, n: u32)
-    requires { ⌜ (at + count ≤ length (now out)) × (1 < base) × (base ≤ 16) ⌝ }
-    ensures { λ _. ⌜ now (out .exit) ≡ sets (now (out .entry)) at (digits base count n) ⌝ }
-{
-    let mut left = count;
-    let mut rest = n;
-    while left > 0 {
-        left -= 1;
-        out[at + left] = capital(rest % base);
-        rest /= base;
-    }
-}
-
-// A digit in ASCII.
-fn capital(d: u32) -> u8
-    requires { ⌜ d < 16 ⌝ }
-    ensures { λ r. ⌜ r ≡ capital d ⌝ }
-{
-    if d < 10 { 48 + d as u8 } else { 55 + d as u8 }
-}
-
-// How many decimal digits a number has.
-fn width_of(n: u32) -> usize
-    ensures { λ r. ⌜ (r ≡ width n) × (r ≤ 10) ⌝ }
-{
-    1 + one(n >= 10)
-        + one(n >= 100)
-        + one(n >= 1000)
-        + one(n >= 10000)
-        + one(n >= 100000)
-        + one(n >= 1000000)
-        + one(n >= 10000000)
-        + one(n >= 100000000)
-        + one(n >= 1000000000)
-}
-
-// 1 where the test holds, else 0.
-fn one(b: bool) -> usize
-    ensures { λ r. ⌜ (r ≡ one b) × (r ≤ 1) ⌝ }
-{
-    if b { 1 } else { 0 }
 }

@@ -37,25 +37,26 @@ returns c =
     let k = c .before .before .before .before .before .before .before .before .before .before .before .before .names-of .result in
     let leaf = c .before .before .before .before .before .before .before .before .before .before .put-leaf .ensures in
     let subleaf = c .before .before .before .before .before .before .put-subleaf .ensures in
-    let s = c .before .before .put-s .ensures in
-    (omega (arith, length-fields (c .before .before .before .before .before .before .before .before .before .before .before .before .before .before .args .d) (c .before .before .before .before .before .before .before .before .before .before .before .before .names-of .ensures), leaf .0, subleaf .0, s .0),
+    let s = c .before .before .put-s .ensures in (
+      omega (arith, length-fields (c .before .before .before .before .before .before .before .before .before .before .before .before .before .before .args .d) (c .before .before .before .before .before .before .before .before .before .before .before .before .names-of .ensures), leaf .0, subleaf .0, s .0),
       rw (fields-named (c .before .before .before .before .before .before .before .before .before .before .before .before .before .before .args .d) (c .before .before .before .before .before .before .before .before .before .before .before .before .names-of .ensures))
-      (three-sets
-      (now (a .out))
-      _
-      _
-      _
-      (leafField (k .leaf) (a .d .leaf))
-      (subleafField (k .subleaf) (a .d .subleaf))
-      (sField (k .s) (a .d .s))
-      (a .at)
-      _
-      _
-      (leaf .1)
-      (leaf .0)
-      (subleaf .1)
-      (subleaf .0)
-      (s .1)))
+          (three-sets
+          (now (a .out))
+          _
+          _
+          _
+          (leafField (k .leaf) (a .d .leaf))
+          (subleafField (k .subleaf) (a .d .subleaf))
+          (sField (k .s) (a .d .s))
+          (a .at)
+          _
+          _
+          (leaf .1)
+          (leaf .0)
+          (subleaf .1)
+          (subleaf .0)
+          (s .1)),
+    )
 
 pub put-fields-spec : {M : Type 1} → statement M
 put-fields-spec =

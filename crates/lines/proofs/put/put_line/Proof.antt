@@ -6,8 +6,8 @@ use lib.Seq.{length-sets}
 use lib.ListN.{length, length-set}
 use denote.Ref.{now}
 use borrow.Author.Needs.{needs}
-use Rattle.lines.specs.Digits.{width, decimal}
-use Rattle.lines.specs.DigitsLaws.{length-digits}
+use Rattle.digits.specs.Digits.{width, decimal}
+use Rattle.digits.specs.DigitsLaws.{length-digits}
 use Rattle.lines.specs.Line.{newline, fields, line}
 use Rattle.lines.specs.LineLaws.{length-parts, at-most-22, three-sets}
 use Rattle.lines.proofs.put.put_line.Statement.{statement}
@@ -49,24 +49,25 @@ unfolding line
 returns c =
     let a = c .before .before .before .before .before .before .before .before .before .args in
     let number = c .before .before .before .before .before .before .put-decimal .ensures in
-    let rest = c .before .before .put-fields .ensures in
-    (omega (arith, length-parts (c .before .before .before .before .before .before .before .before .before .args .d), number .0, rest .0),
+    let rest = c .before .before .put-fields .ensures in (
+      omega (arith, length-parts (c .before .before .before .before .before .before .before .before .before .args .d), number .0, rest .0),
       three-sets
-      (now (a .out))
-      _
-      _
-      _
-      (decimal (a .d .number))
-      (fields (a .d))
-      (newline ∷ [])
-      0
-      _
-      _
-      (number .1)
-      (number .0)
-      (rest .1)
-      (rest .0)
-      refl)
+          (now (a .out))
+          _
+          _
+          _
+          (decimal (a .d .number))
+          (fields (a .d))
+          (newline ∷ [])
+          0
+          _
+          _
+          (number .1)
+          (number .0)
+          (rest .1)
+          (rest .0)
+          refl,
+    )
 
 pub put-line-spec : {M : Type 1} → statement M
 put-line-spec =

@@ -1,9 +1,9 @@
--- `put::width_of` meets its contract: one digit, and one more for each power of ten that is reached.
+-- `digits::width_of` meets its contract: one digit, and one more for each power of ten that is reached.
 use borrow.Author.Needs.{needs}
 use Rattle.bits.specs.Lists.{sumTo}
-use Rattle.lines.specs.Digits.{width}
-use Rattle.lines.proofs.put.width_of.Statement.{statement}
-use Rattle.lines.proofs.put.width_of.Tie as tie
+use Rattle.digits.specs.Digits.{width}
+use Rattle.digits.proofs.width_of.Statement.{statement}
+use Rattle.digits.proofs.width_of.Tie as tie
 
 returns : tie.Need-returns
 unfolding width sumTo

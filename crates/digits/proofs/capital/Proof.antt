@@ -1,8 +1,8 @@
--- `put::capital` meets its contract: a digit below 10, or one from 10 on.
+-- `digits::capital` meets its contract: a digit below 10, or one from 10 on.
 use borrow.Author.Tests.{lt-ltb, le-ltb}
 use borrow.Author.Needs.{needs}
-use Rattle.lines.proofs.put.capital.Statement.{statement}
-use Rattle.lines.proofs.put.capital.Tie as tie
+use Rattle.digits.proofs.capital.Statement.{statement}
+use Rattle.digits.proofs.capital.Tie as tie
 
 returns : tie.Need-returns
 returns c = rw (lt-ltb _ _ (c .if1 .taken))

@@ -1,14 +1,14 @@
--- `put::put_digits` meets its contract: the loop's invariant: storing the digits that are left gives what storing all gives. The measure is how many are left.
+-- `digits::put_digits` meets its contract: the loop's invariant: storing the digits that are left gives what storing all gives. The measure is how many are left.
 use mathlib.Core.Path.{_≡_, refl, _∙_}
 use Prim.Native.Nat.{_≤_}
 use native.Mathlib.Nat.{mod-lt}
 use native.Mathlib.Omega.{arith}
 use lib.Seq.{sets}
 use lib.ListN.{length, length-set}
-use Rattle.lines.specs.Digits.{digits}
-use Rattle.lines.specs.DigitsLaws.{digits-more, digits-none}
-use Rattle.lines.proofs.put.put_digits.Statement.{statement}
-use Rattle.lines.proofs.put.put_digits.Tie as tie
+use Rattle.digits.specs.Digits.{digits}
+use Rattle.digits.specs.DigitsLaws.{digits-more, digits-none}
+use Rattle.digits.proofs.put_digits.Statement.{statement}
+use Rattle.digits.proofs.put_digits.Tie as tie
 
 abbrev Inv-loop : tie.InvT-loop
 Inv-loop out₀ at count base n left₀ rest₀ out left rest = (length out ≡ length out₀) × (left ≤ count) × (sets out at (digits base left rest) ≡ sets out₀ at (digits base count n))

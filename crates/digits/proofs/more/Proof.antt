@@ -1,9 +1,9 @@
--- `guess::more` meets its contract: the product and the sum fit 64 bits, as the base is at most 16.
+-- `digits::more` meets its contract: the product and the sum fit 64 bits, as the base is at most 16.
 use native.Mathlib.Nat.{mul-le-mul-left}
 use native.Mathlib.Omega.{arith}
 use borrow.Author.Needs.{needs}
-use Rattle.lines.proofs.guess.more.Statement.{statement}
-use Rattle.lines.proofs.guess.more.Tie as tie
+use Rattle.digits.proofs.more.Statement.{statement}
+use Rattle.digits.proofs.more.Tie as tie
 
 mul-result : tie.Need-mul-result
 mul-result c = record { fits = omega (arith, mul-le-mul-left (c .args .n) (c .pre)) }

@@ -1,10 +1,10 @@
--- `put::put_decimal` meets its contract: as many digits as the number has.
+-- `digits::put_decimal` meets its contract: as many digits as the number has.
 use native.Mathlib.Omega.{arith}
 use borrow.Author.Needs.{needs}
-use Rattle.lines.specs.Digits.{width}
-use Rattle.lines.specs.DigitsLaws.{length-digits}
-use Rattle.lines.proofs.put.put_decimal.Statement.{statement}
-use Rattle.lines.proofs.put.put_decimal.Tie as tie
+use Rattle.digits.specs.Digits.{width}
+use Rattle.digits.specs.DigitsLaws.{length-digits}
+use Rattle.digits.proofs.put_decimal.Statement.{statement}
+use Rattle.digits.proofs.put_decimal.Tie as tie
 
 put-digits-requires : tie.Need-put-digits-requires
 put-digits-requires c κs =

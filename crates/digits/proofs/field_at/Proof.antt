@@ -1,14 +1,14 @@
--- `guess::field_at` meets its contract: a byte below '0' ends the field, or the bytes do. The loop's invariant: what is left gives what the whole field gives.
+-- `digits::field_at` meets its contract: a byte below '0' ends the field, or the bytes do. The loop's invariant: what is left gives what the whole field gives.
 -- The measure is what is left of the bytes.
 use mathlib.Core.Path.{_≡_, refl, _∙_}
 use Prim.Native.Nat.{_-_}
 use native.Mathlib.Omega.{arith}
 use lib.ListN.{length, drop}
 use borrow.Author.Needs.{needs}
-use Rattle.lines.specs.ReadLineLaws.{field-stop, field-step, field-end}
-use Rattle.lines.specs.ReadLine.{fieldFrom, after}
-use Rattle.lines.proofs.guess.field_at.Statement.{statement}
-use Rattle.lines.proofs.guess.field_at.Tie as tie
+use Rattle.digits.specs.FieldLaws.{field-stop, field-step, field-end}
+use Rattle.digits.specs.Field.{fieldFrom, after}
+use Rattle.digits.proofs.field_at.Statement.{statement}
+use Rattle.digits.proofs.field_at.Tie as tie
 
 abbrev Inv-loop : tie.InvT-loop
 Inv-loop line from base n₀ i₀ n i = (fieldFrom base n (drop i line) ≡ fieldFrom base 0 (drop from line)) × (after (drop i line) ≡ after (drop from line))
