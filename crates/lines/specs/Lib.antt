@@ -7,3 +7,4 @@ pub mod ReadLine
 pub mod ReadLineLaws
 pub mod WriteLineLaws
 pub mod LinePromises
+pub mod ComputedLines
