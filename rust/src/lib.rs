@@ -18,12 +18,14 @@
 mod answer;
 mod comparison;
 pub mod exports;
+mod line;
 mod refusal;
 mod table;
 
 use answer::Answer;
 
 pub use comparison::{Comparison, Register};
+pub use line::NoSuchLine;
 pub use refusal::{Details, Refusal, TopologyError};
 pub use table::{CpuidResult, Row, Rows, Table};
 
@@ -32,6 +34,9 @@ pub const PAGE_BYTES: usize = 4096;
 
 /// The most bytes that an image can have.
 pub const MOST_IMAGE_BYTES: usize = 732;
+
+/// The most bytes that a refusal's line can have.
+pub const MOST_LINE_BYTES: usize = 22;
 
 /// Builds the table of CPUID pages that stand end to end. `secure_avic` adds one bit to the mask of 8000001Fh.EAX.
 pub fn build(pages: &[u8], secure_avic: bool) -> Result<Table, Refusal> {

@@ -1,6 +1,7 @@
 //! The commands: one file each, with its name, operands, options, help and `run`, and its line in the list.
 
 mod compare;
+mod explain;
 mod from_dump;
 mod image;
 mod lookup;
@@ -18,4 +19,5 @@ pub const ALL: &[Command] = &[
     from_dump::COMMAND,
     to_dump::COMMAND,
     compare::COMMAND,
+    explain::COMMAND,
 ];
