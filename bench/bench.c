@@ -1,6 +1,7 @@
-/* Build and image, by the proved library, by plain C and, with WITH_RUST, by the Rust of differential/oracle, in one run: prints ratios, not a
- * verdict. Each round times all on the same input, in turns; the median of the rounds' ratios is printed with their spread. The Rust builds
- * its set of leaves, and writes no image. */
+/* Build and image, by the proved library, by plain C of one compiler or two and, with WITH_RUST, by the Rust of differential/oracle, in one process.
+ * Each round times all on the same input, in turns. A line for each input has tabs between its words: its name, the port's median in ns, and for
+ * each of the others name, median and the median of the rounds' ratios: port / C, or Rust / port. bench/run links it in several orders. The Rust
+ * builds its set of leaves, and writes no image. */
 #include "../include/snp_cpuid.h"
 #include "plain.h"
 
@@ -9,7 +10,26 @@
 #include <string.h>
 #include <time.h>
 
-enum { ROUNDS = 41, ROOM = 1024 };
+enum { ROUNDS = 21, ROOM = 1024 };
+
+/* plain.c by each compiler, under the name that bench/run gives it */
+typedef struct plain_answer plain(const uint8_t *pages, size_t length, int avic, uint8_t *out, size_t room, size_t *written);
+plain plain_gcc;
+#ifdef WITH_CLANG
+plain plain_clang;
+#endif
+
+static const struct {
+    const char *name;
+    plain *write_image;
+} C[] = {
+    {"gcc", plain_gcc},
+#ifdef WITH_CLANG
+    {"clang", plain_clang},
+#endif
+};
+
+enum { COMPILERS = sizeof C / sizeof *C };
 
 static double now(void)
 {
@@ -37,13 +57,13 @@ static double port_ns(const uint8_t *pages, size_t n, int calls)
     return (now() - t) / calls;
 }
 
-static double plain_ns(const uint8_t *pages, size_t n, int calls)
+static double plain_ns(plain *write_image, const uint8_t *pages, size_t n, int calls)
 {
     uint8_t out[ROOM];
     double t = now();
     for (int i = 0; i < calls; i++) {
         size_t written;
-        struct plain_answer a = plain_write_image(pages, n, 0, out, ROOM, &written);
+        struct plain_answer a = write_image(pages, n, 0, out, ROOM, &written);
         sink += (uint32_t)written + a.number + out[0];
     }
     return (now() - t) / calls;
@@ -62,16 +82,18 @@ static double rust_ns(const uint8_t *pages, size_t n, int calls)
 }
 #endif
 
-/* both give the same answer and bytes, or nothing here means anything */
+/* all give the same answer and bytes, or nothing here means anything */
 static void compare(const char *name, const uint8_t *pages, size_t n)
 {
-    uint8_t a[ROOM] = {0}, b[ROOM] = {0};
-    size_t written;
-    struct snp_cpuid_written w = snp_cpuid_write_image(pages, n, false, a, ROOM);
-    struct plain_answer p = plain_write_image(pages, n, 0, b, ROOM, &written);
-    if (w.number != p.number || w.length != written || memcmp(a, b, ROOM)) {
-        fprintf(stderr, "%s: the answers differ\n", name);
-        exit(1);
+    for (int c = 0; c < COMPILERS; c++) {
+        uint8_t a[ROOM] = {0}, b[ROOM] = {0};
+        size_t written;
+        struct snp_cpuid_written w = snp_cpuid_write_image(pages, n, false, a, ROOM);
+        struct plain_answer p = C[c].write_image(pages, n, 0, b, ROOM, &written);
+        if (w.number != p.number || w.length != written || memcmp(a, b, ROOM)) {
+            fprintf(stderr, "%s: the answers differ\n", name);
+            exit(1);
+        }
     }
 }
 
@@ -79,19 +101,18 @@ struct times {
     double ns[ROUNDS], ratio[ROUNDS];
 };
 
-static void print_times(const char *what, const char *ratio, struct times *t)
+static double median(double *values)
 {
-    qsort(t->ns, ROUNDS, sizeof *t->ns, by_value);
-    qsort(t->ratio, ROUNDS, sizeof *t->ratio, by_value);
-    printf("  %s %6.0f ns  %s %.2f (%.2f to %.2f)", what, t->ns[ROUNDS / 2], ratio, t->ratio[ROUNDS / 2], t->ratio[2], t->ratio[ROUNDS - 3]);
+    qsort(values, ROUNDS, sizeof *values, by_value);
+    return values[ROUNDS / 2];
 }
 
 static void measure(const char *name, const uint8_t *pages, size_t n)
 {
     double port[ROUNDS];
-    struct times c;
+    struct times c[COMPILERS];
+    int calls = 10000;
     compare(name, pages, n);
-    int calls = 20000;
 #ifdef WITH_RUST
     struct times rust;
     if (oracle_rows(pages, n) != snp_cpuid_build(pages, n, false).row_count) {
@@ -101,19 +122,21 @@ static void measure(const char *name, const uint8_t *pages, size_t n)
     calls = 2000;
 #endif
     for (int i = 0; i < ROUNDS; i++) {
-        c.ns[i] = plain_ns(pages, n, calls);
         port[i] = port_ns(pages, n, calls);
-        c.ratio[i] = port[i] / c.ns[i];
+        for (int k = 0; k < COMPILERS; k++) {
+            c[k].ns[i] = plain_ns(C[k].write_image, pages, n, calls);
+            c[k].ratio[i] = port[i] / c[k].ns[i];
+        }
 #ifdef WITH_RUST
         rust.ns[i] = rust_ns(pages, n, calls);
         rust.ratio[i] = rust.ns[i] / port[i];
 #endif
     }
-    qsort(port, ROUNDS, sizeof *port, by_value);
-    printf("%-28s port %6.0f ns", name, port[ROUNDS / 2]);
-    print_times("C", "port/C", &c);
+    printf("%s\t%.1f", name, median(port));
+    for (int k = 0; k < COMPILERS; k++)
+        printf("\t%s\t%.1f\t%.4f", C[k].name, median(c[k].ns), median(c[k].ratio));
 #ifdef WITH_RUST
-    print_times("Rust", "Rust/port", &rust);
+    printf("\trust\t%.1f\t%.4f", median(rust.ns), median(rust.ratio));
 #endif
     putchar('\n');
 }
@@ -156,7 +179,7 @@ int main(int argc, char **argv)
 
     measure("the shipped set, 38 entries", pages, sizeof pages);
     measure("two full pages, 128 entries", full, 8192);
-    measure("sixteen full pages", sixteen, 16 * 4096);
-    measure("refused: no Dh entry", refused, sizeof refused);
+    measure("sixteen full pages, 1,024 entries", sixteen, 16 * 4096);
+    measure("refused: a full page and an empty one, so no Dh entry", refused, sizeof refused);
     return 0;
 }

@@ -118,7 +118,7 @@ def read_register(path, text):
         return [], [f'{path.name}: line 1 names no register']
     register = head.group(1)
     names = [name for name, _ in declared(text)]
-    places = re.findall(r'^place (\S+) = (\d+)\s*$', text, re.M)
+    places = re.findall(r'^position (\S+) = (\d+)\s*$', text, re.M)
     failures = compare_sets(path, names, [name for name, _ in places], 'places')
     lists = re.findall(r'^kept\w* =(.*?)\[\]', text, re.M | re.S)
     kept = [name for body in lists for name in body.replace('∷', ' ').split()]
@@ -157,7 +157,7 @@ def read_specs(specs):
     found, failures = [], []
     for path in sorted(specs.glob('*.antt')):
         text = path.read_text(encoding='utf-8')
-        for mark, read in (('pub place :', read_register), ('pub span :', read_fields)):
+        for mark, read in (('pub position :', read_register), ('pub span :', read_fields)):
             if mark in text:
                 names, lines = read(path, text)
                 found += names
@@ -213,7 +213,7 @@ def main(specs):
     for failure in failures:
         print(failure)
     without = sum((named.register, named.name) in NO_PUBLIC_LINE for named in found)
-    print(f'bit_names: {len(found) - without} names held against cpuid-bits.csv, {without} without a public line')
+    print(f'{len(found) - without} names held against cpuid-bits.csv, {without} without a public line')
     return 1 if failures else 0
 
 

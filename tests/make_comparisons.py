@@ -8,6 +8,7 @@ none, or in a row, with commas: #LENGTH cuts the set or fills it up with zeros, 
 leaves are; a subleaf of - is none.
 """
 from collections import Counter
+from itertools import product
 from pathlib import Path
 import struct
 import sys
@@ -51,8 +52,17 @@ def flipped(at, number, bit):
     return register(MILAN, at, number, lambda old: old ^ 1 << bit)
 
 
-def set_to(leaf, subleaf, number, value, data=MILAN):
-    return register(data, find(leaf, subleaf), number, lambda old: value)
+def set_to(leaf, subleaf, number, value, data=MILAN, field=ALL):
+    """The bits of `field` of one register replaced by those of `value`."""
+    return register(data, find(leaf, subleaf), number, lambda old: old & ~field | value)
+
+
+def with_topology(s, nc, lps, mt, t):
+    """The five inputs of document 01, "Corners of snp.rs"."""
+    data = set_to(0x80000008, 0, model.ECX, s << 12 | nc, field=0xF0FF)
+    data = set_to(1, 0, model.EBX, lps << 16, data, 0xFF << 16)
+    data = set_to(0x8000001E, 0, model.EBX, t << 8, data, 0xFF << 8)
+    return set_to(1, 0, model.EDX, mt << 28, data, 1 << 28)
 
 
 def appended(data, page, leaf, subleaf, *result):
@@ -63,9 +73,9 @@ def appended(data, page, leaf, subleaf, *result):
     return put(data[:at] + entry + data[at + 48:], page * PAGE_SIZE, count + 1)
 
 
-def richer():
-    """Milan with AVX-512 and CET state besides."""
-    data = set_to(STATE, 0, model.EAX, 0xE7)
+def richer(data=MILAN):
+    """AVX-512 and CET state besides."""
+    data = set_to(STATE, 0, model.EAX, 0xE7, data)
     data = set_to(STATE, 1, model.EAX, 0xF, data)
     data = set_to(STATE, 1, model.ECX, 0x1800, data)
     for subleaf, size, start in (5, 64, 832), (6, 512, 896), (7, 1024, 1408), (11, 16, 0), (12, 24, 0):
@@ -152,6 +162,17 @@ def others():
     yield MILAN, put(MILAN, find(7) + 4, 1), False
 
 
+def bit_28():
+    """ "1.EDX but bit 28", which "is equal": sets that are built with it or without it, alone and beside features that B has and A has not. """
+    for s, nc, lps, t in (8, 255, 0, 1), (15, 0, 255, 0), (0, 0, 1, 0):
+        for one, other in product((0, 1), repeat=2):
+            a, b = (with_topology(s, nc, lps, mt, t) for mt in (one, other))
+            poorer = set_to(1, 0, model.EDX, 0, a, 1 << 26)
+            for pair in (a, b), (poorer, b), (a, richer(b)), (set_to(7, 0, model.EBX, 0, poorer), richer(b)):
+                yield *pair, False
+            yield a, b, True
+
+
 # The file
 
 def edits(data):
@@ -174,9 +195,16 @@ def told(answer):
     return [*words, f'{leaf:x}', '-' if subleaf is None else str(subleaf), *('eax ebx ecx edx'.split()[number] for number in rest)]
 
 
+GROUPS = (single_bits, secure_avic, missing, damaged, refused, others, bit_28)
+
+
+def pairs_of(*groups):
+    """(A, B, secure AVIC) of each pair of these groups, once."""
+    return list(dict.fromkeys(pair for group in groups for pair in group()))
+
+
 def main(words):
-    groups = single_bits, secure_avic, missing, damaged, refused, others
-    pairs = [pair for group in groups for pair in group()]
+    pairs = pairs_of(*GROUPS)
     answers = [model.compare(*pair) for pair in pairs]
     lines = [' '.join([str(int(choice)), edits(a), edits(b), *told(answer)]) for (a, b, choice), answer in zip(pairs, answers)]
     made = ''.join(line + '\n' for line in lines).encode()

@@ -1,7 +1,7 @@
 """The page sets and answers of differential/list.txt, which the Rust gave; its head says how it was made and what a line means."""
 from pathlib import Path
 
-from vector_groups import build, write
+from vector import build, write
 
 LIST = Path(__file__).resolve().parent.parent / 'differential' / 'list.txt'
 
@@ -9,7 +9,6 @@ LIST = Path(__file__).resolve().parent.parent / 'differential' / 'list.txt'
 def listed():
     """(vector, the line that the Rust gave) in order."""
     pages = bytearray()
-    found = []
     for number, text in enumerate(LIST.read_text().splitlines(), 1):
         kind, _, rest = text.partition(' ')
         if kind == '#':
@@ -25,5 +24,15 @@ def listed():
             asked, answer = rest.split(' = ')
             avic, *room = map(int, asked.split())
             make = {'b': build, 'w': write}[kind]
-            found.append((make(f'list.txt {number}', bytes(pages), *room, secure_avic=bool(avic)), f'{kind} {answer}'))
-    return found
+            yield make(f'line {number}', bytes(pages), *room, secure_avic=bool(avic)), f'{kind} {answer}'
+
+
+def answers_of_the_rust():
+    """Every set of the list. The model must answer as the Rust did."""
+    for vector, by_rust in listed():
+        if vector.line != by_rust:
+            raise ValueError(f'{vector.name}: the model gives {vector.line}, the Rust {by_rust}')
+        yield vector
+
+
+GROUPS = (answers_of_the_rust,)

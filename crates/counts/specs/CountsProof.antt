@@ -1,8 +1,9 @@
--- The proofs of the statements of Counting.
+-- The proofs of the statements of Counts.
 use mathlib.Core.Path.{_≡_, refl, ap}
 use mathlib.Core.Bool.{Bool}
 use mathlib.Core.List.{List}
-use Prim.Native.Nat.{ℕ, _<_}
+use Prim.Native.Nat.{ℕ, _≤_, _<_}
+use lib.ListN.{length}
 use native.Mathlib.Omega.{arith}
 use Rattle.bits.specs.ListsLaws.{length-tabulate, getD-tabulate}
 use Rattle.masking.specs.Kept.{places}
@@ -17,8 +18,8 @@ use Rattle.table.specs.Table.{tableOf}
 use Rattle.build.specs.Built.{tableFor}
 use Rattle.collect.specs.FirstEntries.{rowsOf}
 use Rattle.build.specs.Build.{lawfulVerdict, verdictOf, answer}
-use Rattle.image.specs.Image.{leafOrder}
-use Rattle.counts.specs.Counts.{RowsCounted, SinglePageRefused, LeafOrder}
+use Rattle.image.specs.Image.{leafOrder, image}
+use Rattle.counts.specs.Counts.{Counted, RowsCounted, SinglePageRefused, LeafOrder}
 use Rattle.counts.specs.Standing.{stands, row-stands}
 use Rattle.counts.specs.Sizes.{rows-count, bytes-count}
 use Rattle.counts.specs.Mask.{mask-within, components-most}
@@ -45,6 +46,15 @@ rows-counted avic s e = record {
 
     standing : (i : ℕ) → i < places → finished m i .present ≡ stands (combinedMask m) i
     standing = row-stands m (rows-pass avic s e)
+
+-- the two bounds in plain words, so that neither can be weakened unseen
+pub at-most-32 : (avic : Bool) (s : List ℕ) → answer avic s .verdict ≡ Accepted → answer avic s .table .«row_count» ≤ 32
+at-most-32 avic s e = rows-counted avic s e .most
+
+pub at-most-732 : (avic : Bool) (s : List ℕ) → answer avic s .verdict ≡ Accepted → length (image (answer avic s .table)) ≤ 732
+at-most-732 avic s e =
+    let c : Counted avic s = rows-counted avic s e in
+    omega (arith, c .bytes, components-most (c .mask))
 
 pub single-page-refused : SinglePageRefused
 single-page-refused avic s n e = single-refused avic s n (rows-pass avic s e)

@@ -4,14 +4,31 @@ use numbers::AnswerNumbers;
 use table::Refusal;
 use table::Verdict;
 ghost use mathlib.Core.Path.{_≡_};
-ghost use mathlib.Core.List.{[], _∷_};
+ghost use mathlib.Core.List.{[], _∷_, _++_};
+ghost use lib.ListN.{length, drop};
 ghost use Rattle.buffer.specs.Front.{writeFront};
 ghost use Rattle.program.specs.Output.{output};
 ghost use Rattle.program.specs.Bytes.{codeOf, numberBytes};
+ghost use Rattle.program.specs.Fits.{room};
 
 const LONGEST_INPUT: usize = 65536;
 
 const REFUSAL_BYTES: usize = 11;
+
+// Room for every output: an image has 732 bytes at the most.
+pub const ROOM: usize = 1024;
+
+// Document 01's bytes for an input of any length, at the front of a buffer in which there is always room for them, and how many they are.
+pub fn put_output(input: &[u8], out: &mut [u8; ROOM]) -> usize
+    ensures { λ n. ⌜ (n ≡ length (output (now (input .entry)))) × (now (out .exit) ≡ output (now (input .entry)) ++ drop n (now (out .entry))) ⌝ }
+    ensures kept { λ _. ⌜ length (now (out .exit)) ≡ room ⌝ }
+{
+    let written = write_output(input, out);
+    match written {
+        Written::Bytes(n) => n,
+        Written::Refused(_) => 0,
+    }
+}
 
 // Document 01's bytes for an input of any length, at the front of a lent buffer that has room for them.
 pub fn write_output(input: &[u8], out: &mut [u8]) -> Written

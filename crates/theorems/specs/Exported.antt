@@ -1,8 +1,10 @@
--- Demand 3 of what the exported functions return: snp_cpuid_build, snp_cpuid_lookup and snp_cpuid_write_image give `builtNumbers`,
--- `foundNumbers` and `writtenNumbers` of the definition's answers (crates/snp_cpuid/src/lib.rt), and these rise from A to B.
+-- Demand 3 of what the exported functions return: snp_cpuid_build and snp_cpuid_lookup give `builtNumbers` and `foundNumbers` of the
+-- definition's answers (crates/snp_cpuid/src/lib.rt), and these rise from A to B. Left out is snp_cpuid_write_image: what it returns and
+-- writes is the image of the same table, by its contract and `each-write-exactly`.
 use mathlib.Core.Path.{_≡_, refl, sym, ap, _∙_, subst, subst₂}
 use mathlib.Core.Bool.{Bool, true, false}
 use mathlib.Core.List.{List}
+use mathlib.Core.Logic.{_⊎_, inl, inr}
 use Prim.Native.Nat.{ℕ, _≤_, _<_}
 use native.Mathlib.Nat.{le-of-eq}
 use native.Mathlib.Omega.{arith}
@@ -37,7 +39,7 @@ use Rattle.lookup.specs.Lookup.{lookup, rowResult}
 use Rattle.lookup.specs.LookupLaws.{placeAsked, lookup-at}
 use Rattle.refusals.specs.Conditions.{Lacking, ComponentFault, AreaFault}
 use Rattle.refusals.specs.ExactlyProof.{builds-exactly}
-use Rattle.rise.specs.Rise.{RiseHypothesis, Outcome, RiseConclusion, TableRises}
+use Rattle.rise.specs.Rise.{RiseHypothesis, Outcome, RiseConclusion, Further, TableRises}
 use Rattle.rise.specs.Rise.Outcome.{missing, overflow, accepted}
 use Rattle.rise.specs.RiseProof.{demand-3}
 use Rattle.compare.specs.declared.Compared.{Compared}
@@ -85,6 +87,9 @@ pub record ExportsRise (avic : Bool) (a b : List ℕ) : Type 0 where
   pub rows : built avic b .number ≡ 0 → (leaf : CpuidFunction) (subleaf : Subleaf) (enforce : Bool) → found avic a leaf subleaf enforce .found ≡ 1
       → (found avic b leaf subleaf enforce .found ≡ 1)
       × Registers TableAtLeast (kindsOf (ruleAt (placeAsked leaf subleaf enforce))) (registersOf (found avic a leaf subleaf enforce)) (registersOf (found avic b leaf subleaf enforce))
+  -- beyond these only: what is found in B's table and not in A's is a Dh subleaf from 2 up that B's mask has and A's has not
+  pub others : built avic b .number ≡ 0 → (leaf : CpuidFunction) (subleaf : Subleaf) (enforce : Bool) → found avic b leaf subleaf enforce .found ≡ 1
+      → (found avic a leaf subleaf enforce .found ≡ 1) ⊎ Further (answer avic a .table) (answer avic b .table) (placeAsked leaf subleaf enforce)
 
 -- ---- the proof
 
@@ -168,11 +173,34 @@ module _ (avic : Bool) (a b : List ℕ) (rises : RiseHypothesis avic a b) where
             (t .registers i l pa),
       )
 
+  -- a row that is there is found
+  found-there : (s : List ℕ) (leaf : CpuidFunction) (subleaf : Subleaf) (enforce : Bool)
+      → rowIn (answer avic s .table) (placeAsked leaf subleaf enforce) .present ≡ true → found avic s leaf subleaf enforce .found ≡ 1
+  found-there s leaf subleaf enforce p =
+      let i : ℕ = placeAsked leaf subleaf enforce in
+      sym (ap (λ (f : SnpCpuidFound). f .found) (ap foundNumbers (lookup-at (answer avic s .table) (table-whole avic s) leaf subleaf enforce i refl)))
+      ∙ ap (λ (f : SnpCpuidFound). f .found) (found-numbers (rowIn (answer avic s .table) i) p)
+
+  othersFound : TableRises (answer avic a .table) (answer avic b .table) → (leaf : CpuidFunction) (subleaf : Subleaf) (enforce : Bool)
+      → found avic b leaf subleaf enforce .found ≡ 1
+      → (found avic a leaf subleaf enforce .found ≡ 1) ⊎ Further (answer avic a .table) (answer avic b .table) (placeAsked leaf subleaf enforce)
+  othersFound t leaf subleaf enforce e =
+      let i : ℕ = placeAsked leaf subleaf enforce in
+      let rb : Row = rowIn (answer avic b .table) i in
+      let fb : foundNumbers (rowResult rb) ≡ found avic b leaf subleaf enforce =
+      ap foundNumbers (lookup-at (answer avic b .table) (table-whole avic b) leaf subleaf enforce i refl) in
+      let pb : rb .present ≡ true = found-present rb (ap (λ (f : SnpCpuidFound). f .found) fb ∙ e) in
+      elim (t .others i (present-inside avic b i pb) pb) [
+        | inl p ↦ inl (found-there a leaf subleaf enforce p)
+        | inr f ↦ inr f
+      ]
+
   pub exports-rise : ExportsRise avic a b
   exports-rise = record {
     answers = rise-answers avic b (risen .outcome);
     mask = λ n. risen .table (verdict-numbered (answer avic b .verdict) n) .mask;
     rows = λ n. rowsFound (risen .table (verdict-numbered (answer avic b .verdict) n));
+    others = λ n. othersFound (risen .table (verdict-numbered (answer avic b .verdict) n));
   }
 
 -- ---- snp_cpuid_compare gives `comparedNumbers` of the comparison: answer 0 if and only if the hypothesis of demand 3 holds

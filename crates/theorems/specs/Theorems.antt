@@ -1,4 +1,5 @@
--- What is proved, statement by statement: the page to open first. Each names the file where its words are defined.
+-- What is proved, statement by statement: the page to open first. Each names the file where its words are defined. The contracts tie the
+-- code to the definition: `build::build` promises `answer`, and every other entry point an equation with a definition over it.
 -- `answer avic s` is the answer of the definition (crates/build/specs/Build.antt) to the page bytes s under the secure-AVIC choice avic.
 use mathlib.Core.Path.{_≡_}
 use mathlib.Core.Bool.{Bool, true, false}
@@ -21,11 +22,11 @@ use Rattle.reader.specs.ReadLaws.{reader-gives}
 use Rattle.lookup.specs.declared.LeafResult.the-variants.{None as Nothing}
 use Rattle.lookup.specs.Lookup.{lookup}
 use Rattle.lookup.specs.LookupLaws.{empty-finds-nothing}
-use Rattle.image.specs.Image.{leafOrder}
+use Rattle.image.specs.Image.{leafOrder, image}
 use Rattle.refusals.specs.Exactly.{BuildsExactly, WritesExactly}
 use Rattle.refusals.specs.ExactlyProof.{builds-exactly, writes-exactly}
 use Rattle.counts.specs.Counts.{Counted, LeafOrder}
-use Rattle.counts.specs.CountsProof.{rows-counted, single-page-refused, leaf-order}
+use Rattle.counts.specs.CountsProof.{rows-counted, at-most-32, at-most-732, single-page-refused, leaf-order}
 use Rattle.rise.specs.Rise.{RiseHypothesis, HypothesisByTheLetter, RiseConclusion}
 use Rattle.rise.specs.RiseProof.{demand-3, demand-3-by-the-letter}
 use Rattle.rise.specs.Same.{rises-itself, same-figures}
@@ -133,6 +134,12 @@ fourteen-rows = marked-rows
 -- 26 rows and one for each combined bit from 2 up, at most 32; an image of 582 bytes and 25 for each such bit
 pub counts : (avic : Bool) (s : List ℕ) → answer avic s .verdict ≡ Accepted → Counted avic s
 counts = rows-counted
+
+pub at-most-32-rows : (avic : Bool) (s : List ℕ) → answer avic s .verdict ≡ Accepted → answer avic s .table .«row_count» ≤ 32
+at-most-32-rows = at-most-32
+
+pub at-most-732-bytes : (avic : Bool) (s : List ℕ) → answer avic s .verdict ≡ Accepted → length (image (answer avic s .table)) ≤ 732
+at-most-732-bytes = at-most-732
 
 -- page 1 is missing, and with it Dh
 pub single-page-never-accepted : (avic : Bool) (s : List ℕ) → length s ≡ 4096 → answer avic s .verdict ≡ Accepted → ⊥

@@ -1,0 +1,65 @@
+"""Tests of the gate's own script, tests/run, with commands in place of rt, python3, cargo, nm and cpuid that print what a case asks for."""
+from pathlib import Path
+import os
+import shutil
+import subprocess
+import tempfile
+import unittest
+
+GATE = Path(__file__).with_name('run')
+MANY = '99999999 tests ran'
+
+
+class Gate(unittest.TestCase):
+    def run_gate(self, said=MANY, status=0, proofs='7 passed, 0 failed', words=()):
+        """(exit status, lines): what every test says last, with which status, and what rt ci says."""
+        commands = {
+            'rt': f'[ "$1" != ci ] || echo "{proofs}"',
+            'python3': f'echo "{said}"; exit {status}',
+            'nm': 'for i in 1 2 3 4 5; do echo "0 T snp_cpuid_$i"; done',
+            'cpuid': 'echo "cpuid: no such device" >&2; exit 1',
+        }
+        with tempfile.TemporaryDirectory() as folder:
+            bin_folder = Path(folder, 'bin')
+            tests = Path(folder, 'repository', 'tests')
+            bin_folder.mkdir()
+            tests.mkdir(parents=True)
+            for name, script in commands.items():
+                (bin_folder / name).write_text(f'#!/bin/sh\n{script}\n')
+                (bin_folder / name).chmod(0o755)
+            shutil.copy(GATE, tests)
+            environment = {**os.environ, 'PATH': f'{bin_folder}:{os.environ["PATH"]}', 'OPENVMM_CVM_CPUID': ''}
+            ran = subprocess.run([tests / 'run', *words], env=environment, capture_output=True, text=True, check=False)
+            return ran.returncode, ran.stdout.splitlines()
+
+    def test_all_pass(self):
+        status, lines = self.run_gate()
+        self.assertEqual((status, lines[-1]), (0, '15 passed, 0 failed'))
+        self.assertEqual(lines[-2], '3 passed over: 3 comparisons with the Rust, which is not at hand (differential/README.md)')
+
+    def test_a_test_that_ran_nothing_or_does_not_say_fails(self):
+        for said in '0 tests ran', '1 tests ran', 'OK', '':
+            status, lines = self.run_gate(said)
+            self.assertEqual((status, lines[-1]), (1, '8 passed, 7 failed'), said)
+
+    def test_a_status_that_is_not_0_fails(self):
+        self.assertEqual(self.run_gate(status=1)[1][-1], '8 passed, 7 failed')
+
+    def test_proofs_that_fail(self):
+        for proofs, last in ('6 passed, 1 failed', '14 passed, 1 failed'), ('rt: out of memory', '8 passed, 1 failed'), ('', '8 passed, 1 failed'):
+            status, lines = self.run_gate(proofs=proofs)
+            self.assertEqual((status, lines[-1]), (1, last))
+
+    def test_tests_passed_over_are_named(self):
+        _, lines = self.run_gate(said=MANY + ', 4 passed over')
+        self.assertTrue(lines[-2].startswith(
+            "7 passed over: 4 tests that decode dumps, as Debian's cpuid is there and fails: cpuid: no such device; 3 comparisons"), lines[-2])
+
+    def test_without_proofs(self):
+        status, lines = self.run_gate(words=['--no-proofs'])
+        self.assertEqual((status, lines[-1]), (0, '7 passed, 0 failed'))
+        self.assertTrue(lines[-2].startswith('5 passed over: the proofs, as asked; why the edits are refused'), lines[-2])
+
+
+if __name__ == '__main__':
+    unittest.main()

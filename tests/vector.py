@@ -1,0 +1,58 @@
+"""One vector of crates/vectors: a page set, the command that asks something of it, and the line that the program must answer.
+
+A command is 12 bytes (crates/vectors/src/main.rt): its letter, three choices, and two numbers. The answers are the model's.
+"""
+from collections import namedtuple
+import struct
+
+import model
+
+COMMAND_SIZE = 12
+FILL = 0xA5
+NO_SUBLEAF = 0xFFFFFFFF
+
+# summary sums the answer up for the count of answers; line is the whole of it
+Vector = namedtuple('Vector', 'name pages command summary line')
+
+
+def command(kind, a=0, b=0, secure_avic=False, has_subleaf=False, enforce=False):
+    return struct.pack('<c3?II', kind.encode(), secure_avic, has_subleaf, enforce, a, b)
+
+
+def word(number):
+    return f'{number:08x}'
+
+
+def refusal_words(answer):
+    """Number, leaf, whether a subleaf is named, subleaf and s; all 0 where nothing is refused."""
+    if answer[0] != 'refusal':
+        return [word(0)] * 5
+    _, number, leaf, subleaf, s = answer
+    return [word(number), word(leaf), word(subleaf is not None), word(subleaf or 0), word(s)]
+
+
+def summed(kind, answer):
+    return f'{kind} refused by {answer[1]}' if answer[0] == 'refusal' else f'{kind} accepted'
+
+
+def build(name, data, secure_avic=False):
+    answer = model.build(data, secure_avic)
+    rows, mask = (len(answer[1]), answer[2]) if answer[0] == 'table' else (0, 0)
+    words = ['b', *refusal_words(answer), f'{rows:016x}', f'{mask:016x}']
+    return Vector(name, data, command('b', secure_avic=secure_avic), summed('build', answer), ' '.join(words))
+
+
+def lookup(name, data, leaf, subleaf=None, enforce=True, secure_avic=False):
+    row = f'{leaf:X}h' if subleaf is None else f'{leaf:X}h.{subleaf:X}h'
+    asked = command('l', leaf, NO_SUBLEAF if subleaf is None else subleaf, secure_avic, subleaf is not None, enforce)
+    found = model.lookup(model.build(data, secure_avic), leaf, subleaf, enforce)
+    words = ['l', word(found is not None), *map(word, found or (0, 0, 0, 0))]
+    return Vector(f'{name}, {row}', data, asked, 'lookup found' if found else 'lookup not found', ' '.join(words))
+
+
+def write(name, data, room, secure_avic=False):
+    answer, lent = model.write(data, secure_avic, bytes([FILL]) * room)
+    length = answer[1] if answer[0] == 'written' else 0
+    words = ['w', *refusal_words(answer), f'{length:016x}', lent.hex()]
+    asked = command('w', room, secure_avic=secure_avic)
+    return Vector(f'{name}, {room} bytes lent', data, asked, summed('write', answer), ' '.join(words))
