@@ -22,7 +22,8 @@ module _ (base n : ℕ) (s : List ℕ) (i : ℕ) where
   unfolding fieldFrom after
   field-stop l h = rw (add-one, drop-cons s i 0 l, lt-ltb _ _ h) (refl, refl)
 
-  pub field-step : i < length s → 48 ≤ getD s i 0 → (fieldFrom base (more base n (getD s i 0)) (drop (i + 1) s) ≡ fieldFrom base n (drop i s)) × (after (drop (i + 1) s) ≡ after (drop i s))
+  pub field-step : i < length s → 48 ≤ getD s i 0
+      → (fieldFrom base (more base n (getD s i 0)) (drop (i + 1) s) ≡ fieldFrom base n (drop i s)) × (after (drop (i + 1) s) ≡ after (drop i s))
   unfolding fieldFrom after
   field-step l h = rw (add-one, drop-cons s i 0 l, le-ltb _ _ h) (refl, refl)
 

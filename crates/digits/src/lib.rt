@@ -72,7 +72,8 @@ fn one(b: bool) -> usize
 // The number in a base whose digits start at an index, cut to 32 bits, up to a byte below '0'.
 pub fn field_at(line: &[u8], from: usize, base: u64) -> Field
     requires { ⌜ base ≤ 16 ⌝ }
-    ensures { λ r. ⌜ (r .value ≡ fieldFrom base 0 (drop from (now (line .entry)))) × (drop (r .next) (now (line .entry)) ≡ after (drop from (now (line .entry)))) ⌝ }
+    ensures { λ r. ⌜ r .value ≡ fieldFrom base 0 (drop from (now (line .entry))) ⌝ }
+    ensures { λ r. ⌜ drop (r .next) (now (line .entry)) ≡ after (drop from (now (line .entry))) ⌝ }
 {
     let mut n: u32 = 0;
     let mut i = from;

@@ -44,7 +44,8 @@ module _ (d : LineDetails) {k : Named} (e : k ≡ names (d .number)) where
   unfolding fields
   fields-named = rw (← e)
 
-  pub length-fields : length (fields d) ≡ length (leafField (k .leaf) (d .leaf)) + length (subleafField (k .subleaf) (d .subleaf)) + length (sField (k .s) (d .s))
+  pub length-fields : length (fields d)
+      ≡ length (leafField (k .leaf) (d .leaf)) + length (subleafField (k .subleaf) (d .subleaf)) + length (sField (k .s) (d .s))
   length-fields = rw fields-named (simp length-append (omega arith))
 
 pub length-parts : (d : LineDetails) → length (line d) ≡ length (decimal (d .number)) + length (fields d) + 1
@@ -73,7 +74,8 @@ zero-leb (suc s) = rw (ne-eqb (suc s) 0 (λ q. omega arith), lt-leb (suc s) 0 (o
 -- ---- stores one after another
 
 -- three runs
-pub three-sets : (l a b e x y z : List ℕ) (i j k : ℕ) → a ≡ sets l i x → j ≡ i + length x → b ≡ sets a j y → k ≡ j + length y → e ≡ sets b k z → e ≡ sets l i (x ++ (y ++ z))
+pub three-sets : (l a b e x y z : List ℕ) (i j k : ℕ)
+    → a ≡ sets l i x → j ≡ i + length x → b ≡ sets a j y → k ≡ j + length y → e ≡ sets b k z → e ≡ sets l i (x ++ (y ++ z))
 three-sets l a b e x y z i j k p q r s t =
     let first : e ≡ sets (sets a j y) (j + length y) z = t ∙ rw (r, s) in
     first ∙ sets-append y z a j ∙ rw (p, q) (sets-append x (y ++ z) l i)

@@ -108,7 +108,8 @@ s-above true s = next {b = space} (omega arith) (digits-at-least 32 10 (width s)
 s-above false s = none
 
 fields-above : (k : Named) (d : LineDetails) → AtLeast 32 (fieldsAs k d)
-fields-above k d = at-least-append (leaf-above (k .leaf) (d .leaf)) (at-least-append (subleaf-above (k .subleaf) (d .subleaf)) (s-above (k .s) (d .s)))
+fields-above k d =
+    at-least-append (leaf-above (k .leaf) (d .leaf)) (at-least-append (subleaf-above (k .subleaf) (d .subleaf)) (s-above (k .s) (d .s)))
 
 -- what stands before the newline
 abbrev body : LineDetails → List ℕ

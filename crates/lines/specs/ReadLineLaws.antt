@@ -22,7 +22,7 @@ use Rattle.lines.specs.declared.names.Named.{Named}
 use Rattle.lines.specs.declared.LineRead.the-variants.{Line, NoSuchLine}
 use Rattle.lines.specs.NumbersInUse.{names}
 use Rattle.lines.specs.NumbersInUseLaws.{used-below, subleaf-or-s}
-use Rattle.lines.specs.Line.{newline, space, isNone, mostS, subleafOr0, Fits, writableAs, writable, leafField, subleafField, sField, fieldsAs, fields, line}
+use Rattle.lines.specs.Line.{newline, space, isNone, mostS, subleafOr0, Fits, writable, subleafField, sField, fields, line}
 use Rattle.lines.specs.ReadLine.{fieldIf, afterIf, subleafIn, subleafIf, guessAs, guess, sameBytes, readLine}
 
 -- ---- index by index
@@ -70,7 +70,8 @@ record Rest (subleaf s : Bool) (k : Subleaf) (n : ℕ) : Type 0 where
   subleafBack : subleafIf subleaf behind ≡ k
   sBack : fieldIf s 10 behind ≡ n
 
-rest-read : (b c : Bool) (k : Subleaf) (n : ℕ) → not (b && c) ≡ true → (b || isNone k) ≡ true → leb n (pick c mostS 0) ≡ true → subleafOr0 k < 2 ^ 32 → Rest b c k n
+rest-read : (b c : Bool) (k : Subleaf) (n : ℕ)
+    → not (b && c) ≡ true → (b || isNone k) ≡ true → leb n (pick c mostS 0) ≡ true → subleafOr0 k < 2 ^ 32 → Rest b c k n
 rest-read true true k n e p q h = absurd (never-both e refl)
 rest-read true false None n e p q h =
     record { separator = newline; behind = []; below = omega arith; same = refl; subleafBack = refl; sBack = omega (arith, leb-true n 0 q) }
@@ -96,7 +97,8 @@ rest-read false false k n e p q h =
     record { separator = newline; behind = []; below = omega arith; same = refl; subleafBack = none-set k p; sBack = omega (arith, leb-true n 0 q) }
 
 -- the number is read back, and its details come from what stands behind the byte that ends it
-guess-line : (d : LineDetails) (x : ℕ) (t : List ℕ) → x < 48 → d .number < 2 ^ 32 → fields d ++ (newline ∷ []) ≡ x ∷ t → guess (line d) ≡ guessAs (names (d .number)) (d .number) t
+guess-line : (d : LineDetails) (x : ℕ) (t : List ℕ)
+    → x < 48 → d .number < 2 ^ 32 → fields d ++ (newline ∷ []) ≡ x ∷ t → guess (line d) ≡ guessAs (names (d .number)) (d .number) t
 unfolding guess line
 guess-line d x t l h e = rw (e, decimal-read (d .number) x t h l, after-number 10 (width (d .number)) (d .number) x t l)
 

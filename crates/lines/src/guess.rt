@@ -31,7 +31,8 @@ pub fn guess_details(line: &[u8]) -> LineDetails
 // A detail's field, where it is named.
 fn field_if(line: &[u8], at: usize, named: bool, base: u64) -> Field
     requires { ⌜ base ≤ 16 ⌝ }
-    ensures { λ r. ⌜ (r .value ≡ fieldIf named base (drop at (now (line .entry)))) × (drop (r .next) (now (line .entry)) ≡ afterIf named (drop at (now (line .entry)))) ⌝ }
+    ensures { λ r. ⌜ r .value ≡ fieldIf named base (drop at (now (line .entry))) ⌝ }
+    ensures { λ r. ⌜ drop (r .next) (now (line .entry)) ≡ afterIf named (drop at (now (line .entry))) ⌝ }
 {
     if named {
         return field_at(line, at, base);

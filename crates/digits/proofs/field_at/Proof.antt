@@ -1,5 +1,5 @@
--- `digits::field_at` meets its contract: a byte below '0' ends the field, or the bytes do. The loop's invariant: what is left gives what the whole field gives.
--- The measure is what is left of the bytes.
+-- `digits::field_at` meets its contract: a byte below '0' ends the field, or the bytes do. The loop's invariant: what is left gives what the
+-- whole field gives. The measure is what is left of the bytes.
 use mathlib.Core.Path.{_≡_, refl, _∙_}
 use Prim.Native.Nat.{_-_}
 use native.Mathlib.Omega.{arith}
@@ -11,7 +11,8 @@ use Rattle.digits.proofs.field_at.Statement.{statement}
 use Rattle.digits.proofs.field_at.Tie as tie
 
 abbrev Inv-loop : tie.InvT-loop
-Inv-loop line from base n₀ i₀ n i = (fieldFrom base n (drop i line) ≡ fieldFrom base 0 (drop from line)) × (after (drop i line) ≡ after (drop from line))
+Inv-loop line from base n₀ i₀ n i =
+    (fieldFrom base n (drop i line) ≡ fieldFrom base 0 (drop from line)) × (after (drop i line) ≡ after (drop from line))
 
 abbrev μ-loop : tie.MeasureT-loop
 μ-loop line from base n₀ i₀ n i = length line - i

@@ -1,4 +1,5 @@
--- `digits::put_digits` meets its contract: the loop's invariant: storing the digits that are left gives what storing all gives. The measure is how many are left.
+-- `digits::put_digits` meets its contract. The loop's invariant: storing the digits that are left gives what storing all gives. The
+-- measure is how many are left.
 use mathlib.Core.Path.{_≡_, refl, _∙_}
 use Prim.Native.Nat.{_≤_}
 use native.Mathlib.Nat.{mod-lt}
@@ -11,7 +12,8 @@ use Rattle.digits.proofs.put_digits.Statement.{statement}
 use Rattle.digits.proofs.put_digits.Tie as tie
 
 abbrev Inv-loop : tie.InvT-loop
-Inv-loop out₀ at count base n left₀ rest₀ out left rest = (length out ≡ length out₀) × (left ≤ count) × (sets out at (digits base left rest) ≡ sets out₀ at (digits base count n))
+Inv-loop out₀ at count base n left₀ rest₀ out left rest =
+    (length out ≡ length out₀) × (left ≤ count) × (sets out at (digits base left rest) ≡ sets out₀ at (digits base count n))
 
 abbrev μ-loop : tie.MeasureT-loop
 μ-loop out₀ at count base n left₀ rest₀ out left rest = left
@@ -26,7 +28,8 @@ loop-again : tie.Need-loop-again Inv-loop μ-loop
 loop-again c =
     let l = c .before .before .loop in
     let a = c .before .before .before .before .args in
-    (simp length-set (l .inv .0), omega arith, rw (c .capital .ensures) (digits-more (l .out) (a .at) (a .base) (l .left) (l .rest) (omega arith) ∙ l .inv .2))
+    let more = digits-more (l .out) (a .at) (a .base) (l .left) (l .rest) (omega arith) in
+    (simp length-set (l .inv .0), omega arith, rw (c .capital .ensures) (more ∙ l .inv .2))
 
 same-length : tie.Need-same-length Inv-loop μ-loop
 same-length c = c .before .loop .inv .0

@@ -24,24 +24,37 @@ array-share-prefix-bytes c =
 slice-aggregate-same : tie.Need-slice-aggregate-same
 slice-aggregate-same c =
     let put = c .before .before .put-line .ensures in
-    simp length-take (omega (arith, at-most-22 (c .before .before .before .before .before .before .guess-details .result), simp length-sets at (ap length (put .1)), put .0))
+    let g = c .before .before .before .before .before .before .guess-details .result in
+    simp length-take (omega (arith, at-most-22 g, simp length-sets at (ap length (put .1)), put .0))
 
 returns : tie.Need-returns
 returns c =
-    let g = c .before .before .before .before .before .before .before .before .guess-details in
+    let test = c .before .before .before .before .before .before in
+    let g = test .before .before .guess-details in
     let put = c .before .before .before .before .put-line .ensures in
     let whole = front (line (g .result)) (replicate 22 0) (put .1) (put .0) (omega (arith, put .0, at-most-22 (g .result))) in
-    read-same (now (c .before .before .before .before .before .before .before .before .before .before .args .line)) (g .ensures) (sym (c .before .before .before .before .before .before .before .is-writable .ensures) ∙ c .before .before .before .before .before .before .if1 .taken) (sym whole ∙ c .before .same .ensures .0 (c .if2 .taken))
+    read-same
+    (now (test .before .before .before .before .args .line))
+    (g .ensures)
+    (sym (test .before .is-writable .ensures) ∙ test .if1 .taken)
+    (sym whole ∙ c .before .same .ensures .0 (c .if2 .taken))
 
 returns-2 : tie.Need-returns-2
 returns-2 c =
-    let g = c .before .before .before .before .before .before .before .before .guess-details in
+    let test = c .before .before .before .before .before .before in
+    let g = test .before .before .guess-details in
     let put = c .before .before .before .before .put-line .ensures in
     let whole = front (line (g .result)) (replicate 22 0) (put .1) (put .0) (omega (arith, put .0, at-most-22 (g .result))) in
-    read-other (now (c .before .before .before .before .before .before .before .before .before .before .args .line)) (g .ensures) (sym (c .before .before .before .before .before .before .before .is-writable .ensures) ∙ c .before .before .before .before .before .before .if1 .taken) (λ q. never-both (c .before .same .ensures .1 (whole ∙ q)) (c .if2 .left))
+    read-other
+    (now (test .before .before .before .before .args .line))
+    (g .ensures)
+    (sym (test .before .is-writable .ensures) ∙ test .if1 .taken)
+    (λ q. never-both (c .before .same .ensures .1 (whole ∙ q)) (c .if2 .left))
 
 returns-3 : tie.Need-returns-3
-returns-3 c = read-none (now (c .before .before .before .before .args .line)) (c .before .before .guess-details .ensures) (sym (c .before .is-writable .ensures) ∙ c .if1 .left)
+returns-3 c =
+    let g = c .before .before in
+    read-none (now (g .before .before .args .line)) (g .guess-details .ensures) (sym (c .before .is-writable .ensures) ∙ c .if1 .left)
 
 pub read-line-spec : {M : Type 1} → statement M
 read-line-spec =

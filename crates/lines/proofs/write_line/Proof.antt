@@ -14,15 +14,21 @@ put-line-requires c κs = at-most-22 (c .before .before .before .before .args .d
 
 returns : tie.Need-returns
 returns c =
-    let a = c .before .before .before .before .before .before .before .args in
-    let e = write-short (a .d) (now (a .out)) (sym (c .before .before .before .before .before .is-writable .ensures) ∙ c .before .before .before .before .if1 .taken) (omega (arith, c .before .before .put-line .ensures .0)) in
+    let test = c .before .before .before .before in
+    let a = test .before .before .before .args in
+    let ok = sym (test .before .is-writable .ensures) ∙ test .if1 .taken in
+    let e = write-short (a .d) (now (a .out)) ok (omega (arith, c .before .before .put-line .ensures .0)) in
     (sym (ap (λ (o : AfterLine). o .answer) e), sym (ap (λ (o : AfterLine). o .buffer) e))
 
 returns-2 : tie.Need-returns-2
 returns-2 c =
-    let a = c .before .before .before .before .before .before .before .before .before .before .before .args in
-    let e = write-whole (a .d) (now (a .out)) (sym (c .before .before .before .before .before .before .before .before .before .is-writable .ensures) ∙ c .before .before .before .before .before .before .before .before .if1 .taken) (omega (arith, c .before .before .before .before .before .before .put-line .ensures .0)) in
-    rw (c .before .before .before .before .before .before .put-line .ensures .0, c .before .before .put-line2 .ensures .1) (sym (ap (λ (o : AfterLine). o .answer) e), sym (ap (λ (o : AfterLine). o .buffer) e))
+    let put = c .before .before .before .before .before .before in
+    let test = put .before .before in
+    let a = test .before .before .before .args in
+    let ok = sym (test .before .is-writable .ensures) ∙ test .if1 .taken in
+    let e = write-whole (a .d) (now (a .out)) ok (omega (arith, put .put-line .ensures .0)) in
+    rw (put .put-line .ensures .0, c .before .before .put-line2 .ensures .1)
+    (sym (ap (λ (o : AfterLine). o .answer) e), sym (ap (λ (o : AfterLine). o .buffer) e))
 
 returns-3 : tie.Need-returns-3
 returns-3 c =

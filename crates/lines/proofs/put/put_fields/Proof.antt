@@ -15,48 +15,45 @@ put-leaf-requires c κs = omega (arith, length-fields (c .before .before .before
 
 put-subleaf-requires : tie.Need-put-subleaf-requires
 put-subleaf-requires c κs =
-    let e = simp length-sets at (ap length (c .before .before .before .put-leaf .ensures .1)) in
-    omega (arith, length-fields (c .before .before .before .before .before .before .before .args .d) (c .before .before .before .before .before .names-of .ensures), c .before .before .before .put-leaf .ensures .0, e)
+    let s = c .before .before .before .before .before in
+    let leaf = c .before .before .before .put-leaf .ensures in
+    let e = simp length-sets at (ap length (leaf .1)) in
+    omega (arith, length-fields (s .before .before .args .d) (s .names-of .ensures), leaf .0, e)
 
 put-s-requires : tie.Need-put-s-requires
 put-s-requires c κs =
-    let e = simp length-sets at (ap length (c .before .before .before .before .before .before .before .put-leaf .ensures .1)) in
-    let f = simp length-sets at (ap length (c .before .before .before .put-subleaf .ensures .1)) in
-    omega (
-      arith,
-      length-fields (c .before .before .before .before .before .before .before .before .before .before .before .args .d) (c .before .before .before .before .before .before .before .before .before .names-of .ensures),
-      c .before .before .before .before .before .before .before .put-leaf .ensures .0,
-      c .before .before .before .put-subleaf .ensures .0,
-      e,
-      f,
-    )
+    let s = c .before .before .before .before .before .before .before .before .before in
+    let leaf = c .before .before .before .before .before .before .before .put-leaf .ensures in
+    let subleaf = c .before .before .before .put-subleaf .ensures in
+    let e = simp length-sets at (ap length (leaf .1)) in
+    let f = simp length-sets at (ap length (subleaf .1)) in
+    omega (arith, length-fields (s .before .before .args .d) (s .names-of .ensures), leaf .0, subleaf .0, e, f)
 
 returns : tie.Need-returns
 returns c =
-    let a = c .before .before .before .before .before .before .before .before .before .before .before .before .before .before .args in
-    let k = c .before .before .before .before .before .before .before .before .before .before .before .before .names-of .result in
+    let start = c .before .before .before .before .before .before .before .before .before .before .before .before in
+    let a = start .before .before .args in
+    let k = start .names-of .result in
     let leaf = c .before .before .before .before .before .before .before .before .before .before .put-leaf .ensures in
     let subleaf = c .before .before .before .before .before .before .put-subleaf .ensures in
-    let s = c .before .before .put-s .ensures in (
-      omega (arith, length-fields (c .before .before .before .before .before .before .before .before .before .before .before .before .before .before .args .d) (c .before .before .before .before .before .before .before .before .before .before .before .before .names-of .ensures), leaf .0, subleaf .0, s .0),
-      rw (fields-named (c .before .before .before .before .before .before .before .before .before .before .before .before .before .before .args .d) (c .before .before .before .before .before .before .before .before .before .before .before .before .names-of .ensures))
-          (three-sets
-          (now (a .out))
-          _
-          _
-          _
-          (leafField (k .leaf) (a .d .leaf))
-          (subleafField (k .subleaf) (a .d .subleaf))
-          (sField (k .s) (a .d .s))
-          (a .at)
-          _
-          _
-          (leaf .1)
-          (leaf .0)
-          (subleaf .1)
-          (subleaf .0)
-          (s .1)),
-    )
+    let s = c .before .before .put-s .ensures in
+    let stored = three-sets
+    (now (a .out))
+    _
+    _
+    _
+    (leafField (k .leaf) (a .d .leaf))
+    (subleafField (k .subleaf) (a .d .subleaf))
+    (sField (k .s) (a .d .s))
+    (a .at)
+    _
+    _
+    (leaf .1)
+    (leaf .0)
+    (subleaf .1)
+    (subleaf .0)
+    (s .1) in
+    (omega (arith, length-fields (a .d) (start .names-of .ensures), leaf .0, subleaf .0, s .0), rw (fields-named (a .d) (start .names-of .ensures)) stored)
 
 pub put-fields-spec : {M : Type 1} → statement M
 put-fields-spec =

@@ -22,8 +22,8 @@ same-length c = ap length (c .before .before .put-digits .ensures) ∙ simp (len
 
 returns : tie.Need-returns
 returns c =
-    rw (c .before .before .before .before .if1 .taken)
-    (omega (arith, length-digits 16 8 (c .before .before .before .before .before .before .args .leaf)), rw add-one at (c .before .before .put-digits .ensures))
+    let test = c .before .before .before .before in
+    rw (test .if1 .taken) (omega (arith, length-digits 16 8 (test .before .before .args .leaf)), rw add-one at (c .before .before .put-digits .ensures))
 
 returns-2 : tie.Need-returns-2
 returns-2 c = rw (c .if1 .left) (omega arith, refl)

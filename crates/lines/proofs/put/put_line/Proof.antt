@@ -23,9 +23,11 @@ put-fields-requires c κs =
 
 slice-write-out : tie.Need-slice-write-out
 slice-write-out c =
-    let e = simp length-sets at (ap length (c .before .before .put-fields .ensures .1)) in
-    let f = simp length-sets at (ap length (c .before .before .before .before .before .before .put-decimal .ensures .1)) in
-    omega (arith, length-parts (c .before .before .before .before .before .before .before .before .before .args .d), c .before .before .before .before .before .before .put-decimal .ensures .0, c .before .before .put-fields .ensures .0, e, f)
+    let number = c .before .before .before .before .before .before in
+    let rest = c .before .before .put-fields .ensures in
+    let e = simp length-sets at (ap length (rest .1)) in
+    let f = simp length-sets at (ap length (number .put-decimal .ensures .1)) in
+    omega (arith, length-parts (number .before .before .before .args .d), number .put-decimal .ensures .0, rest .0, e, f)
 
 add-result : tie.Need-add-result
 add-result c =
@@ -41,8 +43,8 @@ add-result c =
 
 same-length : tie.Need-same-length
 same-length c =
-    simp length-set
-    (ap length (c .before .before .put-fields .ensures .1) ∙ simp length-sets (ap length (c .before .before .before .before .before .before .put-decimal .ensures .1) ∙ simp length-sets))
+    let number = c .before .before .before .before .before .before .put-decimal .ensures in
+    simp length-set (ap length (c .before .before .put-fields .ensures .1) ∙ simp length-sets (ap length (number .1) ∙ simp length-sets))
 
 returns : tie.Need-returns
 unfolding line

@@ -11,9 +11,10 @@ use Rattle.lines.proofs.put.put_subleaf.Tie as tie
 
 put-spaced-requires : tie.Need-put-spaced-requires
 put-spaced-requires c κs =
+    let test = c .before .before .before .before in
     omega (
       arith,
-      ap (λ (b : Bool). length (subleafField b (c .before .before .before .before .before .before .args .subleaf))) (c .before .before .before .before .if1 .taken),
+      ap (λ (b : Bool). length (subleafField b (test .before .before .args .subleaf))) (test .if1 .taken),
       ap (λ (k : Subleaf). length (subleafField true k)) (c .before .before .subleaf .given .1),
     )
 
@@ -21,7 +22,9 @@ returns : tie.Need-returns
 returns c = rw (c .before .before .if1 .taken, c .enum-told .given .1) (omega arith, refl)
 
 returns-2 : tie.Need-returns-2
-returns-2 c = rw (c .before .before .before .before .before .before .before .if1 .taken, c .before .before .before .before .before .subleaf .given .1) (c .before .before .put-spaced .ensures)
+returns-2 c =
+    let known = c .before .before .before .before .before in
+    rw (known .before .before .if1 .taken, known .subleaf .given .1) (c .before .before .put-spaced .ensures)
 
 returns-3 : tie.Need-returns-3
 returns-3 c = rw (c .if1 .left) (omega arith, refl)
