@@ -7,8 +7,7 @@ use lines::LineWritten;
 ghost use mathlib.Core.Path.{_≡_};
 ghost use Rattle.lines.specs.WriteLine.{writeLine};
 ghost use Rattle.lines.specs.ReadLine.{readLine};
-ghost use Rattle.snp_cpuid.specs.Exports.{subleafOf};
-ghost use Rattle.snp_cpuid.specs.LineExports.{lineWrittenNumbers, lineReadNumbers};
+ghost use Rattle.snp_cpuid.specs.LineExports.{detailsGiven, lineWrittenNumbers, lineReadNumbers};
 
 #[repr(C)]
 pub struct SnpCpuidLineWritten {
@@ -58,8 +57,8 @@ pub extern "C" fn snp_cpuid_write_line(
     s: u32,
     out: &mut [u8],
 ) -> SnpCpuidLineWritten
-    ensures { λ r. ⌜ r ≡ lineWrittenNumbers (writeLine (record { number = number; leaf = leaf; subleaf = subleafOf «has_subleaf» subleaf; s = s }) (now (out .entry)) .answer) ⌝ }
-    ensures { λ _. ⌜ now (out .exit) ≡ writeLine (record { number = number; leaf = leaf; subleaf = subleafOf «has_subleaf» subleaf; s = s }) (now (out .entry)) .buffer ⌝ }
+    ensures { λ r. ⌜ r ≡ lineWrittenNumbers (writeLine (detailsGiven number leaf «has_subleaf» subleaf s) (now (out .entry)) .answer) ⌝ }
+    ensures { λ _. ⌜ now (out .exit) ≡ writeLine (detailsGiven number leaf «has_subleaf» subleaf s) (now (out .entry)) .buffer ⌝ }
 {
     let named = subleaf_of(has_subleaf, subleaf);
     let d = LineDetails {
