@@ -1,7 +1,7 @@
 -- How long a line is, and a line stored piece by piece.
-use mathlib.Core.Path.{_≡_, refl, sym, ap, _∙_}
+use mathlib.Core.Path.{_≡_, refl, _∙_}
 use mathlib.Core.Bool.{Bool, true, false}
-use mathlib.Core.List.{List, [], _∷_, _++_}
+use mathlib.Core.List.{List, _++_}
 use Prim.Native.Nat.{ℕ, zero, suc, _+_, _≤_}
 use native.Mathlib.Omega.{arith}
 use lib.Dec.{eqb, leb}
@@ -17,8 +17,8 @@ use Rattle.lines.specs.declared.names.Named.{Named}
 use Rattle.digits.specs.Digits.{width, decimal}
 use Rattle.digits.specs.DigitsLaws.{length-digits, width-le}
 use Rattle.lines.specs.NumbersInUse.{names}
-use Rattle.lines.specs.NumbersInUseLaws.{room, room-few}
-use Rattle.lines.specs.Line.{newline, leafField, subleafField, sField, fieldsAs, fields, line}
+use Rattle.lines.specs.NumbersInUseLaws.{room-few}
+use Rattle.lines.specs.Line.{leafField, subleafField, sField, fieldsAs, fields, line}
 
 -- ---- lengths
 

@@ -1,5 +1,5 @@
 -- `put::put_fields` meets its contract: leaf, subleaf and s, one after another.
-use mathlib.Core.Path.{ap, _∙_}
+use mathlib.Core.Path.{ap}
 use native.Mathlib.Omega.{arith}
 use lib.Seq.{length-sets}
 use lib.ListN.{length}
