@@ -76,10 +76,31 @@ struct snp_cpuid_compared {
     uint32_t register_index; /* 0 to 3: EAX, EBX, ECX, EDX */
 };
 
+/* What writing a line gives: is_line 0, all others 0, where there is no such line, which is no numbered refusal; else is_line 1 with number 0 and
+ * the line's length, or number 9 and length 0. */
+struct snp_cpuid_line_written {
+    uint32_t is_line;
+    uint32_t number;
+    uint64_t length;
+};
+
+/* What a line says: is_line 1 with the number and its details, or all zeros where the bytes are no line. */
+struct snp_cpuid_line_read {
+    uint32_t is_line;
+    uint32_t number;
+    uint32_t leaf;
+    uint32_t has_subleaf; /* 1 where a subleaf is named */
+    uint32_t subleaf;
+    uint32_t s;
+};
+
 /* The most bytes that an image can have, and a list for KVM; and the two pages that a list is read into. */
 #define SNP_CPUID_MOST_IMAGE_BYTES 732
 #define SNP_CPUID_MOST_KVM_BYTES 1288
 #define SNP_CPUID_KVM_PAGES_BYTES 8192
+
+/* The most bytes that a line can have. */
+#define SNP_CPUID_MOST_LINE_BYTES 22
 
 /* Builds the table of the given pages. secure_avic adds one bit to the mask of 8000001Fh.EAX. */
 struct snp_cpuid_built snp_cpuid_build(const uint8_t *pages, size_t length, bool secure_avic);
@@ -126,6 +147,20 @@ struct snp_cpuid_written snp_cpuid_write_guest_image(const uint8_t *pages, size_
  * After a yes, building B gives a table with every row of A's, at least A's bits in every feature register, a save area no smaller and
  * all else equal; or refuses it by 3, for a subleaf of leaf Dh that B's own further state needs, or by 5. */
 struct snp_cpuid_compared snp_cpuid_compare(const uint8_t *a, size_t a_length, const uint8_t *b, size_t b_length, bool secure_avic);
+
+/* A refusal as one line of ASCII: the number in decimal, then, each after one space, the details that it names, leaf in eight hexadecimal capitals,
+ * subleaf (left out where there is none) and s in decimal, and a newline. The numbers in use, by what they name:
+ *   nothing: 1 2 4 5 8 9 10 11 12 13 14
+ *   leaf and subleaf: 3
+ *   s: 6 7
+ * Writes the line at the front of out. subleaf is read only where has_subleaf is true. There is no such line where the number is not in use, s is
+ * above 255, or a detail is set that the number does not name: a leaf or s that is not 0, or a subleaf. Then, and for number 9, where room is shorter
+ * than the line, out is as it was; bytes beyond the line are as they were. */
+struct snp_cpuid_line_written snp_cpuid_write_line(uint32_t number, uint32_t leaf, bool has_subleaf, uint32_t subleaf, uint32_t s, uint8_t *out,
+                                                   size_t room);
+
+/* Reads the length bytes at line, the whole of them. They are a line exactly where snp_cpuid_write_line writes the same bytes for what they say. */
+struct snp_cpuid_line_read snp_cpuid_read_line(const uint8_t *line, size_t length);
 
 #ifdef __cplusplus
 }

@@ -1,6 +1,6 @@
 //! The plain numbers by which every exported function tells a refusal, read in one place.
 
-use crate::exports::{Built, Compared, Found, Written};
+use crate::exports::{Built, Compared, Found, LineRead, Written};
 use crate::{CpuidResult, Details, Refusal};
 
 /// An answer of an exported function that may be a refusal.
@@ -29,14 +29,14 @@ macro_rules! answers {
             }
 
             fn details(&self) -> Details {
-                // s is cut from four bits
+                // s is cut from four bits, or was read from a line, which has eight
                 Details { leaf: self.leaf, subleaf: (self.has_subleaf != 0).then_some(self.subleaf), s: self.s as u8 }
             }
         })*
     };
 }
 
-answers!(Built, Written, Compared);
+answers!(Built, Written, Compared, LineRead);
 
 impl Found {
     /// The registers that a lookup found.

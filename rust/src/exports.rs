@@ -48,6 +48,25 @@ pub struct Compared {
     pub register_index: u32,
 }
 
+#[repr(C)]
+#[derive(Clone, Copy, Debug, Default, PartialEq, Eq)]
+pub struct LineWritten {
+    pub is_line: u32,
+    pub number: u32,
+    pub length: u64,
+}
+
+#[repr(C)]
+#[derive(Clone, Copy, Debug, Default, PartialEq, Eq)]
+pub struct LineRead {
+    pub is_line: u32,
+    pub number: u32,
+    pub leaf: u32,
+    pub has_subleaf: u32,
+    pub subleaf: u32,
+    pub s: u32,
+}
+
 unsafe extern "C" {
     pub fn snp_cpuid_build(pages: *const u8, length: usize, secure_avic: bool) -> Built;
     pub fn snp_cpuid_lookup(
@@ -88,4 +107,6 @@ unsafe extern "C" {
         room: usize,
     ) -> Written;
     pub fn snp_cpuid_compare(a: *const u8, a_length: usize, b: *const u8, b_length: usize, secure_avic: bool) -> Compared;
+    pub fn snp_cpuid_write_line(number: u32, leaf: u32, has_subleaf: bool, subleaf: u32, s: u32, out: *mut u8, room: usize) -> LineWritten;
+    pub fn snp_cpuid_read_line(line: *const u8, length: usize) -> LineRead;
 }

@@ -129,7 +129,7 @@ const TABLE: &[Line] = &[
 impl Refusal {
     /// Its number.
     pub fn number(&self) -> u32 {
-        self.line().number
+        self.row().number
     }
 
     /// What it names beside its number.
@@ -153,20 +153,22 @@ impl Refusal {
 
     /// The refusal of a number, with those of the details that it names.
     pub(crate) fn of(number: u32, details: Details) -> Refusal {
-        match TABLE.iter().find(|line| line.number == number) {
-            Some(line) => (line.name)(details),
-            // the library is proved to give no other number
-            None => unreachable!("answer {number}"),
-        }
+        // the library is proved to give no other number
+        Refusal::named(number, details).unwrap_or_else(|| unreachable!("answer {number}"))
     }
 
-    /// Its line of the table: the one whose name with its details it is.
-    fn line(&self) -> &'static Line {
+    /// The refusal of a number, if the table has it.
+    pub(crate) fn named(number: u32, details: Details) -> Option<Refusal> {
+        TABLE.iter().find(|line| line.number == number).map(|line| (line.name)(details))
+    }
+
+    /// Its row of the table: the one whose name with its details it is.
+    fn row(&self) -> &'static Line {
         TABLE.iter().find(|line| (line.name)(self.details()) == *self).expect("every refusal stands in the table")
     }
 
     fn words(&self) -> String {
-        (self.line().words)(self.details())
+        (self.row().words)(self.details())
     }
 }
 

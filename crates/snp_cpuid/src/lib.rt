@@ -17,6 +17,7 @@ ghost use Rattle.snp_cpuid.specs.Exports.{builtNumbers, foundNumbers, wr
 
 mod kvm;
 mod guest_exports;
+mod line_exports;
 
 #[repr(C)]
 pub struct SnpCpuidBuilt {

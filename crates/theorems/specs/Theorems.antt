@@ -3,7 +3,7 @@
 -- `answer avic s` is the answer of the definition (crates/build/specs/Build.antt) to the page bytes s under the secure-AVIC choice avic.
 use mathlib.Core.Path.{_≡_}
 use mathlib.Core.Bool.{Bool, true, false}
-use mathlib.Core.List.{List, [], _∷_, map}
+use mathlib.Core.List.{List, [], _∷_, map, _++_}
 use Prim.Native.Nat.{ℕ, _≤_, _<_, _^_}
 use lib.ListN.{length, replicate, take}
 use Rattle.x86defs.specs.Functions.{result, VersionAndFeatures, ExtendedStateEnumeration}
@@ -64,8 +64,20 @@ use Rattle.guest_examples.specs.CompactSizes.{sizes, sizes-are}
 use Rattle.guest_examples.specs.Seen.{processor, figures}
 use Rattle.guest_examples.specs.Views as Views
 use Rattle.guest_exception.specs.Exception as Exception
-use Rattle.theorems.specs.Exported.{ExportsRise, ExportsCompare, exports-rise, exports-compare}
+use Rattle.table.specs.Refusal.{details}
 use Rattle.buffer.specs.declared.Written.the-variants.{Bytes, Refused as NotWritten}
+use Rattle.lines.specs.declared.LineDetails.{LineDetails}
+use Rattle.lines.specs.declared.LineWritten.the-variants.{Line as Answered, NoSuchLine as NoLineWritten}
+use Rattle.lines.specs.declared.LineRead.the-variants.{Line as Says, NoSuchLine as SaysNothing}
+use Rattle.lines.specs.Line.{Fits, mostS, writable, line}
+use Rattle.lines.specs.LineLaws.{at-most-22}
+use Rattle.lines.specs.WriteLine.{leaves, writeLine}
+use Rattle.lines.specs.ReadLine.{readLine}
+use Rattle.lines.specs.LinePromises as Lines
+use Rattle.lines.specs.LinePromises.{LineOf, lineDetails}
+use Rattle.lines.specs.ComputedLines as ComputedLines
+use Rattle.lines.specs.ComputedLines.{told, longest}
+use Rattle.theorems.specs.Exported.{ExportsRise, ExportsCompare, exports-rise, exports-compare}
 use Rattle.kvm_list.specs.Words.{bytesOfWords}
 use Rattle.kvm_list.specs.Format.{listBytes}
 use Rattle.kvm_import.specs.Import.{readList}
@@ -380,3 +392,63 @@ from-large-d6 = Pairs.from-large-d6
 
 pub a-to-none : compared false serverA [] ≡ UnlawfulB PagesLength
 a-to-none = Pairs.a-to-none
+
+-- ---- P6: refusals as lines. crates/lines/specs/NumbersInUse.antt has what each number names, Line.antt the line, WriteLine.antt and
+-- ReadLine.antt the writer and the reader. `writable d`: the number is in use, names every detail that is set, and s has 8 bits.
+
+-- reading what was written gives it back: of every line, and of what the writer left at the front of any lent buffer
+pub line-read-back : (d : LineDetails) → Fits d → writable d ≡ true → readLine (line d) ≡ Says d
+line-read-back = Lines.read-written
+
+pub write-read-back : (d : LineDetails) (buffer left : List ℕ) (n : ℕ)
+    → Fits d → writeLine d buffer ≡ leaves (Answered (Bytes n)) left → readLine (take n left) ≡ Says d
+write-read-back = Lines.write-then-read
+
+-- what is read is what would be written: the reader takes nothing else
+pub only-lines-read : (l : List ℕ) (d : LineDetails) → readLine l ≡ Says d → LineOf l d
+only-lines-read = Lines.only-written-read
+
+-- different refusals, details included, give different lines
+pub lines-differ : (d e : LineDetails) → Fits d → Fits e → writable d ≡ true → writable e ≡ true → line d ≡ line e → d ≡ e
+lines-differ = Lines.lines-differ
+
+pub no-line-begins-another : (d e : LineDetails) (t : List ℕ) → line d ++ t ≡ line e → t ≡ []
+no-line-begins-another = Lines.no-line-begins-another
+
+pub line-at-most-22 : (d : LineDetails) → length (line d) ≤ 22
+line-at-most-22 = at-most-22
+
+-- every refusal that the table's functions give has a line
+pub every-refusal-has-a-line : (r : Refusal) → details r .s ≤ mostS → writable (lineDetails (details r)) ≡ true
+every-refusal-has-a-line = Lines.every-refusal
+
+-- the longest line meets what they ask: 3 FFFFFFFF 4294967295
+pub longest-fits : Fits longest
+longest-fits = ComputedLines.longest-fits
+
+pub longest-writable : writable longest ≡ true
+longest-writable = ComputedLines.longest-writable
+
+pub longest-length : length (line longest) ≡ 22
+longest-length = ComputedLines.longest-length
+
+-- lines in ASCII: 3 0000000D 12, then 3 8000001F, then 6 0, each with its newline
+pub missing-d12-line : line (told 3 0xD (Some 12) 0) ≡ 51 ∷ 32 ∷ 48 ∷ 48 ∷ 48 ∷ 48 ∷ 48 ∷ 48 ∷ 48 ∷ 68 ∷ 32 ∷ 49 ∷ 50 ∷ 10 ∷ []
+missing-d12-line = ComputedLines.missing-d12
+
+pub missing-8000001f-line : line (told 3 0x8000001F None 0) ≡ 51 ∷ 32 ∷ 56 ∷ 48 ∷ 48 ∷ 48 ∷ 48 ∷ 48 ∷ 49 ∷ 70 ∷ 10 ∷ []
+missing-8000001f-line = ComputedLines.missing-8000001f
+
+pub s-of-0-line : line (told 6 0 None 0) ≡ 54 ∷ 32 ∷ 48 ∷ 10 ∷ []
+s-of-0-line = ComputedLines.s-of-0
+
+-- no line: 01 and a newline
+pub leading-zero-no-line : readLine (48 ∷ 49 ∷ 10 ∷ []) ≡ SaysNothing
+leading-zero-no-line = ComputedLines.leading-zero
+
+-- without room for the line: 9; "no such line" comes before it, for a leaf that 1 does not name
+pub one-short : writeLine (told 1 0 None 0) (7 ∷ []) ≡ leaves (Answered (NotWritten BufferTooShort)) (7 ∷ [])
+one-short = ComputedLines.one-short
+
+pub one-with-leaf : writeLine (told 1 0xD None 0) (7 ∷ []) ≡ leaves NoLineWritten (7 ∷ [])
+one-with-leaf = ComputedLines.one-with-leaf

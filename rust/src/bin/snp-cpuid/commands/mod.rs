@@ -1,6 +1,7 @@
 //! The commands: one file each, with its name, operands, options, help and `run`, and its line in the list.
 
 mod compare;
+mod explain;
 mod from_dump;
 mod from_kvm;
 mod guest;
@@ -24,4 +25,5 @@ pub const ALL: &[Command] = &[
     from_kvm::COMMAND,
     to_kvm::COMMAND,
     compare::COMMAND,
+    explain::COMMAND,
 ];
