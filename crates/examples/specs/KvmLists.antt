@@ -18,7 +18,8 @@ use Rattle.examples.specs.PageSets.{serverA}
 use Rattle.examples.specs.Evaluation.{evaluated}
 
 -- 27 rows; leaf 0 has the highest leaf Dh and "Auth" "cAMD" "enti"
-pub serverA-list : take 48 (listOf (answer false serverA .table)) ≡ bytesOfWords (27 ∷ 0 ∷ 0 ∷ 0 ∷ 0 ∷ 0xD ∷ 0x68747541 ∷ 0x444D4163 ∷ 0x69746E65 ∷ 0 ∷ 0 ∷ 0 ∷ [])
+pub serverA-list : take 48 (listOf (answer false serverA .table)) ≡ bytesOfWords
+    (27 ∷ 0 ∷ 0 ∷ 0 ∷ 0 ∷ 0xD ∷ 0x68747541 ∷ 0x444D4163 ∷ 0x69746E65 ∷ 0 ∷ 0 ∷ 0 ∷ [])
 unfolding evaluated serverA listOf listRows rowsFrom listBytes allWords bytesOfWords
 serverA-list = refl
 

@@ -12,7 +12,8 @@ use Rattle.buffer.specs.Front.{AfterWrite, writeFront}
 use Rattle.kvm_export.specs.Export.{listOf, writeList}
 
 module _ (avic : Bool) (s buffer : List ℕ) {b : Built} (built : b ≡ answer avic s) where
-  pub write-refused : {r : Refusal} → b .verdict ≡ NotBuilt r → _≡_ {A = AfterWrite} (record { answer = Refused r; buffer = buffer }) (writeList avic s buffer)
+  pub write-refused : {r : Refusal} → b .verdict ≡ NotBuilt r
+      → _≡_ {A = AfterWrite} (record { answer = Refused r; buffer = buffer }) (writeList avic s buffer)
   unfolding writeList
   write-refused e = rw (← built, e)
 

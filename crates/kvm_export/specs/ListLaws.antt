@@ -37,7 +37,8 @@ rows-more t i h =
     ∙ go (rowIn t i .present)
     ∙ ap (λ (k : ℕ). placeBytes t i ++ bytesOfWords (allWords (rowsFrom t k (places - k)))) (sym (add-one i))
   where
-    go : (b : Bool) → bytesOfWords (allWords (pick b (listRow i (rowIn t i .result) ∷ rowsFrom t (suc i) (places - suc i)) (rowsFrom t (suc i) (places - suc i))))
+    go : (b : Bool) → bytesOfWords (allWords (pick b (listRow i (rowIn t i .result) ∷ rowsFrom t (suc i) (places - suc i)) (rowsFrom t (suc i)
+        (places - suc i))))
         ≡ pick b (bytesOfWords (rowWords (listRow i (rowIn t i .result)))) [] ++ bytesOfWords (allWords (rowsFrom t (suc i) (places - suc i)))
     go true = bytes-append (rowWords (listRow i (rowIn t i .result))) (allWords (rowsFrom t (suc i) (places - suc i)))
     go false = refl
@@ -58,14 +59,17 @@ count-from t k (suc n) = go (rowIn t k .present) refl (count-from t (suc k) n)
     more = among-more (t .present) 0 k (omega arith)
 
     go : (b : Bool) → rowIn t k .present ≡ b → rowsAmong (t .present) 0 (suc k) + length (rowsFrom t (suc k) n) ≡ rowsAmong (t .present) 0 (suc k + n)
-        → rowsAmong (t .present) 0 k + length (pick b (listRow k (rowIn t k .result) ∷ rowsFrom t (suc k) n) (rowsFrom t (suc k) n)) ≡ rowsAmong (t .present) 0 (k + suc n)
+        → rowsAmong (t .present) 0 k + length (pick b (listRow k (rowIn t k .result) ∷ rowsFrom t (suc k) n) (rowsFrom t (suc k) n)) ≡ rowsAmong
+            (t .present) 0 (k + suc n)
     go b e ih =
         let z : k + suc n ≡ suc k + n = omega arith in
-        let m : rowsAmong (t .present) 0 (suc k) ≡ rowsAmong (t .present) 0 k + one b = sym (ap (rowsAmong (t .present) 0) (add-one k)) ∙ more ∙ ap (λ (x : Bool). rowsAmong (t .present) 0 k + one x) e in
+        let m : rowsAmong (t .present) 0 (suc k) ≡ rowsAmong (t .present) 0 k + one b = sym (ap (rowsAmong (t .present) 0)
+            (add-one k)) ∙ more ∙ ap (λ (x : Bool). rowsAmong (t .present) 0 k + one x) e in
         rw z (last b m)
       where
         last : (b : Bool) → rowsAmong (t .present) 0 (suc k) ≡ rowsAmong (t .present) 0 k + one b
-            → rowsAmong (t .present) 0 k + length (pick b (listRow k (rowIn t k .result) ∷ rowsFrom t (suc k) n) (rowsFrom t (suc k) n)) ≡ rowsAmong (t .present) 0 (suc k + n)
+            → rowsAmong (t .present) 0 k + length (pick b (listRow k (rowIn t k .result) ∷ rowsFrom t (suc k) n) (rowsFrom t
+                (suc k) n)) ≡ rowsAmong (t .present) 0 (suc k + n)
         last true m = omega (arith, ih, m)
         last false m = omega (arith, ih, m)
 

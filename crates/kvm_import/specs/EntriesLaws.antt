@@ -68,7 +68,8 @@ entries-none = refl
 
 pub entries-length : (rs : List ListRow) → length (entriesBytes rs) ≡ 48 * length rs
 entries-length [] = ap length entries-none
-entries-length (r ∷ rs) = omega (arith, ap length (entries-cons r rs), length-append (entryBytes r) (entriesBytes rs), entry-length r, entries-length rs)
+entries-length (r ∷ rs) = omega (arith, ap length (entries-cons r rs), length-append (entryBytes r)
+    (entriesBytes rs), entry-length r, entries-length rs)
 
 -- the entry of the first row is stored first, on its page
 entered-more : (out : List ℕ) (i j : ℕ) (r : ListRow) (rs : List ListRow) (b : Bool) → isExtendedState r ≡ b → i + 48 * length (rowsOn0 rs) ≤ j
@@ -104,7 +105,8 @@ pub record Entering (l out₀ out : List ℕ) (q d : ℕ) : Type 0 where
 
 module _ (l out₀ : List ℕ) where
   pub entering-first : Entering l out₀ out₀ 0 0
-  entering-first = record { size = refl; few = omega arith; extended = omega (arith, ap (λ (rs : List ListRow). length (rowsOn1 rs)) (left-all l)); bytes = rw (left-all l) }
+  entering-first = record { size = refl; few = omega arith; extended = omega (arith, ap (λ (rs : List ListRow). length (rowsOn1 rs))
+      (left-all l)); bytes = rw (left-all l) }
 
   module _ (few-0 : length (rowsOn0 (rowsIn l)) ≤ 64) (few-1 : length (rowsOn1 (rowsIn l)) ≤ 64) (out : List ℕ) (q d : ℕ) (inside : q < rowCount l)
       (e : Entering l out₀ out q d) where
@@ -122,7 +124,8 @@ module _ (l out₀ : List ℕ) where
     entering-apart true p = omega (arith, e .extended, extended-next true p, e .few, on-either-in l, on-either-left l (q + 1))
     entering-apart false p = omega (arith, e .extended, extended-next false p, e .few, on-either-in l, on-either-left l (q + 1))
 
-    pub entering-next : (b : Bool) → isExtendedState (rowAt l q) ≡ b → (out′ : List ℕ) → out′ ≡ sets out (entryIndex b (q - d) d) (entryBytes (rowAt l q))
+    pub entering-next : (b : Bool) → isExtendedState (rowAt l q) ≡ b → (out′ : List ℕ)
+        → out′ ≡ sets out (entryIndex b (q - d) d) (entryBytes (rowAt l q))
         → Entering l out₀ out′ (q + 1) (d + one b)
     entering-next b p out′ w = record {
       size = ap length w ∙ length-sets out _ (entryBytes (rowAt l q)) ∙ e .size;
@@ -150,6 +153,8 @@ module _ (l out₀ : List ℕ) where
   unfolding entered
   entering-last out q d h e =
       let none : rowsLeft l q ≡ [] = left-none l q h in
-      let a : entriesBytes (rowsOn0 (rowsLeft l q)) ≡ [] = ap (λ (rs : List ListRow). entriesBytes (rowsOn0 rs)) none ∙ ap entriesBytes on0-none ∙ entries-none in
-      let b : entriesBytes (rowsOn1 (rowsLeft l q)) ≡ [] = ap (λ (rs : List ListRow). entriesBytes (rowsOn1 rs)) none ∙ ap entriesBytes on1-none ∙ entries-none in
+      let a : entriesBytes (rowsOn0 (rowsLeft l q)) ≡ [] = ap (λ (rs : List ListRow). entriesBytes
+          (rowsOn0 rs)) none ∙ ap entriesBytes on0-none ∙ entries-none in
+      let b : entriesBytes (rowsOn1 (rowsLeft l q)) ≡ [] = ap (λ (rs : List ListRow). entriesBytes
+          (rowsOn1 rs)) none ∙ ap entriesBytes on1-none ∙ entries-none in
       rw (a, b) at (e .bytes)

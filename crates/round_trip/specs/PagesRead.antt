@@ -86,7 +86,8 @@ page-read (r ∷ rs) post h =
     past : (q j : ℕ) → getD (entryWords r ++ (entriesWords rs ++ post)) (12 * suc q + j) 0 ≡ getD (entriesWords rs ++ post) (12 * q + j) 0
     past q j =
         let p : 12 * suc q + j ≡ 12 + (12 * q + j) = omega arith in
-        ap (λ (n : ℕ). getD (entryWords r ++ (entriesWords rs ++ post)) n 0) p ∙ getD-append-add (entryWords r) (entriesWords rs ++ post) (12 * q + j) 0
+        ap (λ (n : ℕ). getD (entryWords r ++ (entriesWords rs ++ post)) n 0) p ∙ getD-append-add (entryWords r) (entriesWords rs ++ post)
+            (12 * q + j) 0
 
 page-entries : (s : List ℕ) (p q n : ℕ) → map ofEntry (onPage s p q n) ≡ tabulate n (λ j. ofEntry (entryAt s p (q + j)))
 unfolding onPage tabulate
@@ -108,7 +109,8 @@ counted-page s p q (suc n) = go (countsOn p (ofEntry (entryAt s p q))) (counted-
   where
     go : (b : Bool) → map ofEntry (keepIf counts (onPage s p (suc q) n)) ≡ keepIf (countsOn p) (map ofEntry (onPage s p (suc q) n))
         → map ofEntry (pick b (entryAt s p q ∷ keepIf counts (onPage s p (suc q) n)) (keepIf counts (onPage s p (suc q) n)))
-        ≡ pick b (ofEntry (entryAt s p q) ∷ keepIf (countsOn p) (map ofEntry (onPage s p (suc q) n))) (keepIf (countsOn p) (map ofEntry (onPage s p (suc q) n)))
+        ≡ pick b (ofEntry (entryAt s p q) ∷ keepIf (countsOn p) (map ofEntry (onPage s p (suc q) n))) (keepIf (countsOn p) (map ofEntry
+            (onPage s p (suc q) n)))
     go true e = ap (ofEntry (entryAt s p q) ∷_) e
     go false e = e
 
@@ -146,7 +148,8 @@ entry-words s p q =
       registers = result (wordAt s (o + 24)) (wordAt s (o + 28)) (wordAt s (o + 32)) (wordAt s (o + 36));
     }
 
-words-page : (rs : List ListRow) (k : ℕ) → getD (pageWords rs) (suc (suc (suc (suc k)))) 0 ≡ getD (entriesWords rs ++ replicate (1020 - 12 * length rs) 0) k 0
+words-page : (rs : List ListRow) (k : ℕ) → getD (pageWords rs) (suc (suc (suc (suc k)))) 0 ≡ getD (entriesWords rs ++ replicate
+    (1020 - 12 * length rs) 0) k 0
 unfolding pageWords
 words-page rs k = refl
 
@@ -278,7 +281,8 @@ first-none f i h (r ∷ rs) = go (f r) (eqb (placeOfRow (ofRow r)) i) refl refl 
 
 -- a row that goes to place i has its leaf
 page-of-place : (i : ℕ) → i < places → (r : ListRow) → placeOfRow (ofRow r) ≡ i → isExtendedState r ≡ sameFunction (leafAt i) ExtendedStateEnumeration
-page-of-place i l r p = ap (λ (f : CpuidFunction). sameFunction f ExtendedStateEnumeration) (sym (entry-belongs (function (r .leaf)) (r .index) i p l .leaf))
+page-of-place i l r p = ap (λ (f : CpuidFunction). sameFunction f ExtendedStateEnumeration) (sym (entry-belongs (function (r .leaf))
+    (r .index) i p l .leaf))
 
 -- ---- the pages that reading gives
 

@@ -128,7 +128,8 @@ module _ (l buffer : List ℕ) where
             beyond = λ n p. impossible (cc);
           }
 
-      many : LengthHolds l → FieldsHold l → badListLength l ≡ false → fieldsLawful l ≡ true → (b : Bool) → rowsFit (rowsIn l) ≡ b → ReadsExactly l buffer
+      many : LengthHolds l → FieldsHold l → badListLength l ≡ false → fieldsLawful l ≡ true → (b : Bool) → rowsFit (rowsIn l) ≡ b
+          → ReadsExactly l buffer
       many h f e₁ e₂ true e = room h f (rows-hold l e) e₁ e₂ e (leb (length s) (length buffer)) refl
       many h f e₁ e₂ false e =
           let w : readList l buffer ≡ record { answer = Refused ListRows; buffer = buffer } = rw (e₁, e₂, e) in

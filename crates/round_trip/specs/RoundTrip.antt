@@ -29,7 +29,8 @@ pub record Returns (avic : Bool) (s buffer pages : List ℕ) : Type 0 where
   pub same : answer avic (imported avic s buffer pages) ≡ answer avic s
 
 abbrev pub RoundTrip : Type 0
-RoundTrip = (avic : Bool) (s : List ℕ) → answer avic s .verdict ≡ Accepted → (buffer pages : List ℕ) → listLength avic s ≤ length buffer → 8192 ≤ length pages
+RoundTrip = (avic : Bool) (s : List ℕ) → answer avic s .verdict ≡ Accepted → (buffer pages : List ℕ) → listLength avic s ≤ length buffer
+    → 8192 ≤ length pages
     → Returns avic s buffer pages
 
 -- writing: building's refusals first, then 9 exactly where the buffer is shorter than the list; an accepted table's list has 8 + 40 × rows bytes

@@ -74,7 +74,8 @@ module _ (t : CpuidResults) where
   unfolding rowsOf again listRows
   imported-rows avic = fun-ext (λ i. go i (ltb i places) refl)
     where
-      go : (i : ℕ) (b : Bool) → ltb i places ≡ b → pick b (maskRow avic i (firstAt i (counted imported))) vacant ≡ pick b (readAgain avic i (rowIn t i)) vacant
+      go : (i : ℕ) (b : Bool) → ltb i places ≡ b → pick b (maskRow avic i (firstAt i (counted imported))) vacant ≡ pick b (readAgain avic i
+          (rowIn t i)) vacant
       go i true e =
           let l : i < places = ltb-true i places e in
           ap (maskRow avic i) (pages-first (rowsRead t) fit (fit-0 t) (fit-1 t) i l ∙ first-in-table t i l) ∙ masked-stands avic t i l
@@ -90,7 +91,8 @@ again-ext avic a b e = fun-ext (λ i. go i (ltb i places) refl)
 
 -- over lent buffers
 module _ (t : CpuidResults) where
-  read-table : (pages : List ℕ) → 8192 ≤ length pages → readList (listOf t) pages ≡ record { answer = Bytes 8192; buffer = imported t ++ drop 8192 pages }
+  read-table : (pages : List ℕ) → 8192 ≤ length pages → readList
+      (listOf t) pages ≡ record { answer = Bytes 8192; buffer = imported t ++ drop 8192 pages }
   unfolding readList writeFront
   read-table pages h =
       let n : length (imported t) ≡ 8192 = two-pages (rowsRead t) (fit-0 t) (fit-1 t) in

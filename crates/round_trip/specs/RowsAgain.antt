@@ -45,7 +45,8 @@ use Rattle.round_trip.specs.RuleAgain.{isSizes, sizes-bit-3, has-of-bit,
 
 -- ---- tables with the same rows
 
-column-ext {ℓ} : {X : Type ℓ} (f : Row → X) {a b : Rows} → ((i : ℕ) → i < places → a i ≡ b i) → tabulate places (λ i. f (a i)) ≡ tabulate places (λ i. f (b i))
+column-ext {ℓ} : {X : Type ℓ} (f : Row → X) {a b : Rows} → ((i : ℕ) → i < places → a i ≡ b i)
+    → tabulate places (λ i. f (a i)) ≡ tabulate places (λ i. f (b i))
 column-ext f {a} {b} e =
     tabulated places (λ i. f (b i)) (tabulate places (λ i. f (a i))) (f vacant) (length-tabulate places _)
     (λ i l. getD-tabulate places (λ j. f (a j)) i (f vacant) l ∙ ap f (e i l))
@@ -249,7 +250,8 @@ module _ (avic : Bool) (m : Rows) (masked : Masked avic m) where
 
     components-again : componentsVerdict n ≡ Accepted
     unfolding componentsVerdict componentsOf
-    components-again = ap (λ (f : Failing). refuseAt f missingComponent) (lowest-all (supplied n (combinedMask n)) 2 62 (λ k l u. supplied-again k l (omega arith)))
+    components-again = ap (λ (f : Failing). refuseAt f missingComponent) (lowest-all (supplied n (combinedMask n)) 2 62
+        (λ k l u. supplied-again k l (omega arith)))
 
     area-verdict-again : areaVerdict n ≡ Accepted
     unfolding areaVerdict

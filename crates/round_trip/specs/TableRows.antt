@@ -84,7 +84,8 @@ module _ (t : CpuidResults) (i : ℕ) (inside : i < places) where
   unfolding rowsFrom firstRow
   passes k n l h = go (rowIn t k .present)
     where
-      go : (b : Bool) → firstRow i (map ofRow (map cutRow (pick b (listRow k (rowIn t k .result) ∷ rowsFrom t (suc k) n) (rowsFrom t (suc k) n)))) ≡ firstFrom (suc k) n
+      go : (b : Bool) → firstRow i (map ofRow (map cutRow (pick b (listRow k (rowIn t k .result) ∷ rowsFrom t (suc k) n) (rowsFrom t
+          (suc k) n)))) ≡ firstFrom (suc k) n
       go true = pick-false _ _ (ne-eqb (goesTo k) i (goes-elsewhere k i l inside h))
       go false = refl
 
