@@ -121,7 +121,7 @@ pub fourteen-rows : marked
     ∷ []
 fourteen-rows = marked-rows
 
--- ---- Counts. crates/counting/specs/Counting.antt.
+-- ---- Counts. crates/counts/specs/Counts.antt.
 
 -- 26 rows and one for each combined bit from 2 up, at most 32; an image of 582 bytes and 25 for each such bit
 pub counts : (avic : Bool) (s : List ℕ) → answer avic s .verdict ≡ Accepted → Counted avic s
@@ -155,7 +155,7 @@ pub reader-in-order : (s : List ℕ) (n : ℕ) → length (entries s) ≤ n
     → (given s n (firstIndex s) ≡ map parsed (entries s)) × (keepIf countsRead (given s n (firstIndex s)) ≡ map parsed (counted s))
 reader-in-order s n l = (reader-gives s n l, reader-gives-counted s n l)
 
--- ---- Not empty words. crates/instances/specs/PageSets.antt has four page sets, byte by byte.
+-- ---- Not empty words. crates/examples/specs/PageSets.antt has four page sets, byte by byte.
 
 -- two whole pages
 pub a-whole-set : length serverA ≡ 8192

@@ -1,4 +1,4 @@
--- `answers::refusal_numbers` meets its contract: one case for each refusal.
+-- `numbers::refusal_numbers` meets its contract: one case for each refusal.
 use borrow.Author.Needs.{needs}
 use Rattle.numbers.proofs.refusal_numbers.Statement.{statement}
 use Rattle.numbers.proofs.refusal_numbers.Tie as tie
