@@ -263,7 +263,8 @@ def lookup(answer, leaf, subleaf, enforce):
 
 
 def image(answer):
-    """The bytes of an accepted table ("Image and lookup"); leaves rise, which that paragraph leaves free."""
+    """The bytes of an accepted table ("Image and lookup"). Document 02, P1: "Rows of the image shall ascend by leaf as an unsigned number, then by
+    subleaf." """
     data = b''
     for (leaf, subleaf), registers in sorted(answer[1].items(), key=lambda row: by_leaf(row[0])):
         head = struct.pack('<BI', 1, leaf) if subleaf is None else struct.pack('<BII', 2, leaf, subleaf)

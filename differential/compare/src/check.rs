@@ -145,18 +145,14 @@ fn check_write(port: &Port, case: &Case, answer: &Answer, room: usize, fill: u8,
     Ok(())
 }
 
-/// The image against the rows: leaves in any order, a leaf's subleaves together and rising, as in `to_leaves`.
+/// The image against the rows. Those of the image ascend by leaf, then by subleaf (document 02, P1); the Rust's own order is any, and the oracle
+/// gives its rows in this one.
 fn check_image(rows: &[Row], image: &[u8]) -> Result<(), String> {
-    let mut found = parse(image)?;
+    let found = parse(image)?;
     for pair in found.windows(2) {
-        if pair[0].leaf == pair[1].leaf && pair[0].subleaf >= pair[1].subleaf {
-            return Err(format!("image: the subleaves of {:x} don't rise", pair[0].leaf));
+        if (pair[0].leaf, pair[0].subleaf) >= (pair[1].leaf, pair[1].subleaf) {
+            return Err(format!("image: the row of {:x} {:x?} stands before that of {:x} {:x?}", pair[0].leaf, pair[0].subleaf, pair[1].leaf, pair[1].subleaf));
         }
-    }
-    let groups = found.chunk_by(|a, b| a.leaf == b.leaf).count();
-    found.sort();
-    if groups != found.chunk_by(|a, b| a.leaf == b.leaf).count() {
-        return Err("image: the rows of a leaf don't stand together".into());
     }
     for (rust, port) in rows.iter().zip(&found) {
         same("image", rust, port)?;

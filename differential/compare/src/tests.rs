@@ -60,6 +60,20 @@ fn a_wrong_bit_in_the_image() {
 }
 
 #[test]
+fn two_rows_of_the_image_exchanged() {
+    fn write_image(pages: &[u8], secure_avic: bool, out: &mut [u8]) -> Written {
+        let written = port::write_image(pages, secure_avic, out);
+        // leaves 0 and 1, 21 bytes each
+        if written.number == 0 {
+            out[..42].rotate_left(21);
+        }
+        written
+    }
+    let difference = found(Port { write_image, ..PORT });
+    assert!(difference.to_string().contains("stands before"), "{difference}");
+}
+
+#[test]
 fn a_byte_beyond_the_image() {
     fn write_image(pages: &[u8], secure_avic: bool, out: &mut [u8]) -> Written {
         let written = port::write_image(pages, secure_avic, out);
