@@ -21,9 +21,10 @@ extern "C" {
  *   1 the length is 0 or no multiple of 4,096       6 topology: hyperthreading (names s)
  *   2 a page's count is above 64                    7 topology: processor count (names s)
  *   3 a required result is missing (names leaf      8 topology: threads per unit
- *     and, where the leaf has them, subleaf)        9 the buffer is shorter than the image
- *   4 INVLPGB is unavailable
- *   5 a save-area size overflows
+ *     and, where the leaf has them, subleaf)        9 the buffer is shorter than what would be written
+ *   4 INVLPGB is unavailable                       10 a list's length is under 8, or not 8 + 40 * its count
+ *   5 a save-area size overflows                   11 a list has more than 64 rows for one page
+ *                                                  12 a list's flag is not 0 or 1, or a word that is to be zero is not
  * A leaf, subleaf or s that the number does not name is 0. */
 
 /* What building gives. A refused table has row_count 0 and max_extended_state 0. */
@@ -46,7 +47,7 @@ struct snp_cpuid_found {
     uint32_t edx;
 };
 
-/* What a write gives: number 0 and the image's length, or a refusal and length 0. */
+/* What a write gives: number 0 and how many bytes were written, or a refusal and length 0. */
 struct snp_cpuid_written {
     uint32_t number;
     uint32_t leaf;
@@ -73,8 +74,10 @@ struct snp_cpuid_compared {
     uint32_t register_index; /* 0 to 3: EAX, EBX, ECX, EDX */
 };
 
-/* The most bytes that an image can have. */
+/* The most bytes that an image can have, and a list for KVM; and the two pages that a list is read into. */
 #define SNP_CPUID_MOST_IMAGE_BYTES 732
+#define SNP_CPUID_MOST_KVM_BYTES 1288
+#define SNP_CPUID_KVM_PAGES_BYTES 8192
 
 /* Builds the table of the given pages. secure_avic adds one bit to the mask of 8000001Fh.EAX. */
 struct snp_cpuid_built snp_cpuid_build(const uint8_t *pages, size_t length, bool secure_avic);
@@ -89,6 +92,16 @@ struct snp_cpuid_found snp_cpuid_lookup(const uint8_t *pages, size_t length, boo
  * four, each number 4 bytes little-endian. Rows ascend by leaf, as an unsigned number, then by subleaf. Where it refuses, out is as it
  * was; bytes beyond the image are as they were. */
 struct snp_cpuid_written snp_cpuid_write_image(const uint8_t *pages, size_t length, bool secure_avic, uint8_t *out, size_t room);
+
+/* Builds, and writes the table as struct kvm_cpuid2 at the front of out: a count and a zero word, then 40 bytes a row (function, index,
+ * flags, EAX, EBX, ECX, EDX, three zero words), KVM_CPUID_FLAG_SIGNIFCANT_INDEX where the row has a subleaf, else flags and index 0; rows
+ * ascend by leaf, then by subleaf. Building's refusals come first, then 9. Where it refuses, out is as it was; bytes beyond are as they were. */
+struct snp_cpuid_written snp_cpuid_write_kvm(const uint8_t *pages, size_t length, bool secure_avic, uint8_t *out, size_t room);
+
+/* Reads a struct kvm_cpuid2 into two pages at the front of out: rows of leaf Dh on page 1 and all others on page 0, in list order, function
+ * as EAX_IN and index as ECX_IN, all other bytes of the pages 0. Refusals in this order: 10, 12, 11, 9. Where it refuses, out is as it was;
+ * bytes beyond the pages are as they were. */
+struct snp_cpuid_written snp_cpuid_read_kvm(const uint8_t *list, size_t length, uint8_t *out, size_t room);
 
 /* Compares two servers by their pages, under one choice of secure AVIC: may a guest of A move to B? Registers are compared as masked,
  * D.0.EAX with bits 0 and 1 set on both sides. After a yes, building B gives a table with every row of A's, at least A's bits in every

@@ -60,5 +60,7 @@ unsafe extern "C" {
         enforce_subleaf: bool,
     ) -> Found;
     pub fn snp_cpuid_write_image(pages: *const u8, length: usize, secure_avic: bool, out: *mut u8, room: usize) -> Written;
+    pub fn snp_cpuid_write_kvm(pages: *const u8, length: usize, secure_avic: bool, out: *mut u8, room: usize) -> Written;
+    pub fn snp_cpuid_read_kvm(list: *const u8, length: usize, out: *mut u8, room: usize) -> Written;
     pub fn snp_cpuid_compare(a: *const u8, a_length: usize, b: *const u8, b_length: usize, secure_avic: bool) -> Compared;
 }

@@ -18,12 +18,14 @@
 mod answer;
 mod comparison;
 pub mod exports;
+mod kvm;
 mod refusal;
 mod table;
 
 use answer::Answer;
 
 pub use comparison::{Comparison, Register};
+pub use kvm::{KVM_PAGES_BYTES, MOST_KVM_BYTES, read_kvm, write_kvm};
 pub use refusal::{Details, Refusal, TopologyError};
 pub use table::{CpuidResult, Row, Rows, Table};
 

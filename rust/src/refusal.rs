@@ -3,7 +3,7 @@
 use std::error::Error;
 use std::fmt;
 
-/// Why a page set gave no table, or a buffer no image.
+/// Why a page set gave no table, a buffer nothing, or a list no pages.
 #[derive(Clone, Copy, Debug, PartialEq, Eq, Hash)]
 pub enum Refusal {
     /// 1: the length is 0 or no multiple of 4,096.
@@ -18,8 +18,14 @@ pub enum Refusal {
     SaveAreaOverflow,
     /// 6, 7 or 8: the topology leaves disagree.
     TopologyInconsistent(TopologyError),
-    /// 9: the buffer is shorter than the image.
+    /// 9: the buffer is shorter than what would be written.
     BufferTooShort,
+    /// 10: a list's length is under 8, or not 8 + 40 × its count.
+    ListLength,
+    /// 11: a list has more than 64 rows for one page.
+    ListRows,
+    /// 12: a flag of a list is not 0 or 1, or a word that is to be zero is not.
+    ListFields,
 }
 
 /// How the topology leaves disagree. The number is s, bits 12 to 15 of 80000008h.ECX: the size of the APIC core id.
@@ -92,7 +98,17 @@ const TABLE: &[Line] = &[
     Line {
         number: 9,
         name: |_| Refusal::BufferTooShort,
-        words: |_| format!("the buffer is shorter than the image: {} bytes always suffice", crate::MOST_IMAGE_BYTES),
+        words: |_| {
+            let (image, list, pages) = (crate::MOST_IMAGE_BYTES, crate::MOST_KVM_BYTES, crate::KVM_PAGES_BYTES);
+            format!("the buffer is too short: {image} bytes always suffice for an image, {list} for a list for KVM, {pages} for its pages")
+        },
+    },
+    Line { number: 10, name: |_| Refusal::ListLength, words: |_| "the list for KVM must have 8 bytes and 40 for each row that it counts".into() },
+    Line { number: 11, name: |_| Refusal::ListRows, words: |_| "the list for KVM has more rows of leaf Dh, or of all others, than the 64 of a page".into() },
+    Line {
+        number: 12,
+        name: |_| Refusal::ListFields,
+        words: |_| "the list for KVM has a flag other than 0 or 1, or a word that must be zero is not".into(),
     },
 ];
 
@@ -112,7 +128,10 @@ impl Refusal {
             | Refusal::InvlpgbUnavailable
             | Refusal::SaveAreaOverflow
             | Refusal::TopologyInconsistent(TopologyError::ThreadsPerUnit)
-            | Refusal::BufferTooShort => Details::default(),
+            | Refusal::BufferTooShort
+            | Refusal::ListLength
+            | Refusal::ListRows
+            | Refusal::ListFields => Details::default(),
         }
     }
 
@@ -165,7 +184,7 @@ impl Error for TopologyError {}
 mod tests {
     use super::*;
 
-    /// The variants with their numbers (document 01, "Where each check stands") and what each names.
+    /// The variants with their numbers (document 01, "Where each check stands", and document 02) and what each names.
     #[test]
     fn numbers_and_details_lead_to_the_name_and_back() {
         let (none, s) = (Details::default(), Details { s: 7, ..Details::default() });
@@ -181,6 +200,9 @@ mod tests {
             (7, s, Refusal::TopologyInconsistent(TopologyError::ProcessorCount(7))),
             (8, none, Refusal::TopologyInconsistent(TopologyError::ThreadsPerUnit)),
             (9, none, Refusal::BufferTooShort),
+            (10, none, Refusal::ListLength),
+            (11, none, Refusal::ListRows),
+            (12, none, Refusal::ListFields),
         ] {
             assert_eq!((refusal.number(), refusal.details()), (number, named));
             assert_eq!(Refusal::of(number, named), refusal);

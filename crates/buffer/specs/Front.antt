@@ -7,6 +7,8 @@ use lib.ListN.{length, drop}
 use Rattle.bits.specs.Choice.{pick}
 use Rattle.x86defs.specs.declared.CpuidResult.{CpuidResult}
 use Rattle.table.specs.declared.Refusal.the-variants.{BufferTooShort}
+use Rattle.table.specs.declared.Verdict.{Verdict}
+use Rattle.table.specs.declared.Verdict.the-variants.{Accepted, Refused as NotMade}
 use Rattle.buffer.specs.declared.Written.{Written}
 use Rattle.buffer.specs.declared.Written.the-variants.{Bytes, Refused}
 
@@ -36,3 +38,8 @@ writeFront bytes buffer =
     pick (leb (length bytes) (length buffer))
     (record { answer = Bytes (length bytes); buffer = bytes ++ drop (length bytes) buffer })
     (record { answer = Refused BufferTooShort; buffer = buffer })
+
+-- the refusals of what the bytes are made of come first
+abbrev pub writeVerdict : Verdict → List ℕ → List ℕ → AfterWrite
+writeVerdict Accepted bytes buffer = writeFront bytes buffer
+writeVerdict (NotMade r) bytes buffer = record { answer = Refused r; buffer = buffer }

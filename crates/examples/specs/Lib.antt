@@ -3,3 +3,4 @@ pub mod Evaluation
 pub mod Computed
 pub mod MarkedRows
 pub mod Compared
+pub mod KvmLists

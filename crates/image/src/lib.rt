@@ -49,7 +49,7 @@ pub fn image_length(t: CpuidResults) -> usize
 }
 
 // How many of the places from `first` up to `end` have a row. The count is a byte, so that many can be added at once.
-fn rows_among(present: &[bool; PLACES], first: usize, end: usize) -> u8
+pub fn rows_among(present: &[bool; PLACES], first: usize, end: usize) -> u8
     requires { ⌜ (first ≤ end) × (end ≤ places) ⌝ }
     ensures { λ r. ⌜ (r ≡ rowsAmong (now (present .entry)) first end) × (r + first ≤ end) ⌝ }
 {

@@ -72,6 +72,9 @@ pub fn refusal_numbers(refusal: Refusal) -> AnswerNumbers
         Refusal::SaveAreaOverflow => sized(5, 0),
         Refusal::TopologyInconsistent(e) => topology_numbers(e),
         Refusal::BufferTooShort => sized(9, 0),
+        Refusal::ListLength => sized(10, 0),
+        Refusal::ListRows => sized(11, 0),
+        Refusal::ListFields => sized(12, 0),
     }
 }
 

@@ -1,16 +1,14 @@
 -- Demand 1: one table or one of nine refusals, each under exactly its condition, and a refused write changes no lent byte.
 use mathlib.Core.Path.{_≡_}
 use mathlib.Core.Bool.{Bool}
-use mathlib.Core.List.{List, _++_}
+use mathlib.Core.List.{List}
 use mathlib.Core.Logic.{_↔_}
-use Prim.Native.Nat.{ℕ, _≤_, _<_}
-use lib.ListN.{length, drop}
+use Prim.Native.Nat.{ℕ, _<_}
 use Rattle.table.specs.declared.Refusal.{Refusal}
-use Rattle.table.specs.declared.Refusal.the-variants.{BufferTooShort}
 use Rattle.table.specs.declared.Verdict.the-variants.{Accepted, Refused}
 use Rattle.table.specs.Table.{emptyTable}
 use Rattle.build.specs.Build.{answer}
-use Rattle.buffer.specs.declared.Written.the-variants.{Bytes, Refused as NotWritten}
+use Rattle.buffer.specs.WritesExactly.{FrontExactly}
 use Rattle.image.specs.Image.{image}
 use Rattle.write.specs.Write.{write}
 use Rattle.refusals.specs.Conditions.{Check, rank, Fault}
@@ -32,11 +30,5 @@ abbrev pub imageOf : Bool → List ℕ → List ℕ
 imageOf avic s = image (answer avic s .table)
 
 -- writing: building's refusals first, then 9 exactly where the buffer is shorter than the image; every lent byte for all nine
-pub record WritesExactly (avic : Bool) (s buffer : List ℕ) : Type 0 where
-  pub built : (r : Refusal) → answer avic s .verdict ≡ Refused r → write avic s buffer .answer ≡ NotWritten r
-  pub short : (write avic s buffer .answer ≡ NotWritten BufferTooShort)
-      ↔ ((answer avic s .verdict ≡ Accepted) × (length buffer < length (imageOf avic s)))
-  pub written : (n : ℕ) → (write avic s buffer .answer ≡ Bytes n)
-      ↔ ((answer avic s .verdict ≡ Accepted) × (n ≡ length (imageOf avic s)) × (n ≤ length buffer))
-  pub untouched : (r : Refusal) → write avic s buffer .answer ≡ NotWritten r → write avic s buffer .buffer ≡ buffer
-  pub beyond : (n : ℕ) → write avic s buffer .answer ≡ Bytes n → write avic s buffer .buffer ≡ imageOf avic s ++ drop n buffer
+abbrev pub WritesExactly : Bool → List ℕ → List ℕ → Type 0
+WritesExactly avic s buffer = FrontExactly (answer avic s .verdict) (imageOf avic s) buffer (write avic s buffer)

@@ -1,12 +1,10 @@
 -- The proof of demand 1's statements, from what the nine checks in order come to (StageLaws).
 use mathlib.Core.Path.{_≡_, refl, ap, _∙_}
-use mathlib.Core.Bool.{Bool, true, false}
-use mathlib.Core.List.{List, _++_}
-use Prim.Native.Nat.{ℕ, _≤_, _<_}
+use mathlib.Core.Bool.{Bool}
+use mathlib.Core.List.{List}
+use Prim.Native.Nat.{ℕ, _<_}
 use native.Mathlib.Omega.{arith}
-use lib.Dec.{leb, lit<}
-use lib.ListN.{length, drop}
-use borrow.Author.Tests.{leb-true, leb-false}
+use lib.Dec.{lit<}
 use Rattle.table.specs.declared.Refusal.{Refusal}
 use Rattle.table.specs.declared.Refusal.the-variants.{BufferTooShort}
 use Rattle.table.specs.declared.Verdict.{Verdict}
@@ -16,8 +14,7 @@ use Rattle.table.specs.Table.{emptyTable}
 use Rattle.build.specs.Built.{tableFor}
 use Rattle.collect.specs.FirstEntries.{rowsOf}
 use Rattle.build.specs.Build.{answer}
-use Rattle.buffer.specs.declared.Written.the-variants.{Bytes, Refused as NotWritten}
-use Rattle.buffer.specs.Front.{writeFront}
+use Rattle.buffer.specs.WritesExactly.{front-exactly}
 use Rattle.write.specs.Write.{write}
 use Rattle.refusals.specs.Conditions.{Check, Fault}
 use Rattle.refusals.specs.Conditions.Check.{pagesLength, pageCounts, requiredLeaves, invlpgb, components, saveArea, processorCount, hyperthreading, threadsPerUnit}
@@ -66,46 +63,11 @@ fault-number avic s hyperthreading r f = rw (f .1) (lit< tt)
 fault-number avic s threadsPerUnit r f = rw (f .1) (lit< tt)
 
 -- so building never refuses with it
-not-short : (avic : Bool) (s : List ℕ) → answer avic s .verdict ≡ Refused BufferTooShort → ⊥
+pub not-short : (avic : Bool) (s : List ℕ) → answer avic s .verdict ≡ Refused BufferTooShort → ⊥
 not-short avic s e =
     let f : FirstFault avic s BufferTooShort = builds-exactly avic s .refused BufferTooShort .0 e in
     omega (arith, fault-number avic s (f .check) BufferTooShort (f .fault))
 
--- the verdict, and whether the image fits, settle what is answered and what the buffer then holds
 pub writes-exactly : (avic : Bool) (s buffer : List ℕ) → WritesExactly avic s buffer
-unfolding write writeFront
-writes-exactly avic s buffer = go (answer avic s .verdict) refl (leb (length bytes) (length buffer)) refl
-  where
-    bytes : List ℕ
-    bytes = imageOf avic s
-
-    go : (v : Verdict) → answer avic s .verdict ≡ v → (b : Bool) → leb (length bytes) (length buffer) ≡ b → WritesExactly avic s buffer
-    go (Refused q) e b l =
-        let w : write avic s buffer ≡ record { answer = NotWritten q; buffer = buffer } = rw e in
-        record {
-          built = λ r p. cc;
-          short = (λ p. absurd (not-short avic s (cc)), λ p. impossible (cc));
-          written = λ n. (λ p. impossible (cc), λ p. impossible (cc));
-          untouched = λ r p. cc;
-          beyond = λ n p. cc;
-        }
-    go Accepted e true l =
-        let w : write avic s buffer ≡ record { answer = Bytes (length bytes); buffer = bytes ++ drop (length bytes) buffer } = rw (e, l) in
-        let fits : length bytes ≤ length buffer = leb-true _ _ l in
-        record {
-          built = λ r p. cc;
-          short = (λ p. impossible (cc), λ p. absurd (omega arith));
-          written = λ n. (λ p. let same : n ≡ length bytes = cc in (e, same, omega arith), λ p. cc);
-          untouched = λ r p. cc;
-          beyond = λ n p. cc;
-        }
-    go Accepted e false l =
-        let w : write avic s buffer ≡ record { answer = NotWritten BufferTooShort; buffer = buffer } = rw (e, l) in
-        let over : length buffer < length bytes = leb-false _ _ l in
-        record {
-          built = λ r p. cc;
-          short = (λ p. (e, over), λ p. cc);
-          written = λ n. (λ p. impossible (cc), λ p. absurd (omega arith));
-          untouched = λ r p. cc;
-          beyond = λ n p. cc;
-        }
+unfolding write
+writes-exactly avic s buffer = front-exactly (answer avic s .verdict) (imageOf avic s) buffer (write avic s buffer) refl (not-short avic s)

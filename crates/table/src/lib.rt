@@ -12,7 +12,7 @@ pub enum Subleaf {
     Some(u32),
 }
 
-// Why no table is given. specs/Refusal.antt has document 01's number and details for each.
+// Why no table is given. specs/Refusal.antt has the number and details of each.
 pub enum Refusal {
     PagesLength,
     PageCount,
@@ -21,6 +21,9 @@ pub enum Refusal {
     SaveAreaOverflow,
     TopologyInconsistent(TopologyError),
     BufferTooShort,
+    ListLength,
+    ListRows,
+    ListFields,
 }
 
 pub enum Verdict {

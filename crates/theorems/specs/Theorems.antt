@@ -5,13 +5,14 @@ use mathlib.Core.Path.{_≡_}
 use mathlib.Core.Bool.{Bool, false}
 use mathlib.Core.List.{List, [], _∷_, map}
 use Prim.Native.Nat.{ℕ, _≤_, _<_}
-use lib.ListN.{length}
-use Rattle.x86defs.specs.Functions.{VersionAndFeatures, ExtendedStateEnumeration}
+use lib.ListN.{length, replicate, take}
+use Rattle.x86defs.specs.Functions.{result, VersionAndFeatures, ExtendedStateEnumeration}
 use Rattle.x86defs.specs.declared.CpuidFunction.{CpuidFunction}
 use Rattle.table.specs.declared.Subleaf.{Subleaf}
 use Rattle.table.specs.declared.Subleaf.the-variants.{None, Some}
 use Rattle.table.specs.declared.Refusal.{Refusal}
-use Rattle.table.specs.declared.Refusal.the-variants.{PagesLength, MissingRequiredResult, SaveAreaOverflow}
+use Rattle.table.specs.declared.Refusal.the-variants.{PagesLength, MissingRequiredResult, SaveAreaOverflow, BufferTooShort, ListLength, ListRows, ListFields}
+use Rattle.table.specs.declared.CpuidResults.{CpuidResults}
 use Rattle.table.specs.declared.Verdict.the-variants.{Accepted, Refused}
 use Rattle.bits.specs.Lists.{keepIf}
 use Rattle.pages.specs.Entries.{entries, counted}
@@ -43,6 +44,18 @@ use Rattle.table.specs.Order.{Precedes}
 use Rattle.table.specs.OrderLaws.{places-rise}
 use Rattle.compare.specs.DecidesProof.{decides}
 use Rattle.theorems.specs.Exported.{ExportsRise, ExportsCompare, exports-rise, exports-compare}
+use Rattle.buffer.specs.declared.Written.the-variants.{Bytes, Refused as NotWritten}
+use Rattle.kvm_list.specs.Words.{bytesOfWords}
+use Rattle.kvm_list.specs.Format.{listBytes}
+use Rattle.kvm_import.specs.Import.{readList}
+use Rattle.kvm_export.specs.Export.{plainRow, listRows, listOf}
+use Rattle.round_trip.specs.RoundTrip.{Returns, RoundTrip, ListWritesExactly}
+use Rattle.round_trip.specs.RoundTripProof.{round-trip, list-writes-exactly}
+use Rattle.round_trip.specs.Reads.{AreBytes, ReadMakes}
+use Rattle.round_trip.specs.ReadsExactly.{ReadsExactly}
+use Rattle.round_trip.specs.ReadsExactlyProof.{reads-exactly, read-makes}
+use Rattle.round_trip.specs.Ascends.{Ascend, rows-ascend as list-ascends}
+use Rattle.examples.specs.KvmLists as KvmLists
 use Rattle.examples.specs.PageSets.{serverA, serverB, serverWithoutD12, serverWithLargeD6}
 use Rattle.examples.specs.Computed as Computed
 use Rattle.examples.specs.Compared as Pairs
@@ -146,6 +159,52 @@ rows-ascend = image-ascends
 -- two accepted page sets, each under a choice of its own, have equal images if and only if their rows and combined masks are equal
 pub images-tell-tables : EqualImages
 images-tell-tables = equal-images
+
+-- ---- Document 02, P2: lists for and from KVM. crates/kvm_list/specs/Format.antt has the list's bytes, crates/kvm_export/specs/Export.antt what is
+-- written, crates/kvm_import/specs/Import.antt what is read; the statements are in crates/round_trip/specs.
+
+-- written to one lent buffer, read into another and built again, an accepted page set gives the same answer: table and combined mask
+pub kvm-round-trip : RoundTrip
+kvm-round-trip = round-trip
+
+-- the counted entries of the two pages are the list's rows, each where it counts, in list order; no byte is left open
+pub kvm-read-makes : (l : List ℕ) → AreBytes l → (buffer : List ℕ) → readList l buffer .answer ≡ Bytes 8192 → ReadMakes l buffer
+kvm-read-makes = read-makes
+
+-- writing: building's refusals, then 9 exactly where the buffer is shorter than 8 + 40 × rows; a refused write changes no lent byte
+pub kvm-writes-exactly : (avic : Bool) (s buffer : List ℕ) → ListWritesExactly avic s buffer
+kvm-writes-exactly = list-writes-exactly
+
+-- reading: 10, 12, 11 and 9, each given if and only if its condition holds and no earlier one does; a refused read changes no lent byte
+pub kvm-reads-exactly : (l buffer : List ℕ) → ReadsExactly l buffer
+kvm-reads-exactly = reads-exactly
+
+-- the rows of a list ascend by leaf, then by subleaf
+pub kvm-rows-ascend : (t : CpuidResults) → Ascend (listRows t)
+kvm-rows-ascend = list-ascends
+
+-- server A's list goes round; its head and its first row; and a list for each answer of reading
+pub a-goes-round : (buffer pages : List ℕ) → 1088 ≤ length buffer → 8192 ≤ length pages → Returns false serverA buffer pages
+a-goes-round buffer pages h k = round-trip false serverA Computed.serverA-accepted buffer pages (rw Computed.serverA-rows h) k
+
+pub a-listed : take 48 (listOf (answer false serverA .table))
+    ≡ bytesOfWords (27 ∷ 0 ∷ 0 ∷ 0 ∷ 0 ∷ 0xD ∷ 0x68747541 ∷ 0x444D4163 ∷ 0x69746E65 ∷ 0 ∷ 0 ∷ 0 ∷ [])
+a-listed = KvmLists.serverA-list
+
+pub count-not-wrapped : readList (bytesOfWords (0xFFFFFFFF ∷ 0 ∷ [])) [] .answer ≡ NotWritten ListLength
+count-not-wrapped = KvmLists.wrapped-count
+
+pub head-word-read : readList (bytesOfWords (0 ∷ 1 ∷ [])) [] .answer ≡ NotWritten ListFields
+head-word-read = KvmLists.head-not-zero
+
+pub too-many-rows : readList (listBytes (replicate 65 (plainRow 5 0 0 (result 0 0 0 0)))) [] .answer ≡ NotWritten ListRows
+too-many-rows = KvmLists.sixty-five
+
+pub nothing-lent : readList (bytesOfWords (0 ∷ 0 ∷ [])) [] .answer ≡ NotWritten BufferTooShort
+nothing-lent = KvmLists.nothing-lent
+
+pub an-empty-list : readList (bytesOfWords (0 ∷ 0 ∷ [])) (replicate 8192 0xA5) .answer ≡ Bytes 8192
+an-empty-list = KvmLists.empty-list
 
 -- ---- The page reader in the source's form. crates/reader/specs/Read.antt.
 

@@ -3,17 +3,10 @@
 use mathlib.Core.Bool.{Bool}
 use mathlib.Core.List.{List}
 use Prim.Native.Nat.{ℕ}
-use Rattle.table.specs.declared.Verdict.{Verdict}
-use Rattle.table.specs.declared.Verdict.the-variants.{Accepted, Refused as NotBuilt}
 use Rattle.build.specs.declared.Built.{Built}
 use Rattle.build.specs.Build.{answer}
-use Rattle.buffer.specs.declared.Written.the-variants.{Refused}
-use Rattle.buffer.specs.Front.{AfterWrite, writeFront}
+use Rattle.buffer.specs.Front.{AfterWrite, writeVerdict}
 use Rattle.image.specs.Image.{image}
 
-abbrev pub writeBuilt : Verdict → List ℕ → List ℕ → AfterWrite
-writeBuilt Accepted bytes buffer = writeFront bytes buffer
-writeBuilt (NotBuilt r) bytes buffer = record { answer = Refused r; buffer = buffer }
-
 unfoldable pub write : Bool → List ℕ → List ℕ → AfterWrite
-write avic s buffer = writeBuilt (answer avic s .verdict) (image (answer avic s .table)) buffer
+write avic s buffer = writeVerdict (answer avic s .verdict) (image (answer avic s .table)) buffer

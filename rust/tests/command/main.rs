@@ -5,6 +5,7 @@ mod compare;
 mod debian;
 mod documents;
 mod dump;
+mod kvm;
 mod lookup;
 mod names;
 mod page_sets;

@@ -16,10 +16,11 @@ pub const BUILDING: &[&[&str]] = &[
     &["lookup", "PAGES", "1"],
     &["to-dump", "PAGES"],
     &["to-dump", "PAGES", "-o", "OUT"],
+    &["to-kvm", "PAGES", "-o", "OUT"],
 ];
 
 /// Runs of the other commands that read a file.
-pub const READING: &[&[&str]] = &[&["from-dump", "PAGES", "-o", "OUT"], &["compare", "PAGES", EPYC], &["compare", EPYC, "PAGES"]];
+pub const READING: &[&[&str]] = &[&["from-dump", "PAGES", "-o", "OUT"], &["from-kvm", "PAGES", "-o", "OUT"], &["compare", "PAGES", EPYC], &["compare", EPYC, "PAGES"]];
 
 /// A run of these lists with its files.
 pub fn with_files(run: &[&str], pages: &str, out: &str) -> Vec<String> {

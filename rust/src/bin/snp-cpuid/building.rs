@@ -4,7 +4,7 @@ use crate::arguments::Arguments;
 use crate::failure::Failure;
 use crate::input::{read, shown};
 use crate::option::Opt;
-use snp_cpuid::{Comparison, Refusal, Table};
+use snp_cpuid::{Comparison, MOST_KVM_BYTES, Refusal, Table};
 use std::ffi::OsStr;
 use std::fmt::Display;
 
@@ -33,6 +33,14 @@ impl Building {
     /// Whether a guest of one server may move to another.
     pub fn compare(&self, from: &[u8], to: &[u8]) -> Comparison {
         snp_cpuid::compare(from, to, self.secure_avic)
+    }
+
+    /// The list for KVM of a file of pages.
+    pub fn kvm_list(&self, file: &OsStr) -> Result<Vec<u8>, Failure> {
+        let mut list = vec![0; MOST_KVM_BYTES];
+        let length = snp_cpuid::write_kvm(&read(file)?, self.secure_avic, &mut list).map_err(|refusal| self.refused(shown(file), refusal))?;
+        list.truncate(length);
+        Ok(list)
     }
 
     /// The table of a file of pages.

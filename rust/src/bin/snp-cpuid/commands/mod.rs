@@ -2,10 +2,12 @@
 
 mod compare;
 mod from_dump;
+mod from_kvm;
 mod image;
 mod lookup;
 mod table;
 mod to_dump;
+mod to_kvm;
 
 use crate::command::Command;
 
@@ -17,5 +19,7 @@ pub const ALL: &[Command] = &[
     lookup::COMMAND,
     from_dump::COMMAND,
     to_dump::COMMAND,
+    from_kvm::COMMAND,
+    to_kvm::COMMAND,
     compare::COMMAND,
 ];

@@ -1,0 +1,56 @@
+-- `kvm_export::write_table` meets its contract: a buffer shorter than the list is refused untouched, any other is given the list at its front.
+use mathlib.Core.Path.{ap, refl}
+use Prim.Native.Nat.{_+_, _≤_}
+use native.Mathlib.Omega.{arith}
+use lib.ListN.{length}
+use Rattle.buffer.specs.declared.Written.the-variants.{Bytes}
+use Rattle.buffer.specs.FrontLaws.{front-short, front-whole}
+use Rattle.kvm_export.specs.Export.{listOf}
+use Rattle.kvm_export.specs.Pieces.{rowsLeft}
+use Rattle.kvm_export.specs.ListLaws.{list-size, rows-size, list-done}
+use borrow.Author.Needs.{needs}
+use Rattle.kvm_export.proofs.write_table.Statement.{statement}
+use Rattle.kvm_export.proofs.write_table.Tie as tie
+
+returns : tie.Need-returns
+returns c =
+    let a = c .before .before .before .before .before .args in
+    rw (front-short (listOf (a .t)) (a .out .now) (omega (arith, list-size (a .t) (c .before .rows-among .ensures .0)))) (refl, refl)
+
+put-rows-requires : tie.Need-put-rows-requires
+put-rows-requires c κs =
+    let c₁₀ = c .before .before .before .before .before .before .before .before .before .before in
+    let a = c₁₀ .before .before .before .before .args in
+    let h : 8 + length (rowsLeft (a .t) 0) ≤ length (a .out .now) = omega (arith, rows-size (a .t) (c₁₀ .rows-among .ensures .0)) in
+    search needs
+
+returns-2 : tie.Need-returns-2
+returns-2 c =
+    let c₁₀ = c .before .before .before .before .before .before .before .before .before .before in
+    let c₁₃ = c₁₀ .before .before .before in
+    let a = c₁₃ .before .before .before .before .args in
+    let n = c₁₃ .rows-among .ensures .0 in
+    rw (front-whole (listOf (a .t)) (a .out .now) (omega (arith, list-size (a .t) n)))
+    (
+      ap Bytes (list-size (a .t) n),
+      list-done (a .t) _ n
+      (c₁₀ .put-word .ensures)
+      (c .before .before .before .before .before .before .put-word2 .ensures)
+      (c .before .before .put-rows .ensures),
+    )
+
+pub write-table-spec : {M : Type 1} → statement M
+write-table-spec =
+    tie.close
+    (tie.spec
+    (λ c κs. search needs)
+    (λ c. search needs)
+    (λ c. search needs)
+    (λ c. search needs)
+    returns
+    (λ c. search needs)
+    (λ c κs. search needs)
+    (λ c κs. search needs)
+    put-rows-requires
+    (λ c. search needs)
+    returns-2)

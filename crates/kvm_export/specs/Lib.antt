@@ -1,0 +1,5 @@
+pub mod Export
+pub mod Pieces
+pub mod RunRowLaws
+pub mod ListLaws
+pub mod AnswerLaws

@@ -1,0 +1,35 @@
+-- What reading makes: the two pages' counted entries are the list's rows, each where it counts, in list order, and no byte is left open.
+use mathlib.Core.Path.{_≡_}
+use mathlib.Core.List.{List, _++_, map}
+use Prim.Native.Nat.{ℕ, _<_}
+use lib.ListN.{length, getD, drop}
+use Rattle.x86defs.specs.declared.CpuidResult.{CpuidResult}
+use Rattle.pages.specs.Layout.{Entry, countOf}
+use Rattle.pages.specs.Entries.{onPage, counted}
+use Rattle.kvm_list.specs.Format.{ListRow, rowsIn}
+use Rattle.kvm_import.specs.Import.{rowsOn0, rowsOn1, pagesOf, readList}
+
+-- what an entry and a row of a list have in common: EAX_IN and function, ECX_IN and index, the registers
+pub record LeafRow : Type 0 where
+  pub leaf : ℕ
+  pub index : ℕ
+  pub registers : CpuidResult
+
+abbrev pub ofRow : ListRow → LeafRow
+ofRow r = record { leaf = r .leaf; index = r .index; registers = r .registers }
+
+abbrev pub ofEntry : Entry → LeafRow
+ofEntry e = record { leaf = e .leaf .0; index = e .subleaf; registers = e .registers }
+
+-- each element is a byte
+abbrev pub AreBytes : List ℕ → Type 0
+AreBytes l = (k : ℕ) → getD l k 0 < 256
+
+pub record ReadMakes (l buffer : List ℕ) : Type 0 where
+  -- 8,192 bytes, each given by the list's rows; lent bytes beyond stay
+  pub two : length (pagesOf (rowsIn l)) ≡ 8192
+  pub bytes : readList l buffer .buffer ≡ pagesOf (rowsIn l) ++ drop 8192 buffer
+  -- page by page, and all that count
+  pub page0 : map ofEntry (onPage (pagesOf (rowsIn l)) 0 0 (countOf (pagesOf (rowsIn l)) 0)) ≡ map ofRow (rowsOn0 (rowsIn l))
+  pub page1 : map ofEntry (onPage (pagesOf (rowsIn l)) 1 0 (countOf (pagesOf (rowsIn l)) 1)) ≡ map ofRow (rowsOn1 (rowsIn l))
+  pub all : map ofEntry (counted (pagesOf (rowsIn l))) ≡ map ofRow (rowsOn0 (rowsIn l)) ++ map ofRow (rowsOn1 (rowsIn l))

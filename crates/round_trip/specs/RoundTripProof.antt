@@ -1,0 +1,153 @@
+-- The round trip: from the list's bytes to the two pages' first entries, and from these to the same table.
+use mathlib.Core.Path.{_≡_, refl, sym, ap, _∙_, fun-ext}
+use mathlib.Core.Bool.{Bool, true, false}
+use mathlib.Core.List.{List, [], _∷_, _++_}
+use Prim.Native.Nat.{ℕ, suc, _+_, _*_, _≤_, _<_}
+use native.Mathlib.Nat.{zero-add}
+use native.Mathlib.Omega.{arith}
+use lib.Dec.{ltb, leb}
+use lib.ListN.{length, getD, take, drop}
+use borrow.Author.Tests.{ltb-true, le-leb}
+use Rattle.bits.specs.Choice.{pick}
+use Rattle.bits.specs.Lists.{sumTo, one}
+use Rattle.bits.specs.ListsLaws.{sum-ext, getD-tabulate}
+use Rattle.pages.specs.Layout.{badLength, countsFit}
+use Rattle.pages.specs.Entries.{counted}
+use Rattle.masking.specs.Kept.{places}
+use Rattle.table.specs.declared.CpuidResults.{CpuidResults}
+use Rattle.table.specs.declared.Verdict.{Verdict}
+use Rattle.table.specs.declared.Verdict.the-variants.{Accepted}
+use Rattle.table.specs.Rows.{Row, Rows, vacant}
+use Rattle.table.specs.Table.{tableOf, countRows, rowIn, rowsIn as tableRows}
+use Rattle.checks.specs.Checks.{rowsVerdict}
+use Rattle.checks.specs.ChecksLaws.{then-left, then-right, then-skips}
+use Rattle.update.specs.Finish.{finished}
+use Rattle.collect.specs.FirstEntries.{firstAt, maskRow, rowsOf}
+use Rattle.collect.specs.Collect.{collected-rows}
+use Rattle.build.specs.Built.{tableFor, builtFrom}
+use Rattle.build.specs.Build.{lawfulVerdict, verdictOf, answer}
+use Rattle.build.specs.BuildLaws.{answer-collected}
+use Rattle.buffer.specs.declared.Written.the-variants.{Bytes}
+use Rattle.buffer.specs.Front.{AfterWrite, writeFront}
+use Rattle.buffer.specs.WritesExactly.{front-exactly}
+use Rattle.image.specs.Pieces.{rowsAmong}
+use Rattle.refusals.specs.ExactlyProof.{not-short}
+use Rattle.rise.specs.RiseProof.{answer-table, answer-row}
+use Rattle.kvm_list.specs.Format.{rowsIn}
+use Rattle.kvm_import.specs.Import.{listVerdict, pagesOf, readList}
+use Rattle.kvm_import.specs.PagesLaws.{pages-length as two-pages}
+use Rattle.kvm_export.specs.Export.{listRows, listOf, writeList}
+use Rattle.kvm_export.specs.ListLaws.{count-rows, list-length}
+use Rattle.round_trip.specs.Again.{readAgain, again}
+use Rattle.round_trip.specs.RowsAgain.{built-again}
+use Rattle.round_trip.specs.MaskedRows.{rows-masked}
+use Rattle.round_trip.specs.TableList.{rowsRead, fit-0, fit-1, rows-read, list-accepted}
+use Rattle.round_trip.specs.PagesRead.{AllFit, pages-length, pages-counts, pages-first}
+use Rattle.round_trip.specs.TableRows.{fit-cut, first-in-table, masked-stands}
+use Rattle.round_trip.specs.RoundTrip.{listLength, exported, imported as importedOf, Returns, RoundTrip, ListWritesExactly}
+
+-- ---- the answer, of lawful pages
+
+lawful-answer : (avic : Bool) (s : List ℕ) → badLength s ≡ false → countsFit s ≡ true → answer avic s ≡ builtFrom (rowsOf avic s)
+lawful-answer avic s e f = sym (answer-collected avic s e f refl refl) ∙ ap builtFrom (collected-rows avic s)
+
+accepted-answer : (avic : Bool) (s : List ℕ) → answer avic s .verdict ≡ Accepted → answer avic s ≡ builtFrom (rowsOf avic s)
+unfolding answer verdictOf builtFrom
+accepted-answer avic s e =
+    ap (λ (v : Verdict). record { verdict = v; table = tableFor v (rowsOf avic s) }) (then-skips (then-left (lawfulVerdict s) _ e))
+
+accepted-rows : (avic : Bool) (s : List ℕ) → answer avic s .verdict ≡ Accepted → rowsVerdict (rowsOf avic s) ≡ Accepted
+unfolding answer verdictOf
+accepted-rows avic s e = then-right (lawfulVerdict s) _ e
+
+-- ---- the pages of any table's list
+
+module _ (t : CpuidResults) where
+  abbrev imported : List ℕ
+  imported = pagesOf (rowsRead t)
+
+  fit : AllFit (rowsRead t)
+  fit = fit-cut (listRows t)
+
+  -- their rows are the table's, read again
+  imported-rows : (avic : Bool) → rowsOf avic imported ≡ again avic (tableRows t)
+  unfolding rowsOf again listRows
+  imported-rows avic = fun-ext (λ i. go i (ltb i places) refl)
+    where
+      go : (i : ℕ) (b : Bool) → ltb i places ≡ b → pick b (maskRow avic i (firstAt i (counted imported))) vacant ≡ pick b (readAgain avic i (rowIn t i)) vacant
+      go i true e =
+          let l : i < places = ltb-true i places e in
+          ap (maskRow avic i) (pages-first (rowsRead t) fit (fit-0 t) (fit-1 t) i l ∙ first-in-table t i l) ∙ masked-stands avic t i l
+      go i false e = refl
+
+again-ext : (avic : Bool) (a b : Rows) → ((i : ℕ) → i < places → a i ≡ b i) → again avic a ≡ again avic b
+unfolding again
+again-ext avic a b e = fun-ext (λ i. go i (ltb i places) refl)
+  where
+    go : (i : ℕ) (c : Bool) → ltb i places ≡ c → pick c (readAgain avic i (a i)) vacant ≡ pick c (readAgain avic i (b i)) vacant
+    go i true h = ap (readAgain avic i) (e i (ltb-true i places h))
+    go i false h = refl
+
+-- over lent buffers
+module _ (t : CpuidResults) where
+  read-table : (pages : List ℕ) → 8192 ≤ length pages → readList (listOf t) pages ≡ record { answer = Bytes 8192; buffer = imported t ++ drop 8192 pages }
+  unfolding readList writeFront
+  read-table pages h =
+      let n : length (imported t) ≡ 8192 = two-pages (rowsRead t) (fit-0 t) (fit-1 t) in
+      rw (list-accepted t, rows-read t, n, le-leb 8192 (length pages) h)
+
+-- ---- the answer's own list
+
+take-front : (a b : List ℕ) → take (length a) (a ++ b) ≡ a
+take-front [] b = refl
+take-front (x ∷ a) b = ap (x ∷_) (take-front a b)
+
+list-size : (m : Rows) (x : ℕ) → length (listOf (tableOf m x)) ≡ 8 + 40 * countRows m
+unfolding countRows rowsAmong
+list-size m x =
+    let t : CpuidResults = tableOf m x in
+    let n : rowsAmong (t .present) 0 places ≡ countRows m =
+    sum-ext (λ i. one (getD (t .present) (0 + i) false)) (λ i. one (m i .present)) places
+    (λ i l. ap (λ (k : ℕ). one (getD (t .present) k false)) (zero-add i) ∙ ap one (getD-tabulate places (λ j. m j .present) i false l)) in
+    list-length t ∙ omega (arith, count-rows t, n)
+
+answer-size : (avic : Bool) (s : List ℕ) → answer avic s .verdict ≡ Accepted → length (listOf (answer avic s .table)) ≡ listLength avic s
+answer-size avic s e = rw (answer-table avic s e) (list-size _ _)
+
+pub list-writes-exactly : (avic : Bool) (s buffer : List ℕ) → ListWritesExactly avic s buffer
+unfolding writeList
+list-writes-exactly avic s buffer = record {
+  answers = front-exactly (answer avic s .verdict) (listOf (answer avic s .table)) buffer (writeList avic s buffer) refl (not-short avic s);
+  size = answer-size avic s;
+}
+
+-- ---- the theorem
+
+same-answer : (avic : Bool) (s : List ℕ) → answer avic s .verdict ≡ Accepted → answer avic (imported (answer avic s .table)) ≡ answer avic s
+same-answer avic s e =
+    let t : CpuidResults = answer avic s .table in
+    lawful-answer avic (imported t)
+    (pages-length (rowsRead t) (fit t) (fit-0 t) (fit-1 t))
+    (pages-counts (rowsRead t) (fit t) (fit-0 t) (fit-1 t))
+    ∙ ap builtFrom (imported-rows t avic ∙ again-ext avic (tableRows t) (finished (rowsOf avic s)) (answer-row avic s e))
+    ∙ built-again avic (rowsOf avic s) (rows-masked avic s) (accepted-rows avic s e)
+    ∙ sym (accepted-answer avic s e)
+
+pub round-trip : RoundTrip
+round-trip avic s e buffer pages h k =
+    let t : CpuidResults = answer avic s .table in
+    let x = list-writes-exactly avic s buffer in
+    let n : length (listOf t) ≡ listLength avic s = x .size e in
+    let w : writeList avic s buffer .answer ≡ Bytes (listLength avic s) = x .answers .written (listLength avic s) .1 (e, sym n, h) in
+    let b : writeList avic s buffer .buffer ≡ listOf t ++ drop (listLength avic s) buffer = x .answers .beyond (listLength avic s) w in
+    let f : exported avic s buffer ≡ listOf t = rw (b, ← n) (take-front (listOf t) _) in
+    let r : readList (exported avic s buffer) pages ≡ record { answer = Bytes 8192; buffer = imported t ++ drop 8192 pages } =
+    ap (λ (l : List ℕ). readList l pages) f ∙ read-table t pages k in
+    let two : length (imported t) ≡ 8192 = two-pages (rowsRead t) (fit-0 t) (fit-1 t) in
+    let g : importedOf avic s buffer pages ≡ imported t =
+    ap (λ (o : AfterWrite). take 8192 (o .buffer)) r ∙ ap (λ (m : ℕ). take m (imported t ++ drop 8192 pages)) (sym two) ∙ take-front (imported t) _ in
+    record {
+      written = w;
+      read = ap (λ (o : AfterWrite). o .answer) r;
+      same = ap (answer avic) g ∙ same-answer avic s e;
+    }

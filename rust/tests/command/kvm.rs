@@ -1,0 +1,58 @@
+//! `to-kvm` and `from-kvm`.
+
+use crate::run::{EPYC, Folder, run, run_on};
+use snp_cpuid::{KVM_PAGES_BYTES, MOST_KVM_BYTES, build, read_kvm, write_kvm};
+use std::fs;
+
+/// The list of the shipped set, as the library writes it.
+fn epyc_list(secure_avic: bool) -> Vec<u8> {
+    let mut list = vec![0; MOST_KVM_BYTES];
+    let length = write_kvm(&fs::read(EPYC).unwrap(), secure_avic, &mut list).unwrap();
+    list.truncate(length);
+    list
+}
+
+/// A list of rows: function, index, flags and EAX.
+fn listed(rows: &[[u32; 4]]) -> Vec<u8> {
+    let words = rows.iter().flat_map(|row| row.iter().copied().chain([0; 6]));
+    [rows.len() as u32, 0].into_iter().chain(words).flat_map(u32::to_le_bytes).collect()
+}
+
+#[test]
+fn the_list_is_the_librarys_and_goes_round() {
+    for (choice, words) in [(false, &[][..]), (true, &["--secure-avic"][..])] {
+        let wrote = run(&[&["to-kvm", EPYC, "-o", "-"], words].concat());
+        assert_eq!((wrote.status, wrote.err.as_str(), &wrote.out), (0, "", &epyc_list(choice)));
+        let back = run_on(&wrote.out, &["from-kvm", "-", "-o", "-"]);
+        // leaves 0 and 80000000 are made here
+        assert_eq!((back.status, back.err.as_str()), (0, "snp-cpuid: note: 29 rows, of which the table reads 27\n"));
+        assert_eq!(build(&back.out, choice), build(&fs::read(EPYC).unwrap(), choice));
+    }
+}
+
+#[test]
+fn rows_that_the_table_does_not_read_go_in_and_are_told() {
+    let rows = [[0, 0, 0, 0xD], [0x8000_0000, 0, 0, 0x8000_0021], [0x4000_0000, 0, 0, 1], [7, 0, 1, 2], [7, 1, 1, 3], [0xD, 64, 1, 4], [5, 9, 0, 5]];
+    let mut pages = [0; KVM_PAGES_BYTES];
+    read_kvm(&listed(&rows), &mut pages).unwrap();
+    let ran = run_on(&listed(&rows), &["from-kvm", "-", "-o", "-"]);
+    assert_eq!((ran.status, ran.err.as_str(), ran.out.as_slice()), (0, "snp-cpuid: note: 7 rows, of which the table reads 2\n", pages.as_slice()));
+    assert_eq!(run_on(&listed(&rows[3..4]), &["from-kvm", "-", "-o", "-"]).err, "snp-cpuid: note: 1 row, of which the table reads 1\n");
+}
+
+#[test]
+fn refusals_are_one_line_and_no_file() {
+    let folder = Folder::new("kvm");
+    let out = folder.path("out");
+    let none = "(leaf 00000000, subleaf none, s 0)";
+    for (list, words) in [
+        (vec![], "refusal 10: the list for KVM must have 8 bytes and 40 for each row that it counts"),
+        (listed(&[[1, 0, 0, 0]; 65]), "refusal 11: the list for KVM has more rows of leaf Dh, or of all others, than the 64 of a page"),
+        (listed(&[[1, 0, 2, 0]]), "refusal 12: the list for KVM has a flag other than 0 or 1, or a word that must be zero is not"),
+    ] {
+        let ran = run_on(&list, &["from-kvm", "-", "-o", &out]);
+        assert_eq!((ran.status, ran.line()), (1, format!("standard input: {words} {none}").as_str()));
+        assert!(!fs::exists(&out).unwrap());
+    }
+    assert_eq!(run_on(&[], &["to-kvm", "-", "-o", &out]).status, 1);
+}

@@ -1,0 +1,73 @@
+//! Replays kvm.txt, whose answers are those of the model (tests/make_kvm.py writes it and says how a line reads).
+
+use snp_cpuid::{Refusal, read_kvm, write_kvm};
+use std::collections::BTreeMap;
+
+fn bytes(hex: &str) -> Vec<u8> {
+    (0..hex.len() / 2).map(|i| u8::from_str_radix(&hex[2 * i..2 * i + 2], 16).unwrap()).collect()
+}
+
+/// The shipped set with the edits of one word.
+fn edited(word: &str) -> Vec<u8> {
+    let mut pages = std::fs::read("../tests/epyc-milan.pages").expect("the shipped page set");
+    for edit in word.split(',').filter(|&edit| edit != "-") {
+        if let Some(length) = edit.strip_prefix('#') {
+            pages.resize(length.parse().unwrap(), 0);
+        } else {
+            let (offset, new) = edit.strip_prefix('@').and_then(|e| e.split_once(':')).expect("an edit");
+            let (at, new) = (usize::from_str_radix(offset, 16).unwrap(), bytes(new));
+            pages[at..at + new.len()].copy_from_slice(&new);
+        }
+    }
+    pages
+}
+
+/// The list of one word.
+fn listed(word: &str) -> Vec<u8> {
+    let part = |part: &str| match part.split_once('*') {
+        Some((hex, often)) => bytes(hex).repeat(often.parse().unwrap()),
+        None => bytes(part.trim_start_matches('-')),
+    };
+    word.split('+').flat_map(part).collect()
+}
+
+fn told(answer: Result<usize, Refusal>) -> String {
+    match answer {
+        Ok(length) => format!("0:{length}"),
+        Err(refusal) => {
+            let details = refusal.details();
+            let subleaf = details.subleaf.map_or("-".to_string(), |subleaf| subleaf.to_string());
+            format!("{}:{:x}:{subleaf}:{}", refusal.number(), details.leaf, details.s)
+        }
+    }
+}
+
+fn digest(data: &[u8]) -> String {
+    let number = data.iter().fold(0xCBF2_9CE4_8422_2325_u64, |number, &byte| (number ^ u64::from(byte)).wrapping_mul(0x100_0000_01B3));
+    format!("{number:016x}")
+}
+
+#[test]
+fn answers_and_lent_bytes_are_the_models() {
+    let text = std::fs::read_to_string("tests/kvm.txt").expect("the list");
+    let mut seen = BTreeMap::new();
+    for (number, line) in text.lines().enumerate() {
+        let words: Vec<&str> = line.split(' ').collect();
+        let mut out;
+        let (answer, wanted) = match words[..] {
+            ["write", choice, edits, room, ref wanted @ ..] => {
+                out = vec![0xA5; room.parse().unwrap()];
+                (write_kvm(&edited(edits), choice == "1", &mut out), wanted)
+            }
+            ["read", parts, room, ref wanted @ ..] => {
+                out = vec![0xA5; room.parse().unwrap()];
+                (read_kvm(&listed(parts), &mut out), wanted)
+            }
+            _ => panic!("line {}: {line}", number + 1),
+        };
+        assert_eq!([told(answer), digest(&out)], wanted, "line {}: {line}", number + 1);
+        *seen.entry((words[0].to_string(), answer.err().map_or(0, |refusal| refusal.number()))).or_insert(0) += 1;
+    }
+    let numbers = |kind: &str| seen.keys().filter(|(k, _)| k == kind).map(|(_, number)| *number).collect::<Vec<_>>();
+    assert_eq!((numbers("write"), numbers("read")), (vec![0, 1, 2, 3, 4, 5, 6, 7, 8, 9], vec![0, 9, 10, 11, 12]));
+}

@@ -1,0 +1,111 @@
+/* A table's list through the kernel's own header: sizes, offsets and the flag's value; every field of every row against lookups. Where
+ * /dev/kvm can be opened, a new vCPU takes the list and gives the same functions, indices and flags back in the same order, and the list of
+ * KVM_GET_SUPPORTED_CPUID is written to a file, for from-kvm.
+ *
+ *   kvm_header PAGES SUPPORTED     the last line says what was compared; status 0 where all is equal, 3 where /dev/kvm cannot be opened
+ */
+#include <fcntl.h>
+#include <linux/kvm.h>
+#include <stdio.h>
+#include <stdlib.h>
+#include <string.h>
+#include <sys/ioctl.h>
+
+#include "snp_cpuid.h"
+
+_Static_assert(sizeof(struct kvm_cpuid2) == 8, "the head");
+_Static_assert(offsetof(struct kvm_cpuid2, nent) == 0, "the count");
+_Static_assert(offsetof(struct kvm_cpuid2, padding) == 4, "the zero word");
+_Static_assert(offsetof(struct kvm_cpuid2, entries) == 8, "the rows");
+_Static_assert(sizeof(struct kvm_cpuid_entry2) == 40, "a row");
+_Static_assert(offsetof(struct kvm_cpuid_entry2, function) == 0, "function");
+_Static_assert(offsetof(struct kvm_cpuid_entry2, index) == 4, "index");
+_Static_assert(offsetof(struct kvm_cpuid_entry2, flags) == 8, "flags");
+_Static_assert(offsetof(struct kvm_cpuid_entry2, eax) == 12, "EAX");
+_Static_assert(offsetof(struct kvm_cpuid_entry2, ebx) == 16, "EBX");
+_Static_assert(offsetof(struct kvm_cpuid_entry2, ecx) == 20, "ECX");
+_Static_assert(offsetof(struct kvm_cpuid_entry2, edx) == 24, "EDX");
+_Static_assert(offsetof(struct kvm_cpuid_entry2, padding) == 28, "padding");
+_Static_assert(KVM_CPUID_FLAG_SIGNIFCANT_INDEX == 1, "the flag of a row with a subleaf");
+
+enum { ROOM = 256 };
+
+static _Alignas(struct kvm_cpuid2) uint8_t list[8 + 40 * ROOM], given[8 + 40 * ROOM];
+
+static void check(int holds, const char *what) {
+    if (!holds) {
+        printf("%s\n", what);
+        exit(1);
+    }
+}
+
+/* Every field of the list against the library's own lookups; gives the number of rows. */
+static uint32_t rows_against_lookups(const uint8_t *pages, size_t length, bool avic) {
+    memset(list, 0xA5, sizeof list);
+    struct snp_cpuid_built built = snp_cpuid_build(pages, length, avic);
+    struct snp_cpuid_written written = snp_cpuid_write_kvm(pages, length, avic, list, sizeof list);
+    const struct kvm_cpuid2 *cpuid = (const struct kvm_cpuid2 *)list;
+    check(built.number == 0 && written.number == 0, "the pages are refused");
+    check(cpuid->nent == built.row_count && cpuid->padding == 0, "the head");
+    check(written.length == sizeof *cpuid + cpuid->nent * sizeof cpuid->entries[0], "the length");
+    for (uint32_t i = 0; i < cpuid->nent; i++) {
+        struct kvm_cpuid_entry2 row = cpuid->entries[i];
+        bool indexed = row.flags == KVM_CPUID_FLAG_SIGNIFCANT_INDEX;
+        struct snp_cpuid_found found = snp_cpuid_lookup(pages, length, avic, row.function, indexed, row.index, true);
+        check(indexed || (row.flags == 0 && row.index == 0), "flags or index of a row");
+        check(found.found && found.eax == row.eax && found.ebx == row.ebx && found.ecx == row.ecx && found.edx == row.edx, "registers of a row");
+        check(!row.padding[0] && !row.padding[1] && !row.padding[2], "padding of a row");
+        if (i > 0) {
+            struct kvm_cpuid_entry2 last = cpuid->entries[i - 1];
+            check(last.function < row.function || (last.function == row.function && last.index < row.index), "the order of rows");
+        }
+    }
+    check(list[written.length] == 0xA5, "a byte beyond the list");
+    return cpuid->nent;
+}
+
+/* A new vCPU takes the list and gives it back; the kernel may change registers that it owns. */
+static void given_to_kvm(int kvm) {
+    int vm = ioctl(kvm, KVM_CREATE_VM, 0);
+    int vcpu = vm < 0 ? -1 : ioctl(vm, KVM_CREATE_VCPU, 0);
+    struct kvm_cpuid2 *cpuid = (struct kvm_cpuid2 *)list, *back = (struct kvm_cpuid2 *)given;
+    check(vcpu >= 0, "KVM_CREATE_VCPU");
+    check(ioctl(vcpu, KVM_SET_CPUID2, cpuid) == 0, "KVM_SET_CPUID2 does not take the list");
+    back->nent = ROOM;
+    check(ioctl(vcpu, KVM_GET_CPUID2, back) == 0, "KVM_GET_CPUID2");
+    check(back->nent == cpuid->nent, "KVM_GET_CPUID2 gives another number of rows");
+    for (uint32_t i = 0; i < cpuid->nent; i++) {
+        struct kvm_cpuid_entry2 a = cpuid->entries[i], b = back->entries[i];
+        check(a.function == b.function && a.index == b.index && a.flags == b.flags, "KVM_GET_CPUID2 gives another row");
+    }
+}
+
+static uint32_t supported_to_file(int kvm, const char *name) {
+    struct kvm_cpuid2 *cpuid = (struct kvm_cpuid2 *)given;
+    memset(given, 0, sizeof given);
+    cpuid->nent = ROOM;
+    check(ioctl(kvm, KVM_GET_SUPPORTED_CPUID, cpuid) == 0, "KVM_GET_SUPPORTED_CPUID");
+    FILE *file = fopen(name, "wb");
+    size_t size = sizeof *cpuid + cpuid->nent * sizeof cpuid->entries[0];
+    check(file && fwrite(given, 1, size, file) == size && fclose(file) == 0, "the list of KVM_GET_SUPPORTED_CPUID cannot be written");
+    return cpuid->nent;
+}
+
+int main(int argc, char **argv) {
+    static uint8_t pages[1 << 16];
+    check(argc == 3, "kvm_header PAGES SUPPORTED");
+    FILE *file = fopen(argv[1], "rb");
+    check(file != NULL, "the pages cannot be opened");
+    size_t length = fread(pages, 1, sizeof pages, file);
+    uint32_t rows = rows_against_lookups(pages, length, true);
+    check(rows == rows_against_lookups(pages, length, false), "another number of rows under secure AVIC");
+    int kvm = open("/dev/kvm", O_RDWR);
+    if (kvm < 0) {
+        printf("%u rows are as <linux/kvm.h> has them; /dev/kvm cannot be opened\n", rows);
+        return 3;
+    }
+    given_to_kvm(kvm);
+    uint32_t supported = supported_to_file(kvm, argv[2]);
+    printf("%u rows are as <linux/kvm.h> has them, KVM_SET_CPUID2 takes them, KVM_GET_SUPPORTED_CPUID gives %u rows\n", rows, supported);
+    return 0;
+}
