@@ -25,6 +25,8 @@ extern "C" {
  *   4 INVLPGB is unavailable                       10 a list's length is under 8, or not 8 + 40 * its count
  *   5 a save-area size overflows                   11 a list has more than 64 rows for one page
  *                                                  12 a list's flag is not 0 or 1, or a word that is to be zero is not
+ *                                                  13 XCR0 or XSS is beyond the table
+ *                                                  14 a compacted save-area size overflows
  * A leaf, subleaf or s that the number does not name is 0. */
 
 /* What building gives. A refused table has row_count 0 and max_extended_state 0. */
@@ -74,10 +76,31 @@ struct snp_cpuid_compared {
     uint32_t register_index; /* 0 to 3: EAX, EBX, ECX, EDX */
 };
 
+/* What writing a line gives: is_line 0, all others 0, where there is no such line, which is no numbered refusal; else is_line 1 with number 0 and
+ * the line's length, or number 9 and length 0. */
+struct snp_cpuid_line_written {
+    uint32_t is_line;
+    uint32_t number;
+    uint64_t length;
+};
+
+/* What a line says: is_line 1 with the number and its details, or all zeros where the bytes are no line. */
+struct snp_cpuid_line_read {
+    uint32_t is_line;
+    uint32_t number;
+    uint32_t leaf;
+    uint32_t has_subleaf; /* 1 where a subleaf is named */
+    uint32_t subleaf;
+    uint32_t s;
+};
+
 /* The most bytes that an image can have, and a list for KVM; and the two pages that a list is read into. */
 #define SNP_CPUID_MOST_IMAGE_BYTES 732
 #define SNP_CPUID_MOST_KVM_BYTES 1288
 #define SNP_CPUID_KVM_PAGES_BYTES 8192
+
+/* The most bytes that a line can have. */
+#define SNP_CPUID_MOST_LINE_BYTES 22
 
 /* Builds the table of the given pages. secure_avic adds one bit to the mask of 8000001Fh.EAX. */
 struct snp_cpuid_built snp_cpuid_build(const uint8_t *pages, size_t length, bool secure_avic);
@@ -102,12 +125,44 @@ struct snp_cpuid_written snp_cpuid_write_kvm(const uint8_t *pages, size_t length
  * as EAX_IN and index as ECX_IN, all other bytes of the pages 0. Refusals in this order: 10, 12, 11, 9. Where it refuses, out is as it was;
  * bytes beyond the pages are as they were. */
 struct snp_cpuid_written snp_cpuid_read_kvm(const uint8_t *list, size_t length, uint8_t *out, size_t room);
+/* What the guest of one processor sees, which differs from the paravisor's row. The functions below take the processor's x2APIC number,
+ * its XCR0 and XSS, and whether OSXSAVE is on. Of the table of the pages, 1.EBX bits 24-31, B.0.EDX and B.1.EDX have the number; 1.ECX
+ * bit 27 is set where osxsave is true and bit 26 is set; D.0.EBX is the size of the save area of XCR0, and D.1.EBX that of the compacted
+ * area of XCR0 and XSS, or 0 where the processor has neither XSAVEC nor XSAVES. After building's refusals: 13 where XCR0 lacks bit 0 or
+ * has a bit that D.0.EAX lacks, or XSS one that D.1.ECX lacks; then 14 where the compacted size does not fit 32 bits. */
+
+/* Builds, and tells whether the guest is given its table, which has the rows and the mask of the paravisor's. */
+struct snp_cpuid_built snp_cpuid_guest_build(const uint8_t *pages, size_t length, bool secure_avic, uint32_t x2apic, uint64_t xcr0,
+                                             uint64_t xss, bool osxsave);
+
+/* Builds, and looks a row up in the guest's table as snp_cpuid_lookup does. Nothing is found where the answer is a refusal. */
+struct snp_cpuid_found snp_cpuid_guest_lookup(const uint8_t *pages, size_t length, bool secure_avic, uint32_t x2apic, uint64_t xcr0,
+                                              uint64_t xss, bool osxsave, uint32_t leaf, bool has_subleaf, uint32_t subleaf,
+                                              bool enforce_subleaf);
+
+/* Builds, and writes the image of the guest's table at the front of out, as snp_cpuid_write_image does; 9 comes after 13 and 14. */
+struct snp_cpuid_written snp_cpuid_write_guest_image(const uint8_t *pages, size_t length, bool secure_avic, uint32_t x2apic, uint64_t xcr0,
+                                                     uint64_t xss, bool osxsave, uint8_t *out, size_t room);
 
 /* Compares two servers by their pages, under one choice of secure AVIC: may a guest of A move to B? Registers are compared as masked,
  * D.0.EAX with bits 0 and 1 set on both sides. After a yes, building B gives a table with every row of A's, at least A's bits in every
  * feature register, a save area no smaller and all else equal; or refuses it by 3, for a subleaf of leaf Dh that B's own further state
  * needs, or by 5. */
 struct snp_cpuid_compared snp_cpuid_compare(const uint8_t *a, size_t a_length, const uint8_t *b, size_t b_length, bool secure_avic);
+
+/* A refusal as one line of ASCII: the number in decimal, then, each after one space, the details that it names, leaf in eight hexadecimal capitals,
+ * subleaf (left out where there is none) and s in decimal, and a newline. The numbers in use, by what they name:
+ *   nothing: 1 2 4 5 8 9 10 11 12 13 14
+ *   leaf and subleaf: 3
+ *   s: 6 7
+ * Writes the line at the front of out. subleaf is read only where has_subleaf is true. There is no such line where the number is not in use, s is
+ * above 255, or a detail is set that the number does not name: a leaf or s that is not 0, or a subleaf. Then, and for number 9, where room is shorter
+ * than the line, out is as it was; bytes beyond the line are as they were. */
+struct snp_cpuid_line_written snp_cpuid_write_line(uint32_t number, uint32_t leaf, bool has_subleaf, uint32_t subleaf, uint32_t s, uint8_t *out,
+                                                   size_t room);
+
+/* Reads the length bytes at line, the whole of them. They are a line exactly where snp_cpuid_write_line writes the same bytes for what they say. */
+struct snp_cpuid_line_read snp_cpuid_read_line(const uint8_t *line, size_t length);
 
 #ifdef __cplusplus
 }

@@ -187,13 +187,31 @@ def processors(s, nc, lps, mt):
     return v
 
 
+def shift(v):
+    """Document 02, P5: "The shift in B.1 becomes the least k with 2^k at least v." """
+    return next(k for k in range(16) if 2 ** k >= v)
+
+
 def topology(s, nc, lps, mt, t):
-    """B.0 and B.1, or refusals 6, 7 and 8. "the shift is the place of the highest one bit of v." """
+    """B.0 and B.1, or refusals 6, 7 and 8."""
     v = processors(s, nc, lps, mt)
     if t > 1 or t >= v:
         raise Refusal(8)
     threads = [1, 2, 0x100, 0] if t == 1 else [0, 1, 0x100, 0]
-    return threads, [v.bit_length() - 1, v, 0x201, 0]
+    return threads, [shift(v), v, 0x201, 0]
+
+
+def rust_shift(v):
+    """Document 01: "As in the Rust, the shift is the place of the highest one bit of v." """
+    return v.bit_length() - 1
+
+
+def rust_answer(answer):
+    """The answer with "the Rust's lower figure", which is expected where v is no power of two: B.1.EAX is the Rust's shift."""
+    if answer[0] == 'refusal':
+        return answer
+    _, v, *rest = answer[1][0xB, 1]
+    return answer[0], {**answer[1], (0xB, 1): (rust_shift(v), v, *rest)}, *answer[2:]
 
 
 # The public functions

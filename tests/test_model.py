@@ -34,7 +34,7 @@ class MarkedRows(unittest.TestCase):
     TOPOLOGY = {
         'T1': ((0, 0, 0, 0, 0), (0, 1)),
         'T2': ((0, 0, 2, 0, 0), refusal(6)),
-        'T3': ((0, 2, 3, 1, 0), (1, 3)),
+        'T3': ((0, 2, 3, 1, 0), (2, 3)),  # document 02, P5: "T3 now has EAX 2"
         'T4': ((0, 255, 0, 1, 0), refusal(7)),
         'T5': ((7, 127, 128, 1, 1), (7, 128)),
         'T6': ((7, 128, 128, 1, 0), refusal(7, s=7)),
@@ -228,7 +228,7 @@ class Refusals(unittest.TestCase):
             self.assertEqual(built(with_topology(rich(), *inputs)), refusal(number, s=inputs[0]))
         for inputs in (0, 0, 0, 0, 1), (7, 127, 128, 1, 2), (15, 255, 255, 1, 255):
             self.assertEqual(built(with_topology(rich(), *inputs)), refusal(8))
-        self.assertEqual(row(built(with_topology(rich(), 0, 254, 255, 1, 1)), 0xB, 1)[:2], (7, 255))
+        self.assertEqual(row(built(with_topology(rich(), 0, 254, 255, 1, 1)), 0xB, 1)[:2], (8, 255))
 
     def test_number_of_lawful_topologies(self):
         # document 02, P14: 511 for s = 0 and 508 for s = 1 to 7

@@ -1,4 +1,4 @@
-"""Tests of the gate's own script, tests/run, with commands in place of rt, python3, cargo, nm and cpuid that print what a case asks for."""
+"""Tests of the gate's own script, tests/run, with commands in place of rt, python3, cargo, gcc, nm and cpuid that print what a case asks for."""
 from pathlib import Path
 import os
 import shutil
@@ -11,12 +11,13 @@ MANY = '99999999 tests ran'
 
 
 class Gate(unittest.TestCase):
-    def run_gate(self, said=MANY, status=0, proofs='7 passed, 0 failed', words=()):
+    def run_gate(self, said=MANY, status=0, proofs='7 passed, 0 failed', words=(), kvm=True):
         """(exit status, lines): what every test says last, with which status, and what rt ci says."""
         commands = {
             'rt': f'[ "$1" != ci ] || echo "{proofs}"',
             'python3': f'echo "{said}"; exit {status}',
-            'nm': 'for i in 1 2 3 4 5; do echo "0 T snp_cpuid_$i"; done',
+            'gcc': 'mkdir -p target && printf "#!/bin/sh\\necho 24 registers\\n" >target/kvm_guest && chmod +x target/kvm_guest',
+            'nm': 'for i in 1 2 3 4 5 6 7 8 9 10 11 12; do echo "0 T snp_cpuid_$i"; done',
             'cpuid': 'echo "cpuid: no such device" >&2; exit 1',
         }
         with tempfile.TemporaryDirectory() as folder:
@@ -28,25 +29,25 @@ class Gate(unittest.TestCase):
                 (bin_folder / name).write_text(f'#!/bin/sh\n{script}\n')
                 (bin_folder / name).chmod(0o755)
             shutil.copy(GATE, tests)
-            environment = {**os.environ, 'PATH': f'{bin_folder}:{os.environ["PATH"]}', 'OPENVMM_CVM_CPUID': ''}
+            environment = {**os.environ, 'PATH': f'{bin_folder}:{os.environ["PATH"]}', 'OPENVMM_CVM_CPUID': '', 'KVM_DEVICE': str(bin_folder if kvm else bin_folder / 'none')}
             ran = subprocess.run([tests / 'run', *words], env=environment, capture_output=True, text=True, check=False)
             return ran.returncode, ran.stdout.splitlines()
 
     def test_all_pass(self):
         status, lines = self.run_gate()
-        self.assertEqual((status, lines[-1]), (0, '15 passed, 0 failed'))
+        self.assertEqual((status, lines[-1]), (0, '18 passed, 0 failed'))
         self.assertEqual(lines[-2], '3 passed over: 3 comparisons with the Rust, which is not at hand (differential/README.md)')
 
     def test_a_test_that_ran_nothing_or_does_not_say_fails(self):
         for said in '0 tests ran', '1 tests ran', 'OK', '':
             status, lines = self.run_gate(said)
-            self.assertEqual((status, lines[-1]), (1, '8 passed, 7 failed'), said)
+            self.assertEqual((status, lines[-1]), (1, '9 passed, 9 failed'), said)
 
     def test_a_status_that_is_not_0_fails(self):
-        self.assertEqual(self.run_gate(status=1)[1][-1], '8 passed, 7 failed')
+        self.assertEqual(self.run_gate(status=1)[1][-1], '9 passed, 9 failed')
 
     def test_proofs_that_fail(self):
-        for proofs, last in ('6 passed, 1 failed', '14 passed, 1 failed'), ('rt: out of memory', '8 passed, 1 failed'), ('', '8 passed, 1 failed'):
+        for proofs, last in ('6 passed, 1 failed', '17 passed, 1 failed'), ('rt: out of memory', '11 passed, 1 failed'), ('', '11 passed, 1 failed'):
             status, lines = self.run_gate(proofs=proofs)
             self.assertEqual((status, lines[-1]), (1, last))
 
@@ -55,9 +56,14 @@ class Gate(unittest.TestCase):
         self.assertTrue(lines[-2].startswith(
             "7 passed over: 4 tests that decode dumps, as Debian's cpuid is there and fails: cpuid: no such device; 3 comparisons"), lines[-2])
 
+    def test_without_kvm(self):
+        status, lines = self.run_gate(kvm=False)
+        self.assertEqual((status, lines[-1]), (0, '17 passed, 0 failed'))
+        self.assertTrue(lines[-2].startswith("4 passed over: a guest's own CPUID, as "), lines[-2])
+
     def test_without_proofs(self):
         status, lines = self.run_gate(words=['--no-proofs'])
-        self.assertEqual((status, lines[-1]), (0, '7 passed, 0 failed'))
+        self.assertEqual((status, lines[-1]), (0, '10 passed, 0 failed'))
         self.assertTrue(lines[-2].startswith('5 passed over: the proofs, as asked; why the edits are refused'), lines[-2])
 
 

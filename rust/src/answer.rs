@@ -1,7 +1,7 @@
 //! The plain numbers by which every exported function tells a refusal, read in one place.
 
-use crate::exports::{Built, Compared, Written};
-use crate::{Details, Refusal};
+use crate::exports::{Built, Compared, Found, LineRead, Written};
+use crate::{CpuidResult, Details, Refusal};
 
 /// An answer of an exported function that may be a refusal.
 pub(crate) trait Answer: Copy {
@@ -29,11 +29,18 @@ macro_rules! answers {
             }
 
             fn details(&self) -> Details {
-                // s is cut from four bits
+                // s is cut from four bits, or was read from a line, which has eight
                 Details { leaf: self.leaf, subleaf: (self.has_subleaf != 0).then_some(self.subleaf), s: self.s as u8 }
             }
         })*
     };
 }
 
-answers!(Built, Written, Compared);
+answers!(Built, Written, Compared, LineRead);
+
+impl Found {
+    /// The registers that a lookup found.
+    pub(crate) fn result(self) -> Option<CpuidResult> {
+        (self.found != 0).then_some(CpuidResult { eax: self.eax, ebx: self.ebx, ecx: self.ecx, edx: self.edx })
+    }
+}

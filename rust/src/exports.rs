@@ -48,6 +48,25 @@ pub struct Compared {
     pub register_index: u32,
 }
 
+#[repr(C)]
+#[derive(Clone, Copy, Debug, Default, PartialEq, Eq)]
+pub struct LineWritten {
+    pub is_line: u32,
+    pub number: u32,
+    pub length: u64,
+}
+
+#[repr(C)]
+#[derive(Clone, Copy, Debug, Default, PartialEq, Eq)]
+pub struct LineRead {
+    pub is_line: u32,
+    pub number: u32,
+    pub leaf: u32,
+    pub has_subleaf: u32,
+    pub subleaf: u32,
+    pub s: u32,
+}
+
 unsafe extern "C" {
     pub fn snp_cpuid_build(pages: *const u8, length: usize, secure_avic: bool) -> Built;
     pub fn snp_cpuid_lookup(
@@ -62,5 +81,32 @@ unsafe extern "C" {
     pub fn snp_cpuid_write_image(pages: *const u8, length: usize, secure_avic: bool, out: *mut u8, room: usize) -> Written;
     pub fn snp_cpuid_write_kvm(pages: *const u8, length: usize, secure_avic: bool, out: *mut u8, room: usize) -> Written;
     pub fn snp_cpuid_read_kvm(list: *const u8, length: usize, out: *mut u8, room: usize) -> Written;
+    pub fn snp_cpuid_guest_build(pages: *const u8, length: usize, secure_avic: bool, x2apic: u32, xcr0: u64, xss: u64, osxsave: bool) -> Built;
+    pub fn snp_cpuid_guest_lookup(
+        pages: *const u8,
+        length: usize,
+        secure_avic: bool,
+        x2apic: u32,
+        xcr0: u64,
+        xss: u64,
+        osxsave: bool,
+        leaf: u32,
+        has_subleaf: bool,
+        subleaf: u32,
+        enforce_subleaf: bool,
+    ) -> Found;
+    pub fn snp_cpuid_write_guest_image(
+        pages: *const u8,
+        length: usize,
+        secure_avic: bool,
+        x2apic: u32,
+        xcr0: u64,
+        xss: u64,
+        osxsave: bool,
+        out: *mut u8,
+        room: usize,
+    ) -> Written;
     pub fn snp_cpuid_compare(a: *const u8, a_length: usize, b: *const u8, b_length: usize, secure_avic: bool) -> Compared;
+    pub fn snp_cpuid_write_line(number: u32, leaf: u32, has_subleaf: bool, subleaf: u32, s: u32, out: *mut u8, room: usize) -> LineWritten;
+    pub fn snp_cpuid_read_line(line: *const u8, length: usize) -> LineRead;
 }

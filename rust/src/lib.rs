@@ -19,6 +19,8 @@ mod answer;
 mod comparison;
 pub mod exports;
 mod kvm;
+mod guest;
+mod line;
 mod refusal;
 mod table;
 
@@ -26,6 +28,8 @@ use answer::Answer;
 
 pub use comparison::{Comparison, Register};
 pub use kvm::{KVM_PAGES_BYTES, MOST_KVM_BYTES, read_kvm, write_kvm};
+pub use guest::{Processor, guest, guest_lookup, write_guest_image};
+pub use line::NoSuchLine;
 pub use refusal::{Details, Refusal, TopologyError};
 pub use table::{CpuidResult, Row, Rows, Table};
 
@@ -34,6 +38,9 @@ pub const PAGE_BYTES: usize = 4096;
 
 /// The most bytes that an image can have.
 pub const MOST_IMAGE_BYTES: usize = 732;
+
+/// The most bytes that a refusal's line can have.
+pub const MOST_LINE_BYTES: usize = 22;
 
 /// Builds the table of CPUID pages that stand end to end. `secure_avic` adds one bit to the mask of 8000001Fh.EAX.
 pub fn build(pages: &[u8], secure_avic: bool) -> Result<Table, Refusal> {
@@ -58,7 +65,7 @@ pub fn lookup(pages: &[u8], secure_avic: bool, leaf: u32, subleaf: Option<u32>, 
     let found = unsafe {
         exports::snp_cpuid_lookup(pages.as_ptr(), pages.len(), secure_avic, leaf, subleaf.is_some(), subleaf.unwrap_or(0), enforce_subleaf)
     };
-    (found.found != 0).then_some(CpuidResult { eax: found.eax, ebx: found.ebx, ecx: found.ecx, edx: found.edx })
+    found.result()
 }
 
 /// Compares two servers by their pages, under one choice of secure AVIC: may a guest of `a` move to `b`?

@@ -26,6 +26,10 @@ pub enum Refusal {
     ListRows,
     /// 12: a flag of a list is not 0 or 1, or a word that is to be zero is not.
     ListFields,
+    /// 13: XCR0 lacks bit 0, or XCR0 or XSS has a bit that the table does not.
+    StateBeyondTable,
+    /// 14: the size of the compacted save area of XCR0 and XSS does not fit 32 bits.
+    CompactSizeTooLarge,
 }
 
 /// How the topology leaves disagree. The number is s, bits 12 to 15 of 80000008h.ECX: the size of the APIC core id.
@@ -110,12 +114,22 @@ const TABLE: &[Line] = &[
         name: |_| Refusal::ListFields,
         words: |_| "the list for KVM has a flag other than 0 or 1, or a word that must be zero is not".into(),
     },
+    Line {
+        number: 13,
+        name: |_| Refusal::StateBeyondTable,
+        words: |_| "XCR0 lacks bit 0 (x87) or has a bit that D.0.EAX lacks, or XSS has a bit that D.1.ECX lacks".into(),
+    },
+    Line {
+        number: 14,
+        name: |_| Refusal::CompactSizeTooLarge,
+        words: |_| "the size of the compacted save area of XCR0 and XSS (D.1.EBX) does not fit 32 bits".into(),
+    },
 ];
 
 impl Refusal {
     /// Its number.
     pub fn number(&self) -> u32 {
-        self.line().number
+        self.row().number
     }
 
     /// What it names beside its number.
@@ -131,26 +145,30 @@ impl Refusal {
             | Refusal::BufferTooShort
             | Refusal::ListLength
             | Refusal::ListRows
-            | Refusal::ListFields => Details::default(),
+            | Refusal::ListFields
+            | Refusal::StateBeyondTable
+            | Refusal::CompactSizeTooLarge => Details::default(),
         }
     }
 
     /// The refusal of a number, with those of the details that it names.
     pub(crate) fn of(number: u32, details: Details) -> Refusal {
-        match TABLE.iter().find(|line| line.number == number) {
-            Some(line) => (line.name)(details),
-            // the library is proved to give no other number
-            None => unreachable!("answer {number}"),
-        }
+        // the library is proved to give no other number
+        Refusal::named(number, details).unwrap_or_else(|| unreachable!("answer {number}"))
     }
 
-    /// Its line of the table: the one whose name with its details it is.
-    fn line(&self) -> &'static Line {
+    /// The refusal of a number, if the table has it.
+    pub(crate) fn named(number: u32, details: Details) -> Option<Refusal> {
+        TABLE.iter().find(|line| line.number == number).map(|line| (line.name)(details))
+    }
+
+    /// Its row of the table: the one whose name with its details it is.
+    fn row(&self) -> &'static Line {
         TABLE.iter().find(|line| (line.name)(self.details()) == *self).expect("every refusal stands in the table")
     }
 
     fn words(&self) -> String {
-        (self.line().words)(self.details())
+        (self.row().words)(self.details())
     }
 }
 
@@ -203,6 +221,8 @@ mod tests {
             (10, none, Refusal::ListLength),
             (11, none, Refusal::ListRows),
             (12, none, Refusal::ListFields),
+            (13, none, Refusal::StateBeyondTable),
+            (14, none, Refusal::CompactSizeTooLarge),
         ] {
             assert_eq!((refusal.number(), refusal.details()), (number, named));
             assert_eq!(Refusal::of(number, named), refusal);

@@ -90,8 +90,10 @@ fn declarations_are_the_headers() {
 }
 
 #[test]
-fn the_constant_is_the_headers() {
+fn the_constants_are_the_headers() {
     let text = read("../include/snp_cpuid.h");
-    let line = text.lines().find_map(|l| l.strip_prefix("#define SNP_CPUID_MOST_IMAGE_BYTES ")).expect("the constant");
-    assert_eq!(line.trim().parse(), Ok(snp_cpuid::MOST_IMAGE_BYTES));
+    for (name, value) in [("IMAGE", snp_cpuid::MOST_IMAGE_BYTES), ("LINE", snp_cpuid::MOST_LINE_BYTES)] {
+        let line = text.lines().find_map(|l| l.strip_prefix(&format!("#define SNP_CPUID_MOST_{name}_BYTES "))).expect("the constant");
+        assert_eq!(line.trim().parse(), Ok(value));
+    }
 }

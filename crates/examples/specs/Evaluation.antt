@@ -11,7 +11,7 @@ use Rattle.pages.specs.Layout.{entryAt, badLength, countsFit}
 use Rattle.pages.specs.Entries.{onPage, onPages, entries, counts, counted}
 use Rattle.masking.specs.Masks.{versionAndFeatures, extendedFeatures, extendedState0, extendedState1, extendedVersionAndFeatures, extendedAddressSpaceSizes, extendedSvm, extendedOptimization, extendedSev, secureAvicMask}
 use Rattle.masking.specs.Kept.{keptLeaves, placeOf, slot}
-use Rattle.topology.specs.Topology.{threadsIn, topologyOf, highestOf, shiftOf}
+use Rattle.topology.specs.Topology.{threadsIn, topologyOf, leastPower, shiftOf}
 use Rattle.checks.specs.Required.{commonRequiredLeaves, snpRequiredLeaves, requiredAt, placeRequired}
 use Rattle.checks.specs.ExtendedState.{xfem, xss, combinedMask, areaBelow, sizeOf}
 use Rattle.checks.specs.TopologyInputs.{inputsOf}
@@ -29,7 +29,7 @@ unfolding answer verdictOf lawfulVerdict lengthVerdict countsVerdict badLength c
     keepIf entries onPages onPage entryAt counts placeOf keptLeaves slot versionAndFeatures extendedFeatures extendedState0 extendedState1
     extendedVersionAndFeatures extendedAddressSpaceSizes extendedSvm extendedOptimization extendedSev secureAvicMask fieldsMask fieldMask maskOf
     legacyFeatures xfem xss combinedMask areaBelow sizeOf has bit field inputsOf topologyOf threadsIn tabulate sumTo countRows finished settings
-    enabledBy highestOf shiftOf clear clearUnless versionEcx featuresEbx featuresEcx featuresEdx extendedVersionEdx addressSizesEbx unlessNoXss
+    enabledBy leastPower shiftOf clear clearUnless versionEcx featuresEbx featuresEcx featuresEdx extendedVersionEdx addressSizesEbx unlessNoXss
     ymmVersionEcx ymmFeaturesEbx ymmFeaturesEcx avx512FeaturesEbx avx512FeaturesEcx avx512FeaturesEdx cetSs rdPid rdtscp ibrsAndStibp btcNo
     hypervisorPresent AmdMaximum ExtendedAmdMaximum registerKinds kindsAt
 evaluated avic s = answer avic s

@@ -85,7 +85,7 @@ marked =
 pub marked-rows : marked
     ≡ core 0 1
     ∷ refusal 6
-    ∷ core 1 3
+    ∷ core 2 3
     ∷ refusal 7
     ∷ core 7 128
     ∷ refusal 7

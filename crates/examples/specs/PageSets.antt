@@ -14,7 +14,7 @@ abbrev pub page : ℕ → List ℕ → List ℕ
 page count entries = word count ++ replicate 12 0 ++ entries ++ replicate (4080 - length entries) 0
 
 -- page 0: every required leaf but Dh, with the given 1.ECX, 7.0.EBX and 8000001Fh.EAX; one processor
-abbrev firstPage : ℕ → ℕ → ℕ → List ℕ
+abbrev pub firstPage : ℕ → ℕ → ℕ → List ℕ
 firstPage versionEcx featuresEbx sevEax =
     page 22
     (entry 1 0 0xA00F11 0x10000 versionEcx 0x178BFBFF

@@ -75,6 +75,8 @@ pub fn refusal_numbers(refusal: Refusal) -> AnswerNumbers
         Refusal::ListLength => sized(10, 0),
         Refusal::ListRows => sized(11, 0),
         Refusal::ListFields => sized(12, 0),
+        Refusal::StateBeyondTable => sized(13, 0),
+        Refusal::CompactSizeTooLarge => sized(14, 0),
     }
 }
 

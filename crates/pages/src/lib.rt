@@ -162,22 +162,26 @@ pub fn entry_at(pages: &[u8], index: CpuidPageIndex) -> ParsedCpuidEntry
     }
 }
 
-// The first entry of the `left` pages from `page` on, or the end. Past an empty page it calls itself on the pages left.
+// The first entry of the `left` pages from `page` on, or the end: empty pages are passed over, as in the source's `next_valid_index`.
 fn skip_empty(pages: &[u8], page: usize, left: usize) -> CpuidPageIndex
     requires { ⌜ page + left ≡ pagesIn (now pages) ⌝ }
     ensures { λ r. ⌜ r ≡ firstFrom (now (pages .entry)) page ⌝ }
 {
-    let start = CpuidPageIndex {
-        page_index: page,
+    let end = page + left;
+    let mut at = page;
+    while at < end {
+        if count_of(pages, at) != 0 {
+            return CpuidPageIndex {
+                page_index: at,
+                function_index: 0,
+            };
+        }
+        at += 1;
+    }
+    CpuidPageIndex {
+        page_index: at,
         function_index: 0,
-    };
-    if left == 0 {
-        return start;
     }
-    if count_of(pages, page) == 0 {
-        return skip_empty(pages, page + 1, left - 1);
-    }
-    start
 }
 
 // The byte at `i`.

@@ -51,7 +51,7 @@ builds-exactly avic s = go (answer-judged avic s)
 -- ---- writing
 
 -- building's refusals are numbered below 9, the short buffer's number
-fault-number : (avic : Bool) (s : List ℕ) (c : Check) (r : Refusal) → Fault avic s c r → details r .number < 9
+pub fault-number : (avic : Bool) (s : List ℕ) (c : Check) (r : Refusal) → Fault avic s c r → details r .number < 9
 fault-number avic s pagesLength r f = rw (f .1) (lit< tt)
 fault-number avic s pageCounts r f = rw (f .1) (lit< tt)
 fault-number avic s requiredLeaves r f = rw (f .2) (lit< tt)

@@ -16,6 +16,8 @@ ghost use Rattle.compare.specs.Means.{order};
 ghost use Rattle.snp_cpuid.specs.Exports.{builtNumbers, foundNumbers, writtenNumbers, comparedWith, comparedNumbers, subleafOf};
 
 mod kvm;
+mod guest_exports;
+mod line_exports;
 
 #[repr(C)]
 pub struct SnpCpuidBuilt {

@@ -1,12 +1,12 @@
 -- Document 01, "Where each check stands": the number of each refusal, and the leaf, subleaf and s that it carries; those not named
--- are 0 or none. Document 02, P2: 10, 11 and 12 of a list for KVM, by themselves.
+-- are 0 or none. Numbers from 10 up are document 02's.
 use Prim.Native.Nat.{ℕ}
 use Rattle.topology.specs.declared.TopologyError.{TopologyError}
 use Rattle.topology.specs.declared.TopologyError.the-variants.{Hyperthreading, ProcessorCount, ThreadsPerUnit}
 use Rattle.table.specs.declared.Subleaf.{Subleaf}
 use Rattle.table.specs.declared.Subleaf.the-variants.{None}
 use Rattle.table.specs.declared.Refusal.{Refusal}
-use Rattle.table.specs.declared.Refusal.the-variants.{PagesLength, PageCount, MissingRequiredResult, InvlpgbUnavailable, SaveAreaOverflow, TopologyInconsistent, BufferTooShort, ListLength, ListRows, ListFields}
+use Rattle.table.specs.declared.Refusal.the-variants.{PagesLength, PageCount, MissingRequiredResult, InvlpgbUnavailable, SaveAreaOverflow, TopologyInconsistent, BufferTooShort, ListLength, ListRows, ListFields, StateBeyondTable, CompactSizeTooLarge}
 use Rattle.table.specs.declared.Verdict.{Verdict}
 use Rattle.table.specs.declared.Verdict.the-variants.{Accepted, Refused}
 
@@ -39,6 +39,8 @@ details BufferTooShort = alone 9
 details ListLength = alone 10
 details ListRows = alone 11
 details ListFields = alone 12
+details StateBeyondTable = alone 13
+details CompactSizeTooLarge = alone 14
 
 -- the first check that fails decides
 abbrev pub andThen : Verdict → Verdict → Verdict

@@ -12,7 +12,7 @@ pub enum Subleaf {
     Some(u32),
 }
 
-// Why no table is given. specs/Refusal.antt has the number and details of each.
+// Why no table is given, or no answer from one. specs/Refusal.antt has the number and the details of each.
 pub enum Refusal {
     PagesLength,
     PageCount,
@@ -24,6 +24,8 @@ pub enum Refusal {
     ListLength,
     ListRows,
     ListFields,
+    StateBeyondTable,
+    CompactSizeTooLarge,
 }
 
 pub enum Verdict {

@@ -2,21 +2,29 @@
 -- code to the definition: `build::build` promises `answer`, and every other entry point an equation with a definition over it.
 -- `answer avic s` is the answer of the definition (crates/build/specs/Build.antt) to the page bytes s under the secure-AVIC choice avic.
 use mathlib.Core.Path.{_≡_}
-use mathlib.Core.Bool.{Bool, false}
-use mathlib.Core.List.{List, [], _∷_, map}
-use Prim.Native.Nat.{ℕ, _≤_, _<_}
+use mathlib.Core.Bool.{Bool, true, false}
+use mathlib.Core.List.{List, [], _∷_, map, _++_}
+use Prim.Native.Nat.{ℕ, _≤_, _<_, _^_}
 use lib.ListN.{length, replicate, take}
 use Rattle.x86defs.specs.Functions.{result, VersionAndFeatures, ExtendedStateEnumeration}
 use Rattle.x86defs.specs.declared.CpuidFunction.{CpuidFunction}
 use Rattle.table.specs.declared.Subleaf.{Subleaf}
 use Rattle.table.specs.declared.Subleaf.the-variants.{None, Some}
 use Rattle.table.specs.declared.Refusal.{Refusal}
-use Rattle.table.specs.declared.Refusal.the-variants.{PagesLength, MissingRequiredResult, SaveAreaOverflow, BufferTooShort, ListLength, ListRows, ListFields}
+use Rattle.table.specs.declared.Refusal.the-variants.{PagesLength, MissingRequiredResult, SaveAreaOverflow, BufferTooShort, ListLength, ListRows, ListFields, StateBeyondTable, CompactSizeTooLarge}
 use Rattle.table.specs.declared.CpuidResults.{CpuidResults}
+use Rattle.table.specs.Rows.{Rows}
+use Rattle.table.specs.Table.{rowIn, rowsIn}
+use Rattle.checks.specs.ExtendedState.{saveArea}
 use Rattle.table.specs.declared.Verdict.the-variants.{Accepted, Refused}
 use Rattle.bits.specs.Lists.{keepIf}
+use Rattle.topology.specs.declared.Topology.the-variants.{Processors}
+use Rattle.topology.specs.Topology.{Inputs, topologyOf, shiftOf}
+use Rattle.topology.specs.TopologyLaws.{LeastShift, shift-least}
+use Rattle.topology.specs.ShiftChange.{HighestBit, ShiftChange, shift-changes, three-and-128}
 use Rattle.pages.specs.Entries.{entries, counted}
 use Rattle.masking.specs.Kept.{places}
+use Rattle.masking.specs.Place
 use Rattle.pages.specs.Walk.{firstIndex, parsed, countsRead}
 use Rattle.build.specs.Build.{answer}
 use Rattle.reader.specs.Read.{given}
@@ -32,19 +40,44 @@ use Rattle.counts.specs.CountsProof.{rows-counted, at-most-32, at-most-732, sin
 use Rattle.images.specs.Images.{ImageAscends, EqualImages}
 use Rattle.images.specs.AscendLaws.{image-ascends}
 use Rattle.images.specs.ImagesProof.{equal-images}
-use Rattle.rise.specs.Rise.{RiseHypothesis, HypothesisByTheLetter, RiseConclusion}
+use Rattle.rise.specs.Rise.{RiseHypothesis, HypothesisByTheLetter, RiseConclusion, TableRises}
 use Rattle.rise.specs.RiseProof.{demand-3, demand-3-by-the-letter}
 use Rattle.rise.specs.Same.{rises-itself, same-figures}
 use Rattle.compare.specs.declared.Register.the-variants.{Ecx}
 use Rattle.compare.specs.declared.Compared.the-variants.{Rises as Yes, RefusedA, UnlawfulB, NoEntry, Differs}
 use Rattle.compare.specs.Compare.{compared}
 use Rattle.compare.specs.Means.{Decides}
-use Rattle.table.specs.declared.CpuidResults.{CpuidResults}
 use Rattle.table.specs.Order.{Precedes}
 use Rattle.table.specs.OrderLaws.{places-rise}
 use Rattle.compare.specs.DecidesProof.{decides}
-use Rattle.theorems.specs.Exported.{ExportsRise, ExportsCompare, exports-rise, exports-compare}
+use Rattle.buffer.specs.WritesExactly.{FrontExactly}
+use Rattle.guest.specs.declared.Processor.{Processor}
+use Rattle.guest.specs.State.{stateVerdict}
+use Rattle.guest.specs.Guest.{guestTable, refusedAnswer}
+use Rattle.guest_pages.specs.GuestPages.{guestPages, writeGuest}
+use Rattle.guest_rise.specs.StateExactly.{StateAnswers, state-answers}
+use Rattle.guest_rise.specs.GuestExactly.{GuestExactly, guest-exactly, guest-writes-exactly}
+use Rattle.guest_rise.specs.GuestRise.{GuestRise, GuestOutcome, compactsIn}
+use Rattle.guest_rise.specs.GuestRiseProof as GuestRiseProof
+use Rattle.guest_rise.specs.SeenRises as Seen
+use Rattle.guest_examples.specs.CompactSizes.{sizes, sizes-are}
+use Rattle.guest_examples.specs.Seen.{processor, figures}
+use Rattle.guest_examples.specs.Views as Views
+use Rattle.guest_exception.specs.Exception as Exception
+use Rattle.table.specs.Refusal.{details}
 use Rattle.buffer.specs.declared.Written.the-variants.{Bytes, Refused as NotWritten}
+use Rattle.lines.specs.declared.LineDetails.{LineDetails}
+use Rattle.lines.specs.declared.LineWritten.the-variants.{Line as Answered, NoSuchLine as NoLineWritten}
+use Rattle.lines.specs.declared.LineRead.the-variants.{Line as Says, NoSuchLine as SaysNothing}
+use Rattle.lines.specs.Line.{Fits, mostS, writable, line}
+use Rattle.lines.specs.LineLaws.{at-most-22}
+use Rattle.lines.specs.WriteLine.{leaves, writeLine}
+use Rattle.lines.specs.ReadLine.{readLine}
+use Rattle.lines.specs.LinePromises as Lines
+use Rattle.lines.specs.LinePromises.{LineOf, lineDetails}
+use Rattle.lines.specs.ComputedLines as ComputedLines
+use Rattle.lines.specs.ComputedLines.{told, longest}
+use Rattle.theorems.specs.Exported.{ExportsRise, ExportsCompare, exports-rise, exports-compare}
 use Rattle.kvm_list.specs.Words.{bytesOfWords}
 use Rattle.kvm_list.specs.Format.{listBytes}
 use Rattle.kvm_import.specs.Import.{readList}
@@ -113,12 +146,95 @@ comparison-in-order = places-rise
 pub comparison-of-exports : (avic : Bool) (a b : List ℕ) → ExportsCompare avic a b
 comparison-of-exports = exports-compare
 
+-- ---- P3, what one processor's guest sees. crates/guest/specs/Guest.antt has the guest's table, State.antt refusals 13 and 14 and the two
+-- sizes, Compact.antt the compacted size; crates/guest_pages/specs/GuestPages.antt the same from pages.
+
+-- Building's refusals first; then 13, 14 and the view, each if and only if its condition holds.
+pub each-guest-answer-exactly : (avic : Bool) (s : List ℕ) (v : Processor) → GuestExactly avic s v
+each-guest-answer-exactly = guest-exactly
+
+-- 13 and 14 of any rows, a table's own or others: one of three, which exclude each other. crates/guest_rise/specs/StateExactly.antt
+pub each-state-exactly : (m : Rows) (x s : ℕ) → StateAnswers m x s (stateVerdict m x s)
+each-state-exactly = state-answers
+
+-- the guest's image: 9 exactly where the buffer is shorter, after all of these; every lent byte
+pub each-guest-write-exactly : (avic : Bool) (s : List ℕ) (v : Processor) (buffer : List ℕ)
+    → FrontExactly (guestPages avic s v .verdict) (image (guestPages avic s v .table)) buffer (writeGuest avic s v buffer)
+each-guest-write-exactly = guest-writes-exactly
+
+-- the rows of five places differ, and no others
+pub no-other-row-differs : (t : CpuidResults) (v : Processor) (i : ℕ) → i < places
+    → (i ≡ Place.versionAndFeatures → ⊥) → (i ≡ Place.threadLevel → ⊥) → (i ≡ Place.coreLevel → ⊥)
+    → (i ≡ Place.extendedState 0 → ⊥) → (i ≡ Place.extendedState 1 → ⊥)
+    → rowIn (guestTable t v) i .result ≡ rowIn t i .result
+no-other-row-differs = Seen.elsewhere
+
+-- D.0.EBX of a table that building accepted never overflows: it is the size itself
+pub guest-size-never-overflows : (avic : Bool) (s : List ℕ) (v : Processor) → answer avic s .verdict ≡ Accepted
+    → guestPages avic s v .verdict ≡ Accepted
+    → (saveArea (rowsIn (answer avic s .table)) (v .xcr0) < 2 ^ 32)
+    × (rowIn (guestPages avic s v .table) (Place.extendedState 0) .result .ebx ≡ saveArea (rowsIn (answer avic s .table)) (v .xcr0))
+guest-size-never-overflows avic s v a g = (GuestRiseProof.never-overflows avic s v a g, GuestRiseProof.area-seen avic s v a g)
+
+-- The rise of guest answers: B's view is given and its table rises from A's, or A's D.1.EAX has neither bit 1 nor bit 3, and then D.1.EBX is
+-- free or B is refused by 14, and nothing else is loosened. crates/guest_rise/specs/GuestRise.antt
+pub guest-rise : GuestRise
+guest-rise = GuestRiseProof.guest-rise
+
+-- where A's D.1.EAX has either bit: given, and the tables rise as in demand 3, D.0.EBX and D.1.EBX equal among the rest
+pub guest-rise-whole : (avic : Bool) (a b : List ℕ) (v : Processor) → RiseHypothesis avic a b → answer avic b .verdict ≡ Accepted
+    → guestPages avic a v .verdict ≡ Accepted → compactsIn (answer avic a .table) ≡ true
+    → (guestPages avic b v .verdict ≡ Accepted) × TableRises (guestPages avic a v .table) (guestPages avic b v .table)
+guest-rise-whole = GuestRiseProof.guest-rise-whole
+
+-- Not empty words. crates/guest_examples/specs/Views.antt: server A's guest with all of its state, and the six registers that it reads
+-- anew (1.EBX, 1.ECX, B.0.EDX, B.1.EDX, D.0.EBX, D.1.EBX)
+pub guest-of-a : figures (guestPages false serverA Views.viewA .table) ≡ 0x45010000 ∷ 0xBED83203 ∷ 0x12345 ∷ 0x12345 ∷ 832 ∷ 832 ∷ []
+guest-of-a = Views.a-figures
+
+-- 13, by a bit above 31
+pub guest-of-a-beyond : guestPages false serverA (processor 0 0x100000007 0 true) .verdict ≡ Refused StateBeyondTable
+guest-of-a-beyond = Views.a-beyond
+
+-- bit 1 of XCR0 is not asked
+pub guest-of-a-without-sse : guestPages false serverA (processor 0 0x1 0 false) .verdict ≡ Accepted
+guest-of-a-without-sse = Views.a-without-sse
+
+-- building first: 5, of a processor that 13 would refuse
+pub guest-unbuilt : guestPages false serverWithLargeD6 (processor 0 0 0 true) ≡ refusedAnswer SaveAreaOverflow
+guest-unbuilt = Views.unbuilt
+
+-- A's guest on B; all of B's own state
+pub guest-from-a-to-b : GuestOutcome (guestPages false serverA Views.viewA .table) (guestPages false serverB Views.viewA)
+guest-from-a-to-b = Views.a-to-b
+
+pub guest-of-b : figures (guestPages false serverB (processor 1 0xE7 0x1800 true) .table) ≡ 0x01010000 ∷ 0xFEDA3203 ∷ 1 ∷ 1 ∷ 2432 ∷ 2472 ∷ []
+guest-of-b = Views.b-figures
+
+-- the exception: a server with neither bit, where D.1.EBX is 0 and D.0.EBX the largest size, and one with bit 1, which refuses by 14.
+-- crates/guest_exception/specs/Exception.antt
+pub exception-rises : RiseHypothesis false Exception.plain Exception.compacting
+exception-rises = Exception.plain-to-compacting
+
+pub exception-given : figures (guestPages false Exception.plain Views.viewA .table) ≡ 0x45010000 ∷ 0xBED83203 ∷ 0x12345 ∷ 0x12345 ∷ 0xFFFFFFFF ∷ 0 ∷ []
+exception-given = Exception.plain-figures
+
+pub exception-refused : guestPages false Exception.compacting Views.viewA .verdict ≡ Refused CompactSizeTooLarge
+exception-refused = Exception.compacting-refused
+
+pub exception-outcome : GuestOutcome (guestPages false Exception.plain Views.viewA .table) (guestPages false Exception.compacting Views.viewA)
+exception-outcome = Exception.plain-outcome
+
+-- compacted sizes: order, alignment of the start, the largest that is given and the first that is not. crates/guest_examples/specs/CompactSizes.antt
+pub compacted-sizes : sizes ≡ 576 ∷ 832 ∷ 840 ∷ 856 ∷ 920 ∷ 856 ∷ 0xFFFFFFFF ∷ 0x100000000 ∷ []
+compacted-sizes = sizes-are
+
 -- ---- The fourteen marked rows of document 01, T1 to T10, X1 to X3 (two figures) and C1. crates/examples/specs/MarkedRows.antt.
 
 pub fourteen-rows : marked
     ≡ core 0 1
     ∷ refusal 6
-    ∷ core 1 3
+    ∷ core 2 3
     ∷ refusal 7
     ∷ core 7 128
     ∷ refusal 7
@@ -133,6 +249,21 @@ pub fourteen-rows : marked
     ∷ supervisor 0 false
     ∷ []
 fourteen-rows = marked-rows
+
+-- ---- P5: three processors need two bits. crates/topology/specs/Topology.antt, ShiftChange.antt.
+
+-- the shift of v processors, v at least 1: its power of two is at least v, and no lower number's is
+pub shift-is-least : (v : ℕ) → 0 < v → v ≤ 2 ^ 32 → LeastShift v (shiftOf v)
+shift-is-least = shift-least
+
+-- of an accepted topology it is the place of the highest one bit of v, but where v comes from the legacy method and is no power of two: there
+-- it is one more
+pub shift-changed-only-there : (i : Inputs) (v p : ℕ) → i .lps < 256 → i .s < 16 → topologyOf i ≡ Processors v → HighestBit v p → ShiftChange i v p
+shift-changed-only-there = shift-changes
+
+-- both happen: three processors, and 128
+pub three-need-two-bits : shiftOf 3 ∷ shiftOf 128 ∷ [] ≡ 2 ∷ 7 ∷ []
+three-need-two-bits = three-and-128
 
 -- ---- Counts. crates/counts/specs/Counts.antt.
 
@@ -261,3 +392,63 @@ from-large-d6 = Pairs.from-large-d6
 
 pub a-to-none : compared false serverA [] ≡ UnlawfulB PagesLength
 a-to-none = Pairs.a-to-none
+
+-- ---- P6: refusals as lines. crates/lines/specs/NumbersInUse.antt has what each number names, Line.antt the line, WriteLine.antt and
+-- ReadLine.antt the writer and the reader. `writable d`: the number is in use, names every detail that is set, and s has 8 bits.
+
+-- reading what was written gives it back: of every line, and of what the writer left at the front of any lent buffer
+pub line-read-back : (d : LineDetails) → Fits d → writable d ≡ true → readLine (line d) ≡ Says d
+line-read-back = Lines.read-written
+
+pub write-read-back : (d : LineDetails) (buffer left : List ℕ) (n : ℕ)
+    → Fits d → writeLine d buffer ≡ leaves (Answered (Bytes n)) left → readLine (take n left) ≡ Says d
+write-read-back = Lines.write-then-read
+
+-- what is read is what would be written: the reader takes nothing else
+pub only-lines-read : (l : List ℕ) (d : LineDetails) → readLine l ≡ Says d → LineOf l d
+only-lines-read = Lines.only-written-read
+
+-- different refusals, details included, give different lines
+pub lines-differ : (d e : LineDetails) → Fits d → Fits e → writable d ≡ true → writable e ≡ true → line d ≡ line e → d ≡ e
+lines-differ = Lines.lines-differ
+
+pub no-line-begins-another : (d e : LineDetails) (t : List ℕ) → line d ++ t ≡ line e → t ≡ []
+no-line-begins-another = Lines.no-line-begins-another
+
+pub line-at-most-22 : (d : LineDetails) → length (line d) ≤ 22
+line-at-most-22 = at-most-22
+
+-- every refusal that the table's functions give has a line
+pub every-refusal-has-a-line : (r : Refusal) → details r .s ≤ mostS → writable (lineDetails (details r)) ≡ true
+every-refusal-has-a-line = Lines.every-refusal
+
+-- the longest line meets what they ask: 3 FFFFFFFF 4294967295
+pub longest-fits : Fits longest
+longest-fits = ComputedLines.longest-fits
+
+pub longest-writable : writable longest ≡ true
+longest-writable = ComputedLines.longest-writable
+
+pub longest-length : length (line longest) ≡ 22
+longest-length = ComputedLines.longest-length
+
+-- lines in ASCII: 3 0000000D 12, then 3 8000001F, then 6 0, each with its newline
+pub missing-d12-line : line (told 3 0xD (Some 12) 0) ≡ 51 ∷ 32 ∷ 48 ∷ 48 ∷ 48 ∷ 48 ∷ 48 ∷ 48 ∷ 48 ∷ 68 ∷ 32 ∷ 49 ∷ 50 ∷ 10 ∷ []
+missing-d12-line = ComputedLines.missing-d12
+
+pub missing-8000001f-line : line (told 3 0x8000001F None 0) ≡ 51 ∷ 32 ∷ 56 ∷ 48 ∷ 48 ∷ 48 ∷ 48 ∷ 48 ∷ 49 ∷ 70 ∷ 10 ∷ []
+missing-8000001f-line = ComputedLines.missing-8000001f
+
+pub s-of-0-line : line (told 6 0 None 0) ≡ 54 ∷ 32 ∷ 48 ∷ 10 ∷ []
+s-of-0-line = ComputedLines.s-of-0
+
+-- no line: 01 and a newline
+pub leading-zero-no-line : readLine (48 ∷ 49 ∷ 10 ∷ []) ≡ SaysNothing
+leading-zero-no-line = ComputedLines.leading-zero
+
+-- without room for the line: 9; "no such line" comes before it, for a leaf that 1 does not name
+pub one-short : writeLine (told 1 0 None 0) (7 ∷ []) ≡ leaves (Answered (NotWritten BufferTooShort)) (7 ∷ [])
+one-short = ComputedLines.one-short
+
+pub one-with-leaf : writeLine (told 1 0xD None 0) (7 ∷ []) ≡ leaves NoLineWritten (7 ∷ [])
+one-with-leaf = ComputedLines.one-with-leaf

@@ -1,2 +1,3 @@
 pub mod Topology
 pub mod TopologyLaws
+pub mod ShiftChange

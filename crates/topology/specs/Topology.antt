@@ -6,7 +6,6 @@ use mathlib.Core.Bool.{_&&_, _||_}
 use Prim.Native.Nat.{ℕ, zero, suc, _+_, _^_}
 use lib.Dec.{eqb, ltb, leb}
 use Rattle.bits.specs.Choice.{pick}
-use Rattle.bits.specs.Bits.{has}
 use Rattle.x86defs.specs.declared.CpuidResult.{CpuidResult}
 use Rattle.x86defs.specs.Functions.{result}
 use Rattle.topology.specs.declared.TopologyError.the-variants.{Hyperthreading, ProcessorCount, ThreadsPerUnit}
@@ -45,14 +44,14 @@ abbrev pub processors : Topology → ℕ
 processors (Processors v) = v
 processors (Inconsistent e) = 0
 
--- the highest of the n lowest bits of v that is set; 0 where none is
-unfoldable pub highestOf : ℕ → ℕ → ℕ
-highestOf zero v = 0
-highestOf (suc k) v = pick (has k v) k (highestOf k v)
+-- the least of the n + 1 numbers from k on whose power of two is at least v; the last of them where none before it is
+unfoldable pub leastPower : ℕ → ℕ → ℕ → ℕ
+leastPower v k zero = k
+leastPower v k (suc n) = pick (leb v (2 ^ k)) k (leastPower v (suc k) n)
 
--- "the shift is the place of the highest one bit of v"
+-- document 02, P5: "The shift in B.1 becomes the least k with 2^k at least v"
 unfoldable pub shiftOf : ℕ → ℕ
-shiftOf v = highestOf 32 v
+shiftOf v = leastPower v 0 32
 
 -- "B.0 becomes EAX 1 or 0 (SMT on, off), EBX 2 or 1, ECX 100h, EDX 0"
 abbrev pub threadLevel : ℕ → CpuidResult

@@ -2,20 +2,18 @@
 use mathlib.Core.Path.{_≡_, refl, sym, ap, _∙_}
 use mathlib.Core.Bool.{Bool, true, false, _&&_, _||_}
 use mathlib.Core.Logic.{inl, inr, _≢_}
-use Prim.Native.Nat.{ℕ, zero, suc, _+_, _-_, _*_, _/_, _%_, _^_, _≤_, _<_}
-use native.Mathlib.Nat.{div-eq-of-lt, div-eq-of-lt-le, lt-of-lt-of-le, eq-or-lt-of-le, one-mul, pow-suc}
+use Prim.Native.Nat.{ℕ, zero, suc, _+_, _-_, _*_, _%_, _^_, _≤_, _<_}
+use native.Mathlib.Nat.{eq-or-lt-of-le, one-mul, pow-suc}
 use native.Mathlib.Omega.{arith}
 use lib.Dec.{lit<, eqb, ltb, leb}
-use lib.Count.{leadingZeros, leading-top}
+use lib.Count.{leadingZeros, leading-length}
 use lib.Pow.{pow-mono, shl-exact}
 use Rattle.bits.specs.Choice.{pick}
-use Rattle.bits.specs.Bits.{bit, has}
-use Rattle.bits.specs.BitsLaws.{bit-has, bit-has-not}
 use borrow.Author.Tests.{eq-eqb, ne-eqb, lt-ltb, le-ltb, le-leb, lt-leb}
 use Rattle.topology.specs.declared.TopologyError.the-variants.{Hyperthreading, ProcessorCount, ThreadsPerUnit}
 use Rattle.topology.specs.declared.Topology.{Topology}
 use Rattle.topology.specs.declared.Topology.the-variants.{Processors, Inconsistent}
-use Rattle.topology.specs.Topology.{Inputs, inputs, threadsIn, topologyOf, processors, highestOf, shiftOf}
+use Rattle.topology.specs.Topology.{Inputs, inputs, threadsIn, topologyOf, processors, leastPower, shiftOf}
 
 -- ---- the last check
 
@@ -72,32 +70,50 @@ module _ (s nc lps mt t : ℕ) where
 
 -- ---- the shift
 
--- the highest one bit of v is at p
-highest-of : (v p : ℕ) → 2 ^ p ≤ v → v < 2 ^ suc p → (n : ℕ) → p < n → highestOf n v ≡ p
-unfolding highestOf bit
-highest-of v p low high zero h = absurd (omega arith)
-highest-of v p low high (suc k) h =
-    let double : v < 2 ^ p * 2 = rw pow-suc at high in
-    elim (eq-or-lt-of-le {n = p} {m = k} (omega arith)) [
-      | inl q ↦
-          let top : v / 2 ^ p ≡ 1 = div-eq-of-lt-le (2 ^ p) (omega arith) (omega arith) in
-          rw (← q, bit-has p v (ap (λ (x : ℕ). x % 2) top))
-      | inr q ↦
-          let over : v / 2 ^ k ≡ 0 = div-eq-of-lt (lt-of-lt-of-le high (pow-mono q)) in
-          rw (bit-has-not k v (ap (λ (x : ℕ). x % 2) over)) (highest-of v p low high k q)
+-- p is the least number whose power of two is at least v
+least-at : (v p : ℕ) → v ≤ 2 ^ p → ((j : ℕ) → j < p → 2 ^ j < v) → (n k : ℕ) → k ≤ p → p ≤ k + n → leastPower v k n ≡ p
+unfolding leastPower
+least-at v p reaches below zero k l h = omega arith
+least-at v p reaches below (suc n) k l h =
+    elim (eq-or-lt-of-le {n = k} {m = p} l) [
+      | inl q ↦ let here : v ≤ 2 ^ k = rw q reaches in rw (le-leb v (2 ^ k) here) q
+      | inr q ↦ rw (lt-leb v (2 ^ k) (below k q)) (least-at v p reaches below n (suc k) q (omega arith))
     ]
 
 pub shift-of-zero : shiftOf 0 ≡ 0
-unfolding shiftOf highestOf has bit
+unfolding shiftOf leastPower
 shift-of-zero = refl
 
--- "leading zeros of the processor count give the shift"
-pub shift-by-zeros : (v : ℕ) → 0 < v → v < 2 ^ 32 → (leadingZeros 32 v ≤ 31) × (31 - leadingZeros 32 v ≡ shiftOf v)
+-- the figures of v processors: the power of two of the shift is at least v, and of no lower number
+pub record LeastShift (v k : ℕ) : Type 0 where
+  pub reaches : v ≤ 2 ^ k
+  pub least : (j : ℕ) → j < k → 2 ^ j < v
+
+-- "leading zeros of the count less one"
+by-zeros : (v : ℕ) → 0 < v → v ≤ 2 ^ 32 → (m : ℕ) × (leadingZeros 32 (v - 1) + m ≡ 32) × LeastShift v m
+by-zeros v p h =
+    let t = leading-length 32 (v - 1) (omega arith) in
+    let m : ℕ = t .0 in
+    (m, t .1, record { reaches = omega (arith, t .2); least = λ j l. below m j l (t .3) })
+  where
+    below : (m j : ℕ) → j < m → 2 ^ m ≤ 2 * (v - 1) + 1 → 2 ^ j < v
+    below m j l u =
+        let up : 2 ^ suc j ≤ 2 ^ m = pow-mono l in
+        let double : 2 ^ suc j ≡ 2 ^ j * 2 = pow-suc 2 j in
+        omega arith
+
+pub shift-least : (v : ℕ) → 0 < v → v ≤ 2 ^ 32 → LeastShift v (shiftOf v)
+unfolding shiftOf
+shift-least v p h =
+    let t = by-zeros v p h in
+    rw (least-at v (t .0) (t .2 .reaches) (t .2 .least) 32 0 (omega arith) (omega (arith, t .1))) (t .2)
+
+pub shift-by-zeros : (v : ℕ) → 0 < v → v < 2 ^ 32 → (leadingZeros 32 (v - 1) ≤ 32) × (32 - leadingZeros 32 (v - 1) ≡ shiftOf v)
 unfolding shiftOf
 shift-by-zeros v p h =
-    let t = leading-top 32 v p h in
-    let e : 31 - leadingZeros 32 v ≡ t .0 = omega (arith, t .1) in
-    (omega (arith, t .1), e ∙ sym (highest-of v (t .0) (t .2) (t .3) 32 (omega (arith, t .1))))
+    let t = by-zeros v p (omega arith) in
+    let e : 32 - leadingZeros 32 (v - 1) ≡ t .0 = omega (arith, t .1) in
+    (omega (arith, t .1), e ∙ sym (least-at v (t .0) (t .2 .reaches) (t .2 .least) 32 0 (omega arith) (omega (arith, t .1))))
 
 pub one-shifted : (s : ℕ) → s < 32 → 1 * 2 ^ s % 2 ^ 32 ≡ 2 ^ s
 one-shifted s h = shl-exact 1 s 32 (lit< tt) (omega arith) ∙ one-mul (2 ^ s)
@@ -136,15 +152,15 @@ processors-fit i l s =
     go false b c d true false g = lit< tt
     go false b c d false f g = threads-processors (2 ^ i .s) (i .t) power
 
-highest-below : (n v : ℕ) → highestOf n v ≤ n
-unfolding highestOf
-highest-below zero v = omega arith
-highest-below (suc k) v = go (has k v) (highest-below k v)
+least-below : (v n k : ℕ) → leastPower v k n ≤ k + n
+unfolding leastPower
+least-below v zero k = omega arith
+least-below v (suc n) k = go (leb v (2 ^ k)) (least-below v n (suc k))
   where
-    go : (b : Bool) → highestOf k v ≤ k → pick b k (highestOf k v) ≤ suc k
+    go : (b : Bool) → leastPower v (suc k) n ≤ suc k + n → pick b k (leastPower v (suc k) n) ≤ k + suc n
     go true h = omega arith
     go false h = omega arith
 
 pub shift-fits : (v : ℕ) → shiftOf v < 2 ^ 32
 unfolding shiftOf
-shift-fits v = omega (arith, highest-below 32 v)
+shift-fits v = omega (arith, least-below v 32 0)

@@ -80,14 +80,14 @@ fn threads_in(v: u32, t: u32) -> Topology
     Topology::Processors(v)
 }
 
-// The place of the highest one bit of v; 0 where v is 0.
+// How many bits number v processors: the least k with 2^k at least v; 0 where v is 0. The leading zeros of v - 1 give it.
 pub fn x2_apic_shift(v: u32) -> u32
     ensures { λ r. ⌜ r ≡ shiftOf v ⌝ }
 {
     if v == 0 {
         return 0;
     }
-    31 - u32::leading_zeros(v)
+    32 - u32::leading_zeros(v - 1)
 }
 
 // ECX of leaf Bh: the number of the level, and from bit 8 on its type, 1 for threads and 2 for cores.

@@ -7,7 +7,7 @@ use Rattle.bits.specs.Choice.{pick}
 use Rattle.bits.specs.Bits.{bit, has, field, maskOf, clear, clearUnless}
 use Rattle.x86defs.specs.Functions.{result}
 use Rattle.masking.specs.Place
-use Rattle.topology.specs.Topology.{topologyOf, threadsIn, highestOf, shiftOf}
+use Rattle.topology.specs.Topology.{topologyOf, threadsIn, leastPower, shiftOf}
 use Rattle.table.specs.Rows.{Row, Rows, row, vacant}
 use Rattle.checks.specs.ExtendedState.{xfem, xss, areaBelow}
 use Rattle.checks.specs.TopologyInputs.{inputsOf}
@@ -22,7 +22,7 @@ stateRows x y i =
 
 -- the area is sized by XFEM: a supervisor component adds nothing
 pub area-by-xfem : finished (stateRows 3 0x1800) (Place.extendedState 0) .result .ecx ≡ 576
-unfolding finished settings enabledBy xfem xss areaBelow has bit field inputsOf topologyOf threadsIn highestOf shiftOf
+unfolding finished settings enabledBy xfem xss areaBelow has bit field inputsOf topologyOf threadsIn leastPower shiftOf
 area-by-xfem = refl
 
 -- CET_SS needs both XSS bits
@@ -33,5 +33,5 @@ pub cet-needs-both :
     ∷ []
     ≡ 0 ∷ 0 ∷ 0x80 ∷ []
 unfolding finished settings enabledBy featuresEcx cetSs rdPid ymmFeaturesEcx avx512FeaturesEcx maskOf clear clearUnless xfem xss areaBelow has
-    bit field inputsOf topologyOf threadsIn highestOf shiftOf
+    bit field inputsOf topologyOf threadsIn leastPower shiftOf
 cet-needs-both = refl

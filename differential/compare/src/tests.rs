@@ -74,6 +74,17 @@ fn two_rows_of_the_image_exchanged() {
 }
 
 #[test]
+fn the_shift_of_the_rust() {
+    fn lookup(pages: &[u8], secure_avic: bool, asked: Asked) -> Found {
+        let Asked { leaf, has_subleaf, subleaf, .. } = asked;
+        let found = port::lookup(pages, secure_avic, asked);
+        let lower = found.found == 1 && (leaf, has_subleaf, subleaf) == (0xb, true, 1) && !found.ebx.is_power_of_two();
+        Found { eax: found.eax - u32::from(lower), ..found }
+    }
+    found(Port { lookup, ..PORT });
+}
+
+#[test]
 fn a_byte_beyond_the_image() {
     fn write_image(pages: &[u8], secure_avic: bool, out: &mut [u8]) -> Written {
         let written = port::write_image(pages, secure_avic, out);

@@ -6,6 +6,7 @@ mod debian;
 mod documents;
 mod dump;
 mod kvm;
+mod guest;
 mod lookup;
 mod names;
 mod page_sets;

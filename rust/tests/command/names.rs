@@ -23,10 +23,10 @@ fn specs() -> Vec<String> {
 #[test]
 fn bits_are_those_of_the_specification() {
     let mut expected: BTreeMap<String, BTreeSet<u32>> = BTreeMap::new();
-    for text in specs().iter().filter(|text| text.contains("pub place :")) {
+    for text in specs().iter().filter(|text| text.contains("pub position :")) {
         let register = text.strip_prefix("-- ").and_then(|rest| rest.split([':', ',', ' ']).next()).expect("line one names the register");
         let places =
-            text.lines().filter_map(|line| line.strip_prefix("place ")).map(|line| line.split_once(" = ").unwrap().1.trim().parse().unwrap());
+            text.lines().filter_map(|line| line.strip_prefix("position ")).map(|line| line.split_once(" = ").unwrap().1.trim().parse().unwrap());
         expected.insert(register.into(), places.collect());
     }
     let ours: BTreeMap<String, BTreeSet<u32>> =

@@ -1,7 +1,7 @@
 //! Every refusal that a page set can have: its line, its status, and nothing written.
 
 use crate::page_sets::{epyc, set, with, without};
-use crate::run::{BUILDING, Folder, run, with_files};
+use crate::run::{BUILDING, EPYC, Folder, run, run_on, with_files};
 use std::fs;
 
 /// Page sets with the number, leaf, subleaf and s that document 01 gives them.
@@ -40,6 +40,57 @@ fn each_is_one_line_with_all_it_carries() {
         for arguments in BUILDING {
             assert_eq!(run(&with_files(arguments, &file, &folder.path("out"))), ran);
         }
+    }
+}
+
+/// The lines of the cases, written down from document 02, P6.
+const LINES: [&str; 11] = ["1\n", "1\n", "2\n", "3 8000001A\n", "3 8000001D 3\n", "3 0000000D 11\n", "4\n", "5\n", "6 7\n", "7 7\n", "8\n"];
+
+#[test]
+fn each_has_a_line_on_standard_output() {
+    let folder = Folder::new("refusal_lines");
+    let cases = cases();
+    assert_eq!(cases.len(), LINES.len());
+    for ((pages, ..), expected) in cases.into_iter().zip(LINES) {
+        let file = folder.file("pages", &pages);
+        for arguments in BUILDING {
+            let mut arguments = with_files(arguments, &file, &folder.path("out"));
+            let without = run(&arguments);
+            arguments.push("--line".into());
+            let ran = run(&arguments);
+            assert_eq!((ran.status, ran.text(), &ran.err), (1, expected, &without.err));
+            // and back into the words of the refusal
+            let explained = run(&["explain", expected.trim_end()]);
+            assert_eq!((explained.status, explained.err.as_str()), (0, ""));
+            assert_eq!(format!("snp-cpuid: {file}: {}", explained.text()), ran.err);
+            assert_eq!(run_on(expected.as_bytes(), &["explain", "-"]), explained);
+        }
+    }
+}
+
+#[test]
+fn an_accepted_table_has_no_line() {
+    assert_eq!(run(&["table", EPYC, "--line"]), run(&["table", EPYC]));
+}
+
+#[test]
+fn compare_gives_the_line_after_its_report() {
+    let folder = Folder::new("compare_line");
+    let file = folder.file("pages", set(&without(0xD, 2)));
+    let plain = run(&["compare", EPYC, &file]);
+    let ran = run(&["compare", EPYC, &file, "--line"]);
+    assert_eq!((ran.status, ran.text()), (1, format!("{}3 0000000D 2\n", plain.text()).as_str()));
+    assert_eq!(ran.err, plain.err);
+}
+
+#[test]
+fn what_is_no_line_is_not_explained() {
+    for line in ["", "0", "01", "15", "3", "3 0000000d", "3 0000000D 02", "3  0000000D", "6", "6 256", "1 ", " 1", "1\n", "1\r", "one"] {
+        let ran = run(&["explain", line]);
+        assert_eq!((ran.status, ran.line().ends_with(": no such line")), (1, true), "{line:?}");
+    }
+    for input in ["1", "1\n\n", "1\r\n", ""] {
+        assert_eq!(run_on(input.as_bytes(), &["explain", "-"]).line(), "standard input: no such line", "{input:?}");
     }
 }
 

@@ -14,6 +14,8 @@ pub const BUILDING: &[&[&str]] = &[
     &["table", "PAGES"],
     &["image", "PAGES", "-o", "OUT"],
     &["lookup", "PAGES", "1"],
+    &["lookup", "PAGES", "1", "--apic", "1", "--xcr0", "1", "--xss", "0"],
+    &["guest", "PAGES", "--apic", "1", "--xcr0", "1", "--xss", "0"],
     &["to-dump", "PAGES"],
     &["to-dump", "PAGES", "-o", "OUT"],
     &["to-kvm", "PAGES", "-o", "OUT"],

@@ -52,15 +52,18 @@ fn shared_options_are_told_alike() {
     for name in commands() {
         let builds = name == "compare" || BUILDING.iter().any(|run| run[0] == name);
         let ran = run(&[name.as_str(), "--help"]);
-        let line = ran.text().lines().find(|line| line.starts_with("  --secure-avic "));
-        let words = line.map(|line| line.split_whitespace().collect::<Vec<_>>().join(" "));
-        assert_eq!(words.as_deref(), builds.then_some("--secure-avic keep the secure-AVIC bit of 8000001Fh.EAX"), "{name}");
+        for told in ["--secure-avic keep the secure-AVIC bit of 8000001Fh.EAX", "--line where the pages are refused, print the refusal's line too"] {
+            let (option, _) = told.split_once(' ').unwrap();
+            let line = ran.text().lines().find(|line| line.trim_start().starts_with(&format!("{option} ")));
+            let words = line.map(|line| line.split_whitespace().collect::<Vec<_>>().join(" "));
+            assert_eq!(words.as_deref(), builds.then_some(told), "{name}");
+        }
     }
 }
 
 #[test]
 fn bad_usage_is_status_2_and_one_line() {
-    let cases: [(&[&str], &str); 16] = [
+    let cases: [(&[&str], &str); 18] = [
         (&[], "no command"),
         (&["tables"], "no command 'tables'"),
         (&["help", "nothing"], "no command 'nothing'"),
@@ -76,6 +79,8 @@ fn bad_usage_is_status_2_and_one_line() {
         (&["from-dump", EPYC], "-o FILE is missing"),
         (&["from-dump", EPYC, "-o", "x", "--secure-avic"], "no option '--secure-avic'"),
         (&["compare", EPYC], "B is missing"),
+        (&["explain"], "LINE is missing"),
+        (&["explain", "3 0000000D", "12"], "one operand too many"),
         (&["compare", "-", "-"], "A and B cannot both be standard input"),
     ];
     for (arguments, words) in cases {

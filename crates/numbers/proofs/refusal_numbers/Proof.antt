@@ -33,10 +33,20 @@ returns-9 c = rw (c .before .enum-told7 .given .1) (c .sized7 .ensures)
 returns-10 : tie.Need-returns-10
 returns-10 c = rw (c .before .enum-told8 .given .1) (c .sized8 .ensures)
 
+returns-11 : tie.Need-returns-11
+returns-11 c = rw (c .before .enum-told9 .given .1) (c .sized9 .ensures)
+
+returns-12 : tie.Need-returns-12
+returns-12 c = rw (c .before .enum-told10 .given .1) (c .sized10 .ensures)
+
 pub refusal-numbers-spec : {M : Type 1} → statement M
 refusal-numbers-spec =
     tie.close
     (tie.spec
+    (λ c. search needs)
+    (λ c κs. search needs)
+    (λ c. search needs)
+    (λ c κs. search needs)
     (λ c. search needs)
     (λ c κs. search needs)
     (λ c. search needs)
@@ -66,4 +76,6 @@ refusal-numbers-spec =
     returns-7
     returns-8
     returns-9
-    returns-10)
+    returns-10
+    returns-11
+    returns-12)

@@ -1,4 +1,4 @@
--- `topology::x2_apic_shift` meets its contract: what the leading zeros leave is the place of the highest one bit.
+-- `topology::x2_apic_shift` meets its contract: what the leading zeros of v - 1 leave is the least shift that reaches v.
 use native.Mathlib.Omega.{arith}
 use Rattle.topology.specs.TopologyLaws.{shift-of-zero, shift-by-zeros}
 use Rattle.topology.proofs.x2_apic_shift.Statement.{statement}
@@ -9,5 +9,6 @@ x2-apic-shift-spec =
     tie.close
     (tie.spec
     (λ c. rw (c .if1 .taken, shift-of-zero))
-    (λ c. omega (arith, shift-by-zeros _ (omega (arith, c .if1 .left)) (c .before .fits .v .fits) .0))
+    (λ c. omega (arith, c .if1 .left))
+    (λ c. shift-by-zeros _ (omega (arith, c .if1 .left)) (c .before .fits .v .fits) .0)
     (λ c. shift-by-zeros _ (omega (arith, c .if1 .left)) (c .before .fits .v .fits) .1))

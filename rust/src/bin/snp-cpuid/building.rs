@@ -4,25 +4,29 @@ use crate::arguments::Arguments;
 use crate::failure::Failure;
 use crate::input::{read, shown};
 use crate::option::Opt;
-use snp_cpuid::{Comparison, MOST_KVM_BYTES, Refusal, Table};
+use crate::output;
+use snp_cpuid::{Comparison, MOST_KVM_BYTES, Processor, Refusal, Table};
 use std::ffi::OsStr;
 use std::fmt::Display;
 
 const SECURE_AVIC: Opt = Opt::flag(&["--secure-avic"], "keep the secure-AVIC bit of 8000001Fh.EAX");
 
+const LINE: Opt = Opt::flag(&["--line"], "where the pages are refused, print the refusal's line too");
+
 /// The options of every command that builds.
-pub const OPTIONS: &[Opt] = &[SECURE_AVIC];
+pub const OPTIONS: &[Opt] = &[SECURE_AVIC, LINE];
 
 /// The choices that these options give.
 #[derive(Clone, Copy)]
 pub struct Building {
     secure_avic: bool,
+    line: bool,
 }
 
 impl Building {
     /// The choices that were given to a command.
     pub fn of(arguments: &Arguments) -> Building {
-        Building { secure_avic: arguments.has(&SECURE_AVIC) }
+        Building { secure_avic: arguments.has(&SECURE_AVIC), line: arguments.has(&LINE) }
     }
 
     /// The table of pages.
@@ -48,11 +52,27 @@ impl Building {
         self.build(&read(file)?).map_err(|refusal| self.refused(shown(file), refusal))
     }
 
-    /// The refusal of a page set: its number, words, and what it carries. "Those not named are 0 or none" (document 01).
-    pub fn refused(&self, name: impl Display, refusal: Refusal) -> Failure {
-        let carried = refusal.details();
-        let subleaf = carried.subleaf.map_or("none".into(), |subleaf| format!("{subleaf:X}"));
-        let details = format!("(leaf {:08X}, subleaf {subleaf}, s {})", carried.leaf, carried.s);
-        Failure::No(format!("{name}: refusal {}: {refusal} {details}", refusal.number()))
+    /// The table of a file of pages as a processor's guest sees it; as the paravisor has it where no processor is given.
+    pub fn seen(&self, file: &OsStr, processor: Option<Processor>) -> Result<Table, Failure> {
+        match processor {
+            None => self.table(file),
+            Some(processor) => snp_cpuid::guest(&read(file)?, self.secure_avic, processor).map_err(|refusal| self.refused(shown(file), refusal)),
+        }
     }
+
+    /// The refusal of a page set in words; its line goes to standard output where that was asked for.
+    pub fn refused(&self, name: impl Display, refusal: Refusal) -> Failure {
+        match self.line.then(|| output::print(refusal.line())) {
+            Some(Err(failure)) => failure,
+            _ => Failure::No(format!("{name}: {}", told(refusal))),
+        }
+    }
+}
+
+/// A refusal's number, words, and what it carries. "Those not named are 0 or none" (document 01).
+pub fn told(refusal: Refusal) -> String {
+    let carried = refusal.details();
+    let subleaf = carried.subleaf.map_or("none".into(), |subleaf| format!("{subleaf:X}"));
+    let details = format!("(leaf {:08X}, subleaf {subleaf}, s {})", carried.leaf, carried.s);
+    format!("refusal {}: {refusal} {details}", refusal.number())
 }

@@ -20,6 +20,7 @@ mod output;
 mod pages;
 mod parse;
 mod print;
+mod processor;
 mod words;
 mod wrap;
 

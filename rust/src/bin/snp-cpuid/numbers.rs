@@ -1,4 +1,4 @@
-//! Hexadecimal numbers of up to 32 bits.
+//! Hexadecimal numbers: of up to 32 bits, and of up to 64.
 
 /// Digits alone: `from_str_radix` would take a sign too.
 pub fn digits(text: &str) -> Option<u32> {
@@ -8,4 +8,10 @@ pub fn digits(text: &str) -> Option<u32> {
 /// Digits after 0x.
 pub fn prefixed(text: &str) -> Option<u32> {
     text.strip_prefix("0x").or_else(|| text.strip_prefix("0X")).and_then(digits)
+}
+
+/// Digits of up to 64 bits, alone or after 0x.
+pub fn wide(text: &str) -> Option<u64> {
+    let text = text.strip_prefix("0x").or_else(|| text.strip_prefix("0X")).unwrap_or(text);
+    text.bytes().all(|digit| digit.is_ascii_hexdigit()).then(|| u64::from_str_radix(text, 16).ok()).flatten()
 }

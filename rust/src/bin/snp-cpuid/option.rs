@@ -1,6 +1,7 @@
 //! An option of a command.
 
 /// An option: how it is written, what stands after it, and its line in the help.
+#[derive(Clone, Copy)]
 pub struct Opt {
     /// its spellings; messages use the first
     pub names: &'static [&'static str],
@@ -13,17 +14,25 @@ pub struct Opt {
 }
 
 /// What stands after an option.
+#[derive(Clone, Copy)]
 pub enum Value {
     /// nothing
     None,
     /// the name of a file, which the help calls so
     File(&'static str),
+    /// a hexadecimal number, which the help calls so
+    Number(&'static str),
 }
 
 impl Opt {
     /// An option without a value.
     pub const fn flag(names: &'static [&'static str], help: &'static str) -> Opt {
         Opt { names, value: Value::None, required: false, help }
+    }
+
+    /// An option with a hexadecimal number, which the help calls `name`.
+    pub const fn number(names: &'static [&'static str], name: &'static str, required: bool, help: &'static str) -> Opt {
+        Opt { names, value: Value::Number(name), required, help }
     }
 
     /// The spelling by which messages call it.
@@ -53,7 +62,7 @@ impl Value {
     fn name(&self) -> Option<&'static str> {
         match self {
             Value::None => None,
-            Value::File(name) => Some(name),
+            Value::File(name) | Value::Number(name) => Some(name),
         }
     }
 
@@ -62,11 +71,12 @@ impl Value {
         matches!(self, Value::File(_))
     }
 
-    /// What a message asks for where it is missing: the kind in capitals, and in words.
+    /// What a message asks for where it is missing: in capitals, and in words.
     pub fn kind(&self) -> Option<(&'static str, &'static str)> {
         match self {
             Value::None => None,
             Value::File(_) => Some(("FILE", "a file name")),
+            Value::Number(name) => Some((name, "a hexadecimal number")),
         }
     }
 }

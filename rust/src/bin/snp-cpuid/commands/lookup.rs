@@ -7,7 +7,7 @@ use crate::failure::Failure;
 use crate::input::shown;
 use crate::numbers::{digits, prefixed};
 use crate::option::Opt;
-use crate::{output, print};
+use crate::{output, print, processor};
 use snp_cpuid::{Row, Table};
 use std::ffi::OsStr;
 
@@ -16,13 +16,14 @@ const ENFORCE: Opt = Opt::flag(&["--enforce"], "take the subleaf by the letter")
 pub const COMMAND: Command = Command {
     name: "lookup",
     operands: &["PAGES", "LEAF[.SUB]"],
-    options: &[&[ENFORCE], building::OPTIONS],
+    options: &[&[ENFORCE], processor::SOMETIMES, building::OPTIONS],
     summary: "print the row of one leaf",
     about: "\
 Prints the row of one leaf, and subleaf where one is given, as leaf_result_ref of OpenHCL finds it.
 Both numbers are hexadecimal, with or without 0x: 80000008 and 0x80000008 are the same leaf, D.B is
 leaf Dh subleaf 11. A leaf with subleaves is found only under a subleaf that the table has; one
-without is found under any subleaf, and with --enforce only where none is given.
+without is found under any subleaf, and with --enforce only where none is given. With --apic, --xcr0
+and --xss it is the row that the guest of that processor sees, as 'guest' prints it.
 ",
     status: "\
 Exit status: 0 found, 1 not found or the pages are refused, 2 bad usage or a file that cannot be
@@ -33,7 +34,8 @@ read.
 
 fn run(arguments: &Arguments) -> Result<(), Failure> {
     let (leaf, subleaf) = asked(&arguments.operands[1])?;
-    let table = Building::of(arguments).table(&arguments.operands[0])?;
+    let seen = processor::of(arguments, COMMAND.name)?;
+    let table = Building::of(arguments).seen(&arguments.operands[0], seen)?;
     match table.lookup(leaf, subleaf, arguments.has(&ENFORCE)) {
         Some(result) => {
             // the row that was found: a leaf without subleaves answers under any

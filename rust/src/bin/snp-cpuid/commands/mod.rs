@@ -1,8 +1,10 @@
 //! The commands: one file each, with its name, operands, options, help and `run`, and its line in the list.
 
 mod compare;
+mod explain;
 mod from_dump;
 mod from_kvm;
+mod guest;
 mod image;
 mod lookup;
 mod table;
@@ -17,9 +19,11 @@ pub const ALL: &[Command] = &[
     table::COMMAND,
     image::COMMAND,
     lookup::COMMAND,
+    guest::COMMAND,
     from_dump::COMMAND,
     to_dump::COMMAND,
     from_kvm::COMMAND,
     to_kvm::COMMAND,
     compare::COMMAND,
+    explain::COMMAND,
 ];

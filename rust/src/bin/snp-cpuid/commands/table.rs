@@ -30,9 +30,13 @@ subleaf and s), 2 bad usage or a file that cannot be read. An empty page file is
 };
 
 fn run(arguments: &Arguments) -> Result<(), Failure> {
-    let table = Building::of(arguments).table(&arguments.operands[0])?;
+    output::print(text(&Building::of(arguments).table(&arguments.operands[0])?))
+}
+
+/// A table in words: its rows, and what a reader asks of the whole.
+pub fn text(table: &Table) -> String {
     let rows: String = table.rows().map(|row| print::row(&row)).collect();
-    output::print(print::HEADING.to_string() + &rows + &summary(&table))
+    print::HEADING.to_string() + &rows + &summary(table)
 }
 
 /// What a reader asks of the whole table.

@@ -1,0 +1,4 @@
+pub mod Digits
+pub mod DigitsLaws
+pub mod Field
+pub mod FieldLaws

@@ -1,0 +1,3 @@
+pub mod CompactSizes
+pub mod Seen
+pub mod Views

@@ -1,0 +1,57 @@
+-- What a guest of an accepted page set sees, from its first entries: the verdict and the figures without building anew.
+use mathlib.Core.Path.{_≡_, ap, _∙_}
+use mathlib.Core.Bool.{Bool}
+use mathlib.Core.List.{List, [], _∷_}
+use Prim.Native.Nat.{ℕ}
+use Rattle.bits.specs.Bits.{clear}
+use Rattle.masking.specs.Place
+use Rattle.table.specs.declared.CpuidResults.{CpuidResults}
+use Rattle.table.specs.declared.Verdict.{Verdict}
+use Rattle.table.specs.declared.Verdict.the-variants.{Accepted}
+use Rattle.table.specs.Table.{tableOf, rowIn, rowsIn}
+use Rattle.checks.specs.ExtendedState.{combinedMask}
+use Rattle.update.specs.Finish.{finished}
+use Rattle.collect.specs.FirstEntries.{rowsOf}
+use Rattle.build.specs.declared.Built.{Built}
+use Rattle.build.specs.Build.{answer}
+use Rattle.rise.specs.RiseProof.{answer-table}
+use Rattle.examples.specs.Evaluation.{evaluated}
+use Rattle.guest.specs.declared.Processor.{Processor}
+use Rattle.guest.specs.Compact.{startOf, placed, compactBelow}
+use Rattle.guest.specs.State.{saveRegister, compacts, compactRegister, allowed, allowedVerdict, compactVerdict, stateVerdict}
+use Rattle.guest.specs.Guest.{numberSeen, osxsaveSeen, guestTable}
+use Rattle.guest_pages.specs.GuestPages.{guestPages}
+use Rattle.guest_pages.specs.GuestPagesLaws.{guest-verdict, given-guest}
+
+-- with every definition open
+unfoldable pub computed : Bool → List ℕ → Built
+unfolding evaluated stateVerdict allowedVerdict compactVerdict allowed compactRegister compacts saveRegister compactBelow placed startOf numberSeen osxsaveSeen clear
+computed avic s = answer avic s
+
+abbrev pub processor : ℕ → ℕ → ℕ → Bool → Processor
+processor n x s on = record { x2apic = n; xcr0 = x; xss = s; osxsave = on }
+
+-- the table of an accepted page set
+abbrev pub built : Bool → List ℕ → CpuidResults
+built avic s = tableOf (finished (rowsOf avic s)) (combinedMask (rowsOf avic s))
+
+-- 1.EBX, 1.ECX, B.0.EDX, B.1.EDX, D.0.EBX, D.1.EBX
+abbrev pub figures : CpuidResults → List ℕ
+figures t =
+    rowIn t Place.versionAndFeatures .result .ebx
+    ∷ rowIn t Place.versionAndFeatures .result .ecx
+    ∷ rowIn t Place.threadLevel .result .edx
+    ∷ rowIn t Place.coreLevel .result .edx
+    ∷ rowIn t (Place.extendedState 0) .result .ebx
+    ∷ rowIn t (Place.extendedState 1) .result .ebx
+    ∷ []
+
+module _ (avic : Bool) (s : List ℕ) (v : Processor) (accepted : answer avic s .verdict ≡ Accepted) where
+  pub seen-verdict : {w : Verdict} → stateVerdict (rowsIn (built avic s)) (v .xcr0) (v .xss) ≡ w → guestPages avic s v .verdict ≡ w
+  seen-verdict e =
+      guest-verdict avic s v accepted ∙ ap (λ (t : CpuidResults). stateVerdict (rowsIn t) (v .xcr0) (v .xss)) (answer-table avic s accepted) ∙ e
+
+  pub seen-figures : {l : List ℕ} → stateVerdict (rowsIn (built avic s)) (v .xcr0) (v .xss) ≡ Accepted → figures (guestTable (built avic s) v) ≡ l
+      → figures (guestPages avic s v .table) ≡ l
+  seen-figures e f =
+      ap figures (given-guest avic s v accepted (seen-verdict e) ∙ ap (λ (t : CpuidResults). guestTable t v) (answer-table avic s accepted)) ∙ f

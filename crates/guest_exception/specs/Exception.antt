@@ -1,0 +1,88 @@
+-- Not empty words: the exception of the guest's rise. Server A's D.1.EAX has neither bit 1 nor bit 3, and its guests read 0 in D.1.EBX; B has
+-- bit 1, and refuses the same view by 14, or gives a size.
+use mathlib.Core.Path.{_≡_, refl}
+use mathlib.Core.Bool.{true, false}
+use mathlib.Core.List.{List, [], _∷_, _++_}
+use Prim.Native.Nat.{ℕ}
+use Rattle.table.specs.declared.Refusal.the-variants.{CompactSizeTooLarge}
+use Rattle.table.specs.declared.Verdict.the-variants.{Accepted, Refused}
+use Rattle.table.specs.Table.{rowsIn}
+use Rattle.build.specs.Build.{lawfulVerdict, answer}
+use Rattle.rise.specs.Rise.{RiseHypothesis}
+use Rattle.rise.specs.Decide.{pagesTest, rises-by-test}
+use Rattle.examples.specs.PageSets.{entry, page, firstPage}
+use Rattle.guest.specs.State.{stateVerdict}
+use Rattle.guest.specs.Guest.{guestTable}
+use Rattle.guest_pages.specs.GuestPages.{guestPages}
+use Rattle.guest_rise.specs.GuestRise.{GuestOutcome}
+use Rattle.guest_rise.specs.GuestRiseProof.{guest-rise}
+use Rattle.guest_examples.specs.Seen.{computed, processor, built, figures, seen-verdict, seen-figures}
+use Rattle.guest_examples.specs.Views.{viewA}
+
+-- a server with the given D.1.EAX, and D.2 of 2^32 - 1 bytes at offset 0
+abbrev server : ℕ → List ℕ
+server xsaves =
+    firstPage 0x3ED83203 0x219C07A9 0x3F
+    ++ page 3 (entry 0xD 0 7 0x340 0x340 0 ++ entry 0xD 1 xsaves 0x340 0 0 ++ entry 0xD 2 0xFFFFFFFF 0 0 0)
+
+unfoldable pub plain : List ℕ
+plain = server 0x1
+
+unfoldable pub compacting : List ℕ
+compacting = server 0x3
+
+pub plain-accepted : answer false plain .verdict ≡ Accepted
+unfolding computed plain
+plain-accepted = refl
+
+pub compacting-accepted : answer false compacting .verdict ≡ Accepted
+unfolding computed compacting
+compacting-accepted = refl
+
+compacting-lawful : lawfulVerdict compacting ≡ Accepted
+unfolding computed compacting
+compacting-lawful = refl
+
+test : pagesTest false plain compacting ≡ true
+unfolding computed plain compacting
+test = refl
+
+pub plain-to-compacting : RiseHypothesis false plain compacting
+plain-to-compacting = rises-by-test false plain compacting plain-accepted compacting-lawful test
+
+-- D.0.EBX is FFFFFFFFh, the largest; D.1.EBX is 0 on A, and on B 576 more than 32 bits hold
+plain-state : stateVerdict (rowsIn (built false plain)) 0x7 0 ≡ Accepted
+unfolding computed plain
+plain-state = refl
+
+plain-shown : figures (guestTable (built false plain) viewA) ≡ 0x45010000 ∷ 0xBED83203 ∷ 0x12345 ∷ 0x12345 ∷ 0xFFFFFFFF ∷ 0 ∷ []
+unfolding computed plain
+plain-shown = refl
+
+compacting-state : stateVerdict (rowsIn (built false compacting)) 0x7 0 ≡ Refused CompactSizeTooLarge
+unfolding computed compacting
+compacting-state = refl
+
+pub plain-given : guestPages false plain viewA .verdict ≡ Accepted
+plain-given = seen-verdict false plain viewA plain-accepted plain-state
+
+pub plain-figures : figures (guestPages false plain viewA .table) ≡ 0x45010000 ∷ 0xBED83203 ∷ 0x12345 ∷ 0x12345 ∷ 0xFFFFFFFF ∷ 0 ∷ []
+plain-figures = seen-figures false plain viewA plain-accepted plain-state plain-shown
+
+pub compacting-refused : guestPages false compacting viewA .verdict ≡ Refused CompactSizeTooLarge
+compacting-refused = seen-verdict false compacting viewA compacting-accepted compacting-state
+
+pub plain-outcome : GuestOutcome (guestPages false plain viewA .table) (guestPages false compacting viewA)
+plain-outcome = guest-rise false plain compacting viewA plain-to-compacting compacting-accepted plain-given
+
+-- without D.2, B's D.1.EBX is a size where A's is 0
+compacting-less-state : stateVerdict (rowsIn (built false compacting)) 0x3 0 ≡ Accepted
+unfolding computed compacting
+compacting-less-state = refl
+
+compacting-less-shown : figures (guestTable (built false compacting) (processor 0 0x3 0 false)) ≡ 0x00010000 ∷ 0xB6D83203 ∷ 0 ∷ 0 ∷ 576 ∷ 576 ∷ []
+unfolding computed compacting
+compacting-less-shown = refl
+
+pub compacting-less : figures (guestPages false compacting (processor 0 0x3 0 false) .table) ≡ 0x00010000 ∷ 0xB6D83203 ∷ 0 ∷ 0 ∷ 576 ∷ 576 ∷ []
+compacting-less = seen-figures false compacting (processor 0 0x3 0 false) compacting-accepted compacting-less-state compacting-less-shown

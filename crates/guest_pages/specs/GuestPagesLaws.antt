@@ -1,0 +1,83 @@
+-- The ways through: building refuses, or the guest's answer is given on its table; a write, by what the guest was given.
+use mathlib.Core.Path.{_≡_, sym, ap, _∙_}
+use mathlib.Core.Bool.{Bool}
+use mathlib.Core.List.{List}
+use Prim.Native.Nat.{ℕ}
+use Rattle.table.specs.declared.Refusal.{Refusal}
+use Rattle.table.specs.declared.Verdict.{Verdict}
+use Rattle.table.specs.declared.Verdict.the-variants.{Accepted, Refused}
+use Rattle.table.specs.Refusal.{andThen}
+use Rattle.table.specs.Table.{rowsIn}
+use Rattle.build.specs.declared.Built.{Built}
+use Rattle.build.specs.Build.{answer}
+use Rattle.buffer.specs.declared.Written.the-variants.{Refused as NotWritten}
+use Rattle.buffer.specs.Front.{AfterWrite, writeFront}
+use Rattle.image.specs.Image.{image}
+use Rattle.guest.specs.declared.Processor.{Processor}
+use Rattle.guest.specs.declared.GuestAnswer.{GuestAnswer}
+use Rattle.guest.specs.State.{stateVerdict}
+use Rattle.guest.specs.Guest.{guestTable, tableGiven, answerFor, guestAnswer, refusedAnswer}
+use Rattle.guest_pages.specs.GuestPages.{guestOf, guestPages, writeGuest}
+
+-- ---- by building's verdict
+
+module _ (b : Built) (v : Processor) where
+  with-verdict : {w : Verdict} → b .verdict ≡ w
+      → guestOf b v ≡ answerFor (andThen w (stateVerdict (rowsIn (b .table)) (v .xcr0) (v .xss))) (b .table) v
+  with-verdict e = ap (λ (w : Verdict). answerFor (andThen w (stateVerdict (rowsIn (b .table)) (v .xcr0) (v .xss))) (b .table) v) e
+
+  of-refused : {r : Refusal} → b .verdict ≡ Refused r → guestOf b v ≡ refusedAnswer r
+  of-refused e = with-verdict e
+
+  of-accepted : b .verdict ≡ Accepted → guestOf b v ≡ guestAnswer (b .table) v
+  unfolding guestAnswer
+  of-accepted e = with-verdict e
+
+-- "Building's refusals come first."
+module _ (avic : Bool) (s : List ℕ) (v : Processor) where
+  pub building-first : (r : Refusal) → answer avic s .verdict ≡ Refused r → guestPages avic s v ≡ refusedAnswer r
+  unfolding guestPages
+  building-first r = of-refused (answer avic s) v
+
+  pub accepted-guest : answer avic s .verdict ≡ Accepted → guestPages avic s v ≡ guestAnswer (answer avic s .table) v
+  unfolding guestPages
+  accepted-guest = of-accepted (answer avic s) v
+
+  -- a view of an accepted page set is that of its table
+  pub guest-verdict : answer avic s .verdict ≡ Accepted
+      → guestPages avic s v .verdict ≡ stateVerdict (rowsIn (answer avic s .table)) (v .xcr0) (v .xss)
+  unfolding guestAnswer
+  guest-verdict e = ap (λ (g : GuestAnswer). g .verdict) (accepted-guest e)
+
+  pub given-guest : answer avic s .verdict ≡ Accepted → guestPages avic s v .verdict ≡ Accepted
+      → guestPages avic s v .table ≡ guestTable (answer avic s .table) v
+  unfolding guestPages
+  given-guest e f = ap (λ (w : Verdict). tableGiven w (answer avic s .table) v) f
+
+  pub refused-guest : (r : Refusal) → guestPages avic s v .verdict ≡ Refused r → guestPages avic s v ≡ refusedAnswer r
+  unfolding guestPages
+  refused-guest r f = ap (λ (w : Verdict). answerFor w (answer avic s .table) v) f
+
+  -- in the terms of the code's returns
+  module _ {b : Built} (e : b ≡ answer avic s) where
+    same : guestOf b v ≡ guestPages avic s v
+    unfolding guestPages
+    same = ap (λ (w : Built). guestOf w v) e
+
+    pub building-refuses : {r : Refusal} {q : GuestAnswer} → b .verdict ≡ Refused r → q ≡ refusedAnswer r → q ≡ guestPages avic s v
+    building-refuses f g = g ∙ sym (of-refused b v f) ∙ same
+
+    pub building-passes : {q : GuestAnswer} → b .verdict ≡ Accepted → q ≡ guestAnswer (b .table) v → q ≡ guestPages avic s v
+    building-passes f g = g ∙ sym (of-accepted b v f) ∙ same
+
+-- ---- a write
+
+module _ (avic : Bool) (s : List ℕ) (v : Processor) (buffer : List ℕ) {g : GuestAnswer} (e : g ≡ guestPages avic s v) where
+  pub write-refused : {r : Refusal} → g .verdict ≡ Refused r
+      → _≡_ {A = AfterWrite} (record { answer = NotWritten r; buffer = buffer }) (writeGuest avic s v buffer)
+  unfolding writeGuest
+  write-refused f = rw (← e, f)
+
+  pub write-given : g .verdict ≡ Accepted → writeFront (image (g .table)) buffer ≡ writeGuest avic s v buffer
+  unfolding writeGuest
+  write-given f = rw (← e, f)

@@ -1,0 +1,2 @@
+pub mod GuestPages
+pub mod GuestPagesLaws

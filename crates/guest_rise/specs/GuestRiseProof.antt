@@ -1,0 +1,83 @@
+-- The headline statements of P3, over page bytes.
+use mathlib.Core.Path.{_≡_, refl, sym, ap, _∙_, subst₂}
+use mathlib.Core.Bool.{Bool, true}
+use mathlib.Core.List.{List}
+use Prim.Native.Nat.{ℕ, _-_, _^_, _<_, min}
+use native.Mathlib.Omega.{arith}
+use lib.Dec.{lit<}
+use Rattle.x86defs.specs.declared.CpuidResult.{CpuidResult}
+use Rattle.masking.specs.Place
+use Rattle.table.specs.declared.CpuidResults.{CpuidResults}
+use Rattle.table.specs.declared.Verdict.the-variants.{Accepted}
+use Rattle.table.specs.Table.{rowIn, rowsIn}
+use Rattle.checks.specs.ExtendedState.{saveArea}
+use Rattle.build.specs.Build.{answer}
+use Rattle.rise.specs.Rise.{RiseHypothesis, TableRises}
+use Rattle.rise.specs.RiseProof.{demand-3}
+use Rattle.guest.specs.declared.Processor.{Processor}
+use Rattle.guest.specs.declared.GuestAnswer.{GuestAnswer}
+use Rattle.guest.specs.State.{saveRegister, stateVerdict}
+use Rattle.guest_pages.specs.GuestPages.{guestPages}
+use Rattle.guest_pages.specs.GuestPagesLaws.{accepted-guest, guest-verdict, given-guest}
+use Rattle.guest_rise.specs.GuestRise.{compactsIn, GuestOutcome, GuestRise}
+use Rattle.guest_rise.specs.StateExactly.{Allowed, given-allowed}
+use Rattle.guest_rise.specs.BuiltState.{built-supplied, built-fits}
+use Rattle.guest_rise.specs.SeenRises.{seen-there}
+use Rattle.guest_rise.specs.GuestTablesRise.{table-outcome, table-compacts}
+
+-- ---- the rise
+
+module _ (avic : Bool) (a b : List ℕ) (v : Processor) (rises : RiseHypothesis avic a b) (acceptedB : answer avic b .verdict ≡ Accepted)
+    (isGiven : guestPages avic a v .verdict ≡ Accepted) where
+  abbrev t : CpuidResults
+  t = answer avic a .table
+
+  tables : TableRises t (answer avic b .table)
+  tables = demand-3 avic a b rises .table acceptedB
+
+  givenA : stateVerdict (rowsIn t) (v .xcr0) (v .xss) ≡ Accepted
+  givenA = sym (guest-verdict avic a v (rises .accepted)) ∙ isGiven
+
+  allowedA : Allowed (rowsIn t) (v .xcr0) (v .xss)
+  allowedA = given-allowed (rowsIn t) (v .xcr0) (v .xss) givenA
+
+  outcome : GuestOutcome (guestPages avic a v .table) (guestPages avic b v)
+  outcome =
+      subst₂ (λ (g h : GuestAnswer). GuestOutcome (g .table) h)
+      (sym (accepted-guest avic a v (rises .accepted))) (sym (accepted-guest avic b v acceptedB))
+      (table-outcome t (answer avic b .table) v tables (built-supplied avic a (rises .accepted)) allowedA givenA)
+
+  -- where A's D.1.EAX has either bit: given, and the whole of demand 3's comparison, D.0.EBX and D.1.EBX equal in it
+  pub guest-rise-whole : compactsIn t ≡ true
+      → (guestPages avic b v .verdict ≡ Accepted) × TableRises (guestPages avic a v .table) (guestPages avic b v .table)
+  guest-rise-whole c =
+      subst₂ (λ (g h : GuestAnswer). (h .verdict ≡ Accepted) × TableRises (g .table) (h .table))
+      (sym (accepted-guest avic a v (rises .accepted))) (sym (accepted-guest avic b v acceptedB))
+      (table-compacts t (answer avic b .table) v tables (built-supplied avic a (rises .accepted)) allowedA givenA c)
+
+pub guest-rise : GuestRise
+guest-rise = outcome
+
+-- ---- D.0.EBX of a built table is the size itself, and never passes 32 bits
+
+module _ (avic : Bool) (s : List ℕ) (v : Processor) (accepted : answer avic s .verdict ≡ Accepted)
+    (isGiven : guestPages avic s v .verdict ≡ Accepted) where
+  abbrev w : CpuidResults
+  w = answer avic s .table
+
+  pub never-overflows : saveArea (rowsIn w) (v .xcr0) < 2 ^ 32
+  never-overflows =
+      built-fits avic s accepted (v .xcr0) (given-allowed (rowsIn w) (v .xcr0) (v .xss) (sym (guest-verdict avic s v accepted) ∙ isGiven) .user)
+
+  pub area-seen : rowIn (guestPages avic s v .table) (Place.extendedState 0) .result .ebx ≡ saveArea (rowsIn w) (v .xcr0)
+  unfolding saveRegister
+  area-seen =
+      ap (λ (q : CpuidResults). rowIn q (Place.extendedState 0) .result .ebx) (given-guest avic s v accepted isGiven)
+      ∙ ap (λ (r : CpuidResult). r .ebx) (seen-there w v (Place.extendedState 0) (lit< tt) there)
+      ∙ fits (saveArea (rowsIn w) (v .xcr0)) never-overflows
+    where
+      there : rowIn w (Place.extendedState 0) .present ≡ true
+      there = built-supplied avic s accepted .required (Place.extendedState 0) (lit< tt) refl
+
+      fits : (n : ℕ) → n < 2 ^ 32 → min n (2 ^ 32 - 1) ≡ n
+      fits n l = omega arith

@@ -1,0 +1,10 @@
+pub mod NumbersInUse
+pub mod NumbersInUseLaws
+pub mod Line
+pub mod LineLaws
+pub mod WriteLine
+pub mod ReadLine
+pub mod ReadLineLaws
+pub mod WriteLineLaws
+pub mod LinePromises
+pub mod ComputedLines

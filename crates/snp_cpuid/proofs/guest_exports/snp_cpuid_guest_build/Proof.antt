@@ -1,0 +1,20 @@
+-- `snp_cpuid_guest_build` meets its contract: the numbers of the guest's answer.
+use borrow.Author.Needs.{needs}
+use Rattle.snp_cpuid.proofs.guest_exports.snp_cpuid_guest_build.Statement.{statement}
+use Rattle.snp_cpuid.proofs.guest_exports.snp_cpuid_guest_build.Tie as tie
+
+returns : tie.Need-returns
+returns c =
+    let g = c .before .before .before .before in
+    rw (← g .before .processor .ensures, ← g .guest-pages .ensures, c .before .before .answer-numbers .ensures)
+
+pub snp-cpuid-guest-build-spec : {M : Type 1} → statement M
+snp-cpuid-guest-build-spec =
+    tie.close
+    (tie.spec
+    (λ c κs. search needs)
+    (λ c κs. search needs)
+    (λ c κs. search needs)
+    (λ c. search needs)
+    (λ c. search needs)
+    returns)

@@ -1,0 +1,95 @@
+// What one processor's guest sees, for C and Rust: pages and the processor's numbers in, plain numbers or an image out.
+use super::SnpCpuidBuilt;
+use super::SnpCpuidFound;
+use super::SnpCpuidWritten;
+use super::found_numbers;
+use super::subleaf_of;
+use super::written_numbers;
+use guest::Processor;
+use x86defs::CpuidFunction;
+ghost use mathlib.Core.Path.{_≡_};
+ghost use Rattle.guest_pages.specs.GuestPages.{guestPages, writeGuest};
+ghost use Rattle.snp_cpuid.specs.Exports.{writtenNumbers, subleafOf};
+ghost use Rattle.snp_cpuid.specs.GuestExports.{processorOf, guestNumbers, guestFound};
+
+// The processor that a caller describes.
+fn processor(x2apic: u32, xcr0: u64, xss: u64, osxsave: bool) -> Processor
+    ensures { λ r. ⌜ r ≡ processorOf x2apic xcr0 xss osxsave ⌝ }
+{
+    Processor {
+        x2apic,
+        xcr0,
+        xss,
+        osxsave,
+    }
+}
+
+// Builds the table of the given pages, and tells whether the processor's guest is given its table.
+#[no_mangle]
+pub extern "C" fn snp_cpuid_guest_build(
+    pages: &[u8],
+    secure_avic: bool,
+    x2apic: u32,
+    xcr0: u64,
+    xss: u64,
+    osxsave: bool,
+) -> SnpCpuidBuilt
+    ensures { λ r. ⌜ r ≡ guestNumbers (guestPages «secure_avic» (now (pages .entry)) (processorOf x2apic xcr0 xss osxsave)) ⌝ }
+{
+    let v = processor(x2apic, xcr0, xss, osxsave);
+    let seen = guest_pages::guest_pages(pages, secure_avic, v);
+    let verdict = seen.verdict;
+    let table = seen.table;
+    let numbers = numbers::answer_numbers(verdict);
+    SnpCpuidBuilt {
+        number: numbers.number as u32,
+        leaf: numbers.leaf,
+        has_subleaf: numbers.has_subleaf,
+        subleaf: numbers.subleaf,
+        s: numbers.s as u32,
+        row_count: table.row_count as u64,
+        max_extended_state: table.max_extended_state,
+    }
+}
+
+// Builds, and looks a row up in the guest's table as leaf_result_ref does in the paravisor's.
+#[no_mangle]
+pub extern "C" fn snp_cpuid_guest_lookup(
+    pages: &[u8],
+    secure_avic: bool,
+    x2apic: u32,
+    xcr0: u64,
+    xss: u64,
+    osxsave: bool,
+    leaf: u32,
+    has_subleaf: bool,
+    subleaf: u32,
+    enforce_subleaf: bool,
+) -> SnpCpuidFound
+    ensures { λ r. ⌜ r ≡ guestFound «secure_avic» (now (pages .entry)) (processorOf x2apic xcr0 xss osxsave) leaf (subleafOf «has_subleaf» subleaf) «enforce_subleaf» ⌝ }
+{
+    let v = processor(x2apic, xcr0, xss, osxsave);
+    let seen = guest_pages::guest_pages(pages, secure_avic, v);
+    let table = seen.table;
+    let named = subleaf_of(has_subleaf, subleaf);
+    let result = lookup::leaf_result(table, CpuidFunction(leaf), named, enforce_subleaf);
+    found_numbers(result)
+}
+
+// Builds, and writes the image of the guest's table at the front of `out`.
+#[no_mangle]
+pub extern "C" fn snp_cpuid_write_guest_image(
+    pages: &[u8],
+    secure_avic: bool,
+    x2apic: u32,
+    xcr0: u64,
+    xss: u64,
+    osxsave: bool,
+    out: &mut [u8],
+) -> SnpCpuidWritten
+    ensures { λ r. ⌜ r ≡ writtenNumbers (writeGuest «secure_avic» (now (pages .entry)) (processorOf x2apic xcr0 xss osxsave) (now (out .entry)) .answer) ⌝ }
+    ensures { λ _. ⌜ now (out .exit) ≡ writeGuest «secure_avic» (now (pages .entry)) (processorOf x2apic xcr0 xss osxsave) (now (out .entry)) .buffer ⌝ }
+{
+    let v = processor(x2apic, xcr0, xss, osxsave);
+    written_numbers(guest_pages::write_guest_image(pages, secure_avic, v, out))
+}

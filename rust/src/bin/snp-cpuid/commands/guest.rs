@@ -1,0 +1,31 @@
+//! `guest`: the table that the guest of one processor sees, in words.
+
+use super::table;
+use crate::arguments::Arguments;
+use crate::building::{self, Building};
+use crate::command::Command;
+use crate::failure::Failure;
+use crate::{output, processor};
+
+pub const COMMAND: Command = Command {
+    name: "guest",
+    operands: &["PAGES"],
+    options: &[processor::ALWAYS, building::OPTIONS],
+    summary: "print the table that one processor's guest sees, in the same words",
+    about: "\
+Prints the table of the pages as the guest of one processor sees it, in the form of 'table'. It
+differs from what 'table' prints in the processor's number (1.EBX bits 24-31, B.0.EDX, B.1.EDX), in
+1.ECX bit 27 (OSXSAVE), in D.0.EBX, the size of the save area of XCR0, and in D.1.EBX, the size of
+the compacted area of XCR0 and XSS. N and X are hexadecimal, with or without 0x.
+",
+    status: "\
+Exit status: 0 accepted, 1 refused (the line on standard error has the refusal's number, leaf,
+subleaf and s; 13 and 14 are the guest's), 2 bad usage or a file that cannot be read.
+",
+    run,
+};
+
+fn run(arguments: &Arguments) -> Result<(), Failure> {
+    let seen = processor::of(arguments, COMMAND.name)?;
+    output::print(table::text(&Building::of(arguments).seen(&arguments.operands[0], seen)?))
+}

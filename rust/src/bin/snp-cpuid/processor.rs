@@ -1,0 +1,49 @@
+//! The options that describe one processor, whose guest's view a command shows.
+
+use crate::arguments::Arguments;
+use crate::failure::Failure;
+use crate::input::shown;
+use crate::numbers::wide;
+use crate::option::Opt;
+use snp_cpuid::Processor;
+
+const OSXSAVE: Opt = Opt::flag(&["--osxsave"], "the operating system has switched XSAVE on (CR4 bit 18)");
+
+/// The number options, required or not.
+const fn numbers(required: bool) -> [Opt; 3] {
+    [
+        Opt::number(&["--apic"], "N", required, "the processor's x2APIC number"),
+        Opt::number(&["--xcr0"], "X", required, "its XCR0: the user states that are on"),
+        Opt::number(&["--xss"], "X", required, "its XSS: the supervisor states that are on"),
+    ]
+}
+
+const REQUIRED: [Opt; 3] = numbers(true);
+const OPTIONAL: [Opt; 3] = numbers(false);
+
+/// The options of a command that shows a processor's view always, and of one that may.
+pub const ALWAYS: &[Opt] = &[REQUIRED[0], REQUIRED[1], REQUIRED[2], OSXSAVE];
+pub const SOMETIMES: &[Opt] = &[OPTIONAL[0], OPTIONAL[1], OPTIONAL[2], OSXSAVE];
+
+/// The processor that was described; none where no option of it is given.
+pub fn of(arguments: &Arguments, command: &str) -> Result<Option<Processor>, Failure> {
+    if !SOMETIMES.iter().any(|option| arguments.has(option)) {
+        return Ok(None);
+    }
+    let [x2apic, xcr0, xss] = &OPTIONAL;
+    let number = |option: &Opt, most: u64| {
+        let Some(given) = arguments.value(option.name()) else {
+            return Err(Failure::usage(command, &format!("{} is missing", option.wanted())));
+        };
+        wide(given.to_str().unwrap_or_default()).filter(|&number| number <= most).ok_or_else(|| {
+            let bits = 64 - most.leading_zeros();
+            Failure::usage(command, &format!("{} '{}' is no hexadecimal number of up to {bits} bits", option.name(), shown(given)))
+        })
+    };
+    Ok(Some(Processor {
+        x2apic: number(x2apic, u32::MAX.into())? as u32,
+        xcr0: number(xcr0, u64::MAX)?,
+        xss: number(xss, u64::MAX)?,
+        osxsave: arguments.has(&OSXSAVE),
+    }))
+}
