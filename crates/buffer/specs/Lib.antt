@@ -2,4 +2,3 @@ pub mod Front
 pub mod FrontLaws
 pub mod WritesExactly
 pub mod OnwardLaws
-

@@ -83,7 +83,10 @@ fn check_rows(list: &[u8]) -> Checked
     ensures { λ r. ⌜ (r .lawful ≡ fieldsLawful (now (list .entry))) × (r .lawful ≡ true → r .extended ≡ length (rowsOn1 (rowsIn (now (list .entry))))) ⌝ }
 {
     if word_at(list, 4) != 0 {
-        return Checked { lawful: false, extended: 0 };
+        return Checked {
+            lawful: false,
+            extended: 0,
+        };
     }
     let count = row_count(list);
     let mut extended = 0;
@@ -93,10 +96,16 @@ fn check_rows(list: &[u8]) -> Checked
             extended += one(is_extended_state(list, q));
             q += 1;
         } else {
-            return Checked { lawful: false, extended: 0 };
+            return Checked {
+                lawful: false,
+                extended: 0,
+            };
         }
     }
-    Checked { lawful: true, extended }
+    Checked {
+        lawful: true,
+        extended,
+    }
 }
 
 // Whether the flag of row `q` is 0 or 1 and its padding 0.
@@ -141,7 +150,11 @@ fn put_pages(list: &[u8], others: usize, extended: usize, out: &mut [u8])
     put_count(out, PAGE_SIZE, extended);
     put_entries(list, out);
     put_zeros(out, FIRST_ENTRY + ENTRY_SIZE * others, PAGE_SIZE);
-    put_zeros(out, PAGE_SIZE + FIRST_ENTRY + ENTRY_SIZE * extended, 2 * PAGE_SIZE);
+    put_zeros(
+        out,
+        PAGE_SIZE + FIRST_ENTRY + ENTRY_SIZE * extended,
+        2 * PAGE_SIZE,
+    );
 }
 
 // A page's count, and the twelve reserved bytes after it.

@@ -15,8 +15,8 @@ ghost use Rattle.compare.specs.Compare.{compared};
 ghost use Rattle.compare.specs.Means.{order};
 ghost use Rattle.snp_cpuid.specs.Exports.{builtNumbers, foundNumbers, writtenNumbers, comparedWith, comparedNumbers, subleafOf};
 
-mod kvm;
 mod guest_exports;
+mod kvm;
 mod line_exports;
 
 #[repr(C)]

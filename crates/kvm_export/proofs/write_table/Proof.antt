@@ -30,13 +30,12 @@ returns-2 c =
     let c₁₃ = c₁₀ .before .before .before in
     let a = c₁₃ .before .before .before .before .args in
     let n = c₁₃ .rows-among .ensures .0 in
-    rw (front-whole (listOf (a .t)) (a .out .now) (omega (arith, list-size (a .t) n)))
-    (
+    rw (front-whole (listOf (a .t)) (a .out .now) (omega (arith, list-size (a .t) n))) (
       ap Bytes (list-size (a .t) n),
       list-done (a .t) _ n
-      (c₁₀ .put-word .ensures)
-      (c .before .before .before .before .before .before .put-word2 .ensures)
-      (c .before .before .put-rows .ensures),
+          (c₁₀ .put-word .ensures)
+          (c .before .before .before .before .before .before .put-word2 .ensures)
+          (c .before .before .put-rows .ensures),
     )
 
 pub write-table-spec : {M : Type 1} → statement M

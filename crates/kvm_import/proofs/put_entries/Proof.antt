@@ -32,8 +32,8 @@ loop-again c =
     let l = c .before .before .before .before .before .before .before .before .loop in
     let a = c .before .before .before .before .before .before .before .before .before .before .before .before .args in
     let next =
-        entering-next (a .list .now) (a .out .now) (omega arith) (omega arith) (l .out) (l .q) (l .extended) (omega arith) (l .inv .3) (test .result) (sym (test .ensures))
-        (put .last .1 .1 .0) (rw (← at .ensures) (put .ensures)) in
+    entering-next (a .list .now) (a .out .now) (omega arith) (omega arith) (l .out) (l .q) (l .extended) (omega arith) (l .inv .3) (test .result) (sym (test .ensures))
+    (put .last .1 .1 .0) (rw (← at .ensures) (put .ensures)) in
     (omega arith, l .inv .1, l .inv .2, rw (c .one .ensures .0) next)
 
 pub put-entries-spec : {M : Type 1} → statement M
@@ -50,8 +50,8 @@ put-entries-spec =
     put-entry-requires
     (λ c κs. search needs)
     (λ c.
-        let l = c .before .before .before .before .before .before .before .before .loop in
-        omega (arith, c .one .ensures .1, l .inv .3 .few))
+    let l = c .before .before .before .before .before .before .before .before .loop in
+    omega (arith, c .one .ensures .1, l .inv .3 .few))
     (λ c. omega arith)
     (λ c. omega arith)
     loop-again
