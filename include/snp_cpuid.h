@@ -2,7 +2,7 @@
  *
  * Link with target/staticlib/libsnp_cpuid.a (`rt staticlib snp_cpuid`). Every function may be called with any arguments that fit its
  * types: there is nothing that a caller must establish first. The functions keep no state, allocate nothing and may be called from
- * several threads at once. Passing a run of empty pages takes 48 bytes of stack for each; 40,000 in a row fit a stack of 2 MiB.
+ * several threads at once. How much stack a call takes does not depend on the pages.
  *
  * Pages are the CPUID pages of the SEV-SNP firmware, 4,096 bytes each, end to end. A pointer may be null where its length is 0.
  */
