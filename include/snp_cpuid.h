@@ -2,7 +2,7 @@
  *
  * Link with target/staticlib/libsnp_cpuid.a (`rt staticlib snp_cpuid`). Every function may be called with any arguments that fit its
  * types: there is nothing that a caller must establish first. The functions keep no state, allocate nothing and may be called from
- * several threads at once. Passing a run of empty pages takes 48 bytes of stack for each; 40,000 in a row fit a stack of 2 MiB.
+ * several threads at once. How much stack a call takes does not depend on the pages.
  *
  * Pages are the CPUID pages of the SEV-SNP firmware, 4,096 bytes each, end to end. A pointer may be null where its length is 0.
  */
@@ -112,7 +112,8 @@ struct snp_cpuid_found snp_cpuid_lookup(const uint8_t *pages, size_t length, boo
                                         uint32_t subleaf, bool enforce_subleaf);
 
 /* Builds, and writes the image at the front of out: for each row byte 1, leaf, EAX, EBX, ECX, EDX, or byte 2, leaf, subleaf and the
- * four, each number 4 bytes little-endian. Where it refuses, out is as it was; bytes beyond the image are as they were. */
+ * four, each number 4 bytes little-endian. Rows ascend by leaf, as an unsigned number, then by subleaf. Where it refuses, out is as it
+ * was; bytes beyond the image are as they were. */
 struct snp_cpuid_written snp_cpuid_write_image(const uint8_t *pages, size_t length, bool secure_avic, uint8_t *out, size_t room);
 
 /* Builds, and writes the table as struct kvm_cpuid2 at the front of out: a count and a zero word, then 40 bytes a row (function, index,
@@ -143,9 +144,10 @@ struct snp_cpuid_found snp_cpuid_guest_lookup(const uint8_t *pages, size_t lengt
 struct snp_cpuid_written snp_cpuid_write_guest_image(const uint8_t *pages, size_t length, bool secure_avic, uint32_t x2apic, uint64_t xcr0,
                                                      uint64_t xss, bool osxsave, uint8_t *out, size_t room);
 
-/* Compares two servers by their pages, under one choice of secure AVIC: may a guest of A move to B? Registers are compared as masked.
- * After a yes, building B gives a table with every row of A's, at least A's bits in every feature register, a save area no smaller and
- * all else equal; or refuses it by 3, for a subleaf of leaf Dh that B's own further state needs, or by 5. */
+/* Compares two servers by their pages, under one choice of secure AVIC: may a guest of A move to B? Registers are compared as masked,
+ * D.0.EAX with bits 0 and 1 set on both sides. After a yes, building B gives a table with every row of A's, at least A's bits in every
+ * feature register, a save area no smaller and all else equal; or refuses it by 3, for a subleaf of leaf Dh that B's own further state
+ * needs, or by 5. */
 struct snp_cpuid_compared snp_cpuid_compare(const uint8_t *a, size_t a_length, const uint8_t *b, size_t b_length, bool secure_avic);
 
 /* A refusal as one line of ASCII: the number in decimal, then, each after one space, the details that it names, leaf in eight hexadecimal capitals,

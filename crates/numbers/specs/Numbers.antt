@@ -1,4 +1,4 @@
--- Document 01's number and details of each answer (crates/checks/specs/Refusal.antt) as plain numbers: 0 for accepted, and a flag for
+-- Document 01's number and details of each answer (crates/table/specs/Refusal.antt) as plain numbers: 0 for accepted, and a flag for
 -- whether a subleaf is named.
 use Prim.Native.Nat.{ℕ}
 use Rattle.topology.specs.declared.TopologyError.{TopologyError}

@@ -345,7 +345,7 @@ pub reader-in-order : (s : List ℕ) (n : ℕ) → length (entries s) ≤ n
     → (given s n (firstIndex s) ≡ map parsed (entries s)) × (keepIf countsRead (given s n (firstIndex s)) ≡ map parsed (counted s))
 reader-in-order s n l = (reader-gives s n l, reader-gives-counted s n l)
 
--- ---- Not empty words. crates/instances/specs/PageSets.antt has four page sets, byte by byte.
+-- ---- Not empty words. crates/examples/specs/PageSets.antt has four page sets, byte by byte.
 
 -- two whole pages
 pub a-whole-set : length serverA ≡ 8192

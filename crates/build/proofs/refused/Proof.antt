@@ -1,4 +1,4 @@
--- `results::refused` meets its contract: the refusal, beside the empty table.
+-- `build::refused` meets its contract: the refusal, beside the empty table.
 use borrow.Author.Needs.{needs}
 use Rattle.build.proofs.refused.Statement.{statement}
 use Rattle.build.proofs.refused.Tie as tie

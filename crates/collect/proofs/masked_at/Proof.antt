@@ -1,4 +1,4 @@
--- `build::masked_at` meets its contract: at D.0 and elsewhere.
+-- `collect::masked_at` meets its contract: at D.0 and elsewhere.
 use borrow.Author.Needs.{needs}
 use borrow.Author.Tests.{eq-eqb, ne-eqb}
 use Rattle.bits.specs.Bits.{maskOf}

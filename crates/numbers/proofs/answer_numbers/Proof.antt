@@ -1,4 +1,4 @@
--- `answers::answer_numbers` meets its contract: accepted, or one refusal.
+-- `numbers::answer_numbers` meets its contract: accepted, or one refusal.
 use borrow.Author.Needs.{needs}
 use Rattle.numbers.proofs.answer_numbers.Statement.{statement}
 use Rattle.numbers.proofs.answer_numbers.Tie as tie

@@ -1,4 +1,4 @@
--- `answers::at_leaf` meets its contract: one case for each form of a subleaf.
+-- `numbers::at_leaf` meets its contract: one case for each form of a subleaf.
 use borrow.Author.Needs.{needs}
 use Rattle.numbers.proofs.at_leaf.Statement.{statement}
 use Rattle.numbers.proofs.at_leaf.Tie as tie

@@ -1,4 +1,4 @@
--- `answers::topology_numbers` meets its contract: one case for each reason.
+-- `numbers::topology_numbers` meets its contract: one case for each reason.
 use borrow.Author.Needs.{needs}
 use Rattle.numbers.proofs.topology_numbers.Statement.{statement}
 use Rattle.numbers.proofs.topology_numbers.Tie as tie

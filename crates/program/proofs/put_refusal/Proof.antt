@@ -1,4 +1,4 @@
--- `output::put_refusal` meets its contract: no room, or eleven bytes stored one after another.
+-- `program::put_refusal` meets its contract: no room, or eleven bytes stored one after another.
 use mathlib.Core.Path.{sym, ap}
 use native.Mathlib.Omega.{arith}
 use lib.ListN.{length-set}

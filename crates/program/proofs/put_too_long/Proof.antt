@@ -1,4 +1,4 @@
--- `output::put_too_long` meets its contract: no room, or one byte stored.
+-- `program::put_too_long` meets its contract: no room, or one byte stored.
 use mathlib.Core.Path.{sym, ap}
 use denote.Ref.{now}
 use Rattle.buffer.specs.Front.{AfterWrite}

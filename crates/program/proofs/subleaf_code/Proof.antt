@@ -1,4 +1,4 @@
--- `output::subleaf_code` meets its contract: none, or the subleaf.
+-- `program::subleaf_code` meets its contract: none, or the subleaf.
 use borrow.Author.Tests.{eq-eqb, ne-eqb}
 use Rattle.program.proofs.subleaf_code.Statement.{statement}
 use Rattle.program.proofs.subleaf_code.Tie as tie

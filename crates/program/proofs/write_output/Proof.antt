@@ -1,4 +1,4 @@
--- `output::write_output` meets its contract: too long, refused, or the image.
+-- `program::write_output` meets its contract: too long, refused, or the image.
 use Rattle.program.specs.BytesLaws.{output-too-long, output-refused, output-accepted}
 use borrow.Author.Needs.{needs}
 use Rattle.program.proofs.write_output.Statement.{statement}
