@@ -60,16 +60,16 @@ count-from t k (suc n) = go (rowIn t k .present) refl (count-from t (suc k) n)
 
     go : (b : Bool) → rowIn t k .present ≡ b → rowsAmong (t .present) 0 (suc k) + length (rowsFrom t (suc k) n) ≡ rowsAmong (t .present) 0 (suc k + n)
         → rowsAmong (t .present) 0 k + length (pick b (listRow k (rowIn t k .result) ∷ rowsFrom t (suc k) n) (rowsFrom t (suc k) n)) ≡ rowsAmong
-            (t .present) 0 (k + suc n)
+        (t .present) 0 (k + suc n)
     go b e ih =
         let z : k + suc n ≡ suc k + n = omega arith in
         let m : rowsAmong (t .present) 0 (suc k) ≡ rowsAmong (t .present) 0 k + one b = sym (ap (rowsAmong (t .present) 0)
-            (add-one k)) ∙ more ∙ ap (λ (x : Bool). rowsAmong (t .present) 0 k + one x) e in
+        (add-one k)) ∙ more ∙ ap (λ (x : Bool). rowsAmong (t .present) 0 k + one x) e in
         rw z (last b m)
       where
         last : (b : Bool) → rowsAmong (t .present) 0 (suc k) ≡ rowsAmong (t .present) 0 k + one b
             → rowsAmong (t .present) 0 k + length (pick b (listRow k (rowIn t k .result) ∷ rowsFrom t (suc k) n) (rowsFrom t
-                (suc k) n)) ≡ rowsAmong (t .present) 0 (suc k + n)
+            (suc k) n)) ≡ rowsAmong (t .present) 0 (suc k + n)
         last true m = omega (arith, ih, m)
         last false m = omega (arith, ih, m)
 

@@ -68,8 +68,14 @@ entries-none = refl
 
 pub entries-length : (rs : List ListRow) → length (entriesBytes rs) ≡ 48 * length rs
 entries-length [] = ap length entries-none
-entries-length (r ∷ rs) = omega (arith, ap length (entries-cons r rs), length-append (entryBytes r)
-    (entriesBytes rs), entry-length r, entries-length rs)
+entries-length (r ∷ rs) = omega (
+  arith,
+  ap length (entries-cons r rs),
+  length-append (entryBytes r)
+      (entriesBytes rs),
+  entry-length r,
+  entries-length rs,
+)
 
 -- the entry of the first row is stored first, on its page
 entered-more : (out : List ℕ) (i j : ℕ) (r : ListRow) (rs : List ListRow) (b : Bool) → isExtendedState r ≡ b → i + 48 * length (rowsOn0 rs) ≤ j
@@ -105,8 +111,16 @@ pub record Entering (l out₀ out : List ℕ) (q d : ℕ) : Type 0 where
 
 module _ (l out₀ : List ℕ) where
   pub entering-first : Entering l out₀ out₀ 0 0
-  entering-first = record { size = refl; few = omega arith; extended = omega (arith, ap (λ (rs : List ListRow). length (rowsOn1 rs))
-      (left-all l)); bytes = rw (left-all l) }
+  entering-first = record {
+    size = refl;
+    few = omega arith;
+    extended = omega (
+      arith,
+      ap (λ (rs : List ListRow). length (rowsOn1 rs))
+          (left-all l),
+    );
+    bytes = rw (left-all l);
+  }
 
   module _ (few-0 : length (rowsOn0 (rowsIn l)) ≤ 64) (few-1 : length (rowsOn1 (rowsIn l)) ≤ 64) (out : List ℕ) (q d : ℕ) (inside : q < rowCount l)
       (e : Entering l out₀ out q d) where
@@ -154,7 +168,7 @@ module _ (l out₀ : List ℕ) where
   entering-last out q d h e =
       let none : rowsLeft l q ≡ [] = left-none l q h in
       let a : entriesBytes (rowsOn0 (rowsLeft l q)) ≡ [] = ap (λ (rs : List ListRow). entriesBytes
-          (rowsOn0 rs)) none ∙ ap entriesBytes on0-none ∙ entries-none in
+      (rowsOn0 rs)) none ∙ ap entriesBytes on0-none ∙ entries-none in
       let b : entriesBytes (rowsOn1 (rowsLeft l q)) ≡ [] = ap (λ (rs : List ListRow). entriesBytes
-          (rowsOn1 rs)) none ∙ ap entriesBytes on1-none ∙ entries-none in
+      (rowsOn1 rs)) none ∙ ap entriesBytes on1-none ∙ entries-none in
       rw (a, b) at (e .bytes)

@@ -24,8 +24,13 @@ length-entries rs = omega (arith, entries-length rs, length-bytes (entriesWords 
 pub length-page : (rs : List ListRow) → length rs ≤ mostEntries → length (pageWords rs) ≡ 1024
 unfolding pageWords
 length-page rs h =
-    omega (arith, length-append (entriesWords rs) (replicate (1020 - 12 * length rs) 0), length-entries rs, length-replicate {A = ℕ}
-        (1020 - 12 * length rs) 0)
+    omega (
+      arith,
+      length-append (entriesWords rs) (replicate (1020 - 12 * length rs) 0),
+      length-entries rs,
+      length-replicate {A = ℕ}
+          (1020 - 12 * length rs) 0,
+    )
 
 page-length : (rs : List ListRow) → length rs ≤ mostEntries → length (pageBytes rs) ≡ 4096
 unfolding pageBytes
@@ -110,7 +115,7 @@ pages-done out rs {n} {d} p q h k e₁ e₂ e₃ e₄ e₅ =
     (omega (arith, entries-length r₀))
     (omega (arith, length-replicate {A = ℕ} (4080 - 48 * length r₀) 0))
     ∙ ap (λ (l : List ℕ). sets (sets (sets l 4096 (countBytes (length r₁))) 4112 (entriesBytes r₁)) (4096 + 16 + 48 * length r₁) (replicate
-        (4080 - 48 * length r₁) 0))
+    (4080 - 48 * length r₁) 0))
     (three-pieces out 0 r₀ (omega arith))
     ∙ three-pieces (sets out 0 (pageBytes r₀)) 4096 r₁ (omega arith)
     ∙ sets-join out 0 (pageBytes r₀) (pageBytes r₁) 4096 (omega (arith, page-length r₀ (omega arith)))

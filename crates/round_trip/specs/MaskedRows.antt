@@ -24,8 +24,14 @@ and-again x m = bits-ext _ _ (λ k. omega (arith, bit-and k (bitAnd x m) m, bit-
 
 or-again : (x m l : ℕ) → bitOr (bitAnd (bitOr (bitAnd x m) l) m) l ≡ bitOr (bitAnd x m) l
 or-again x m l =
-    bits-ext _ _ (λ k. omega (arith, bit-or k (bitAnd (bitOr (bitAnd x m) l) m) l, bit-and k (bitOr (bitAnd x m) l) m, bit-or k
-        (bitAnd x m) l, bit-and k x m))
+    bits-ext _ _ (λ k. omega (
+      arith,
+      bit-or k (bitAnd (bitOr (bitAnd x m) l) m) l,
+      bit-and k (bitOr (bitAnd x m) l) m,
+      bit-or k
+          (bitAnd x m) l,
+      bit-and k x m,
+    ))
 
 eax-again : (b : Bool) (x m l : ℕ)
     → pick b (bitOr (bitAnd (pick b (bitOr (bitAnd x m) l) (bitAnd x m)) m) l) (bitAnd (pick b (bitOr (bitAnd x m) l) (bitAnd x m)) m)

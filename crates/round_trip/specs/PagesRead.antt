@@ -87,7 +87,7 @@ page-read (r ∷ rs) post h =
     past q j =
         let p : 12 * suc q + j ≡ 12 + (12 * q + j) = omega arith in
         ap (λ (n : ℕ). getD (entryWords r ++ (entriesWords rs ++ post)) n 0) p ∙ getD-append-add (entryWords r) (entriesWords rs ++ post)
-            (12 * q + j) 0
+        (12 * q + j) 0
 
 page-entries : (s : List ℕ) (p q n : ℕ) → map ofEntry (onPage s p q n) ≡ tabulate n (λ j. ofEntry (entryAt s p (q + j)))
 unfolding onPage tabulate
@@ -110,7 +110,7 @@ counted-page s p q (suc n) = go (countsOn p (ofEntry (entryAt s p q))) (counted-
     go : (b : Bool) → map ofEntry (keepIf counts (onPage s p (suc q) n)) ≡ keepIf (countsOn p) (map ofEntry (onPage s p (suc q) n))
         → map ofEntry (pick b (entryAt s p q ∷ keepIf counts (onPage s p (suc q) n)) (keepIf counts (onPage s p (suc q) n)))
         ≡ pick b (ofEntry (entryAt s p q) ∷ keepIf (countsOn p) (map ofEntry (onPage s p (suc q) n))) (keepIf (countsOn p) (map ofEntry
-            (onPage s p (suc q) n)))
+        (onPage s p (suc q) n)))
     go true e = ap (ofEntry (entryAt s p q) ∷_) e
     go false e = e
 

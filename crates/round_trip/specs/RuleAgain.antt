@@ -42,8 +42,12 @@ bitwise-clear {f} false m b = record {
   sets = λ k. min (b .sets k) (bit k (2 ^ 32 - 1 - m));
   at = λ k x.
       bit-and k (f x) (2 ^ 32 - 1 - m)
-      ∙ rw (b .at k x, min-max (min (bit k x) (b .keeps k)) (b .sets k) (bit k (2 ^ 32 - 1 - m)), min-min (bit k x) (b .keeps k) (bit k
-          (2 ^ 32 - 1 - m)));
+      ∙ rw (
+        b .at k x,
+        min-max (min (bit k x) (b .keeps k)) (b .sets k) (bit k (2 ^ 32 - 1 - m)),
+        min-min (bit k x) (b .keeps k) (bit k
+            (2 ^ 32 - 1 - m)),
+      );
 }
 
 bitwise-or : {f : ℕ → ℕ} (m : ℕ) → Bitwise f → Bitwise (λ x. bitOr (f x) m)

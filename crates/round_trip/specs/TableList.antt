@@ -64,7 +64,7 @@ kept-from t f g e k (suc n) = go (rowIn t k .present) (kept-from t f g e (suc k)
 
     go : (b : Bool) → length (keepIf f (map cutRow (rowsFrom t (suc k) n))) ≤ tally g (suc k) n
         → length (keepIf f (map cutRow (pick b (listRow k (rowIn t k .result) ∷ rowsFrom t (suc k) n) (rowsFrom t (suc k) n)))) ≤ one
-            (g k) + tally g (suc k) n
+        (g k) + tally g (suc k) n
     go true h = rw (e k (rowIn t k .result)) (kept (g k) (cutRow (listRow k (rowIn t k .result))) _ h)
     go false h = omega arith
 
@@ -117,5 +117,11 @@ module _ (t : CpuidResults) where
   pub list-accepted : listVerdict (listOf t) ≡ Accepted
   unfolding listVerdict rowsFit
   list-accepted =
-      rw (good-length, good-fields, rows-read, le-leb (length (rowsOn0 rowsRead)) mostEntries fit-0, le-leb (length
-          (rowsOn1 rowsRead)) mostEntries fit-1)
+      rw (
+        good-length,
+        good-fields,
+        rows-read,
+        le-leb (length (rowsOn0 rowsRead)) mostEntries fit-0,
+        le-leb (length
+            (rowsOn1 rowsRead)) mostEntries fit-1,
+      )

@@ -10,7 +10,7 @@ use Rattle.kvm_export.proofs.write_list.Tie as tie
 returns : tie.Need-returns
 returns c =
     let e = write-refused _ _ (now (c .before .before .before .before .before .before .args .out)) (c .before .before .before .build .ensures)
-        (c .before .verdict .given .1) in
+    (c .before .verdict .given .1) in
     (ap (λ (o : AfterWrite). o .answer) e, ap (λ (o : AfterWrite). o .buffer) e)
 
 returns-2 : tie.Need-returns-2
@@ -18,7 +18,7 @@ returns-2 c =
     let w = c .before .before in
     let t = w .before .before .before in
     let e = write-accepted _ _ (now (t .before .before .before .before .before .args .out)) (t .before .before .build .ensures)
-        (t .enum-told .given .1) in
+    (t .enum-told .given .1) in
     (w .write-table .ensures .0 ∙ ap (λ (o : AfterWrite). o .answer) e, w .write-table .ensures .1 ∙ ap (λ (o : AfterWrite). o .buffer) e)
 
 pub write-list-spec : {M : Type 1} → statement M

@@ -23,7 +23,7 @@ put-entry-requires c κs =
     let a = c .before .before .before .before .before .before .before .before .args in
     let test = c .before .before .is-extended-state in
     let room = entering-room (a .list .now) (a .out .now) (omega arith) (omega arith) (l .out) (l .q) (l .extended) (omega arith) (l .inv .3)
-        (test .result) (sym (test .ensures)) in
+    (test .result) (sym (test .ensures)) in
     (omega arith, omega (arith, c .before .entry-index .ensures, room, l .inv .3 .size))
 
 loop-again : tie.Need-loop-again Inv-loop μ-loop
@@ -34,9 +34,9 @@ loop-again c =
     let l = c .before .before .before .before .before .before .before .before .loop in
     let a = c .before .before .before .before .before .before .before .before .before .before .before .before .args in
     let next =
-        entering-next (a .list .now) (a .out .now) (omega arith) (omega arith) (l .out) (l .q) (l .extended) (omega arith) (l .inv .3)
-            (test .result) (sym (test .ensures))
-        (put .last .1 .1 .0) (rw (← at .ensures) (put .ensures)) in
+    entering-next (a .list .now) (a .out .now) (omega arith) (omega arith) (l .out) (l .q) (l .extended) (omega arith) (l .inv .3)
+    (test .result) (sym (test .ensures))
+    (put .last .1 .1 .0) (rw (← at .ensures) (put .ensures)) in
     (omega arith, l .inv .1, l .inv .2, rw (c .one .ensures .0) next)
 
 pub put-entries-spec : {M : Type 1} → statement M
@@ -53,8 +53,8 @@ put-entries-spec =
     put-entry-requires
     (λ c κs. search needs)
     (λ c.
-        let l = c .before .before .before .before .before .before .before .before .loop in
-        omega (arith, c .one .ensures .1, l .inv .3 .few))
+    let l = c .before .before .before .before .before .before .before .before .loop in
+    omega (arith, c .one .ensures .1, l .inv .3 .few))
     (λ c. omega arith)
     (λ c. omega arith)
     loop-again
