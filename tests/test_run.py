@@ -29,25 +29,27 @@ class Gate(unittest.TestCase):
                 (bin_folder / name).write_text(f'#!/bin/sh\n{script}\n')
                 (bin_folder / name).chmod(0o755)
             shutil.copy(GATE, tests)
+            (tests / 'kvm_header').write_text('#!/bin/sh\necho 29 rows\n')
+            (tests / 'kvm_header').chmod(0o755)
             environment = {**os.environ, 'PATH': f'{bin_folder}:{os.environ["PATH"]}', 'OPENVMM_CVM_CPUID': '', 'KVM_DEVICE': str(bin_folder if kvm else bin_folder / 'none')}
             ran = subprocess.run([tests / 'run', *words], env=environment, capture_output=True, text=True, check=False)
             return ran.returncode, ran.stdout.splitlines()
 
     def test_all_pass(self):
         status, lines = self.run_gate()
-        self.assertEqual((status, lines[-1]), (0, '18 passed, 0 failed'))
+        self.assertEqual((status, lines[-1]), (0, '20 passed, 0 failed'))
         self.assertEqual(lines[-2], '3 passed over: 3 comparisons with the Rust, which is not at hand (differential/README.md)')
 
     def test_a_test_that_ran_nothing_or_does_not_say_fails(self):
         for said in '0 tests ran', '1 tests ran', 'OK', '':
             status, lines = self.run_gate(said)
-            self.assertEqual((status, lines[-1]), (1, '9 passed, 9 failed'), said)
+            self.assertEqual((status, lines[-1]), (1, '10 passed, 10 failed'), said)
 
     def test_a_status_that_is_not_0_fails(self):
-        self.assertEqual(self.run_gate(status=1)[1][-1], '9 passed, 9 failed')
+        self.assertEqual(self.run_gate(status=1)[1][-1], '10 passed, 10 failed')
 
     def test_proofs_that_fail(self):
-        for proofs, last in ('6 passed, 1 failed', '17 passed, 1 failed'), ('rt: out of memory', '11 passed, 1 failed'), ('', '11 passed, 1 failed'):
+        for proofs, last in ('6 passed, 1 failed', '19 passed, 1 failed'), ('rt: out of memory', '13 passed, 1 failed'), ('', '13 passed, 1 failed'):
             status, lines = self.run_gate(proofs=proofs)
             self.assertEqual((status, lines[-1]), (1, last))
 
@@ -58,12 +60,12 @@ class Gate(unittest.TestCase):
 
     def test_without_kvm(self):
         status, lines = self.run_gate(kvm=False)
-        self.assertEqual((status, lines[-1]), (0, '17 passed, 0 failed'))
+        self.assertEqual((status, lines[-1]), (0, '19 passed, 0 failed'))
         self.assertTrue(lines[-2].startswith("4 passed over: a guest's own CPUID, as "), lines[-2])
 
     def test_without_proofs(self):
         status, lines = self.run_gate(words=['--no-proofs'])
-        self.assertEqual((status, lines[-1]), (0, '10 passed, 0 failed'))
+        self.assertEqual((status, lines[-1]), (0, '12 passed, 0 failed'))
         self.assertTrue(lines[-2].startswith('5 passed over: the proofs, as asked; why the edits are refused'), lines[-2])
 
 
