@@ -8,7 +8,7 @@ import unittest
 import model
 from model_kvm import read_list, write_list
 from pagesets import STATE, changed, entries, minimal, page, pages, rich, spread, with_topology, without
-from vector_groups import Damage
+from vectors_document_01 import Damage
 
 MILAN = Path(__file__).with_name('epyc-milan.pages').read_bytes()
 GOOD = spread(minimal()), MILAN, spread(rich())

@@ -159,7 +159,7 @@ fn mask_save_area_and_topology_in_words() {
     let legacy = "rows           26\ncombined mask  00000003: x87 SSE\nsave area      576 bytes\ntopology       ";
     for (inputs, expected) in [
         ((0, 0, 0, 0, 0), "1 thread per core (APIC id shift 0), 1 logical processor (APIC id shift 0)\n"),
-        ((0, 2, 3, 1, 0), "1 thread per core (APIC id shift 0), 3 logical processors (APIC id shift 1)\n"),
+        ((0, 2, 3, 1, 0), "1 thread per core (APIC id shift 0), 3 logical processors (APIC id shift 2)\n"),
         ((7, 127, 128, 1, 1), "2 threads per core (APIC id shift 1), 128 logical processors (APIC id shift 7)\n"),
         ((15, 0, 0, 0, 0), "1 thread per core (APIC id shift 0), 32768 logical processors (APIC id shift 15)\n"),
     ] {
