@@ -8,7 +8,7 @@ use native.Mathlib.Omega.{arith}
 use lib.Dec.{eqb, ltb}
 use lib.ListN.{length, getD, set, length-set, replicate, length-replicate, getD-replicate, List·getD-eq-default}
 use lib.Seq.{getD-set-same, getD-set-other, set-out}
-use borrow.Author.Tests.{eqb-true, eqb-false, ne-eqb, ltb-true, ltb-false}
+use borrow.Author.Tests.{eqb-true, eqb-false, eq-eqb, ne-eqb, ltb-true, ltb-false}
 use Rattle.bits.specs.Choice.{pick}
 use Rattle.bits.specs.ChoiceLaws.{never-both, pick-same, pick-true, pick-false}
 use Rattle.bits.specs.Lists.{tabulate, keepIf}
@@ -43,6 +43,20 @@ countedPlace e = pick (countsRead e) (placeOf (e .leaf) (e .subleaf)) places
 pub counted-place-stored : (e : Entry) → countedPlace (parsed e) ≡ storedAt e
 unfolding countedPlace storedAt counts
 counted-place-stored e = refl
+
+-- by each return of the code: leaf Dh on page 1, Dh elsewhere, any other leaf
+module _ (e : ParsedCpuidEntry) where
+  pub counted-dh : {r : ℕ} → e .leaf .0 ≡ 0xD → e .page ≡ 1 → r ≡ placeOf (e .leaf) (e .subleaf) → r ≡ countedPlace e
+  unfolding countedPlace
+  counted-dh l p q = q ∙ rw (eq-eqb (e .leaf .0) 0xD l, eq-eqb (e .page) 1 p)
+
+  pub uncounted-dh : e .leaf .0 ≡ 0xD → e .page ≢ 1 → places ≡ countedPlace e
+  unfolding countedPlace
+  uncounted-dh l p = rw (eq-eqb (e .leaf .0) 0xD l, ne-eqb (e .page) 1 p)
+
+  pub counted-other : {r : ℕ} → e .leaf .0 ≢ 0xD → r ≡ placeOf (e .leaf) (e .subleaf) → r ≡ countedPlace e
+  unfolding countedPlace
+  counted-other l q = q ∙ rw (ne-eqb (e .leaf .0) 0xD l)
 
 -- a table with a row stored at place i; past the last nothing changes
 abbrev pub store : CpuidResults → ℕ → CpuidResult → CpuidResults
