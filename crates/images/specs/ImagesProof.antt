@@ -2,10 +2,9 @@
 use mathlib.Core.Path.{_≡_, refl, sym, ap, ap₂, _∙_, subst}
 use mathlib.Core.Bool.{Bool, true, false, _&&_}
 use mathlib.Core.List.{List}
-use Prim.Native.Nat.{ℕ, _^_, _<_}
+use Prim.Native.Nat.{ℕ, _<_}
 use lib.Dec.{lit<, eqb}
 use lib.Bits.{bitOr}
-use native.Mathlib.Omega.{arith}
 use Rattle.bits.specs.Choice.{pick}
 use Rattle.bits.specs.BitsLaws.{field-lt}
 use Rattle.x86defs.specs.declared.CpuidResult.{CpuidResult}
@@ -18,12 +17,8 @@ use Rattle.table.specs.declared.Verdict.the-variants.{Accepted}
 use Rattle.table.specs.Rows.{Row, Rows, vacant}
 use Rattle.table.specs.Table.{rowIn, rowsIn}
 use Rattle.table.specs.Fits.{Fits}
-use Rattle.checks.specs.ExtendedState.{xssOf, xfem, xss, combinedMask, saveArea, sizeOf}
+use Rattle.checks.specs.ExtendedState.{xssOf, xfem, xss, combinedMask}
 use Rattle.checks.specs.TopologyInputs.{inputsOf}
-use Rattle.checks.specs.declared.Size.{Size}
-use Rattle.checks.specs.declared.Size.the-variants.{Bytes, TooLarge}
-use Rattle.checks.specs.Checks.{sizeVerdict, areaVerdict}
-use Rattle.checks.specs.SaveAreaLaws.{size-bytes}
 use Rattle.update.specs.Finish.{settings, finished}
 use Rattle.update.specs.FitLaws.{SettingsFit, finished-fits}
 use Rattle.collect.specs.FirstEntries.{rowsOf}
@@ -31,7 +26,7 @@ use Rattle.collect.specs.RowsFit.{rows-fit}
 use Rattle.build.specs.Build.{answer}
 use Rattle.rise.specs.RiseProof.{answer-row, answer-mask}
 use Rattle.rise.specs.Same.{finished-absent}
-use Rattle.rise.specs.BuiltLaws.{accepted-passes, built-mask}
+use Rattle.rise.specs.BuiltLaws.{area-fits, built-mask}
 use Rattle.images.specs.TableLaws.{Plain, rows-told, same-image}
 use Rattle.images.specs.Images.{SameTable, EqualImages}
 
@@ -42,20 +37,9 @@ threads-fit t = go (eqb t 1)
     go true = record { eax = lit< tt; ebx = lit< tt; ecx = lit< tt; edx = lit< tt }
     go false = record { eax = lit< tt; ebx = lit< tt; ecx = lit< tt; edx = lit< tt }
 
-size-fits : (n : ℕ) → sizeVerdict (sizeOf n) ≡ Accepted → n < 2 ^ 32
-size-fits n = go (sizeOf n) refl
-  where
-    go : (z : Size) → sizeOf n ≡ z → sizeVerdict z ≡ Accepted → n < 2 ^ 32
-    go (Bytes v) f g = let (q, h) = size-bytes n v (sym f) in omega arith
-    go TooLarge f g = let z : _≡_ {A = ℕ} 0 1 = cc in absurd (omega arith)
-
 module _ (avic : Bool) (s : List ℕ) (e : answer avic s .verdict ≡ Accepted) where
   abbrev m : Rows
   m = rowsOf avic s
-
-  area-fits : saveArea m (xfem m) < 2 ^ 32
-  unfolding areaVerdict
-  area-fits = size-fits (saveArea m (xfem m)) (accepted-passes avic s e .area)
 
   cores-fit : Fits (coreLevel (processors (topologyOf (inputsOf m))))
   unfolding inputsOf
@@ -68,7 +52,7 @@ module _ (avic : Bool) (s : List ℕ) (e : answer avic s .verdict ≡ Accepted) 
 
   settings-fit : SettingsFit (settings m)
   unfolding settings
-  settings-fit = record { area = area-fits; threads = threads-fit (inputsOf m .t); cores = cores-fit }
+  settings-fit = record { area = area-fits avic s e; threads = threads-fit (inputsOf m .t); cores = cores-fit }
 
   pub accepted-plain : Plain (answer avic s .table)
   accepted-plain = record {

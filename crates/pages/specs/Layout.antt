@@ -57,6 +57,6 @@ entryAt s p q =
 unfoldable pub badLength : List ℕ → Bool
 badLength s = eqb (length s) 0 || not (eqb (length s % pageSize) 0)
 
--- refusal 2: some page's count is above 64
+-- whether no page's count is above 64: refusal 2 where one is
 unfoldable pub countsFit : List ℕ → Bool
 countsFit s = every (λ p. leb (countOf s p) mostEntries) (pagesIn s)

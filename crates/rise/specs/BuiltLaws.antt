@@ -1,8 +1,10 @@
--- What an accepted page set's table has of its own: its XFEM, XSS and combined mask are those of the entries that it was made of.
+-- What an accepted page set's table has of its own: its XFEM, XSS and combined mask are those of the entries that it was made of, and the
+-- save area fits 32 bits.
 use mathlib.Core.Path.{_≡_, refl, ap, ap₂, _∙_, subst}
 use mathlib.Core.Bool.{Bool, true, false, _&&_}
 use mathlib.Core.List.{List}
-use Prim.Native.Nat.{ℕ, _<_}
+use Prim.Native.Nat.{ℕ, _^_, _<_}
+use native.Mathlib.Omega.{arith}
 use lib.Dec.{lit<}
 use lib.Bits.{bitOr}
 use Rattle.bits.specs.Choice.{pick}
@@ -14,7 +16,11 @@ use Rattle.table.specs.declared.CpuidResults.{CpuidResults}
 use Rattle.table.specs.declared.Verdict.the-variants.{Accepted}
 use Rattle.table.specs.Rows.{Row, Rows}
 use Rattle.table.specs.Table.{rowIn, rowsIn}
-use Rattle.checks.specs.ExtendedState.{xfem, xss, combinedMask}
+use Rattle.checks.specs.declared.Size.{Size}
+use Rattle.checks.specs.declared.Size.the-variants.{Bytes, TooLarge}
+use Rattle.checks.specs.ExtendedState.{xfem, xss, combinedMask, saveArea, sizeOf}
+use Rattle.checks.specs.SaveAreaLaws.{size-bytes}
+use Rattle.checks.specs.Checks.{sizeVerdict, areaVerdict}
 use Rattle.checks.specs.ExtendedStateLaws.{xsaves-ecx}
 use Rattle.checks.specs.ChecksLaws.{AllPass, all-pass, required-present, then-right}
 use Rattle.update.specs.Finish.{ruleAt, settings, enabledBy, finish, finished, unlessNoXss}
@@ -23,6 +29,11 @@ use Rattle.update.specs.RemainsLaws.{finished-present, finished-result, always-
 use Rattle.collect.specs.FirstEntries.{rowsOf}
 use Rattle.build.specs.Build.{lawfulVerdict, verdictOf, answer}
 use Rattle.rise.specs.RiseProof.{answer-row}
+
+-- a size that passes the check fits 32 bits
+size-fits : (n : ℕ) (z : Size) → z ≡ sizeOf n → sizeVerdict z ≡ Accepted → n < 2 ^ 32
+size-fits n (Bytes k) e f = let h = size-bytes n k e in omega (arith, h .0, h .1)
+size-fits n TooLarge e f = absurd (let z : _≡_ {A = ℕ} 0 1 = cc in omega arith)
 
 twice : (p : Bool) (x : ℕ) → pick p (pick p x 0) 0 ≡ pick p x 0
 twice true x = refl
@@ -38,6 +49,10 @@ module _ (avic : Bool) (s : List ℕ) (e : answer avic s .verdict ≡ Accepted) 
   pub accepted-passes : AllPass m
   unfolding answer verdictOf
   accepted-passes = all-pass m (then-right (lawfulVerdict s) _ e)
+
+  pub area-fits : saveArea m (xfem m) < 2 ^ 32
+  unfolding areaVerdict
+  area-fits = size-fits (saveArea m (xfem m)) (sizeOf (saveArea m (xfem m))) refl (accepted-passes .area)
 
   pub always-finished : (i : ℕ) → i < places → always (ruleAt i) ≡ true → finished m i .present ≡ true
   always-finished i l f =

@@ -5,7 +5,7 @@ use std::ffi::OsStr;
 use std::fs::File;
 use std::io::{self, ErrorKind, Read};
 
-/// The most bytes that are read: 16,384 pages, whose empty pages the library passes over within any usual stack.
+/// The most bytes that are read, 16,384 pages: a device without end is refused instead of read.
 pub const MOST_BYTES: u64 = 64 << 20;
 
 /// A file's name as messages have it: on one line, whatever it is.
