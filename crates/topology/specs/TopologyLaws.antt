@@ -1,5 +1,5 @@
 -- Laws of the topology: one for each return of the code, the shift by leading zeros, and a power of two by a shift.
-use mathlib.Core.Path.{_≡_, refl, sym, ap, _∙_}
+use mathlib.Core.Path.{_≡_, refl, sym, ap, _∙_, subst}
 use mathlib.Core.Bool.{Bool, true, false, _&&_, _||_}
 use mathlib.Core.Logic.{inl, inr, _≢_}
 use Prim.Native.Nat.{ℕ, zero, suc, _+_, _-_, _*_, _%_, _^_, _≤_, _<_}
@@ -106,7 +106,7 @@ pub shift-least : (v : ℕ) → 0 < v → v ≤ 2 ^ 32 → LeastShift v (shiftOf
 unfolding shiftOf
 shift-least v p h =
     let t = by-zeros v p h in
-    rw (least-at v (t .0) (t .2 .reaches) (t .2 .least) 32 0 (omega arith) (omega (arith, t .1))) (t .2)
+    subst (LeastShift v) (sym (least-at v (t .0) (t .2 .reaches) (t .2 .least) 32 0 (omega arith) (omega (arith, t .1)))) (t .2)
 
 pub shift-by-zeros : (v : ℕ) → 0 < v → v < 2 ^ 32 → (leadingZeros 32 (v - 1) ≤ 32) × (32 - leadingZeros 32 (v - 1) ≡ shiftOf v)
 unfolding shiftOf
