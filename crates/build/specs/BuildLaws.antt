@@ -14,13 +14,12 @@ use Rattle.table.specs.Table.{rowsIn}
 use Rattle.table.specs.Rows.{Rows}
 use Rattle.table.specs.Edition.{knownEdition}
 use Rattle.build.specs.Stages.{refusedBuilt}
-use Rattle.collect.specs.FirstEntries.{rowsOf}
 use Rattle.collect.specs.Collect.{collected, collected-rows}
-use Rattle.build.specs.Build.{editionVerdict, lengthVerdict, countsVerdict, lawfulVerdict, verdictOf, answer}
+use Rattle.build.specs.Build.{editionVerdict, lengthVerdict, countsVerdict, lawfulVerdict, rowsFor, verdictOf, answer}
 
 module _ (c : Choices) (s : List ℕ) where
   abbrev m : Rows
-  m = rowsOf (c .«secure_avic») s
+  m = rowsFor c s
 
   built-with : {v : Verdict} → verdictOf c s ≡ v → answer c s ≡ record { verdict = v; table = tableFor (c .edition) v m }
   unfolding answer
