@@ -6,7 +6,7 @@ use Rattle.bits.specs.Bits.{maskOf}
 use Rattle.update.specs.Finish.{YmmClears, edition1, edition2, avx512FeaturesEbx, avx512FeaturesEcx, avx512FeaturesEdx, cetSs, rdPid, rdtscp, ibrsAndStibp, btcNo, hypervisorPresent}
 
 -- "Without XFEM bit 2: clear 1.ECX 10001000h, 7.0.EBX 20h, 7.0.ECX 700h"; in edition 2 also 1.ECX bit 29 and 80000001h.ECX bits 11 and 16
-abbrev figures : YmmClears → List ℕ
+abbrev pub figures : YmmClears → List ℕ
 figures y = y .versionEcx ∷ y .featuresEbx ∷ y .featuresEcx ∷ y .extendedVersionEcx ∷ []
 
 pub ymm-figures : figures edition1 ≡ 0x10001000 ∷ 0x20 ∷ 0x700 ∷ 0 ∷ []
