@@ -30,6 +30,8 @@ pub enum Refusal {
     StateBeyondTable,
     /// 14: the size of the compacted save area of XCR0 and XSS does not fit 32 bits.
     CompactSizeTooLarge,
+    /// 15: the edition of the AVX rule is neither 1 nor 2.
+    UnknownEdition,
 }
 
 /// How the topology leaves disagree. The number is s, bits 12 to 15 of 80000008h.ECX: the size of the APIC core id.
@@ -124,6 +126,7 @@ const TABLE: &[Line] = &[
         name: |_| Refusal::CompactSizeTooLarge,
         words: |_| "the size of the compacted save area of XCR0 and XSS (D.1.EBX) does not fit 32 bits".into(),
     },
+    Line { number: 15, name: |_| Refusal::UnknownEdition, words: |_| "the AVX rule has no such edition: it has editions 1 and 2".into() },
 ];
 
 impl Refusal {
@@ -147,7 +150,8 @@ impl Refusal {
             | Refusal::ListRows
             | Refusal::ListFields
             | Refusal::StateBeyondTable
-            | Refusal::CompactSizeTooLarge => Details::default(),
+            | Refusal::CompactSizeTooLarge
+            | Refusal::UnknownEdition => Details::default(),
         }
     }
 
@@ -223,6 +227,7 @@ mod tests {
             (12, none, Refusal::ListFields),
             (13, none, Refusal::StateBeyondTable),
             (14, none, Refusal::CompactSizeTooLarge),
+            (15, none, Refusal::UnknownEdition),
         ] {
             assert_eq!((refusal.number(), refusal.details()), (number, named));
             assert_eq!(Refusal::of(number, named), refusal);

@@ -5,6 +5,7 @@ mod compare;
 mod debian;
 mod documents;
 mod dump;
+mod edition;
 mod kvm;
 mod guest;
 mod lookup;
