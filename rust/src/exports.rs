@@ -82,7 +82,16 @@ unsafe extern "C" {
     pub fn snp_cpuid_write_image(pages: *const u8, length: usize, secure_avic: bool, edition: u32, out: *mut u8, room: usize) -> Written;
     pub fn snp_cpuid_write_kvm(pages: *const u8, length: usize, secure_avic: bool, edition: u32, out: *mut u8, room: usize) -> Written;
     pub fn snp_cpuid_read_kvm(list: *const u8, length: usize, out: *mut u8, room: usize) -> Written;
-    pub fn snp_cpuid_guest_build(pages: *const u8, length: usize, secure_avic: bool, edition: u32, x2apic: u32, xcr0: u64, xss: u64, osxsave: bool) -> Built;
+    pub fn snp_cpuid_guest_build(
+        pages: *const u8,
+        length: usize,
+        secure_avic: bool,
+        edition: u32,
+        x2apic: u32,
+        xcr0: u64,
+        xss: u64,
+        osxsave: bool,
+    ) -> Built;
     pub fn snp_cpuid_guest_lookup(
         pages: *const u8,
         length: usize,

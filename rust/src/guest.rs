@@ -38,7 +38,8 @@ pub fn guest(pages: &[u8], options: Options, processor: Processor) -> Result<Tab
     let Options { secure_avic, edition } = options;
     let Processor { x2apic, xcr0, xss, osxsave } = processor;
     // SAFETY: the pointer and length are those of a slice, which the function only reads
-    let built = unsafe { exports::snp_cpuid_guest_build(pages.as_ptr(), pages.len(), secure_avic, edition, x2apic, xcr0, xss, osxsave) }.accepted()?;
+    let built =
+        unsafe { exports::snp_cpuid_guest_build(pages.as_ptr(), pages.len(), secure_avic, edition, x2apic, xcr0, xss, osxsave) }.accepted()?;
     let mut image = [0; MOST_IMAGE_BYTES];
     let length = write_guest_image(pages, options, processor, &mut image)?;
     Ok(Table::new(image, length, built.max_extended_state))

@@ -18,8 +18,8 @@
 mod answer;
 mod comparison;
 pub mod exports;
-mod kvm;
 mod guest;
+mod kvm;
 mod line;
 mod options;
 mod refusal;
@@ -28,8 +28,8 @@ mod table;
 use answer::Answer;
 
 pub use comparison::{Comparison, Register};
-pub use kvm::{KVM_PAGES_BYTES, MOST_KVM_BYTES, read_kvm, write_kvm};
 pub use guest::{Processor, guest, guest_lookup, write_guest_image};
+pub use kvm::{KVM_PAGES_BYTES, MOST_KVM_BYTES, read_kvm, write_kvm};
 pub use line::NoSuchLine;
 pub use options::Options;
 pub use refusal::{Details, Refusal, TopologyError};

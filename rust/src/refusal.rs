@@ -110,7 +110,11 @@ const TABLE: &[Line] = &[
         },
     },
     Line { number: 10, name: |_| Refusal::ListLength, words: |_| "the list for KVM must have 8 bytes and 40 for each row that it counts".into() },
-    Line { number: 11, name: |_| Refusal::ListRows, words: |_| "the list for KVM has more rows of leaf Dh, or of all others, than the 64 of a page".into() },
+    Line {
+        number: 11,
+        name: |_| Refusal::ListRows,
+        words: |_| "the list for KVM has more rows of leaf Dh, or of all others, than the 64 of a page".into(),
+    },
     Line {
         number: 12,
         name: |_| Refusal::ListFields,

@@ -70,7 +70,8 @@ fn answered(pages: &[u8], words: &[&str]) -> String {
                 assert!(table.rows().map(|row| (row.leaf, row.subleaf)).eq(plain.rows().map(|row| (row.leaf, row.subleaf))));
                 let Processor { x2apic, xcr0, xss, osxsave } = processor;
                 // SAFETY: the pointer and length are those of a slice
-                let built = unsafe { snp_cpuid_guest_build(pages.as_ptr(), pages.len(), options.secure_avic, options.edition, x2apic, xcr0, xss, osxsave) };
+                let built =
+                    unsafe { snp_cpuid_guest_build(pages.as_ptr(), pages.len(), options.secure_avic, options.edition, x2apic, xcr0, xss, osxsave) };
                 assert_eq!(built.row_count as usize, table.rows().count());
             }
             table.map_or_else(refused, |table| figures(&table))

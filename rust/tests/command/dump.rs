@@ -203,7 +203,11 @@ fn exactly_what_the_table_reads_goes_in() {
                 let lone = Entries::from([((leaf, subleaf), [0x55AA_55AA; 4])]);
                 let (state, others): (Vec<_>, Vec<_>) = rich().into_iter().partition(|((leaf, _), _)| *leaf == 0xD);
                 let front = |rest: Vec<((u32, u32), [u32; 4])>| page(lone.iter().chain(rest.iter().map(|(place, registers)| (place, registers))));
-                assert_eq!(build(&[front(others), front(state)].concat(), Options::new().secure_avic(true)).as_ref(), Ok(&base), "{leaf:X}.{subleaf:X}");
+                assert_eq!(
+                    build(&[front(others), front(state)].concat(), Options::new().secure_avic(true)).as_ref(),
+                    Ok(&base),
+                    "{leaf:X}.{subleaf:X}"
+                );
             }
         }
     }

@@ -121,7 +121,11 @@ fn compare_says_under_which() {
     assert!(compared("2").text().replace("\n        ", " ").contains(entries));
     let unknown = compared("3");
     assert!(unknown.text().contains("\nunder edition 3 of the AVX rule\n\nA and B are refused.\n\n"), "{}", unknown.text());
-    assert!(unknown.text().ends_with("A to B  no: A is refused, by 15, so nothing is promised.\nB to A  no: B is refused, by 15, so nothing is promised.\n"));
+    assert!(
+        unknown
+            .text()
+            .ends_with("A to B  no: A is refused, by 15, so nothing is promised.\nB to A  no: B is refused, by 15, so nothing is promised.\n")
+    );
     assert_eq!((unknown.status, unknown.err.lines().count()), (1, 1));
     assert!(unknown.err.starts_with(&format!("snp-cpuid: {a}: refusal 15: ")));
 }
