@@ -54,7 +54,7 @@ def single_bits():
 
 def unknown_editions():
     """ "15 an edition other than 1 or 2, before 1", of which a byte alone would be 1 or 2, and each end; nothing is found or written. """
-    for edition in 0, 3, 4, 255, 256, 257, 258, 65537, 0x01000001, 0x02000000, 1 << 31, ALL - 1, ALL:
+    for edition in 0, 3, 4, 255, 256, 257, 258, 65537, 0x01000001, 0x02000000, 0x80000001, 0x80000002, ALL - 1, ALL:
         name = f'edition {edition:X}h'
         for secure_avic in False, True:
             yield build(name, MILAN, secure_avic, edition)
