@@ -154,9 +154,9 @@ struct snp_cpuid_written snp_cpuid_write_guest_image(const uint8_t *pages, size_
                                                      size_t room);
 
 /* Compares two servers by their pages, under the same choices: may a guest of A move to B? Registers are compared as masked, D.0.EAX with
- * bits 0 and 1 set on both sides, whatever the edition; one that is neither 1 nor 2 is answer 1 with number 15. After a yes, building B gives a table with every row of A's, at least A's bits in every
- * feature register, a save area no smaller and all else equal; or refuses it by 3, for a subleaf of leaf Dh that B's own further state
- * needs, or by 5. */
+ * bits 0 and 1 set on both sides, whatever the edition; one that is neither 1 nor 2 is answer 1 with number 15. After a yes, building B
+ * gives a table with every row of A's, at least A's bits in every feature register, a save area no smaller and all else equal; or refuses
+ * it by 3, for a subleaf of leaf Dh that B's own further state needs, or by 5. */
 struct snp_cpuid_compared snp_cpuid_compare(const uint8_t *a, size_t a_length, const uint8_t *b, size_t b_length, bool secure_avic,
                                             uint32_t edition);
 

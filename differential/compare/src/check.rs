@@ -97,8 +97,8 @@ fn with_the_least_shift(answer: Answer) -> Answer {
     }
 }
 
-/// What the port must answer under edition 2 where it answers so under edition 1, which is the Rust's: the same, but for F16C, XOP and FMA4 where XFEM,
-/// the Rust's own D.0.EAX, lacks bit 2 (document 02, P7).
+/// What the port must answer under edition 2 where it answers so under edition 1, which is the Rust's: the same, but for F16C, XOP and FMA4 where
+/// XFEM, the Rust's own D.0.EAX, lacks bit 2 (document 02, P7).
 fn with_the_clears_of_edition_2(answer: &Answer) -> Answer {
     let mut second = answer.clone();
     if let Answer::Table { rows, .. } = &mut second {
