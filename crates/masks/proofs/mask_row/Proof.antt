@@ -1,14 +1,14 @@
--- `masking::mask_row` meets its contract: in each stretch of places the row that the code gives is the table's, by computation over it.
+-- `masks::mask_row` meets its contract: in each stretch of places the row that the code gives is the table's, by computation over it.
 use mathlib.Core.Path.{refl, _∙_}
 use Prim.Native.Nat.{_+_, _-_, min, zero-le}
 use native.Mathlib.Omega.{arith}
 use borrow.Author.Needs.{needs}
 use Rattle.bits.specs.Lists.{tabulate}
 use Rattle.masking.specs.Kept.{keptLeaves}
-use Rattle.masking.specs.KeptTable.{rowOfPlace}
+use Rattle.masks.specs.KeptTable.{rowOfPlace}
 use Rattle.masking.specs.RunLaws.{on-run}
-use Rattle.masking.proofs.mask_row.Statement.{statement}
-use Rattle.masking.proofs.mask_row.Tie as tie
+use Rattle.masks.proofs.mask_row.Statement.{statement}
+use Rattle.masks.proofs.mask_row.Tie as tie
 
 pub mask-row-spec : {M : Type 1} → statement M
 unfolding rowOfPlace keptLeaves tabulate

@@ -1,7 +1,7 @@
--- `masking::kept_leaf` meets its contract, by what `kept_leaves` ensures of the whole table.
+-- `masks::kept_leaf` meets its contract, by what `kept_leaves` ensures of the whole table.
 use borrow.Author.Needs.{needs}
-use Rattle.masking.proofs.kept_leaf.Statement.{statement}
-use Rattle.masking.proofs.kept_leaf.Tie as tie
+use Rattle.masks.proofs.kept_leaf.Statement.{statement}
+use Rattle.masks.proofs.kept_leaf.Tie as tie
 
 pub kept-leaf-spec : {M : Type 1} → statement M
 kept-leaf-spec =

@@ -7,10 +7,10 @@ use lib.Dec.{ltb}
 use lib.ListN.{getD}
 use Rattle.bits.specs.Choice.{pick}
 use Rattle.x86defs.specs.Functions.{function, result}
-use Rattle.masking.specs.declared.KeptLeaf.{KeptLeaf}
+use Rattle.masks.specs.declared.KeptLeaf.{KeptLeaf}
 use Rattle.masking.specs.Masks.{Masks, ones}
 use Rattle.masking.specs.Kept.{Span, Kept, keptLeaves, placesOf, hasSubleaf}
 use Rattle.masking.specs.Kept.Span.{made, whole, subleaves}
 
 -- the first and the last subleaf that a row takes from pages: none where the row is made here, any where the leaf has no subleaves
 abbrev pub firstOf : Span → ℕ

@@ -15,12 +15,12 @@ use Rattle.bits.specs.ListsLaws.{tabulate-at}
 use Rattle.x86defs.specs.declared.CpuidResult.{CpuidResult}
 use Rattle.x86defs.specs.Functions.{result}
 use Rattle.x86defs.specs.Fields.{fieldsMask}
-use Rattle.masking.specs.declared.KeptLeaf.{KeptLeaf}
+use Rattle.masks.specs.declared.KeptLeaf.{KeptLeaf}
 use Rattle.masking.specs.Masks.{Masks, ones, applyMask, combine, versionAndFeatures, extendedFeatures, extendedState0, extendedState1, extendedVersionAndFeatures, extendedAddressSpaceSizes, extendedSvm, extendedOptimization, extendedSev, secureAvicMask}
 use Rattle.masking.specs.Kept.{Span, Kept, keptLeaves, placesOf, places, takes, slotIn, slot, masksAt}
 use Rattle.masking.specs.Kept.Span.{made, whole, subleaves}
 use Rattle.masking.specs.Place
-use Rattle.masking.specs.KeptTable.{firstOf, lastOf, keptLeaf, table, noRow, rowAt, masksOf, rowNumberIn, rowOfPlace}
+use Rattle.masks.specs.KeptTable.{firstOf, lastOf, keptLeaf, table, noRow, rowAt, masksOf, rowNumberIn, rowOfPlace}
 
 -- a row takes the subleaves from its first to its last
 pub takes-between : (t : Span) (k : ℕ) → k < 2 ^ 32 → takes t k ≡ (leb (firstOf t) k && leb k (lastOf t))
