@@ -51,8 +51,8 @@ use Rattle.table.specs.Order.{Precedes}
 use Rattle.table.specs.OrderLaws.{places-rise}
 use Rattle.compare.specs.DecidesProof.{decides}
 use Rattle.buffer.specs.WritesExactly.{FrontExactly}
+use Rattle.guest_state.specs.State.{stateVerdict}
 use Rattle.guest.specs.declared.Processor.{Processor}
-use Rattle.guest.specs.State.{stateVerdict}
 use Rattle.guest.specs.Guest.{guestTable, refusedAnswer}
 use Rattle.guest_pages.specs.GuestPages.{guestPages, writeGuest}
 use Rattle.guest_rise.specs.StateExactly.{StateAnswers, state-answers}

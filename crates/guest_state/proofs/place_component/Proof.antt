@@ -1,10 +1,10 @@
--- `guest::state::place_component` meets its contract: a start raised, one as it is, or no subleaf; each sum is small.
+-- `guest_state::place_component` meets its contract: a start raised, one as it is, or no subleaf; each sum is small.
 use borrow.Author.Needs.{needs}
 use native.Mathlib.Omega.{arith}
 use mathlib.Core.Path.{sym, _∙_}
-use Rattle.guest.specs.CompactLaws.{placed-raised, placed-packed, placed-unused}
-use Rattle.guest.proofs.state.place_component.Statement.{statement}
-use Rattle.guest.proofs.state.place_component.Tie as tie
+use Rattle.guest_state.specs.CompactLaws.{placed-raised, placed-packed, placed-unused}
+use Rattle.guest_state.proofs.place_component.Statement.{statement}
+use Rattle.guest_state.proofs.place_component.Tie as tie
 
 returns : tie.Need-returns
 returns c =

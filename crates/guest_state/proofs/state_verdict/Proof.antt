@@ -1,12 +1,12 @@
--- `guest::state::state_verdict` meets its contract: 13 where a state is not allowed, 14 where the size passes 32 bits.
+-- `guest_state::state_verdict` meets its contract: 13 where a state is not allowed, 14 where the size passes 32 bits.
 use borrow.Author.Needs.{needs}
 use mathlib.Core.Path.{_∙_}
 use native.Mathlib.Omega.{arith}
 use Rattle.checks.specs.ExtendedState.{xfem, xss}
 use Rattle.checks.specs.Parts.{resultsIn}
-use Rattle.guest.specs.StateLaws.{state-beyond, state-large, state-accepted}
-use Rattle.guest.proofs.state.state_verdict.Statement.{statement}
-use Rattle.guest.proofs.state.state_verdict.Tie as tie
+use Rattle.guest_state.specs.StateLaws.{state-beyond, state-large, state-accepted}
+use Rattle.guest_state.proofs.state_verdict.Statement.{statement}
+use Rattle.guest_state.proofs.state_verdict.Tie as tie
 
 returns : tie.Need-returns
 unfolding xfem xss

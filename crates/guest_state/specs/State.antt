@@ -15,7 +15,7 @@ use Rattle.table.specs.Refusal.{andThen}
 use Rattle.table.specs.Rows.{Rows}
 use Rattle.checks.specs.Checks.{refuseUnless}
 use Rattle.checks.specs.ExtendedState.{xfem, xss as maxXss, saveArea}
-use Rattle.guest.specs.Compact.{compactSize}
+use Rattle.guest_state.specs.Compact.{compactSize}
 
 -- ---- the two sizes
 

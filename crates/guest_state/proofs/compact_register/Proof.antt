@@ -1,11 +1,11 @@
--- `guest::state::compact_register` meets its contract: the size where either bit is set, else 0.
+-- `guest_state::compact_register` meets its contract: the size where either bit is set, else 0.
 use borrow.Author.Needs.{needs}
 use mathlib.Core.Path.{sym, ap₂, _∙_}
 use mathlib.Core.Bool.{_||_}
 use Rattle.bits.specs.ChoiceLaws.{pick-true, pick-false}
-use Rattle.guest.specs.State.{compacts, compactRegister}
-use Rattle.guest.proofs.state.compact_register.Statement.{statement}
-use Rattle.guest.proofs.state.compact_register.Tie as tie
+use Rattle.guest_state.specs.State.{compacts, compactRegister}
+use Rattle.guest_state.proofs.compact_register.Statement.{statement}
+use Rattle.guest_state.proofs.compact_register.Tie as tie
 
 returns : tie.Need-returns
 unfolding compactRegister compacts

@@ -1,9 +1,9 @@
--- `guest::state::save_register` meets its contract: the size where it fits, else all ones.
+-- `guest_state::save_register` meets its contract: the size where it fits, else all ones.
 use borrow.Author.Needs.{needs}
 use Rattle.checks.specs.Parts.{resultsIn}
-use Rattle.guest.specs.StateLaws.{save-bytes, save-large}
-use Rattle.guest.proofs.state.save_register.Statement.{statement}
-use Rattle.guest.proofs.state.save_register.Tie as tie
+use Rattle.guest_state.specs.StateLaws.{save-bytes, save-large}
+use Rattle.guest_state.proofs.save_register.Statement.{statement}
+use Rattle.guest_state.proofs.save_register.Tie as tie
 
 returns : tie.Need-returns
 returns c =

@@ -27,8 +27,8 @@ use Rattle.checks.specs.ExtendedState.{xfem, xss as maxXss, saveArea, sizeOf}
 use Rattle.checks.specs.ExtendedStateLaws.{area-mono}
 use Rattle.checks.specs.Parts.{resultsIn}
 use Rattle.checks.specs.SaveAreaLaws.{size-bytes, size-large}
-use Rattle.guest.specs.CompactLaws.{compact-same}
-use Rattle.guest.specs.State.{allowed, compacts, saveRegister, compactRegister, allowedVerdict, compactVerdict, stateVerdict}
+use Rattle.guest_state.specs.CompactLaws.{compact-same}
+use Rattle.guest_state.specs.State.{allowed, compacts, saveRegister, compactRegister, allowedVerdict, compactVerdict, stateVerdict}
 
 -- ---- the size over XCR0, from what `xsave_size` gives
 

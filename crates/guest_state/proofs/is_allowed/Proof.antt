@@ -1,8 +1,8 @@
--- `guest::state::is_allowed` meets its contract: the three tests are those of the definition.
+-- `guest_state::is_allowed` meets its contract: the three tests are those of the definition.
 use borrow.Author.Needs.{needs}
-use Rattle.guest.specs.State.{allowed}
-use Rattle.guest.proofs.state.is_allowed.Statement.{statement}
-use Rattle.guest.proofs.state.is_allowed.Tie as tie
+use Rattle.guest_state.specs.State.{allowed}
+use Rattle.guest_state.proofs.is_allowed.Statement.{statement}
+use Rattle.guest_state.proofs.is_allowed.Tie as tie
 
 returns : tie.Need-returns
 unfolding allowed

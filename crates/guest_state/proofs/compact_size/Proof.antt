@@ -1,13 +1,13 @@
--- `guest::state::compact_size` meets its contract: the size so far is that of the subleaves below k, and at most 576 and 2^33 for each.
+-- `guest_state::compact_size` meets its contract: the size so far is that of the subleaves below k, and at most 576 and 2^33 for each.
 use borrow.Author.Needs.{needs}
 use mathlib.Core.Path.{_≡_, ap, _∙_}
 use Prim.Native.Nat.{_+_, _-_, _*_, _^_, _≤_}
 use native.Mathlib.Omega.{arith}
 use Rattle.checks.specs.Parts.{resultsIn}
-use Rattle.guest.specs.Compact.{compactBelow}
-use Rattle.guest.specs.CompactLaws.{compact-starts, compact-next, compact-ends}
-use Rattle.guest.proofs.state.compact_size.Statement.{statement}
-use Rattle.guest.proofs.state.compact_size.Tie as tie
+use Rattle.guest_state.specs.Compact.{compactBelow}
+use Rattle.guest_state.specs.CompactLaws.{compact-starts, compact-next, compact-ends}
+use Rattle.guest_state.proofs.compact_size.Statement.{statement}
+use Rattle.guest_state.proofs.compact_size.Tie as tie
 
 abbrev Inv-loop : tie.InvT-loop
 Inv-loop mask results size₀ k₀ size k = (2 ≤ k) × (k ≤ 64) × (size ≡ compactBelow (resultsIn results) mask k) × (size ≤ 576 + k * 2 ^ 33)

@@ -14,7 +14,7 @@ use Rattle.x86defs.specs.declared.CpuidResult.{CpuidResult}
 use Rattle.masking.specs.Place
 use Rattle.table.specs.Rows.{Rows}
 use Rattle.checks.specs.MaskLaws.{none-from}
-use Rattle.guest.specs.Compact.{raised, startOf, placed, compactBelow, compactSize}
+use Rattle.guest_state.specs.Compact.{raised, startOf, placed, compactBelow, compactSize}
 
 -- ---- one subleaf
 

@@ -13,8 +13,8 @@ ghost use mathlib.Core.Path.{_≡_};
 ghost use Prim.Native.Nat.{_+_, _≤_, _<_, _^_};
 ghost use lib.Bits.{bitOr};
 ghost use Rattle.checks.specs.Parts.{resultsIn};
-ghost use Rattle.guest.specs.Compact.{placed, compactSize};
-ghost use Rattle.guest.specs.State.{within, allowed, compactRegister, saveRegister, stateVerdict};
+ghost use Rattle.guest_state.specs.Compact.{placed, compactSize};
+ghost use Rattle.guest_state.specs.State.{within, allowed, compactRegister, saveRegister, stateVerdict};
 
 // Whether a table gives XCR0 and XSS, by its own rows of leaf Dh.
 pub fn state_verdict(results: [CpuidResult; PLACES], xcr0: u64, xss: u64) -> Verdict
