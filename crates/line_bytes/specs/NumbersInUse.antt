@@ -4,7 +4,7 @@ use mathlib.Core.Bool.{true, false}
 use mathlib.Core.List.{List, [], _∷_}
 use Prim.Native.Nat.{ℕ}
 use lib.ListN.{getD}
-use Rattle.lines.specs.declared.names.Named.{Named}
+use Rattle.line_bytes.specs.declared.names.Named.{Named}
 
 abbrev pub notInUse : Named
 notInUse = record { used = false; leaf = false; subleaf = false; s = false }

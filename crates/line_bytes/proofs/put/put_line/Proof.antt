@@ -6,10 +6,10 @@ use lib.Seq.{length-sets}
 use lib.ListN.{length, length-set}
 use denote.Ref.{now}
 use Rattle.digits.specs.Digits.{decimal}
-use Rattle.lines.specs.Line.{newline, fields, line}
-use Rattle.lines.specs.LineLaws.{length-parts, at-most-22, three-sets}
-use Rattle.lines.proofs.put.put_line.Statement.{statement}
-use Rattle.lines.proofs.put.put_line.Tie as tie
+use Rattle.line_bytes.specs.Line.{newline, fields, line}
+use Rattle.line_bytes.specs.LineLaws.{length-parts, at-most-22, three-sets}
+use Rattle.line_bytes.proofs.put.put_line.Statement.{statement}
+use Rattle.line_bytes.proofs.put.put_line.Tie as tie
 
 put-decimal-requires : tie.Need-put-decimal-requires
 put-decimal-requires c κs = omega (arith, length-parts (c .before .before .args .d))

@@ -5,10 +5,10 @@ use lib.Seq.{length-sets}
 use lib.ListN.{length}
 use denote.Ref.{now}
 use borrow.Author.Needs.{needs}
-use Rattle.lines.specs.Line.{leafField, subleafField, sField}
-use Rattle.lines.specs.LineLaws.{fields-named, length-fields, three-sets}
-use Rattle.lines.proofs.put.put_fields.Statement.{statement}
-use Rattle.lines.proofs.put.put_fields.Tie as tie
+use Rattle.line_bytes.specs.Line.{leafField, subleafField, sField}
+use Rattle.line_bytes.specs.LineLaws.{fields-named, length-fields, three-sets}
+use Rattle.line_bytes.proofs.put.put_fields.Statement.{statement}
+use Rattle.line_bytes.proofs.put.put_fields.Tie as tie
 
 put-leaf-requires : tie.Need-put-leaf-requires
 put-leaf-requires c κs = omega (arith, length-fields (c .before .before .before .args .d) (c .before .names-of .ensures))

@@ -5,10 +5,10 @@ use native.Mathlib.Omega.{arith}
 use lib.Seq.{length-sets}
 use lib.ListN.{length, length-set}
 use borrow.Author.Needs.{needs}
-use Rattle.lines.specs.LineLaws.{length-leaf-named}
+use Rattle.line_bytes.specs.LineLaws.{length-leaf-named}
 use Rattle.digits.specs.DigitsLaws.{length-digits}
-use Rattle.lines.proofs.put.put_leaf.Statement.{statement}
-use Rattle.lines.proofs.put.put_leaf.Tie as tie
+use Rattle.line_bytes.proofs.put.put_leaf.Statement.{statement}
+use Rattle.line_bytes.proofs.put.put_leaf.Tie as tie
 
 slice-write-out : tie.Need-slice-write-out
 slice-write-out c = omega (arith, length-leaf-named (c .before .before .args .leaf) (c .if1 .taken))

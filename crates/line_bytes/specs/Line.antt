@@ -7,10 +7,10 @@ use lib.Dec.{eqb, leb}
 use Rattle.bits.specs.Choice.{pick}
 use Rattle.table.specs.declared.Subleaf.{Subleaf}
 use Rattle.table.specs.declared.Subleaf.the-variants.{None, Some}
-use Rattle.lines.specs.declared.LineDetails.{LineDetails}
-use Rattle.lines.specs.declared.names.Named.{Named}
+use Rattle.line_bytes.specs.declared.LineDetails.{LineDetails}
+use Rattle.line_bytes.specs.declared.names.Named.{Named}
 use Rattle.digits.specs.Digits.{decimal, hex}
-use Rattle.lines.specs.NumbersInUse.{names}
+use Rattle.line_bytes.specs.NumbersInUse.{names}
 
 abbrev pub space : ℕ
 space = 32

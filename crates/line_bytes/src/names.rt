@@ -1,6 +1,6 @@
 // Which details a number names. A number comes in; whether it is in use, and what it names, goes out.
 ghost use mathlib.Core.Path.{_≡_};
-ghost use Rattle.lines.specs.NumbersInUse.{names};
+ghost use Rattle.line_bytes.specs.NumbersInUse.{names};
 
 // Whether a number is in use, and whether it names a leaf, may name a subleaf, and names s.
 pub struct Named {

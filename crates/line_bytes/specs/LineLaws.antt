@@ -12,13 +12,13 @@ use Rattle.bits.specs.Choice.{pick}
 use Rattle.table.specs.declared.Subleaf.{Subleaf}
 use Rattle.table.specs.declared.Subleaf.the-variants.{None, Some}
 use Rattle.buffer.specs.FrontLaws.{sets-append}
-use Rattle.lines.specs.declared.LineDetails.{LineDetails}
-use Rattle.lines.specs.declared.names.Named.{Named}
+use Rattle.line_bytes.specs.declared.LineDetails.{LineDetails}
+use Rattle.line_bytes.specs.declared.names.Named.{Named}
 use Rattle.digits.specs.Digits.{width, decimal}
 use Rattle.digits.specs.DigitsLaws.{length-digits, width-le}
-use Rattle.lines.specs.NumbersInUse.{names}
-use Rattle.lines.specs.NumbersInUseLaws.{room-few}
-use Rattle.lines.specs.Line.{leafField, subleafField, sField, fieldsAs, fields, line}
+use Rattle.line_bytes.specs.NumbersInUse.{names}
+use Rattle.line_bytes.specs.NumbersInUseLaws.{room-few}
+use Rattle.line_bytes.specs.Line.{leafField, subleafField, sField, fieldsAs, fields, line}
 
 -- ---- lengths
 

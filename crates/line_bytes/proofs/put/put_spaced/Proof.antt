@@ -5,8 +5,8 @@ use native.Mathlib.Omega.{arith}
 use lib.Seq.{length-sets}
 use lib.ListN.{length, length-set}
 use borrow.Author.Needs.{needs}
-use Rattle.lines.proofs.put.put_spaced.Statement.{statement}
-use Rattle.lines.proofs.put.put_spaced.Tie as tie
+use Rattle.line_bytes.proofs.put.put_spaced.Statement.{statement}
+use Rattle.line_bytes.proofs.put.put_spaced.Tie as tie
 
 put-decimal-requires : tie.Need-put-decimal-requires
 put-decimal-requires c κs = simp length-set (omega arith)

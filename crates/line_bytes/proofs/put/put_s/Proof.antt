@@ -4,9 +4,9 @@ use mathlib.Core.Bool.{Bool}
 use native.Mathlib.Omega.{arith}
 use lib.ListN.{length}
 use borrow.Author.Needs.{needs}
-use Rattle.lines.specs.Line.{sField}
-use Rattle.lines.proofs.put.put_s.Statement.{statement}
-use Rattle.lines.proofs.put.put_s.Tie as tie
+use Rattle.line_bytes.specs.Line.{sField}
+use Rattle.line_bytes.proofs.put.put_s.Statement.{statement}
+use Rattle.line_bytes.proofs.put.put_s.Tie as tie
 
 put-spaced-requires : tie.Need-put-spaced-requires
 put-spaced-requires c κs = omega (arith, ap (λ (b : Bool). length (sField b (c .before .before .before .args .s))) (c .before .if1 .taken))

@@ -5,9 +5,9 @@ use native.Mathlib.Omega.{arith}
 use lib.ListN.{length}
 use borrow.Author.Needs.{needs}
 use Rattle.table.specs.declared.Subleaf.{Subleaf}
-use Rattle.lines.specs.Line.{subleafField}
-use Rattle.lines.proofs.put.put_subleaf.Statement.{statement}
-use Rattle.lines.proofs.put.put_subleaf.Tie as tie
+use Rattle.line_bytes.specs.Line.{subleafField}
+use Rattle.line_bytes.proofs.put.put_subleaf.Statement.{statement}
+use Rattle.line_bytes.proofs.put.put_subleaf.Tie as tie
 
 put-spaced-requires : tie.Need-put-spaced-requires
 put-spaced-requires c κs =

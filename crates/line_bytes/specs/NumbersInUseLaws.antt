@@ -11,10 +11,10 @@ use Rattle.bits.specs.ChoiceLaws.{never-both}
 use Rattle.bits.specs.Lists.{sumTo}
 use Rattle.bits.specs.Search.{every}
 use Rattle.bits.specs.SearchLaws.{every-at}
-use Rattle.lines.specs.declared.names.Named.{Named}
+use Rattle.line_bytes.specs.declared.names.Named.{Named}
 use Rattle.digits.specs.Digits.{width}
 use Rattle.digits.specs.DigitsLaws.{width-le}
-use Rattle.lines.specs.NumbersInUse.{notInUse, rows, names}
+use Rattle.line_bytes.specs.NumbersInUse.{notInUse, rows, names}
 
 pub beyond : (n : ℕ) → length rows ≤ n → names n ≡ notInUse
 unfolding names

@@ -2,10 +2,10 @@
 use mathlib.Core.Path.{sym}
 use native.Mathlib.Omega.{arith}
 use borrow.Author.Needs.{needs}
-use Rattle.lines.specs.NumbersInUse.{rows, names}
-use Rattle.lines.specs.NumbersInUseLaws.{beyond}
-use Rattle.lines.proofs.names.names_of.Statement.{statement}
-use Rattle.lines.proofs.names.names_of.Tie as tie
+use Rattle.line_bytes.specs.NumbersInUse.{rows, names}
+use Rattle.line_bytes.specs.NumbersInUseLaws.{beyond}
+use Rattle.line_bytes.proofs.names.names_of.Statement.{statement}
+use Rattle.line_bytes.proofs.names.names_of.Tie as tie
 
 returns : tie.Need-returns
 unfolding rows names

@@ -8,7 +8,7 @@ ghost use mathlib.Core.Path.{_≡_};
 ghost use Prim.Native.Nat.{_+_, _≤_};
 ghost use lib.ListN.{length};
 ghost use lib.Seq.{sets};
-ghost use Rattle.lines.specs.Line.{leafField, subleafField, sField, spaced, fields, line};
+ghost use Rattle.line_bytes.specs.Line.{leafField, subleafField, sField, spaced, fields, line};
 
 // Stores the line at the front of bytes that have room for it. Gives its length.
 pub fn put_line(d: LineDetails, out: &mut [u8]) -> usize
