@@ -31,5 +31,5 @@ pub fn write_guest_image(pages: &[u8], secure_avic: bool, v: Processor, out: &mu
         return Written::Refused(r);
     }
     let table = seen.table;
-    image::write_table(table, out)
+    image_write::write_table(table, out)
 }

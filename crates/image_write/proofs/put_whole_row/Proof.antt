@@ -1,11 +1,11 @@
--- `image::put_whole_row` meets its contract: byte 1, a word and the registers one after another.
+-- `image_write::put_whole_row` meets its contract: byte 1, a word and the registers one after another.
 use mathlib.Core.Path.{_∙_}
 use native.Mathlib.Omega.{arith}
 use borrow.Author.Needs.{needs}
 use lib.ListN.{length-set}
 use Rattle.image.specs.PiecesLaws.{whole-sets}
-use Rattle.image.proofs.put_whole_row.Statement.{statement}
-use Rattle.image.proofs.put_whole_row.Tie as tie
+use Rattle.image_write.proofs.put_whole_row.Statement.{statement}
+use Rattle.image_write.proofs.put_whole_row.Tie as tie
 
 put-registers-requires : tie.Need-put-registers-requires
 put-registers-requires c κs = omega (arith, simp length-set at (c .before .before .before .put-word .kept .0))

@@ -1,4 +1,4 @@
--- `image::put_rows` meets its contract. The invariant of either loop: writing went on from where the loop began to place `i` and index `at`.
+-- `image_write::put_rows` meets its contract. The invariant of either loop: writing went on from where the loop began to place `i` and index `at`.
 -- The inner loop goes through one run, which gives each of its places its row.
 use mathlib.Core.Path.{ap}
 use Prim.Native.Nat.{_-_, _≤_}
@@ -8,9 +8,9 @@ use lib.ListN.{length}
 use Rattle.masking.specs.Kept.{places}
 use Rattle.table.specs.Table.{rowIn}
 use Rattle.masking.specs.RunLaws.{run-end, run-leaf}
 use Rattle.image.specs.PiecesLaws.{rows-all, run-row, Onward, onward-none, onward-join, row-room, onward-row, onward-all}
-use Rattle.image.proofs.put_rows.Statement.{statement}
-use Rattle.image.proofs.put_rows.Tie as tie
+use Rattle.image_write.proofs.put_rows.Statement.{statement}
+use Rattle.image_write.proofs.put_rows.Tie as tie
 
 abbrev Inv-loop2 : tie.InvT-loop2
 Inv-loop2 out₀ t at₀ i₀ run first end out at i = (i₀ ≤ i) × (i ≤ end) × Onward t out₀ at₀ i₀ out at i

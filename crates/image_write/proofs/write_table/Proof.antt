@@ -1,12 +1,12 @@
--- `image::write_table` meets its contract: a buffer shorter than the image is refused untouched, any other is given the image at its front.
+-- `image_write::write_table` meets its contract: a buffer shorter than the image is refused untouched, any other is given the image at its front.
 use mathlib.Core.Path.{ap, refl}
 use native.Mathlib.Omega.{arith}
 use borrow.Author.Needs.{needs}
 use Rattle.buffer.specs.declared.Written.the-variants.{Bytes}
 use Rattle.image.specs.Image.{image}
 use Rattle.buffer.specs.FrontLaws.{front-short, front-whole}
-use Rattle.image.proofs.write_table.Statement.{statement}
-use Rattle.image.proofs.write_table.Tie as tie
+use Rattle.image_write.proofs.write_table.Statement.{statement}
+use Rattle.image_write.proofs.write_table.Tie as tie
 
 returns : tie.Need-returns
 returns c =

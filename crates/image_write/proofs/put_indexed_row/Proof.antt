@@ -1,11 +1,11 @@
--- `image::put_indexed_row` meets its contract: byte 2, two words and the registers one after another.
+-- `image_write::put_indexed_row` meets its contract: byte 2, two words and the registers one after another.
 use mathlib.Core.Path.{_∙_}
 use native.Mathlib.Omega.{arith}
 use borrow.Author.Needs.{needs}
 use lib.ListN.{length-set}
 use Rattle.image.specs.PiecesLaws.{indexed-sets}
-use Rattle.image.proofs.put_indexed_row.Statement.{statement}
-use Rattle.image.proofs.put_indexed_row.Tie as tie
+use Rattle.image_write.proofs.put_indexed_row.Statement.{statement}
+use Rattle.image_write.proofs.put_indexed_row.Tie as tie
 
 put-word-requires-2 : tie.Need-put-word-requires-2
 put-word-requires-2 c κs = omega (arith, simp length-set at (c .before .before .before .put-word .kept .0))

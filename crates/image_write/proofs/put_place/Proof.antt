@@ -1,13 +1,13 @@
--- `image::put_place` meets its contract: each branch is one case of `runRow`.
+-- `image_write::put_place` meets its contract: each branch is one case of `runRow`.
 use mathlib.Core.Path.{ap}
 use Prim.Native.Nat.{_+_}
 use native.Mathlib.Omega.{arith}
 use borrow.Author.Needs.{needs}
 use lib.ListN.{length}
 use Rattle.x86defs.specs.Functions.{function}
 use Rattle.image.specs.PiecesLaws.{run-indexed, run-whole, run-absent, indexed-length, whole-length}
-use Rattle.image.proofs.put_place.Statement.{statement}
-use Rattle.image.proofs.put_place.Tie as tie
+use Rattle.image_write.proofs.put_place.Statement.{statement}
+use Rattle.image_write.proofs.put_place.Tie as tie
 
 put-indexed-row-requires : tie.Need-put-indexed-row-requires
 put-indexed-row-requires c κs =
