@@ -21,11 +21,11 @@ use Rattle.pages.specs.Layout.{Entry, entryAt, pagesIn}
 use Rattle.pages.specs.Walk.{parsed, countsRead, firstIndex, incremented, rest}
 use Rattle.pages.specs.WalkLaws.{Valid, Turn, turn, first-valid, rest-first, rest-end}
 use Rattle.pages.specs.Entries.{entries, counts, counted}
-use Rattle.masking.specs.declared.KeptLeaf.{KeptLeaf}
 use Rattle.masking.specs.Masks.{Masks, applyMask}
 use Rattle.masking.specs.Kept.{places, placeOf}
-use Rattle.masking.specs.KeptTable.{table, noRow, masksOf, rowOfPlace}
-use Rattle.masking.specs.KeptTableLaws.{masks-of-row}
+use Rattle.masks.specs.declared.KeptLeaf.{KeptLeaf}
+use Rattle.masks.specs.KeptTable.{table, noRow, masksOf, rowOfPlace}
+use Rattle.masks.specs.KeptTableLaws.{masks-of-row}
 use Rattle.table.specs.declared.CpuidResults.{CpuidResults}
 use Rattle.table.specs.Rows.{Row, row, vacant}
 use Rattle.table.specs.Table.{emptyTable, rowIn, rowsIn}

@@ -1,7 +1,7 @@
 // From pages to the masked first entries of the 88 places. Page bytes come in; the rows that every check and rule starts from go out.
-use masking::KeptLeaf;
 use masking::PLACES;
 use masking::place;
+use masks::KeptLeaf;
 use pages::ParsedCpuidEntry;
 use table::CpuidResults;
 use x86defs::CpuidResult;
@@ -10,7 +10,7 @@ ghost use mathlib.Core.Path.{_≡_};
 ghost use mathlib.Core.Bool.{true};
 ghost use Rattle.pages.specs.Layout.{countsFit};
 ghost use Rattle.masking.specs.Masks.{applyMask};
-ghost use Rattle.masking.specs.KeptTable.{masksOf};
+ghost use Rattle.masks.specs.KeptTable.{masksOf};
 ghost use Rattle.collect.specs.FirstEntries.{setLegacy};
 ghost use Rattle.collect.specs.Collect.{collected, countedPlace};
 
@@ -34,7 +34,7 @@ fn counted_place(entry: ParsedCpuidEntry) -> usize
 pub fn masked_at(kept: KeptLeaf, place: usize, r: CpuidResult) -> CpuidResult
     ensures { λ q. ⌜ q ≡ setLegacy place (applyMask (masksOf kept) r) ⌝ }
 {
-    let masked = masking::apply_mask(kept, r);
+    let masked = masks::apply_mask(kept, r);
     if place == place::EXTENDED_STATE_0 {
         return CpuidResult {
             eax: masked.eax | LEGACY_FEATURES,
@@ -51,7 +51,7 @@ pub fn collect(pages: &[u8], secure_avic: bool) -> CpuidResults
     requires { ⌜ countsFit (now pages) ≡ true ⌝ }
     ensures { λ r. ⌜ r ≡ collected «secure_avic» (now (pages .entry)) ⌝ }
 {
-    let kept = masking::kept_leaves(secure_avic);
+    let kept = masks::kept_leaves(secure_avic);
     let n = pages::page_count(pages);
     let mut t = table::empty_table();
     let mut index = reader::start(pages);
@@ -63,7 +63,7 @@ pub fn collect(pages: &[u8], secure_avic: bool) -> CpuidResults
             let place = counted_place(entry);
             if place < PLACES {
                 if t.present[place] {} else {
-                    let row = masking::mask_row(place);
+                    let row = masks::mask_row(place);
                     let r = entry.result;
                     let masked = masked_at(kept[row], place, r);
                     t.present[place] = true;

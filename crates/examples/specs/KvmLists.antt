@@ -11,7 +11,9 @@ use Rattle.buffer.specs.declared.Written.the-variants.{Bytes, Refused}
 use Rattle.buffer.specs.Front.{writeFront}
 use Rattle.kvm_list.specs.Words.{bytesOfWords}
 use Rattle.kvm_list.specs.Format.{allWords, listBytes, rowAt, rowsIn}
-use Rattle.kvm_import.specs.Import.{badListLength, allLawful, fieldsLawful, rowsOn0, rowsOn1, rowsFit, listVerdict, entriesWords, pageWords, pagesOf, readList}
+use Rattle.kvm_checks.specs.ListChecks.{badListLength, allLawful, fieldsLawful, rowsOn0, rowsOn1, rowsFit}
+use Rattle.kvm_pages.specs.ListPages.{entriesWords, pageWords, pagesOf}
+use Rattle.kvm_import.specs.Import.{listVerdict, readList}
 use Rattle.kvm_export.specs.Export.{plainRow, rowsFrom, listRows, listOf}
 use Rattle.examples.specs.PageSets.{serverA}
 use Rattle.examples.specs.Evaluation.{first, evaluated}

@@ -20,7 +20,7 @@ use Rattle.table.specs.Rows.{Row}
 use Rattle.table.specs.Table.{emptyTable, rowsIn}
 use Rattle.guest.specs.declared.Processor.{Processor}
 use Rattle.guest.specs.declared.GuestAnswer.{GuestAnswer}
-use Rattle.guest.specs.State.{saveRegister, compactRegister, stateVerdict}
+use Rattle.guest_state.specs.State.{saveRegister, compactRegister, stateVerdict}
 
 -- ---- the registers that differ
 

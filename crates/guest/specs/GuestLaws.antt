@@ -22,7 +22,7 @@ use Rattle.table.specs.Rows.{Row, Rows}
 use Rattle.table.specs.Table.{rowsIn}
 use Rattle.guest.specs.declared.Processor.{Processor}
 use Rattle.guest.specs.declared.GuestAnswer.{GuestAnswer}
-use Rattle.guest.specs.State.{saveRegister, compactRegister, stateVerdict}
+use Rattle.guest_state.specs.State.{saveRegister, compactRegister, stateVerdict}
 use Rattle.guest.specs.Guest.{versionSeen, levelSeen, sizeSeen, seenAt, seenIn, refusedAnswer, answerFor, guestAnswer}
 
 -- ---- leaf 1 EBX by masks and a shift

@@ -1,4 +1,7 @@
 // What one processor's guest sees. A table and the processor's own numbers come in; the guest's table, or a refusal, goes out.
+use guest_state::compact_register;
+use guest_state::save_register;
+use guest_state::state_verdict;
 use masking::place;
 use table::CpuidResults;
 use table::Refusal;
@@ -8,14 +11,8 @@ use x86defs::CpuidResult;
 ghost use mathlib.Core.Path.{_≡_};
 ghost use Rattle.bits.specs.Choice.{pick};
 ghost use Rattle.table.specs.Table.{rowsIn};
-ghost use Rattle.guest.specs.State.{stateVerdict};
+ghost use Rattle.guest_state.specs.State.{stateVerdict};
 ghost use Rattle.guest.specs.Guest.{osxsaveSeen, versionSeen, levelSeen, sizeSeen, guestAnswer, answerFor, refusedAnswer};
-
-mod state;
-
-use state::compact_register;
-use state::save_register;
-pub use state::state_verdict;
 
 // A processor: its x2APIC number, XCR0, XSS, and whether OSXSAVE is on.
 pub struct Processor {

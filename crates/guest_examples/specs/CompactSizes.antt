@@ -8,7 +8,7 @@ use Rattle.bits.specs.Bits.{bit, has}
 use Rattle.x86defs.specs.Functions.{result}
 use Rattle.masking.specs.Place
 use Rattle.table.specs.Rows.{Rows, row, vacant}
-use Rattle.guest.specs.Compact.{startOf, placed, compactBelow, compactSize}
+use Rattle.guest_state.specs.Compact.{startOf, placed, compactBelow, compactSize}
 
 -- D.2 of 256 bytes, D.9 of 8 bytes, D.11 of 16 bytes, D.12 of 24 bytes aligned to 64, D.62 of 2^32 - 577 bytes, D.63 of no bytes aligned to 64
 unfoldable pub rows : Rows

@@ -16,9 +16,9 @@ use Rattle.build.specs.declared.Built.{Built}
 use Rattle.build.specs.Build.{rowsFor, answer}
 use Rattle.rise.specs.RiseProof.{answer-table}
 use Rattle.examples.specs.Evaluation.{evaluated}
+use Rattle.guest_state.specs.Compact.{startOf, placed, compactBelow}
+use Rattle.guest_state.specs.State.{saveRegister, compacts, compactRegister, allowed, allowedVerdict, compactVerdict, stateVerdict}
 use Rattle.guest.specs.declared.Processor.{Processor}
-use Rattle.guest.specs.Compact.{startOf, placed, compactBelow}
-use Rattle.guest.specs.State.{saveRegister, compacts, compactRegister, allowed, allowedVerdict, compactVerdict, stateVerdict}
 use Rattle.guest.specs.Guest.{numberSeen, osxsaveSeen, guestTable}
 use Rattle.guest_pages.specs.GuestPages.{guestPages}
 use Rattle.guest_pages.specs.GuestPagesLaws.{guest-verdict, given-guest}

@@ -7,8 +7,8 @@ use Rattle.table.specs.declared.Verdict.the-variants.{Accepted, Refused}
 use Rattle.table.specs.Table.{rowsIn}
 use Rattle.examples.specs.PageSets.{serverA, serverB, serverWithLargeD6}
 use Rattle.examples.specs.Computed.{serverA-accepted, serverB-rises, serverB-accepted, large-refused}
+use Rattle.guest_state.specs.State.{stateVerdict}
 use Rattle.guest.specs.declared.Processor.{Processor}
-use Rattle.guest.specs.State.{stateVerdict}
 use Rattle.guest.specs.Guest.{guestTable, refusedAnswer}
 use Rattle.guest_pages.specs.GuestPages.{guestPages}
 use Rattle.guest_pages.specs.GuestPagesLaws.{building-first}

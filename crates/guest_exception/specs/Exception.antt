@@ -11,7 +11,7 @@ use Rattle.build.specs.Build.{lawfulVerdict, answer}
 use Rattle.rise.specs.Rise.{RiseHypothesis}
 use Rattle.rise.specs.Decide.{pagesTest, rises-by-test}
 use Rattle.examples.specs.PageSets.{entry, page, firstPage}
-use Rattle.guest.specs.State.{stateVerdict}
+use Rattle.guest_state.specs.State.{stateVerdict}
 use Rattle.guest.specs.Guest.{guestTable}
 use Rattle.guest_pages.specs.GuestPages.{guestPages}
 use Rattle.guest_rise.specs.GuestRise.{GuestOutcome}

@@ -9,9 +9,9 @@ use Rattle.build.specs.declared.Built.{Built}
 use Rattle.build.specs.Build.{answer}
 use Rattle.buffer.specs.Front.{AfterWrite, writeVerdict}
 use Rattle.image.specs.Image.{image}
+use Rattle.guest_state.specs.State.{stateVerdict}
 use Rattle.guest.specs.declared.Processor.{Processor}
 use Rattle.guest.specs.declared.GuestAnswer.{GuestAnswer}
-use Rattle.guest.specs.State.{stateVerdict}
 use Rattle.guest.specs.Guest.{answerFor}
 
 -- of what building gave

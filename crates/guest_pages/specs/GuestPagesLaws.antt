@@ -13,9 +13,9 @@ use Rattle.build.specs.Build.{answer}
 use Rattle.buffer.specs.declared.Written.the-variants.{Refused as NotWritten}
 use Rattle.buffer.specs.Front.{AfterWrite, writeFront}
 use Rattle.image.specs.Image.{image}
+use Rattle.guest_state.specs.State.{stateVerdict}
 use Rattle.guest.specs.declared.Processor.{Processor}
 use Rattle.guest.specs.declared.GuestAnswer.{GuestAnswer}
-use Rattle.guest.specs.State.{stateVerdict}
 use Rattle.guest.specs.Guest.{guestTable, tableGiven, answerFor, guestAnswer, refusedAnswer}
 use Rattle.guest_pages.specs.GuestPages.{guestOf, guestPages, writeGuest}
 

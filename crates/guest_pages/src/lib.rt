@@ -32,5 +32,5 @@ pub fn write_guest_image(pages: &[u8], choices: Choices, v: Processor, out: &mut
         return Written::Refused(r);
     }
     let table = seen.table;
-    image::write_table(table, out)
+    image_write::write_table(table, out)
 }

@@ -17,9 +17,9 @@ use Rattle.table.specs.Table.{rowIn}
 use Rattle.update.specs.Kinds.{TableAtLeast, Registers, kindsAt}
 use Rattle.build.specs.Build.{answer}
 use Rattle.rise.specs.Rise.{Further, RiseHypothesis}
+use Rattle.guest_state.specs.State.{compacts}
 use Rattle.guest.specs.declared.Processor.{Processor}
 use Rattle.guest.specs.declared.GuestAnswer.{GuestAnswer}
-use Rattle.guest.specs.State.{compacts}
 use Rattle.guest_pages.specs.GuestPages.{guestPages}
 
 -- whether D.1.EAX of a table has bit 1 or bit 3

@@ -15,9 +15,9 @@ use Rattle.checks.specs.ExtendedState.{saveArea}
 use Rattle.build.specs.Build.{answer}
 use Rattle.rise.specs.Rise.{RiseHypothesis, TableRises}
 use Rattle.rise.specs.RiseProof.{demand-3}
+use Rattle.guest_state.specs.State.{saveRegister, stateVerdict}
 use Rattle.guest.specs.declared.Processor.{Processor}
 use Rattle.guest.specs.declared.GuestAnswer.{GuestAnswer}
-use Rattle.guest.specs.State.{saveRegister, stateVerdict}
 use Rattle.guest_pages.specs.GuestPages.{guestPages}
 use Rattle.guest_pages.specs.GuestPagesLaws.{accepted-guest, guest-verdict, given-guest}
 use Rattle.guest_rise.specs.GuestRise.{compactsIn, GuestOutcome, GuestRise}

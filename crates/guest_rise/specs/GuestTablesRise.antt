@@ -22,10 +22,10 @@ use Rattle.update.specs.Kinds.{Kinds, TableAtLeast, Registers, kinds}
 use Rattle.update.specs.Kinds.Kind.{other}
 use Rattle.update.specs.RuleKinds.{component-kinds}
 use Rattle.rise.specs.Rise.{Further, TableRises}
+use Rattle.guest_state.specs.Compact.{compactSize}
+use Rattle.guest_state.specs.CompactLaws.{compact-same}
+use Rattle.guest_state.specs.State.{compacts, saveRegister, compactRegister, stateVerdict}
 use Rattle.guest.specs.declared.Processor.{Processor}
-use Rattle.guest.specs.Compact.{compactSize}
-use Rattle.guest.specs.CompactLaws.{compact-same}
-use Rattle.guest.specs.State.{compacts, saveRegister, compactRegister, stateVerdict}
 use Rattle.guest.specs.Guest.{guestTable, tableGiven, guestAnswer}
 use Rattle.guest_rise.specs.GuestRise.{compactsIn, RowRises, GuestTableRises, GuestOutcome}
 use Rattle.guest_rise.specs.GuestRise.GuestOutcome.{given, tooLarge}

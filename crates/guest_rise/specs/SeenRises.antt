@@ -18,8 +18,8 @@ use Rattle.table.specs.declared.CpuidResults.{CpuidResults}
 use Rattle.table.specs.Rows.{row}
 use Rattle.table.specs.Table.{rowIn, rowsIn}
 use Rattle.update.specs.Kinds.{registerKinds, kindsAt}
+use Rattle.guest_state.specs.State.{saveRegister, compactRegister}
 use Rattle.guest.specs.declared.Processor.{Processor}
-use Rattle.guest.specs.State.{saveRegister, compactRegister}
 use Rattle.guest.specs.Guest.{numberSeen, osxsaveSeen, versionSeen, levelSeen, sizeSeen, seenAt, seenIn, guestTable}
 use Rattle.guest_rise.specs.GuestRise.{RowRises}
 

@@ -18,8 +18,8 @@ use Rattle.table.specs.Refusal.{andThen}
 use Rattle.table.specs.Rows.{Rows}
 use Rattle.checks.specs.Checks.{refuseUnless}
 use Rattle.checks.specs.ExtendedState.{xfem, xss as maxXss}
-use Rattle.guest.specs.Compact.{compactSize}
-use Rattle.guest.specs.State.{within, allowed, compacts, compactRegister, allowedVerdict, compactVerdict, stateVerdict}
+use Rattle.guest_state.specs.Compact.{compactSize}
+use Rattle.guest_state.specs.State.{within, allowed, compacts, compactRegister, allowedVerdict, compactVerdict, stateVerdict}
 
 -- ---- the conditions, each by itself
 

@@ -15,8 +15,10 @@ use Rattle.buffer.specs.declared.Written.the-variants.{Bytes, Refused}
 use Rattle.buffer.specs.Front.{AfterWrite}
 use Rattle.buffer.specs.FrontLaws.{front-short, front-whole}
 use Rattle.kvm_list.specs.Format.{rowCount, rowsIn}
-use Rattle.kvm_import.specs.Import.{badListLength, fieldsLawful, rowsOn0, rowsOn1, rowsFit, listVerdict, pagesOf, readList}
-use Rattle.kvm_import.specs.PagesLaws.{pages-length}
+use Rattle.kvm_checks.specs.ListChecks.{badListLength, fieldsLawful, rowsOn0, rowsOn1, rowsFit}
+use Rattle.kvm_pages.specs.ListPages.{pagesOf}
+use Rattle.kvm_pages.specs.PagesLaws.{pages-length}
+use Rattle.kvm_import.specs.Import.{listVerdict, readList}
 
 -- both parts of the contract
 abbrev pub Gives : Written → List ℕ → List ℕ → List ℕ → Type 0

@@ -1,7 +1,3 @@
-pub mod NumbersInUse
-pub mod NumbersInUseLaws
-pub mod Line
-pub mod LineLaws
 pub mod WriteLine
 pub mod ReadLine
 pub mod ReadLineLaws

@@ -4,10 +4,10 @@ use mathlib.Core.List.{List}
 use Prim.Native.Nat.{ℕ}
 use Rattle.bits.specs.Choice.{pick}
 use Rattle.buffer.specs.Front.{AfterWrite, writeFront}
-use Rattle.lines.specs.declared.LineDetails.{LineDetails}
+use Rattle.line_bytes.specs.declared.LineDetails.{LineDetails}
+use Rattle.line_bytes.specs.Line.{writable, line}
 use Rattle.lines.specs.declared.LineWritten.{LineWritten}
 use Rattle.lines.specs.declared.LineWritten.the-variants.{Line, NoSuchLine}
-use Rattle.lines.specs.Line.{writable, line}
 
 -- what is answered, and what the lent buffer then holds
 pub record AfterLine : Type 0 where

@@ -2,35 +2,26 @@
 // number and details whose line they are go out.
 use buffer::Written;
 use guess::guess_details;
-use names::names_of;
-use put::put_line;
+use line_bytes::LineDetails;
+use line_bytes::names::names_of;
+use line_bytes::put::put_line;
 use table::Refusal;
 use table::Subleaf;
 ghost use mathlib.Core.Path.{_≡_};
 ghost use mathlib.Core.Bool.{_||_};
 ghost use lib.Dec.{eqb, leb};
 ghost use Rattle.bits.specs.Choice.{pick};
-ghost use Rattle.lines.specs.Line.{isNone, mostS, writable};
+ghost use Rattle.line_bytes.specs.Line.{isNone, mostS, writable};
 ghost use Rattle.lines.specs.WriteLine.{writeLine};
 ghost use Rattle.lines.specs.ReadLine.{readLine};
 
 mod guess;
-mod names;
-mod put;
 
 // No line has more bytes.
 const LONGEST: usize = 22;
 
 // The greatest s: it has 8 bits.
 const MOST_S: u32 = 255;
-
-// What a line says: the number, and the leaf, subleaf and s that it names. Those that it does not name are 0 or none.
-pub struct LineDetails {
-    pub number: u32,
-    pub leaf: u32,
-    pub subleaf: Subleaf,
-    pub s: u32,
-}
 
 // What writing answers: how many bytes or 9; or that there is no such line.
 pub enum LineWritten {

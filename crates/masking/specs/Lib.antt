@@ -1,10 +1,8 @@
 pub mod Masks
 pub mod Kept
 pub mod Place
-pub mod KeptTable
 pub mod MasksLaws
 pub mod KeptLaws
-pub mod KeptTableLaws
 pub mod Runs
 pub mod RunLaws
 pub mod PlaceOfLaws

@@ -1,46 +1,22 @@
-// The table of kept leaves. A leaf and a subleaf come in; their place among the 88 goes out, and from a place its masks, its leaf and its
-// subleaf.
+// The places of the kept leaves. A leaf and a subleaf come in; their place among the 88 goes out, and from a place its leaf and its subleaf.
 ghost use mathlib.Core.Path.{_≡_};
-ghost use mathlib.Core.Bool.{true, false};
-ghost use Prim.Native.Nat.{_+_, _-_, _≤_, _<_, min};
+ghost use mathlib.Core.Bool.{true};
+ghost use Prim.Native.Nat.{_+_, _≤_, _<_};
 ghost use lib.Dec.{ltb};
 ghost use Rattle.bits.specs.Choice.{pick};
-ghost use Rattle.masking.specs.Masks.{secureAvicMask, applyMask};
 ghost use Rattle.masking.specs.Kept.{places, placeOf, leafAt, indexedAt, subleafAt};
 ghost use Rattle.masking.specs.Place.{extendedMaxFunction};
 ghost use Rattle.masking.specs.Runs.{lawful};
-ghost use Rattle.masking.specs.KeptTable.{rows, table, rowAt, masksOf, rowOfPlace};
 
-mod kept;
 pub mod place;
 pub mod run;
 
-pub use kept::KEPT_LEAVES;
 pub use run::Run;
 use x86defs::CpuidFunction;
-use x86defs::CpuidResult;
 use x86defs::leaf;
-
-// How one leaf, or a run of its subleaves, is kept: whether its rows carry a subleaf; the first and the last subleaf that pages are read
-// for, which are all where the leaf has no subleaves and none where its row is made here; and the masks.
-pub struct KeptLeaf {
-    pub leaf: CpuidFunction,
-    pub subleaf: bool,
-    pub first: u32,
-    pub last: u32,
-    pub eax: u32,
-    pub ebx: u32,
-    pub ecx: u32,
-    pub edx: u32,
-}
 
 // The places of rows, and the answer where an entry has none.
 pub const PLACES: usize = 88;
-
-// 8000001Fh.EAX: the bit that the secure-AVIC choice adds, and the row of the table that it is added to.
-pub const SECURE_AVIC: u32 = 0x0400_0000;
-
-const SECURE_AVIC_ROW: usize = run::PROCESSOR_TOPOLOGY_AND_SEV.last_row;
 
 // The place of a page entry's leaf and subleaf; 88 where the entry is filtered. This finds a place by its leaf, `run_at` a run by its place.
 pub fn place_of(leaf: CpuidFunction, subleaf: u32) -> usize
@@ -124,74 +100,6 @@ fn extended_run_at(place: usize) -> Run
         run::CACHE_TOPOLOGY
     } else {
         run::PROCESSOR_TOPOLOGY_AND_SEV
-    }
-}
-
-// The table under a secure-AVIC choice. Call it once: a constant is written out anew wherever it is named.
-pub fn kept_leaves(secure_avic: bool) -> [KeptLeaf; 23]
-    ensures { λ r. ⌜ r ≡ table «secure_avic» ⌝ }
-{
-    let mut kept = KEPT_LEAVES;
-    kept[SECURE_AVIC_ROW].eax = kept[SECURE_AVIC_ROW].eax | secure_avic_mask(secure_avic);
-    kept
-}
-
-// What the choice adds to the mask of 8000001Fh.EAX.
-fn secure_avic_mask(secure_avic: bool) -> u32
-    ensures { λ r. ⌜ r ≡ secureAvicMask «secure_avic» ⌝ }
-{
-    if secure_avic { SECURE_AVIC } else { 0 }
-}
-
-// One row of the table without secure AVIC.
-pub fn kept_leaf(row: usize) -> KeptLeaf
-    requires { ⌜ row < rows ⌝ }
-    ensures { λ r. ⌜ r ≡ rowAt false row ⌝ }
-{
-    let kept = kept_leaves(false);
-    kept[row]
-}
-
-// The row of the table that a place belongs to. Rows and places rise together, but for the subleaves that share the last row of their run.
-pub fn mask_row(place: usize) -> usize
-    requires { ⌜ place < places ⌝ }
-    ensures { λ r. ⌜ r ≡ rowOfPlace place ⌝ }
-    ensures small { λ r. ⌜ r < rows ⌝ }
-{
-    if place < run::EXTENDED_STATE.first {
-        return row_from(run::BASIC, place, run::EXTENDED_TOPOLOGY.last_row);
-    }
-    if place < run::EXTENDED.first {
-        return row_from(run::EXTENDED_STATE, place, run::EXTENDED_STATE.last_row);
-    }
-    if place < run::PROCESSOR_TOPOLOGY_AND_SEV.first {
-        return row_from(run::EXTENDED, place, run::CACHE_TOPOLOGY.last_row);
-    }
-    row_from(
-        run::PROCESSOR_TOPOLOGY_AND_SEV,
-        place,
-        run::PROCESSOR_TOPOLOGY_AND_SEV.last_row,
-    )
-}
-
-// As many rows after the run's first as the place stands after the run's first, but no row after `last`.
-fn row_from(run: Run, place: usize, last: usize) -> usize
-    requires { ⌜ (run .first ≤ place) × (place < places) × (run .row < rows) ⌝ }
-    ensures { λ r. ⌜ r ≡ min (run .row + (place - run .first)) last ⌝ }
-{
-    let row = run.row + (place - run.first);
-    if row < last { row } else { last }
-}
-
-// Each register joined with its mask by and.
-pub fn apply_mask(m: KeptLeaf, r: CpuidResult) -> CpuidResult
-    ensures { λ masked. ⌜ masked ≡ applyMask (masksOf m) r ⌝ }
-{
-    CpuidResult {
-        eax: r.eax & m.eax,
-        ebx: r.ebx & m.ebx,
-        ecx: r.ecx & m.ecx,
-        edx: r.edx & m.edx,
     }
 }
 

@@ -51,7 +51,7 @@ pub fn write_output(input: &[u8], out: &mut [u8]) -> Written
         return put_refusal(numbers::refusal_numbers(refusal), out);
     }
     let table = built.table;
-    image::write_table(table, out)
+    image_write::write_table(table, out)
 }
 
 // Byte 4.

@@ -37,8 +37,9 @@ use Rattle.image.specs.Pieces.{rowsAmong}
 use Rattle.refusals.specs.ExactlyProof.{not-short}
 use Rattle.rise.specs.RiseProof.{answer-table, answer-row, accepted-edition, accepted-lawful, accepted-rows}
 use Rattle.kvm_list.specs.Format.{rowsIn}
-use Rattle.kvm_import.specs.Import.{listVerdict, pagesOf, readList}
-use Rattle.kvm_import.specs.PagesLaws.{pages-length as two-pages}
+use Rattle.kvm_pages.specs.ListPages.{pagesOf}
+use Rattle.kvm_pages.specs.PagesLaws.{pages-length as two-pages}
+use Rattle.kvm_import.specs.Import.{listVerdict, readList}
 use Rattle.kvm_export.specs.Export.{listRows, listOf, writeList}
 use Rattle.kvm_export.specs.ListLaws.{count-rows, list-length}
 use Rattle.round_trip.specs.Again.{readAgain, again}

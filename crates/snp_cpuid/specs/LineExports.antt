@@ -2,7 +2,7 @@
 use mathlib.Core.Bool.{Bool}
 use Prim.Native.Nat.{ℕ}
 use Rattle.numbers.specs.Numbers.{named, subleafOr0}
-use Rattle.lines.specs.declared.LineDetails.{LineDetails}
+use Rattle.line_bytes.specs.declared.LineDetails.{LineDetails}
 use Rattle.lines.specs.declared.LineWritten.{LineWritten}
 use Rattle.lines.specs.declared.LineWritten.the-variants.{Line, NoSuchLine}
 use Rattle.lines.specs.declared.LineRead.{LineRead}

@@ -1,7 +1,7 @@
 // Refusals as lines, for C and Rust: numbers and byte slices in, plain numbers out. include/snp_cpuid.h documents each call.
 use crate::subleaf_of;
 use crate::written_numbers;
-use lines::LineDetails;
+use line_bytes::LineDetails;
 use lines::LineRead;
 use lines::LineWritten;
 ghost use mathlib.Core.Path.{_≡_};

@@ -53,8 +53,8 @@ use Rattle.table.specs.Order.{Precedes}
 use Rattle.table.specs.OrderLaws.{places-rise}
 use Rattle.compare.specs.DecidesProof.{decides}
 use Rattle.buffer.specs.WritesExactly.{FrontExactly}
+use Rattle.guest_state.specs.State.{stateVerdict}
 use Rattle.guest.specs.declared.Processor.{Processor}
-use Rattle.guest.specs.State.{stateVerdict}
 use Rattle.guest.specs.Guest.{guestTable, refusedAnswer}
 use Rattle.guest_pages.specs.GuestPages.{guestPages, writeGuest}
 use Rattle.guest_rise.specs.StateExactly.{StateAnswers, state-answers}
@@ -68,11 +68,11 @@ use Rattle.guest_examples.specs.Views as Views
 use Rattle.guest_exception.specs.Exception as Exception
 use Rattle.table.specs.Refusal.{details}
 use Rattle.buffer.specs.declared.Written.the-variants.{Bytes, Refused as NotWritten}
-use Rattle.lines.specs.declared.LineDetails.{LineDetails}
+use Rattle.line_bytes.specs.declared.LineDetails.{LineDetails}
+use Rattle.line_bytes.specs.Line.{Fits, mostS, writable, line}
+use Rattle.line_bytes.specs.LineLaws.{at-most-22}
 use Rattle.lines.specs.declared.LineWritten.the-variants.{Line as Answered, NoSuchLine as NoLineWritten}
 use Rattle.lines.specs.declared.LineRead.the-variants.{Line as Says, NoSuchLine as SaysNothing}
-use Rattle.lines.specs.Line.{Fits, mostS, writable, line}
-use Rattle.lines.specs.LineLaws.{at-most-22}
 use Rattle.lines.specs.WriteLine.{leaves, writeLine}
 use Rattle.lines.specs.ReadLine.{readLine}
 use Rattle.lines.specs.LinePromises as Lines

@@ -16,5 +16,5 @@ pub fn write_image(pages: &[u8], choices: Choices, out: &mut [u8]) -> Written
         return Written::Refused(r);
     }
     let table = built.table;
-    image::write_table(table, out)
+    image_write::write_table(table, out)
 }

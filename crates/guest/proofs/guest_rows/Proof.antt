@@ -4,8 +4,8 @@ use mathlib.Core.Path.{_≡_, _∙_}
 use native.Mathlib.Omega.{arith}
 use lib.ListN.{length, length-map}
 use Rattle.table.specs.Table.{rowsIn}
-use Rattle.guest.specs.State.{compactRegister}
-use Rattle.guest.specs.StateLaws.{save-registers, compact-registers, accepted-fits}
+use Rattle.guest_state.specs.State.{compactRegister}
+use Rattle.guest_state.specs.StateLaws.{save-registers, compact-registers, accepted-fits}
 use Rattle.guest.specs.GuestLaws.{given}
 use Rattle.guest.proofs.guest_rows.Statement.{statement}
 use Rattle.guest.proofs.guest_rows.Tie as tie

@@ -1,7 +1,7 @@
 -- `guest::guest_table` meets its contract: the state's refusal, or the rows.
 use borrow.Author.Needs.{needs}
 use mathlib.Core.Path.{sym, _∙_}
-use Rattle.guest.specs.StateLaws.{verdict-registers}
+use Rattle.guest_state.specs.StateLaws.{verdict-registers}
 use Rattle.guest.specs.GuestLaws.{guest-refuses, guest-passes}
 use Rattle.guest.proofs.guest_table.Statement.{statement}
 use Rattle.guest.proofs.guest_table.Tie as tie

@@ -1,6 +1,6 @@
 -- `image::rows_among` meets its contract. The loop's invariant: `n` counts the rows from `first` up to `i`, and is at most their places.
 -- The measure is what is left up to `end`.
-use mathlib.Core.Path.{_≡_, sym}
+use mathlib.Core.Path.{_≡_, sym, ap₂, _∙_}
 use Prim.Native.Nat.{_+_, _-_, _≤_}
 use native.Mathlib.Omega.{arith}
 use borrow.Author.Needs.{needs}
@@ -22,7 +22,8 @@ loop-again : tie.Need-loop-again Inv-loop μ-loop
 loop-again c =
     let l = c .before .before .before .loop in
     let a = c .before .before .before .before .args in
-    (cc (among-more (a .present .now) (a .first) (l .i) (omega arith)), omega arith, omega arith)
+    let more = among-more (a .present .now) (a .first) (l .i) (omega arith) in
+    (ap₂ _+_ (l .inv .0) (c .one .ensures .0) ∙ sym more, omega arith, omega arith)
 
 returns : tie.Need-returns Inv-loop μ-loop
 returns c =

@@ -1,0 +1,4 @@
+pub mod Compact
+pub mod State
+pub mod CompactLaws
+pub mod StateLaws

@@ -1,0 +1,3 @@
+pub mod ListChecks
+pub mod RowLaws
+pub mod RowsLeftLaws

@@ -1,0 +1,4 @@
+pub mod ListPages
+pub mod Pieces
+pub mod EntriesLaws
+pub mod PagesLaws

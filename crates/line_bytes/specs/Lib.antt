@@ -1,0 +1,4 @@
+pub mod NumbersInUse
+pub mod NumbersInUseLaws
+pub mod Line
+pub mod LineLaws

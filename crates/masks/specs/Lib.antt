@@ -1,0 +1,2 @@
+pub mod KeptTable
+pub mod KeptTableLaws
