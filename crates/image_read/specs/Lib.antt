@@ -1,0 +1,3 @@
+pub mod ReadImage
+pub mod Runs
+pub mod ReadImageLaws
