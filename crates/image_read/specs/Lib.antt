@@ -1,3 +1,5 @@
 pub mod ReadImage
 pub mod Runs
-pub mod ReadImageLaws
+pub mod BeginsLaws
+pub mod ReadingLaws
+pub mod WrittenAgain

@@ -1,7 +1,7 @@
 -- `image_read::read_image` meets its contract: the rows found, and whether bytes are left over.
 use native.Mathlib.Omega.{arith}
 use borrow.Author.Needs.{needs}
-use Rattle.image_read.specs.ReadImageLaws.{read-whole, read-over}
+use Rattle.image_read.specs.ReadingLaws.{read-whole, read-over}
 use Rattle.image_read.proofs.read_image.Statement.{statement}
 use Rattle.image_read.proofs.read_image.Tie as tie
 

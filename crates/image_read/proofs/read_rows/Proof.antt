@@ -1,13 +1,13 @@
 -- `image_read::read_rows` meets its contract. The invariant of either loop: the rows of the places before `i` are read, and `at` is the index
 -- after them. The inner loop goes through one run, which gives each of its places its leaf and subleaf.
-use mathlib.Core.Path.{sym, ap, _∙_}
 use mathlib.Core.Logic.{⊎-elim}
 use Prim.Native.Nat.{_-_, _≤_, _<_}
 use native.Mathlib.Omega.{arith}
 use borrow.Author.Needs.{needs}
 use Rattle.masking.specs.Kept.{places}
 use Rattle.masking.specs.RunLaws.{run-end, run-leaf}
-use Rattle.image_read.specs.ReadImageLaws.{Reading, reading-starts, reading-none, reading-row, reading-ends, RowThere, place-begins, row-there}
+use Rattle.image_read.specs.BeginsLaws.{RowThere, place-begins, row-there}
+use Rattle.image_read.specs.ReadingLaws.{Reading, reading-starts, reading-none, reading-row, reading-ends}
 use Rattle.image_read.proofs.read_rows.Statement.{statement}
 use Rattle.image_read.proofs.read_rows.Tie as tie
 
@@ -46,21 +46,28 @@ there : (c : tie.After-row-length Inv-loop2 μ-loop2 Inv-loop μ-loop)
     (c .before .before .before .before .loop2 .at) (c .before .before .before .before .loop2 .i) (c .row-length .result)
 there c =
     let call = c .before .before .before .before .before .before .run-at in
-    row-there (call .result) (call .ensures .0) _ _ _ (omega arith) (omega arith) (c .before .before .row-begins .ensures) (c .before .if1 .taken) (c .row-length .ensures .0)
+    row-there (call .result) (call .ensures .0) _ _ _ (omega arith) (omega arith) (c .before .before .row-begins .ensures) (c .before .if1 .taken)
+    (c .row-length .ensures .0)
 
 loop2-again : tie.Need-loop2-again Inv-loop2 μ-loop2 Inv-loop μ-loop
 loop2-again c =
     let inner = c .before .before .before in
+    let i = inner .loop2 .i in
     let call = inner .before .before .run-at in
-    let h : inner .loop2 .i < places = omega (arith, run-end _ (call .ensures .0)) in
-    let none = place-begins (call .result) (call .ensures .0) _ (inner .loop2 .at) (inner .loop2 .i) (omega arith) (omega arith) in (
+    let h : i < places = omega (arith, run-end _ (call .ensures .0)) in
+    let read = inner .loop2 .inv .2 in
+    let s = inner .before .before .before .before .before .before .before .args .bytes .now in (
       omega arith,
       omega arith,
       ⊎-elim
           (λ w.
-          rw (w .3, w .4)
-          (reading-row _ h (inner .loop2 .inv .2) (there (record { before = record { before = c .before; if1 = w .0 }; row-length = w .1 })) (w .2 .ensures)))
-          (λ w. rw (w .1, w .2) (reading-none _ h (inner .loop2 .inv .2) (sym none ∙ sym (c .before .row-begins .ensures) ∙ w .0 .left)))
+          let row = there (record { before = record { before = c .before; if1 = w .0 }; row-length = w .1 }) in
+          rw (w .3, w .4) (reading-row _ h read row (w .2 .ensures)))
+          (λ w.
+          rw (w .1, w .2)
+          (reading-none _ h read
+          (place-begins (call .result) (call .ensures .0) s (inner .loop2 .at) i (omega arith) (omega arith)
+          (c .before .row-begins .ensures) (w .0 .left))))
           (c .if1 .came),
     )
 

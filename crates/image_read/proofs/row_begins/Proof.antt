@@ -4,7 +4,7 @@ use Prim.Native.Nat.{ℕ}
 use native.Mathlib.Omega.{arith}
 use borrow.Author.Needs.{needs}
 use lib.Dec.{eqb}
-use Rattle.image_read.specs.ReadImageLaws.{opens-long, run-indexed, run-shut, run-whole}
+use Rattle.image_read.specs.BeginsLaws.{opens-long, run-indexed, run-shut, run-whole}
 use Rattle.image_read.proofs.row_begins.Statement.{statement}
 use Rattle.image_read.proofs.row_begins.Tie as tie
 
@@ -18,7 +18,9 @@ returns c =
     let opened = c .before in
     let a = opened .before .before .before .before .before .args in
     ap (λ (n : ℕ). eqb n (a .k)) (c .word-at .ensures)
-    ∙ sym (run-indexed (a .bytes .now) (a .at) (a .run) (a .k) (opened .before .before .if1 .taken) (sym (opened .before .row-opens .ensures) ∙ opened .if2 .taken))
+    ∙ sym
+    (run-indexed (a .bytes .now) (a .at) (a .run) (a .k) (opened .before .before .if1 .taken)
+    (sym (opened .before .row-opens .ensures) ∙ opened .if2 .taken))
 
 returns-2 : tie.Need-returns-2
 returns-2 c =
