@@ -21,8 +21,10 @@ use Rattle.table.specs.Rows.{Row, Rows}
 use Rattle.table.specs.Table.{emptyTable, rowIn}
 use Rattle.checks.specs.ExtendedState.{xfem}
 use Rattle.guest.specs.State.{stateVerdict}
+use Rattle.carry.specs.declared.CarryRefusal.{CarryRefusal}
+use Rattle.carry.specs.declared.CarryRefusal.the-variants.{UnknownEdition, EditionBack, State}
 use Rattle.carry.specs.declared.CarryVerdict.{CarryVerdict}
-use Rattle.carry.specs.declared.CarryVerdict.the-variants.{Accepted, UnknownEdition, EditionBack, Refused}
+use Rattle.carry.specs.declared.CarryVerdict.the-variants.{Accepted, Refused}
 use Rattle.carry.specs.declared.Carried.{Carried}
 
 -- ---- the table
@@ -71,25 +73,25 @@ knownEdition n = eqb n 1 || eqb n 2
 -- 13 and 14
 abbrev pub ofState : Verdict → CarryVerdict
 ofState Table.Accepted = Accepted
-ofState (Table.Refused r) = Refused r
+ofState (Table.Refused r) = Refused (State r)
 
 -- "Answers: 16 from edition 2 back to 1, after 15 for either edition and before 13 and 14, which P3's rules give on the handed table's own rows"
 unfoldable pub carryVerdict : CpuidResults → ℕ → ℕ → ℕ → ℕ → CarryVerdict
 carryVerdict t from to xcr0 xss =
-    pick (knownEdition from && knownEdition to) (pick (leb from to) (ofState (stateVerdict (ownRows t) xcr0 xss)) EditionBack) UnknownEdition
+    pick (knownEdition from && knownEdition to)
+    (pick (leb from to) (ofState (stateVerdict (ownRows t) xcr0 xss)) (Refused EditionBack))
+    (Refused UnknownEdition)
 
 -- the table that goes with a verdict
 abbrev pub tableGiven : CarryVerdict → CpuidResults → CpuidResults
 tableGiven Accepted t = t
-tableGiven UnknownEdition t = emptyTable
-tableGiven EditionBack t = emptyTable
 tableGiven (Refused r) t = emptyTable
 
 abbrev pub answerFor : CarryVerdict → CpuidResults → Carried
 answerFor v t = record { verdict = v; table = tableGiven v t }
 
-abbrev pub refusedCarry : CarryVerdict → Carried
-refusedCarry v = record { verdict = v; table = emptyTable }
+abbrev pub refusedCarry : CarryRefusal → Carried
+refusedCarry r = record { verdict = Refused r; table = emptyTable }
 
 unfoldable pub carry : CpuidResults → ℕ → ℕ → ℕ → ℕ → Carried
 carry t from to xcr0 xss = answerFor (carryVerdict t from to xcr0 xss) (carriedTable (keeps t from to) t)

@@ -25,10 +25,18 @@ use Rattle.checks.specs.ExtendedState.{xfem}
 use Rattle.checks.specs.Parts.{resultsIn}
 use Rattle.guest.specs.State.{stateVerdict}
 use Rattle.guest.specs.StateLaws.{verdict-of-state}
+use Rattle.buffer.specs.Front.{writeFront}
+use Rattle.image.specs.Image.{image}
+use Rattle.image_read.specs.declared.ReadImage.{ReadImage}
+use Rattle.image_read.specs.ReadImage.{readImage}
 use Rattle.update.specs.DropLaws.{UpTo, up-to-next}
+use Rattle.carry.specs.declared.CarryRefusal.{CarryRefusal}
+use Rattle.carry.specs.declared.CarryRefusal.the-variants.{UnknownEdition, EditionBack, State}
 use Rattle.carry.specs.declared.CarryVerdict.{CarryVerdict}
-use Rattle.carry.specs.declared.CarryVerdict.the-variants.{Accepted, UnknownEdition, EditionBack, Refused}
+use Rattle.carry.specs.declared.CarryVerdict.the-variants.{Accepted, Refused}
 use Rattle.carry.specs.declared.Carried.{Carried}
+use Rattle.carry.specs.declared.CarriedImage.the-variants.{NotAnImage, Image}
+use Rattle.carry.specs.CarryImage.{afterCarry, carryImage}
 use Rattle.carry.specs.Carry.{ownRows, f16c, xopAndFma4, withoutBits, carriedAt, carriedTable, keeps, knownEdition, carryVerdict, answerFor, refusedCarry, carry}
 
 -- ---- the rows that are there, as the loop stores them
@@ -105,7 +113,7 @@ module _ (t : CpuidResults) (from to xcr0 xss : ℕ) {a b : Bool} (p : a ≡ kno
       own-verdict : v ≡ stateVerdict (ownRows t) xcr0 xss
       own-verdict = w ∙ verdict-of-state (resultsIn own) (ownRows t) (λ k l. own-at (Place.extendedState k) (omega arith)) xcr0 xss
 
-      pub carry-state : {r : Refusal} → v ≡ Table.Refused r → refusedCarry (Refused r) ≡ carry t from to xcr0 xss
+      pub carry-state : {r : Refusal} → v ≡ Table.Refused r → refusedCarry (State r) ≡ carry t from to xcr0 xss
       unfolding carry carryVerdict
       carry-state e = rw (← p, ← q, known, le-leb from to h, ← own-verdict, e)
 
@@ -113,3 +121,24 @@ module _ (t : CpuidResults) (from to xcr0 xss : ℕ) {a b : Bool} (p : a ≡ kno
           → u ≡ carriedTable (eqb from to || ymm) t → record { verdict = Accepted; table = u } ≡ carry t from to xcr0 xss
       unfolding carry carryVerdict keeps xfem
       carry-done e y f = rw (← p, ← q, known, le-leb from to h, ← own-verdict, e, f, y, own-at (Place.extendedState 0) (lit< tt))
+
+-- ---- in place
+
+module _ (s : List ℕ) (from to xcr0 xss : ℕ) {read : ReadImage} (p : read ≡ readImage s) where
+  pub image-none : read .«is_image» ≡ false
+      → (NotAnImage ≡ carryImage s from to xcr0 xss .answer) × (s ≡ carryImage s from to xcr0 xss .buffer)
+  unfolding carryImage
+  image-none e = rw (← p, e) (refl, refl)
+
+  module _ (e : read .«is_image» ≡ true) {w : Carried} (q : w ≡ carry (read .table) from to xcr0 xss) where
+    image-carried : carryImage s from to xcr0 xss ≡ afterCarry w s
+    unfolding carryImage
+    image-carried = rw (← p, e, ← q)
+
+    pub image-refused : {r : CarryRefusal} → w .verdict ≡ Refused r
+        → (Image (Refused r) ≡ carryImage s from to xcr0 xss .answer) × (s ≡ carryImage s from to xcr0 xss .buffer)
+    image-refused f = rw (image-carried, f) (refl, refl)
+
+    pub image-written : {out : List ℕ} → w .verdict ≡ Accepted → out ≡ writeFront (image (w .table)) s .buffer
+        → (Image Accepted ≡ carryImage s from to xcr0 xss .answer) × (out ≡ carryImage s from to xcr0 xss .buffer)
+    image-written f g = rw (image-carried, f) (refl, g)

@@ -1,6 +1,8 @@
 // A running table carried from one edition of the AVX rule to another. A table, or its image in a lent buffer, and one processor's state come
 // in; the table under the edition wanted goes out, or a refusal and what was lent as it was.
 use guest::state_verdict;
+use image::write_table;
+use image_read::read_image;
 use masking::PLACES;
 use masking::place;
 use table::CpuidResults;
@@ -13,6 +15,7 @@ ghost use Rattle.bits.specs.Choice.{pick};
 ghost use Rattle.bits.specs.Lists.{tabulate};
 ghost use Rattle.x86defs.specs.Functions.{result};
 ghost use Rattle.masking.specs.Kept.{places};
+ghost use Rattle.carry.specs.CarryImage.{carryImage};
 ghost use Rattle.carry.specs.Carry.{knownEdition, ownRows, withoutBits, carriedTable, carry, refusedCarry};
 
 // What goes without YMM state in edition 2 and not in edition 1: F16C of 1.ECX, XOP and FMA4 of 80000001h.ECX.
@@ -20,12 +23,16 @@ const F16C: u32 = 0x20000000;
 
 const XOP_AND_FMA4: u32 = 0x10800;
 
-// Whether a table is carried, or why not.
-pub enum CarryVerdict {
-    Accepted,
+// Why a table is not carried.
+pub enum CarryRefusal {
     UnknownEdition,
     EditionBack,
-    Refused(Refusal),
+    State(Refusal),
+}
+
+pub enum CarryVerdict {
+    Accepted,
+    Refused(CarryRefusal),
 }
 
 // Accepted with the table under the edition wanted, or refused with an empty one.
@@ -39,15 +46,15 @@ pub fn carry(t: CpuidResults, from: u32, to: u32, xcr0: u64, xss: u64) -> Carrie
     ensures { λ r. ⌜ r ≡ carry t from to xcr0 xss ⌝ }
 {
     if known_edition(from) & known_edition(to) {} else {
-        return refused(CarryVerdict::UnknownEdition);
+        return refused(CarryRefusal::UnknownEdition);
     }
     if to < from {
-        return refused(CarryVerdict::EditionBack);
+        return refused(CarryRefusal::EditionBack);
     }
     let own = own_results(t);
     let verdict = state_verdict(own, xcr0, xss);
     if let Verdict::Refused(r) = verdict {
-        return refused(CarryVerdict::Refused(r));
+        return refused(CarryRefusal::State(r));
     }
     let subleaf0 = own[place::EXTENDED_STATE_0];
     let table = clear_bits(t, (from == to) | bits::has_bit(subleaf0.eax, 2));
@@ -55,6 +62,33 @@ pub fn carry(t: CpuidResults, from: u32, to: u32, xcr0: u64, xss: u64) -> Carrie
         verdict: CarryVerdict::Accepted,
         table,
     }
+}
+
+// Whether lent bytes are a table's image, and if so, whether the table is carried.
+pub enum CarriedImage {
+    NotAnImage,
+    Image(CarryVerdict),
+}
+
+// The same for a table handed over as its image, in place: where it is carried, the bytes become the image of the table under the edition
+// wanted, which has as many. Any other bytes, and a table that is refused, stay as they were.
+pub fn carry_image(image: &mut [u8], from: u32, to: u32, xcr0: u64, xss: u64) -> CarriedImage
+    ensures { λ r. ⌜ r ≡ carryImage (now (image .entry)) from to xcr0 xss .answer ⌝ }
+    ensures { λ _. ⌜ now (image .exit) ≡ carryImage (now (image .entry)) from to xcr0 xss .buffer ⌝ }
+{
+    let read = read_image(image);
+    if read.is_image {
+        let t = read.table;
+        let carried = carry(t, from, to, xcr0, xss);
+        let verdict = carried.verdict;
+        if let CarryVerdict::Refused(r) = verdict {
+            return CarriedImage::Image(CarryVerdict::Refused(r));
+        }
+        let table = carried.table;
+        write_table(table, image);
+        return CarriedImage::Image(CarryVerdict::Accepted);
+    }
+    CarriedImage::NotAnImage
 }
 
 // Whether there is such an edition.
@@ -68,11 +102,14 @@ fn known_edition(edition: u32) -> bool
 }
 
 // A refused answer holds an empty table.
-fn refused(verdict: CarryVerdict) -> Carried
-    ensures { λ r. ⌜ r ≡ refusedCarry verdict ⌝ }
+fn refused(r: CarryRefusal) -> Carried
+    ensures { λ q. ⌜ q ≡ refusedCarry r ⌝ }
 {
     let table = empty_table();
-    Carried { verdict, table }
+    Carried {
+        verdict: CarryVerdict::Refused(r),
+        table,
+    }
 }
 
 // The registers of each place, zeros where it has no row.
