@@ -1,12 +1,13 @@
 -- A table handed over as its image, and got back: reading the image of a table gives its rows, of a built one the whole table, and nothing
 -- else is taken for an image.
 use mathlib.Core.Path.{_≡_}
-use mathlib.Core.Bool.{Bool, true}
+use mathlib.Core.Bool.{true}
 use mathlib.Core.List.{List}
 use mathlib.Core.Logic.{_↔_}
 use Prim.Native.Nat.{ℕ, _<_}
 use lib.ListN.{getD}
 use Rattle.masking.specs.Kept.{places}
+use Rattle.table.specs.declared.Choices.{Choices}
 use Rattle.table.specs.declared.CpuidResults.{CpuidResults}
 use Rattle.table.specs.declared.Verdict.the-variants.{Accepted}
 use Rattle.table.specs.Table.{tableOf, rowIn, rowsIn}
@@ -28,8 +29,8 @@ ImageReadsBack = (t : CpuidResults) → Plain t → ReadsBack t
 
 -- of an accepted page set's table nothing is lost
 abbrev pub BuiltReadsBack : Type 0
-BuiltReadsBack = (avic : Bool) (s : List ℕ) → answer avic s .verdict ≡ Accepted
-    → readImage (image (answer avic s .table)) ≡ record { «is_image» = true; table = answer avic s .table }
+BuiltReadsBack = (chosen : Choices) (s : List ℕ) → answer chosen s .verdict ≡ Accepted
+    → readImage (image (answer chosen s .table)) ≡ record { «is_image» = true; table = answer chosen s .table }
 
 -- bytes are read if and only if they are the image of such a table
 abbrev pub OnlyImagesRead : Type 0

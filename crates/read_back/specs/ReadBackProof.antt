@@ -20,8 +20,6 @@ use Rattle.table.specs.Rows.{Row, Rows, row, vacant}
 use Rattle.table.specs.Table.{countRows, tableOf, rowIn, rowsIn}
 use Rattle.table.specs.Fits.{Fits}
 use Rattle.checks.specs.ExtendedState.{xssOf, xfem, xss, combinedMask}
-use Rattle.update.specs.Finish.{finished}
-use Rattle.collect.specs.FirstEntries.{rowsOf}
 use Rattle.build.specs.Build.{answer}
 use Rattle.image.specs.Image.{image}
 use Rattle.rise.specs.RiseProof.{table-row, answer-table, answer-row}
@@ -83,12 +81,11 @@ image-reads-back t p = reads-back t p
 -- ---- of a built table
 
 pub built-reads-back : BuiltReadsBack
-built-reads-back avic s e =
-    let t : CpuidResults = answer avic s .table in
-    let back = reads-back t (accepted-plain avic s e) in
-    let rows : (i : ℕ) → i < places → rowsIn t i ≡ finished (rowsOf avic s) i = answer-row avic s e in
+built-reads-back chosen s e =
+    let t : CpuidResults = answer chosen s .table in
+    let back = reads-back t (accepted-plain chosen s e) in
     let whole : t ≡ tableOf (rowsIn t) (combinedMask (rowsIn t)) =
-    answer-table avic s e ∙ sym (table-ext rows (built-mask avic s e)) in
+    answer-table chosen s e ∙ sym (table-ext (answer-row chosen s e) (built-mask chosen s e)) in
     λ k. record { «is_image» = back .read k; table = back .whole whole k }
 
 -- ---- nothing else
