@@ -1,5 +1,5 @@
 -- An image is a list of bytes.
-use mathlib.Core.Path.{_≡_, refl, sym, ap, _∙_, subst}
+use mathlib.Core.Path.{_≡_}
 use mathlib.Core.Bool.{Bool, true, false}
 use mathlib.Core.List.{List, [], _∷_, _++_}
 use Prim.Native.Nat.{ℕ, zero, suc, _+_, _-_, _/_, _≤_, _<_}
@@ -14,9 +14,9 @@ use Rattle.table.specs.declared.CpuidResults.{CpuidResults}
 use Rattle.table.specs.Rows.{Row}
 use Rattle.table.specs.Table.{rowIn}
 use Rattle.buffer.specs.Front.{bytesOf, resultBytes}
-use Rattle.image.specs.Image.{rowBytes, placeBytes}
+use Rattle.image.specs.Image.{placeBytes, image}
 use Rattle.image.specs.Pieces.{rowsFrom}
-use Rattle.image.specs.PiecesLaws.{rows-more, rows-none}
+use Rattle.image.specs.PiecesLaws.{rows-more, rows-all, rows-none}
 
 data Bytes : List ℕ → Type 0 where
   none : Bytes []
@@ -55,3 +55,6 @@ rows-bytes t (suc n) i e = rw (rows-more t i (omega arith)) (bytes-place i (rowI
 
 pub bytes-from : (t : CpuidResults) (i : ℕ) → i ≤ places → (k : ℕ) → getD (rowsFrom t i) k 0 < 256
 bytes-from t i h = bytes-at (rows-bytes t (places - i) i (omega arith))
+
+pub image-bytes : (t : CpuidResults) (k : ℕ) → getD (image t) k 0 < 256
+image-bytes t = rw rows-all at (bytes-from t 0 (omega arith))
