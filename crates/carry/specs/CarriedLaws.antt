@@ -1,37 +1,35 @@
 -- The proofs of `CarryKeeps` and `CarriesInPlace`: kept bits change nothing, two rows alone may change, and the length of an image is told by
 -- which rows are there.
 use mathlib.Core.Path.{_≡_, refl, sym, ap, _∙_}
-use mathlib.Core.Bool.{Bool, true, false, _&&_, _||_}
-use mathlib.Core.List.{List, [], _++_, append-nil}
+use mathlib.Core.Bool.{Bool, true, false, _&&_}
+use mathlib.Core.List.{List, append-nil}
 use Prim.Native.Nat.{ℕ, _<_}
 use native.Mathlib.Nat.{le-refl}
 use native.Mathlib.Omega.{arith}
 use lib.Dec.{eqb}
-use lib.ListN.{length, getD, drop}
+use lib.ListN.{length}
 use lib.Seq.{drop-length}
 use borrow.Author.Tests.{eq-eqb, le-leb, ne-eqb}
 use Rattle.bits.specs.Choice.{pick}
 use Rattle.bits.specs.Bits.{clearUnless}
 use Rattle.bits.specs.Lists.{tabulate}
 use Rattle.bits.specs.ListsLaws.{getD-tabulate, tabulated}
-use Rattle.x86defs.specs.declared.CpuidResult.{CpuidResult}
 use Rattle.x86defs.specs.Functions.{result}
 use Rattle.masking.specs.Kept.{places}
 use Rattle.masking.specs.Place
 use Rattle.table.specs.declared.CpuidResults.{CpuidResults}
 use Rattle.table.specs.Rows.{Row}
-use Rattle.table.specs.Table.{rowIn, rowsIn}
+use Rattle.table.specs.Table.{rowIn}
 use Rattle.buffer.specs.Front.{writeFront}
 use Rattle.image.specs.Image.{image}
 use Rattle.image.specs.LengthLaws.{image-length}
-use Rattle.guest.specs.State.{saveRegister, compactRegister}
 use Rattle.guest.specs.StateLaws.{save-of-state, compact-of-state}
 use Rattle.image_read.specs.ReadImage.{readImage}
 use Rattle.image_read.specs.WrittenAgain.{read-has-image}
 use Rattle.carry.specs.declared.CarryVerdict.{CarryVerdict}
-use Rattle.carry.specs.declared.CarryVerdict.the-variants.{Accepted, Refused}
-use Rattle.carry.specs.Carry.{carriedAt, carriedTable, keeps, tableGiven, carryVerdict, carry}
-use Rattle.carry.specs.CarryImage.{AfterCarry, bytesGiven, afterCarry, carryImage}
+use Rattle.carry.specs.declared.CarryVerdict.the-variants.{Accepted}
+use Rattle.carry.specs.Carry.{carriedAt, carriedTable, keeps, tableGiven, carry}
+use Rattle.carry.specs.CarryImage.{carryImage}
 use Rattle.carry.specs.Carried.{CarryKeeps, CarriesInPlace}
 
 -- ---- within one edition
@@ -104,7 +102,8 @@ written-over : (l s : List ℕ) → length l ≡ length s → writeFront l s .bu
 unfolding writeFront
 written-over l s e = rw (e, le-leb (length s) (length s) (le-refl (length s)), drop-length s, append-nil l)
 
-bytes-given : (s : List ℕ) (from to xcr0 xss : ℕ) → readImage s .«is_image» ≡ true → carry (readImage s .table) from to xcr0 xss .verdict ≡ Accepted
+bytes-given : (s : List ℕ) (from to xcr0 xss : ℕ) → readImage s .«is_image» ≡ true
+    → carry (readImage s .table) from to xcr0 xss .verdict ≡ Accepted
     → carryImage s from to xcr0 xss .buffer ≡ writeFront (image (carry (readImage s .table) from to xcr0 xss .table)) s .buffer
 unfolding carryImage
 bytes-given s from to xcr0 xss f e = rw (f, e)
@@ -114,6 +113,8 @@ carries-in-place s from to xcr0 xss bytes f e =
     let t : CpuidResults = readImage s .table in
     let u : CpuidResults = carry t from to xcr0 xss .table in
     let n : length (image u) ≡ length s =
-    ap (λ (w : CpuidResults). length (image w)) (given t from to xcr0 xss e) ∙ same-length (keeps t from to) t ∙ ap length (read-has-image s bytes f) in
+    ap (λ (w : CpuidResults). length (image w)) (given t from to xcr0 xss e)
+    ∙ same-length (keeps t from to) t
+    ∙ ap length (read-has-image s bytes f) in
     let b : carryImage s from to xcr0 xss .buffer ≡ image u = bytes-given s from to xcr0 xss f e ∙ written-over (image u) s n in
     (b, ap length b ∙ n)

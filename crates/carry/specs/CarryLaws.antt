@@ -1,5 +1,5 @@
 -- The answer by the code's returns, and the table by its stores.
-use mathlib.Core.Path.{_≡_, refl, sym, ap, _∙_}
+use mathlib.Core.Path.{_≡_, refl, ap, _∙_}
 use mathlib.Core.Bool.{Bool, true, false, _&&_, _||_}
 use mathlib.Core.List.{List}
 use Prim.Native.Nat.{ℕ, _+_, _≤_, _<_}
@@ -25,19 +25,10 @@ use Rattle.checks.specs.ExtendedState.{xfem}
 use Rattle.checks.specs.Parts.{resultsIn}
 use Rattle.guest.specs.State.{stateVerdict}
 use Rattle.guest.specs.StateLaws.{verdict-of-state}
-use Rattle.buffer.specs.Front.{writeFront}
-use Rattle.image.specs.Image.{image}
-use Rattle.image_read.specs.declared.ReadImage.{ReadImage}
-use Rattle.image_read.specs.ReadImage.{readImage}
 use Rattle.update.specs.DropLaws.{UpTo, up-to-next}
-use Rattle.carry.specs.declared.CarryRefusal.{CarryRefusal}
 use Rattle.carry.specs.declared.CarryRefusal.the-variants.{UnknownEdition, EditionBack, State}
-use Rattle.carry.specs.declared.CarryVerdict.{CarryVerdict}
 use Rattle.carry.specs.declared.CarryVerdict.the-variants.{Accepted, Refused}
-use Rattle.carry.specs.declared.Carried.{Carried}
-use Rattle.carry.specs.declared.CarriedImage.the-variants.{NotAnImage, Image}
-use Rattle.carry.specs.CarryImage.{afterCarry, carryImage}
-use Rattle.carry.specs.Carry.{ownRows, f16c, xopAndFma4, withoutBits, carriedAt, carriedTable, keeps, knownEdition, carryVerdict, answerFor, refusedCarry, carry}
+use Rattle.carry.specs.Carry.{ownRows, f16c, xopAndFma4, withoutBits, carriedAt, carriedTable, keeps, knownEdition, carryVerdict, refusedCarry, carry}
 
 -- ---- the rows that are there, as the loop stores them
 
@@ -70,26 +61,23 @@ xop-and-fma4-mask = refl
 abbrev ifThere : Bool → ℕ → Row → CpuidResult
 ifThere keep m r = pick (r .present) (withoutBits keep m (r .result)) (r .result)
 
-stores : (keep : Bool) (m : Rows)
-    → set (set (tabulate places (λ i. m i .result)) 1 (ifThere keep f16c (m 1))) 71 (ifThere keep xopAndFma4 (m 71))
-    ≡ tabulate places (λ i. carriedAt keep i (m i))
+abbrev storing : Bool → Rows → List CpuidResult → List CpuidResult
+storing keep m l = set (set l 1 (ifThere keep f16c (m 1))) 71 (ifThere keep xopAndFma4 (m 71))
+
+stores : (keep : Bool) (m : Rows) → storing keep m (tabulate places (λ i. m i .result)) ≡ tabulate places (λ i. carriedAt keep i (m i))
 unfolding tabulate
 stores keep m = refl
 
+abbrev tableWith : CpuidResults → List CpuidResult → CpuidResults
+tableWith t l = record { present = t .present; results = l; «row_count» = t .«row_count»; «max_extended_state» = t .«max_extended_state» }
+
 pub cleared : (t : CpuidResults) (keep : Bool) {version extended : CpuidResult} → length (t .results) ≡ places
-    → version ≡ pick (rowIn t 1 .present) (withoutBits keep 0x20000000 (rowIn t 1 .result)) (rowIn t 1 .result)
-    → extended ≡ pick (rowIn t 71 .present) (withoutBits keep 0x10800 (rowIn t 71 .result)) (rowIn t 71 .result)
-    → _≡_ {A = CpuidResults} (record {
-      present = t .present;
-      results = set (set (t .results) 1 version) 71 extended;
-      «row_count» = t .«row_count»;
-      «max_extended_state» = t .«max_extended_state»;
-    })
-    (carriedTable keep t)
+    → version ≡ ifThere keep 0x20000000 (rowIn t 1) → extended ≡ ifThere keep 0x10800 (rowIn t 71)
+    → tableWith t (set (set (t .results) 1 version) 71 extended) ≡ carriedTable keep t
 cleared t keep {version} {extended} n e f =
     let whole : t .results ≡ tabulate places (λ i. rowIn t i .result) = tabulated places _ (t .results) (result 0 0 0 0) n (λ i l. refl) in
-    ap (λ (l : List CpuidResult). record { present = t .present; results = l; «row_count» = t .«row_count»; «max_extended_state» = t .«max_extended_state» })
-    (rw (e, f, ← f16c-mask, ← xop-and-fma4-mask) (ap (λ (l : List CpuidResult). set (set l 1 (ifThere keep f16c (rowIn t 1))) 71 (ifThere keep xopAndFma4 (rowIn t 71))) whole ∙ stores keep (rowsIn t)))
+    ap (λ (l : List CpuidResult). tableWith t l)
+    (rw (e, f, ← f16c-mask, ← xop-and-fma4-mask) (ap (λ (l : List CpuidResult). storing keep (rowsIn t) l) whole ∙ stores keep (rowsIn t)))
 
 -- ---- the answer
 
@@ -121,24 +109,3 @@ module _ (t : CpuidResults) (from to xcr0 xss : ℕ) {a b : Bool} (p : a ≡ kno
           → u ≡ carriedTable (eqb from to || ymm) t → record { verdict = Accepted; table = u } ≡ carry t from to xcr0 xss
       unfolding carry carryVerdict keeps xfem
       carry-done e y f = rw (← p, ← q, known, le-leb from to h, ← own-verdict, e, f, y, own-at (Place.extendedState 0) (lit< tt))
-
--- ---- in place
-
-module _ (s : List ℕ) (from to xcr0 xss : ℕ) {read : ReadImage} (p : read ≡ readImage s) where
-  pub image-none : read .«is_image» ≡ false
-      → (NotAnImage ≡ carryImage s from to xcr0 xss .answer) × (s ≡ carryImage s from to xcr0 xss .buffer)
-  unfolding carryImage
-  image-none e = rw (← p, e) (refl, refl)
-
-  module _ (e : read .«is_image» ≡ true) {w : Carried} (q : w ≡ carry (read .table) from to xcr0 xss) where
-    image-carried : carryImage s from to xcr0 xss ≡ afterCarry w s
-    unfolding carryImage
-    image-carried = rw (← p, e, ← q)
-
-    pub image-refused : {r : CarryRefusal} → w .verdict ≡ Refused r
-        → (Image (Refused r) ≡ carryImage s from to xcr0 xss .answer) × (s ≡ carryImage s from to xcr0 xss .buffer)
-    image-refused f = rw (image-carried, f) (refl, refl)
-
-    pub image-written : {out : List ℕ} → w .verdict ≡ Accepted → out ≡ writeFront (image (w .table)) s .buffer
-        → (Image Accepted ≡ carryImage s from to xcr0 xss .answer) × (out ≡ carryImage s from to xcr0 xss .buffer)
-    image-written f g = rw (image-carried, f) (refl, g)

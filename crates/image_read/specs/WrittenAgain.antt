@@ -12,7 +12,6 @@ use borrow.Author.Tests.{leb-true, eqb-true}
 use Rattle.bits.specs.Choice.{pick}
 use Rattle.bits.specs.ChoiceLaws.{and-left, and-right}
 use Rattle.bits.specs.ListsLaws.{getD-tabulate}
-use Rattle.x86defs.specs.declared.CpuidResult.{CpuidResult}
 use Rattle.x86defs.specs.Functions.{result}
 use Rattle.pages.specs.Layout.{wordAt}
 use Rattle.masking.specs.Kept.{places, leafAt, indexedAt, subleafAt}

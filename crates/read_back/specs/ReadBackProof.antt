@@ -1,9 +1,9 @@
 -- The proofs of `ImageReadsBack`, `BuiltReadsBack` and `OnlyImagesRead`.
 use mathlib.Core.Path.{_≡_, refl, sym, ap, ap₂, _∙_, subst}
 use mathlib.Core.Bool.{Bool, true, false}
-use mathlib.Core.List.{List, []}
+use mathlib.Core.List.{List}
 use Prim.Native.Nat.{ℕ, _<_}
-use lib.Dec.{eqb, lit<}
+use lib.Dec.{lit<}
 use lib.Bits.{bitOr}
 use lib.ListN.{length, getD}
 use borrow.Author.Tests.{eq-eqb}
@@ -15,7 +15,6 @@ use Rattle.x86defs.specs.declared.CpuidResult.{CpuidResult}
 use Rattle.masking.specs.Kept.{places, indexedAt}
 use Rattle.masking.specs.Place
 use Rattle.table.specs.declared.CpuidResults.{CpuidResults}
-use Rattle.table.specs.declared.Verdict.the-variants.{Accepted}
 use Rattle.table.specs.Rows.{Row, Rows, row, vacant}
 use Rattle.table.specs.Table.{countRows, tableOf, rowIn, rowsIn}
 use Rattle.table.specs.Fits.{Fits}
@@ -26,7 +25,6 @@ use Rattle.rise.specs.RiseProof.{table-row, answer-table, answer-row}
 use Rattle.rise.specs.BuiltLaws.{built-mask}
 use Rattle.images.specs.TableLaws.{Plain}
 use Rattle.images.specs.ImagesProof.{accepted-plain}
-use Rattle.image_read.specs.declared.ReadImage.{ReadImage}
 use Rattle.image_read.specs.ReadImage.{registersAt, begins, rowRead, left, rowsRead, isImage, readImage}
 use Rattle.image_read.specs.WrittenAgain.{registers-fit, bytes-left, read-has-image}
 use Rattle.read_back.specs.ReadBack.{ReadsBack, ImageReadsBack, BuiltReadsBack, OnlyImagesRead}

@@ -1,13 +1,13 @@
 -- The image of a table read from place to place: what is left at a place are the rows from there on.
-use mathlib.Core.Path.{_≡_, refl, sym, ap, _∙_, subst}
+use mathlib.Core.Path.{_≡_, refl, sym, ap, _∙_}
 use mathlib.Core.Bool.{Bool, true, false, _&&_}
 use mathlib.Core.List.{List, [], _∷_, _++_}
 use Prim.Native.Nat.{ℕ, zero, suc, _+_, _-_, _*_, _/_, _%_, _≤_, _<_}
 use native.Mathlib.Numerals.{add-one}
 use native.Mathlib.Omega.{arith}
-use lib.Dec.{eqb, leb}
-use lib.ListN.{length, getD, drop}
-use borrow.Author.Tests.{le-leb, eqb-true}
+use lib.Dec.{eqb}
+use lib.ListN.{length, drop}
+use borrow.Author.Tests.{le-leb}
 use Rattle.bits.specs.Choice.{pick}
 use Rattle.bits.specs.ChoiceLaws.{never-both, and-left, and-right, and-both}
 use Rattle.bits.specs.SearchLaws.{every-at}
@@ -15,7 +15,7 @@ use Rattle.x86defs.specs.declared.CpuidResult.{CpuidResult}
 use Rattle.pages.specs.Layout.{wordAt}
 use Rattle.masking.specs.Kept.{places, leafAt, indexedAt, subleafAt, slot, keptLeaves}
 use Rattle.table.specs.declared.CpuidResults.{CpuidResults}
-use Rattle.table.specs.Rows.{Row, row, vacant}
+use Rattle.table.specs.Rows.{row, vacant}
 use Rattle.table.specs.Table.{rowIn}
 use Rattle.buffer.specs.Front.{bytesOf, resultBytes}
 use Rattle.image.specs.Image.{rowBytes, image}

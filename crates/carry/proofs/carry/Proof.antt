@@ -11,7 +11,8 @@ returns c =
     let k = c .before .before in
     let a = k .before .before .args in
     c .refused .ensures
-    ∙ carry-unknown (a .t) (a .from) (a .to) (a .xcr0) (a .xss) (k .before .known-edition .ensures) (k .known-edition2 .ensures) (c .before .if1 .left)
+    ∙ carry-unknown (a .t) (a .from) (a .to) (a .xcr0) (a .xss) (k .before .known-edition .ensures) (k .known-edition2 .ensures)
+    (c .before .if1 .left)
 
 returns-2 : tie.Need-returns-2
 returns-2 c =

@@ -1,6 +1,6 @@
 -- `carry::carry_image` meets its contract: the image read, its table carried, and its bytes written over the old ones.
 use borrow.Author.Needs.{needs}
-use Rattle.carry.specs.CarryLaws.{image-none, image-refused, image-written}
+use Rattle.carry.specs.CarryImageLaws.{image-none, image-refused, image-written}
 use Rattle.carry.proofs.carry_image.Statement.{statement}
 use Rattle.carry.proofs.carry_image.Tie as tie
 
@@ -9,8 +9,8 @@ returns c =
     let done = c .before .before .before in
     let read = done .before .before .before in
     let a = read .before .before .before .args in
-    image-refused (a .image .now) (a .from) (a .to) (a .xcr0) (a .xss) (read .read-image .ensures) (done .before .before .if1 .taken) (done .carry .ensures)
-    (c .before .verdict .given .1)
+    image-refused (a .image .now) (a .from) (a .to) (a .xcr0) (a .xss) (read .read-image .ensures) (done .before .before .if1 .taken)
+    (done .carry .ensures) (c .before .verdict .given .1)
 
 returns-2 : tie.Need-returns-2
 returns-2 c =
@@ -18,8 +18,8 @@ returns-2 c =
     let done = told .before .before in
     let read = done .before .before .before in
     let a = read .before .before .before .args in
-    image-written (a .image .now) (a .from) (a .to) (a .xcr0) (a .xss) (read .read-image .ensures) (done .before .before .if1 .taken) (done .carry .ensures)
-    (told .enum-told .given .1) (c .before .before .write-table .ensures .1)
+    image-written (a .image .now) (a .from) (a .to) (a .xcr0) (a .xss) (read .read-image .ensures) (done .before .before .if1 .taken)
+    (done .carry .ensures) (told .enum-told .given .1) (c .before .before .write-table .ensures .1)
 
 returns-3 : tie.Need-returns-3
 returns-3 c =
