@@ -1,13 +1,12 @@
 -- Document 02, P8: "Answers: 16 from edition 2 back to 1, after 15 for either edition and before 13 and 14, which P3's rules give on the handed
 -- table's own rows." Each is given if and only if its condition holds and no earlier one does.
 use mathlib.Core.Path.{_≡_, refl, ap, _∙_}
-use mathlib.Core.Bool.{Bool, true, false, _&&_, _||_}
+use mathlib.Core.Bool.{Bool, true, false, _||_}
 use mathlib.Core.Logic.{_↔_, _⊎_, inl, inr}
-use Prim.Native.Nat.{ℕ, _≤_}
+use Prim.Native.Nat.{ℕ}
 use native.Mathlib.Omega.{arith}
-use lib.Dec.{eqb, leb}
-use borrow.Author.Tests.{eqb-true, eqb-false, leb-true, leb-false}
-use Rattle.bits.specs.Choice.{pick}
+use lib.Dec.{eqb}
+use borrow.Author.Tests.{eqb-true, eqb-false}
 use Rattle.table.specs.declared.CpuidResults.{CpuidResults}
 use Rattle.table.specs.declared.Refusal.the-variants.{StateBeyondTable, CompactSizeTooLarge}
 use Rattle.table.specs.declared.Verdict.{Verdict}

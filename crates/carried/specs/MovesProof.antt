@@ -1,12 +1,12 @@
 -- The proof of `MovesToSecond`: an accepted table has zeros where it has no row, so carrying clears what P7's editions differ in.
-use mathlib.Core.Path.{_≡_, refl, sym, ap, ap₂, _∙_}
-use mathlib.Core.Bool.{Bool, true, false, _&&_, _||_}
+use mathlib.Core.Path.{_≡_, refl, sym, ap, _∙_}
+use mathlib.Core.Bool.{Bool, true, false, _&&_}
 use mathlib.Core.List.{List}
 use Prim.Native.Nat.{ℕ, _-_, _^_, _<_}
 use native.Mathlib.Omega.{arith}
 use lib.Bits.{and-zero-l}
 use lib.Dec.{eqb, lit<}
-use lib.ListN.{length, getD}
+use lib.ListN.{length}
 use lib.Seq.{ext-getD}
 use borrow.Author.Tests.{ne-eqb}
 use Rattle.bits.specs.Choice.{pick}
@@ -18,10 +18,9 @@ use Rattle.masking.specs.Kept.{places}
 use Rattle.masking.specs.Place
 use Rattle.table.specs.declared.Choices.{Choices}
 use Rattle.table.specs.declared.CpuidResults.{CpuidResults}
-use Rattle.table.specs.declared.Verdict.{Verdict}
 use Rattle.table.specs.declared.Verdict.the-variants.{Accepted}
-use Rattle.table.specs.Rows.{Row, Rows, vacant}
-use Rattle.table.specs.Table.{tableOf, rowIn, rowsIn}
+use Rattle.table.specs.Rows.{Row, vacant}
+use Rattle.table.specs.Table.{rowIn, rowsIn}
 use Rattle.checks.specs.ExtendedState.{xfem}
 use Rattle.build.specs.Build.{answer}
 use Rattle.guest.specs.State.{stateVerdict}
@@ -43,7 +42,7 @@ use Rattle.carry.specs.CarryImage.{carryImage}
 use Rattle.carry.specs.CarriedLaws.{carries-in-place}
 use Rattle.read_back.specs.BytesLaws.{image-bytes}
 use Rattle.read_back.specs.ReadBackProof.{built-reads-back}
-use Rattle.carried.specs.Moves.{tableUnder, Moves, MovesToSecond}
+use Rattle.carried.specs.Moves.{tableUnder, MovesToSecond}
 
 -- ---- rows that are zeros where they are absent
 
@@ -78,10 +77,13 @@ cleared-row : (keep : Bool) (m : ℕ) (r : Row) → (r .present ≡ false → r 
     → record { present = r .present; result = pick (r .present) (withoutBits keep m (r .result)) (r .result) } ≡ Second.clearEcx keep m r
 cleared-row keep m r absent = go (r .present) refl
   where
-    go : (b : Bool) → r .present ≡ b → record { present = r .present; result = pick b (withoutBits keep m (r .result)) (r .result) } ≡ Second.clearEcx keep m r
+    go : (b : Bool) → r .present ≡ b
+        → record { present = r .present; result = pick b (withoutBits keep m (r .result)) (r .result) } ≡ Second.clearEcx keep m r
     go true e = refl
     go false e =
-        absent e ∙ ap (λ (x : ℕ). record { present = false; result = result 0 0 x 0 }) (sym (zero-clears keep m)) ∙ sym (ap (Second.clearEcx keep m) (absent e))
+        absent e
+        ∙ ap (λ (x : ℕ). record { present = false; result = result 0 0 x 0 }) (sym (zero-clears keep m))
+        ∙ sym (ap (Second.clearEcx keep m) (absent e))
 
 module _ (t : CpuidResults) (p : Plain t) (keep : Bool) where
   -- the same bits at the same places
@@ -90,8 +92,10 @@ module _ (t : CpuidResults) (p : Plain t) (keep : Bool) where
   unfolding f16c xopAndFma4 Second.f16c Second.xopAndFma4
   second-at i r absent = go (eqb i Place.versionAndFeatures) (eqb i Place.extendedVersionAndFeatures)
     where
-      go : (a b : Bool)
-          → record { present = r .present; result = pick (a && r .present) (withoutBits keep f16c (r .result)) (pick (b && r .present) (withoutBits keep xopAndFma4 (r .result)) (r .result)) }
+      second : Bool → CpuidResult
+      second b = pick (b && r .present) (withoutBits keep xopAndFma4 (r .result)) (r .result)
+
+      go : (a b : Bool) → record { present = r .present; result = pick (a && r .present) (withoutBits keep f16c (r .result)) (second b) }
           ≡ pick a (Second.clearEcx keep Second.f16c r) (pick b (Second.clearEcx keep Second.xopAndFma4 r) r)
       go true true = ap (λ (q : CpuidResult). record { present = r .present; result = q }) (twice (r .present) _ _ _) ∙ cleared-row keep f16c r absent
       go true false = cleared-row keep f16c r absent
@@ -152,7 +156,10 @@ module _ (chosen : Choices) (s : List ℕ) (e : answer (withEdition chosen 1) s 
   state-row : (k : ℕ) → k < 64 → rowIn b (Place.extendedState k) .result ≡ rowIn a (Place.extendedState k) .result
   state-row k h =
       ap (λ (r : Row). r .result) (second .rows (Place.extendedState k) (omega arith))
-      ∙ rw (ne-eqb (Place.extendedState k) Place.versionAndFeatures (λ q. omega arith), ne-eqb (Place.extendedState k) Place.extendedVersionAndFeatures (λ q. omega arith))
+      ∙ rw (
+        ne-eqb (Place.extendedState k) Place.versionAndFeatures (λ q. omega arith),
+        ne-eqb (Place.extendedState k) Place.extendedVersionAndFeatures (λ q. omega arith),
+      )
 
   module _ (xcr0 xss : ℕ) where
     moved-verdict : carry a 1 2 xcr0 xss .verdict ≡ ofState (stateVerdict (rowsIn a) xcr0 xss)
@@ -162,7 +169,9 @@ module _ (chosen : Choices) (s : List ℕ) (e : answer (withEdition chosen 1) s 
     moved-table : carry a 1 2 xcr0 xss .verdict ≡ Carry.Accepted → carry a 1 2 xcr0 xss .table ≡ b
     unfolding carry
     moved-table f =
-        ap (λ (v : CarryVerdict). tableGiven v (carriedTable (keeps a 1 2) a)) f ∙ ap (λ (keep : Bool). carriedTable keep a) (keeps-ymm a plain) ∙ carried-second
+        ap (λ (v : CarryVerdict). tableGiven v (carriedTable (keeps a 1 2) a)) f
+        ∙ ap (λ (keep : Bool). carriedTable keep a) (keeps-ymm a plain)
+        ∙ carried-second
 
     moved-answer : carryImage (image a) 1 2 xcr0 xss .answer ≡ Image (carry a 1 2 xcr0 xss .verdict)
     unfolding carryImage

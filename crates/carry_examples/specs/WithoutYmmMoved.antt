@@ -1,6 +1,6 @@
 -- Not empty words: the server without YMM state (XFEM 3) whose entries have F16C, XOP and FMA4, its live guest moved from edition 1 to edition 2,
 -- by computation; and each refusal.
-use mathlib.Core.Path.{_≡_, refl, sym, ap, _∙_}
+use mathlib.Core.Path.{_≡_, refl, ap, _∙_}
 use mathlib.Core.List.{List, [], _∷_}
 use Prim.Native.Nat.{ℕ}
 use Rattle.masking.specs.Place
@@ -12,14 +12,12 @@ use Rattle.table.specs.Table.{emptyTable, rowIn, rowsIn}
 use Rattle.build.specs.Build.{answer}
 use Rattle.guest.specs.State.{stateVerdict}
 use Rattle.rise.specs.RiseProof.{answer-table}
-use Rattle.examples.specs.Evaluation.{first, evaluated}
-use Rattle.edition_examples.specs.WithoutYmm.{second, withoutYmm, first-accepted, second-figures}
+use Rattle.examples.specs.Evaluation.{first}
+use Rattle.edition_examples.specs.WithoutYmm.{withoutYmm, first-accepted, second-figures}
 use Rattle.guest_examples.specs.Seen.{computed, built}
 use Rattle.carry.specs.declared.CarryRefusal.the-variants.{UnknownEdition, EditionBack, State}
-use Rattle.carry.specs.declared.CarryVerdict.{CarryVerdict}
 use Rattle.carry.specs.declared.CarryVerdict.the-variants.{Accepted, Refused}
 use Rattle.carry.specs.Carry.{knownEdition, ofState, carryVerdict, carry}
-use Rattle.carried.specs.Moves.{Moves}
 use Rattle.carried.specs.MovesProof.{moves-to-second}
 
 abbrev pub running : CpuidResults
