@@ -10,6 +10,7 @@ use borrow.Author.Tests.{eqb-true, eqb-false}
 use Rattle.table.specs.declared.CpuidResults.{CpuidResults}
 use Rattle.table.specs.declared.Refusal.the-variants.{StateBeyondTable, CompactSizeTooLarge}
 use Rattle.table.specs.declared.Verdict.{Verdict}
+use Rattle.table.specs.Edition.{knownEdition}
 use Rattle.table.specs.Table.{emptyTable}
 use Rattle.guest.specs.State.{stateVerdict}
 use Rattle.refusals.specs.Conditions.{EditionFault}
@@ -19,7 +20,7 @@ use Rattle.carry.specs.declared.CarryRefusal.{CarryRefusal}
 use Rattle.carry.specs.declared.CarryRefusal.the-variants.{UnknownEdition, EditionBack, State}
 use Rattle.carry.specs.declared.CarryVerdict.{CarryVerdict}
 use Rattle.carry.specs.declared.CarryVerdict.the-variants.{Accepted, Refused}
-use Rattle.carry.specs.Carry.{ownRows, carriedTable, keeps, knownEdition, ofState, carryVerdict, tableGiven, carry}
+use Rattle.carry.specs.Carry.{ownRows, carriedTable, keeps, ofState, carryVerdict, tableGiven, carry}
 
 -- 15 for either edition
 abbrev pub EitherFault : ℕ → ℕ → Type 0

@@ -10,7 +10,7 @@ use lib.ListN.{length}
 use lib.Seq.{ext-getD}
 use borrow.Author.Tests.{ne-eqb}
 use Rattle.bits.specs.Choice.{pick}
-use Rattle.bits.specs.Bits.{has, clear, clearUnless}
+use Rattle.bits.specs.Bits.{has, maskOf, clear, clearUnless}
 use Rattle.bits.specs.ListsLaws.{length-tabulate, getD-tabulate}
 use Rattle.x86defs.specs.declared.CpuidResult.{CpuidResult}
 use Rattle.x86defs.specs.Functions.{result}
@@ -20,8 +20,10 @@ use Rattle.table.specs.declared.Choices.{Choices}
 use Rattle.table.specs.declared.CpuidResults.{CpuidResults}
 use Rattle.table.specs.declared.Verdict.the-variants.{Accepted}
 use Rattle.table.specs.Rows.{Row, vacant}
+use Rattle.table.specs.Edition.{knownEdition}
 use Rattle.table.specs.Table.{rowIn, rowsIn}
 use Rattle.checks.specs.ExtendedState.{xfem}
+use Rattle.update.specs.Finish.{edition1, edition2}
 use Rattle.build.specs.Build.{answer}
 use Rattle.guest.specs.State.{stateVerdict}
 use Rattle.guest.specs.StateLaws.{save-of-state, compact-of-state, verdict-of-state}
@@ -36,7 +38,7 @@ use Rattle.editions.specs.Second as Second
 use Rattle.editions.specs.SecondProof.{second-edition}
 use Rattle.carry.specs.declared.CarryVerdict.{CarryVerdict}
 use Rattle.carry.specs.declared.CarryVerdict.the-variants as Carry
-use Rattle.carry.specs.Carry.{ownRows, f16c, xopAndFma4, withoutBits, carriedAt, carriedTable, keeps, ofState, knownEdition, carryVerdict, tableGiven, carry}
+use Rattle.carry.specs.Carry.{ownRows, f16c, xopAndFma4, withoutBits, carriedAt, carriedTable, keeps, ofState, carryVerdict, tableGiven, carry}
 use Rattle.carry.specs.declared.CarriedImage.the-variants.{Image}
 use Rattle.carry.specs.CarryImage.{carryImage}
 use Rattle.carry.specs.CarriedLaws.{carries-in-place}
@@ -89,7 +91,7 @@ module _ (t : CpuidResults) (p : Plain t) (keep : Bool) where
   -- the same bits at the same places
   second-at : (i : ℕ) (r : Row) → (r .present ≡ false → r ≡ vacant)
       → record { present = r .present; result = carriedAt keep i r } ≡ Second.secondRow keep i r
-  unfolding f16c xopAndFma4 Second.f16c Second.xopAndFma4
+  unfolding f16c xopAndFma4 clear edition1 edition2 maskOf Second.f16c Second.xopAndFma4
   second-at i r absent = go (eqb i Place.versionAndFeatures) (eqb i Place.extendedVersionAndFeatures)
     where
       second : Bool → CpuidResult

@@ -2,24 +2,23 @@
 -- 2 a table built otherwise gets the same three bits cleared where its own D.0.EAX lacks bit 2, and nothing else changed, absent rows reading
 -- as zeros". The three are P7's: "1.ECX bit 29 and 80000001h.ECX bits 11 (XOP) and 16 (FMA4)".
 use mathlib.Core.Bool.{Bool, _&&_, _||_}
-use mathlib.Core.List.{[], _∷_}
 use Prim.Native.Nat.{ℕ}
 use lib.Dec.{eqb, leb}
 use Rattle.bits.specs.Choice.{pick}
-use Rattle.bits.specs.Bits.{has, maskOf, clearUnless}
+use Rattle.bits.specs.Bits.{has, clear, clearUnless}
 use Rattle.bits.specs.Lists.{tabulate}
 use Rattle.x86defs.specs.declared.CpuidResult.{CpuidResult}
 use Rattle.x86defs.specs.Functions.{result}
-use Rattle.x86defs.specs.VersionAndFeaturesEcx as Version
-use Rattle.x86defs.specs.ExtendedVersionAndFeaturesEcx as ExtendedVersion
 use Rattle.masking.specs.Kept.{places}
 use Rattle.masking.specs.Place
 use Rattle.table.specs.declared.CpuidResults.{CpuidResults}
 use Rattle.table.specs.declared.Verdict.{Verdict}
 use Rattle.table.specs.declared.Verdict.the-variants as Table
+use Rattle.table.specs.Edition.{knownEdition}
 use Rattle.table.specs.Rows.{Row, Rows}
 use Rattle.table.specs.Table.{emptyTable, rowIn}
 use Rattle.checks.specs.ExtendedState.{xfem}
+use Rattle.update.specs.Finish.{edition1, edition2}
 use Rattle.guest.specs.State.{stateVerdict}
 use Rattle.carry.specs.declared.CarryRefusal.{CarryRefusal}
 use Rattle.carry.specs.declared.CarryRefusal.the-variants.{UnknownEdition, EditionBack, State}
@@ -33,14 +32,12 @@ use Rattle.carry.specs.declared.Carried.{Carried}
 abbrev pub ownRows : CpuidResults → Rows
 ownRows t i = record { present = rowIn t i .present; result = pick (rowIn t i .present) (rowIn t i .result) (result 0 0 0 0) }
 
--- the three bits: F16C; XOP and FMA4
+-- "the same three bits": what edition 2 clears without YMM state and edition 1 does not, in 1.ECX and in 80000001h.ECX
 unfoldable pub f16c : ℕ
-f16c = maskOf Version.position (Version.VersionAndFeaturesEcx.f16c ∷ [])
+f16c = clear (edition1 .versionEcx) (edition2 .versionEcx)
 
 unfoldable pub xopAndFma4 : ℕ
-xopAndFma4 =
-    maskOf ExtendedVersion.position
-    (ExtendedVersion.ExtendedVersionAndFeaturesEcx.xop ∷ ExtendedVersion.ExtendedVersionAndFeaturesEcx.fma4 ∷ [])
+xopAndFma4 = clear (edition1 .extendedVersionEcx) (edition2 .extendedVersionEcx)
 
 -- ECX without the bits of m, unless they are kept
 abbrev pub withoutBits : Bool → ℕ → CpuidResult → CpuidResult
@@ -65,10 +62,6 @@ unfoldable pub keeps : CpuidResults → ℕ → ℕ → Bool
 keeps t from to = eqb from to || has 2 (xfem (ownRows t))
 
 -- ---- the answer
-
--- P7: "15 an edition other than 1 or 2"
-unfoldable pub knownEdition : ℕ → Bool
-knownEdition n = eqb n 1 || eqb n 2
 
 -- 13 and 14
 abbrev pub ofState : Verdict → CarryVerdict

@@ -2,13 +2,13 @@
 use mathlib.Core.Path.{_≡_, refl, ap, _∙_}
 use mathlib.Core.Bool.{Bool, true, false, _&&_, _||_}
 use mathlib.Core.List.{List}
-use Prim.Native.Nat.{ℕ, _+_, _≤_, _<_}
+use Prim.Native.Nat.{ℕ, _+_, _^_, _≤_, _<_}
 use native.Mathlib.Omega.{arith}
 use lib.Dec.{eqb, lit<}
 use lib.ListN.{length, getD, set}
 use borrow.Author.Tests.{le-leb, lt-leb}
 use Rattle.bits.specs.Choice.{pick}
-use Rattle.bits.specs.Bits.{has, maskOf}
+use Rattle.bits.specs.Bits.{has, maskOf, clear}
 use Rattle.bits.specs.Lists.{tabulate}
 use Rattle.bits.specs.ListsLaws.{getD-tabulate, tabulated}
 use Rattle.x86defs.specs.declared.CpuidResult.{CpuidResult}
@@ -19,16 +19,18 @@ use Rattle.table.specs.declared.CpuidResults.{CpuidResults}
 use Rattle.table.specs.declared.Refusal.{Refusal}
 use Rattle.table.specs.declared.Verdict.{Verdict}
 use Rattle.table.specs.declared.Verdict.the-variants as Table
+use Rattle.table.specs.Edition.{knownEdition}
 use Rattle.table.specs.Rows.{Row, Rows}
 use Rattle.table.specs.Table.{rowIn, rowsIn}
 use Rattle.checks.specs.ExtendedState.{xfem}
 use Rattle.checks.specs.Parts.{resultsIn}
 use Rattle.guest.specs.State.{stateVerdict}
 use Rattle.guest.specs.StateLaws.{verdict-of-state}
+use Rattle.update.specs.Finish.{edition1, edition2}
 use Rattle.update.specs.DropLaws.{UpTo, up-to-next}
 use Rattle.carry.specs.declared.CarryRefusal.the-variants.{UnknownEdition, EditionBack, State}
 use Rattle.carry.specs.declared.CarryVerdict.the-variants.{Accepted, Refused}
-use Rattle.carry.specs.Carry.{ownRows, f16c, xopAndFma4, withoutBits, carriedAt, carriedTable, keeps, knownEdition, carryVerdict, refusedCarry, carry}
+use Rattle.carry.specs.Carry.{ownRows, f16c, xopAndFma4, withoutBits, carriedAt, carriedTable, keeps, carryVerdict, refusedCarry, carry}
 
 -- ---- the rows that are there, as the loop stores them
 
@@ -48,13 +50,13 @@ owning-ends t own i e n u = tabulated places _ own (result 0 0 0 0) (u .size ∙
 
 -- ---- the two stores
 
--- the code's masks
-pub f16c-mask : f16c ≡ 0x20000000
-unfolding f16c maskOf
+-- the code's masks: "1.ECX bit 29 and 80000001h.ECX bits 11 (XOP) and 16 (FMA4)"
+f16c-mask : f16c ≡ 2 ^ 29
+unfolding f16c clear edition1 edition2 maskOf
 f16c-mask = refl
 
-pub xop-and-fma4-mask : xopAndFma4 ≡ 0x10800
-unfolding xopAndFma4 maskOf
+xop-and-fma4-mask : xopAndFma4 ≡ 2 ^ 11 + 2 ^ 16
+unfolding xopAndFma4 clear edition1 edition2 maskOf
 xop-and-fma4-mask = refl
 
 -- a row that is there without bits; else as it is

@@ -9,6 +9,7 @@ use table::CpuidResults;
 use table::Refusal;
 use table::Verdict;
 use table::empty_table;
+use table::known_edition;
 use x86defs::CpuidResult;
 ghost use mathlib.Core.Path.{_≡_};
 ghost use Rattle.bits.specs.Choice.{pick};
@@ -16,7 +17,7 @@ ghost use Rattle.bits.specs.Lists.{tabulate};
 ghost use Rattle.x86defs.specs.Functions.{result};
 ghost use Rattle.masking.specs.Kept.{places};
 ghost use Rattle.carry.specs.CarryImage.{carryImage};
-ghost use Rattle.carry.specs.Carry.{knownEdition, ownRows, withoutBits, carriedTable, carry, refusedCarry};
+ghost use Rattle.carry.specs.Carry.{ownRows, withoutBits, carriedTable, carry, refusedCarry};
 
 // What goes without YMM state in edition 2 and not in edition 1: F16C of 1.ECX, XOP and FMA4 of 80000001h.ECX.
 const F16C: u32 = 0x20000000;
@@ -89,16 +90,6 @@ pub fn carry_image(image: &mut [u8], from: u32, to: u32, xcr0: u64, xss: u64) ->
         return CarriedImage::Image(CarryVerdict::Accepted);
     }
     CarriedImage::NotAnImage
-}
-
-// Whether there is such an edition.
-fn known_edition(edition: u32) -> bool
-    ensures { λ r. ⌜ r ≡ knownEdition edition ⌝ }
-{
-    if edition == 1 {
-        return true;
-    }
-    edition == 2
 }
 
 // A refused answer holds an empty table.

@@ -8,6 +8,7 @@ use Rattle.table.specs.declared.CpuidResults.{CpuidResults}
 use Rattle.table.specs.declared.Refusal.the-variants.{StateBeyondTable}
 use Rattle.table.specs.declared.Verdict.{Verdict}
 use Rattle.table.specs.declared.Verdict.the-variants as Table
+use Rattle.table.specs.Edition.{knownEdition}
 use Rattle.table.specs.Table.{emptyTable, rowIn, rowsIn}
 use Rattle.build.specs.Build.{answer}
 use Rattle.guest.specs.State.{stateVerdict}
@@ -17,7 +18,7 @@ use Rattle.edition_examples.specs.WithoutYmm.{withoutYmm, first-accepted, secon
 use Rattle.guest_examples.specs.Seen.{computed, built}
 use Rattle.carry.specs.declared.CarryRefusal.the-variants.{UnknownEdition, EditionBack, State}
 use Rattle.carry.specs.declared.CarryVerdict.the-variants.{Accepted, Refused}
-use Rattle.carry.specs.Carry.{knownEdition, ofState, carryVerdict, carry}
+use Rattle.carry.specs.Carry.{ofState, carryVerdict, carry}
 use Rattle.carried.specs.MovesProof.{moves-to-second}
 
 abbrev pub running : CpuidResults
