@@ -1,0 +1,90 @@
+-- Document 02, P8, "Moving a live guest to edition 2": "Carrying any table within one edition, where it isn't refused, changes nothing. From 1 to
+-- 2 a table built otherwise gets the same three bits cleared where its own D.0.EAX lacks bit 2, and nothing else changed, absent rows reading
+-- as zeros". The three are P7's: "1.ECX bit 29 and 80000001h.ECX bits 11 (XOP) and 16 (FMA4)".
+use mathlib.Core.Bool.{Bool, _&&_, _||_}
+use Prim.Native.Nat.{ℕ}
+use lib.Dec.{eqb, leb}
+use Rattle.bits.specs.Choice.{pick}
+use Rattle.bits.specs.Bits.{has, clear, clearUnless}
+use Rattle.bits.specs.Lists.{tabulate}
+use Rattle.x86defs.specs.declared.CpuidResult.{CpuidResult}
+use Rattle.x86defs.specs.Functions.{result}
+use Rattle.masking.specs.Kept.{places}
+use Rattle.masking.specs.Place
+use Rattle.table.specs.declared.CpuidResults.{CpuidResults}
+use Rattle.table.specs.declared.Verdict.{Verdict}
+use Rattle.table.specs.declared.Verdict.the-variants as Table
+use Rattle.table.specs.Edition.{knownEdition}
+use Rattle.table.specs.Rows.{Row, Rows}
+use Rattle.table.specs.Table.{emptyTable, rowIn}
+use Rattle.checks.specs.ExtendedState.{xfem}
+use Rattle.update.specs.Finish.{edition1, edition2}
+use Rattle.guest.specs.State.{stateVerdict}
+use Rattle.carry.specs.declared.CarryRefusal.{CarryRefusal}
+use Rattle.carry.specs.declared.CarryRefusal.the-variants.{UnknownEdition, EditionBack, State}
+use Rattle.carry.specs.declared.CarryVerdict.{CarryVerdict}
+use Rattle.carry.specs.declared.CarryVerdict.the-variants.{Accepted, Refused}
+use Rattle.carry.specs.declared.Carried.{Carried}
+
+-- ---- the table
+
+-- "absent rows reading as zeros"
+abbrev pub ownRows : CpuidResults → Rows
+ownRows t i = record { present = rowIn t i .present; result = pick (rowIn t i .present) (rowIn t i .result) (result 0 0 0 0) }
+
+-- "the same three bits": what edition 2 clears without YMM state and edition 1 does not, in 1.ECX and in 80000001h.ECX
+unfoldable pub f16c : ℕ
+f16c = clear (edition1 .versionEcx) (edition2 .versionEcx)
+
+unfoldable pub xopAndFma4 : ℕ
+xopAndFma4 = clear (edition1 .extendedVersionEcx) (edition2 .extendedVersionEcx)
+
+-- ECX without the bits of m, unless they are kept
+abbrev pub withoutBits : Bool → ℕ → CpuidResult → CpuidResult
+withoutBits keep m r = result (r .eax) (r .ebx) (clearUnless keep m (r .ecx)) (r .edx)
+
+-- the registers at a place: two rows lose bits, where they are there
+abbrev pub carriedAt : Bool → ℕ → Row → CpuidResult
+carriedAt keep i r =
+    pick (eqb i Place.versionAndFeatures && r .present) (withoutBits keep f16c (r .result))
+    (pick (eqb i Place.extendedVersionAndFeatures && r .present) (withoutBits keep xopAndFma4 (r .result)) (r .result))
+
+abbrev pub carriedTable : Bool → CpuidResults → CpuidResults
+carriedTable keep t = record {
+  present = t .present;
+  results = tabulate places (λ i. carriedAt keep i (rowIn t i));
+  «row_count» = t .«row_count»;
+  «max_extended_state» = t .«max_extended_state»;
+}
+
+-- the bits are kept within one edition, and where the table's own D.0.EAX has bit 2
+unfoldable pub keeps : CpuidResults → ℕ → ℕ → Bool
+keeps t from to = eqb from to || has 2 (xfem (ownRows t))
+
+-- ---- the answer
+
+-- 13 and 14
+abbrev pub ofState : Verdict → CarryVerdict
+ofState Table.Accepted = Accepted
+ofState (Table.Refused r) = Refused (State r)
+
+-- "Answers: 16 from edition 2 back to 1, after 15 for either edition and before 13 and 14, which P3's rules give on the handed table's own rows"
+unfoldable pub carryVerdict : CpuidResults → ℕ → ℕ → ℕ → ℕ → CarryVerdict
+carryVerdict t from to xcr0 xss =
+    pick (knownEdition from && knownEdition to)
+    (pick (leb from to) (ofState (stateVerdict (ownRows t) xcr0 xss)) (Refused EditionBack))
+    (Refused UnknownEdition)
+
+-- the table that goes with a verdict
+abbrev pub tableGiven : CarryVerdict → CpuidResults → CpuidResults
+tableGiven Accepted t = t
+tableGiven (Refused r) t = emptyTable
+
+abbrev pub answerFor : CarryVerdict → CpuidResults → Carried
+answerFor v t = record { verdict = v; table = tableGiven v t }
+
+abbrev pub refusedCarry : CarryRefusal → Carried
+refusedCarry r = record { verdict = Refused r; table = emptyTable }
+
+unfoldable pub carry : CpuidResults → ℕ → ℕ → ℕ → ℕ → Carried
+carry t from to xcr0 xss = answerFor (carryVerdict t from to xcr0 xss) (carriedTable (keeps t from to) t)

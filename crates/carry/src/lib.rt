@@ -1,0 +1,164 @@
+// A running table carried from one edition of the AVX rule to another. A table, or its image in a lent buffer, and one processor's state come
+// in; the table under the edition wanted goes out, or a refusal and what was lent as it was.
+use guest::state_verdict;
+use image::write_table;
+use image_read::read_image;
+use masking::PLACES;
+use masking::place;
+use table::CpuidResults;
+use table::Refusal;
+use table::Verdict;
+use table::empty_table;
+use table::known_edition;
+use x86defs::CpuidResult;
+ghost use mathlib.Core.Path.{_≡_};
+ghost use Rattle.bits.specs.Choice.{pick};
+ghost use Rattle.bits.specs.Lists.{tabulate};
+ghost use Rattle.x86defs.specs.Functions.{result};
+ghost use Rattle.masking.specs.Kept.{places};
+ghost use Rattle.carry.specs.CarryImage.{carryImage};
+ghost use Rattle.carry.specs.Carry.{ownRows, withoutBits, carriedTable, carry, refusedCarry};
+
+// What goes without YMM state in edition 2 and not in edition 1: F16C of 1.ECX, XOP and FMA4 of 80000001h.ECX.
+const F16C: u32 = 0x20000000;
+
+const XOP_AND_FMA4: u32 = 0x10800;
+
+// Why a table is not carried.
+pub enum CarryRefusal {
+    UnknownEdition,
+    EditionBack,
+    State(Refusal),
+}
+
+pub enum CarryVerdict {
+    Accepted,
+    Refused(CarryRefusal),
+}
+
+// Accepted with the table under the edition wanted, or refused with an empty one.
+pub struct Carried {
+    pub verdict: CarryVerdict,
+    pub table: CpuidResults,
+}
+
+// A table under edition `from`, with a processor's XCR0 and XSS, taken to edition `to`.
+pub fn carry(t: CpuidResults, from: u32, to: u32, xcr0: u64, xss: u64) -> Carried
+    ensures { λ r. ⌜ r ≡ carry t from to xcr0 xss ⌝ }
+{
+    if known_edition(from) & known_edition(to) {} else {
+        return refused(CarryRefusal::UnknownEdition);
+    }
+    if to < from {
+        return refused(CarryRefusal::EditionBack);
+    }
+    let own = own_results(t);
+    let verdict = state_verdict(own, xcr0, xss);
+    if let Verdict::Refused(r) = verdict {
+        return refused(CarryRefusal::State(r));
+    }
+    let subleaf0 = own[place::EXTENDED_STATE_0];
+    let table = clear_bits(t, (from == to) | bits::has_bit(subleaf0.eax, 2));
+    Carried {
+        verdict: CarryVerdict::Accepted,
+        table,
+    }
+}
+
+// Whether lent bytes are a table's image, and if so, whether the table is carried.
+pub enum CarriedImage {
+    NotAnImage,
+    Image(CarryVerdict),
+}
+
+// The same for a table handed over as its image, in place: where it is carried, the bytes become the image of the table under the edition
+// wanted, which has as many. Any other bytes, and a table that is refused, stay as they were.
+pub fn carry_image(image: &mut [u8], from: u32, to: u32, xcr0: u64, xss: u64) -> CarriedImage
+    ensures { λ r. ⌜ r ≡ carryImage (now (image .entry)) from to xcr0 xss .answer ⌝ }
+    ensures { λ _. ⌜ now (image .exit) ≡ carryImage (now (image .entry)) from to xcr0 xss .buffer ⌝ }
+{
+    let read = read_image(image);
+    if read.is_image {
+        let t = read.table;
+        let carried = carry(t, from, to, xcr0, xss);
+        let verdict = carried.verdict;
+        if let CarryVerdict::Refused(r) = verdict {
+            return CarriedImage::Image(CarryVerdict::Refused(r));
+        }
+        let table = carried.table;
+        write_table(table, image);
+        return CarriedImage::Image(CarryVerdict::Accepted);
+    }
+    CarriedImage::NotAnImage
+}
+
+// A refused answer holds an empty table.
+fn refused(r: CarryRefusal) -> Carried
+    ensures { λ q. ⌜ q ≡ refusedCarry r ⌝ }
+{
+    let table = empty_table();
+    Carried {
+        verdict: CarryVerdict::Refused(r),
+        table,
+    }
+}
+
+// The registers of each place, zeros where it has no row.
+fn own_results(t: CpuidResults) -> [CpuidResult; PLACES]
+    ensures { λ r. ⌜ r ≡ tabulate places (λ i. ownRows t i .result) ⌝ }
+{
+    let mut own = t.results;
+    let mut i = 0;
+    while i < PLACES {
+        let present = t.present[i];
+        let r = t.results[i];
+        own[i] = if_there(present, r);
+        i += 1;
+    }
+    own
+}
+
+// The registers of a row that is there; else zeros.
+fn if_there(present: bool, r: CpuidResult) -> CpuidResult
+    ensures { λ q. ⌜ q ≡ pick present r (result 0 0 0 0) ⌝ }
+{
+    if present {
+        return r;
+    }
+    CpuidResult {
+        eax: 0,
+        ebx: 0,
+        ecx: 0,
+        edx: 0,
+    }
+}
+
+// The three bits cleared, unless they are kept. Nothing else changes.
+fn clear_bits(t: CpuidResults, keep: bool) -> CpuidResults
+    ensures { λ r. ⌜ r ≡ carriedTable keep t ⌝ }
+{
+    let has_version = t.present[place::VERSION_AND_FEATURES];
+    let version = t.results[place::VERSION_AND_FEATURES];
+    let has_extended = t.present[place::EXTENDED_VERSION_AND_FEATURES];
+    let extended = t.results[place::EXTENDED_VERSION_AND_FEATURES];
+    let mut out = t;
+    out.results[place::VERSION_AND_FEATURES] = clear_ecx(has_version, keep, F16C, version);
+    out.results[place::EXTENDED_VERSION_AND_FEATURES] = clear_ecx(
+        has_extended,
+        keep,
+        XOP_AND_FMA4,
+        extended,
+    );
+    out
+}
+
+// ECX of a row that is there without the bits of `m`, unless they are kept.
+fn clear_ecx(present: bool, keep: bool, m: u32, r: CpuidResult) -> CpuidResult
+    ensures { λ q. ⌜ q ≡ pick present (withoutBits keep m r) r ⌝ }
+{
+    if present {
+        let ecx = bits::clear_unless(keep, m, r.ecx);
+        return CpuidResult { ecx, ..r };
+    }
+    r
+}

@@ -1,0 +1,1 @@
+// Tables carried between editions, computed: statements and proofs, no code.

@@ -1,0 +1,131 @@
+// An image read back. Bytes come in; the table whose image they are goes out, or that they are no image.
+ghost use mathlib.Core.Path.{_≡_};
+ghost use Prim.Native.Nat.{_+_, _^_, _≤_, _<_};
+ghost use lib.ListN.{length, drop};
+ghost use Rattle.bits.specs.Choice.{pick};
+ghost use Rattle.image_read.specs.ReadImage.{registersAt, opens, readImage};
+ghost use Rattle.image_read.specs.Runs.{runBegins, Found};
+use checks::max_extended_state;
+use checks::max_xss;
+use masking::PLACES;
+use masking::Run;
+use masking::place;
+use pages::word_at;
+use table::CpuidResults;
+use table::empty_table;
+use x86defs::CpuidFunction;
+use x86defs::CpuidResult;
+
+// The bytes of a row without a subleaf, and of one with.
+const WHOLE_ROW: usize = 21;
+
+const INDEXED_ROW: usize = 25;
+
+// Whether bytes are an image, and of which table; an empty one where they are none.
+pub struct ReadImage {
+    pub is_image: bool,
+    pub table: CpuidResults,
+}
+
+// The rows that bytes begin with, and the index after them.
+struct FoundRows {
+    end: usize,
+    table: CpuidResults,
+}
+
+// The table whose image the bytes are. Its combined mask, which an image does not hold, is that of its rows D.0 and D.1.
+pub fn read_image(bytes: &[u8]) -> ReadImage
+    ensures { λ r. ⌜ r ≡ readImage (now (bytes .entry)) ⌝ }
+{
+    let found = read_rows(bytes);
+    if found.end == bytes.len() {
+        let mut table = found.table;
+        let subleaf0 = table.results[place::EXTENDED_STATE_0];
+        let subleaf1 = table.results[place::EXTENDED_STATE_1];
+        table.max_extended_state = max_extended_state(subleaf0.eax, max_xss(subleaf1));
+        return ReadImage {
+            is_image: true,
+            table,
+        };
+    }
+    let table = empty_table();
+    ReadImage {
+        is_image: false,
+        table,
+    }
+}
+
+// Goes from place to place, run by run, as the image is written: the next bytes are the place's row, or the place has none.
+fn read_rows(bytes: &[u8]) -> FoundRows
+    ensures { λ r. ⌜ Found (now (bytes .entry)) (r .end) (r .table) ⌝ }
+{
+    let mut t = empty_table();
+    let mut at = 0;
+    let mut i = 0;
+    while i < PLACES {
+        let run = masking::run_at(i);
+        let first = run.first;
+        let end = first + run.count as usize;
+        while i < end {
+            if row_begins(bytes, at, run, (i - first) as u32) {
+                let length = row_length(run.indexed);
+                t.present[i] = true;
+                t.results[i] = registers_at(bytes, at + length - 16);
+                t.row_count += 1;
+                at += length;
+            }
+            i += 1;
+        }
+    }
+    FoundRows { end: at, table: t }
+}
+
+// How many bytes a row has.
+fn row_length(indexed: bool) -> usize
+    ensures { λ r. ⌜ r ≡ pick indexed 25 21 ⌝ }
+    ensures small { λ r. ⌜ (16 ≤ r) × (r ≤ 25) ⌝ }
+{
+    if indexed { INDEXED_ROW } else { WHOLE_ROW }
+}
+
+// Whether the bytes from `at` on begin with the row of the `k`-th place of a run.
+fn row_begins(bytes: &[u8], at: usize, run: Run, k: u32) -> bool
+    requires { ⌜ (at ≤ length (now bytes)) × (run .leaf .0 + k < 2 ^ 32) ⌝ }
+    ensures { λ r. ⌜ r ≡ runBegins (drop at (now (bytes .entry))) run k ⌝ }
+{
+    let leaf = run.leaf;
+    if run.indexed {
+        if row_opens(bytes, at, INDEXED_ROW, 2, leaf) {
+            return word_at(bytes, at + 5) == k;
+        }
+        return false;
+    }
+    row_opens(bytes, at, WHOLE_ROW, 1, CpuidFunction(leaf.0 + k))
+}
+
+// Whether they begin with the kind and the leaf of a row, and are no fewer than it has.
+fn row_opens(bytes: &[u8], at: usize, n: usize, kind: u8, leaf: CpuidFunction) -> bool
+    requires { ⌜ (at ≤ length (now bytes)) × (5 ≤ n) ⌝ }
+    ensures { λ r. ⌜ r ≡ opens (drop at (now (bytes .entry))) n kind (leaf .0) ⌝ }
+{
+    if bytes.len() - at < n {
+        return false;
+    }
+    if bytes[at] == kind {
+        return word_at(bytes, at + 1) == leaf.0;
+    }
+    false
+}
+
+// EAX, EBX, ECX, EDX.
+fn registers_at(bytes: &[u8], o: usize) -> CpuidResult
+    requires { ⌜ o + 16 ≤ length (now bytes) ⌝ }
+    ensures { λ r. ⌜ r ≡ registersAt (now (bytes .entry)) o ⌝ }
+{
+    CpuidResult {
+        eax: word_at(bytes, o),
+        ebx: word_at(bytes, o + 4),
+        ecx: word_at(bytes, o + 8),
+        edx: word_at(bytes, o + 12),
+    }
+}

@@ -1,0 +1,4 @@
+pub mod ReadBack
+pub mod BytesLaws
+pub mod RowsBack
+pub mod ReadBackProof

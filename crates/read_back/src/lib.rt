@@ -1,0 +1,1 @@
+// A table's image read back: statements and proofs, no code.
