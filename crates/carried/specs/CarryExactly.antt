@@ -12,15 +12,14 @@ use Rattle.table.specs.declared.Refusal.the-variants.{StateBeyondTable, Compact
 use Rattle.table.specs.declared.Verdict.{Verdict}
 use Rattle.table.specs.Edition.{knownEdition}
 use Rattle.table.specs.Table.{emptyTable}
-use Rattle.guest.specs.State.{stateVerdict}
+use Rattle.guest_state.specs.State.{stateVerdict}
 use Rattle.refusals.specs.Conditions.{EditionFault}
 use Rattle.guest_rise.specs.StateExactly.{Allowed, SizeFault, StateAnswers, state-answers}
 use Rattle.guest_rise.specs.StateExactly.StateAnswers.{beyond, large, given}
-use Rattle.carry.specs.declared.CarryRefusal.{CarryRefusal}
-use Rattle.carry.specs.declared.CarryRefusal.the-variants.{UnknownEdition, EditionBack, State}
-use Rattle.carry.specs.declared.CarryVerdict.{CarryVerdict}
-use Rattle.carry.specs.declared.CarryVerdict.the-variants.{Accepted, Refused}
-use Rattle.carry.specs.Carry.{ownRows, carriedTable, keeps, ofState, carryVerdict, tableGiven, carry}
+use Rattle.table.specs.declared.Refusal.{Refusal}
+use Rattle.table.specs.declared.Refusal.the-variants.{UnknownEdition, EditionBack}
+use Rattle.table.specs.declared.Verdict.the-variants.{Accepted, Refused}
+use Rattle.carry.specs.Carry.{ownRows, carriedTable, keeps, carryVerdict, tableGiven, carry}
 
 -- 15 for either edition
 abbrev pub EitherFault : ℕ → ℕ → Type 0
@@ -33,12 +32,12 @@ Forward from to = ((from ≡ 1) × (to ≡ 1)) ⊎ (((from ≡ 1) × (to ≡ 2))
 pub record CarryExactly (t : CpuidResults) (from to xcr0 xss : ℕ) : Type 0 where
   pub unknown : (carry t from to xcr0 xss .verdict ≡ Refused UnknownEdition) ↔ EitherFault from to
   pub back : (carry t from to xcr0 xss .verdict ≡ Refused EditionBack) ↔ ((from ≡ 2) × (to ≡ 1))
-  pub beyond : (carry t from to xcr0 xss .verdict ≡ Refused (State StateBeyondTable)) ↔ (Forward from to × (Allowed (ownRows t) xcr0 xss → ⊥))
-  pub large : (carry t from to xcr0 xss .verdict ≡ Refused (State CompactSizeTooLarge))
+  pub beyond : (carry t from to xcr0 xss .verdict ≡ Refused StateBeyondTable) ↔ (Forward from to × (Allowed (ownRows t) xcr0 xss → ⊥))
+  pub large : (carry t from to xcr0 xss .verdict ≡ Refused CompactSizeTooLarge)
       ↔ (Forward from to × Allowed (ownRows t) xcr0 xss × SizeFault (ownRows t) xcr0 xss)
   pub given : (carry t from to xcr0 xss .verdict ≡ Accepted)
       ↔ (Forward from to × Allowed (ownRows t) xcr0 xss × (SizeFault (ownRows t) xcr0 xss → ⊥))
-  pub empty : (r : CarryRefusal) → carry t from to xcr0 xss .verdict ≡ Refused r → carry t from to xcr0 xss .table ≡ emptyTable
+  pub empty : (r : Refusal) → carry t from to xcr0 xss .verdict ≡ Refused r → carry t from to xcr0 xss .table ≡ emptyTable
 
 -- ---- the proof
 
@@ -61,10 +60,10 @@ which n = go (eqb n 1) refl (eqb n 2) refl
     go false e false f = other (eqb-false n 1 e, eqb-false n 2 f) refl
 
 -- the verdict by both editions, where the state's is v
-data Editions (from to : ℕ) (v : Verdict) (w : CarryVerdict) : Type 0 where
+data Editions (from to : ℕ) (v : Verdict) (w : Verdict) : Type 0 where
   unknown : EitherFault from to → w ≡ Refused UnknownEdition → Editions from to v w
   back : (from ≡ 2) × (to ≡ 1) → w ≡ Refused EditionBack → Editions from to v w
-  forward : Forward from to → w ≡ ofState v → Editions from to v w
+  forward : Forward from to → w ≡ v → Editions from to v w
 
 editions : (t : CpuidResults) (from to xcr0 xss : ℕ) → Editions from to (stateVerdict (ownRows t) xcr0 xss) (carry t from to xcr0 xss .verdict)
 unfolding carry carryVerdict
@@ -101,9 +100,9 @@ back-forward b (inr (inl e)) = omega arith
 back-forward b (inr (inr e)) = omega arith
 
 module _ (t : CpuidResults) (from to xcr0 xss : ℕ) where
-  empty-table : (r : CarryRefusal) → carry t from to xcr0 xss .verdict ≡ Refused r → carry t from to xcr0 xss .table ≡ emptyTable
+  empty-table : (r : Refusal) → carry t from to xcr0 xss .verdict ≡ Refused r → carry t from to xcr0 xss .table ≡ emptyTable
   unfolding carry
-  empty-table r e = ap (λ (v : CarryVerdict). tableGiven v (carriedTable (keeps t from to) t)) e
+  empty-table r e = ap (λ (v : Verdict). tableGiven v (carriedTable (keeps t from to) t)) e
 
   pub carry-exactly : CarryExactly t from to xcr0 xss
   carry-exactly = go (editions t from to xcr0 xss) (state-answers (ownRows t) xcr0 xss)
@@ -127,7 +126,7 @@ module _ (t : CpuidResults) (from to xcr0 xss : ℕ) where
         empty = empty-table;
       }
       go (forward f e) (beyond h g) =
-          let o : carry t from to xcr0 xss .verdict ≡ Refused (State StateBeyondTable) = e ∙ ap ofState g in
+          let o : carry t from to xcr0 xss .verdict ≡ Refused StateBeyondTable = e ∙ g in
           record {
             unknown = (λ p. impossible (cc), λ q. absurd (fault-forward q f));
             back = (λ p. impossible (cc), λ q. absurd (back-forward q f));
@@ -137,7 +136,7 @@ module _ (t : CpuidResults) (from to xcr0 xss : ℕ) where
             empty = empty-table;
           }
       go (forward f e) (large h k g) =
-          let o : carry t from to xcr0 xss .verdict ≡ Refused (State CompactSizeTooLarge) = e ∙ ap ofState g in
+          let o : carry t from to xcr0 xss .verdict ≡ Refused CompactSizeTooLarge = e ∙ g in
           record {
             unknown = (λ p. impossible (cc), λ q. absurd (fault-forward q f));
             back = (λ p. impossible (cc), λ q. absurd (back-forward q f));
@@ -147,7 +146,7 @@ module _ (t : CpuidResults) (from to xcr0 xss : ℕ) where
             empty = empty-table;
           }
       go (forward f e) (given h k g) =
-          let o : carry t from to xcr0 xss .verdict ≡ Accepted = e ∙ ap ofState g in
+          let o : carry t from to xcr0 xss .verdict ≡ Accepted = e ∙ g in
           record {
             unknown = (λ p. impossible (cc), λ q. absurd (fault-forward q f));
             back = (λ p. impossible (cc), λ q. absurd (back-forward q f));

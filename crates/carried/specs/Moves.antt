@@ -9,11 +9,10 @@ use Rattle.table.specs.declared.Verdict.the-variants.{Accepted}
 use Rattle.table.specs.Table.{rowsIn}
 use Rattle.build.specs.Build.{answer}
 use Rattle.image.specs.Image.{image}
-use Rattle.guest.specs.State.{saveRegister, compactRegister, stateVerdict}
+use Rattle.guest_state.specs.State.{saveRegister, compactRegister, stateVerdict}
 use Rattle.rise.specs.Rise.{withEdition}
-use Rattle.carry.specs.declared.CarryVerdict.the-variants as Carry
 use Rattle.carry.specs.declared.CarriedImage.the-variants.{Image}
-use Rattle.carry.specs.Carry.{ofState, carry}
+use Rattle.carry.specs.Carry.{carry}
 use Rattle.carry.specs.CarryImage.{carryImage}
 
 -- the table of page bytes under edition n
@@ -23,14 +22,14 @@ tableUnder n chosen s = answer (withEdition chosen n) s .table
 -- a table a of edition 1, and b of edition 2, of the same pages
 pub record Moves (a b : CpuidResults) (xcr0 xss : ℕ) : Type 0 where
   -- 13 and 14 alone can be in the way
-  pub verdict : carry a 1 2 xcr0 xss .verdict ≡ ofState (stateVerdict (rowsIn a) xcr0 xss)
-  pub table : carry a 1 2 xcr0 xss .verdict ≡ Carry.Accepted → carry a 1 2 xcr0 xss .table ≡ b
+  pub verdict : carry a 1 2 xcr0 xss .verdict ≡ stateVerdict (rowsIn a) xcr0 xss
+  pub table : carry a 1 2 xcr0 xss .verdict ≡ Accepted → carry a 1 2 xcr0 xss .table ≡ b
   -- the two save sizes
   pub save : saveRegister (rowsIn b) xcr0 ≡ saveRegister (rowsIn a) xcr0
   pub compact : compactRegister (rowsIn b) xcr0 xss ≡ compactRegister (rowsIn a) xcr0 xss
   -- and as images, in place
   pub answer : carryImage (image a) 1 2 xcr0 xss .answer ≡ Image (carry a 1 2 xcr0 xss .verdict)
-  pub bytes : carry a 1 2 xcr0 xss .verdict ≡ Carry.Accepted → carryImage (image a) 1 2 xcr0 xss .buffer ≡ image b
+  pub bytes : carry a 1 2 xcr0 xss .verdict ≡ Accepted → carryImage (image a) 1 2 xcr0 xss .buffer ≡ image b
 
 abbrev pub MovesToSecond : Type 0
 MovesToSecond = (chosen : Choices) (s : List ℕ) (xcr0 xss : ℕ) → answer (withEdition chosen 1) s .verdict ≡ Accepted

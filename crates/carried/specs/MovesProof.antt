@@ -25,8 +25,8 @@ use Rattle.table.specs.Table.{rowIn, rowsIn}
 use Rattle.checks.specs.ExtendedState.{xfem}
 use Rattle.update.specs.Finish.{edition1, edition2}
 use Rattle.build.specs.Build.{answer}
-use Rattle.guest.specs.State.{stateVerdict}
-use Rattle.guest.specs.StateLaws.{save-of-state, compact-of-state, verdict-of-state}
+use Rattle.guest_state.specs.State.{stateVerdict}
+use Rattle.guest_state.specs.StateLaws.{save-of-state, compact-of-state, verdict-of-state}
 use Rattle.image.specs.Image.{image}
 use Rattle.image_read.specs.declared.ReadImage.{ReadImage}
 use Rattle.image_read.specs.ReadImage.{readImage}
@@ -36,9 +36,8 @@ use Rattle.images.specs.TableLaws.{Plain}
 use Rattle.images.specs.ImagesProof.{accepted-plain}
 use Rattle.editions.specs.Second as Second
 use Rattle.editions.specs.SecondProof.{second-edition}
-use Rattle.carry.specs.declared.CarryVerdict.{CarryVerdict}
-use Rattle.carry.specs.declared.CarryVerdict.the-variants as Carry
-use Rattle.carry.specs.Carry.{ownRows, f16c, xopAndFma4, withoutBits, carriedAt, carriedTable, keeps, ofState, carryVerdict, tableGiven, carry}
+use Rattle.table.specs.declared.Verdict.{Verdict}
+use Rattle.carry.specs.Carry.{ownRows, f16c, xopAndFma4, withoutBits, carriedAt, carriedTable, keeps, carryVerdict, tableGiven, carry}
 use Rattle.carry.specs.declared.CarriedImage.the-variants.{Image}
 use Rattle.carry.specs.CarryImage.{carryImage}
 use Rattle.carry.specs.CarriedLaws.{carries-in-place}
@@ -164,14 +163,14 @@ module _ (chosen : Choices) (s : List ℕ) (e : answer (withEdition chosen 1) s 
       )
 
   module _ (xcr0 xss : ℕ) where
-    moved-verdict : carry a 1 2 xcr0 xss .verdict ≡ ofState (stateVerdict (rowsIn a) xcr0 xss)
+    moved-verdict : carry a 1 2 xcr0 xss .verdict ≡ stateVerdict (rowsIn a) xcr0 xss
     unfolding carry carryVerdict knownEdition
-    moved-verdict = ap ofState (own-verdict a plain xcr0 xss)
+    moved-verdict = (own-verdict a plain xcr0 xss)
 
-    moved-table : carry a 1 2 xcr0 xss .verdict ≡ Carry.Accepted → carry a 1 2 xcr0 xss .table ≡ b
+    moved-table : carry a 1 2 xcr0 xss .verdict ≡ Accepted → carry a 1 2 xcr0 xss .table ≡ b
     unfolding carry
     moved-table f =
-        ap (λ (v : CarryVerdict). tableGiven v (carriedTable (keeps a 1 2) a)) f
+        ap (λ (v : Verdict). tableGiven v (carriedTable (keeps a 1 2) a)) f
         ∙ ap (λ (keep : Bool). carriedTable keep a) (keeps-ymm a plain)
         ∙ carried-second
 
@@ -179,7 +178,7 @@ module _ (chosen : Choices) (s : List ℕ) (e : answer (withEdition chosen 1) s 
     unfolding carryImage
     moved-answer = rw (built-reads-back (withEdition chosen 1) s e)
 
-    moved-bytes : carry a 1 2 xcr0 xss .verdict ≡ Carry.Accepted → carryImage (image a) 1 2 xcr0 xss .buffer ≡ image b
+    moved-bytes : carry a 1 2 xcr0 xss .verdict ≡ Accepted → carryImage (image a) 1 2 xcr0 xss .buffer ≡ image b
     moved-bytes f =
         let back = built-reads-back (withEdition chosen 1) s e in
         let same : readImage (image a) .table ≡ a = ap (λ (r : ReadImage). r .table) back in

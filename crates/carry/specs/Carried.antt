@@ -10,9 +10,9 @@ use Rattle.masking.specs.Place
 use Rattle.table.specs.declared.CpuidResults.{CpuidResults}
 use Rattle.table.specs.Table.{rowIn, rowsIn}
 use Rattle.image.specs.Image.{image}
-use Rattle.guest.specs.State.{saveRegister, compactRegister}
+use Rattle.guest_state.specs.State.{saveRegister, compactRegister}
 use Rattle.image_read.specs.ReadImage.{readImage}
-use Rattle.carry.specs.declared.CarryVerdict.the-variants.{Accepted}
+use Rattle.table.specs.declared.Verdict.the-variants.{Accepted}
 use Rattle.carry.specs.Carry.{carry}
 use Rattle.carry.specs.CarryImage.{carryImage}
 

@@ -23,11 +23,11 @@ use Rattle.table.specs.Table.{rowIn}
 use Rattle.buffer.specs.Front.{writeFront}
 use Rattle.image.specs.Image.{image}
 use Rattle.image.specs.LengthLaws.{image-length}
-use Rattle.guest.specs.StateLaws.{save-of-state, compact-of-state}
+use Rattle.guest_state.specs.StateLaws.{save-of-state, compact-of-state}
 use Rattle.image_read.specs.ReadImage.{readImage}
 use Rattle.image_read.specs.WrittenAgain.{read-has-image}
-use Rattle.carry.specs.declared.CarryVerdict.{CarryVerdict}
-use Rattle.carry.specs.declared.CarryVerdict.the-variants.{Accepted}
+use Rattle.table.specs.declared.Verdict.{Verdict}
+use Rattle.table.specs.declared.Verdict.the-variants.{Accepted}
 use Rattle.carry.specs.Carry.{carriedAt, carriedTable, keeps, tableGiven, carry}
 use Rattle.carry.specs.CarryImage.{carryImage}
 use Rattle.carry.specs.Carried.{CarryKeeps, CarriesInPlace}
@@ -79,7 +79,7 @@ module _ (keep : Bool) (t : CpuidResults) where
 module _ (t : CpuidResults) (from to xcr0 xss : ℕ) (e : carry t from to xcr0 xss .verdict ≡ Accepted) where
   given : carry t from to xcr0 xss .table ≡ carriedTable (keeps t from to) t
   unfolding carry
-  given = ap (λ (v : CarryVerdict). tableGiven v (carriedTable (keeps t from to) t)) e
+  given = ap (λ (v : Verdict). tableGiven v (carriedTable (keeps t from to) t)) e
 
 pub carry-keeps : CarryKeeps
 carry-keeps t from to xcr0 xss n e =

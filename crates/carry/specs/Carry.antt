@@ -13,17 +13,15 @@ use Rattle.masking.specs.Kept.{places}
 use Rattle.masking.specs.Place
 use Rattle.table.specs.declared.CpuidResults.{CpuidResults}
 use Rattle.table.specs.declared.Verdict.{Verdict}
-use Rattle.table.specs.declared.Verdict.the-variants as Table
 use Rattle.table.specs.Edition.{knownEdition}
 use Rattle.table.specs.Rows.{Row, Rows}
 use Rattle.table.specs.Table.{emptyTable, rowIn}
 use Rattle.checks.specs.ExtendedState.{xfem}
 use Rattle.update.specs.Finish.{edition1, edition2}
-use Rattle.guest.specs.State.{stateVerdict}
-use Rattle.carry.specs.declared.CarryRefusal.{CarryRefusal}
-use Rattle.carry.specs.declared.CarryRefusal.the-variants.{UnknownEdition, EditionBack, State}
-use Rattle.carry.specs.declared.CarryVerdict.{CarryVerdict}
-use Rattle.carry.specs.declared.CarryVerdict.the-variants.{Accepted, Refused}
+use Rattle.guest_state.specs.State.{stateVerdict}
+use Rattle.table.specs.declared.Refusal.{Refusal}
+use Rattle.table.specs.declared.Refusal.the-variants.{UnknownEdition, EditionBack}
+use Rattle.table.specs.declared.Verdict.the-variants.{Accepted, Refused}
 use Rattle.carry.specs.declared.Carried.{Carried}
 
 -- ---- the table
@@ -63,27 +61,22 @@ keeps t from to = eqb from to || has 2 (xfem (ownRows t))
 
 -- ---- the answer
 
--- 13 and 14
-abbrev pub ofState : Verdict → CarryVerdict
-ofState Table.Accepted = Accepted
-ofState (Table.Refused r) = Refused (State r)
-
 -- "Answers: 16 from edition 2 back to 1, after 15 for either edition and before 13 and 14, which P3's rules give on the handed table's own rows"
-unfoldable pub carryVerdict : CpuidResults → ℕ → ℕ → ℕ → ℕ → CarryVerdict
+unfoldable pub carryVerdict : CpuidResults → ℕ → ℕ → ℕ → ℕ → Verdict
 carryVerdict t from to xcr0 xss =
     pick (knownEdition from && knownEdition to)
-    (pick (leb from to) (ofState (stateVerdict (ownRows t) xcr0 xss)) (Refused EditionBack))
+    (pick (leb from to) (stateVerdict (ownRows t) xcr0 xss) (Refused EditionBack))
     (Refused UnknownEdition)
 
 -- the table that goes with a verdict
-abbrev pub tableGiven : CarryVerdict → CpuidResults → CpuidResults
+abbrev pub tableGiven : Verdict → CpuidResults → CpuidResults
 tableGiven Accepted t = t
 tableGiven (Refused r) t = emptyTable
 
-abbrev pub answerFor : CarryVerdict → CpuidResults → Carried
+abbrev pub answerFor : Verdict → CpuidResults → Carried
 answerFor v t = record { verdict = v; table = tableGiven v t }
 
-abbrev pub refusedCarry : CarryRefusal → Carried
+abbrev pub refusedCarry : Refusal → Carried
 refusedCarry r = record { verdict = Refused r; table = emptyTable }
 
 unfoldable pub carry : CpuidResults → ℕ → ℕ → ℕ → ℕ → Carried

@@ -6,8 +6,8 @@ use Rattle.table.specs.declared.CpuidResults.{CpuidResults}
 use Rattle.buffer.specs.Front.{writeFront}
 use Rattle.image.specs.Image.{image}
 use Rattle.image_read.specs.ReadImage.{readImage}
-use Rattle.carry.specs.declared.CarryVerdict.{CarryVerdict}
-use Rattle.carry.specs.declared.CarryVerdict.the-variants.{Accepted, Refused}
+use Rattle.table.specs.declared.Verdict.{Verdict}
+use Rattle.table.specs.declared.Verdict.the-variants.{Accepted, Refused}
 use Rattle.carry.specs.declared.Carried.{Carried}
 use Rattle.carry.specs.declared.CarriedImage.{CarriedImage}
 use Rattle.carry.specs.declared.CarriedImage.the-variants.{NotAnImage, Image}
@@ -19,7 +19,7 @@ pub record AfterCarry : Type 0 where
   pub buffer : List ℕ
 
 -- the bytes that go with a verdict
-abbrev pub bytesGiven : CarryVerdict → CpuidResults → List ℕ → List ℕ
+abbrev pub bytesGiven : Verdict → CpuidResults → List ℕ → List ℕ
 bytesGiven Accepted t s = writeFront (image t) s .buffer
 bytesGiven (Refused r) t s = s
 

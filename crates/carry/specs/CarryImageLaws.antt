@@ -7,8 +7,8 @@ use Rattle.buffer.specs.Front.{writeFront}
 use Rattle.image.specs.Image.{image}
 use Rattle.image_read.specs.declared.ReadImage.{ReadImage}
 use Rattle.image_read.specs.ReadImage.{readImage}
-use Rattle.carry.specs.declared.CarryRefusal.{CarryRefusal}
-use Rattle.carry.specs.declared.CarryVerdict.the-variants.{Accepted, Refused}
+use Rattle.table.specs.declared.Refusal.{Refusal}
+use Rattle.table.specs.declared.Verdict.the-variants.{Accepted, Refused}
 use Rattle.carry.specs.declared.Carried.{Carried}
 use Rattle.carry.specs.declared.CarriedImage.the-variants.{NotAnImage, Image}
 use Rattle.carry.specs.Carry.{carry}
@@ -25,7 +25,7 @@ module _ (s : List ℕ) (from to xcr0 xss : ℕ) {read : ReadImage} (p : read �
     unfolding carryImage
     image-carried = rw (← p, e, ← q)
 
-    pub image-refused : {r : CarryRefusal} → w .verdict ≡ Refused r
+    pub image-refused : {r : Refusal} → w .verdict ≡ Refused r
         → (Image (Refused r) ≡ carryImage s from to xcr0 xss .answer) × (s ≡ carryImage s from to xcr0 xss .buffer)
     image-refused f = rw (image-carried, f) (refl, refl)
 

@@ -18,18 +18,17 @@ use Rattle.masking.specs.Place
 use Rattle.table.specs.declared.CpuidResults.{CpuidResults}
 use Rattle.table.specs.declared.Refusal.{Refusal}
 use Rattle.table.specs.declared.Verdict.{Verdict}
-use Rattle.table.specs.declared.Verdict.the-variants as Table
 use Rattle.table.specs.Edition.{knownEdition}
 use Rattle.table.specs.Rows.{Row, Rows}
 use Rattle.table.specs.Table.{rowIn, rowsIn}
 use Rattle.checks.specs.ExtendedState.{xfem}
 use Rattle.checks.specs.Parts.{resultsIn}
-use Rattle.guest.specs.State.{stateVerdict}
-use Rattle.guest.specs.StateLaws.{verdict-of-state}
+use Rattle.guest_state.specs.State.{stateVerdict}
+use Rattle.guest_state.specs.StateLaws.{verdict-of-state}
 use Rattle.update.specs.Finish.{edition1, edition2}
 use Rattle.update.specs.DropLaws.{UpTo, up-to-next}
-use Rattle.carry.specs.declared.CarryRefusal.the-variants.{UnknownEdition, EditionBack, State}
-use Rattle.carry.specs.declared.CarryVerdict.the-variants.{Accepted, Refused}
+use Rattle.table.specs.declared.Refusal.the-variants.{UnknownEdition, EditionBack}
+use Rattle.table.specs.declared.Verdict.the-variants.{Accepted, Refused}
 use Rattle.carry.specs.Carry.{ownRows, f16c, xopAndFma4, withoutBits, carriedAt, carriedTable, keeps, carryVerdict, refusedCarry, carry}
 
 -- ---- the rows that are there, as the loop stores them
@@ -103,11 +102,11 @@ module _ (t : CpuidResults) (from to xcr0 xss : ℕ) {a b : Bool} (p : a ≡ kno
       own-verdict : v ≡ stateVerdict (ownRows t) xcr0 xss
       own-verdict = w ∙ verdict-of-state (resultsIn own) (ownRows t) (λ k l. own-at (Place.extendedState k) (omega arith)) xcr0 xss
 
-      pub carry-state : {r : Refusal} → v ≡ Table.Refused r → refusedCarry (State r) ≡ carry t from to xcr0 xss
+      pub carry-state : {r : Refusal} → v ≡ Refused r → refusedCarry r ≡ carry t from to xcr0 xss
       unfolding carry carryVerdict
       carry-state e = rw (← p, ← q, known, le-leb from to h, ← own-verdict, e)
 
-      pub carry-done : {ymm : Bool} {u : CpuidResults} → v ≡ Table.Accepted → ymm ≡ has 2 (getD own (Place.extendedState 0) (result 0 0 0 0) .eax)
+      pub carry-done : {ymm : Bool} {u : CpuidResults} → v ≡ Accepted → ymm ≡ has 2 (getD own (Place.extendedState 0) (result 0 0 0 0) .eax)
           → u ≡ carriedTable (eqb from to || ymm) t → record { verdict = Accepted; table = u } ≡ carry t from to xcr0 xss
       unfolding carry carryVerdict keeps xfem
       carry-done e y f = rw (← p, ← q, known, le-leb from to h, ← own-verdict, e, f, y, own-at (Place.extendedState 0) (lit< tt))

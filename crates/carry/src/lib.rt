@@ -1,8 +1,8 @@
 // A running table carried from one edition of the AVX rule to another. A table, or its image in a lent buffer, and one processor's state come
 // in; the table under the edition wanted goes out, or a refusal and what was lent as it was.
-use guest::state_verdict;
-use image::write_table;
+use guest_state::state_verdict;
 use image_read::read_image;
+use image_write::write_table;
 use masking::PLACES;
 use masking::place;
 use table::CpuidResults;
@@ -24,21 +24,9 @@ const F16C: u32 = 0x20000000;
 
 const XOP_AND_FMA4: u32 = 0x10800;
 
-// Why a table is not carried.
-pub enum CarryRefusal {
-    UnknownEdition,
-    EditionBack,
-    State(Refusal),
-}
-
-pub enum CarryVerdict {
-    Accepted,
-    Refused(CarryRefusal),
-}
-
 // Accepted with the table under the edition wanted, or refused with an empty one.
 pub struct Carried {
-    pub verdict: CarryVerdict,
+    pub verdict: Verdict,
     pub table: CpuidResults,
 }
 
@@ -47,20 +35,20 @@ pub fn carry(t: CpuidResults, from: u32, to: u32, xcr0: u64, xss: u64) -> Carrie
     ensures { λ r. ⌜ r ≡ carry t from to xcr0 xss ⌝ }
 {
     if known_edition(from) & known_edition(to) {} else {
-        return refused(CarryRefusal::UnknownEdition);
+        return refused(Refusal::UnknownEdition);
     }
     if to < from {
-        return refused(CarryRefusal::EditionBack);
+        return refused(Refusal::EditionBack);
     }
     let own = own_results(t);
     let verdict = state_verdict(own, xcr0, xss);
     if let Verdict::Refused(r) = verdict {
-        return refused(CarryRefusal::State(r));
+        return refused(r);
     }
     let subleaf0 = own[place::EXTENDED_STATE_0];
     let table = clear_bits(t, (from == to) | bits::has_bit(subleaf0.eax, 2));
     Carried {
-        verdict: CarryVerdict::Accepted,
+        verdict: Verdict::Accepted,
         table,
     }
 }
@@ -68,7 +56,7 @@ pub fn carry(t: CpuidResults, from: u32, to: u32, xcr0: u64, xss: u64) -> Carrie
 // Whether lent bytes are a table's image, and if so, whether the table is carried.
 pub enum CarriedImage {
     NotAnImage,
-    Image(CarryVerdict),
+    Image(Verdict),
 }
 
 // The same for a table handed over as its image, in place: where it is carried, the bytes become the image of the table under the edition
@@ -82,23 +70,23 @@ pub fn carry_image(image: &mut [u8], from: u32, to: u32, xcr0: u64, xss: u64) ->
         let t = read.table;
         let carried = carry(t, from, to, xcr0, xss);
         let verdict = carried.verdict;
-        if let CarryVerdict::Refused(r) = verdict {
-            return CarriedImage::Image(CarryVerdict::Refused(r));
+        if let Verdict::Refused(r) = verdict {
+            return CarriedImage::Image(Verdict::Refused(r));
         }
         let table = carried.table;
         write_table(table, image);
-        return CarriedImage::Image(CarryVerdict::Accepted);
+        return CarriedImage::Image(Verdict::Accepted);
     }
     CarriedImage::NotAnImage
 }
 
 // A refused answer holds an empty table.
-fn refused(r: CarryRefusal) -> Carried
+fn refused(r: Refusal) -> Carried
     ensures { λ q. ⌜ q ≡ refusedCarry r ⌝ }
 {
     let table = empty_table();
     Carried {
-        verdict: CarryVerdict::Refused(r),
+        verdict: Verdict::Refused(r),
         table,
     }
 }

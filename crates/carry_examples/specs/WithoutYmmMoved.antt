@@ -7,35 +7,34 @@ use Rattle.masking.specs.Place
 use Rattle.table.specs.declared.CpuidResults.{CpuidResults}
 use Rattle.table.specs.declared.Refusal.the-variants.{StateBeyondTable}
 use Rattle.table.specs.declared.Verdict.{Verdict}
-use Rattle.table.specs.declared.Verdict.the-variants as Table
 use Rattle.table.specs.Edition.{knownEdition}
 use Rattle.table.specs.Table.{emptyTable, rowIn, rowsIn}
 use Rattle.build.specs.Build.{answer}
-use Rattle.guest.specs.State.{stateVerdict}
+use Rattle.guest_state.specs.State.{stateVerdict}
 use Rattle.rise.specs.RiseProof.{answer-table}
 use Rattle.examples.specs.Evaluation.{first}
 use Rattle.edition_examples.specs.WithoutYmm.{withoutYmm, first-accepted, second-figures}
 use Rattle.guest_examples.specs.Seen.{computed, built}
-use Rattle.carry.specs.declared.CarryRefusal.the-variants.{UnknownEdition, EditionBack, State}
-use Rattle.carry.specs.declared.CarryVerdict.the-variants.{Accepted, Refused}
-use Rattle.carry.specs.Carry.{ofState, carryVerdict, carry}
+use Rattle.table.specs.declared.Refusal.the-variants.{UnknownEdition, EditionBack}
+use Rattle.table.specs.declared.Verdict.the-variants.{Accepted, Refused}
+use Rattle.carry.specs.Carry.{carryVerdict, carry}
 use Rattle.carried.specs.MovesProof.{moves-to-second}
 
 abbrev pub running : CpuidResults
 running = answer first withoutYmm .table
 
 -- the state's verdict, from the table's own rows
-state : (xcr0 xss : ℕ) {w : Verdict} → stateVerdict (rowsIn (built first withoutYmm)) xcr0 xss ≡ w → carry running 1 2 xcr0 xss .verdict ≡ ofState w
+state : (xcr0 xss : ℕ) {w : Verdict} → stateVerdict (rowsIn (built first withoutYmm)) xcr0 xss ≡ w → carry running 1 2 xcr0 xss .verdict ≡ w
 state xcr0 xss e =
     moves-to-second first withoutYmm xcr0 xss first-accepted .verdict
-    ∙ ap (λ (t : CpuidResults). ofState (stateVerdict (rowsIn t) xcr0 xss)) (answer-table first withoutYmm first-accepted)
-    ∙ ap ofState e
+    ∙ ap (λ (t : CpuidResults). stateVerdict (rowsIn t) xcr0 xss) (answer-table first withoutYmm first-accepted)
+    ∙ e
 
-in-use : stateVerdict (rowsIn (built first withoutYmm)) 3 0 ≡ Table.Accepted
+in-use : stateVerdict (rowsIn (built first withoutYmm)) 3 0 ≡ Accepted
 unfolding computed withoutYmm
 in-use = refl
 
-beyond-xfem : stateVerdict (rowsIn (built first withoutYmm)) 7 0 ≡ Table.Refused StateBeyondTable
+beyond-xfem : stateVerdict (rowsIn (built first withoutYmm)) 7 0 ≡ Refused StateBeyondTable
 unfolding computed withoutYmm
 beyond-xfem = refl
 
@@ -51,7 +50,7 @@ pub moved-figures : figures (carry running 1 2 3 0 .table) ≡ 0x8ED82203 ∷ 0x
 moved-figures = ap figures (moves-to-second first withoutYmm 3 0 first-accepted .table moved) ∙ second-figures
 
 -- a processor with YMM state, which this server does not give
-pub beyond : carry running 1 2 7 0 .verdict ≡ Refused (State StateBeyondTable)
+pub beyond : carry running 1 2 7 0 .verdict ≡ Refused StateBeyondTable
 beyond = state 7 0 beyond-xfem
 
 -- back to edition 1, and to an edition that there is not, also of an empty table

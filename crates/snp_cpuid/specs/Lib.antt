@@ -1,3 +1,4 @@
 pub mod Exports
 pub mod GuestExports
 pub mod LineExports
+pub mod CarryExports

@@ -16,6 +16,7 @@ ghost use Rattle.compare.specs.Compare.{compared};
 ghost use Rattle.compare.specs.Means.{order};
 ghost use Rattle.snp_cpuid.specs.Exports.{choicesOf, builtNumbers, foundNumbers, writtenNumbers, comparedWith, comparedNumbers, subleafOf};
 
+mod carry_exports;
 mod guest_exports;
 mod kvm;
 mod line_exports;

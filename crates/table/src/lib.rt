@@ -44,6 +44,7 @@ pub enum Refusal {
     StateBeyondTable,
     CompactSizeTooLarge,
     UnknownEdition,
+    EditionBack,
 }
 
 pub enum Verdict {
