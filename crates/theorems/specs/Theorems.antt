@@ -13,10 +13,10 @@ use Rattle.table.specs.declared.Choices.{Choices}
 use Rattle.table.specs.declared.Subleaf.{Subleaf}
 use Rattle.table.specs.declared.Subleaf.the-variants.{None, Some}
 use Rattle.table.specs.declared.Refusal.{Refusal}
-use Rattle.table.specs.declared.Refusal.the-variants.{UnknownEdition, PagesLength, MissingRequiredResult, SaveAreaOverflow, BufferTooShort, ListLength, ListRows, ListFields, StateBeyondTable, CompactSizeTooLarge}
+use Rattle.table.specs.declared.Refusal.the-variants.{UnknownEdition, EditionBack, PagesLength, MissingRequiredResult, SaveAreaOverflow, BufferTooShort, ListLength, ListRows, ListFields, StateBeyondTable, CompactSizeTooLarge}
 use Rattle.table.specs.declared.CpuidResults.{CpuidResults}
 use Rattle.table.specs.Rows.{Rows}
-use Rattle.table.specs.Table.{rowIn, rowsIn}
+use Rattle.table.specs.Table.{emptyTable, rowIn, rowsIn}
 use Rattle.checks.specs.ExtendedState.{saveArea}
 use Rattle.table.specs.declared.Verdict.the-variants.{Accepted, Refused}
 use Rattle.bits.specs.Lists.{keepIf}
@@ -96,6 +96,15 @@ use Rattle.editions.specs.Second.{SecondEdition, FirstEdition}
 use Rattle.editions.specs.SecondProof as Editions
 use Rattle.edition_examples.specs.WithoutYmm as WithoutYmm
 use Rattle.build.specs.Build.{underEdition}
+use Rattle.carry.specs.Carry.{carry}
+use Rattle.carry.specs.Carried.{CarryKeeps, CarriesInPlace}
+use Rattle.carry.specs.CarriedLaws.{carry-keeps, carries-in-place}
+use Rattle.read_back.specs.ReadBack.{ImageReadsBack, BuiltReadsBack, OnlyImagesRead}
+use Rattle.read_back.specs.ReadBackProof as ReadBack
+use Rattle.carried.specs.Moves.{MovesToSecond}
+use Rattle.carried.specs.MovesProof.{moves-to-second}
+use Rattle.carried.specs.CarryExactly.{CarryExactly, carry-exactly}
+use Rattle.carry_examples.specs.WithoutYmmMoved as Moved
 use Rattle.examples.specs.KvmLists as KvmLists
 use Rattle.examples.specs.Evaluation.{first}
 use Rattle.examples.specs.PageSets.{serverA, serverB, serverWithoutD12, serverWithLargeD6}
@@ -197,6 +206,54 @@ no-rise-from-1-to-2 = WithoutYmm.not-from-first
 
 pub no-third-edition : answer (underEdition 3) [] .verdict ≡ Refused UnknownEdition
 no-third-edition = WithoutYmm.third-refused
+
+-- ---- P8, moving a live guest to edition 2. crates/carry/specs/Carry.antt has the table that is carried and the answers, CarryImage.antt the same of a
+-- table handed over as its image, in place.
+
+-- 15, 16, 13, 14 and the carried table, of any table: each if and only if its condition holds and no earlier one does
+pub each-carry-exactly : (t : CpuidResults) (from to xcr0 xss : ℕ) → CarryExactly t from to xcr0 xss
+each-carry-exactly = carry-exactly
+
+-- a table that building made under edition 1 becomes what edition 2 makes of the same pages, whole, also as an image; both save sizes stay.
+-- crates/carried/specs/Moves.antt
+pub moves-to-edition-2 : MovesToSecond
+moves-to-edition-2 = moves-to-second
+
+-- of any table: every other row, which rows are there, the count, the mask and both save sizes stay; within one edition the whole table.
+-- crates/carry/specs/Carried.antt
+pub carrying-changes-nothing-else : CarryKeeps
+carrying-changes-nothing-else = carry-keeps
+
+-- lent bytes that are an image become the carried table's, as many as before
+pub carried-in-place : CarriesInPlace
+carried-in-place = carries-in-place
+
+-- an image is read back as the table that it was written of, and nothing else is taken for one. crates/read_back/specs/ReadBack.antt
+pub images-read-back : ImageReadsBack
+images-read-back = ReadBack.image-reads-back
+
+pub built-images-read-back : BuiltReadsBack
+built-images-read-back = ReadBack.built-reads-back
+
+pub only-images-are-read : OnlyImagesRead
+only-images-are-read = ReadBack.only-images-read
+
+-- Not empty words: the server without YMM state moved, with its 1.ECX and 80000001h.ECX; a processor beyond it; 16 and 15.
+-- crates/carry_examples/specs/WithoutYmmMoved.antt
+pub without-ymm-moved : carry Moved.running 1 2 3 0 .verdict ≡ Accepted
+without-ymm-moved = Moved.moved
+
+pub without-ymm-moved-figures : Moved.figures (carry Moved.running 1 2 3 0 .table) ≡ 0x8ED82203 ∷ 0x4001F3 ∷ []
+without-ymm-moved-figures = Moved.moved-figures
+
+pub without-ymm-beyond : carry Moved.running 1 2 7 0 .verdict ≡ Refused StateBeyondTable
+without-ymm-beyond = Moved.beyond
+
+pub no-way-back : carry emptyTable 2 1 0 0 .verdict ≡ Refused EditionBack
+no-way-back = Moved.goes-back
+
+pub no-third-edition-to-carry : carry emptyTable 3 1 0 0 .verdict ≡ Refused UnknownEdition
+no-third-edition-to-carry = Moved.no-third
 
 -- ---- P3, what one processor's guest sees. crates/guest/specs/Guest.antt has the guest's table, State.antt refusals 13 and 14 and the two
 -- sizes, Compact.antt the compacted size; crates/guest_pages/specs/GuestPages.antt the same from pages.
