@@ -1,2 +1,4 @@
 pub mod Added
 pub mod BeginningLaws
+pub mod KeptRows
+pub mod AddedProof
