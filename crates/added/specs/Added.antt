@@ -10,6 +10,7 @@ use Rattle.table.specs.declared.Verdict.{Verdict}
 use Rattle.table.specs.declared.Verdict.the-variants.{Accepted, Refused}
 use Rattle.table.specs.Refusal.{details}
 use Rattle.build.specs.Build.{lawfulVerdict, answer}
+use Rattle.rise.specs.Rise.{RiseHypothesis}
 
 -- "the last page that had entries" is page p: entries stand on it, and on none of the pages after it
 pub record LastWithEntries (s : List ℕ) (p : ℕ) : Type 0 where
@@ -39,3 +40,8 @@ Covered (Refused r) = (4 ≤ details r .number) × (details r .number ≤ 8)
 -- "The answer must be the same, rows, mask and details": the verdict with its details, and the whole table
 abbrev pub AddedChangesNothing : Type 0
 AddedChangesNothing = (avic : Bool) (s u : List ℕ) → Added s u → Covered (answer avic s .verdict) → answer avic u ≡ answer avic s
+
+-- so a guest may move from an accepted server to the same one with entries added, and back (demand 3's hypothesis)
+abbrev pub AddedRisesBothWays : Type 0
+AddedRisesBothWays =
+    (avic : Bool) (s u : List ℕ) → Added s u → answer avic s .verdict ≡ Accepted → RiseHypothesis avic s u × RiseHypothesis avic u s

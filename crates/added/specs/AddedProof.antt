@@ -1,8 +1,8 @@
 -- The proof that added entries change no answer: the entries before are a beginning, so every row is kept, and the rows decide.
-use mathlib.Core.Path.{_≡_, refl, sym, ap, _∙_}
+use mathlib.Core.Path.{_≡_, refl, sym, ap, _∙_, subst}
 use mathlib.Core.Bool.{Bool, true, false, not}
 use mathlib.Core.List.{List}
-use Prim.Native.Nat.{ℕ}
+use Prim.Native.Nat.{ℕ, _<_}
 use native.Mathlib.Omega.{arith}
 use Rattle.pages.specs.Layout.{badLength, countsFit}
 use Rattle.table.specs.declared.Verdict.{Verdict}
@@ -10,10 +10,18 @@ use Rattle.table.specs.declared.Verdict.the-variants.{Accepted, Refused}
 use Rattle.table.specs.declared.Refusal.the-variants.{PagesLength, PageCount}
 use Rattle.table.specs.Refusal.{andThen}
 use Rattle.checks.specs.Checks.{refuseUnless, rowsVerdict}
+use Rattle.masking.specs.Kept.{places}
+use Rattle.table.specs.Rows.{Row}
+use Rattle.table.specs.Table.{rowIn}
+use Rattle.update.specs.Finish.{ruleAt}
+use Rattle.update.specs.Kinds.{fromEntry}
+use Rattle.build.specs.declared.Built.{Built}
 use Rattle.build.specs.Built.{builtFrom}
+use Rattle.rise.specs.Rise.{EntryRises, RiseHypothesis}
+use Rattle.rise.specs.Same.{rises-itself}
 use Rattle.build.specs.Build.{lengthVerdict, countsVerdict, lawfulVerdict, verdictOf, answer}
 use Rattle.collect.specs.FirstEntries.{rowsOf}
-use Rattle.added.specs.Added.{Added, Covered, AddedChangesNothing}
+use Rattle.added.specs.Added.{Added, Covered, AddedChangesNothing, AddedRisesBothWays}
 use Rattle.added.specs.BeginningLaws.{Keeps, counted-begin, rows-kept}
 use Rattle.added.specs.KeptRows.{built-same}
 
@@ -53,3 +61,38 @@ module _ (avic : Bool) (s u : List ℕ) (added : Added s u) (covered : Covered (
 
 pub added-same : AddedChangesNothing
 added-same = answer-same
+
+-- ---- an accepted page set rises to itself with entries added, and back
+
+module _ (avic : Bool) (s u : List ℕ) (added : Added s u) (accepted : answer avic s .verdict ≡ Accepted) where
+  covered : Covered (answer avic s .verdict)
+  covered = rw accepted tt
+
+  -- at each row of the table, the entry of s and the entry of u
+  entry : (i : ℕ) → i < places → fromEntry (ruleAt i) ≡ true → rowIn (answer avic s .table) i .present ≡ true
+      → EntryRises i (rowsOf avic s i) (rowsOf avic s i) × (rowsOf avic s i ≡ rowsOf avic u i)
+  entry i l f p =
+      let e : EntryRises i (rowsOf avic s i) (rowsOf avic s i) = rises-itself avic s accepted .entries i l f p in
+      (e, sym (rows-stay avic s u added covered .kept i (e .present)))
+
+  rises : RiseHypothesis avic s u
+  rises = record {
+    accepted = accepted;
+    lawful = added .lawful;
+    entries = λ i l f p. let (e, q) = entry i l f p in subst (EntryRises i (rowsOf avic s i)) q e;
+  }
+
+  back : RiseHypothesis avic u s
+  back = record {
+    accepted = ap (λ (b : Built). b .verdict) same ∙ accepted;
+    lawful = lawful-before avic s u added covered;
+    entries = λ i l f p.
+        let (e, q) = entry i l f (ap (λ (b : Built). rowIn (b .table) i .present) (sym same) ∙ p) in
+        subst (λ (r : Row). EntryRises i r (rowsOf avic s i)) q e;
+  }
+    where
+      same : answer avic u ≡ answer avic s
+      same = answer-same avic s u added covered
+
+pub added-rises : AddedRisesBothWays
+added-rises avic s u added accepted = (rises avic s u added accepted, back avic s u added accepted)
