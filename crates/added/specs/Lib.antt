@@ -2,3 +2,4 @@ pub mod Added
 pub mod BeginningLaws
 pub mod KeptRows
 pub mod AddedProof
+pub mod Decide
