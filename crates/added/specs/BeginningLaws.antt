@@ -81,7 +81,7 @@ module _ (s u : List ℕ) (added : Added s u) where
       go rest (raised last l) =
           let c : ℕ = countOf s p in
           let d : ℕ = countOf u p - c in
-          let none : onPages s (suc p) n ≡ [] = pages-empty s (suc p) n (λ q k h. last .after q k (omega arith)) in
+          let none : onPages s (suc p) n ≡ [] = pages-empty s (suc p) n (λ q k h. omega (arith, last .after q k (omega arith))) in
           let longer : onPage u p 0 (countOf u p) ≡ onPage u p 0 c ++ onPage u p (0 + c) d = page-split u p 0 c d (countOf u p) (omega arith) in
           record { more = onPage u p (0 + c) d ++ onPages u (suc p) m; whole = rw (none, longer, kept, append-nil, append-assoc) }
 

@@ -1,18 +1,21 @@
 -- Added entries as a computed test, so that a pair of page sets can be shown to be one.
-use mathlib.Core.Path.{_≡_, refl, ap}
+use mathlib.Core.Path.{_≡_, refl, sym, ap, _∙_}
 use mathlib.Core.Bool.{Bool, true, false, _&&_}
-use mathlib.Core.List.{List, [], _∷_}
-use Prim.Native.Nat.{ℕ, _<_}
+use mathlib.Core.List.{List}
+use Prim.Native.Nat.{ℕ, _+_, _-_, _*_, _≤_, _<_}
+use native.Mathlib.Omega.{arith}
 use lib.Dec.{eqb, ltb, leb}
-use lib.ListN.{getD}
-use lib.Seq.{ext-getD}
+use lib.ListN.{getD, take, drop}
+use lib.Seq.{getD-take, getD-drop}
 use borrow.Author.Tests.{eqb-true, ltb-true, leb-true, lt-ltb}
 use Rattle.bits.specs.Choice.{pick}
 use Rattle.bits.specs.ChoiceLaws.{and-left, and-right, if-holds}
 use Rattle.bits.specs.Search.{every}
 use Rattle.bits.specs.SearchLaws.{every-at}
+use Rattle.bits.specs.Lists.{tabulate}
+use Rattle.bits.specs.ListsLaws.{tabulate-at}
 use Rattle.x86defs.specs.Functions.{function, result}
-use Rattle.pages.specs.Layout.{Entry, pagesIn, countOf, entryAt}
+use Rattle.pages.specs.Layout.{pageSize, entrySize, firstEntry, wordAt, pagesIn, countOf, entryAt}
 use Rattle.table.specs.declared.Verdict.the-variants.{Accepted}
 use Rattle.build.specs.Build.{lawfulVerdict}
 use Rattle.added.specs.Added.{LastWithEntries, CountAfter, Added}
@@ -40,51 +43,65 @@ count-after s u p = go (eqb (countOf u p) (countOf s p)) refl
     go true e t = same (eqb-true _ _ e)
     go false e t = raised (is-last s p (and-left _ _ t)) (leb-true _ _ (and-right (isLast s p) _ t))
 
--- whether two entries are equal, from their numbers
-abbrev numbersOf : Entry → List ℕ
-numbersOf e =
-    e .page
-    ∷ e .position
-    ∷ e .leaf .0
-    ∷ e .subleaf
-    ∷ e .registers .eax
-    ∷ e .registers .ebx
-    ∷ e .registers .ecx
-    ∷ e .registers .edx
-    ∷ []
+-- the bytes of u from offset a on, n of them, are those of s
+abbrev SameBytes : List ℕ → List ℕ → ℕ → ℕ → Type 0
+SameBytes s u a n = (i : ℕ) → a ≤ i → i < a + n → getD u i 0 ≡ getD s i 0
 
-abbrev entryOf : List ℕ → Entry
-entryOf l = record {
-  page = getD l 0 0;
-  position = getD l 1 0;
-  leaf = function (getD l 2 0);
-  subleaf = getD l 3 0;
-  registers = result (getD l 4 0) (getD l 5 0) (getD l 6 0) (getD l 7 0);
-}
+word-same : (s u : List ℕ) (a n o : ℕ) → SameBytes s u a n → a ≤ o → o + 4 ≤ a + n → wordAt u o ≡ wordAt s o
+word-same s u a n o f l h =
+    rw (
+      f o l (omega arith),
+      f (o + 1) (omega arith) (omega arith),
+      f (o + 2) (omega arith) (omega arith),
+      f (o + 3) (omega arith) (omega arith),
+    )
 
-abbrev entryTest : Entry → Entry → Bool
-entryTest a b = every (λ i. eqb (getD (numbersOf a) i 0) (getD (numbersOf b) i 0)) 8
-
-entry-equal : (a b : Entry) → entryTest a b ≡ true → a ≡ b
-entry-equal a b e =
-    ap entryOf
-    (ext-getD 0 (numbersOf a) (numbersOf b) refl
-    (λ i l. eqb-true _ _ (every-at (λ i. eqb (getD (numbersOf a) i 0) (getD (numbersOf b) i 0)) 8 e i l)))
-
-abbrev pageTest : List ℕ → List ℕ → ℕ → Bool
-pageTest s u p = countTest s u p && every (λ q. entryTest (entryAt u p q) (entryAt s p q)) (countOf s p)
-
-abbrev pub addedTest : List ℕ → List ℕ → Bool
-addedTest s u = leb (pagesIn s) (pagesIn u) && every (pageTest s u) (pagesIn s)
-
-pub added-by-test : (s u : List ℕ) → lawfulVerdict u ≡ Accepted → addedTest s u ≡ true → Added s u
-added-by-test s u v t = record {
-  lawful = v;
-  pages = leb-true _ _ (and-left _ _ t);
-  counts = λ p l. count-after s u p (and-left _ _ (page p l));
-  entries = λ p q l h.
-      entry-equal _ _ (every-at (λ q. entryTest (entryAt u p q) (entryAt s p q)) (countOf s p) (and-right (countTest s u p) _ (page p l)) q h);
+-- an entry whose 48 bytes stand where they stood
+entry-same : (s u : List ℕ) (p q : ℕ) → SameBytes s u (pageSize * p + firstEntry + entrySize * q) entrySize → entryAt u p q ≡ entryAt s p q
+unfolding entryAt
+entry-same s u p q f = λ k. record {
+  page = p;
+  position = q;
+  leaf = function (word o (omega arith) (omega arith) k);
+  subleaf = word (o + 4) (omega arith) (omega arith) k;
+  registers =
+      result (word (o + 24) (omega arith) (omega arith) k) (word (o + 28) (omega arith) (omega arith) k)
+      (word (o + 32) (omega arith) (omega arith) k) (word (o + 36) (omega arith) (omega arith) k);
 }
   where
-    page : (p : ℕ) → p < pagesIn s → pageTest s u p ≡ true
-    page = every-at (pageTest s u) (pagesIn s) (and-right (leb (pagesIn s) (pagesIn u)) _ t)
+    o : ℕ
+    o = pageSize * p + firstEntry + entrySize * q
+
+    word : (i : ℕ) → o ≤ i → i + 4 ≤ o + entrySize → wordAt u i ≡ wordAt s i
+    word i l h = word-same s u o entrySize i f l h
+
+-- the bytes of u where page p of s has its entries
+abbrev entryBytes : List ℕ → List ℕ → ℕ → List ℕ
+entryBytes s u p = take (entrySize * countOf s p) (drop (pageSize * p + firstEntry) u)
+
+page-bytes : (s u : List ℕ) (p : ℕ) → entryBytes s u p ≡ entryBytes s s p → SameBytes s u (pageSize * p + firstEntry) (entrySize * countOf s p)
+page-bytes s u p e i l h = sym (at u) ∙ ap (λ (bytes : List ℕ). getD bytes (i - o) 0) e ∙ at s
+  where
+    o : ℕ
+    o = pageSize * p + firstEntry
+
+    at : (w : List ℕ) → getD (entryBytes s w p) (i - o) 0 ≡ getD w i 0
+    at w =
+        getD-take (entrySize * countOf s p) (drop o w) (i - o) 0 (omega arith)
+        ∙ getD-drop o w (i - o) 0
+        ∙ ap (λ (j : ℕ). getD w j 0) (omega arith)
+
+abbrev pub pageTest : List ℕ → List ℕ → Bool
+pageTest s u = leb (pagesIn s) (pagesIn u) && every (countTest s u) (pagesIn s)
+
+-- the pages and counts by a test, the bytes by one equation
+abbrev pub bytesOfEntries : List ℕ → List ℕ → List (List ℕ)
+bytesOfEntries s u = tabulate (pagesIn s) (entryBytes s u)
+
+pub added-by-test : (s u : List ℕ) → lawfulVerdict u ≡ Accepted → pageTest s u ≡ true → bytesOfEntries s u ≡ bytesOfEntries s s → Added s u
+added-by-test s u v t e = record {
+  lawful = v;
+  pages = leb-true _ _ (and-left _ _ t);
+  counts = λ p l. count-after s u p (every-at (countTest s u) (pagesIn s) (and-right (leb (pagesIn s) (pagesIn u)) _ t) p l);
+  entries = λ p q l h. entry-same s u p q (λ i k n. page-bytes s u p (tabulate-at (pagesIn s) (entryBytes s u) (entryBytes s s) e p l) i (omega arith) (omega arith));
+}
