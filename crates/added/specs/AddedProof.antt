@@ -1,40 +1,26 @@
 -- The proof that added entries change no answer: the entries before are a beginning, so every row is kept, and the rows decide.
-use mathlib.Core.Path.{_≡_, refl, sym, ap, _∙_, subst}
-use mathlib.Core.Bool.{Bool, true, false, not}
+use mathlib.Core.Path.{_≡_, sym, ap, _∙_, subst}
+use mathlib.Core.Bool.{Bool, true}
 use mathlib.Core.List.{List}
 use Prim.Native.Nat.{ℕ, _<_}
-use native.Mathlib.Omega.{arith}
-use Rattle.pages.specs.Layout.{badLength, countsFit}
-use Rattle.table.specs.declared.Verdict.{Verdict}
-use Rattle.table.specs.declared.Verdict.the-variants.{Accepted, Refused}
-use Rattle.table.specs.declared.Refusal.the-variants.{PagesLength, PageCount}
-use Rattle.table.specs.Refusal.{andThen}
-use Rattle.checks.specs.Checks.{refuseUnless, rowsVerdict}
 use Rattle.masking.specs.Kept.{places}
+use Rattle.table.specs.declared.Verdict.the-variants.{Accepted}
 use Rattle.table.specs.Rows.{Row}
 use Rattle.table.specs.Table.{rowIn}
+use Rattle.collect.specs.FirstEntries.{rowsOf}
+use Rattle.checks.specs.Checks.{rowsVerdict}
 use Rattle.update.specs.Finish.{ruleAt}
 use Rattle.update.specs.Kinds.{fromEntry}
 use Rattle.build.specs.declared.Built.{Built}
 use Rattle.build.specs.Built.{builtFrom}
+use Rattle.build.specs.Build.{lawfulVerdict, verdictOf, answer}
 use Rattle.rise.specs.Rise.{EntryRises, RiseHypothesis}
 use Rattle.rise.specs.Same.{rises-itself}
-use Rattle.build.specs.Build.{lengthVerdict, countsVerdict, lawfulVerdict, verdictOf, answer}
-use Rattle.collect.specs.FirstEntries.{rowsOf}
 use Rattle.added.specs.Added.{Added, Covered, AddedChangesNothing, AddedRisesBothWays}
-use Rattle.added.specs.BeginningLaws.{Keeps, counted-begin, rows-kept}
-use Rattle.added.specs.KeptRows.{built-same}
-
--- neither 1 nor 2 is covered
-lawful-found : (s : List ℕ) (v : Verdict) → Covered (andThen (lawfulVerdict s) v) → lawfulVerdict s ≡ Accepted
-unfolding lawfulVerdict lengthVerdict countsVerdict
-lawful-found s v = go (not (badLength s)) (countsFit s)
-  where
-    go : (p q : Bool) → Covered (andThen (andThen (refuseUnless p PagesLength) (refuseUnless q PageCount)) v)
-        → andThen (refuseUnless p PagesLength) (refuseUnless q PageCount) ≡ Accepted
-    go true true c = refl
-    go true false c = absurd (omega (arith, c .0))
-    go false q c = absurd (omega (arith, c .0))
+use Rattle.added.specs.BeginningLaws.{counted-begin}
+use Rattle.added.specs.KeepsLaws.{Keeps, rows-kept}
+use Rattle.added.specs.CoveredLaws.{lawful-found}
+use Rattle.added.specs.KeptRowsLaws.{built-same}
 
 -- the answer of lawful length and counts is that of the rows
 answer-of-rows : (avic : Bool) (s : List ℕ) → lawfulVerdict s ≡ Accepted → answer avic s ≡ builtFrom (rowsOf avic s)

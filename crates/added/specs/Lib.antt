@@ -1,5 +1,7 @@
 pub mod Added
 pub mod BeginningLaws
-pub mod KeptRows
+pub mod KeepsLaws
+pub mod CoveredLaws
+pub mod KeptRowsLaws
 pub mod AddedProof
 pub mod Decide

@@ -1,5 +1,5 @@
 -- Not empty words: page sets with entries added, byte by byte. Two keep an accepted answer, one a refusal by 8; the last, refused by 3, is let in.
-use mathlib.Core.Path.{_≡_, refl, ap, _∙_}
+use mathlib.Core.Path.{_≡_, refl}
 use mathlib.Core.Bool.{true, false}
 use mathlib.Core.List.{List, _++_}
 use Prim.Native.Nat.{ℕ}

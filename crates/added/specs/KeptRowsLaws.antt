@@ -1,6 +1,6 @@
 -- Rows that keep every row of others are answered as those are, once no required or needed row was missing.
 use mathlib.Core.Path.{_≡_, refl, sym, ap, _∙_, subst, fun-ext}
-use mathlib.Core.Bool.{Bool, true, false, _&&_}
+use mathlib.Core.Bool.{Bool, true, false}
 use Prim.Native.Nat.{ℕ, _+_, _≤_, _<_}
 use native.Mathlib.Nat.{le-antisymm}
 use native.Mathlib.Omega.{arith}
@@ -9,27 +9,24 @@ use lib.Dec.{ltb, lit<}
 use borrow.Author.Tests.{ltb-true, ltb-false}
 use Rattle.bits.specs.Choice.{pick}
 use Rattle.bits.specs.ChoiceLaws.{never-both}
-use Rattle.bits.specs.Search.{Failing, lowest}
-use Rattle.bits.specs.Search.Failing.{at, none}
+use Rattle.bits.specs.Search.{Failing}
 use Rattle.bits.specs.SearchLaws.{lowest-all}
 use Rattle.bits.specs.Bits.{has}
 use Rattle.bits.specs.BitsLaws.{within-refl}
-use Rattle.topology.specs.Topology.{topologyOf, processors, threadLevel, coreLevel}
 use Rattle.masking.specs.Kept.{places}
 use Rattle.masking.specs.Place
+use Rattle.topology.specs.Topology.{topologyOf, processors, threadLevel, coreLevel}
 use Rattle.table.specs.declared.CpuidResults.{CpuidResults}
-use Rattle.table.specs.declared.Refusal.{Refusal}
 use Rattle.table.specs.declared.Verdict.{Verdict}
 use Rattle.table.specs.declared.Verdict.the-variants.{Accepted, Refused}
-use Rattle.table.specs.Refusal.{details, andThen}
-use Rattle.table.specs.Rows.{Row, Rows, vacant}
+use Rattle.table.specs.Rows.{Row, Rows}
 use Rattle.table.specs.Table.{tableOf}
-use Rattle.checks.specs.Required.{placeRequired, requiredCount}
+use Rattle.checks.specs.Required.{placeRequired}
 use Rattle.checks.specs.ExtendedState.{xfem, xss, combinedMask, supplied, sumAt, saveArea}
 use Rattle.checks.specs.ExtendedStateLaws.{area-mono, in-combined}
 use Rattle.checks.specs.TopologyInputs.{inputsOf}
-use Rattle.checks.specs.Checks.{refuseAt, missingRequired, missingComponent, requiredVerdict, invlpgbVerdict, componentsOf, componentsVerdict, areaVerdict, topologyVerdict, rowsVerdict}
-use Rattle.checks.specs.ChecksLaws.{all-pass, required-present, present-required, component-present, then-skips}
+use Rattle.checks.specs.Checks.{refuseAt, missingComponent, requiredVerdict, invlpgbVerdict, componentsOf, componentsVerdict, areaVerdict, topologyVerdict, rowsVerdict}
+use Rattle.checks.specs.ChecksLaws.{all-pass, required-present, present-required, component-present}
 use Rattle.update.specs.Finish.{Rule, Settings, ruleAt, enabledBy, settings, finishRow, finished}
 use Rattle.update.specs.Finish.Rule.{made as madeRule, needed, component}
 use Rattle.update.specs.Kinds.{fromEntry}
@@ -38,29 +35,8 @@ use Rattle.update.specs.PlaceLaws.Sort.{made, required, subleaf}
 use Rattle.build.specs.Built.{tableFor, builtFrom}
 use Rattle.build.specs.Stages.{fromArea, fromComponents, fromInvlpgb}
 use Rattle.added.specs.Added.{Covered}
-use Rattle.added.specs.BeginningLaws.{Keeps}
-
--- ---- verdicts that are covered
-
--- a search whose refusals are not covered has found nothing
-found-none : (f : Failing) (r : ℕ → Refusal) (v : Verdict) → ((j : ℕ) → Covered (Refused (r j)) → ⊥) → Covered (andThen (refuseAt f r) v)
-    → refuseAt f r ≡ Accepted
-found-none (at j) r v not c = absurd (not j c)
-found-none none r v not c = refl
-
--- 3 is not
-required-found : (m : Rows) (v : Verdict) → Covered (andThen (requiredVerdict m) v) → requiredVerdict m ≡ Accepted
-unfolding requiredVerdict
-required-found m v = found-none (lowest (λ j. m (placeRequired j) .present) 0 requiredCount) missingRequired v (λ j c. omega (arith, c .0))
-
-components-found : (m : Rows) (v : Verdict) → Covered (andThen (componentsVerdict m) v) → componentsVerdict m ≡ Accepted
-unfolding componentsVerdict componentsOf
-components-found m v = found-none (lowest (supplied m (combinedMask m)) 2 62) missingComponent v (λ k c. omega (arith, c .0))
-
--- a check with the same verdict before checks that agree where they are asked
-then-same : (w v v′ : Verdict) → Covered (andThen w v) → (Covered v → v′ ≡ v) → andThen w v′ ≡ andThen w v
-then-same Accepted v v′ c f = f c
-then-same (Refused r) v v′ c f = refl
+use Rattle.added.specs.KeepsLaws.{Keeps}
+use Rattle.added.specs.CoveredLaws.{required-found, components-found, then-same}
 
 -- ---- rows of which the tables make nothing
 
