@@ -69,7 +69,9 @@ module _ (s u : List ℕ) (added : Added s u) where
       go : Begins (onPages s (suc p) n) (onPages u (suc p) m) → CountAfter s u p → Begins (onPages s p (suc n)) (onPages u p (suc m))
       go rest (same c) = record {
         more = rest .more;
-        whole = ap₂ _++_ (ap (onPage u p 0) c ∙ kept) (rest .whole) ∙ sym (append-assoc (onPage s p 0 (countOf s p)) (onPages s (suc p) n) (rest .more));
+        whole =
+            ap₂ _++_ (ap (onPage u p 0) c ∙ kept) (rest .whole)
+            ∙ sym (append-assoc (onPage s p 0 (countOf s p)) (onPages s (suc p) n) (rest .more));
       }
       go rest (raised last l) =
           let c : ℕ = countOf s p in

@@ -1,4 +1,4 @@
--- Added entries as a computed test, so that a pair of page sets can be shown to be one.
+-- Added entries by computation, so that a pair of page sets can be shown to be one. Entries whose 48 bytes are equal are equal in what is read.
 use mathlib.Core.Path.{_≡_, refl, sym, ap, _∙_}
 use mathlib.Core.Bool.{Bool, true, false, _&&_}
 use mathlib.Core.List.{List}
@@ -103,5 +103,8 @@ added-by-test s u v t e = record {
   lawful = v;
   pages = leb-true _ _ (and-left _ _ t);
   counts = λ p l. count-after s u p (every-at (countTest s u) (pagesIn s) (and-right (leb (pagesIn s) (pagesIn u)) _ t) p l);
-  entries = λ p q l h. entry-same s u p q (λ i k n. page-bytes s u p (tabulate-at (pagesIn s) (entryBytes s u) (entryBytes s s) e p l) i (omega arith) (omega arith));
+  entries = λ p q l h. entry-same s u p q (λ i k n. on-page p l i (omega arith) (omega arith));
 }
+  where
+    on-page : (p : ℕ) → p < pagesIn s → SameBytes s u (pageSize * p + firstEntry) (entrySize * countOf s p)
+    on-page p l = page-bytes s u p (tabulate-at (pagesIn s) (entryBytes s u) (entryBytes s s) e p l)

@@ -87,6 +87,9 @@ module _ (A B : Rows) (keeps : Keeps A B) (found : requiredVerdict A ≡ Accepte
         required-kept Place.processorTopologyDefinition (lit< tt) refl,
       )
 
+  sev-same : B Place.extendedSevFeatures .result .eax ≡ A Place.extendedSevFeatures .result .eax
+  sev-same = ap (λ (r : Row). r .result .eax) (required-kept Place.extendedSevFeatures (lit< tt) refl)
+
   topology-same : topologyVerdict B ≡ topologyVerdict A
   unfolding topologyVerdict
   topology-same = rw inputs-same
@@ -124,7 +127,7 @@ module _ (A B : Rows) (keeps : Keeps A B) (found : requiredVerdict A ≡ Accepte
     settings-same : settings B ≡ settings A
     unfolding settings enabledBy
     settings-same = λ k. record {
-      enabled = record { xfem = xfem-same k; xss = xss-same k; tscAux = has 9 (required-kept Place.extendedSevFeatures (lit< tt) refl k .result .eax) };
+      enabled = record { xfem = xfem-same k; xss = xss-same k; tscAux = has 9 (sev-same k) };
       saveArea = area-same k;
       threads = threadLevel (inputs-same k .t);
       cores = coreLevel (processors (topologyOf (inputs-same k)));
