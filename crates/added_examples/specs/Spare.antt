@@ -21,8 +21,8 @@ use Rattle.examples.specs.Evaluation.{evaluated}
 use Rattle.examples.specs.Computed.{serverA-accepted}
 
 -- server A's page 0, and its D.0 and D.1, then D.2
-abbrev first : List ℕ
-first = firstPage 0x3ED83203 0x219C07A9 0x3F
+abbrev page0 : List ℕ
+page0 = firstPage 0x3ED83203 0x219C07A9 0x3F
 
 abbrev states : List ℕ
 states = entry 0xD 0 0x7 0x340 0x340 0 ++ entry 0xD 1 0x7 0x340 0 0
@@ -34,7 +34,7 @@ avx = entry 0xD 2 0x100 0x240 0 0
 
 -- a second D.2, too large; D.9, whose bit is in neither mask; a leaf that is not kept
 unfoldable pub withEntries : List ℕ
-withEntries = first ++ page 6 (states ++ avx ++ entry 0xD 2 0xFFFFFFFF 1 0 0 ++ entry 0xD 9 0x8 0x980 0 0 ++ entry 0x80000021 0 0x4D 0 0 0)
+withEntries = page0 ++ page 6 (states ++ avx ++ entry 0xD 2 0xFFFFFFFF 1 0 0 ++ entry 0xD 9 0x8 0x980 0 0 ++ entry 0x80000021 0 0x4D 0 0 0)
 
 entries-lawful : lawfulVerdict withEntries ≡ Accepted
 unfolding lawfulVerdict lengthVerdict countsVerdict badLength countsFit withEntries
@@ -82,7 +82,7 @@ page-same = added-same false serverA withPage page-added (rw serverA-accepted tt
 
 -- two threads in each unit of one processor: 8000001Eh.EBX has t = 1, before server A's entries
 abbrev threaded : List ℕ
-threaded = page 23 (entry 0x8000001E 0 0 0x100 0 0 ++ take 1056 (drop 16 first))
+threaded = page 23 (entry 0x8000001E 0 0 0x100 0 0 ++ take 1056 (drop 16 page0))
 
 unfoldable pub twoThreads : List ℕ
 twoThreads = threaded ++ page 3 (states ++ avx)
@@ -117,7 +117,7 @@ threads-same = added-same false twoThreads oneThreadLater threads-added (rw thre
 
 -- server A without the D.2 that its mask needs
 unfoldable pub withoutD2 : List ℕ
-withoutD2 = first ++ page 2 states
+withoutD2 = page0 ++ page 2 states
 
 pub without-refused : answer false withoutD2 .verdict ≡ Refused (MissingRequiredResult ExtendedStateEnumeration (Some 2))
 unfolding evaluated withoutD2
