@@ -16,6 +16,7 @@ use Rattle.bits.specs.Lists.{tabulate}
 use Rattle.bits.specs.ListsLaws.{tabulate-at}
 use Rattle.x86defs.specs.Functions.{function, result}
 use Rattle.pages.specs.Layout.{pageSize, entrySize, firstEntry, wordAt, pagesIn, countOf, entryAt}
+use Rattle.table.specs.declared.Verdict.{Verdict}
 use Rattle.table.specs.declared.Verdict.the-variants.{Accepted}
 use Rattle.build.specs.Build.{lawfulVerdict}
 use Rattle.added.specs.Added.{LastWithEntries, CountAfter, Added}
@@ -91,20 +92,33 @@ page-bytes s u p e i l h = sym (at u) ∙ ap (λ (bytes : List ℕ). getD bytes 
         ∙ getD-drop o w (i - o) 0
         ∙ ap (λ (j : ℕ). getD w j 0) (omega arith)
 
-abbrev pub pageTest : List ℕ → List ℕ → Bool
+abbrev pageTest : List ℕ → List ℕ → Bool
 pageTest s u = leb (pagesIn s) (pagesIn u) && every (countTest s u) (pagesIn s)
 
--- the pages and counts by a test, the bytes by one equation
-abbrev pub bytesOfEntries : List ℕ → List ℕ → List (List ℕ)
+abbrev bytesOfEntries : List ℕ → List ℕ → List (List ℕ)
 bytesOfEntries s u = tabulate (pagesIn s) (entryBytes s u)
 
-pub added-by-test : (s u : List ℕ) → lawfulVerdict u ≡ Accepted → pageTest s u ≡ true → bytesOfEntries s u ≡ bytesOfEntries s s → Added s u
-added-by-test s u v t e = record {
-  lawful = v;
-  pages = leb-true _ _ (and-left _ _ t);
-  counts = λ p l. count-after s u p (every-at (countTest s u) (pagesIn s) (and-right (leb (pagesIn s) (pagesIn u)) _ t) p l);
+-- what is computed of the two, and what it has to be
+abbrev pub Figures : Type 0
+Figures = Verdict × Bool × List (List ℕ)
+
+abbrev pub figuresOf : List ℕ → List ℕ → Figures
+figuresOf s u = (lawfulVerdict u, pageTest s u, bytesOfEntries s u)
+
+abbrev pub figuresWanted : List ℕ → Figures
+figuresWanted s = (Accepted, true, bytesOfEntries s s)
+
+pub added-by-figures : (s u : List ℕ) → figuresOf s u ≡ figuresWanted s → Added s u
+added-by-figures s u e = record {
+  lawful = ap (λ (f : Figures). f .0) e;
+  pages = leb-true _ _ (and-left _ _ test);
+  counts = λ p l. count-after s u p (every-at (countTest s u) (pagesIn s) (and-right (leb (pagesIn s) (pagesIn u)) _ test) p l);
   entries = λ p q l h. entry-same s u p q (λ i k n. on-page p l i (omega arith) (omega arith));
 }
   where
+    test : pageTest s u ≡ true
+    test = ap (λ (f : Figures). f .1) e
+
     on-page : (p : ℕ) → p < pagesIn s → SameBytes s u (pageSize * p + firstEntry) (entrySize * countOf s p)
-    on-page p l = page-bytes s u p (tabulate-at (pagesIn s) (entryBytes s u) (entryBytes s s) e p l)
+    on-page p l =
+        page-bytes s u p (tabulate-at (pagesIn s) (entryBytes s u) (entryBytes s s) (ap (λ (f : Figures). f .2) e) p l)

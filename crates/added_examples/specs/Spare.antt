@@ -1,21 +1,19 @@
 -- Not empty words: page sets with entries added, byte by byte. Two keep an accepted answer, one a refusal by 8; the last, refused by 3, is let in.
 use mathlib.Core.Path.{_≡_, refl}
-use mathlib.Core.Bool.{true, false}
+use mathlib.Core.Bool.{false}
 use mathlib.Core.List.{List, _++_}
 use Prim.Native.Nat.{ℕ}
 use lib.Dec.{lit≤}
 use lib.ListN.{take, drop}
 use Rattle.x86defs.specs.Functions.{ExtendedStateEnumeration}
-use Rattle.bits.specs.Lists.{tabulate}
-use Rattle.pages.specs.Layout.{badLength, countsFit}
 use Rattle.topology.specs.declared.TopologyError.the-variants.{ThreadsPerUnit}
 use Rattle.table.specs.declared.Subleaf.the-variants.{Some}
 use Rattle.table.specs.declared.Refusal.the-variants.{MissingRequiredResult, TopologyInconsistent}
-use Rattle.table.specs.declared.Verdict.the-variants.{Accepted, Refused}
-use Rattle.build.specs.Build.{lengthVerdict, countsVerdict, lawfulVerdict, answer}
+use Rattle.table.specs.declared.Verdict.the-variants.{Refused}
+use Rattle.build.specs.Build.{answer}
 use Rattle.added.specs.Added.{Added}
 use Rattle.added.specs.AddedProof.{added-same}
-use Rattle.added.specs.Decide.{pageTest, bytesOfEntries, added-by-test}
+use Rattle.added.specs.Decide.{figuresOf, figuresWanted, added-by-figures}
 use Rattle.examples.specs.PageSets.{entry, page, firstPage, serverA}
 use Rattle.examples.specs.Evaluation.{evaluated}
 use Rattle.examples.specs.Computed.{serverA-accepted}
@@ -36,20 +34,12 @@ avx = entry 0xD 2 0x100 0x240 0 0
 unfoldable pub withEntries : List ℕ
 withEntries = page0 ++ page 6 (states ++ avx ++ entry 0xD 2 0xFFFFFFFF 1 0 0 ++ entry 0xD 9 0x8 0x980 0 0 ++ entry 0x80000021 0 0x4D 0 0 0)
 
-entries-lawful : lawfulVerdict withEntries ≡ Accepted
-unfolding lawfulVerdict lengthVerdict countsVerdict badLength countsFit withEntries
-entries-lawful = refl
-
-entries-counts : pageTest serverA withEntries ≡ true
-unfolding serverA withEntries
-entries-counts = refl
-
-entries-bytes : bytesOfEntries serverA withEntries ≡ bytesOfEntries serverA serverA
-unfolding tabulate serverA withEntries
-entries-bytes = refl
+entries-figures : figuresOf serverA withEntries ≡ figuresWanted serverA
+unfolding evaluated serverA withEntries
+entries-figures = refl
 
 pub entries-added : Added serverA withEntries
-entries-added = added-by-test serverA withEntries entries-lawful entries-counts entries-bytes
+entries-added = added-by-figures serverA withEntries entries-figures
 
 pub entries-same : answer false withEntries ≡ answer false serverA
 entries-same = added-same false serverA withEntries entries-added (rw serverA-accepted tt)
@@ -60,20 +50,12 @@ entries-same = added-same false serverA withEntries entries-added (rw serverA-ac
 unfoldable pub withPage : List ℕ
 withPage = serverA ++ page 2 (entry 1 0 0xFFFFFFFF 0xFFFFFFFF 0xFFFFFFFF 0xFFFFFFFF ++ entry 0xD 11 0x10 0 1 0)
 
-page-lawful : lawfulVerdict withPage ≡ Accepted
-unfolding lawfulVerdict lengthVerdict countsVerdict badLength countsFit withPage serverA
-page-lawful = refl
-
-page-counts : pageTest serverA withPage ≡ true
-unfolding serverA withPage
-page-counts = refl
-
-page-bytes : bytesOfEntries serverA withPage ≡ bytesOfEntries serverA serverA
-unfolding tabulate serverA withPage
-page-bytes = refl
+page-figures : figuresOf serverA withPage ≡ figuresWanted serverA
+unfolding evaluated serverA withPage
+page-figures = refl
 
 pub page-added : Added serverA withPage
-page-added = added-by-test serverA withPage page-lawful page-counts page-bytes
+page-added = added-by-figures serverA withPage page-figures
 
 pub page-same : answer false withPage ≡ answer false serverA
 page-same = added-same false serverA withPage page-added (rw serverA-accepted tt)
@@ -95,20 +77,12 @@ pub threads-refused : answer false twoThreads .verdict ≡ Refused (TopologyInco
 unfolding evaluated twoThreads
 threads-refused = refl
 
-threads-lawful : lawfulVerdict oneThreadLater ≡ Accepted
-unfolding lawfulVerdict lengthVerdict countsVerdict badLength countsFit oneThreadLater
-threads-lawful = refl
-
-threads-counts : pageTest twoThreads oneThreadLater ≡ true
-unfolding twoThreads oneThreadLater
-threads-counts = refl
-
-threads-bytes : bytesOfEntries twoThreads oneThreadLater ≡ bytesOfEntries twoThreads twoThreads
-unfolding tabulate twoThreads oneThreadLater
-threads-bytes = refl
+threads-figures : figuresOf twoThreads oneThreadLater ≡ figuresWanted twoThreads
+unfolding evaluated twoThreads oneThreadLater
+threads-figures = refl
 
 pub threads-added : Added twoThreads oneThreadLater
-threads-added = added-by-test twoThreads oneThreadLater threads-lawful threads-counts threads-bytes
+threads-added = added-by-figures twoThreads oneThreadLater threads-figures
 
 pub threads-same : answer false oneThreadLater ≡ answer false twoThreads
 threads-same = added-same false twoThreads oneThreadLater threads-added (rw threads-refused (lit≤ tt, lit≤ tt))
@@ -123,18 +97,10 @@ pub without-refused : answer false withoutD2 .verdict ≡ Refused (MissingRequir
 unfolding evaluated withoutD2
 without-refused = refl
 
-serverA-lawful : lawfulVerdict serverA ≡ Accepted
-unfolding lawfulVerdict lengthVerdict countsVerdict badLength countsFit serverA
-serverA-lawful = refl
-
-without-counts : pageTest withoutD2 serverA ≡ true
-unfolding withoutD2 serverA
-without-counts = refl
-
-without-bytes : bytesOfEntries withoutD2 serverA ≡ bytesOfEntries withoutD2 withoutD2
-unfolding tabulate withoutD2 serverA
-without-bytes = refl
+without-figures : figuresOf withoutD2 serverA ≡ figuresWanted withoutD2
+unfolding evaluated withoutD2 serverA
+without-figures = refl
 
 -- server A is this with an entry added, and is accepted (`serverA-accepted`)
 pub without-added : Added withoutD2 serverA
-without-added = added-by-test withoutD2 serverA serverA-lawful without-counts without-bytes
+without-added = added-by-figures withoutD2 serverA without-figures
