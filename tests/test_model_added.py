@@ -90,7 +90,7 @@ class AddedEntries(unittest.TestCase):
                     self.assertEqual(model.build(after, False), wanted)
 
     def test_what_is_not_read_may_differ(self):
-        """Reserved bytes, XCR0_IN, XSS_IN and bytes after the count are no part of an entry that is compared."""
+        """XCR0_IN, XSS_IN, bytes after the count and unused entries are no part of what is compared."""
         main, state = split(rich())
         self.assertTrue(added(pages(main, state), pages(main, state, fill=0xA5)))
 
