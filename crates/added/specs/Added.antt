@@ -2,10 +2,10 @@
 -- lawful counts and without raising the count of any but the last page that had entries. The answer must be the same, rows, mask and details.
 -- Neither 1, 2 nor 3 is covered, since a missing leaf may arrive."
 use mathlib.Core.Path.{_≡_}
-use mathlib.Core.Bool.{Bool}
 use mathlib.Core.List.{List}
 use Prim.Native.Nat.{ℕ, _≤_, _<_}
 use Rattle.pages.specs.Layout.{pagesIn, countOf, entryAt}
+use Rattle.table.specs.declared.Choices.{Choices}
 use Rattle.table.specs.declared.Verdict.{Verdict}
 use Rattle.table.specs.declared.Verdict.the-variants.{Accepted, Refused}
 use Rattle.table.specs.Refusal.{details}
@@ -39,9 +39,9 @@ Covered (Refused r) = (4 ≤ details r .number) × (details r .number ≤ 8)
 
 -- "The answer must be the same, rows, mask and details": the verdict with its details, and the whole table
 abbrev pub AddedChangesNothing : Type 0
-AddedChangesNothing = (avic : Bool) (s u : List ℕ) → Added s u → Covered (answer avic s .verdict) → answer avic u ≡ answer avic s
+AddedChangesNothing = (chosen : Choices) (s u : List ℕ) → Added s u → Covered (answer chosen s .verdict) → answer chosen u ≡ answer chosen s
 
 -- so a guest may move from an accepted server to the same one with entries added, and back (demand 3's hypothesis)
 abbrev pub AddedRisesBothWays : Type 0
 AddedRisesBothWays =
-    (avic : Bool) (s u : List ℕ) → Added s u → answer avic s .verdict ≡ Accepted → RiseHypothesis avic s u × RiseHypothesis avic u s
+    (chosen : Choices) (s u : List ℕ) → Added s u → answer chosen s .verdict ≡ Accepted → RiseHypothesis chosen s u × RiseHypothesis chosen u s

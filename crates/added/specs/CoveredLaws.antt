@@ -1,4 +1,4 @@
--- What a verdict that is covered says of its checks: neither 1, 2 nor 3 was given.
+-- What a verdict that is covered says of its checks: neither 15, 1, 2 nor 3 was given.
 use mathlib.Core.Path.{_≡_, refl}
 use mathlib.Core.Bool.{Bool, true, false, not}
 use mathlib.Core.List.{List}
@@ -7,19 +7,29 @@ use native.Mathlib.Omega.{arith}
 use Rattle.bits.specs.Search.Failing.{at, none}
 use Rattle.bits.specs.Search.{Failing, lowest}
 use Rattle.pages.specs.Layout.{badLength, countsFit}
-use Rattle.table.specs.declared.Refusal.the-variants.{PagesLength, PageCount}
+use Rattle.table.specs.declared.Refusal.the-variants.{UnknownEdition, PagesLength, PageCount}
 use Rattle.table.specs.declared.Refusal.{Refusal}
 use Rattle.table.specs.declared.Verdict.the-variants.{Accepted, Refused}
 use Rattle.table.specs.declared.Verdict.{Verdict}
+use Rattle.table.specs.Edition.{knownEdition}
 use Rattle.table.specs.Refusal.{andThen}
 use Rattle.table.specs.Rows.{Rows}
 use Rattle.checks.specs.Checks.{refuseAt, missingRequired, missingComponent, requiredVerdict, componentsOf, componentsVerdict, refuseUnless}
 use Rattle.checks.specs.ExtendedState.{combinedMask, supplied}
 use Rattle.checks.specs.Required.{placeRequired, requiredCount}
-use Rattle.build.specs.Build.{lengthVerdict, countsVerdict, lawfulVerdict}
+use Rattle.build.specs.Build.{editionVerdict, lengthVerdict, countsVerdict, lawfulVerdict}
 use Rattle.added.specs.Added.{Covered}
 
--- neither 1 nor 2 is covered
+-- 15 is not covered
+pub edition-found : (n : ℕ) (v : Verdict) → Covered (andThen (editionVerdict n) v) → editionVerdict n ≡ Accepted
+unfolding editionVerdict
+edition-found n v = go (knownEdition n)
+  where
+    go : (p : Bool) → Covered (andThen (refuseUnless p UnknownEdition) v) → refuseUnless p UnknownEdition ≡ Accepted
+    go true c = refl
+    go false c = absurd (omega (arith, c .1))
+
+-- neither 1 nor 2 is
 pub lawful-found : (s : List ℕ) (v : Verdict) → Covered (andThen (lawfulVerdict s) v) → lawfulVerdict s ≡ Accepted
 unfolding lawfulVerdict lengthVerdict countsVerdict
 lawful-found s v = go (not (badLength s)) (countsFit s)
@@ -36,7 +46,7 @@ search-passes : (f : Failing) (r : ℕ → Refusal) (v : Verdict) → ((j : ℕ)
 search-passes (at j) r v not c = absurd (not j c)
 search-passes none r v not c = refl
 
--- 3 is not covered
+-- nor is 3
 pub required-found : (m : Rows) (v : Verdict) → Covered (andThen (requiredVerdict m) v) → requiredVerdict m ≡ Accepted
 unfolding requiredVerdict
 required-found m v = search-passes (lowest (λ j. m (placeRequired j) .present) 0 requiredCount) missingRequired v (λ j c. omega (arith, c .0))

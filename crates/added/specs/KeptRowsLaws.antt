@@ -27,7 +27,7 @@ use Rattle.checks.specs.ExtendedStateLaws.{area-mono, in-combined}
 use Rattle.checks.specs.TopologyInputs.{inputsOf}
 use Rattle.checks.specs.Checks.{refuseAt, missingComponent, requiredVerdict, invlpgbVerdict, componentsOf, componentsVerdict, areaVerdict, topologyVerdict, rowsVerdict}
 use Rattle.checks.specs.ChecksLaws.{all-pass, required-present, present-required, component-present}
-use Rattle.update.specs.Finish.{Rule, Settings, ruleAt, enabledBy, settings, finishRow, finished}
+use Rattle.update.specs.Finish.{Rule, Settings, ruleAt, enabledBy, ymmClears, settings, finishRow, finished}
 use Rattle.update.specs.Finish.Rule.{made as madeRule, needed, component}
 use Rattle.update.specs.Kinds.{fromEntry}
 use Rattle.update.specs.PlaceLaws.{always, required-place, position, always-required, component-rule, Sort, sort}
@@ -124,51 +124,54 @@ module _ (A B : Rows) (keeps : Keeps A B) (found : requiredVerdict A ≡ Accepte
     unfolding areaVerdict
     area-verdict-same = rw area-same
 
-    settings-same : settings B ≡ settings A
-    unfolding settings enabledBy
-    settings-same = λ k. record {
-      enabled = record { xfem = xfem-same k; xss = xss-same k; tscAux = has 9 (sev-same k) };
-      saveArea = area-same k;
-      threads = threadLevel (inputs-same k .t);
-      cores = coreLevel (processors (topologyOf (inputs-same k)));
-    }
+    -- the table, under edition n
+    module _ (n : ℕ) where
+      settings-same : settings n B ≡ settings n A
+      unfolding settings enabledBy
+      settings-same = λ k. record {
+        clears = ymmClears n;
+        enabled = record { xfem = xfem-same k; xss = xss-same k; tscAux = has 9 (sev-same k) };
+        saveArea = area-same k;
+        threads = threadLevel (inputs-same k .t);
+        cores = coreLevel (processors (topologyOf (inputs-same k)));
+      }
 
-    -- a row of the table, under the settings of A
-    abbrev Same : ℕ → Type 0
-    Same i = finishRow (settings A) (ruleAt i) (B i) ≡ finishRow (settings A) (ruleAt i) (A i)
+      -- a row of the table, under the settings of A
+      abbrev Same : ℕ → Type 0
+      Same i = finishRow (settings n A) (ruleAt i) (B i) ≡ finishRow (settings n A) (ruleAt i) (A i)
 
-    kept-same : (i : ℕ) → B i ≡ A i → Same i
-    kept-same i e = ap (finishRow (settings A) (ruleAt i)) e
+      kept-same : (i : ℕ) → B i ≡ A i → Same i
+      kept-same i e = ap (finishRow (settings n A) (ruleAt i)) e
 
-    -- a subleaf stays as it was, or goes for want of its bit
-    subleaf-same : (i k : ℕ) → i ≡ Place.extendedState k → 2 ≤ k → k < 64 → Same i
-    unfolding settings enabledBy combinedMask
-    subleaf-same i k e l u = go (has k (combinedMask A)) refl
-      where
-        go : (b : Bool) → has k (combinedMask A) ≡ b → Same i
-        go true h = kept-same i (subst (λ (n : ℕ). B n ≡ A n) (sym e) (component-kept k l u h))
-        go false h =
-            subst (λ (t : Rule). finishRow (settings A) t (B i) ≡ finishRow (settings A) t (A i)) (sym (ap ruleAt e ∙ component-rule k l u))
-            (unused-same (settings A) k (A i) (B i) h)
+      -- a subleaf stays as it was, or goes for want of its bit
+      subleaf-same : (i k : ℕ) → i ≡ Place.extendedState k → 2 ≤ k → k < 64 → Same i
+      unfolding settings enabledBy combinedMask
+      subleaf-same i k e l u = go (has k (combinedMask A)) refl
+        where
+          go : (b : Bool) → has k (combinedMask A) ≡ b → Same i
+          go true h = kept-same i (subst (λ (n : ℕ). B n ≡ A n) (sym e) (component-kept k l u h))
+          go false h =
+              subst (λ (t : Rule). finishRow (settings n A) t (B i) ≡ finishRow (settings n A) t (A i)) (sym (ap ruleAt e ∙ component-rule k l u))
+              (unused-same (settings n A) k (A i) (B i) h)
 
-    row-same : (i : ℕ) → Same i
-    row-same i = go (ltb i places) refl
-      where
-        inside : i < places → Sort i → Same i
-        inside h (made e) = made-same (settings A) (ruleAt i) (A i) (B i) e
-        inside h (required e) = kept-same i (required-kept i h e)
-        inside h (subleaf k e l u) = subleaf-same i k e l u
+      row-same : (i : ℕ) → Same i
+      row-same i = go (ltb i places) refl
+        where
+          inside : i < places → Sort i → Same i
+          inside h (made e) = made-same (settings n A) (ruleAt i) (A i) (B i) e
+          inside h (required e) = kept-same i (required-kept i h e)
+          inside h (subleaf k e l u) = subleaf-same i k e l u
 
-        go : (b : Bool) → ltb i places ≡ b → Same i
-        go true e = inside (ltb-true i places e) (sort i (ltb-true i places e))
-        go false e = kept-same i (keeps .beyond i (ltb-false i places e))
+          go : (b : Bool) → ltb i places ≡ b → Same i
+          go true e = inside (ltb-true i places e) (sort i (ltb-true i places e))
+          go false e = kept-same i (keeps .beyond i (ltb-false i places e))
 
-    finished-same : finished B ≡ finished A
-    unfolding finished
-    finished-same = fun-ext (λ i. ap (λ (c : Settings). finishRow c (ruleAt i) (B i)) settings-same ∙ row-same i)
+      finished-same : finished n B ≡ finished n A
+      unfolding finished
+      finished-same = fun-ext (λ i. ap (λ (c : Settings). finishRow c (ruleAt i) (B i)) settings-same ∙ row-same i)
 
-    table-same : tableOf (finished B) (combinedMask B) ≡ tableOf (finished A) (combinedMask A)
-    table-same = rw (finished-same, mask-same)
+      table-same : tableOf (finished n B) (combinedMask B) ≡ tableOf (finished n A) (combinedMask A)
+      table-same = rw (finished-same, mask-same)
 
 -- ---- the whole answer
 
@@ -188,11 +191,11 @@ module _ (A B : Rows) (keeps : Keeps A B) (covered : Covered (rowsVerdict A)) wh
       rw (required-same A B keeps found, found, invlpgb-same A B keeps found)
       (then-same (invlpgbVerdict A) (fromComponents A) (fromComponents B) (rw found at covered) from-components)
 
-  -- the table of an accepted one; a refused one is empty
-  table-for : (v : Verdict) → rowsVerdict A ≡ v → tableFor v B ≡ tableFor v A
-  table-for Accepted e = table-same A B keeps (all-pass A e .required) (all-pass A e .components)
-  table-for (Refused r) e = refl
+  -- the table of an accepted one, under edition n; a refused one is empty
+  table-for : (n : ℕ) (v : Verdict) → rowsVerdict A ≡ v → tableFor n v B ≡ tableFor n v A
+  table-for n Accepted e = table-same A B keeps (all-pass A e .required) (all-pass A e .components) n
+  table-for n (Refused r) e = refl
 
-  pub built-same : builtFrom B ≡ builtFrom A
+  pub built-same : (n : ℕ) → builtFrom n B ≡ builtFrom n A
   unfolding builtFrom
-  built-same = rw verdict-same (ap (λ (t : CpuidResults). record { verdict = rowsVerdict A; table = t }) (table-for (rowsVerdict A) refl))
+  built-same n = rw verdict-same (ap (λ (t : CpuidResults). record { verdict = rowsVerdict A; table = t }) (table-for n (rowsVerdict A) refl))

@@ -1,6 +1,5 @@
 -- Not empty words: page sets with entries added, byte by byte. Two keep an accepted answer, one a refusal by 8; the last, refused by 3, is let in.
 use mathlib.Core.Path.{_≡_, refl}
-use mathlib.Core.Bool.{false}
 use mathlib.Core.List.{List, _++_}
 use Prim.Native.Nat.{ℕ}
 use lib.Dec.{lit≤}
@@ -15,7 +14,7 @@ use Rattle.added.specs.Added.{Added}
 use Rattle.added.specs.AddedProof.{added-same}
 use Rattle.added.specs.Decide.{figuresOf, figuresWanted, added-by-figures}
 use Rattle.examples.specs.PageSets.{entry, page, firstPage, serverA}
-use Rattle.examples.specs.Evaluation.{evaluated}
+use Rattle.examples.specs.Evaluation.{first, evaluated}
 use Rattle.examples.specs.Computed.{serverA-accepted}
 
 -- server A's page 0, and its D.0 and D.1, then D.2
@@ -41,8 +40,8 @@ entries-figures = refl
 pub entries-added : Added serverA withEntries
 entries-added = added-by-figures serverA withEntries entries-figures
 
-pub entries-same : answer false withEntries ≡ answer false serverA
-entries-same = added-same false serverA withEntries entries-added (rw serverA-accepted tt)
+pub entries-same : answer first withEntries ≡ answer first serverA
+entries-same = added-same first serverA withEntries entries-added (rw serverA-accepted tt)
 
 -- ---- a page added at the end
 
@@ -57,8 +56,8 @@ page-figures = refl
 pub page-added : Added serverA withPage
 page-added = added-by-figures serverA withPage page-figures
 
-pub page-same : answer false withPage ≡ answer false serverA
-page-same = added-same false serverA withPage page-added (rw serverA-accepted tt)
+pub page-same : answer first withPage ≡ answer first serverA
+page-same = added-same first serverA withPage page-added (rw serverA-accepted tt)
 
 -- ---- refused by 8
 
@@ -73,7 +72,7 @@ twoThreads = threaded ++ page 3 (states ++ avx)
 unfoldable pub oneThreadLater : List ℕ
 oneThreadLater = threaded ++ page 4 (states ++ avx ++ entry 0x8000001E 0 0 0 0 0)
 
-pub threads-refused : answer false twoThreads .verdict ≡ Refused (TopologyInconsistent ThreadsPerUnit)
+pub threads-refused : answer first twoThreads .verdict ≡ Refused (TopologyInconsistent ThreadsPerUnit)
 unfolding evaluated twoThreads
 threads-refused = refl
 
@@ -84,8 +83,8 @@ threads-figures = refl
 pub threads-added : Added twoThreads oneThreadLater
 threads-added = added-by-figures twoThreads oneThreadLater threads-figures
 
-pub threads-same : answer false oneThreadLater ≡ answer false twoThreads
-threads-same = added-same false twoThreads oneThreadLater threads-added (rw threads-refused (lit≤ tt, lit≤ tt))
+pub threads-same : answer first oneThreadLater ≡ answer first twoThreads
+threads-same = added-same first twoThreads oneThreadLater threads-added (rw threads-refused (lit≤ tt, lit≤ tt))
 
 -- ---- refused by 3, which is not covered
 
@@ -93,7 +92,7 @@ threads-same = added-same false twoThreads oneThreadLater threads-added (rw thre
 unfoldable pub withoutD2 : List ℕ
 withoutD2 = page0 ++ page 2 states
 
-pub without-refused : answer false withoutD2 .verdict ≡ Refused (MissingRequiredResult ExtendedStateEnumeration (Some 2))
+pub without-refused : answer first withoutD2 .verdict ≡ Refused (MissingRequiredResult ExtendedStateEnumeration (Some 2))
 unfolding evaluated withoutD2
 without-refused = refl
 
