@@ -3,6 +3,7 @@
 Run: python3 -m unittest discover -s tests
 """
 from pathlib import Path
+import itertools
 import random
 import unittest
 
@@ -69,15 +70,15 @@ class AddedEntries(unittest.TestCase):
     def test_answer_stays(self):
         draw = random.Random(9)
         for source in sets():
-            for secure_avic in False, True:
-                wanted = model.build(source, secure_avic)
+            for secure_avic, edition in itertools.product((False, True), (1, 2)):
+                wanted = model.build(source, secure_avic, edition)
                 room = PAGE_ENTRIES - max(model.page_counts(source))
                 for _ in range(12):
                     spare = [draw_entry(draw) for _ in range(draw.randrange(room + 1))]
                     further = [[draw_entry(draw) for _ in range(draw.choice([0, 1, 5, 64]))] for _ in range(draw.randrange(4))]
                     after = grown(source, spare, further)
                     self.assertTrue(added(source, after))
-                    self.assertEqual(model.build(after, secure_avic), wanted)
+                    self.assertEqual(model.build(after, secure_avic, edition), wanted)
 
     def test_every_row_again_changes_nothing(self):
         """Each kept leaf and subleaf once more, with other registers: the first entry has won. Dh subleaves without their bit stay away."""
