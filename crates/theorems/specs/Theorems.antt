@@ -13,7 +13,7 @@ use Rattle.table.specs.declared.Choices.{Choices}
 use Rattle.table.specs.declared.Subleaf.{Subleaf}
 use Rattle.table.specs.declared.Subleaf.the-variants.{None, Some}
 use Rattle.table.specs.declared.Refusal.{Refusal}
-use Rattle.table.specs.declared.Refusal.the-variants.{UnknownEdition, EditionBack, PagesLength, MissingRequiredResult, SaveAreaOverflow, BufferTooShort, ListLength, ListRows, ListFields, StateBeyondTable, CompactSizeTooLarge}
+use Rattle.table.specs.declared.Refusal.the-variants.{UnknownEdition, EditionBack, PagesLength, MissingRequiredResult, SaveAreaOverflow, TopologyInconsistent, BufferTooShort, ListLength, ListRows, ListFields, StateBeyondTable, CompactSizeTooLarge}
 use Rattle.table.specs.declared.CpuidResults.{CpuidResults}
 use Rattle.table.specs.Rows.{Rows}
 use Rattle.table.specs.Table.{emptyTable, rowIn, rowsIn}
@@ -105,6 +105,12 @@ use Rattle.carried.specs.Moves.{MovesToSecond}
 use Rattle.carried.specs.MovesProof.{moves-to-second}
 use Rattle.carried.specs.CarryExactly.{CarryExactly, carry-exactly}
 use Rattle.carry_examples.specs.WithoutYmmMoved as Moved
+use Rattle.topology.specs.declared.TopologyError.the-variants.{ThreadsPerUnit}
+use Rattle.pages.specs.Layout.{Entry}
+use Rattle.added.specs.Added.{Added, Covered}
+use Rattle.added.specs.BeginningLaws.{entries-begin}
+use Rattle.added.specs.AddedProof.{added-same, added-rises}
+use Rattle.added_examples.specs.Spare as Spare
 use Rattle.examples.specs.KvmLists as KvmLists
 use Rattle.examples.specs.Evaluation.{first}
 use Rattle.examples.specs.PageSets.{serverA, serverB, serverWithoutD12, serverWithLargeD6}
@@ -337,6 +343,38 @@ exception-outcome = Exception.plain-outcome
 -- compacted sizes: order, alignment of the start, the largest that is given and the first that is not. crates/guest_examples/specs/CompactSizes.antt
 pub compacted-sizes : sizes ≡ 576 ∷ 832 ∷ 840 ∷ 856 ∷ 920 ∷ 856 ∷ 0xFFFFFFFF ∷ 0x100000000 ∷ []
 compacted-sizes = sizes-are
+
+-- ---- P9: added entries change no answer. crates/added/specs/Added.antt has what it is to add entries, and which verdicts are covered.
+
+-- of a page set that is accepted or refused by 4 to 8: the verdict with its details, every row and the combined mask
+pub added-entries-change-nothing : (chosen : Choices) (s u : List ℕ) → Added s u → Covered (answer chosen s .verdict) → answer chosen u ≡ answer chosen s
+added-entries-change-nothing = added-same
+
+-- the entries before are a beginning of the entries after, each with its page and position
+pub added-entries-follow : (s u : List ℕ) → Added s u → (more : List Entry) × (entries u ≡ entries s ++ more)
+added-entries-follow s u added = (entries-begin s u added .more, entries-begin s u added .whole)
+
+-- an accepted server and the same one with entries added rise to each other
+pub added-entries-rise-both-ways : (chosen : Choices) (s u : List ℕ) → Added s u → answer chosen s .verdict ≡ Accepted
+    → RiseHypothesis chosen s u × RiseHypothesis chosen u s
+added-entries-rise-both-ways = added-rises
+
+-- Not empty words. crates/added_examples/specs/Spare.antt: server A with three entries added on its last page, and with a page added
+pub a-with-entries : Added serverA Spare.withEntries × (answer first Spare.withEntries ≡ answer first serverA)
+a-with-entries = (Spare.entries-added, Spare.entries-same)
+
+pub a-with-a-page : Added serverA Spare.withPage × (answer first Spare.withPage ≡ answer first serverA)
+a-with-a-page = (Spare.page-added, Spare.page-same)
+
+-- refused by 8, and the same with an entry added
+pub threads-with-an-entry : (answer first Spare.twoThreads .verdict ≡ Refused (TopologyInconsistent ThreadsPerUnit))
+    × Added Spare.twoThreads Spare.oneThreadLater × (answer first Spare.oneThreadLater ≡ answer first Spare.twoThreads)
+threads-with-an-entry = (Spare.threads-refused, Spare.threads-added, Spare.threads-same)
+
+-- 3 is not covered: server A without D.2 is refused, and server A is this with an entry added
+pub missing-leaf-arrives : (answer first Spare.withoutD2 .verdict ≡ Refused (MissingRequiredResult ExtendedStateEnumeration (Some 2)))
+    × Added Spare.withoutD2 serverA × (answer first serverA .verdict ≡ Accepted)
+missing-leaf-arrives = (Spare.without-refused, Spare.without-added, Computed.serverA-accepted)
 
 -- ---- The fourteen marked rows of document 01, T1 to T10, X1 to X3 (two figures) and C1. crates/examples/specs/MarkedRows.antt.
 

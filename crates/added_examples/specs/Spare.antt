@@ -1,0 +1,105 @@
+-- Not empty words: page sets with entries added, byte by byte. Two keep an accepted answer, one a refusal by 8; the last, refused by 3, is let in.
+use mathlib.Core.Path.{_≡_, refl}
+use mathlib.Core.List.{List, _++_}
+use Prim.Native.Nat.{ℕ}
+use lib.Dec.{lit≤}
+use lib.ListN.{take, drop}
+use Rattle.x86defs.specs.Functions.{ExtendedStateEnumeration}
+use Rattle.topology.specs.declared.TopologyError.the-variants.{ThreadsPerUnit}
+use Rattle.table.specs.declared.Subleaf.the-variants.{Some}
+use Rattle.table.specs.declared.Refusal.the-variants.{MissingRequiredResult, TopologyInconsistent}
+use Rattle.table.specs.declared.Verdict.the-variants.{Refused}
+use Rattle.build.specs.Build.{answer}
+use Rattle.added.specs.Added.{Added}
+use Rattle.added.specs.AddedProof.{added-same}
+use Rattle.added.specs.Decide.{figuresOf, figuresWanted, added-by-figures}
+use Rattle.examples.specs.PageSets.{entry, page, firstPage, serverA}
+use Rattle.examples.specs.Evaluation.{first, evaluated}
+use Rattle.examples.specs.Computed.{serverA-accepted}
+
+-- server A's page 0, and its D.0 and D.1, then D.2
+abbrev page0 : List ℕ
+page0 = firstPage 0x3ED83203 0x219C07A9 0x3F
+
+abbrev states : List ℕ
+states = entry 0xD 0 0x7 0x340 0x340 0 ++ entry 0xD 1 0x7 0x340 0 0
+
+abbrev avx : List ℕ
+avx = entry 0xD 2 0x100 0x240 0 0
+
+-- ---- entries added on the last page
+
+-- a second D.2, too large; D.9, whose bit is in neither mask; a leaf that is not kept
+unfoldable pub withEntries : List ℕ
+withEntries = page0 ++ page 6 (states ++ avx ++ entry 0xD 2 0xFFFFFFFF 1 0 0 ++ entry 0xD 9 0x8 0x980 0 0 ++ entry 0x80000021 0 0x4D 0 0 0)
+
+entries-figures : figuresOf serverA withEntries ≡ figuresWanted serverA
+unfolding evaluated serverA withEntries
+entries-figures = refl
+
+pub entries-added : Added serverA withEntries
+entries-added = added-by-figures serverA withEntries entries-figures
+
+pub entries-same : answer first withEntries ≡ answer first serverA
+entries-same = added-same first serverA withEntries entries-added (rw serverA-accepted tt)
+
+-- ---- a page added at the end
+
+-- another leaf 1, and D.11, which does not count on page 2
+unfoldable pub withPage : List ℕ
+withPage = serverA ++ page 2 (entry 1 0 0xFFFFFFFF 0xFFFFFFFF 0xFFFFFFFF 0xFFFFFFFF ++ entry 0xD 11 0x10 0 1 0)
+
+page-figures : figuresOf serverA withPage ≡ figuresWanted serverA
+unfolding evaluated serverA withPage
+page-figures = refl
+
+pub page-added : Added serverA withPage
+page-added = added-by-figures serverA withPage page-figures
+
+pub page-same : answer first withPage ≡ answer first serverA
+page-same = added-same first serverA withPage page-added (rw serverA-accepted tt)
+
+-- ---- refused by 8
+
+-- two threads in each unit of one processor: 8000001Eh.EBX has t = 1, before server A's entries
+abbrev threaded : List ℕ
+threaded = page 23 (entry 0x8000001E 0 0 0x100 0 0 ++ take 1056 (drop 16 page0))
+
+unfoldable pub twoThreads : List ℕ
+twoThreads = threaded ++ page 3 (states ++ avx)
+
+-- the same, with the right t too late
+unfoldable pub oneThreadLater : List ℕ
+oneThreadLater = threaded ++ page 4 (states ++ avx ++ entry 0x8000001E 0 0 0 0 0)
+
+pub threads-refused : answer first twoThreads .verdict ≡ Refused (TopologyInconsistent ThreadsPerUnit)
+unfolding evaluated twoThreads
+threads-refused = refl
+
+threads-figures : figuresOf twoThreads oneThreadLater ≡ figuresWanted twoThreads
+unfolding evaluated twoThreads oneThreadLater
+threads-figures = refl
+
+pub threads-added : Added twoThreads oneThreadLater
+threads-added = added-by-figures twoThreads oneThreadLater threads-figures
+
+pub threads-same : answer first oneThreadLater ≡ answer first twoThreads
+threads-same = added-same first twoThreads oneThreadLater threads-added (rw threads-refused (lit≤ tt, lit≤ tt))
+
+-- ---- refused by 3, which is not covered
+
+-- server A without the D.2 that its mask needs
+unfoldable pub withoutD2 : List ℕ
+withoutD2 = page0 ++ page 2 states
+
+pub without-refused : answer first withoutD2 .verdict ≡ Refused (MissingRequiredResult ExtendedStateEnumeration (Some 2))
+unfolding evaluated withoutD2
+without-refused = refl
+
+without-figures : figuresOf withoutD2 serverA ≡ figuresWanted withoutD2
+unfolding evaluated withoutD2 serverA
+without-figures = refl
+
+-- server A is this with an entry added, and is accepted (`serverA-accepted`)
+pub without-added : Added withoutD2 serverA
+without-added = added-by-figures withoutD2 serverA without-figures

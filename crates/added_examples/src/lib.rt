@@ -1,0 +1,1 @@
+// Page sets with entries added, computed: no code.
