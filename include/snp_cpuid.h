@@ -32,6 +32,7 @@ extern "C" {
  *                                                  13 XCR0 or XSS is beyond the table
  *                                                  14 a compacted save-area size overflows
  *                                                  15 the edition is neither 1 nor 2: before all others
+ *                                                  16 a table goes from edition 2 back to 1: after 15, before 13 and 14
  * A leaf, subleaf or s that the number does not name is 0. */
 
 /* What building gives. A refused table has row_count 0 and max_extended_state 0. */
@@ -99,6 +100,13 @@ struct snp_cpuid_line_read {
     uint32_t s;
 };
 
+/* What carrying an image gives: is_image 0 and number 0 where the bytes are no table's image, which is no numbered refusal; else is_image 1 with
+ * number 0, or 13 to 16. */
+struct snp_cpuid_carried {
+    uint32_t is_image;
+    uint32_t number;
+};
+
 /* The most bytes that an image can have, and a list for KVM; and the two pages that a list is read into. */
 #define SNP_CPUID_MOST_IMAGE_BYTES 732
 #define SNP_CPUID_MOST_KVM_BYTES 1288
@@ -160,9 +168,18 @@ struct snp_cpuid_written snp_cpuid_write_guest_image(const uint8_t *pages, size_
 struct snp_cpuid_compared snp_cpuid_compare(const uint8_t *a, size_t a_length, const uint8_t *b, size_t b_length, bool secure_avic,
                                             uint32_t edition);
 
+/* Takes a running table from one edition to another, on a processor with this XCR0 and XSS. The table is handed over as its image, the length bytes
+ * at image, and rewritten in place. From 1 to 2, F16C, XOP and FMA4 are cleared where the table's own D.0.EAX lacks bit 2, rows that it lacks reading
+ * as zeros, and nothing else changes; within one edition nothing does. So the image that snp_cpuid_write_image wrote of pages under edition 1 becomes
+ * the one that edition 2 makes of them, and both save sizes of the processor's guest stay. The image may be any table's: bytes are one where they are
+ * rows as snp_cpuid_write_image lays them out, of leaves and subleaves that a table can have, ascending, each at most once, and none is left over. No
+ * bytes are the image of a table without rows. Refusals in this order: 15 where either edition is neither 1 nor 2; 16 from 2 to 1; then 13 and 14,
+ * as a guest has them, by the table's own rows, also within one edition. Where it refuses, or the bytes are no image, they are as they were. */
+struct snp_cpuid_carried snp_cpuid_carry(uint8_t *image, size_t length, uint32_t from, uint32_t to, uint64_t xcr0, uint64_t xss);
+
 /* A refusal as one line of ASCII: the number in decimal, then, each after one space, the details that it names, leaf in eight hexadecimal capitals,
  * subleaf (left out where there is none) and s in decimal, and a newline. The numbers in use, by what they name:
- *   nothing: 1 2 4 5 8 9 10 11 12 13 14 15
+ *   nothing: 1 2 4 5 8 9 10 11 12 13 14 15 16
  *   leaf and subleaf: 3
  *   s: 6 7
  * Writes the line at the front of out. subleaf is read only where has_subleaf is true. There is no such line where the number is not in use, s is

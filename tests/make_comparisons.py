@@ -1,24 +1,17 @@
 """Makes rust/tests/comparisons.txt: pairs of page sets, each with the answer of model.py to whether a guest of A may move to B.
 
-make_comparisons.py           writes the file
-make_comparisons.py --check   compares the file with what it makes
-
 A line is the secure-AVIC choice (0 or 1), the edition in decimal, the edits that make A and those that make B of tests/epyc-milan.pages, and the
-answer. Edits are - for none, or in a row, with commas: #LENGTH cuts the set or fills it up with zeros, @OFFSET:BYTES writes bytes. Offsets and bytes
-are hexadecimal, as leaves are; a subleaf of - is none.
+answer. Leaves are hexadecimal; a subleaf of - is none.
 """
-from collections import Counter
 from itertools import product
-from pathlib import Path
 import struct
 import sys
 
 import model
-from make_vectors import differences
 from pagesets import PAGE_ENTRIES, PAGE_SIZE, STATE
+import replayed
+from replayed import MILAN, edits
 
-FILE = Path(__file__).resolve().parent.parent / 'rust' / 'tests' / 'comparisons.txt'
-MILAN = Path(__file__).with_name('epyc-milan.pages').read_bytes()
 FILTERED = 0x40000000
 ALL = 0xFFFFFFFF
 REGISTERS = [model.EAX, model.EBX, model.ECX, model.EDX]
@@ -192,14 +185,6 @@ def unknown_editions():
 
 # The file
 
-def edits(data):
-    """How `data` is made of the shipped set."""
-    base = MILAN[:len(data)] + bytes(max(0, len(data) - len(MILAN)))
-    words = [f'#{len(data)}'] if len(data) != len(MILAN) else []
-    words += [f'@{start:x}:{part.hex()}' for start, part in differences(base, data)]
-    return ','.join(words) or '-'
-
-
 def told(answer):
     kind, *details = answer
     words = [kind.replace(' ', '-').lower()]
@@ -225,20 +210,10 @@ def pairs_of(*groups, edition=1):
 def main(words):
     pairs = pairs_of(*GROUPS) + pairs_of(*AGAIN, edition=2)
     answers = [model.compare(*pair) for pair in pairs]
-    lines = [' '.join([str(int(choice)), str(edition), edits(a), edits(b), *told(answer)])
+    lines = [' '.join([str(int(choice)), str(edition), edits(MILAN, a), edits(MILAN, b), *told(answer)])
              for (a, b, choice, edition), answer in zip(pairs, answers)]
-    made = ''.join(line + '\n' for line in lines).encode()
-    counts = Counter(answer[0] for answer in answers)
-    if len(counts) < 5:
-        print(f'only {sorted(counts)} occur')
-        return 1
-    if words == ['--check']:
-        right = FILE.read_bytes() == made
-        print(f'{len(pairs)} comparisons are as made' if right else f'not as made: {FILE.name}')
-        return 0 if right else 1
-    FILE.write_bytes(made)
-    print(', '.join(f'{count} {kind}' for kind, count in sorted(counts.items())), f'in {len(pairs)} pairs, {len(made)} bytes')
-    return 0
+    every = 'rises', 'refused A', 'unlawful B', 'no entry', 'differs'
+    return replayed.main(words, 'comparisons', 'comparisons', lines, (answer[0] for answer in answers), every)
 
 
 if __name__ == '__main__':

@@ -1,28 +1,22 @@
 """Makes rust/tests/guest.txt: what the guests of some processors see of some page sets, as model_guest.py answers.
 
-make_guest.py           writes the file
-make_guest.py --check   compares the file with what it makes
-
-A line `p EDITS` makes a page set of the one before, the first of tests/epyc-milan.pages, by edits in a row with commas: #LENGTH cuts the set or
-fills it up with zeros, @OFFSET:BYTES writes bytes, - is none. The other lines ask of the set made last, for a
-secure-AVIC choice, an edition, an x2APIC number, XCR0, XSS and OSXSAVE, which follow their letter; the answer stands after a bar:
+A line `p EDITS` makes a page set of the one before, the first of tests/epyc-milan.pages. The other lines ask of the set made last, for a secure-AVIC
+choice, an edition, an x2APIC number, XCR0, XSS and OSXSAVE, which follow their letter; the answer stands after a bar:
 b                        the row count, the mask, 1.EBX, 1.ECX, B.0.EDX, B.1.EDX, D.0.EBX and D.1.EBX
 l LEAF SUBLEAF ENFORCE   the four registers, or - where nothing is found
 w ROOM                   the image's length and its bytes
 or r with a refusal's number, leaf, subleaf and s. Choices are 0 or 1, lengths and counts decimal, all else is hexadecimal; a subleaf of - is none.
 """
-from pathlib import Path
 import random
 import sys
 
 import model
-from make_vectors import differences
 from model_guest import guest
 from pagesets import STATE, changed, minimal, page, rich, spread, with_topology, without
+import replayed
+from replayed import MILAN, edits
 from vectors_document_01 import Damage
 
-FILE = Path(__file__).resolve().parent.parent / 'rust' / 'tests' / 'guest.txt'
-MILAN = Path(__file__).with_name('epyc-milan.pages').read_bytes()
 ALL = 0xFFFFFFFF
 PLACES = ((1, None, 'ebx'), (1, None, 'ecx'), (0xB, 0, 'edx'), (0xB, 1, 'edx'), (STATE, 0, 'ebx'), (STATE, 1, 'ebx'))
 
@@ -160,14 +154,6 @@ def hexadecimal(subleaf):
     return '-' if subleaf is None else f'{subleaf:x}'
 
 
-def edits(old, data):
-    """How `data` is made of `old`."""
-    base = old[:len(data)] + bytes(max(0, len(data) - len(old)))
-    words = [f'#{len(data)}'] if len(data) != len(old) else []
-    words += [f'@{start:x}:{part.hex()}' for start, part in differences(base, data)]
-    return ','.join(words) or '-'
-
-
 def asked(question):
     letter, (secure_avic, apic, xcr0, xss, osxsave, edition), *rest = question
     words = [letter, str(int(secure_avic)), f'{edition:x}', f'{apic:x}', f'{xcr0:x}', f'{xss:x}', str(int(osxsave))]
@@ -211,19 +197,9 @@ def lines():
 
 def main(words):
     made = [*lines()]
-    refusals = {line.split(' | r ')[1].split()[0] for line in made if ' | r ' in line}
-    if refusals != set('1 2 3 4 5 6 7 8 9 13 14 15'.split()):
-        print(f'only {sorted(refusals)} occur')
-        return 1
-    data = ''.join(line + '\n' for line in made).encode()
-    asks = sum(not line.startswith('p ') for line in made)
-    if words == ['--check']:
-        right = FILE.read_bytes() == data
-        print(f'{asks} guest answers are as made' if right else f'not as made: {FILE.name}')
-        return 0 if right else 1
-    FILE.write_bytes(data)
-    print(f'{asks} questions of {len(made) - asks} page sets, {len(data)} bytes')
-    return 0
+    answers = [line.split(' | ')[1].split() for line in made if not line.startswith('p ')]
+    kinds = [answer[1] if answer[0] == 'r' else 'given' for answer in answers]
+    return replayed.main(words, 'guest', 'guest answers', made, kinds, [*'1 2 3 4 5 6 7 8 9 13 14 15'.split(), 'given'])
 
 
 if __name__ == '__main__':

@@ -1,24 +1,20 @@
 """Makes rust/tests/kvm.txt: lists for KVM written and read, each with the answer of model_kvm.py and a digest of the lent bytes afterwards.
 
-make_kvm.py           writes the file
-make_kvm.py --check   compares the file with what it makes
-
 A line is one of
-    write CHOICE EDITION EDITS ROOM ANSWER DIGEST     CHOICE, EDITION and EDITS of tests/epyc-milan.pages as make_comparisons.py has them
+    write CHOICE EDITION EDITS ROOM ANSWER DIGEST     secure AVIC, 0 or 1; the edits make the pages of tests/epyc-milan.pages
     read PARTS ROOM ANSWER DIGEST                     PARTS of the list with + between them: bytes, or bytes*HOW-OFTEN, or - for none
 ROOM is how many bytes are lent, each A5h before. ANSWER is 0 and how many bytes were written, or a refusal's number, leaf, subleaf (- is none) and
 s, with colons between. Bytes, leaves and digests are hexadecimal; a digest is FNV-1a of 64 bits over all lent bytes.
 """
-from collections import Counter
-from pathlib import Path
 import struct
 import sys
 
-from make_comparisons import MILAN, edits, richer, set_to
+from make_comparisons import richer, set_to
 import model
 from model_kvm import PAIR_SIZE, kvm_list, read_list, write_list
+import replayed
+from replayed import MILAN, edits
 
-FILE = Path(__file__).resolve().parent.parent / 'rust' / 'tests' / 'kvm.txt'
 LENT = b'\xA5'
 STATE = model.STATE
 
@@ -101,26 +97,16 @@ def spelled(parts):
 def lines():
     for pages, choice, edition, room in writes():
         answer, after = write_list(pages, choice, LENT * room, edition)
-        yield answer, f'write {int(choice)} {edition} {edits(pages)} {room} {told(answer)} {digest(after)}'
+        yield answer, f'write {int(choice)} {edition} {edits(MILAN, pages)} {room} {told(answer)} {digest(after)}'
     for parts, room in reads():
         answer, after = read_list(b''.join(data * often for data, often in parts), LENT * room)
         yield answer, f'read {spelled(parts)} {room} {told(answer)} {digest(after)}'
 
 
 def main(words):
-    pairs = list(lines())
-    made = ''.join(line + '\n' for _, line in pairs).encode()
-    counts = Counter(answer[1] if answer[0] == 'refusal' else answer[0] for answer, _ in pairs)
-    if not {*range(1, 13), 15, 'written', 'read'} <= set(counts):
-        print(f'only {counts} occur')
-        return 1
-    if words == ['--check']:
-        right = FILE.read_bytes() == made
-        print(f'{len(pairs)} lists for KVM are as made' if right else f'not as made: {FILE.name}')
-        return 0 if right else 1
-    FILE.write_bytes(made)
-    print(f'{dict(counts)} in {len(pairs)} lines, {len(made)} bytes')
-    return 0
+    answers, made = zip(*lines())
+    kinds = (answer[1] if answer[0] == 'refusal' else answer[0] for answer in answers)
+    return replayed.main(words, 'kvm', 'lists for KVM', made, kinds, [*range(1, 13), 15, 'written', 'read'])
 
 
 if __name__ == '__main__':

@@ -1,19 +1,15 @@
 """Makes rust/tests/lines.txt: what model_lines.py answers to refusals that are to be written and to bytes that are to be read.
 
-make_lines.py           writes the file
-make_lines.py --check   compares the file with what it makes
-
 A line of it reads, leaf in hexadecimal, bytes in hexadecimal or '-' for none, other numbers in decimal and '-' for no subleaf:
 write NUMBER LEAF SUBLEAF S ROOM ANSWER BYTES   a buffer of ROOM bytes 5A: 'length N', 'refusal 9' or 'none', and what the buffer then holds
 read BYTES none                                 no such line
 read BYTES NUMBER LEAF SUBLEAF S                what the line says
 """
 import sys
-from pathlib import Path
 
 from model_lines import NAMES, NO_SUCH_LINE, line, read_line, write_line
+import replayed
 
-FILE = Path(__file__).resolve().parent.parent / 'rust' / 'tests' / 'lines.txt'
 ALL = 0xFFFFFFFF
 LEAVES = 0, 1, 9, 0xA, 0xD, 0x10, 0xABCDEF, 0x7FFFFFFF, 0x8000001D, ALL
 SUBLEAVES = None, 0, 1, *(10 ** power + more for power in range(1, 10) for more in (-1, 0)), 0x7FFFFFFF, ALL
@@ -91,15 +87,10 @@ def words(number, leaf, subleaf, s):
 
 
 def main(arguments):
-    made = ''.join(text + '\n' for text in [*writes(), *reads()]).encode()
-    count = made.count(b'\n')
-    if arguments == ['--check']:
-        right = FILE.read_bytes() == made
-        print(f'{count} lines are as made' if right else f'not as made: {FILE.name}')
-        return 0 if right else 1
-    FILE.write_bytes(made)
-    print(f'{count} lines, {len(made)} bytes')
-    return 0
+    made = [*writes(), *reads()]
+    # what becomes of a line that is to be written, or the number of one that is read
+    kinds = (text.split()[6 if text.startswith('write') else 2] for text in made)
+    return replayed.main(arguments, 'lines', 'lines', made, kinds, ['length', 'refusal', 'none', *map(str, NAMES)])
 
 
 if __name__ == '__main__':

@@ -67,6 +67,13 @@ pub struct LineRead {
     pub s: u32,
 }
 
+#[repr(C)]
+#[derive(Clone, Copy, Debug, Default, PartialEq, Eq)]
+pub struct Carried {
+    pub is_image: u32,
+    pub number: u32,
+}
+
 unsafe extern "C" {
     pub fn snp_cpuid_build(pages: *const u8, length: usize, secure_avic: bool, edition: u32) -> Built;
     pub fn snp_cpuid_lookup(
@@ -119,6 +126,7 @@ unsafe extern "C" {
         room: usize,
     ) -> Written;
     pub fn snp_cpuid_compare(a: *const u8, a_length: usize, b: *const u8, b_length: usize, secure_avic: bool, edition: u32) -> Compared;
+    pub fn snp_cpuid_carry(image: *mut u8, length: usize, from: u32, to: u32, xcr0: u64, xss: u64) -> Carried;
     pub fn snp_cpuid_write_line(number: u32, leaf: u32, has_subleaf: bool, subleaf: u32, s: u32, out: *mut u8, room: usize) -> LineWritten;
     pub fn snp_cpuid_read_line(line: *const u8, length: usize) -> LineRead;
 }

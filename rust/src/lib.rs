@@ -16,6 +16,7 @@
 //! Rust's types and reads rows from the image; its tests hold every lookup in a table against the library's own.
 
 mod answer;
+mod carry;
 mod comparison;
 pub mod exports;
 mod guest;
@@ -27,6 +28,7 @@ mod table;
 
 use answer::Answer;
 
+pub use carry::{NotCarried, carry_image};
 pub use comparison::{Comparison, Register};
 pub use guest::{Processor, guest, guest_lookup, write_guest_image};
 pub use kvm::{KVM_PAGES_BYTES, MOST_KVM_BYTES, read_kvm, write_kvm};

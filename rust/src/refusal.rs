@@ -3,7 +3,7 @@
 use std::error::Error;
 use std::fmt;
 
-/// Why a page set gave no table, a buffer nothing, or a list no pages.
+/// Why a page set gave no table, a buffer nothing, a list no pages, or a table was not carried to another edition.
 #[derive(Clone, Copy, Debug, PartialEq, Eq, Hash)]
 pub enum Refusal {
     /// 1: the length is 0 or no multiple of 4,096.
@@ -32,6 +32,8 @@ pub enum Refusal {
     CompactSizeTooLarge,
     /// 15: the edition of the AVX rule is neither 1 nor 2.
     UnknownEdition,
+    /// 16: a table was to go from edition 2 of the AVX rule back to 1.
+    EditionBack,
 }
 
 /// How the topology leaves disagree. The number is s, bits 12 to 15 of 80000008h.ECX: the size of the APIC core id.
@@ -131,6 +133,7 @@ const TABLE: &[Line] = &[
         words: |_| "the size of the compacted save area of XCR0 and XSS (D.1.EBX) does not fit 32 bits".into(),
     },
     Line { number: 15, name: |_| Refusal::UnknownEdition, words: |_| "the AVX rule has no such edition: it has editions 1 and 2".into() },
+    Line { number: 16, name: |_| Refusal::EditionBack, words: |_| "a table does not go from edition 2 of the AVX rule back to edition 1".into() },
 ];
 
 impl Refusal {
@@ -155,7 +158,8 @@ impl Refusal {
             | Refusal::ListFields
             | Refusal::StateBeyondTable
             | Refusal::CompactSizeTooLarge
-            | Refusal::UnknownEdition => Details::default(),
+            | Refusal::UnknownEdition
+            | Refusal::EditionBack => Details::default(),
         }
     }
 
@@ -232,6 +236,7 @@ mod tests {
             (13, none, Refusal::StateBeyondTable),
             (14, none, Refusal::CompactSizeTooLarge),
             (15, none, Refusal::UnknownEdition),
+            (16, none, Refusal::EditionBack),
         ] {
             assert_eq!((refusal.number(), refusal.details()), (number, named));
             assert_eq!(Refusal::of(number, named), refusal);

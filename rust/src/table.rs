@@ -44,6 +44,10 @@ impl Table {
         &self.image[..self.length]
     }
 
+    pub(crate) fn image_mut(&mut self) -> &mut [u8] {
+        &mut self.image[..self.length]
+    }
+
     /// The rows, leaves rising and subleaves rising within a leaf.
     pub fn rows(&self) -> Rows<'_> {
         Rows { rest: self.image() }

@@ -1,23 +1,13 @@
 //! Replays comparisons.txt, whose answers are those of the model (tests/make_comparisons.py writes it and says how a line reads).
 
+mod replay;
+
 use snp_cpuid::{Comparison, Options, Refusal, compare};
 use std::collections::BTreeMap;
 
 /// The shipped set with the edits of one word.
 fn edited(word: &str) -> Vec<u8> {
-    let mut pages = std::fs::read("../tests/epyc-milan.pages").expect("the shipped page set");
-    for edit in word.split(',').filter(|&edit| edit != "-") {
-        if let Some(length) = edit.strip_prefix('#') {
-            pages.resize(length.parse().unwrap(), 0);
-        } else {
-            let (offset, bytes) = edit.strip_prefix('@').and_then(|e| e.split_once(':')).expect("an edit");
-            let at = usize::from_str_radix(offset, 16).unwrap();
-            for i in 0..bytes.len() / 2 {
-                pages[at + i] = u8::from_str_radix(&bytes[2 * i..2 * i + 2], 16).unwrap();
-            }
-        }
-    }
-    pages
+    replay::edited(replay::shipped(), word)
 }
 
 fn place(leaf: u32, subleaf: Option<u32>) -> String {

@@ -1,27 +1,11 @@
 //! Replays guest.txt, whose answers are those of the model (tests/make_guest.py writes it and says how a line reads).
 
+mod replay;
+
+use replay::{edited, shipped};
 use snp_cpuid::exports::snp_cpuid_guest_build;
 use snp_cpuid::{CpuidResult, Options, Processor, Refusal, Table, build, guest, guest_lookup, write_guest_image};
 use std::collections::BTreeMap;
-
-/// One set made of another.
-fn edited(mut pages: Vec<u8>, word: &str) -> Vec<u8> {
-    for edit in word.split(',').filter(|&edit| edit != "-") {
-        if let Some(length) = edit.strip_prefix('#') {
-            pages.resize(length.parse().unwrap(), 0);
-        } else {
-            let (offset, bytes) = edit.strip_prefix('@').and_then(|e| e.split_once(':')).expect("an edit");
-            let at = usize::from_str_radix(offset, 16).unwrap();
-            let bytes = bytes_of(bytes);
-            pages[at..at + bytes.len()].copy_from_slice(&bytes);
-        }
-    }
-    pages
-}
-
-fn bytes_of(text: &str) -> Vec<u8> {
-    (0..text.len() / 2).map(|i| u8::from_str_radix(&text[2 * i..2 * i + 2], 16).unwrap()).collect()
-}
 
 fn number(text: &str) -> u64 {
     u64::from_str_radix(text, 16).unwrap()
@@ -91,7 +75,7 @@ fn answered(pages: &[u8], words: &[&str]) -> String {
 #[test]
 fn answers_are_the_models() {
     let text = std::fs::read_to_string("tests/guest.txt").expect("the list");
-    let mut pages = std::fs::read("../tests/epyc-milan.pages").expect("the shipped page set");
+    let mut pages = shipped();
     let mut seen = BTreeMap::new();
     for (at, line) in text.lines().enumerate() {
         if let Some(edits) = line.strip_prefix("p ") {
@@ -109,7 +93,7 @@ fn answers_are_the_models() {
 /// Rows that no processor changes are the paravisor's, and the others but for what document 02 names.
 #[test]
 fn nothing_else_differs() {
-    let pages = std::fs::read("../tests/epyc-milan.pages").expect("the shipped page set");
+    let pages = shipped();
     let plain = build(&pages, Options::new()).unwrap();
     let seen = guest(&pages, Options::new(), Processor { x2apic: u32::MAX, xcr0: 7, xss: 0x1800, osxsave: false }).unwrap();
     for (old, new) in plain.rows().zip(seen.rows()) {

@@ -1,26 +1,10 @@
 //! Replays kvm.txt, whose answers are those of the model (tests/make_kvm.py writes it and says how a line reads).
 
+mod replay;
+
+use replay::{bytes, edited, shipped};
 use snp_cpuid::{Options, Refusal, read_kvm, write_kvm};
 use std::collections::BTreeMap;
-
-fn bytes(hex: &str) -> Vec<u8> {
-    (0..hex.len() / 2).map(|i| u8::from_str_radix(&hex[2 * i..2 * i + 2], 16).unwrap()).collect()
-}
-
-/// The shipped set with the edits of one word.
-fn edited(word: &str) -> Vec<u8> {
-    let mut pages = std::fs::read("../tests/epyc-milan.pages").expect("the shipped page set");
-    for edit in word.split(',').filter(|&edit| edit != "-") {
-        if let Some(length) = edit.strip_prefix('#') {
-            pages.resize(length.parse().unwrap(), 0);
-        } else {
-            let (offset, new) = edit.strip_prefix('@').and_then(|e| e.split_once(':')).expect("an edit");
-            let (at, new) = (usize::from_str_radix(offset, 16).unwrap(), bytes(new));
-            pages[at..at + new.len()].copy_from_slice(&new);
-        }
-    }
-    pages
-}
 
 /// The list of one word.
 fn listed(word: &str) -> Vec<u8> {
@@ -58,7 +42,7 @@ fn answers_and_lent_bytes_are_the_models() {
             ["write", choice, edition, edits, room, ref wanted @ ..] => {
                 out = vec![0xA5; room.parse().unwrap()];
                 let options = Options::new().secure_avic(choice == "1").edition(edition.parse().unwrap());
-                (write_kvm(&edited(edits), options, &mut out), wanted)
+                (write_kvm(&edited(shipped(), edits), options, &mut out), wanted)
             }
             ["read", parts, room, ref wanted @ ..] => {
                 out = vec![0xA5; room.parse().unwrap()];

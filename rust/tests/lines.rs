@@ -1,13 +1,15 @@
 //! Replays lines.txt, whose answers are those of the model (tests/make_lines.py writes it and says how a line reads), through the exported functions
 //! and through `Refusal`; and holds what the header says of each number against the library.
 
+mod replay;
+
 use snp_cpuid::exports::{LineRead, LineWritten, snp_cpuid_read_line, snp_cpuid_write_line};
 use snp_cpuid::{Details, NoSuchLine, Refusal};
 use std::collections::BTreeMap;
 
+/// The bytes of one word; - is none.
 fn bytes(word: &str) -> Vec<u8> {
-    let digits = word.trim_matches('-');
-    (0..digits.len() / 2).map(|i| u8::from_str_radix(&digits[2 * i..2 * i + 2], 16).expect("a byte")).collect()
+    replay::bytes(word.trim_matches('-'))
 }
 
 /// A refusal's number, leaf, subleaf and s, as the file has them.

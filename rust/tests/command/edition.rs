@@ -1,15 +1,8 @@
-//! `--edition`, of every command that builds: document 02, P7.
+//! `--edition`, of every command that builds under one: document 02, P7.
 
-use crate::page_sets::{rich, set, without};
-use crate::run::{BUILDING, EPYC, Folder, Ran, run, with_files};
+use crate::page_sets::{rich, set, stated, without};
+use crate::run::{EPYC, Folder, Ran, run, under_one_edition, with_files};
 use std::fs;
-
-/// Every bit reported, and a state of D.0.EAX.
-fn stated(xfem: u32) -> Vec<u8> {
-    let mut entries = rich();
-    entries.get_mut(&(0xD, 0)).unwrap()[0] = xfem;
-    set(&entries)
-}
 
 /// A run, and what it wrote.
 fn written(arguments: &[String], out: &str) -> (Ran, Option<Vec<u8>>) {
@@ -48,7 +41,7 @@ fn every_command_takes_it() {
     let out = folder.path("out");
     for (xfem, same) in [(7, true), (0xE7, true), (3, false), (0xE3, false)] {
         let file = folder.file("pages", stated(xfem));
-        for arguments in BUILDING {
+        for arguments in under_one_edition() {
             let with = |words: &[&str]| {
                 let mut arguments = with_files(arguments, &file, &out);
                 arguments.extend(words.iter().map(|word| word.to_string()));
@@ -70,7 +63,7 @@ fn another_number_is_refusal_15_before_all_others() {
     let why = "refusal 15: the AVX rule has no such edition: it has editions 1 and 2 (leaf 00000000, subleaf none, s 0)";
     for pages in [vec![], set(&without(1, 0)), stated(3)] {
         let file = folder.file("pages", pages);
-        for (arguments, edition) in BUILDING.iter().zip(["0", "3", "257", "4294967295"].iter().cycle()) {
+        for (arguments, edition) in under_one_edition().zip(["0", "3", "257", "4294967295"].iter().cycle()) {
             let mut arguments = with_files(arguments, &file, &out);
             arguments.extend(["--edition".into(), edition.to_string()]);
             let ran = run(&arguments);

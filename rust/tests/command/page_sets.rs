@@ -95,6 +95,13 @@ pub fn rich() -> Entries {
     entries
 }
 
+/// Every bit reported, and a state of D.0.EAX.
+pub fn stated(xfem: u32) -> Vec<u8> {
+    let mut entries = rich();
+    entries.get_mut(&(0xD, 0)).unwrap()[0] = xfem;
+    set(&entries)
+}
+
 /// The five topology inputs (document 01, "Corners of snp.rs").
 pub fn topology(entries: &mut Entries, s: u32, nc: u32, lps: u32, mt: u32, t: u32) {
     let mut put = |leaf, register: usize, fields: u32, value: u32| {

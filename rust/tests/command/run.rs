@@ -19,7 +19,13 @@ pub const BUILDING: &[&[&str]] = &[
     &["to-dump", "PAGES"],
     &["to-dump", "PAGES", "-o", "OUT"],
     &["to-kvm", "PAGES", "-o", "OUT"],
+    &["carry", "PAGES", "--from", "1", "--to", "2", "--xcr0", "1", "--xss", "0", "-o", "OUT"],
 ];
+
+/// Those of them that build under one edition; `carry` names two.
+pub fn under_one_edition() -> impl Iterator<Item = &'static &'static [&'static str]> {
+    BUILDING.iter().filter(|run| run[0] != "carry")
+}
 
 /// Runs of the other commands that read a file.
 pub const READING: &[&[&str]] =

@@ -12,12 +12,15 @@ use std::fmt::Display;
 
 const SECURE_AVIC: Opt = Opt::flag(&["--secure-avic"], "keep the secure-AVIC bit of 8000001Fh.EAX");
 
-const EDITION: Opt = Opt::decimal(&["--edition"], "N", "edition of the AVX rule, usually 1; 2 hides F16C, XOP, FMA4 without YMM state");
+const EDITION: Opt = Opt::decimal(&["--edition"], "N", false, "edition of the AVX rule, usually 1; 2 hides F16C, XOP, FMA4 without YMM state");
 
 const LINE: Opt = Opt::flag(&["--line"], "where the pages are refused, print the refusal's line too");
 
-/// The options of every command that builds.
+/// The options of every command that builds under one edition.
 pub const OPTIONS: &[Opt] = &[SECURE_AVIC, EDITION, LINE];
+
+/// The options of one that names its editions itself.
+pub const OPTIONS_BUT_EDITION: &[Opt] = &[SECURE_AVIC, LINE];
 
 /// The choices that these options give.
 #[derive(Clone, Copy)]
@@ -29,12 +32,13 @@ pub struct Building {
 impl Building {
     /// The choices that were given to a command.
     pub fn of(arguments: &Arguments, command: &str) -> Result<Building, Failure> {
-        let mut options = Options::new().secure_avic(arguments.has(&SECURE_AVIC));
-        if let Some(given) = arguments.value(EDITION.name()) {
-            let edition = given.to_str().and_then(decimal);
-            let wrong = || Failure::usage(command, &format!("{} '{}' is no decimal number of up to 32 bits", EDITION.name(), shown(given)));
-            options = options.edition(edition.ok_or_else(wrong)?);
-        }
+        Building::by(&EDITION, arguments, command)
+    }
+
+    /// The choices that were given to a command, the edition by an option of its own; the usual one where it is not given.
+    pub fn by(edition: &Opt, arguments: &Arguments, command: &str) -> Result<Building, Failure> {
+        let options = Options::new().secure_avic(arguments.has(&SECURE_AVIC));
+        let options = self::edition(edition, arguments, command)?.map_or(options, |given| options.edition(given));
         Ok(Building { options, line: arguments.has(&LINE) })
     }
 
@@ -81,6 +85,15 @@ impl Building {
             _ => Failure::No(format!("{name}: {}", told(refusal))),
         }
     }
+}
+
+/// The edition that an option gives; none where it is not given.
+pub fn edition(option: &Opt, arguments: &Arguments, command: &str) -> Result<Option<u32>, Failure> {
+    let number = |given: &OsStr| {
+        let wrong = || Failure::usage(command, &format!("{} '{}' is no decimal number of up to 32 bits", option.name(), shown(given)));
+        given.to_str().and_then(decimal).ok_or_else(wrong)
+    };
+    arguments.value(option.name()).map(number).transpose()
 }
 
 /// A refusal's number, words, and what it carries. "Those not named are 0 or none" (document 01).

@@ -37,9 +37,9 @@ impl Opt {
         Opt { names, value: Value::Number(name), required, help }
     }
 
-    /// An option with a decimal number, which the help calls `name`; it may be left out.
-    pub const fn decimal(names: &'static [&'static str], name: &'static str, help: &'static str) -> Opt {
-        Opt { names, value: Value::Decimal(name), required: false, help }
+    /// An option with a decimal number, which the help calls `name`.
+    pub const fn decimal(names: &'static [&'static str], name: &'static str, required: bool, help: &'static str) -> Opt {
+        Opt { names, value: Value::Decimal(name), required, help }
     }
 
     /// The spelling by which messages call it.

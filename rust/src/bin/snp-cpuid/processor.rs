@@ -1,4 +1,4 @@
-//! The options that describe one processor, whose guest's view a command shows.
+//! The options that describe one processor: whose guest's view a command shows, or on which a table runs.
 
 use crate::arguments::Arguments;
 use crate::failure::Failure;
@@ -13,8 +13,8 @@ const OSXSAVE: Opt = Opt::flag(&["--osxsave"], "the operating system has switche
 const fn numbers(required: bool) -> [Opt; 3] {
     [
         Opt::number(&["--apic"], "N", required, "the processor's x2APIC number"),
-        Opt::number(&["--xcr0"], "X", required, "its XCR0: the user states that are on"),
-        Opt::number(&["--xss"], "X", required, "its XSS: the supervisor states that are on"),
+        Opt::number(&["--xcr0"], "X", required, "the processor's XCR0: the user states that are on"),
+        Opt::number(&["--xss"], "X", required, "the processor's XSS: the supervisor states that are on"),
     ]
 }
 
@@ -25,25 +25,32 @@ const OPTIONAL: [Opt; 3] = numbers(false);
 pub const ALWAYS: &[Opt] = &[REQUIRED[0], REQUIRED[1], REQUIRED[2], OSXSAVE];
 pub const SOMETIMES: &[Opt] = &[OPTIONAL[0], OPTIONAL[1], OPTIONAL[2], OSXSAVE];
 
+/// The options of a command that asks for its states alone.
+pub const STATES: &[Opt] = &[REQUIRED[1], REQUIRED[2]];
+
 /// The processor that was described; none where no option of it is given.
 pub fn of(arguments: &Arguments, command: &str) -> Result<Option<Processor>, Failure> {
     if !SOMETIMES.iter().any(|option| arguments.has(option)) {
         return Ok(None);
     }
-    let [x2apic, xcr0, xss] = &OPTIONAL;
-    let number = |option: &Opt, most: u64| {
-        let Some(given) = arguments.value(option.name()) else {
-            return Err(Failure::usage(command, &format!("{} is missing", option.wanted())));
-        };
-        wide(given.to_str().unwrap_or_default()).filter(|&number| number <= most).ok_or_else(|| {
-            let bits = 64 - most.leading_zeros();
-            Failure::usage(command, &format!("{} '{}' is no hexadecimal number of up to {bits} bits", option.name(), shown(given)))
-        })
+    let x2apic = number(&OPTIONAL[0], u32::MAX.into(), arguments, command)? as u32;
+    let (xcr0, xss) = states(arguments, command)?;
+    Ok(Some(Processor { x2apic, xcr0, xss, osxsave: arguments.has(&OSXSAVE) }))
+}
+
+/// XCR0 and XSS.
+pub fn states(arguments: &Arguments, command: &str) -> Result<(u64, u64), Failure> {
+    let [_, xcr0, xss] = &OPTIONAL;
+    Ok((number(xcr0, u64::MAX, arguments, command)?, number(xss, u64::MAX, arguments, command)?))
+}
+
+/// The number that an option gives, which must be there.
+fn number(option: &Opt, most: u64, arguments: &Arguments, command: &str) -> Result<u64, Failure> {
+    let Some(given) = arguments.value(option.name()) else {
+        return Err(Failure::usage(command, &format!("{} is missing", option.wanted())));
     };
-    Ok(Some(Processor {
-        x2apic: number(x2apic, u32::MAX.into())? as u32,
-        xcr0: number(xcr0, u64::MAX)?,
-        xss: number(xss, u64::MAX)?,
-        osxsave: arguments.has(&OSXSAVE),
-    }))
+    wide(given.to_str().unwrap_or_default()).filter(|&number| number <= most).ok_or_else(|| {
+        let bits = 64 - most.leading_zeros();
+        Failure::usage(command, &format!("{} '{}' is no hexadecimal number of up to {bits} bits", option.name(), shown(given)))
+    })
 }

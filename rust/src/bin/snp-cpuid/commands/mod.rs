@@ -1,5 +1,6 @@
 //! The commands: one file each, with its name, operands, options, help and `run`, and its line in the list.
 
+mod carry;
 mod compare;
 mod explain;
 mod from_dump;
@@ -20,6 +21,7 @@ pub const ALL: &[Command] = &[
     image::COMMAND,
     lookup::COMMAND,
     guest::COMMAND,
+    carry::COMMAND,
     from_dump::COMMAND,
     to_dump::COMMAND,
     from_kvm::COMMAND,
