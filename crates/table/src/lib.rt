@@ -26,6 +26,7 @@ pub enum Refusal {
     ListFields,
     StateBeyondTable,
     CompactSizeTooLarge,
+    ReservedBytes(CpuidFunction),
 }
 
 pub enum Verdict {
