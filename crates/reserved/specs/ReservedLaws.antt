@@ -3,80 +3,20 @@ use mathlib.Core.Path.{_≡_, refl, sym, ap, _∙_}
 use mathlib.Core.Bool.{Bool, true, false}
 use mathlib.Core.List.{List, [], _∷_, _++_}
 use mathlib.Core.Logic.{inl, inr}
-use Prim.Native.Nat.{ℕ, zero, suc, _+_, _*_, _≤_, _<_}
+use Prim.Native.Nat.{ℕ, zero, suc, _+_, _≤_, _<_}
 use native.Mathlib.Nat.{le-refl, eq-or-lt-of-le}
-use native.Mathlib.Numerals.{add-one}
 use native.Mathlib.Omega.{arith}
-use lib.Dec.{eqb, lit<}
-use lib.ListN.{getD}
-use borrow.Author.Tests.{eqb-true, eq-eqb, ne-eqb}
 use Rattle.bits.specs.Choice.{pick}
-use Rattle.bits.specs.ChoiceLaws.{never-both, and-both}
+use Rattle.bits.specs.ChoiceLaws.{never-both}
 use Rattle.bits.specs.Lists.{keepIf}
-use Rattle.bits.specs.Search.{every, Failing, lowest}
+use Rattle.bits.specs.Search.{Failing, lowest}
 use Rattle.bits.specs.Search.Failing.{at, none}
 use Rattle.bits.specs.SearchLaws.{every-at, every-fails, Lowest, lowest-at, lowest-none}
 use Rattle.x86defs.specs.declared.CpuidFunction.{CpuidFunction}
-use Rattle.pages.specs.Layout.{Entry, entryAt, wordAt, pagesIn, countOf}
+use Rattle.pages.specs.Layout.{Entry, entryAt, pagesIn, countOf}
 use Rattle.pages.specs.Entries.{onPage, onPages, entries}
-use Rattle.reserved.specs.declared.Reserved.{Reserved}
 use Rattle.reserved.specs.declared.Reserved.the-variants.{Zero, Nonzero}
-use Rattle.reserved.specs.Reserved.{eightZeros, cleanAt, clean, firstNonzero, reservedOf, pageClean, allClean}
-
--- ---- eight bytes as two words
-
--- the byte at o + k, and the word there by its bytes
-abbrev byteAt : List ℕ → ℕ → ℕ → ℕ
-byteAt s o k = getD s (o + k) 0
-
-abbrev wordOf : List ℕ → ℕ → ℕ → ℕ
-wordOf s o k = byteAt s o k + 256 * byteAt s o (k + 1) + 65536 * byteAt s o (k + 2) + 16777216 * byteAt s o (k + 3)
-
-module _ (s : List ℕ) (o : ℕ) where
-  word-of : (k : ℕ) → wordAt s (o + k) ≡ wordOf s o k
-  word-of k =
-      let a : o + k + 1 ≡ o + (k + 1) = omega arith in
-      let b : o + k + 2 ≡ o + (k + 2) = omega arith in
-      let c : o + k + 3 ≡ o + (k + 3) = omega arith in
-      rw (a, b, c)
-
-  first-word : wordAt s o ≡ wordOf s o 0
-  first-word = let z : o ≡ o + 0 = omega arith in ap (wordAt s) z ∙ word-of 0
-
-  pub zeros-of-words : wordAt s o ≡ 0 → wordAt s (o + 4) ≡ 0 → eightZeros s o ≡ true
-  unfolding eightZeros
-  zeros-of-words a b =
-      let l : wordOf s o 0 ≡ 0 = sym first-word ∙ a in
-      let h : wordOf s o 4 ≡ 0 = sym (word-of 4) ∙ b in
-      and-both (eq-eqb (byteAt s o 7) 0 (omega arith))
-      (and-both (eq-eqb (byteAt s o 6) 0 (omega arith))
-      (and-both (eq-eqb (byteAt s o 5) 0 (omega arith))
-      (and-both (eq-eqb (byteAt s o 4) 0 (omega arith))
-      (and-both (eq-eqb (byteAt s o 3) 0 (omega arith))
-      (and-both (eq-eqb (byteAt s o 2) 0 (omega arith))
-      (and-both (eq-eqb (byteAt s o 1) 0 (omega arith))
-      (and-both (eq-eqb (byteAt s o 0) 0 (omega arith)) refl)))))))
-
-  pub words-of-zeros : eightZeros s o ≡ true → (wordAt s o ≡ 0) × (wordAt s (o + 4) ≡ 0)
-  unfolding eightZeros
-  words-of-zeros e = (
-    first-word ∙ omega (arith, zero-byte 0 (lit< tt), zero-byte 1 (lit< tt), zero-byte 2 (lit< tt), zero-byte 3 (lit< tt)),
-    word-of 4 ∙ omega (arith, zero-byte 4 (lit< tt), zero-byte 5 (lit< tt), zero-byte 6 (lit< tt), zero-byte 7 (lit< tt)),
-  )
-    where
-      zero-byte : (k : ℕ) → k < 8 → byteAt s o k ≡ 0
-      zero-byte k l = eqb-true _ 0 (every-at (λ j. eqb (byteAt s o j) 0) 8 e k l)
-
-  -- the two as one number
-  pub zeros-by-number : eqb (wordAt s o + 4294967296 * wordAt s (o + 4)) 0 ≡ eightZeros s o
-  zeros-by-number = go (eightZeros s o) refl
-    where
-      number : ℕ
-      number = wordAt s o + 4294967296 * wordAt s (o + 4)
-
-      go : (b : Bool) → eightZeros s o ≡ b → eqb number 0 ≡ b
-      go true e = let (l, h) = words-of-zeros e in eq-eqb number 0 (omega arith)
-      go false e = ne-eqb number 0 (λ z. never-both (zeros-of-words (omega arith) (omega arith)) e)
+use Rattle.reserved.specs.Reserved.{cleanAt, clean, firstNonzero, reservedOf, pageClean, allClean}
 
 -- ---- by page and position
 
@@ -184,7 +124,6 @@ pub data Cleanness (s : List ℕ) : Type 0 where
   unclean-entry : (p q : ℕ) → FirstUnclean s p q → Cleanness s
 
 pub cleanness : (s : List ℕ) → Cleanness s
-unfolding allClean
 cleanness s = by-page (lowest (pageClean s) 0 (pagesIn s)) refl
   where
     by-position : (p : ℕ) → Lowest (pageClean s) 0 (pagesIn s) p → (f : Failing) → lowest (cleanAt s p) 0 (countOf s p) ≡ f → Cleanness s

@@ -13,13 +13,13 @@ ghost use Rattle.reserved.specs.Reserved.{eightZeros, reservedOf};
 
 const RESERVED: usize = 40;
 
-// What the reserved bytes hold: zeros alone, or in the entry of this leaf, the first such, something else.
+// Whether the reserved bytes of all entries are zero, or the leaf of the first entry where one is not.
 pub enum Reserved {
     Zero,
     Nonzero(CpuidFunction),
 }
 
-// Refusal 17: the reserved bytes of every entry below its page's count, in page and entry order. The counts are lawful.
+// Refusal 17, from pages whose counts are lawful: the reserved bytes of every entry below its page's count, in page and entry order.
 pub fn reserved_bytes(pages: &[u8]) -> Reserved
     requires { ⌜ countsFit (now pages) ≡ true ⌝ }
     ensures { λ r. ⌜ r ≡ reservedOf (now (pages .entry)) ⌝ }

@@ -1,7 +1,6 @@
 -- `reserved::eight_zeros` meets its contract: eight bytes are zero exactly where the number of two words is.
-use mathlib.Core.Path.{_∙_}
 use borrow.Author.Needs.{needs}
-use Rattle.reserved.specs.ReservedLaws.{zeros-by-number}
+use Rattle.reserved.specs.ZerosLaws.{zeros-by-number}
 use Rattle.reserved.proofs.eight_zeros.Statement.{statement}
 use Rattle.reserved.proofs.eight_zeros.Tie as tie
 
