@@ -12,6 +12,9 @@
 
 enum { ROUNDS = 21, ROOM = 1024 };
 
+/* of the AVX rule: the one that plain C and the Rust have */
+enum { EDITION = 1 };
+
 /* plain.c by each compiler, under the name that bench/run gives it */
 typedef struct plain_answer plain(const uint8_t *pages, size_t length, int avic, uint8_t *out, size_t room, size_t *written);
 plain plain_gcc;
@@ -51,7 +54,7 @@ static double port_ns(const uint8_t *pages, size_t n, int calls)
     uint8_t out[ROOM];
     double t = now();
     for (int i = 0; i < calls; i++) {
-        struct snp_cpuid_written w = snp_cpuid_write_image(pages, n, false, out, ROOM);
+        struct snp_cpuid_written w = snp_cpuid_write_image(pages, n, false, EDITION, out, ROOM);
         sink += w.length + out[0];
     }
     return (now() - t) / calls;
@@ -88,7 +91,7 @@ static void compare(const char *name, const uint8_t *pages, size_t n)
     for (int c = 0; c < COMPILERS; c++) {
         uint8_t a[ROOM] = {0}, b[ROOM] = {0};
         size_t written;
-        struct snp_cpuid_written w = snp_cpuid_write_image(pages, n, false, a, ROOM);
+        struct snp_cpuid_written w = snp_cpuid_write_image(pages, n, false, EDITION, a, ROOM);
         struct plain_answer p = C[c].write_image(pages, n, 0, b, ROOM, &written);
         if (w.number != p.number || w.length != written || memcmp(a, b, ROOM)) {
             fprintf(stderr, "%s: the answers differ\n", name);
@@ -115,7 +118,7 @@ static void measure(const char *name, const uint8_t *pages, size_t n)
     compare(name, pages, n);
 #ifdef WITH_RUST
     struct times rust;
-    if (oracle_rows(pages, n) != snp_cpuid_build(pages, n, false).row_count) {
+    if (oracle_rows(pages, n) != snp_cpuid_build(pages, n, false, EDITION).row_count) {
         fprintf(stderr, "%s: the Rust has another number of rows\n", name);
         exit(1);
     }

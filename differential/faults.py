@@ -37,6 +37,8 @@ FAULTS = [
     ('legacy bits not set', 'mod.rs', 'masked.eax |= xsave::X86X_XSAVE_LEGACY_FEATURES as u32;', ''),
     ('AVX-512 for one bit', 'mod.rs', 'xsave_support & xsave::XFEATURE_AVX512 != xsave::XFEATURE_AVX512',
      'xsave_support & xsave::XFEATURE_AVX512 == 0'),
+    ('F16C by the state', 'mod.rs', 'clear_version_and_features0_ecx.set_fma(true);',
+     'clear_version_and_features0_ecx.set_fma(true); clear_version_and_features0_ecx.set_f16c(true);'),
     ('STIBP kept', 'mod.rs', 'updated_sizes.set_stibp(false);', ''),
     ('RDPID kept', 'mod.rs', '.with_rd_pid(false)', '.with_rd_pid(true)'),
     ('BTC_NO as the server has it', 'snp.rs', 'Some(true)\n    }', 'None\n    }'),

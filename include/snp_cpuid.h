@@ -5,6 +5,10 @@
  * several threads at once. How much stack a call takes does not depend on the pages.
  *
  * Pages are the CPUID pages of the SEV-SNP firmware, 4,096 bytes each, end to end. A pointer may be null where its length is 0.
+ *
+ * Every function that builds takes two choices. secure_avic adds one bit to the mask of 8000001Fh.EAX. edition is that of the AVX rule: 1 is
+ * OpenHCL's; 2 also clears F16C (1.ECX bit 29), XOP and FMA4 (80000001h.ECX bits 11 and 16) where D.0.EAX lacks bit 2, the YMM state, and
+ * nothing else differs. Any other edition is refused by 15, whatever the pages are.
  */
 #ifndef SNP_CPUID_H
 #define SNP_CPUID_H
@@ -27,6 +31,7 @@ extern "C" {
  *                                                  12 a list's flag is not 0 or 1, or a word that is to be zero is not
  *                                                  13 XCR0 or XSS is beyond the table
  *                                                  14 a compacted save-area size overflows
+ *                                                  15 the edition is neither 1 nor 2: before all others
  * A leaf, subleaf or s that the number does not name is 0. */
 
 /* What building gives. A refused table has row_count 0 and max_extended_state 0. */
@@ -102,29 +107,32 @@ struct snp_cpuid_line_read {
 /* The most bytes that a line can have. */
 #define SNP_CPUID_MOST_LINE_BYTES 22
 
-/* Builds the table of the given pages. secure_avic adds one bit to the mask of 8000001Fh.EAX. */
-struct snp_cpuid_built snp_cpuid_build(const uint8_t *pages, size_t length, bool secure_avic);
+/* Builds the table of the given pages. */
+struct snp_cpuid_built snp_cpuid_build(const uint8_t *pages, size_t length, bool secure_avic, uint32_t edition);
 
 /* Builds, and looks a row up as leaf_result_ref does. subleaf is read only where has_subleaf is true. A leaf without subleaves is found
  * where no subleaf is given or enforce_subleaf is false; one with subleaves only under a subleaf that the table has. Nothing is found
  * where building refuses. */
-struct snp_cpuid_found snp_cpuid_lookup(const uint8_t *pages, size_t length, bool secure_avic, uint32_t leaf, bool has_subleaf,
-                                        uint32_t subleaf, bool enforce_subleaf);
+struct snp_cpuid_found snp_cpuid_lookup(const uint8_t *pages, size_t length, bool secure_avic, uint32_t edition, uint32_t leaf,
+                                        bool has_subleaf, uint32_t subleaf, bool enforce_subleaf);
 
 /* Builds, and writes the image at the front of out: for each row byte 1, leaf, EAX, EBX, ECX, EDX, or byte 2, leaf, subleaf and the
  * four, each number 4 bytes little-endian. Rows ascend by leaf, as an unsigned number, then by subleaf. Where it refuses, out is as it
  * was; bytes beyond the image are as they were. */
-struct snp_cpuid_written snp_cpuid_write_image(const uint8_t *pages, size_t length, bool secure_avic, uint8_t *out, size_t room);
+struct snp_cpuid_written snp_cpuid_write_image(const uint8_t *pages, size_t length, bool secure_avic, uint32_t edition, uint8_t *out,
+                                               size_t room);
 
 /* Builds, and writes the table as struct kvm_cpuid2 at the front of out: a count and a zero word, then 40 bytes a row (function, index,
  * flags, EAX, EBX, ECX, EDX, three zero words), KVM_CPUID_FLAG_SIGNIFCANT_INDEX where the row has a subleaf, else flags and index 0; rows
  * ascend by leaf, then by subleaf. Building's refusals come first, then 9. Where it refuses, out is as it was; bytes beyond are as they were. */
-struct snp_cpuid_written snp_cpuid_write_kvm(const uint8_t *pages, size_t length, bool secure_avic, uint8_t *out, size_t room);
+struct snp_cpuid_written snp_cpuid_write_kvm(const uint8_t *pages, size_t length, bool secure_avic, uint32_t edition, uint8_t *out,
+                                             size_t room);
 
 /* Reads a struct kvm_cpuid2 into two pages at the front of out: rows of leaf Dh on page 1 and all others on page 0, in list order, function
  * as EAX_IN and index as ECX_IN, all other bytes of the pages 0. Refusals in this order: 10, 12, 11, 9. Where it refuses, out is as it was;
- * bytes beyond the pages are as they were. */
+ * bytes beyond the pages are as they were. A table written, read and built again under the same choices is the same. */
 struct snp_cpuid_written snp_cpuid_read_kvm(const uint8_t *list, size_t length, uint8_t *out, size_t room);
+
 /* What the guest of one processor sees, which differs from the paravisor's row. The functions below take the processor's x2APIC number,
  * its XCR0 and XSS, and whether OSXSAVE is on. Of the table of the pages, 1.EBX bits 24-31, B.0.EDX and B.1.EDX have the number; 1.ECX
  * bit 27 is set where osxsave is true and bit 26 is set; D.0.EBX is the size of the save area of XCR0, and D.1.EBX that of the compacted
@@ -132,27 +140,29 @@ struct snp_cpuid_written snp_cpuid_read_kvm(const uint8_t *list, size_t length, 
  * has a bit that D.0.EAX lacks, or XSS one that D.1.ECX lacks; then 14 where the compacted size does not fit 32 bits. */
 
 /* Builds, and tells whether the guest is given its table, which has the rows and the mask of the paravisor's. */
-struct snp_cpuid_built snp_cpuid_guest_build(const uint8_t *pages, size_t length, bool secure_avic, uint32_t x2apic, uint64_t xcr0,
-                                             uint64_t xss, bool osxsave);
+struct snp_cpuid_built snp_cpuid_guest_build(const uint8_t *pages, size_t length, bool secure_avic, uint32_t edition, uint32_t x2apic,
+                                             uint64_t xcr0, uint64_t xss, bool osxsave);
 
 /* Builds, and looks a row up in the guest's table as snp_cpuid_lookup does. Nothing is found where the answer is a refusal. */
-struct snp_cpuid_found snp_cpuid_guest_lookup(const uint8_t *pages, size_t length, bool secure_avic, uint32_t x2apic, uint64_t xcr0,
-                                              uint64_t xss, bool osxsave, uint32_t leaf, bool has_subleaf, uint32_t subleaf,
-                                              bool enforce_subleaf);
+struct snp_cpuid_found snp_cpuid_guest_lookup(const uint8_t *pages, size_t length, bool secure_avic, uint32_t edition, uint32_t x2apic,
+                                              uint64_t xcr0, uint64_t xss, bool osxsave, uint32_t leaf, bool has_subleaf,
+                                              uint32_t subleaf, bool enforce_subleaf);
 
 /* Builds, and writes the image of the guest's table at the front of out, as snp_cpuid_write_image does; 9 comes after 13 and 14. */
-struct snp_cpuid_written snp_cpuid_write_guest_image(const uint8_t *pages, size_t length, bool secure_avic, uint32_t x2apic, uint64_t xcr0,
-                                                     uint64_t xss, bool osxsave, uint8_t *out, size_t room);
+struct snp_cpuid_written snp_cpuid_write_guest_image(const uint8_t *pages, size_t length, bool secure_avic, uint32_t edition,
+                                                     uint32_t x2apic, uint64_t xcr0, uint64_t xss, bool osxsave, uint8_t *out,
+                                                     size_t room);
 
-/* Compares two servers by their pages, under one choice of secure AVIC: may a guest of A move to B? Registers are compared as masked,
- * D.0.EAX with bits 0 and 1 set on both sides. After a yes, building B gives a table with every row of A's, at least A's bits in every
- * feature register, a save area no smaller and all else equal; or refuses it by 3, for a subleaf of leaf Dh that B's own further state
- * needs, or by 5. */
-struct snp_cpuid_compared snp_cpuid_compare(const uint8_t *a, size_t a_length, const uint8_t *b, size_t b_length, bool secure_avic);
+/* Compares two servers by their pages, under the same choices: may a guest of A move to B? Registers are compared as masked, D.0.EAX with
+ * bits 0 and 1 set on both sides, whatever the edition; one that is neither 1 nor 2 is answer 1 with number 15. After a yes, building B
+ * gives a table with every row of A's, at least A's bits in every feature register, a save area no smaller and all else equal; or refuses
+ * it by 3, for a subleaf of leaf Dh that B's own further state needs, or by 5. */
+struct snp_cpuid_compared snp_cpuid_compare(const uint8_t *a, size_t a_length, const uint8_t *b, size_t b_length, bool secure_avic,
+                                            uint32_t edition);
 
 /* A refusal as one line of ASCII: the number in decimal, then, each after one space, the details that it names, leaf in eight hexadecimal capitals,
  * subleaf (left out where there is none) and s in decimal, and a newline. The numbers in use, by what they name:
- *   nothing: 1 2 4 5 8 9 10 11 12 13 14
+ *   nothing: 1 2 4 5 8 9 10 11 12 13 14 15
  *   leaf and subleaf: 3
  *   s: 6 7
  * Writes the line at the front of out. subleaf is read only where has_subleaf is true. There is no such line where the number is not in use, s is

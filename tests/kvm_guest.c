@@ -21,7 +21,7 @@
 #include <sys/mman.h>
 #include <unistd.h>
 
-enum { PAGE = 4096, ENTRY = 48, RESULT = 24, STATE = 0xD, MOST_ROWS = 256, CODE = 0x1000 };
+enum { PAGE = 4096, ENTRY = 48, RESULT = 24, STATE = 0xD, MOST_ROWS = 256, CODE = 0x1000, EDITION = 1 };
 
 static const uint32_t IA32_XSS = 0xDA0;
 static const uint64_t OSXSAVE = 1 << 18;
@@ -140,15 +140,15 @@ static void compare(const char *name, uint64_t xcr0, uint64_t xss, bool on, uint
 
 /* What the guest of a processor in these states reads, and what the library gives it. */
 static void compare_view(const uint8_t *pages, uint64_t xcr0, uint64_t xss, bool on) {
-    struct snp_cpuid_built answer = snp_cpuid_guest_build(pages, 2 * PAGE, false, 0, xcr0, xss, on);
+    struct snp_cpuid_built answer = snp_cpuid_guest_build(pages, 2 * PAGE, false, EDITION, 0, xcr0, xss, on);
     if (answer.number != 0) {
         different++;
         printf("XCR0 %llx XSS %llx: refused by %u\n", (unsigned long long)xcr0, (unsigned long long)xss, answer.number);
         return;
     }
-    struct snp_cpuid_found one = snp_cpuid_guest_lookup(pages, 2 * PAGE, false, 0, xcr0, xss, on, 1, false, 0, true);
-    struct snp_cpuid_found state0 = snp_cpuid_guest_lookup(pages, 2 * PAGE, false, 0, xcr0, xss, on, STATE, true, 0, true);
-    struct snp_cpuid_found state1 = snp_cpuid_guest_lookup(pages, 2 * PAGE, false, 0, xcr0, xss, on, STATE, true, 1, true);
+    struct snp_cpuid_found one = snp_cpuid_guest_lookup(pages, 2 * PAGE, false, EDITION, 0, xcr0, xss, on, 1, false, 0, true);
+    struct snp_cpuid_found state0 = snp_cpuid_guest_lookup(pages, 2 * PAGE, false, EDITION, 0, xcr0, xss, on, STATE, true, 0, true);
+    struct snp_cpuid_found state1 = snp_cpuid_guest_lookup(pages, 2 * PAGE, false, EDITION, 0, xcr0, xss, on, STATE, true, 1, true);
     compare("1.ECX bit 27", xcr0, xss, on, cpuid(1, 0).ecx >> 27 & 1, one.ecx >> 27 & 1);
     compare("D.0.EBX", xcr0, xss, on, cpuid(STATE, 0).ebx, state0.ebx);
     compare("D.1.EBX", xcr0, xss, on, cpuid(STATE, 1).ebx, state1.ebx);
@@ -168,13 +168,13 @@ int main(int count, char **words) {
     set_cr4(0);
     static uint8_t pages[2 * PAGE];
     make_pages(pages, words[1]);
-    struct snp_cpuid_built built = snp_cpuid_build(pages, 2 * PAGE, false);
+    struct snp_cpuid_built built = snp_cpuid_build(pages, 2 * PAGE, false, EDITION);
     if (built.number != 0) {
         printf("the guest's rows are refused by %u (leaf %x, subleaf %x)\n", built.number, built.leaf, built.subleaf);
         return 1;
     }
-    uint64_t xfem = snp_cpuid_lookup(pages, 2 * PAGE, false, STATE, true, 0, true).eax;
-    uint64_t max_xss = snp_cpuid_lookup(pages, 2 * PAGE, false, STATE, true, 1, true).ecx;
+    uint64_t xfem = snp_cpuid_lookup(pages, 2 * PAGE, false, EDITION, STATE, true, 0, true).eax;
+    uint64_t max_xss = snp_cpuid_lookup(pages, 2 * PAGE, false, EDITION, STATE, true, 1, true).ecx;
     unsigned states = 0, beyond = 0;
     uint64_t xcr0 = 0;
     do {

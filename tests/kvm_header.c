@@ -40,10 +40,10 @@ static void check(int holds, const char *what) {
 }
 
 /* Every field of the list against the library's own lookups; gives the number of rows. */
-static uint32_t rows_against_lookups(const uint8_t *pages, size_t length, bool avic) {
+static uint32_t rows_against_lookups(const uint8_t *pages, size_t length, bool avic, uint32_t edition) {
     memset(list, 0xA5, sizeof list);
-    struct snp_cpuid_built built = snp_cpuid_build(pages, length, avic);
-    struct snp_cpuid_written written = snp_cpuid_write_kvm(pages, length, avic, list, sizeof list);
+    struct snp_cpuid_built built = snp_cpuid_build(pages, length, avic, edition);
+    struct snp_cpuid_written written = snp_cpuid_write_kvm(pages, length, avic, edition, list, sizeof list);
     const struct kvm_cpuid2 *cpuid = (const struct kvm_cpuid2 *)list;
     check(built.number == 0 && written.number == 0, "the pages are refused");
     check(cpuid->nent == built.row_count && cpuid->padding == 0, "the head");
@@ -51,7 +51,7 @@ static uint32_t rows_against_lookups(const uint8_t *pages, size_t length, bool a
     for (uint32_t i = 0; i < cpuid->nent; i++) {
         struct kvm_cpuid_entry2 row = cpuid->entries[i];
         bool indexed = row.flags == KVM_CPUID_FLAG_SIGNIFCANT_INDEX;
-        struct snp_cpuid_found found = snp_cpuid_lookup(pages, length, avic, row.function, indexed, row.index, true);
+        struct snp_cpuid_found found = snp_cpuid_lookup(pages, length, avic, edition, row.function, indexed, row.index, true);
         check(indexed || (row.flags == 0 && row.index == 0), "flags or index of a row");
         check(found.found && found.eax == row.eax && found.ebx == row.ebx && found.ecx == row.ecx && found.edx == row.edx, "registers of a row");
         check(!row.padding[0] && !row.padding[1] && !row.padding[2], "padding of a row");
@@ -97,8 +97,8 @@ int main(int argc, char **argv) {
     FILE *file = fopen(argv[1], "rb");
     check(file != NULL, "the pages cannot be opened");
     size_t length = fread(pages, 1, sizeof pages, file);
-    uint32_t rows = rows_against_lookups(pages, length, true);
-    check(rows == rows_against_lookups(pages, length, false), "another number of rows under secure AVIC");
+    uint32_t rows = rows_against_lookups(pages, length, true, 2);
+    check(rows == rows_against_lookups(pages, length, false, 1), "another number of rows under other choices");
     int kvm = open("/dev/kvm", O_RDWR);
     if (kvm < 0) {
         printf("%u rows are as <linux/kvm.h> has them; /dev/kvm cannot be opened\n", rows);

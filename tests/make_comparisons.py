@@ -3,9 +3,9 @@
 make_comparisons.py           writes the file
 make_comparisons.py --check   compares the file with what it makes
 
-A line is the secure-AVIC choice (0 or 1), the edits that make A and those that make B of tests/epyc-milan.pages, and the answer. Edits are - for
-none, or in a row, with commas: #LENGTH cuts the set or fills it up with zeros, @OFFSET:BYTES writes bytes. Offsets and bytes are hexadecimal, as
-leaves are; a subleaf of - is none.
+A line is the secure-AVIC choice (0 or 1), the edition in decimal, the edits that make A and those that make B of tests/epyc-milan.pages, and the
+answer. Edits are - for none, or in a row, with commas: #LENGTH cuts the set or fills it up with zeros, @OFFSET:BYTES writes bytes. Offsets and bytes
+are hexadecimal, as leaves are; a subleaf of - is none.
 """
 from collections import Counter
 from itertools import product
@@ -84,7 +84,7 @@ def richer(data=MILAN):
     return data
 
 
-# The pairs: (A, B, secure AVIC)
+# The pairs: (A, B, secure AVIC), under edition 1 where a group does not name another
 
 def single_bits():
     """In every register of every entry, the lowest bit that is set and the lowest that is not; in the registers whose kind is not one, every bit."""
@@ -173,6 +173,23 @@ def bit_28():
             yield a, b, True
 
 
+def by_entries():
+    """Under edition 2, servers without AVX state: A's F16C, XOP or FMA4, which its table does not show, must be B's all the same."""
+    legacy = set_to(STATE, 0, model.EAX, 3)
+    every = set_to(1, 0, model.ECX, ALL, set_to(0x80000001, 0, model.ECX, ALL, legacy))
+    sets = [legacy, every, *(set_to(leaf, 0, model.ECX, 0, every, 1 << bit) for leaf, bit in ((1, 29), (0x80000001, 11), (0x80000001, 16)))]
+    sets += [set_to(STATE, 0, model.EAX, 7, data) for data in sets]
+    for a, b in product(sets, repeat=2):
+        yield a, b, False, 2
+
+
+def unknown_editions():
+    """Document 02, P7: 15 before all else, whatever A and B are."""
+    for edition, choice in product((0, 3, 257, 258, 1 << 31, ALL), (False, True)):
+        for a, b in product((MILAN, b'', put(MILAN, 0, PAGE_ENTRIES + 1), set_to(STATE, 2, model.EAX, ALL)), repeat=2):
+            yield a, b, choice, edition
+
+
 # The file
 
 def edits(data):
@@ -195,18 +212,21 @@ def told(answer):
     return [*words, f'{leaf:x}', '-' if subleaf is None else str(subleaf), *('eax ebx ecx edx'.split()[number] for number in rest)]
 
 
-GROUPS = (single_bits, secure_avic, missing, damaged, refused, others, bit_28)
+GROUPS = (single_bits, secure_avic, missing, damaged, refused, others, bit_28, by_entries, unknown_editions)
+# asked again under edition 2
+AGAIN = (missing, damaged, refused, others, bit_28)
 
 
-def pairs_of(*groups):
-    """(A, B, secure AVIC) of each pair of these groups, once."""
-    return list(dict.fromkeys(pair for group in groups for pair in group()))
+def pairs_of(*groups, edition=1):
+    """(A, B, secure AVIC, edition) of each pair of these groups, once."""
+    return list(dict.fromkeys((*pair, edition)[:4] for group in groups for pair in group()))
 
 
 def main(words):
-    pairs = pairs_of(*GROUPS)
+    pairs = pairs_of(*GROUPS) + pairs_of(*AGAIN, edition=2)
     answers = [model.compare(*pair) for pair in pairs]
-    lines = [' '.join([str(int(choice)), edits(a), edits(b), *told(answer)]) for (a, b, choice), answer in zip(pairs, answers)]
+    lines = [' '.join([str(int(choice)), str(edition), edits(a), edits(b), *told(answer)])
+             for (a, b, choice, edition), answer in zip(pairs, answers)]
     made = ''.join(line + '\n' for line in lines).encode()
     counts = Counter(answer[0] for answer in answers)
     if len(counts) < 5:

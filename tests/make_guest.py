@@ -5,7 +5,7 @@ make_guest.py --check   compares the file with what it makes
 
 A line `p EDITS` makes a page set of the one before, the first of tests/epyc-milan.pages, by edits in a row with commas: #LENGTH cuts the set or
 fills it up with zeros, @OFFSET:BYTES writes bytes, - is none. The other lines ask of the set made last, for a
-secure-AVIC choice, an x2APIC number, XCR0, XSS and OSXSAVE, which follow their letter; the answer stands after a bar:
+secure-AVIC choice, an edition, an x2APIC number, XCR0, XSS and OSXSAVE, which follow their letter; the answer stands after a bar:
 b                        the row count, the mask, 1.EBX, 1.ECX, B.0.EDX, B.1.EDX, D.0.EBX and D.1.EBX
 l LEAF SUBLEAF ENFORCE   the four registers, or - where nothing is found
 w ROOM                   the image's length and its bytes
@@ -27,8 +27,8 @@ ALL = 0xFFFFFFFF
 PLACES = ((1, None, 'ebx'), (1, None, 'ecx'), (0xB, 0, 'edx'), (0xB, 1, 'edx'), (STATE, 0, 'ebx'), (STATE, 1, 'ebx'))
 
 
-def view(apic=0, xcr0=1, xss=0, osxsave=False, secure_avic=False):
-    return secure_avic, apic, xcr0, xss, osxsave
+def view(apic=0, xcr0=1, xss=0, osxsave=False, secure_avic=False, edition=1):
+    return secure_avic, apic, xcr0, xss, osxsave, edition
 
 
 # The groups: (pages, question); a question is (letter, view, what else is asked)
@@ -137,6 +137,23 @@ def at_random():
             yield from built(data, view(draw.getrandbits(32), xcr0, xss, draw.random() < .5, draw.random() < .5))
 
 
+def editions():
+    """Document 02, P7, of the table that a processor's guest sees: without AVX state, and with it in the table alone; 15 before 1, 13, 14 and 9."""
+    for xfem, edition in ((xfem, edition) for xfem in (0, 3, 0xE3, 7, 0xE7) for edition in (1, 2)):
+        data, one = spread(changed(rich(), STATE, 0, eax=xfem)), view(0xAB, 1, 0x800, True, edition=edition)
+        yield from built(data, one, view(0, xfem | 1, 0, edition=edition), view(0, 5, 0, edition=edition))
+        for leaf in 1, 0x80000001:
+            yield data, ('l', one, leaf, None, True)
+        yield data, ('w', one, 732)
+    large_state = spread(changed(changed(rich(), STATE, 2, eax=ALL, ebx=0), STATE, 1, eax=2))
+    for edition in 0, 3, 257, 1 << 31, ALL:
+        for data in b'', page([], 65), MILAN[:4096], large_state, MILAN:
+            for one in view(0, 7, edition=edition), view(0, 2, edition=edition):
+                yield from built(data, one)
+                yield data, ('l', one, 1, None, False)
+                yield data, ('w', one, 3)
+
+
 # The file
 
 def hexadecimal(subleaf):
@@ -152,8 +169,8 @@ def edits(old, data):
 
 
 def asked(question):
-    letter, (secure_avic, apic, xcr0, xss, osxsave), *rest = question
-    words = [letter, str(int(secure_avic)), f'{apic:x}', f'{xcr0:x}', f'{xss:x}', str(int(osxsave))]
+    letter, (secure_avic, apic, xcr0, xss, osxsave, edition), *rest = question
+    words = [letter, str(int(secure_avic)), f'{edition:x}', f'{apic:x}', f'{xcr0:x}', f'{xss:x}', str(int(osxsave))]
     if letter == 'l':
         leaf, subleaf, enforce = rest
         words += [f'{leaf:x}', hexadecimal(subleaf), str(int(enforce))]
@@ -180,7 +197,7 @@ def told(data, question):
 
 
 def lines():
-    groups = real_figures, numbers, osxsave, beyond, sizes, large, building_first, lookups, writes, at_random
+    groups = real_figures, numbers, osxsave, beyond, sizes, large, building_first, lookups, writes, at_random, editions
     last, seen = MILAN, set()
     for data, question in ((data, question) for group in groups for data, question in group()):
         if (data, question) in seen:
@@ -195,7 +212,7 @@ def lines():
 def main(words):
     made = [*lines()]
     refusals = {line.split(' | r ')[1].split()[0] for line in made if ' | r ' in line}
-    if refusals != set('1 2 3 4 5 6 7 8 9 13 14'.split()):
+    if refusals != set('1 2 3 4 5 6 7 8 9 13 14 15'.split()):
         print(f'only {sorted(refusals)} occur')
         return 1
     data = ''.join(line + '\n' for line in made).encode()

@@ -4,8 +4,8 @@ make_kvm.py           writes the file
 make_kvm.py --check   compares the file with what it makes
 
 A line is one of
-    write CHOICE EDITS ROOM ANSWER DIGEST     CHOICE and EDITS of tests/epyc-milan.pages as make_comparisons.py has them
-    read PARTS ROOM ANSWER DIGEST             PARTS of the list with + between them: bytes, or bytes*HOW-OFTEN, or - for none
+    write CHOICE EDITION EDITS ROOM ANSWER DIGEST     CHOICE, EDITION and EDITS of tests/epyc-milan.pages as make_comparisons.py has them
+    read PARTS ROOM ANSWER DIGEST                     PARTS of the list with + between them: bytes, or bytes*HOW-OFTEN, or - for none
 ROOM is how many bytes are lent, each A5h before. ANSWER is 0 and how many bytes were written, or a refusal's number, leaf, subleaf (- is none) and
 s, with colons between. Bytes, leaves and digests are hexadecimal; a digest is FNV-1a of 64 bits over all lent bytes.
 """
@@ -37,9 +37,10 @@ def told(answer):
     return f'0:{answer[1]}'
 
 
-# Writing: (pages, secure AVIC, room)
+# Writing: (pages, secure AVIC, edition, room)
 
 def writes():
+    every = set_to(1, 0, model.ECX, 0xFFFFFFFF, set_to(0x80000001, 0, model.ECX, 0xFFFFFFFF))
     accepted = [MILAN, richer(), set_to(STATE, 0, model.EAX, 3), set_to(0x8000001F, 0, model.EAX, 0xFFFFFFFF)]
     refused = [b'', MILAN[:4095], MILAN[:4096], struct.pack('<I', 65) + MILAN[4:], set_to(0x80000008, 0, model.EBX, 0),
                set_to(STATE, 2, model.EAX, 0xFFFFFFFF), set_to(0x80000008, 0, model.ECX, 0), set_to(1, 0, model.EDX, 0),
@@ -47,8 +48,13 @@ def writes():
     for choice in False, True:
         for pages in accepted:
             size = len(kvm_list(model.build(pages, choice)))
-            yield from ((pages, choice, room) for room in (0, 1, 7, 8, 47, size - 1, size, size + 1, size + 40, 4096))
-        yield from ((pages, choice, room) for pages in refused for room in (0, 2000))
+            yield from ((pages, choice, 1, room) for room in (0, 1, 7, 8, 47, size - 1, size, size + 1, size + 40, 4096))
+        yield from ((pages, choice, 1, room) for pages in refused for room in (0, 2000))
+        # edition 2, with the three bits and without AVX state or with it; editions that are none, before building's refusals
+        for xfem in 0, 3, 7:
+            yield from ((set_to(STATE, 0, model.EAX, xfem, every), choice, edition, room) for edition in (1, 2) for room in (0, 2000))
+        yield from ((pages, choice, 2, room) for pages in accepted + refused for room in (0, 2000))
+        yield from ((pages, choice, edition, room) for pages in [MILAN, *refused] for edition in (0, 3, 257, 0xFFFFFFFF) for room in (0, 2000))
 
 
 # Reading: (the list's parts, room)
@@ -93,9 +99,9 @@ def spelled(parts):
 
 
 def lines():
-    for pages, choice, room in writes():
-        answer, after = write_list(pages, choice, LENT * room)
-        yield answer, f'write {int(choice)} {edits(pages)} {room} {told(answer)} {digest(after)}'
+    for pages, choice, edition, room in writes():
+        answer, after = write_list(pages, choice, LENT * room, edition)
+        yield answer, f'write {int(choice)} {edition} {edits(pages)} {room} {told(answer)} {digest(after)}'
     for parts, room in reads():
         answer, after = read_list(b''.join(data * often for data, often in parts), LENT * room)
         yield answer, f'read {spelled(parts)} {room} {told(answer)} {digest(after)}'
@@ -105,7 +111,7 @@ def main(words):
     pairs = list(lines())
     made = ''.join(line + '\n' for _, line in pairs).encode()
     counts = Counter(answer[1] if answer[0] == 'refusal' else answer[0] for answer, _ in pairs)
-    if not set(range(1, 13)) | {'written', 'read'} <= set(counts):
+    if not {*range(1, 13), 15, 'written', 'read'} <= set(counts):
         print(f'only {counts} occur')
         return 1
     if words == ['--check']:

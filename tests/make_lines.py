@@ -59,7 +59,7 @@ def writes():
 def strange():
     """Lines with every byte replaced, left out and put in, cut and run together, and with numbers too large."""
     used = b'\x00\t\n\r !+-.09:@AFGadfg\x80\xB2\xFF'
-    for refusal in (3, 0xD, 12, 0), (3, 0x8000001F, None, 0), (6, 0, None, 0), (7, 0, None, 255), (1, 0, None, 0), (14, 0, None, 0):
+    for refusal in (3, 0xD, 12, 0), (3, 0x8000001F, None, 0), (6, 0, None, 0), (7, 0, None, 255), (1, 0, None, 0), (15, 0, None, 0):
         text = line(*refusal)
         for at in range(len(text) + 1):
             yield text[:at]

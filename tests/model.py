@@ -1,4 +1,5 @@
-"""A model of document 01: what building, lookup, the image, writing and the program answer for any page bytes, and of demand 3's hypothesis.
+"""A model of document 01: what building, lookup, the image, writing and the program answer for any page bytes, and of demand 3's hypothesis;
+with document 02's order of rows (P1), shift (P5) and editions (P7).
 
 An answer is ('table', rows, mask), rows {(leaf, subleaf or None): (EAX, EBX, ECX, EDX)} and mask the combined mask,
 or ('refusal', number, leaf, subleaf or None, s). Quotations and titles in the comments are document 01's.
@@ -24,6 +25,11 @@ YMM = 1 << 2
 AVX512 = 1 << 5 | 1 << 6 | 1 << 7
 CET = 1 << 11 | 1 << 12
 
+# document 02, P7: edition 1 "is document 01's rule"
+EDITIONS = 1, 2
+F16C = 1 << 29
+XOP, FMA4 = 1 << 11, 1 << 16
+
 COMMON_REQUIRED_LEAVES = [
     (1, None), (5, None), (7, 0), (0xB, 0), (0xB, 1), (0x80000001, None), (0x80000005, None), (0x80000006, None),
     (0x80000007, None), (0x80000008, None), (0x80000002, None), (0x80000003, None), (0x80000004, None), (STATE, 0),
@@ -47,6 +53,14 @@ class Refusal(Exception):
     def __init__(self, number, leaf=0, subleaf=None, s=0):
         super().__init__(number)
         self.answer = ('refusal', number, leaf, subleaf, s)
+
+
+# Document 02, P7
+
+def check_edition(edition):
+    """ "15 an edition other than 1 or 2, before 1" """
+    if edition not in EDITIONS:
+        raise Refusal(15)
 
 
 # "Page bytes" and "Corners of snp.rs"
@@ -146,9 +160,9 @@ def finish_state(rows, xfem, xss):
 
 # "Corners of mod.rs": features that hang on others
 
-def clear_by_state(rows, xfem, xss):
+def clear_by_state(rows, xfem, xss, edition):
     """CET_SS without both CET states; AVX and AVX-512 features without theirs."""
-    one, seven = rows[1, None], rows[7, 0]
+    one, seven, extended = rows[1, None], rows[7, 0], rows[0x80000001, None]
     if xss & CET != CET:
         seven[ECX] &= ~(1 << 7)
     if not xfem & YMM:
@@ -159,6 +173,10 @@ def clear_by_state(rows, xfem, xss):
         seven[EBX] &= ~0xD0230000
         seven[ECX] &= ~0x5842
         seven[EDX] &= ~0x800100
+    # document 02, P7: "Edition 2 also clears 1.ECX bit 29 and 80000001h.ECX bits 11 (XOP) and 16 (FMA4) when XFEM lacks bit 2."
+    if edition == 2 and not xfem & YMM:
+        one[ECX] &= ~F16C
+        extended[ECX] &= ~(XOP | FMA4)
 
 
 def finish_features(rows):
@@ -230,9 +248,10 @@ def rust_answer(answer):
 
 # The public functions
 
-def build(pages, secure_avic):
-    """The table of the pages, or the refusal of the first check that fails in "Where each check stands"."""
+def build(pages, secure_avic, edition=1):
+    """The table of the pages, or the refusal of the first check that fails in "Where each check stands". The edition is one of any 32 bits."""
     try:
+        check_edition(edition)
         rows = first_rows(pages, secure_avic)
         check_required(rows)
         xfem, xss = state_masks(rows)
@@ -240,7 +259,7 @@ def build(pages, secure_avic):
         rows[0xB, 0], rows[0xB, 1] = topology(*topology_inputs(rows))
     except Refusal as refusal:
         return refusal.answer
-    clear_by_state(rows, xfem, xss)
+    clear_by_state(rows, xfem, xss, edition)
     finish_features(rows)
     return 'table', {key: tuple(registers) for key, registers in rows.items()}, xfem | xss
 
@@ -258,13 +277,13 @@ def register_rises(key, register, a, b):
     return a & features & ~b == 0 and (a ^ b) & ~features == 0
 
 
-def compare(a, b, secure_avic):
-    """The hypothesis of demand 3: ('rises',), or the first thing that fails.
+def compare(a, b, secure_avic, edition=1):
+    """The hypothesis of demand 3, under one edition, "the same for A and B": ('rises',), or the first thing that fails.
 
     ('refused A', number, leaf, subleaf, s), ('unlawful B', number, leaf, subleaf, s), ('no entry', leaf, subleaf) or
     ('differs', leaf, subleaf, register). "Entries are compared as masked", D.0.EAX with its bits 0 and 1 set.
     """
-    table = build(a, secure_avic)
+    table = build(a, secure_avic, edition)
     if table[0] == 'refusal':
         return 'refused A', *table[1:]
     try:
@@ -304,9 +323,9 @@ def image(answer):
     return data
 
 
-def write(pages, secure_avic, buffer):
+def write(pages, secure_avic, buffer, edition=1):
     """(('written', length) or the refusal, the lent bytes afterwards). It "gives building's refusals before 9". """
-    answer = build(pages, secure_avic)
+    answer = build(pages, secure_avic, edition)
     if answer[0] == 'refusal':
         return answer, bytes(buffer)
     data = image(answer)
@@ -316,7 +335,7 @@ def write(pages, secure_avic, buffer):
 
 
 def output(pages):
-    """What the program writes for the bytes that it reads ("Image and lookup"), secure AVIC off."""
+    """What the program writes for the bytes that it reads ("Image and lookup"), secure AVIC off. Document 02, P7: it "keeps edition 1". """
     if len(pages) > 65536:
         return b'\x04'
     answer = build(pages, False)

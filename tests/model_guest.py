@@ -78,6 +78,6 @@ def guest_of(table, apic, xcr0, xss, osxsave):
     return 'table', rows, table[2]
 
 
-def guest(pages, secure_avic, apic, xcr0, xss, osxsave):
-    """The guest's whole table, looked up as before (model.lookup). "Building's refusals come first." """
-    return guest_of(model.build(pages, secure_avic), apic, xcr0, xss, osxsave)
+def guest(pages, secure_avic, apic, xcr0, xss, osxsave, edition=1):
+    """The guest's whole table, looked up as before (model.lookup). "Building's refusals come first", P7's 15 among them. """
+    return guest_of(model.build(pages, secure_avic, edition), apic, xcr0, xss, osxsave)

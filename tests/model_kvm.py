@@ -22,9 +22,9 @@ def kvm_list(answer):
     return data
 
 
-def write_list(pages, secure_avic, buffer):
+def write_list(pages, secure_avic, buffer, edition=1):
     """(('written', length) or the refusal, the lent bytes afterwards). It "after building's refusals gives 9 for a short buffer"."""
-    answer = model.build(pages, secure_avic)
+    answer = model.build(pages, secure_avic, edition)
     if answer[0] == 'refusal':
         return answer, bytes(buffer)
     data = kvm_list(answer)

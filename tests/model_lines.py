@@ -8,7 +8,7 @@ NO_SUCH_LINE = ('no such line',)
 DIGITS = b'0123456789'
 CAPITALS = b'0123456789ABCDEF'
 
-# The numbers in use, each with the details that it names: document 01, "Where each check stands", then P2 and P3.
+# The numbers in use, each with the details that it names: document 01, "Where each check stands", then P2, P3 and P7.
 NAMES = {
     1: (),
     2: (),
@@ -24,6 +24,7 @@ NAMES = {
     12: (),
     13: (),
     14: (),
+    15: (),
 }
 
 

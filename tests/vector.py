@@ -1,13 +1,14 @@
 """One vector of crates/vectors: a page set, the command that asks something of it, and the line that the program must answer.
 
-A command is 12 bytes (crates/vectors/src/main.rt): its letter, three choices, and two numbers. The answers are the model's.
+A command is 16 bytes (crates/vectors/src/main.rt): its letter, three choices, and three numbers, of which the last is the edition. The answers are
+the model's.
 """
 from collections import namedtuple
 import struct
 
 import model
 
-COMMAND_SIZE = 12
+COMMAND_SIZE = 16
 FILL = 0xA5
 NO_SUBLEAF = 0xFFFFFFFF
 
@@ -15,8 +16,8 @@ NO_SUBLEAF = 0xFFFFFFFF
 Vector = namedtuple('Vector', 'name pages command summary line')
 
 
-def command(kind, a=0, b=0, secure_avic=False, has_subleaf=False, enforce=False):
-    return struct.pack('<c3?II', kind.encode(), secure_avic, has_subleaf, enforce, a, b)
+def command(kind, a=0, b=0, secure_avic=False, has_subleaf=False, enforce=False, edition=1):
+    return struct.pack('<c3?III', kind.encode(), secure_avic, has_subleaf, enforce, a, b, edition)
 
 
 def word(number):
@@ -35,24 +36,25 @@ def summed(kind, answer):
     return f'{kind} refused by {answer[1]}' if answer[0] == 'refusal' else f'{kind} accepted'
 
 
-def build(name, data, secure_avic=False):
-    answer = model.build(data, secure_avic)
+def build(name, data, secure_avic=False, edition=1):
+    answer = model.build(data, secure_avic, edition)
     rows, mask = (len(answer[1]), answer[2]) if answer[0] == 'table' else (0, 0)
     words = ['b', *refusal_words(answer), f'{rows:016x}', f'{mask:016x}']
-    return Vector(name, data, command('b', secure_avic=secure_avic), summed('build', answer), ' '.join(words))
+    asked = command('b', secure_avic=secure_avic, edition=edition)
+    return Vector(name, data, asked, summed('build', answer), ' '.join(words))
 
 
-def lookup(name, data, leaf, subleaf=None, enforce=True, secure_avic=False):
+def lookup(name, data, leaf, subleaf=None, enforce=True, secure_avic=False, edition=1):
     row = f'{leaf:X}h' if subleaf is None else f'{leaf:X}h.{subleaf:X}h'
-    asked = command('l', leaf, NO_SUBLEAF if subleaf is None else subleaf, secure_avic, subleaf is not None, enforce)
-    found = model.lookup(model.build(data, secure_avic), leaf, subleaf, enforce)
+    asked = command('l', leaf, NO_SUBLEAF if subleaf is None else subleaf, secure_avic, subleaf is not None, enforce, edition)
+    found = model.lookup(model.build(data, secure_avic, edition), leaf, subleaf, enforce)
     words = ['l', word(found is not None), *map(word, found or (0, 0, 0, 0))]
     return Vector(f'{name}, {row}', data, asked, 'lookup found' if found else 'lookup not found', ' '.join(words))
 
 
-def write(name, data, room, secure_avic=False):
-    answer, lent = model.write(data, secure_avic, bytes([FILL]) * room)
+def write(name, data, room, secure_avic=False, edition=1):
+    answer, lent = model.write(data, secure_avic, bytes([FILL]) * room, edition)
     length = answer[1] if answer[0] == 'written' else 0
     words = ['w', *refusal_words(answer), f'{length:016x}', lent.hex()]
-    asked = command('w', room, secure_avic=secure_avic)
+    asked = command('w', room, secure_avic=secure_avic, edition=edition)
     return Vector(f'{name}, {room} bytes lent', data, asked, summed('write', answer), ' '.join(words))

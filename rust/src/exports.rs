@@ -68,24 +68,35 @@ pub struct LineRead {
 }
 
 unsafe extern "C" {
-    pub fn snp_cpuid_build(pages: *const u8, length: usize, secure_avic: bool) -> Built;
+    pub fn snp_cpuid_build(pages: *const u8, length: usize, secure_avic: bool, edition: u32) -> Built;
     pub fn snp_cpuid_lookup(
         pages: *const u8,
         length: usize,
         secure_avic: bool,
+        edition: u32,
         leaf: u32,
         has_subleaf: bool,
         subleaf: u32,
         enforce_subleaf: bool,
     ) -> Found;
-    pub fn snp_cpuid_write_image(pages: *const u8, length: usize, secure_avic: bool, out: *mut u8, room: usize) -> Written;
-    pub fn snp_cpuid_write_kvm(pages: *const u8, length: usize, secure_avic: bool, out: *mut u8, room: usize) -> Written;
+    pub fn snp_cpuid_write_image(pages: *const u8, length: usize, secure_avic: bool, edition: u32, out: *mut u8, room: usize) -> Written;
+    pub fn snp_cpuid_write_kvm(pages: *const u8, length: usize, secure_avic: bool, edition: u32, out: *mut u8, room: usize) -> Written;
     pub fn snp_cpuid_read_kvm(list: *const u8, length: usize, out: *mut u8, room: usize) -> Written;
-    pub fn snp_cpuid_guest_build(pages: *const u8, length: usize, secure_avic: bool, x2apic: u32, xcr0: u64, xss: u64, osxsave: bool) -> Built;
+    pub fn snp_cpuid_guest_build(
+        pages: *const u8,
+        length: usize,
+        secure_avic: bool,
+        edition: u32,
+        x2apic: u32,
+        xcr0: u64,
+        xss: u64,
+        osxsave: bool,
+    ) -> Built;
     pub fn snp_cpuid_guest_lookup(
         pages: *const u8,
         length: usize,
         secure_avic: bool,
+        edition: u32,
         x2apic: u32,
         xcr0: u64,
         xss: u64,
@@ -99,6 +110,7 @@ unsafe extern "C" {
         pages: *const u8,
         length: usize,
         secure_avic: bool,
+        edition: u32,
         x2apic: u32,
         xcr0: u64,
         xss: u64,
@@ -106,7 +118,7 @@ unsafe extern "C" {
         out: *mut u8,
         room: usize,
     ) -> Written;
-    pub fn snp_cpuid_compare(a: *const u8, a_length: usize, b: *const u8, b_length: usize, secure_avic: bool) -> Compared;
+    pub fn snp_cpuid_compare(a: *const u8, a_length: usize, b: *const u8, b_length: usize, secure_avic: bool, edition: u32) -> Compared;
     pub fn snp_cpuid_write_line(number: u32, leaf: u32, has_subleaf: bool, subleaf: u32, s: u32, out: *mut u8, room: usize) -> LineWritten;
     pub fn snp_cpuid_read_line(line: *const u8, length: usize) -> LineRead;
 }

@@ -1,7 +1,7 @@
 //! Lists for and from KVM: a table as `struct kvm_cpuid2`, and such a list as pages (document 02, P2).
 
 use crate::answer::Answer;
-use crate::{PAGE_BYTES, Refusal, exports};
+use crate::{Options, PAGE_BYTES, Refusal, exports};
 
 /// The most bytes that a table's list can have: a count and a zero word, and 40 bytes a row.
 pub const MOST_KVM_BYTES: usize = 8 + 40 * 32;
@@ -15,14 +15,15 @@ pub const KVM_PAGES_BYTES: usize = 2 * PAGE_BYTES;
 /// ```
 /// let pages = std::fs::read("../tests/epyc-milan.pages").unwrap();
 /// let mut list = [0; snp_cpuid::MOST_KVM_BYTES];
-/// let length = snp_cpuid::write_kvm(&pages, false, &mut list).unwrap();
+/// let length = snp_cpuid::write_kvm(&pages, snp_cpuid::Options::new(), &mut list).unwrap();
 /// // 29 rows: the count, then function 0 with index 0, flags 0 and the highest leaf
 /// assert_eq!(length, 8 + 40 * 29);
 /// assert_eq!(list[..24], [29, 0, 0, 0, 0, 0, 0, 0, 0, 0, 0, 0, 0, 0, 0, 0, 0, 0, 0, 0, 0xD, 0, 0, 0]);
 /// ```
-pub fn write_kvm(pages: &[u8], secure_avic: bool, out: &mut [u8]) -> Result<usize, Refusal> {
+pub fn write_kvm(pages: &[u8], options: Options, out: &mut [u8]) -> Result<usize, Refusal> {
+    let Options { secure_avic, edition } = options;
     // SAFETY: both pointers and lengths are those of slices; the function reads the first and writes within the second
-    let written = unsafe { exports::snp_cpuid_write_kvm(pages.as_ptr(), pages.len(), secure_avic, out.as_mut_ptr(), out.len()) };
+    let written = unsafe { exports::snp_cpuid_write_kvm(pages.as_ptr(), pages.len(), secure_avic, edition, out.as_mut_ptr(), out.len()) };
     written.accepted().map(|written| written.length as usize)
 }
 
@@ -31,13 +32,14 @@ pub fn write_kvm(pages: &[u8], secure_avic: bool, out: &mut [u8]) -> Result<usiz
 ///
 /// ```
 /// let pages = std::fs::read("../tests/epyc-milan.pages").unwrap();
+/// let options = snp_cpuid::Options::new().edition(2);
 /// let mut list = [0; snp_cpuid::MOST_KVM_BYTES];
-/// let length = snp_cpuid::write_kvm(&pages, false, &mut list).unwrap();
+/// let length = snp_cpuid::write_kvm(&pages, options, &mut list).unwrap();
 ///
-/// // read and built again, the table is the same
+/// // read and built again under the same options, the table is the same
 /// let mut again = [0; snp_cpuid::KVM_PAGES_BYTES];
 /// snp_cpuid::read_kvm(&list[..length], &mut again).unwrap();
-/// assert_eq!(snp_cpuid::build(&again, false), snp_cpuid::build(&pages, false));
+/// assert_eq!(snp_cpuid::build(&again, options), snp_cpuid::build(&pages, options));
 ///
 /// // a byte too many
 /// assert_eq!(snp_cpuid::read_kvm(&list[..length + 1], &mut again), Err(snp_cpuid::Refusal::ListLength));

@@ -2,12 +2,12 @@
 //!
 //! ```
 //! let pages = std::fs::read("../tests/epyc-milan.pages").unwrap();
-//! let table = snp_cpuid::build(&pages, false).unwrap();
+//! let table = snp_cpuid::build(&pages, snp_cpuid::Options::new()).unwrap();
 //! // leaf 1, EDX bit 28: hyperthreading
 //! assert_eq!(table.row(1, None).unwrap().edx >> 28 & 1, 1);
 //!
 //! // no pages at all
-//! let refusal = snp_cpuid::build(&[], false).unwrap_err();
+//! let refusal = snp_cpuid::build(&[], snp_cpuid::Options::new()).unwrap_err();
 //! assert_eq!(refusal, snp_cpuid::Refusal::PagesLength);
 //! println!("refusal {}: {refusal}", refusal.number());
 //! ```
@@ -18,18 +18,20 @@
 mod answer;
 mod comparison;
 pub mod exports;
-mod kvm;
 mod guest;
+mod kvm;
 mod line;
+mod options;
 mod refusal;
 mod table;
 
 use answer::Answer;
 
 pub use comparison::{Comparison, Register};
-pub use kvm::{KVM_PAGES_BYTES, MOST_KVM_BYTES, read_kvm, write_kvm};
 pub use guest::{Processor, guest, guest_lookup, write_guest_image};
+pub use kvm::{KVM_PAGES_BYTES, MOST_KVM_BYTES, read_kvm, write_kvm};
 pub use line::NoSuchLine;
+pub use options::Options;
 pub use refusal::{Details, Refusal, TopologyError};
 pub use table::{CpuidResult, Row, Rows, Table};
 
@@ -42,52 +44,55 @@ pub const MOST_IMAGE_BYTES: usize = 732;
 /// The most bytes that a refusal's line can have.
 pub const MOST_LINE_BYTES: usize = 22;
 
-/// Builds the table of CPUID pages that stand end to end. `secure_avic` adds one bit to the mask of 8000001Fh.EAX.
-pub fn build(pages: &[u8], secure_avic: bool) -> Result<Table, Refusal> {
+/// Builds the table of CPUID pages that stand end to end.
+pub fn build(pages: &[u8], options: Options) -> Result<Table, Refusal> {
+    let Options { secure_avic, edition } = options;
     // SAFETY: the pointer and length are those of a slice, which the function only reads
-    let built = unsafe { exports::snp_cpuid_build(pages.as_ptr(), pages.len(), secure_avic) }.accepted()?;
+    let built = unsafe { exports::snp_cpuid_build(pages.as_ptr(), pages.len(), secure_avic, edition) }.accepted()?;
     let mut image = [0; MOST_IMAGE_BYTES];
-    let length = write_image(pages, secure_avic, &mut image)?;
+    let length = write_image(pages, options, &mut image)?;
     Ok(Table::new(image, length, built.max_extended_state))
 }
 
 /// Writes the image of CPUID pages to the front of `out` and gives its length. Where it refuses, `out` is as it was; bytes beyond the image are as
 /// they were.
-pub fn write_image(pages: &[u8], secure_avic: bool, out: &mut [u8]) -> Result<usize, Refusal> {
+pub fn write_image(pages: &[u8], options: Options, out: &mut [u8]) -> Result<usize, Refusal> {
+    let Options { secure_avic, edition } = options;
     // SAFETY: both pointers and lengths are those of slices; the function reads the first and writes within the second
-    let written = unsafe { exports::snp_cpuid_write_image(pages.as_ptr(), pages.len(), secure_avic, out.as_mut_ptr(), out.len()) };
+    let written = unsafe { exports::snp_cpuid_write_image(pages.as_ptr(), pages.len(), secure_avic, edition, out.as_mut_ptr(), out.len()) };
     written.accepted().map(|written| written.length as usize)
 }
 
 /// Builds and looks one row up, both in the library. [`Table::lookup`] gives the same and builds once.
-pub fn lookup(pages: &[u8], secure_avic: bool, leaf: u32, subleaf: Option<u32>, enforce_subleaf: bool) -> Option<CpuidResult> {
+pub fn lookup(pages: &[u8], options: Options, leaf: u32, subleaf: Option<u32>, enforce_subleaf: bool) -> Option<CpuidResult> {
+    let Options { secure_avic, edition } = options;
+    let (named, subleaf) = (subleaf.is_some(), subleaf.unwrap_or(0));
     // SAFETY: the pointer and length are those of a slice, which the function only reads
-    let found = unsafe {
-        exports::snp_cpuid_lookup(pages.as_ptr(), pages.len(), secure_avic, leaf, subleaf.is_some(), subleaf.unwrap_or(0), enforce_subleaf)
-    };
+    let found = unsafe { exports::snp_cpuid_lookup(pages.as_ptr(), pages.len(), secure_avic, edition, leaf, named, subleaf, enforce_subleaf) };
     found.result()
 }
 
-/// Compares two servers by their pages, under one choice of secure AVIC: may a guest of `a` move to `b`?
+/// Compares two servers by their pages, under the same options: may a guest of `a` move to `b`? What is said of a pair holds under either edition.
 ///
 /// ```
-/// use snp_cpuid::{Comparison, Register, compare};
+/// use snp_cpuid::{Comparison, Options, Register, compare};
 ///
 /// let a = std::fs::read("../tests/epyc-milan.pages").unwrap();
-/// assert_eq!(compare(&a, &a, false), Comparison::Rises);
+/// assert_eq!(compare(&a, &a, Options::new()), Comparison::Rises);
 ///
 /// // a server without FMA, bit 12 of 1.ECX; leaf 1 is the second entry of page 0
 /// let mut b = a.clone();
 /// assert_eq!(b[64..68], 1u32.to_le_bytes());
 /// b[64 + 32 + 1] &= !0x10;
-/// let answer = compare(&a, &b, false);
+/// let answer = compare(&a, &b, Options::new().edition(2));
 /// assert_eq!(answer, Comparison::Differs { leaf: 1, subleaf: None, register: Register::Ecx });
 /// assert_eq!(answer.to_string(), "B's 1h.ECX lacks a feature bit of A's, or differs from A's where it must be equal");
 ///
 /// // to the server with FMA a guest may move
-/// assert_eq!(compare(&b, &a, false), Comparison::Rises);
+/// assert_eq!(compare(&b, &a, Options::new()), Comparison::Rises);
 /// ```
-pub fn compare(a: &[u8], b: &[u8], secure_avic: bool) -> Comparison {
+pub fn compare(a: &[u8], b: &[u8], options: Options) -> Comparison {
+    let Options { secure_avic, edition } = options;
     // SAFETY: both pointers and lengths are those of slices, which the function only reads
-    Comparison::from_numbers(unsafe { exports::snp_cpuid_compare(a.as_ptr(), a.len(), b.as_ptr(), b.len(), secure_avic) })
+    Comparison::from_numbers(unsafe { exports::snp_cpuid_compare(a.as_ptr(), a.len(), b.as_ptr(), b.len(), secure_avic, edition) })
 }

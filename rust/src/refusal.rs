@@ -30,6 +30,8 @@ pub enum Refusal {
     StateBeyondTable,
     /// 14: the size of the compacted save area of XCR0 and XSS does not fit 32 bits.
     CompactSizeTooLarge,
+    /// 15: the edition of the AVX rule is neither 1 nor 2.
+    UnknownEdition,
 }
 
 /// How the topology leaves disagree. The number is s, bits 12 to 15 of 80000008h.ECX: the size of the APIC core id.
@@ -108,7 +110,11 @@ const TABLE: &[Line] = &[
         },
     },
     Line { number: 10, name: |_| Refusal::ListLength, words: |_| "the list for KVM must have 8 bytes and 40 for each row that it counts".into() },
-    Line { number: 11, name: |_| Refusal::ListRows, words: |_| "the list for KVM has more rows of leaf Dh, or of all others, than the 64 of a page".into() },
+    Line {
+        number: 11,
+        name: |_| Refusal::ListRows,
+        words: |_| "the list for KVM has more rows of leaf Dh, or of all others, than the 64 of a page".into(),
+    },
     Line {
         number: 12,
         name: |_| Refusal::ListFields,
@@ -124,6 +130,7 @@ const TABLE: &[Line] = &[
         name: |_| Refusal::CompactSizeTooLarge,
         words: |_| "the size of the compacted save area of XCR0 and XSS (D.1.EBX) does not fit 32 bits".into(),
     },
+    Line { number: 15, name: |_| Refusal::UnknownEdition, words: |_| "the AVX rule has no such edition: it has editions 1 and 2".into() },
 ];
 
 impl Refusal {
@@ -147,7 +154,8 @@ impl Refusal {
             | Refusal::ListRows
             | Refusal::ListFields
             | Refusal::StateBeyondTable
-            | Refusal::CompactSizeTooLarge => Details::default(),
+            | Refusal::CompactSizeTooLarge
+            | Refusal::UnknownEdition => Details::default(),
         }
     }
 
@@ -223,6 +231,7 @@ mod tests {
             (12, none, Refusal::ListFields),
             (13, none, Refusal::StateBeyondTable),
             (14, none, Refusal::CompactSizeTooLarge),
+            (15, none, Refusal::UnknownEdition),
         ] {
             assert_eq!((refusal.number(), refusal.details()), (number, named));
             assert_eq!(Refusal::of(number, named), refusal);

@@ -1,6 +1,6 @@
 //! Replays comparisons.txt, whose answers are those of the model (tests/make_comparisons.py writes it and says how a line reads).
 
-use snp_cpuid::{Comparison, Refusal, compare};
+use snp_cpuid::{Comparison, Options, Refusal, compare};
 use std::collections::BTreeMap;
 
 /// The shipped set with the edits of one word.
@@ -52,10 +52,11 @@ fn answers_are_the_models() {
     let text = std::fs::read_to_string("tests/comparisons.txt").expect("the list");
     let mut seen = BTreeMap::new();
     for (number, line) in text.lines().enumerate() {
-        let mut words = line.splitn(4, ' ');
-        let mut word = || words.next().expect("four words");
-        let (choice, a, b, wanted) = (word() == "1", edited(word()), edited(word()), word());
-        let (kind, details) = told(compare(&a, &b, choice));
+        let mut words = line.splitn(5, ' ');
+        let mut word = || words.next().expect("five words");
+        let options = Options::new().secure_avic(word() == "1").edition(word().parse().expect("an edition"));
+        let (a, b, wanted) = (edited(word()), edited(word()), word());
+        let (kind, details) = told(compare(&a, &b, options));
         assert_eq!(format!("{kind} {details}").trim(), wanted, "line {}: {line}", number + 1);
         *seen.entry(kind).or_insert(0) += 1;
     }
@@ -64,7 +65,7 @@ fn answers_are_the_models() {
 
 #[test]
 fn texts_name_what_to_look_at() {
-    let texts = |a: &str, b: &str| compare(&edited(a), &edited(b), false).to_string();
+    let texts = |a: &str, b: &str| compare(&edited(a), &edited(b), Options::new()).to_string();
     assert_eq!(texts("-", "-"), "a guest of A may move to B");
     assert!(texts("#0", "-").starts_with("A is refused: the CPUID pages must be"));
     assert!(texts("-", "#1").starts_with("B's pages cannot be read: "));

@@ -1,7 +1,7 @@
 //! Empty pages are passed over by a loop: a million in a row, in a thread with a small stack. The memory is zeros that nothing writes, so it is never
 //! there.
 
-use snp_cpuid::{PAGE_BYTES, Refusal, build, compare, write_image};
+use snp_cpuid::{Options, PAGE_BYTES, Refusal, build, compare, write_image};
 use std::thread::Builder;
 
 const MANY: usize = 1_000_000;
@@ -23,10 +23,10 @@ fn a_million_empty_pages_change_no_table() {
         let mut longer = vec![0; pages.len() + MANY * PAGE_BYTES];
         longer[..pages.len()].copy_from_slice(&pages);
         let (mut image, mut same) = ([0; 1024], [0; 1024]);
-        let length = write_image(&pages, false, &mut image).unwrap();
-        assert_eq!(write_image(&longer, false, &mut same), Ok(length));
+        let length = write_image(&pages, Options::new(), &mut image).unwrap();
+        assert_eq!(write_image(&longer, Options::new(), &mut same), Ok(length));
         assert_eq!(image, same);
-        assert!(matches!(compare(&pages, &longer, false), snp_cpuid::Comparison::Rises));
+        assert!(matches!(compare(&pages, &longer, Options::new()), snp_cpuid::Comparison::Rises));
     });
 }
 
@@ -34,11 +34,11 @@ fn a_million_empty_pages_change_no_table() {
 fn an_entry_after_a_million_empty_pages_is_read() {
     with_small_stack(|| {
         let mut pages = vec![0; (MANY + 1) * PAGE_BYTES];
-        assert_eq!(build(&pages, false).unwrap_err(), Refusal::MissingRequiredResult(1, None));
+        assert_eq!(build(&pages, Options::new()).unwrap_err(), Refusal::MissingRequiredResult(1, None));
         // one entry, of leaf 1: the next leaf of the list is the first that is missing
         let last = MANY * PAGE_BYTES;
         pages[last] = 1;
         pages[last + 16] = 1;
-        assert_eq!(build(&pages, false).unwrap_err(), Refusal::MissingRequiredResult(5, None));
+        assert_eq!(build(&pages, Options::new()).unwrap_err(), Refusal::MissingRequiredResult(5, None));
     });
 }

@@ -1,7 +1,7 @@
 //! Replays guest.txt, whose answers are those of the model (tests/make_guest.py writes it and says how a line reads).
 
 use snp_cpuid::exports::snp_cpuid_guest_build;
-use snp_cpuid::{CpuidResult, Processor, Refusal, Table, build, guest, guest_lookup, write_guest_image};
+use snp_cpuid::{CpuidResult, Options, Processor, Refusal, Table, build, guest, guest_lookup, write_guest_image};
 use std::collections::BTreeMap;
 
 /// One set made of another.
@@ -49,9 +49,9 @@ fn registers(found: Option<CpuidResult>) -> String {
 }
 
 /// What the library writes into a buffer of this room; bytes that it does not write stay.
-fn written(pages: &[u8], choice: bool, processor: Processor, room: usize) -> String {
+fn written(pages: &[u8], options: Options, processor: Processor, room: usize) -> String {
     let mut out = vec![0xA5; room];
-    let answer = write_guest_image(pages, choice, processor, &mut out);
+    let answer = write_guest_image(pages, options, processor, &mut out);
     let length = answer.unwrap_or(0);
     assert!(out[length..].iter().all(|&byte| byte == 0xA5));
     let image: String = out[..length].iter().map(|byte| format!("{byte:02x}")).collect();
@@ -60,29 +60,30 @@ fn written(pages: &[u8], choice: bool, processor: Processor, room: usize) -> Str
 
 /// The answer to one line's question.
 fn answered(pages: &[u8], words: &[&str]) -> String {
-    let choice = words[1] == "1";
-    let processor = Processor { x2apic: number(words[2]) as u32, xcr0: number(words[3]), xss: number(words[4]), osxsave: words[5] == "1" };
+    let options = Options::new().secure_avic(words[1] == "1").edition(number(words[2]) as u32);
+    let processor = Processor { x2apic: number(words[3]) as u32, xcr0: number(words[4]), xss: number(words[5]), osxsave: words[6] == "1" };
     match words[0] {
         "b" => {
-            let table = guest(pages, choice, processor);
-            if let (Ok(table), Ok(plain)) = (&table, build(pages, choice)) {
+            let table = guest(pages, options, processor);
+            if let (Ok(table), Ok(plain)) = (&table, build(pages, options)) {
                 // the same rows, and the count that the library itself gives
                 assert!(table.rows().map(|row| (row.leaf, row.subleaf)).eq(plain.rows().map(|row| (row.leaf, row.subleaf))));
                 let Processor { x2apic, xcr0, xss, osxsave } = processor;
                 // SAFETY: the pointer and length are those of a slice
-                let built = unsafe { snp_cpuid_guest_build(pages.as_ptr(), pages.len(), choice, x2apic, xcr0, xss, osxsave) };
+                let built =
+                    unsafe { snp_cpuid_guest_build(pages.as_ptr(), pages.len(), options.secure_avic, options.edition, x2apic, xcr0, xss, osxsave) };
                 assert_eq!(built.row_count as usize, table.rows().count());
             }
             table.map_or_else(refused, |table| figures(&table))
         }
         "l" => {
-            let (leaf, subleaf, enforce) = (number(words[6]) as u32, subleaf(words[7]), words[8] == "1");
-            let found = guest_lookup(pages, choice, processor, leaf, subleaf, enforce);
+            let (leaf, subleaf, enforce) = (number(words[7]) as u32, subleaf(words[8]), words[9] == "1");
+            let found = guest_lookup(pages, options, processor, leaf, subleaf, enforce);
             // the table that the crate reads from the image gives the same
-            assert_eq!(guest(pages, choice, processor).ok().and_then(|table| table.lookup(leaf, subleaf, enforce)), found);
+            assert_eq!(guest(pages, options, processor).ok().and_then(|table| table.lookup(leaf, subleaf, enforce)), found);
             registers(found)
         }
-        "w" => written(pages, choice, processor, words[6].parse().unwrap()),
+        "w" => written(pages, options, processor, words[7].parse().unwrap()),
         other => panic!("a line that begins with {other}"),
     }
 }
@@ -102,15 +103,15 @@ fn answers_are_the_models() {
         *seen.entry(wanted.strip_prefix("r ").map_or("given", |refusal| refusal.split(' ').next().unwrap()).to_string()).or_insert(0) += 1;
     }
     let kinds: Vec<&str> = seen.keys().map(String::as_str).collect();
-    assert_eq!(kinds, ["1", "13", "14", "2", "3", "4", "5", "6", "7", "8", "9", "given"], "every answer occurs: {seen:?}");
+    assert_eq!(kinds, ["1", "13", "14", "15", "2", "3", "4", "5", "6", "7", "8", "9", "given"], "every answer occurs: {seen:?}");
 }
 
 /// Rows that no processor changes are the paravisor's, and the others but for what document 02 names.
 #[test]
 fn nothing_else_differs() {
     let pages = std::fs::read("../tests/epyc-milan.pages").expect("the shipped page set");
-    let plain = build(&pages, false).unwrap();
-    let seen = guest(&pages, false, Processor { x2apic: u32::MAX, xcr0: 7, xss: 0x1800, osxsave: false }).unwrap();
+    let plain = build(&pages, Options::new()).unwrap();
+    let seen = guest(&pages, Options::new(), Processor { x2apic: u32::MAX, xcr0: 7, xss: 0x1800, osxsave: false }).unwrap();
     for (old, new) in plain.rows().zip(seen.rows()) {
         let mut expected = old;
         match (old.leaf, old.subleaf) {

@@ -1,6 +1,6 @@
 //! Replays kvm.txt, whose answers are those of the model (tests/make_kvm.py writes it and says how a line reads).
 
-use snp_cpuid::{Refusal, read_kvm, write_kvm};
+use snp_cpuid::{Options, Refusal, read_kvm, write_kvm};
 use std::collections::BTreeMap;
 
 fn bytes(hex: &str) -> Vec<u8> {
@@ -55,9 +55,10 @@ fn answers_and_lent_bytes_are_the_models() {
         let words: Vec<&str> = line.split(' ').collect();
         let mut out;
         let (answer, wanted) = match words[..] {
-            ["write", choice, edits, room, ref wanted @ ..] => {
+            ["write", choice, edition, edits, room, ref wanted @ ..] => {
                 out = vec![0xA5; room.parse().unwrap()];
-                (write_kvm(&edited(edits), choice == "1", &mut out), wanted)
+                let options = Options::new().secure_avic(choice == "1").edition(edition.parse().unwrap());
+                (write_kvm(&edited(edits), options, &mut out), wanted)
             }
             ["read", parts, room, ref wanted @ ..] => {
                 out = vec![0xA5; room.parse().unwrap()];
@@ -69,5 +70,5 @@ fn answers_and_lent_bytes_are_the_models() {
         *seen.entry((words[0].to_string(), answer.err().map_or(0, |refusal| refusal.number()))).or_insert(0) += 1;
     }
     let numbers = |kind: &str| seen.keys().filter(|(k, _)| k == kind).map(|(_, number)| *number).collect::<Vec<_>>();
-    assert_eq!((numbers("write"), numbers("read")), (vec![0, 1, 2, 3, 4, 5, 6, 7, 8, 9], vec![0, 9, 10, 11, 12]));
+    assert_eq!((numbers("write"), numbers("read")), (vec![0, 1, 2, 3, 4, 5, 6, 7, 8, 9, 15], vec![0, 9, 10, 11, 12]));
 }

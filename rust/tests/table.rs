@@ -1,6 +1,6 @@
 //! The crate over the shipped page set and over damaged ones.
 
-use snp_cpuid::{CpuidResult, MOST_IMAGE_BYTES, PAGE_BYTES, Refusal, Row, TopologyError, build, lookup, write_image};
+use snp_cpuid::{CpuidResult, MOST_IMAGE_BYTES, Options, PAGE_BYTES, Refusal, Row, TopologyError, build, lookup, write_image};
 
 fn epyc() -> Vec<u8> {
     std::fs::read("../tests/epyc-milan.pages").expect("the shipped page set")
@@ -36,7 +36,7 @@ fn without(leaf: u32, subleaf: u32) -> Vec<u8> {
 fn rows_are_the_images_of_the_model() {
     // the program's expected output, which the model of document 01 wrote (tests/model.py)
     let expected = std::fs::read("../crates/snp_cpuid_image/stdout").expect("the model's image");
-    let table = build(&epyc(), false).unwrap();
+    let table = build(&epyc(), Options::new()).unwrap();
     assert_eq!(table.image(), expected);
     let count = expected.len().checked_sub(582).unwrap() / 25 + 26;
     assert_eq!(table.rows().count(), count);
@@ -45,20 +45,20 @@ fn rows_are_the_images_of_the_model() {
 
 #[test]
 fn rows_rise() {
-    let rows: Vec<Row> = build(&epyc(), false).unwrap().rows().collect();
+    let rows: Vec<Row> = build(&epyc(), Options::new()).unwrap().rows().collect();
     assert!(rows.windows(2).all(|w| (w[0].leaf, w[0].subleaf) < (w[1].leaf, w[1].subleaf)));
 }
 
 #[test]
 fn every_lookup_is_the_librarys() {
     let pages = epyc();
-    let table = build(&pages, false).unwrap();
+    let table = build(&pages, Options::new()).unwrap();
     let mut found = 0;
     for leaf in (0..0x20).chain(0x8000_0000..0x8000_0023).chain([0x4000_0000, u32::MAX]) {
         for subleaf in [None, Some(u32::MAX)].into_iter().chain((0..40).map(Some)) {
             for enforce in [false, true] {
                 let here = table.lookup(leaf, subleaf, enforce);
-                assert_eq!(here, lookup(&pages, false, leaf, subleaf, enforce), "{leaf:X} {subleaf:?} {enforce}");
+                assert_eq!(here, lookup(&pages, Options::new(), leaf, subleaf, enforce), "{leaf:X} {subleaf:?} {enforce}");
                 found += here.is_some() as u32;
             }
         }
@@ -91,11 +91,11 @@ fn every_refusal_by_name() {
         (with(0x8000_001E, 0, 1, |ebx| ebx | 0xFF00), Refusal::TopologyInconsistent(TopologyError::ThreadsPerUnit)),
     ];
     for (pages, refusal) in cases {
-        assert_eq!(build(&pages, false).err(), Some(refusal));
+        assert_eq!(build(&pages, Options::new()).err(), Some(refusal));
         let mut out = [0xA5; MOST_IMAGE_BYTES];
-        assert_eq!(write_image(&pages, false, &mut out), Err(refusal));
+        assert_eq!(write_image(&pages, Options::new(), &mut out), Err(refusal));
         assert_eq!(out, [0xA5; MOST_IMAGE_BYTES]);
-        assert_eq!(lookup(&pages, false, 1, None, false), None);
+        assert_eq!(lookup(&pages, Options::new(), 1, None, false), None);
     }
 }
 
@@ -109,24 +109,71 @@ fn s() -> u8 {
 #[test]
 fn a_short_buffer_is_left_and_a_long_one_beyond_the_image() {
     let pages = epyc();
-    let length = build(&pages, false).unwrap().image().len();
+    let length = build(&pages, Options::new()).unwrap().image().len();
     for room in [0, 1, length - 1] {
         let mut out = vec![0x5A; room];
-        assert_eq!(write_image(&pages, false, &mut out), Err(Refusal::BufferTooShort));
+        assert_eq!(write_image(&pages, Options::new(), &mut out), Err(Refusal::BufferTooShort));
         assert!(out.iter().all(|&byte| byte == 0x5A));
     }
     let mut out = vec![0x5A; length + 100];
-    assert_eq!(write_image(&pages, false, &mut out), Ok(length));
+    assert_eq!(write_image(&pages, Options::new(), &mut out), Ok(length));
     assert!(out[length..].iter().all(|&byte| byte == 0x5A));
-    assert_eq!(&out[..length], build(&pages, false).unwrap().image());
+    assert_eq!(&out[..length], build(&pages, Options::new()).unwrap().image());
 }
 
 #[test]
 fn secure_avic_adds_one_bit() {
     let pages = with(0x8000_001F, 0, 0, |_| u32::MAX);
-    let row = |avic| build(&pages, avic).unwrap().row(0x8000_001F, None).unwrap();
+    let row = |avic| build(&pages, Options::new().secure_avic(avic)).unwrap().row(0x8000_001F, None).unwrap();
     let CpuidResult { eax, .. } = row(true);
     assert_eq!(eax ^ row(false).eax, 1 << 26);
+}
+
+/// Document 02, P7: XFEM 3, every feature bit of leaves 1 and 80000001h.
+#[test]
+fn edition_2_clears_three_bits_without_the_state() {
+    let mut pages = with(0xD, 0, 0, |_| 3);
+    for leaf in [1, 0x8000_0001] {
+        let at = entry(&pages, leaf, 0) + 32;
+        pages[at..at + 4].fill(0xFF);
+    }
+    let rows = |edition| build(&pages, Options::new().edition(edition)).unwrap().rows().collect::<Vec<Row>>();
+    for (old, new) in rows(1).into_iter().zip(rows(2)) {
+        let cleared = match old.leaf {
+            1 => 1 << 29,
+            0x8000_0001 => 1 << 11 | 1 << 16,
+            _ => 0,
+        };
+        assert_eq!(old.result.ecx & cleared, cleared);
+        assert_eq!(new, Row { result: CpuidResult { ecx: old.result.ecx & !cleared, ..old.result }, ..old });
+    }
+    // with the state the editions are one
+    assert_eq!(build(&epyc(), Options::new().edition(2)), build(&epyc(), Options::new().edition(1)));
+}
+
+/// 15 comes before every other refusal, in every function that builds, and no byte is written.
+#[test]
+fn an_edition_that_is_none() {
+    for edition in [0, 3, 257, 258, 1 << 31, u32::MAX] {
+        let options = Options::new().edition(edition);
+        for pages in [vec![], epyc()[1..].to_vec(), without(1, 0), epyc()] {
+            assert_eq!(build(&pages, options), Err(Refusal::UnknownEdition));
+            assert_eq!(lookup(&pages, options, 1, None, false), None);
+            for room in [0, 1, MOST_IMAGE_BYTES] {
+                let mut out = vec![0xA5; room];
+                assert_eq!(write_image(&pages, options, &mut out), Err(Refusal::UnknownEdition));
+                assert!(out.iter().all(|&byte| byte == 0xA5));
+            }
+        }
+    }
+}
+
+#[test]
+fn usual_options() {
+    assert_eq!(Options::default(), Options::new());
+    assert_eq!(Options::new(), Options::new().secure_avic(true).edition(2).edition(1).secure_avic(false));
+    let chosen = Options::new().edition(7).secure_avic(true);
+    assert_eq!((chosen.edition, chosen.secure_avic), (7, true));
 }
 
 #[test]

@@ -1,7 +1,7 @@
 // Runs test vectors: commands come in on standard input, and a line of text goes out for each build, lookup and write.
 //
-// A command is 12 bytes: its kind, three flags (0 or 1: secure AVIC, a subleaf is given, the subleaf is enforced), and two
-// numbers a and b of 4 bytes, the lowest first. The page set is all zeros at the start and changes by commands alone.
+// A command is 16 bytes: its kind, three flags (0 or 1: secure AVIC, a subleaf is given, the subleaf is enforced), and the
+// numbers a, b and edition of 4 bytes, the lowest first. The page set is all zeros at the start and changes by commands alone.
 //   n  the page set has a bytes from now on
 //   d  b bytes follow, which go into the page set at a
 //   b  build
@@ -20,7 +20,7 @@ const LONGEST_LINE: usize = 2200;
 
 const LONGEST_LENT: usize = 1024;
 
-const COMMAND_SIZE: usize = 12;
+const COMMAND_SIZE: usize = 16;
 
 struct Command {
     kind: u8,
@@ -29,6 +29,7 @@ struct Command {
     enforce_subleaf: bool,
     a: u32,
     b: u32,
+    edition: u32,
 }
 
 // What follows a command: the next, on a page set of so many bytes, or the end.
@@ -66,7 +67,7 @@ fn next_command(set: &mut [u8], length: usize, line: &mut [u8]) -> Step {
     execute(parse(&head[..got]), set, length, line)
 }
 
-// The command of 12 bytes; for fewer, or a flag above 1, one of a kind that there is not.
+// The command of 16 bytes; for fewer, or a flag above 1, one of a kind that there is not.
 fn parse(head: &[u8]) -> Command {
     if head.len() == COMMAND_SIZE {
         if head[1] < 2 && head[2] < 2 && head[3] < 2 {
@@ -77,6 +78,7 @@ fn parse(head: &[u8]) -> Command {
                 enforce_subleaf: head[3] == 1,
                 a: pages::word_at(head, 4),
                 b: pages::word_at(head, 8),
+                edition: pages::word_at(head, 12),
             };
         }
     }
@@ -87,6 +89,7 @@ fn parse(head: &[u8]) -> Command {
         enforce_subleaf: false,
         a: 0,
         b: 0,
+        edition: 0,
     }
 }
 
@@ -133,10 +136,11 @@ fn patch(set: &mut [u8], from: usize, count: usize, length: usize) -> Step {
 fn answer(command: Command, set: &[u8], line: &mut [u8]) -> bool {
     let kind = command.kind;
     let avic = command.secure_avic;
+    let edition = command.edition;
     match kind {
-        b'b' => print_built(snp_cpuid::snp_cpuid_build(set, avic), line),
+        b'b' => print_built(snp_cpuid::snp_cpuid_build(set, avic, edition), line),
         b'l' => print_found(look_up(command, set), line),
-        b'w' => write(set, avic, command.a as usize, line),
+        b'w' => write(set, avic, edition, command.a as usize, line),
         _ => false,
     }
 }
@@ -146,6 +150,7 @@ fn look_up(command: Command, set: &[u8]) -> SnpCpuidFound {
     snp_cpuid::snp_cpuid_lookup(
         set,
         command.secure_avic,
+        command.edition,
         command.a,
         command.has_subleaf,
         command.b,
@@ -154,17 +159,17 @@ fn look_up(command: Command, set: &[u8]) -> SnpCpuidFound {
 }
 
 // Lends `room` bytes, all A5h, to the writer.
-fn write(set: &[u8], avic: bool, room: usize, line: &mut [u8]) -> bool {
+fn write(set: &[u8], avic: bool, edition: u32, room: usize, line: &mut [u8]) -> bool {
     let mut lent = [0xA5u8; LONGEST_LENT];
     if room > LONGEST_LENT {
         return false;
     }
-    write_into(set, avic, &mut lent[..room], line)
+    write_into(set, avic, edition, &mut lent[..room], line)
 }
 
 // Writes, and prints what the lent bytes are afterwards.
-fn write_into(set: &[u8], avic: bool, lent: &mut [u8], line: &mut [u8]) -> bool {
-    let written = snp_cpuid::snp_cpuid_write_image(set, avic, lent);
+fn write_into(set: &[u8], avic: bool, edition: u32, lent: &mut [u8], line: &mut [u8]) -> bool {
+    let written = snp_cpuid::snp_cpuid_write_image(set, avic, edition, lent);
     print_written(written, lent, line)
 }
 

@@ -1,4 +1,4 @@
-//! One page set, through the Rust and through the port. Any disagreement is an `Err` that says which.
+//! One page set, through the Rust and through the port under both editions of the AVX rule. Any disagreement is an `Err` that says which.
 
 use oracle::Answer;
 use oracle::Refusal;
@@ -6,6 +6,7 @@ use oracle::Row;
 use port::Asked;
 use port::Built;
 use port::Found;
+use port::Options;
 use port::Written;
 
 use crate::random::Random;
@@ -13,9 +14,9 @@ use crate::random::Random;
 /// The functions that are held against the Rust; a test puts wrong ones in their place.
 #[derive(Clone, Copy)]
 pub struct Port {
-    pub build: fn(&[u8], bool) -> Built,
-    pub lookup: fn(&[u8], bool, Asked) -> Found,
-    pub write_image: fn(&[u8], bool, &mut [u8]) -> Written,
+    pub build: fn(&[u8], Options) -> Built,
+    pub lookup: fn(&[u8], Options, Asked) -> Found,
+    pub write_image: fn(&[u8], Options, &mut [u8]) -> Written,
 }
 
 pub const PORT: Port = Port { build: port::build, lookup: port::lookup, write_image: port::write_image };
@@ -46,6 +47,8 @@ pub struct Seen {
     pub lookups: u64,
     pub writes: u64,
     pub short_buffers: u64,
+    /// Whether edition 2 hides a feature that edition 1 shows.
+    pub hidden: bool,
 }
 
 /// More room than the longest image, 732 bytes, needs.
@@ -70,10 +73,13 @@ pub fn check(port: &Port, case: &Case) -> Result<Seen, String> {
         },
         ..Seen::default()
     };
-    let built = (port.build)(&case.pages, case.secure_avic);
-    same("build", &expected_built(&answer), &built)?;
-    check_writes(port, case, &answer, &mut seen)?;
-    check_lookups(port, case, &answer, &mut seen)?;
+    let second = with_the_clears_of_edition_2(&answer);
+    seen.hidden = second != answer;
+    for (edition, answer) in [(1, &answer), (2, &second)] {
+        let options = Options::new().secure_avic(case.secure_avic).edition(edition);
+        let one = One { port, case, options, answer };
+        one.check(&mut seen).map_err(|what| format!("edition {edition}: {what}"))?;
+    }
     Ok(seen)
 }
 
@@ -89,6 +95,25 @@ fn with_the_least_shift(answer: Answer) -> Answer {
         }
         other => other,
     }
+}
+
+/// What the port must answer under edition 2 where it answers so under edition 1, which is the Rust's: the same, but for F16C, XOP and FMA4 where
+/// XFEM, the Rust's own D.0.EAX, lacks bit 2 (document 02, P7).
+fn with_the_clears_of_edition_2(answer: &Answer) -> Answer {
+    let mut second = answer.clone();
+    if let Answer::Table { rows, .. } = &mut second {
+        let xfem = rows.iter().find(|row| (row.leaf, row.subleaf) == (0xd, Some(0))).map_or(0, |row| row.registers[0]);
+        if xfem & 1 << 2 == 0 {
+            for row in rows {
+                row.registers[2] &= match row.leaf {
+                    1 => !(1 << 29),
+                    0x80000001 => !(1 << 11 | 1 << 16),
+                    _ => !0,
+                };
+            }
+        }
+    }
+    second
 }
 
 fn same<T: PartialEq + std::fmt::Debug>(what: &str, rust: &T, port: &T) -> Result<(), String> {
@@ -127,36 +152,83 @@ fn image_length(answer: &Answer) -> usize {
     }
 }
 
-fn check_writes(port: &Port, case: &Case, answer: &Answer, seen: &mut Seen) -> Result<(), String> {
-    check_write(port, case, answer, ROOM, 0x5a, seen)?;
-    if matches!(case.depth, Depth::Answer) {
-        return Ok(());
-    }
-    // The other pattern tells a byte written from one that happened to be the same.
-    check_write(port, case, answer, ROOM, 0xa5, seen)?;
-    let length = image_length(answer);
-    for room in [length, length.saturating_sub(1), length / 2, 1, 0] {
-        check_write(port, case, answer, room, 0x5a, seen)?;
-    }
-    Ok(())
+/// One page set under one edition, and what the port must answer.
+struct One<'a> {
+    port: &'a Port,
+    case: &'a Case,
+    options: Options,
+    answer: &'a Answer,
 }
 
-fn check_write(port: &Port, case: &Case, answer: &Answer, room: usize, fill: u8, seen: &mut Seen) -> Result<(), String> {
-    let before: [u8; ROOM] = std::array::from_fn(|at| fill ^ at as u8);
-    let mut lent = before;
-    let written = (port.write_image)(&case.pages, case.secure_avic, &mut lent[..room]);
-    let expected = expected_written(answer, room);
-    same(&format!("write into {room} bytes"), &expected, &written)?;
-    let length = expected.length as usize;
-    if lent[length..] != before[length..] {
-        return Err(format!("write into {room} bytes: a byte from {length} up was changed"));
+impl One<'_> {
+    fn check(&self, seen: &mut Seen) -> Result<(), String> {
+        let built = (self.port.build)(&self.case.pages, self.options);
+        same("build", &expected_built(self.answer), &built)?;
+        self.check_writes(seen)?;
+        self.check_lookups(seen)
     }
-    if let (Answer::Table { rows, .. }, 1..) = (answer, length) {
-        check_image(rows, &lent[..length])?;
+
+    fn check_writes(&self, seen: &mut Seen) -> Result<(), String> {
+        self.check_write(ROOM, 0x5a, seen)?;
+        if matches!(self.case.depth, Depth::Answer) {
+            return Ok(());
+        }
+        // The other pattern tells a byte written from one that happened to be the same.
+        self.check_write(ROOM, 0xa5, seen)?;
+        let length = image_length(self.answer);
+        for room in [length, length.saturating_sub(1), length / 2, 1, 0] {
+            self.check_write(room, 0x5a, seen)?;
+        }
+        Ok(())
     }
-    seen.writes += 1;
-    seen.short_buffers += u64::from(written.number == 9);
-    Ok(())
+
+    fn check_write(&self, room: usize, fill: u8, seen: &mut Seen) -> Result<(), String> {
+        let before: [u8; ROOM] = std::array::from_fn(|at| fill ^ at as u8);
+        let mut lent = before;
+        let written = (self.port.write_image)(&self.case.pages, self.options, &mut lent[..room]);
+        let expected = expected_written(self.answer, room);
+        same(&format!("write into {room} bytes"), &expected, &written)?;
+        let length = expected.length as usize;
+        if lent[length..] != before[length..] {
+            return Err(format!("write into {room} bytes: a byte from {length} up was changed"));
+        }
+        if let (Answer::Table { rows, .. }, 1..) = (self.answer, length) {
+            check_image(rows, &lent[..length])?;
+        }
+        seen.writes += 1;
+        seen.short_buffers += u64::from(written.number == 9);
+        Ok(())
+    }
+
+    fn check_lookups(&self, seen: &mut Seen) -> Result<(), String> {
+        let mut one = |asked| {
+            seen.lookups += 1;
+            let found = (self.port.lookup)(&self.case.pages, self.options, asked);
+            same(&format!("{asked:x?}"), &expected_found(self.answer, asked), &found)
+        };
+        match self.case.depth {
+            Depth::Answer => Ok(()),
+            Depth::Sampled(seed) => {
+                let mut random = Random::new(seed);
+                (0..12).try_for_each(|_| {
+                    one(Asked {
+                        leaf: random.pick(&LEAVES),
+                        has_subleaf: random.below(4) > 0,
+                        subleaf: random.pick(&SUBLEAVES),
+                        enforce: random.below(2) > 0,
+                    })
+                })
+            }
+            Depth::Every => (0..LEAVES.len() * SUBLEAVES.len() * 4).try_for_each(|number| {
+                one(Asked {
+                    leaf: LEAVES[number / 4 / SUBLEAVES.len()],
+                    has_subleaf: number & 1 > 0,
+                    subleaf: SUBLEAVES[number / 4 % SUBLEAVES.len()],
+                    enforce: number & 2 > 0,
+                })
+            }),
+        }
+    }
 }
 
 /// The image against the rows. Those of the image ascend by leaf, then by subleaf (document 02, P1); the Rust's own order is any, and the oracle
@@ -165,7 +237,10 @@ fn check_image(rows: &[Row], image: &[u8]) -> Result<(), String> {
     let found = parse(image)?;
     for pair in found.windows(2) {
         if (pair[0].leaf, pair[0].subleaf) >= (pair[1].leaf, pair[1].subleaf) {
-            return Err(format!("image: the row of {:x} {:x?} stands before that of {:x} {:x?}", pair[0].leaf, pair[0].subleaf, pair[1].leaf, pair[1].subleaf));
+            return Err(format!(
+                "image: the row of {:x} {:x?} stands before that of {:x} {:x?}",
+                pair[0].leaf, pair[0].subleaf, pair[1].leaf, pair[1].subleaf
+            ));
         }
     }
     for (rust, port) in rows.iter().zip(&found) {
@@ -214,34 +289,4 @@ fn expected_found(answer: &Answer, asked: Asked) -> Found {
         let [eax, ebx, ecx, edx] = row.registers;
         Found { found: 1, eax, ebx, ecx, edx }
     })
-}
-
-fn check_lookups(port: &Port, case: &Case, answer: &Answer, seen: &mut Seen) -> Result<(), String> {
-    let mut one = |asked| {
-        seen.lookups += 1;
-        let found = (port.lookup)(&case.pages, case.secure_avic, asked);
-        same(&format!("{asked:x?}"), &expected_found(answer, asked), &found)
-    };
-    match case.depth {
-        Depth::Answer => Ok(()),
-        Depth::Sampled(seed) => {
-            let mut random = Random::new(seed);
-            (0..12).try_for_each(|_| {
-                one(Asked {
-                    leaf: random.pick(&LEAVES),
-                    has_subleaf: random.below(4) > 0,
-                    subleaf: random.pick(&SUBLEAVES),
-                    enforce: random.below(2) > 0,
-                })
-            })
-        }
-        Depth::Every => (0..LEAVES.len() * SUBLEAVES.len() * 4).try_for_each(|number| {
-            one(Asked {
-                leaf: LEAVES[number / 4 / SUBLEAVES.len()],
-                has_subleaf: number & 1 > 0,
-                subleaf: SUBLEAVES[number / 4 % SUBLEAVES.len()],
-                enforce: number & 2 > 0,
-            })
-        }),
-    }
 }

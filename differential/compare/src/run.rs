@@ -30,6 +30,8 @@ pub struct Counts {
     lookups: u64,
     writes: u64,
     short_buffers: u64,
+    /// The sets of which edition 2 hides a feature.
+    hidden: u64,
 }
 
 impl Counts {
@@ -41,6 +43,7 @@ impl Counts {
         self.lookups += seen.lookups;
         self.writes += seen.writes;
         self.short_buffers += seen.short_buffers;
+        self.hidden += u64::from(seen.hidden);
     }
 
     fn join(&mut self, other: &Self) {
@@ -51,6 +54,7 @@ impl Counts {
         self.lookups += other.lookups;
         self.writes += other.writes;
         self.short_buffers += other.short_buffers;
+        self.hidden += other.hidden;
     }
 }
 
@@ -81,6 +85,7 @@ impl fmt::Display for Summary {
             all.lookups,
             all.missing.len()
         )?;
+        writeln!(f, "each set under editions 1 and 2, which hides F16C, XOP or FMA4 in {} of them", all.hidden)?;
         writeln!(f, "no difference")
     }
 }

@@ -14,6 +14,7 @@ use oracle::Answer;
 use port::Asked;
 use port::Built;
 use port::Found;
+use port::Options;
 use port::Written;
 
 /// The difference that the quick form finds in a port with one function wrong.
@@ -27,8 +28,8 @@ fn entries(difference: &Difference) -> usize {
 
 #[test]
 fn a_wrong_detail_of_a_refusal() {
-    fn build(pages: &[u8], secure_avic: bool) -> Built {
-        let built = port::build(pages, secure_avic);
+    fn build(pages: &[u8], options: Options) -> Built {
+        let built = port::build(pages, options);
         let forgotten = built.number == 3 && built.leaf == STATE && built.subleaf == 12;
         Built { subleaf: if forgotten { 11 } else { built.subleaf }, ..built }
     }
@@ -38,8 +39,8 @@ fn a_wrong_detail_of_a_refusal() {
 
 #[test]
 fn a_wrong_mask() {
-    fn build(pages: &[u8], secure_avic: bool) -> Built {
-        let built = port::build(pages, secure_avic);
+    fn build(pages: &[u8], options: Options) -> Built {
+        let built = port::build(pages, options);
         Built { max_extended_state: built.max_extended_state & !(1 << 12), ..built }
     }
     // the 24 required rows and D.12
@@ -48,8 +49,8 @@ fn a_wrong_mask() {
 
 #[test]
 fn a_wrong_bit_in_the_image() {
-    fn write_image(pages: &[u8], secure_avic: bool, out: &mut [u8]) -> Written {
-        let written = port::write_image(pages, secure_avic, out);
+    fn write_image(pages: &[u8], options: Options, out: &mut [u8]) -> Written {
+        let written = port::write_image(pages, options, out);
         if written.length > 582 {
             // a register of the last row
             out[written.length as usize - 1] ^= 1;
@@ -61,8 +62,8 @@ fn a_wrong_bit_in_the_image() {
 
 #[test]
 fn two_rows_of_the_image_exchanged() {
-    fn write_image(pages: &[u8], secure_avic: bool, out: &mut [u8]) -> Written {
-        let written = port::write_image(pages, secure_avic, out);
+    fn write_image(pages: &[u8], options: Options, out: &mut [u8]) -> Written {
+        let written = port::write_image(pages, options, out);
         // leaves 0 and 1, 21 bytes each
         if written.number == 0 {
             out[..42].rotate_left(21);
@@ -75,19 +76,65 @@ fn two_rows_of_the_image_exchanged() {
 
 #[test]
 fn the_shift_of_the_rust() {
-    fn lookup(pages: &[u8], secure_avic: bool, asked: Asked) -> Found {
+    fn lookup(pages: &[u8], options: Options, asked: Asked) -> Found {
         let Asked { leaf, has_subleaf, subleaf, .. } = asked;
-        let found = port::lookup(pages, secure_avic, asked);
+        let found = port::lookup(pages, options, asked);
         let lower = found.found == 1 && (leaf, has_subleaf, subleaf) == (0xb, true, 1) && !found.ebx.is_power_of_two();
         Found { eax: found.eax - u32::from(lower), ..found }
     }
     found(Port { lookup, ..PORT });
 }
 
+/// The image of edition 1 under edition 2, and that of 2 under 1.
+#[test]
+fn editions_that_are_one() {
+    fn first(pages: &[u8], options: Options, out: &mut [u8]) -> Written {
+        port::write_image(pages, options.edition(1), out)
+    }
+    fn second(pages: &[u8], options: Options, out: &mut [u8]) -> Written {
+        port::write_image(pages, options.edition(2), out)
+    }
+    for (write_image, edition) in [(first as fn(&[u8], Options, &mut [u8]) -> Written, 2), (second, 1)] {
+        let difference = found(Port { write_image, ..PORT });
+        // the 24 required rows, one bit of a feature
+        assert_eq!(entries(&difference), 24);
+        assert!(difference.to_string().contains(&format!("\nedition {edition}: image\n")), "{difference}");
+    }
+}
+
+/// One bit of a register as edition 1 has it.
+fn as_in_edition_1<const LEAF: u32, const BIT: u32>(pages: &[u8], options: Options, asked: Asked) -> Found {
+    let [found, old] = [options, options.edition(1)].map(|options| port::lookup(pages, options, asked));
+    let bit = if asked.leaf == LEAF { 1 << BIT } else { 0 };
+    Found { ecx: found.ecx & !bit | old.ecx & bit, ..found }
+}
+
+#[test]
+fn each_bit_of_edition_2_that_is_kept() {
+    let f16c = as_in_edition_1::<1, 29>;
+    let xop = as_in_edition_1::<0x80000001, 11>;
+    let fma4 = as_in_edition_1::<0x80000001, 16>;
+    for lookup in [f16c as fn(&[u8], Options, Asked) -> Found, xop, fma4] {
+        assert!(found(Port { lookup, ..PORT }).to_string().contains("\nedition 2: Asked"));
+    }
+}
+
+/// Edition 2 without asking for the state.
+#[test]
+fn a_bit_of_edition_2_that_is_cleared_always() {
+    fn lookup(pages: &[u8], options: Options, asked: Asked) -> Found {
+        let found = port::lookup(pages, options, asked);
+        let cleared = if options.edition == 2 && asked.leaf == 1 { 1 << 29 } else { 0 };
+        Found { ecx: found.ecx & !cleared, ..found }
+    }
+    // D.2 too
+    assert_eq!(entries(&found(Port { lookup, ..PORT })), 25);
+}
+
 #[test]
 fn a_byte_beyond_the_image() {
-    fn write_image(pages: &[u8], secure_avic: bool, out: &mut [u8]) -> Written {
-        let written = port::write_image(pages, secure_avic, out);
+    fn write_image(pages: &[u8], options: Options, out: &mut [u8]) -> Written {
+        let written = port::write_image(pages, options, out);
         if let Some(byte) = out.get_mut(written.length as usize) {
             *byte = 0;
         }
@@ -98,20 +145,20 @@ fn a_byte_beyond_the_image() {
 
 #[test]
 fn a_buffer_called_short_that_is_not() {
-    fn write_image(pages: &[u8], secure_avic: bool, out: &mut [u8]) -> Written {
-        let written = port::write_image(pages, secure_avic, &mut out.to_vec());
+    fn write_image(pages: &[u8], options: Options, out: &mut [u8]) -> Written {
+        let written = port::write_image(pages, options, &mut out.to_vec());
         if written.length as usize == out.len() {
             return Written { number: 9, length: 0, ..written };
         }
-        port::write_image(pages, secure_avic, out)
+        port::write_image(pages, options, out)
     }
     found(Port { write_image, ..PORT });
 }
 
 #[test]
 fn a_lookup_that_never_enforces() {
-    fn lookup(pages: &[u8], secure_avic: bool, asked: Asked) -> Found {
-        port::lookup(pages, secure_avic, Asked { enforce: false, ..asked })
+    fn lookup(pages: &[u8], options: Options, asked: Asked) -> Found {
+        port::lookup(pages, options, Asked { enforce: false, ..asked })
     }
     found(Port { lookup, ..PORT });
 }

@@ -1,5 +1,6 @@
 //! The exported functions of the port, as the crate in rust/ declares them, called with byte slices.
 
+pub use snp_cpuid::Options;
 pub use snp_cpuid::exports::Built;
 pub use snp_cpuid::exports::Found;
 pub use snp_cpuid::exports::Written;
@@ -13,9 +14,9 @@ fn start(bytes: &[u8]) -> *const u8 {
     if bytes.is_empty() { ptr::null() } else { bytes.as_ptr() }
 }
 
-pub fn build(pages: &[u8], secure_avic: bool) -> Built {
+pub fn build(pages: &[u8], options: Options) -> Built {
     // SAFETY: the pointer is good for reading `len` bytes.
-    unsafe { snp_cpuid_build(start(pages), pages.len(), secure_avic) }
+    unsafe { snp_cpuid_build(start(pages), pages.len(), options.secure_avic, options.edition) }
 }
 
 /// A row to look up. Where `has_subleaf` is false, `subleaf` must not matter.
@@ -27,15 +28,15 @@ pub struct Asked {
     pub enforce: bool,
 }
 
-pub fn lookup(pages: &[u8], secure_avic: bool, asked: Asked) -> Found {
+pub fn lookup(pages: &[u8], options: Options, asked: Asked) -> Found {
     let Asked { leaf, has_subleaf, subleaf, enforce } = asked;
     // SAFETY: as in `build`.
-    unsafe { snp_cpuid_lookup(start(pages), pages.len(), secure_avic, leaf, has_subleaf, subleaf, enforce) }
+    unsafe { snp_cpuid_lookup(start(pages), pages.len(), options.secure_avic, options.edition, leaf, has_subleaf, subleaf, enforce) }
 }
 
-pub fn write_image(pages: &[u8], secure_avic: bool, out: &mut [u8]) -> Written {
+pub fn write_image(pages: &[u8], options: Options, out: &mut [u8]) -> Written {
     let room = out.len();
     let front = if room == 0 { ptr::null_mut() } else { out.as_mut_ptr() };
     // SAFETY: as in `build`; `front` is good for writing `room` bytes, and no other reference to them is alive.
-    unsafe { snp_cpuid_write_image(start(pages), pages.len(), secure_avic, front, room) }
+    unsafe { snp_cpuid_write_image(start(pages), pages.len(), options.secure_avic, options.edition, front, room) }
 }

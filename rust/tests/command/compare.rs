@@ -9,8 +9,8 @@ use std::fs;
 fn compare(folder: &Folder, a: &[u8], b: &[u8], flags: &[&str]) -> Ran {
     let (a, b) = (folder.file("a", a), folder.file("b", b));
     let ran = run(&[&["compare", &a, &b], flags].concat());
-    assert!(ran.text().starts_with(&format!("A  {a}\nB  {b}\n\n")));
-    assert!(ran.text().lines().skip(3).all(|line| line.len() <= 100 && line.is_ascii() && !line.ends_with(' ')));
+    assert!(ran.text().starts_with(&format!("A  {a}\nB  {b}\nunder edition 1 of the AVX rule\n\n")));
+    assert!(ran.text().lines().skip(4).all(|line| line.len() <= 100 && line.is_ascii() && !line.ends_with(' ')));
     ran
 }
 
@@ -50,7 +50,8 @@ fn a_set_and_itself() {
     assert_eq!((ran.status, ran.err.as_str()), (0, ""));
     assert_eq!(parts(&ran), (BOTH_WAYS.into(), vec![], yes("A", "B", ACCEPTED), yes("B", "A", ACCEPTED)));
     let pages = fs::read(EPYC).unwrap();
-    assert!(run_on(&pages, &["compare", "-", EPYC]).text().starts_with(&format!("A  standard input\nB  {EPYC}\n\n{BOTH_WAYS}\n")));
+    let piped = run_on(&pages, &["compare", "-", EPYC]);
+    assert!(piped.text().starts_with(&format!("A  standard input\nB  {EPYC}\nunder edition 1 of the AVX rule\n\n{BOTH_WAYS}\n")));
 }
 
 #[test]

@@ -3,7 +3,7 @@
 use crate::features::{EAX, EBX, ECX, EDX, FEATURES};
 use crate::page_sets::{Entries, epyc, rich, set};
 use crate::run::{EPYC, Folder, run};
-use snp_cpuid::{Table, build};
+use snp_cpuid::{Options, Table, build};
 use std::collections::BTreeMap;
 use std::io::Write;
 use std::process::Command;
@@ -170,7 +170,7 @@ fn its_words_are_the_tables_bits() {
     legacy.insert((0xD, 1), [0; 4]);
     for entries in (0..8).map(pattern).chain([epyc(), rich(), legacy]) {
         let pages = set(&entries);
-        let (table, lines) = (build(&pages, false).unwrap(), decoded(&pages, "debian_words"));
+        let (table, lines) = (build(&pages, Options::new()).unwrap(), decoded(&pages, "debian_words"));
         let mut held = 0;
         for (heading, leaf, subleaf, register, names) in SECTIONS {
             for (name, words) in names {

@@ -3,7 +3,7 @@
 use crate::page_sets::{Entries, REQUIRED, epyc, page, rich, set};
 use crate::pages::read_by_table;
 use crate::run::{EPYC, Folder, run, run_on};
-use snp_cpuid::{PAGE_BYTES, Refusal, build};
+use snp_cpuid::{Options, PAGE_BYTES, Refusal, build};
 use std::fs;
 
 /// The shipped entries in the form of `cpuid -r`.
@@ -44,7 +44,7 @@ fn both_forms_give_the_shipped_set() {
         assert_eq!(pages_of(text.trim_end()).0, expected);
         assert_eq!(pages_of(&text.replace('\n', "\n\n")).0, expected);
     }
-    assert_eq!(build(&expected, false), build(&fs::read(EPYC).unwrap(), false));
+    assert_eq!(build(&expected, Options::new()), build(&fs::read(EPYC).unwrap(), Options::new()));
 }
 
 #[test]
@@ -70,7 +70,7 @@ fn rows_stay_in_the_order_of_the_file_and_the_first_counts() {
     let row = |eax: u32| format!("   0x00000005 0x00: eax=0x{eax:08x} ebx=0x00000000 ecx=0x00000000 edx=0x00000000\n");
     let (pages, _) = pages_of(&(row(7) + &row(9) + &debian(&epyc())));
     assert_eq!((pages[40], pages[88]), (7, 9));
-    assert_eq!(build(&pages, false).unwrap().row(5, None).unwrap().eax, 7);
+    assert_eq!(build(&pages, Options::new()).unwrap().row(5, None).unwrap().eax, 7);
 }
 
 #[test]
@@ -191,7 +191,7 @@ fn kept_by_document_01(leaf: u32, subleaf: u32) -> bool {
 /// What is left out changes no answer, and what a table needs is not left out: the library decides.
 #[test]
 fn exactly_what_the_table_reads_goes_in() {
-    let base = build(&set(&rich()), true).unwrap();
+    let base = build(&set(&rich()), Options::new().secure_avic(true)).unwrap();
     for leaf in (0..0x30).chain(0x4000_0000..0x4000_0010).chain(0x8000_0000..0x8000_0030).chain([0x2000_0000, 0x8FFF_FFFF, u32::MAX]) {
         for subleaf in (0..70).chain([0x100, u32::MAX]) {
             assert_eq!(read_by_table(leaf, subleaf), kept_by_document_01(leaf, subleaf), "{leaf:X}.{subleaf:X}");
@@ -203,14 +203,18 @@ fn exactly_what_the_table_reads_goes_in() {
                 let lone = Entries::from([((leaf, subleaf), [0x55AA_55AA; 4])]);
                 let (state, others): (Vec<_>, Vec<_>) = rich().into_iter().partition(|((leaf, _), _)| *leaf == 0xD);
                 let front = |rest: Vec<((u32, u32), [u32; 4])>| page(lone.iter().chain(rest.iter().map(|(place, registers)| (place, registers))));
-                assert_eq!(build(&[front(others), front(state)].concat(), true).as_ref(), Ok(&base), "{leaf:X}.{subleaf:X}");
+                assert_eq!(
+                    build(&[front(others), front(state)].concat(), Options::new().secure_avic(true)).as_ref(),
+                    Ok(&base),
+                    "{leaf:X}.{subleaf:X}"
+                );
             }
         }
     }
     for place in rich().keys() {
         let mut rows = rich();
         rows.remove(place);
-        assert!(matches!(build(&set(&rows), true), Err(Refusal::MissingRequiredResult(leaf, _)) if leaf == place.0));
+        assert!(matches!(build(&set(&rows), Options::new().secure_avic(true)), Err(Refusal::MissingRequiredResult(leaf, _)) if leaf == place.0));
         assert!(read_by_table(place.0, place.1));
     }
 }

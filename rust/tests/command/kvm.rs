@@ -1,13 +1,13 @@
 //! `to-kvm` and `from-kvm`.
 
 use crate::run::{EPYC, Folder, run, run_on};
-use snp_cpuid::{KVM_PAGES_BYTES, MOST_KVM_BYTES, build, read_kvm, write_kvm};
+use snp_cpuid::{KVM_PAGES_BYTES, MOST_KVM_BYTES, Options, build, read_kvm, write_kvm};
 use std::fs;
 
 /// The list of the shipped set, as the library writes it.
-fn epyc_list(secure_avic: bool) -> Vec<u8> {
+fn epyc_list(options: Options) -> Vec<u8> {
     let mut list = vec![0; MOST_KVM_BYTES];
-    let length = write_kvm(&fs::read(EPYC).unwrap(), secure_avic, &mut list).unwrap();
+    let length = write_kvm(&fs::read(EPYC).unwrap(), options, &mut list).unwrap();
     list.truncate(length);
     list
 }
@@ -20,13 +20,13 @@ fn listed(rows: &[[u32; 4]]) -> Vec<u8> {
 
 #[test]
 fn the_list_is_the_librarys_and_goes_round() {
-    for (choice, words) in [(false, &[][..]), (true, &["--secure-avic"][..])] {
+    for (options, words) in [(Options::new(), &[][..]), (Options::new().secure_avic(true).edition(2), &["--secure-avic", "--edition", "2"])] {
         let wrote = run(&[&["to-kvm", EPYC, "-o", "-"], words].concat());
-        assert_eq!((wrote.status, wrote.err.as_str(), &wrote.out), (0, "", &epyc_list(choice)));
+        assert_eq!((wrote.status, wrote.err.as_str(), &wrote.out), (0, "", &epyc_list(options)));
         let back = run_on(&wrote.out, &["from-kvm", "-", "-o", "-"]);
         // leaves 0 and 80000000 are made here
         assert_eq!((back.status, back.err.as_str()), (0, "snp-cpuid: note: 29 rows, of which the table reads 27\n"));
-        assert_eq!(build(&back.out, choice), build(&fs::read(EPYC).unwrap(), choice));
+        assert_eq!(build(&back.out, options), build(&fs::read(EPYC).unwrap(), options));
     }
 }
 

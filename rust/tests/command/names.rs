@@ -4,7 +4,7 @@
 use crate::features::{FEATURES, REGISTERS};
 use crate::fields::FIELDS;
 use crate::page_sets::{rich, set};
-use snp_cpuid::build;
+use snp_cpuid::{Options, build};
 use std::collections::{BTreeMap, BTreeSet};
 use std::fs;
 
@@ -58,7 +58,7 @@ fn fields_are_those_of_the_specification() {
 /// sets, has a name, and no other bit has one.
 #[test]
 fn bits_are_those_that_the_library_keeps() {
-    let table = build(&set(&rich()), true).unwrap();
+    let table = build(&set(&rich()), Options::new().secure_avic(true)).unwrap();
     for f in &FEATURES {
         let r = table.row(f.leaf, f.subleaf).expect("the row");
         let named = f.bits.iter().fold(0, |mask: u32, (bit, _)| mask | 1 << bit);

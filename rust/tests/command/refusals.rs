@@ -85,7 +85,7 @@ fn compare_gives_the_line_after_its_report() {
 
 #[test]
 fn what_is_no_line_is_not_explained() {
-    for line in ["", "0", "01", "15", "3", "3 0000000d", "3 0000000D 02", "3  0000000D", "6", "6 256", "1 ", " 1", "1\n", "1\r", "one"] {
+    for line in ["", "0", "01", "16", "3", "3 0000000d", "3 0000000D 02", "3  0000000D", "6", "6 256", "1 ", " 1", "1\n", "1\r", "one"] {
         let ran = run(&["explain", line]);
         assert_eq!((ran.status, ran.line().ends_with(": no such line")), (1, true), "{line:?}");
     }

@@ -22,7 +22,8 @@ pub const BUILDING: &[&[&str]] = &[
 ];
 
 /// Runs of the other commands that read a file.
-pub const READING: &[&[&str]] = &[&["from-dump", "PAGES", "-o", "OUT"], &["from-kvm", "PAGES", "-o", "OUT"], &["compare", "PAGES", EPYC], &["compare", EPYC, "PAGES"]];
+pub const READING: &[&[&str]] =
+    &[&["from-dump", "PAGES", "-o", "OUT"], &["from-kvm", "PAGES", "-o", "OUT"], &["compare", "PAGES", EPYC], &["compare", EPYC, "PAGES"]];
 
 /// A run of these lists with its files.
 pub fn with_files(run: &[&str], pages: &str, out: &str) -> Vec<String> {

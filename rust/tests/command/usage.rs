@@ -46,13 +46,19 @@ fn help_of_each() {
     }
 }
 
+const SHARED: [&str; 3] = [
+    "--secure-avic keep the secure-AVIC bit of 8000001Fh.EAX",
+    "--edition N edition of the AVX rule, usually 1; 2 hides F16C, XOP, FMA4 without YMM state",
+    "--line where the pages are refused, print the refusal's line too",
+];
+
 /// The options of all commands that build are told by each of them in the same words, and by no other.
 #[test]
 fn shared_options_are_told_alike() {
     for name in commands() {
         let builds = name == "compare" || BUILDING.iter().any(|run| run[0] == name);
         let ran = run(&[name.as_str(), "--help"]);
-        for told in ["--secure-avic keep the secure-AVIC bit of 8000001Fh.EAX", "--line where the pages are refused, print the refusal's line too"] {
+        for told in SHARED {
             let (option, _) = told.split_once(' ').unwrap();
             let line = ran.text().lines().find(|line| line.trim_start().starts_with(&format!("{option} ")));
             let words = line.map(|line| line.split_whitespace().collect::<Vec<_>>().join(" "));

@@ -3,46 +3,60 @@
 use crate::arguments::Arguments;
 use crate::failure::Failure;
 use crate::input::{read, shown};
+use crate::numbers::decimal;
 use crate::option::Opt;
 use crate::output;
-use snp_cpuid::{Comparison, MOST_KVM_BYTES, Processor, Refusal, Table};
+use snp_cpuid::{Comparison, MOST_KVM_BYTES, Options, Processor, Refusal, Table};
 use std::ffi::OsStr;
 use std::fmt::Display;
 
 const SECURE_AVIC: Opt = Opt::flag(&["--secure-avic"], "keep the secure-AVIC bit of 8000001Fh.EAX");
 
+const EDITION: Opt = Opt::decimal(&["--edition"], "N", "edition of the AVX rule, usually 1; 2 hides F16C, XOP, FMA4 without YMM state");
+
 const LINE: Opt = Opt::flag(&["--line"], "where the pages are refused, print the refusal's line too");
 
 /// The options of every command that builds.
-pub const OPTIONS: &[Opt] = &[SECURE_AVIC, LINE];
+pub const OPTIONS: &[Opt] = &[SECURE_AVIC, EDITION, LINE];
 
 /// The choices that these options give.
 #[derive(Clone, Copy)]
 pub struct Building {
-    secure_avic: bool,
+    options: Options,
     line: bool,
 }
 
 impl Building {
     /// The choices that were given to a command.
-    pub fn of(arguments: &Arguments) -> Building {
-        Building { secure_avic: arguments.has(&SECURE_AVIC), line: arguments.has(&LINE) }
+    pub fn of(arguments: &Arguments, command: &str) -> Result<Building, Failure> {
+        let mut options = Options::new().secure_avic(arguments.has(&SECURE_AVIC));
+        if let Some(given) = arguments.value(EDITION.name()) {
+            let edition = given.to_str().and_then(decimal);
+            let wrong = || Failure::usage(command, &format!("{} '{}' is no decimal number of up to 32 bits", EDITION.name(), shown(given)));
+            options = options.edition(edition.ok_or_else(wrong)?);
+        }
+        Ok(Building { options, line: arguments.has(&LINE) })
+    }
+
+    /// The edition of the AVX rule.
+    pub fn edition(&self) -> u32 {
+        self.options.edition
     }
 
     /// The table of pages.
     pub fn build(&self, pages: &[u8]) -> Result<Table, Refusal> {
-        snp_cpuid::build(pages, self.secure_avic)
+        snp_cpuid::build(pages, self.options)
     }
 
     /// Whether a guest of one server may move to another.
     pub fn compare(&self, from: &[u8], to: &[u8]) -> Comparison {
-        snp_cpuid::compare(from, to, self.secure_avic)
+        snp_cpuid::compare(from, to, self.options)
     }
 
     /// The list for KVM of a file of pages.
     pub fn kvm_list(&self, file: &OsStr) -> Result<Vec<u8>, Failure> {
         let mut list = vec![0; MOST_KVM_BYTES];
-        let length = snp_cpuid::write_kvm(&read(file)?, self.secure_avic, &mut list).map_err(|refusal| self.refused(shown(file), refusal))?;
+        let length = snp_cpuid::write_kvm(&read(file)?, self.options, &mut list).map_err(|refusal| self.refused(shown(file), refusal))?;
         list.truncate(length);
         Ok(list)
     }
@@ -56,7 +70,7 @@ impl Building {
     pub fn seen(&self, file: &OsStr, processor: Option<Processor>) -> Result<Table, Failure> {
         match processor {
             None => self.table(file),
-            Some(processor) => snp_cpuid::guest(&read(file)?, self.secure_avic, processor).map_err(|refusal| self.refused(shown(file), refusal)),
+            Some(processor) => snp_cpuid::guest(&read(file)?, self.options, processor).map_err(|refusal| self.refused(shown(file), refusal)),
         }
     }
 

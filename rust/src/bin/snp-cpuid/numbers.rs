@@ -1,4 +1,4 @@
-//! Hexadecimal numbers: of up to 32 bits, and of up to 64.
+//! Hexadecimal numbers, of up to 32 bits and of up to 64, and decimal ones of up to 32.
 
 /// Digits alone: `from_str_radix` would take a sign too.
 pub fn digits(text: &str) -> Option<u32> {
@@ -14,4 +14,9 @@ pub fn prefixed(text: &str) -> Option<u32> {
 pub fn wide(text: &str) -> Option<u64> {
     let text = text.strip_prefix("0x").or_else(|| text.strip_prefix("0X")).unwrap_or(text);
     text.bytes().all(|digit| digit.is_ascii_hexdigit()).then(|| u64::from_str_radix(text, 16).ok()).flatten()
+}
+
+/// Decimal digits alone.
+pub fn decimal(text: &str) -> Option<u32> {
+    text.bytes().all(|digit| digit.is_ascii_digit()).then(|| text.parse().ok()).flatten()
 }

@@ -22,6 +22,8 @@ pub enum Value {
     File(&'static str),
     /// a hexadecimal number, which the help calls so
     Number(&'static str),
+    /// a decimal number, which the help calls so
+    Decimal(&'static str),
 }
 
 impl Opt {
@@ -33,6 +35,11 @@ impl Opt {
     /// An option with a hexadecimal number, which the help calls `name`.
     pub const fn number(names: &'static [&'static str], name: &'static str, required: bool, help: &'static str) -> Opt {
         Opt { names, value: Value::Number(name), required, help }
+    }
+
+    /// An option with a decimal number, which the help calls `name`; it may be left out.
+    pub const fn decimal(names: &'static [&'static str], name: &'static str, help: &'static str) -> Opt {
+        Opt { names, value: Value::Decimal(name), required: false, help }
     }
 
     /// The spelling by which messages call it.
@@ -62,7 +69,7 @@ impl Value {
     fn name(&self) -> Option<&'static str> {
         match self {
             Value::None => None,
-            Value::File(name) | Value::Number(name) => Some(name),
+            Value::File(name) | Value::Number(name) | Value::Decimal(name) => Some(name),
         }
     }
 
@@ -77,6 +84,7 @@ impl Value {
             Value::None => None,
             Value::File(_) => Some(("FILE", "a file name")),
             Value::Number(name) => Some((name, "a hexadecimal number")),
+            Value::Decimal(name) => Some((name, "a decimal number")),
         }
     }
 }

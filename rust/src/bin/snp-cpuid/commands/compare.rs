@@ -31,7 +31,8 @@ every other register that differs, by value; and for a guest that moves from A t
 A, what the theorem promises of this pair. B is at least A where it is accepted and meets the
 theorem's hypothesis: for every row of A's table but 0 and 80000000 B has a first entry with at
 least the bits of A's in feature registers, and equal in all others but D.0.ECX and the rows of leaf
-B, which are free. The library decides that by a proved function.
+B, which are free. The library decides that by a proved function. Both tables are made under the
+same edition of the AVX rule, which the report names; what is promised holds under either.
 
 Give the pages that the servers have, or both from dumps of the same kind: pages made from the text
 of to-dump hold what the table's rules have set and cleared, such as BTC_NO.
@@ -47,7 +48,7 @@ fn run(arguments: &Arguments) -> Result<(), Failure> {
     if arguments.operands.iter().all(|file| file == "-") {
         return Err(Failure::usage(COMMAND.name, "A and B cannot both be standard input"));
     }
-    let building = Building::of(arguments);
+    let building = Building::of(arguments, COMMAND.name)?;
     let server = |name, place: usize| {
         let pages = read(&arguments.operands[place])?;
         Ok(Server { name, file: shown(&arguments.operands[place]), table: building.build(&pages), pages })
@@ -57,7 +58,8 @@ fn run(arguments: &Arguments) -> Result<(), Failure> {
     let falls = Direction::new(&b, &a, building);
     let equal = a.table.is_ok() && a.table == b.table;
 
-    let mut report = format!("A  {}\nB  {}\n\n{}\n\n", a.file, b.file, verdict(equal, &rises, &falls));
+    let edition = building.edition();
+    let mut report = format!("A  {}\nB  {}\nunder edition {edition} of the AVX rule\n\n{}\n\n", a.file, b.file, verdict(equal, &rises, &falls));
     if let (Ok(table_a), Ok(table_b)) = (&a.table, &b.table) {
         report += &differences(table_a, table_b);
     }

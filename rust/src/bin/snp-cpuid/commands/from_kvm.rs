@@ -33,7 +33,8 @@ fn run(arguments: &Arguments) -> Result<(), Failure> {
     let file = &arguments.operands[0];
     let list = read(file)?;
     let mut pages = [0; KVM_PAGES_BYTES];
-    snp_cpuid::read_kvm(&list, &mut pages).map_err(|refusal| Building::of(arguments).refused(shown(file), refusal))?;
+    let building = Building::of(arguments, COMMAND.name)?;
+    snp_cpuid::read_kvm(&list, &mut pages).map_err(|refusal| building.refused(shown(file), refusal))?;
     output::write(arguments, &pages)?;
     // the list was read: its length is 8 + 40 × rows
     let rows = list[8..].chunks_exact(40);

@@ -27,5 +27,5 @@ subleaf and s; 13 and 14 are the guest's), 2 bad usage or a file that cannot be 
 
 fn run(arguments: &Arguments) -> Result<(), Failure> {
     let seen = processor::of(arguments, COMMAND.name)?;
-    output::print(table::text(&Building::of(arguments).seen(&arguments.operands[0], seen)?))
+    output::print(table::text(&Building::of(arguments, COMMAND.name)?.seen(&arguments.operands[0], seen)?))
 }

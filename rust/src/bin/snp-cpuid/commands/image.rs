@@ -23,6 +23,6 @@ written.
 };
 
 fn run(arguments: &Arguments) -> Result<(), Failure> {
-    let table = Building::of(arguments).table(&arguments.operands[0])?;
+    let table = Building::of(arguments, COMMAND.name)?.table(&arguments.operands[0])?;
     output::write(arguments, table.image())
 }

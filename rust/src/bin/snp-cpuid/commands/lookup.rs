@@ -35,7 +35,7 @@ read.
 fn run(arguments: &Arguments) -> Result<(), Failure> {
     let (leaf, subleaf) = asked(&arguments.operands[1])?;
     let seen = processor::of(arguments, COMMAND.name)?;
-    let table = Building::of(arguments).seen(&arguments.operands[0], seen)?;
+    let table = Building::of(arguments, COMMAND.name)?.seen(&arguments.operands[0], seen)?;
     match table.lookup(leaf, subleaf, arguments.has(&ENFORCE)) {
         Some(result) => {
             // the row that was found: a leaf without subleaves answers under any

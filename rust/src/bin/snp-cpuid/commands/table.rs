@@ -30,7 +30,7 @@ subleaf and s), 2 bad usage or a file that cannot be read. An empty page file is
 };
 
 fn run(arguments: &Arguments) -> Result<(), Failure> {
-    output::print(text(&Building::of(arguments).table(&arguments.operands[0])?))
+    output::print(text(&Building::of(arguments, COMMAND.name)?.table(&arguments.operands[0])?))
 }
 
 /// A table in words: its rows, and what a reader asks of the whole.

@@ -23,7 +23,7 @@ Exit status: 0 accepted, 1 refused, 2 bad usage or a file that cannot be read or
 };
 
 fn run(arguments: &Arguments) -> Result<(), Failure> {
-    let table = Building::of(arguments).table(&arguments.operands[0])?;
+    let table = Building::of(arguments, COMMAND.name)?.table(&arguments.operands[0])?;
     let rows: String = table.rows().map(|row| line(&row)).collect();
     output::write(arguments, format!("CPU 0:\n{rows}").as_bytes())
 }

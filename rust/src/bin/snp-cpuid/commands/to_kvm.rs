@@ -25,5 +25,5 @@ written.
 };
 
 fn run(arguments: &Arguments) -> Result<(), Failure> {
-    output::write(arguments, &Building::of(arguments).kvm_list(&arguments.operands[0])?)
+    output::write(arguments, &Building::of(arguments, COMMAND.name)?.kvm_list(&arguments.operands[0])?)
 }
