@@ -3,9 +3,13 @@ use mathlib.Core.Bool.{false, not}
 use mathlib.Core.List.{List}
 use Prim.Native.Nat.{ℕ}
 use Rattle.pages.specs.Layout.{badLength, countsFit}
-use Rattle.table.specs.declared.Refusal.the-variants.{PagesLength, PageCount, UnknownEdition}
+use Rattle.reserved.specs.declared.Reserved.{Reserved}
+use Rattle.reserved.specs.declared.Reserved.the-variants.{Zero, Nonzero}
+use Rattle.reserved.specs.Reserved.{reservedOf}
+use Rattle.table.specs.declared.Refusal.the-variants.{PagesLength, PageCount, UnknownEdition, ReservedBytes}
 use Rattle.table.specs.declared.Choices.{Choices}
 use Rattle.table.specs.declared.Verdict.{Verdict}
+use Rattle.table.specs.declared.Verdict.the-variants.{Accepted, Refused}
 use Rattle.table.specs.Refusal.{andThen}
 use Rattle.table.specs.Edition.{knownEdition}
 use Rattle.table.specs.Rows.{Rows}
@@ -25,9 +29,18 @@ lengthVerdict s = refuseUnless (not (badLength s)) PagesLength
 unfoldable pub countsVerdict : List ℕ → Verdict
 countsVerdict s = refuseUnless (countsFit s) PageCount
 
--- "Length and counts are lawful where neither 1 nor 2 applies"
+-- document 02, P10: "17 a nonzero reserved byte in an entry below its page's count, naming leaf EAX_IN with no subleaf, first in page and entry
+-- order, after 2 and before 3"
+abbrev pub cleanVerdict : Reserved → Verdict
+cleanVerdict Zero = Accepted
+cleanVerdict (Nonzero leaf) = Refused (ReservedBytes leaf)
+
+unfoldable pub reservedVerdict : List ℕ → Verdict
+reservedVerdict s = cleanVerdict (reservedOf s)
+
+-- "Length and counts are lawful where neither 1 nor 2 applies"; and P10: "the pages .. of servers A and B must be clean"
 unfoldable pub lawfulVerdict : List ℕ → Verdict
-lawfulVerdict s = andThen (lengthVerdict s) (countsVerdict s)
+lawfulVerdict s = andThen (lengthVerdict s) (andThen (countsVerdict s) (reservedVerdict s))
 
 -- what document 01 has: secure AVIC off, here under edition n
 abbrev pub underEdition : ℕ → Choices

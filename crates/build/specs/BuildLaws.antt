@@ -3,11 +3,12 @@ use mathlib.Core.Path.{_≡_, sym, ap, _∙_}
 use mathlib.Core.Bool.{true, false}
 use mathlib.Core.List.{List}
 use Prim.Native.Nat.{ℕ}
-use Rattle.pages.specs.Layout.{badLength, countsFit}
 use Rattle.build.specs.declared.Built.{Built}
-use Rattle.table.specs.declared.Refusal.the-variants.{PagesLength, PageCount, UnknownEdition}
+use Rattle.table.specs.declared.Refusal.{Refusal}
+use Rattle.table.specs.declared.Refusal.the-variants.{UnknownEdition}
 use Rattle.table.specs.declared.Choices.{Choices}
 use Rattle.table.specs.declared.Verdict.{Verdict}
+use Rattle.table.specs.declared.Verdict.the-variants.{Accepted, Refused}
 use Rattle.table.specs.declared.CpuidResults.{CpuidResults}
 use Rattle.build.specs.Built.{tableFor, builtFrom}
 use Rattle.table.specs.Table.{rowsIn}
@@ -15,7 +16,7 @@ use Rattle.table.specs.Rows.{Rows}
 use Rattle.table.specs.Edition.{knownEdition}
 use Rattle.build.specs.Stages.{refusedBuilt}
 use Rattle.collect.specs.Collect.{collected, collected-rows}
-use Rattle.build.specs.Build.{editionVerdict, lengthVerdict, countsVerdict, lawfulVerdict, rowsFor, verdictOf, answer}
+use Rattle.build.specs.Build.{editionVerdict, lawfulVerdict, rowsFor, verdictOf, answer}
 
 module _ (c : Choices) (s : List ℕ) where
   abbrev m : Rows
@@ -28,19 +29,16 @@ module _ (c : Choices) (s : List ℕ) where
   pub answer-unknown : knownEdition (c .edition) ≡ false → refusedBuilt UnknownEdition ≡ answer c s
   answer-unknown k = sym (built-with (unfold verdictOf editionVerdict in rw k))
 
-  module _ (k : knownEdition (c .edition) ≡ true) where
-    pub answer-bad-length : badLength s ≡ true → refusedBuilt PagesLength ≡ answer c s
-    answer-bad-length e = sym (built-with (unfold verdictOf editionVerdict lawfulVerdict lengthVerdict in rw (k, e)))
+  -- v is what is found of the pages
+  module _ (k : knownEdition (c .edition) ≡ true) {v : Verdict} (e : v ≡ lawfulVerdict s) where
+    pub answer-unlawful : {r : Refusal} {q : Built} → v ≡ Refused r → q ≡ refusedBuilt r → q ≡ answer c s
+    answer-unlawful f g = g ∙ sym (built-with (unfold verdictOf editionVerdict in rw (k, ← e, f)))
 
-    pub answer-bad-count : badLength s ≡ false → countsFit s ≡ false → refusedBuilt PageCount ≡ answer c s
-    answer-bad-count e f = sym (built-with (unfold verdictOf editionVerdict lawfulVerdict lengthVerdict countsVerdict in rw (k, e, f)))
-
-    answer-lawful : badLength s ≡ false → countsFit s ≡ true → builtFrom (c .edition) m ≡ answer c s
+    answer-lawful : v ≡ Accepted → builtFrom (c .edition) m ≡ answer c s
     unfolding builtFrom
-    answer-lawful e f = sym (built-with (unfold verdictOf editionVerdict lawfulVerdict lengthVerdict countsVerdict in rw (k, e, f)))
+    answer-lawful f = sym (built-with (unfold verdictOf editionVerdict in rw (k, ← e, f)))
 
-    -- what the collected rows are answered, once edition, length and counts are lawful
-    pub answer-collected : {t : CpuidResults} {q : Built} → badLength s ≡ false → countsFit s ≡ true → t ≡ collected (c .«secure_avic») s
+    -- what the collected rows are answered, once edition and pages are lawful
+    pub answer-collected : {t : CpuidResults} {q : Built} → v ≡ Accepted → t ≡ collected (c .«secure_avic») s
         → q ≡ builtFrom (c .edition) (rowsIn t) → q ≡ answer c s
-    answer-collected e f g h =
-        h ∙ ap (builtFrom (c .edition)) (ap rowsIn g ∙ collected-rows (c .«secure_avic») s) ∙ answer-lawful e f
+    answer-collected f g h = h ∙ ap (builtFrom (c .edition)) (ap rowsIn g ∙ collected-rows (c .«secure_avic») s) ∙ answer-lawful f

@@ -15,6 +15,6 @@ abbrev pub tableFor : ℕ → Verdict → Rows → CpuidResults
 tableFor n Accepted m = tableOf (finished n m) (combinedMask m)
 tableFor n (Refused r) m = emptyTable
 
--- the answer to masked first entries, once edition, length and counts are lawful
+-- the answer to masked first entries, once edition and pages are lawful
 unfoldable pub builtFrom : ℕ → Rows → Built
 builtFrom n m = record { verdict = rowsVerdict m; table = tableFor n (rowsVerdict m) m }

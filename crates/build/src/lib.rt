@@ -7,6 +7,8 @@ use checks::validate_invlpgb;
 use checks::validate_required;
 use checks::xsave_size;
 use masking::place;
+use reserved::Reserved;
+use reserved::reserved_bytes;
 use table::Choices;
 use table::CpuidResults;
 use table::Refusal;
@@ -25,7 +27,7 @@ ghost use Rattle.table.specs.Table.{rowsIn};
 ghost use Rattle.checks.specs.ExtendedState.{xfem, saveArea};
 ghost use Rattle.checks.specs.Checks.{requiredVerdict, topologyVerdict};
 ghost use Rattle.build.specs.Built.{builtFrom};
-ghost use Rattle.build.specs.Build.{answer};
+ghost use Rattle.build.specs.Build.{lawfulVerdict, answer};
 ghost use Rattle.build.specs.Stages.{refusedBuilt, builtBy, fromInvlpgb, fromComponents, fromArea};
 
 // What building gives: accepted with its table, or refused with an empty one.
@@ -128,6 +130,23 @@ fn from_topology(t: CpuidResults, edition: u32, size: u32) -> Built
     }
 }
 
+// Refusals 1, 2 and 17, in this order: whether length and counts of the pages are lawful, and their reserved bytes zero.
+pub fn validate_pages(pages: &[u8]) -> Verdict
+    ensures { λ r. ⌜ r ≡ lawfulVerdict (now (pages .entry)) ⌝ }
+{
+    if pages::bad_length(pages) {
+        return Verdict::Refused(Refusal::PagesLength);
+    }
+    if pages::counts_fit(pages) {
+        let reserved = reserved_bytes(pages);
+        if let Reserved::Nonzero(leaf) = reserved {
+            return Verdict::Refused(Refusal::ReservedBytes(leaf));
+        }
+        return Verdict::Accepted;
+    }
+    Verdict::Refused(Refusal::PageCount)
+}
+
 // Pages of any length, count and content: one table, or one refusal. The flags are asked for required leaves by themselves, since handing
 // the table on copies it: a set without one is refused before that.
 pub fn build(pages: &[u8], choices: Choices) -> Built
@@ -136,17 +155,15 @@ pub fn build(pages: &[u8], choices: Choices) -> Built
     if known_edition(choices.edition) {} else {
         return refused(Refusal::UnknownEdition);
     }
-    if pages::bad_length(pages) {
-        return refused(Refusal::PagesLength);
+    let lawful = validate_pages(pages);
+    if let Verdict::Refused(r) = lawful {
+        return refused(r);
     }
-    if pages::counts_fit(pages) {
-        let t = collect::collect(pages, choices.secure_avic);
-        let present = t.present;
-        let verdict = validate_required(present);
-        if let Verdict::Refused(r) = verdict {
-            return refused(r);
-        }
-        return from_invlpgb(t, choices.edition);
+    let t = collect::collect(pages, choices.secure_avic);
+    let present = t.present;
+    let verdict = validate_required(present);
+    if let Verdict::Refused(r) = verdict {
+        return refused(r);
     }
-    refused(Refusal::PageCount)
+    from_invlpgb(t, choices.edition)
 }

@@ -9,6 +9,7 @@ use x86defs::leaf;
 ghost use mathlib.Core.Path.{_≡_};
 ghost use mathlib.Core.Bool.{true};
 ghost use Rattle.pages.specs.Layout.{countsFit};
+ghost use Rattle.reserved.specs.Reserved.{allClean};
 ghost use Rattle.masking.specs.Masks.{applyMask};
 ghost use Rattle.masks.specs.KeptTable.{masksOf};
 ghost use Rattle.collect.specs.FirstEntries.{setLegacy};
@@ -46,9 +47,9 @@ pub fn masked_at(kept: KeptLeaf, place: usize, r: CpuidResult) -> CpuidResult
     masked
 }
 
-// The masked first entry of every place, from pages whose counts are lawful: what the reader gives, page by page.
+// The masked first entry of every place, from clean pages whose counts are lawful: what the reader gives, page by page.
 pub fn collect(pages: &[u8], secure_avic: bool) -> CpuidResults
-    requires { ⌜ countsFit (now pages) ≡ true ⌝ }
+    requires { ⌜ (countsFit (now pages) ≡ true) × (allClean (now pages) ≡ true) ⌝ }
     ensures { λ r. ⌜ r ≡ collected «secure_avic» (now (pages .entry)) ⌝ }
 {
     let kept = masks::kept_leaves(secure_avic);

@@ -1,6 +1,6 @@
 -- May a guest of server A move to server B? The hypothesis of demand 3 (crates/rise/specs/Rise.antt), decided, or the first thing that
--- fails: A's own refusal; then B's length, then its counts; then, among the rows of A's table that come from an entry, by rising leaf and
--- subleaf, whether B has a first counted entry, and its EAX, EBX, ECX, EDX, each as its kind asks (crates/update/specs/Kinds.antt).
+-- fails: A's own refusal; then B's length, its counts, its reserved bytes; then, among the rows of A's table that come from an entry, by rising
+-- leaf and subleaf, whether B has a first counted entry, and its EAX, EBX, ECX, EDX, each as its kind asks (crates/update/specs/Kinds.antt).
 use mathlib.Core.Bool.{Bool}
 use mathlib.Core.List.{List}
 use Prim.Native.Nat.{ℕ}

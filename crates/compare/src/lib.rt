@@ -27,8 +27,8 @@ pub enum Register {
     Edx,
 }
 
-// What a comparison gives: B meets the hypothesis of demand 3; A is refused; B's length or counts are not lawful; B has no counted entry
-// for a row of A's table; or B's entry fails in a register.
+// What a comparison gives: B meets the hypothesis of demand 3; A is refused; B's length or counts are not lawful or its reserved bytes not zero;
+// B has no counted entry for a row of A's table; or B's entry fails in a register.
 pub enum Compared {
     Rises,
     RefusedA(Refusal),
@@ -45,8 +45,8 @@ struct RegistersRise {
     edx: bool,
 }
 
-// Whether B meets the hypothesis of demand 3 beside A under the same choices, or the first thing that fails: A's refusal, then B's
-// length and counts, then the rows of A's table by rising leaf and subleaf, at each first B's entry and then EAX, EBX, ECX, EDX.
+// Whether B meets the hypothesis of demand 3 beside A under the same choices, or the first thing that fails: A's refusal, then B's length, counts
+// and reserved bytes, then the rows of A's table by rising leaf and subleaf, at each first B's entry and then EAX, EBX, ECX, EDX.
 pub fn compare(a: &[u8], b: &[u8], choices: Choices) -> Compared
     ensures { λ r. ⌜ r ≡ compared choices (now (a .entry)) (now (b .entry)) ⌝ }
     ensures decides { λ r. ⌜ Decides choices (now (a .entry)) (now (b .entry)) r ⌝ }
@@ -56,18 +56,16 @@ pub fn compare(a: &[u8], b: &[u8], choices: Choices) -> Compared
     if let Verdict::Refused(refusal) = verdict {
         return Compared::RefusedA(refusal);
     }
-    if pages::bad_length(b) {
-        return Compared::UnlawfulB(Refusal::PagesLength);
+    let lawful = build::validate_pages(b);
+    if let Verdict::Refused(refusal) = lawful {
+        return Compared::UnlawfulB(refusal);
     }
-    if pages::counts_fit(b) {
-        let table = built.table;
-        return first_failing(
-            table,
-            collect::collect(a, choices.secure_avic),
-            collect::collect(b, choices.secure_avic),
-        );
-    }
-    Compared::UnlawfulB(Refusal::PageCount)
+    let table = built.table;
+    first_failing(
+        table,
+        collect::collect(a, choices.secure_avic),
+        collect::collect(b, choices.secure_avic),
+    )
 }
 
 // The first place at which B's masked first entry fails beside A's, among the places that A's table has.

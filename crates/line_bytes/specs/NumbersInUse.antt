@@ -1,5 +1,5 @@
 -- Document 02, P6: "for every number in use by then", and "only where that number names it". Every number in use has its row here: 1 to 9 from
--- document 01, "Where each check stands", 10 to 12 from P2, 13 and 14 from P3, 15 from P7, 16 from P8. A later number adds its row.
+-- document 01, "Where each check stands", 10 to 12 from P2, 13 and 14 from P3, 15 from P7, 16 from P8, 17 from P10. A later number adds its row.
 use mathlib.Core.Bool.{true, false}
 use mathlib.Core.List.{List, [], _∷_}
 use Prim.Native.Nat.{ℕ}
@@ -15,6 +15,10 @@ nothing = record { used = true; leaf = false; subleaf = false; s = false }
 -- a leaf, and a subleaf where the leaf has them
 abbrev leafAndSubleaf : Named
 leafAndSubleaf = record { used = true; leaf = true; subleaf = true; s = false }
+
+-- "naming leaf EAX_IN with no subleaf"
+abbrev onlyLeaf : Named
+onlyLeaf = record { used = true; leaf = true; subleaf = false; s = false }
 
 abbrev onlyS : Named
 onlyS = record { used = true; leaf = false; subleaf = false; s = true }
@@ -39,6 +43,7 @@ rows =
     nothing ∷  -- 14
     nothing ∷  -- 15
     nothing ∷  -- 16
+    onlyLeaf ∷  -- 17
     []
 
 -- what a number names

@@ -31,6 +31,13 @@ const LEAF_AND_SUBLEAF: Named = Named {
     s: false,
 };
 
+const ONLY_LEAF: Named = Named {
+    used: true,
+    leaf: true,
+    subleaf: false,
+    s: false,
+};
+
 const ONLY_S: Named = Named {
     used: true,
     leaf: false,
@@ -39,7 +46,7 @@ const ONLY_S: Named = Named {
 };
 
 // The first number beyond the table.
-const NUMBERS: usize = 17;
+const NUMBERS: usize = 18;
 
 // One row a number, from 0 on.
 const NAMES: [Named; NUMBERS] = [
@@ -60,6 +67,7 @@ const NAMES: [Named; NUMBERS] = [
     NOTHING,
     NOTHING,
     NOTHING,
+    ONLY_LEAF,
 ];
 
 // Which details a number names.

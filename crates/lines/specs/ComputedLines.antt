@@ -44,6 +44,11 @@ pub two-digits : line (told 14 0 None 0) ≡ 49 ∷ 52 ∷ 10 ∷ []
 unfolding line fields names rows digits width sumTo
 two-digits = refl
 
+-- 17 0000000D: a leaf, also one that has subleaves, and no subleaf
+pub reserved-d : line (told 17 0xD None 0) ≡ 49 ∷ 55 ∷ 32 ∷ 48 ∷ 48 ∷ 48 ∷ 48 ∷ 48 ∷ 48 ∷ 48 ∷ 68 ∷ 10 ∷ []
+unfolding line fields names rows digits width sumTo
+reserved-d = refl
+
 -- 3 FFFFFFFF 4294967295: the longest, which meets what the theorems ask
 abbrev pub longest : LineDetails
 longest = told 3 0xFFFFFFFF (Some 0xFFFFFFFF) 0
@@ -59,7 +64,7 @@ pub longest-length : length (line longest) ≡ 22
 unfolding line fields names rows digits width sumTo
 longest-length = refl
 
--- 01, 3 0000000d, 6 256, 1 without its newline, 1 with a newline more
+-- 01, 3 0000000d, 6 256, 17 0000000D 1, 1 without its newline, 1 with a newline more
 pub leading-zero : readLine (48 ∷ 49 ∷ 10 ∷ []) ≡ NoSuchLine
 unfolding readLine guess fieldFrom after sameBytes writable line fields names rows digits width sumTo
 leading-zero = refl
@@ -71,6 +76,10 @@ small-letter = refl
 pub past-8-bits : readLine (54 ∷ 32 ∷ 50 ∷ 53 ∷ 54 ∷ 10 ∷ []) ≡ NoSuchLine
 unfolding readLine guess fieldFrom after sameBytes writable line fields names rows digits width sumTo
 past-8-bits = refl
+
+pub reserved-with-subleaf : readLine (49 ∷ 55 ∷ 32 ∷ 48 ∷ 48 ∷ 48 ∷ 48 ∷ 48 ∷ 48 ∷ 48 ∷ 68 ∷ 32 ∷ 49 ∷ 10 ∷ []) ≡ NoSuchLine
+unfolding readLine guess fieldFrom after sameBytes writable line fields names rows digits width sumTo
+reserved-with-subleaf = refl
 
 pub no-newline : readLine (49 ∷ []) ≡ NoSuchLine
 unfolding readLine guess fieldFrom after sameBytes writable line fields names rows digits width sumTo

@@ -79,6 +79,7 @@ pub fn refusal_numbers(refusal: Refusal) -> AnswerNumbers
         Refusal::CompactSizeTooLarge => sized(14, 0),
         Refusal::UnknownEdition => sized(15, 0),
         Refusal::EditionBack => sized(16, 0),
+        Refusal::ReservedBytes(leaf) => at_leaf(17, leaf.0, Subleaf::None),
     }
 }
 

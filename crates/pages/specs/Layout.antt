@@ -34,6 +34,10 @@ pagesIn s = length s / pageSize
 abbrev pub countOf : List ℕ → ℕ → ℕ
 countOf s p = wordAt s (pageSize * p)
 
+-- where the entry at position q of page p begins
+abbrev pub entryStart : ℕ → ℕ → ℕ
+entryStart p q = pageSize * p + firstEntry + entrySize * q
+
 -- an entry, with the page and the position that it stands at
 pub record Entry : Type 0 where
   pub page : ℕ
@@ -44,7 +48,7 @@ pub record Entry : Type 0 where
 
 unfoldable pub entryAt : List ℕ → ℕ → ℕ → Entry
 entryAt s p q =
-    let o : ℕ = pageSize * p + firstEntry + entrySize * q in
+    let o : ℕ = entryStart p q in
     record {
       page = p;
       position = q;

@@ -14,8 +14,7 @@ use Rattle.bits.specs.Search.{Failing, lowest}
 use Rattle.bits.specs.Search.Failing.{at, none}
 use Rattle.bits.specs.SearchLaws.{lowest-at}
 use Rattle.pages.specs.declared.CpuidPageIndex.{CpuidPageIndex}
-use Rattle.pages.specs.Layout.{entryAt, mostEntries, pagesIn, countOf, countsFit}
-use Rattle.pages.specs.LayoutLaws.{counts-fit-at}
+use Rattle.pages.specs.Layout.{entryAt, pagesIn, countOf}
 use Rattle.pages.specs.Entries.{onPage, onPages, entries}
 use Rattle.pages.specs.Walk.{index, isEntry, isEmpty, startOf, firstFrom, nextValid, firstIndex, incremented, rest}
 
@@ -177,7 +176,6 @@ rest-first s = rest-next s 0 0 ∙ rest-page s 0 (pagesIn s) (omega arith)
 -- and a turn takes the first of those that are left
 pub record Turn (s : List ℕ) (i : CpuidPageIndex) : Type 0 where
   pub below : i .«function_index» < countOf s (i .«page_index»)
-  pub fits : countsFit s ≡ true → i .«function_index» < mostEntries
   pub taken : rest s i ≡ entryAt s (i .«page_index») (i .«function_index») ∷ rest s (incremented s i)
   pub falls : length (rest s (incremented s i)) < length (rest s i)
   pub valid : Valid s (incremented s i)
@@ -191,7 +189,6 @@ turn s i v h =
     let e : rest s i ≡ entryAt s p q ∷ rest s (incremented s i) = rest-step s p q h l in
     record {
       below = l;
-      fits = λ f. omega (arith, counts-fit-at s f p h);
       taken = e;
       falls = omega (arith, ap length e);
       valid = incremented-valid s i;

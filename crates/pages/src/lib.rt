@@ -7,11 +7,11 @@ ghost use lib.ListN.{length, getD};
 ghost use Rattle.pages.specs.Layout.{wordAt, pagesIn, countOf, badLength, countsFit, entryAt, mostEntries};
 ghost use Rattle.pages.specs.Walk.{firstIndex, nextValid, incremented, firstFrom, parsed};
 
-const PAGE_SIZE: usize = 4096;
+pub const PAGE_SIZE: usize = 4096;
 
-const FIRST_ENTRY: usize = 16;
+pub const FIRST_ENTRY: usize = 16;
 
-const ENTRY_SIZE: usize = 48;
+pub const ENTRY_SIZE: usize = 48;
 
 const MOST_ENTRIES: u32 = 64;
 

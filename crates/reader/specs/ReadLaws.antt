@@ -1,4 +1,4 @@
--- A new reader gives every entry of the pages, each once and in order, and of each it says whether it counts.
+-- A new reader gives every entry of the pages, each once and in order, and of each it says whether it counts; of clean pages each is clean.
 use mathlib.Core.Path.{_≡_, refl, sym, ap, _∙_}
 use mathlib.Core.Bool.{Bool, true, false}
 use mathlib.Core.List.{List, [], _∷_, map}
@@ -11,11 +11,21 @@ use Rattle.bits.specs.Choice.{pick}
 use Rattle.bits.specs.Lists.{keepIf}
 use Rattle.pages.specs.declared.CpuidPageIndex.{CpuidPageIndex}
 use Rattle.pages.specs.declared.ParsedCpuidEntry.{ParsedCpuidEntry}
-use Rattle.pages.specs.Layout.{Entry, pagesIn, entryAt}
+use Rattle.pages.specs.Layout.{Entry, pagesIn, mostEntries, entryAt}
+use Rattle.pages.specs.LayoutLaws.{counts-fit-at}
 use Rattle.pages.specs.Entries.{entries, counts, counted}
 use Rattle.pages.specs.Walk.{incremented, parsed, countsRead, rest, firstIndex}
 use Rattle.pages.specs.WalkLaws.{Valid, Turn, turn, first-valid, rest-first, rest-end}
-use Rattle.reader.specs.Read.{given}
+use Rattle.reserved.specs.Reserved.{cleanAt, clean, allClean}
+use Rattle.reserved.specs.ReservedLaws.{clean-at, clean-kept}
+use Rattle.reader.specs.Read.{Readable, given}
+
+-- where a reader may read, the entry stands on its page, and its reserved bytes are zero
+pub readable-within : {s : List ℕ} {i : CpuidPageIndex} → Readable s i → (i .«page_index» < pagesIn s) × (i .«function_index» < mostEntries)
+readable-within {s} {i} r = (r .page, omega (arith, counts-fit-at s (r .lawful) (i .«page_index») (r .page)))
+
+pub readable-clean : {s : List ℕ} {i : CpuidPageIndex} → Readable s i → cleanAt s (i .«page_index») (i .«function_index») ≡ true
+readable-clean {s} {i} r = clean-at s (r .clean) (i .«page_index») (i .«function_index») (r .page) (r .position)
 
 gives-rest : (s : List ℕ) (n : ℕ) (i : CpuidPageIndex) → Valid s i → length (rest s i) ≤ n → given s n i ≡ map parsed (rest s i)
 unfolding given
@@ -53,3 +63,8 @@ says-counts (e ∷ es) = go (says-counts es) (counts e)
 pub reader-gives-counted : (s : List ℕ) (n : ℕ) → length (entries s) ≤ n → keepIf countsRead (given s n (firstIndex s)) ≡ map parsed (counted s)
 unfolding counted
 reader-gives-counted s n l = ap (keepIf countsRead) (reader-gives s n l) ∙ says-counts (entries s)
+
+-- of clean pages every entry that it gives is clean: it gives those alone, and leaves none out
+pub reader-gives-clean : (s : List ℕ) (n : ℕ) → length (entries s) ≤ n → allClean s ≡ true
+    → given s n (firstIndex s) ≡ map parsed (keepIf (clean s) (entries s))
+reader-gives-clean s n l e = reader-gives s n l ∙ ap (map parsed) (sym (clean-kept s e))

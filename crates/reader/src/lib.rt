@@ -3,9 +3,8 @@
 use pages::CpuidPageIndex;
 use pages::ParsedCpuidEntry;
 ghost use mathlib.Core.Path.{_≡_};
-ghost use Prim.Native.Nat.{_<_};
-ghost use Rattle.pages.specs.Layout.{pagesIn, entryAt, mostEntries};
-ghost use Rattle.pages.specs.Walk.{firstIndex, incremented, parsed};
+ghost use Rattle.pages.specs.Walk.{firstIndex, incremented};
+ghost use Rattle.reader.specs.Read.{Readable, Step};
 
 // The caller's pages, and where the reader stands on them.
 pub struct SnpCpuidIterator<'a> {
@@ -44,10 +43,11 @@ pub fn start(pages: &[u8]) -> CpuidPageIndex
     r.index
 }
 
-// One step of a reader that stands at `index`: the entry there is read, and the reader's index is lent to `increment`.
+// One step of a reader that stands at `index`: the entry there is read, and the reader's index is lent to `increment`. With the entry it promises
+// that the entry's reserved bytes are zero.
 pub fn take(pages: &[u8], index: CpuidPageIndex) -> Taken
-    requires { ⌜ (index .«page_index» < pagesIn (now pages)) × (index .«function_index» < mostEntries) ⌝ }
-    ensures { λ r. ⌜ (r .found ≡ parsed (entryAt (now (pages .entry)) (index .«page_index») (index .«function_index»))) × (r .index ≡ incremented (now (pages .entry)) index) ⌝ }
+    requires { ⌜ Readable (now pages) index ⌝ }
+    ensures { λ r. ⌜ Step (now (pages .entry)) index r ⌝ }
 {
     let mut r = SnpCpuidIterator {
         cpuid_pages: pages,

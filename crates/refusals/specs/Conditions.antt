@@ -3,20 +3,20 @@ use mathlib.Core.Path.{_≡_}
 use mathlib.Core.Bool.{true, false}
 use mathlib.Core.List.{List}
 use mathlib.Core.Logic.{_⊎_, _≢_}
-use Prim.Native.Nat.{ℕ, _+_, _/_, _%_, _^_, _≤_, _<_}
+use Prim.Native.Nat.{ℕ, _+_, _*_, _/_, _%_, _^_, _≤_, _<_}
 use lib.Dec.{eqb}
-use lib.ListN.{length}
+use lib.ListN.{length, getD}
 use Rattle.bits.specs.Choice.{pick}
 use Rattle.bits.specs.Bits.{bit}
 use Rattle.x86defs.specs.Functions.{ExtendedStateEnumeration}
-use Rattle.pages.specs.Layout.{countOf}
+use Rattle.pages.specs.Layout.{countOf, entryAt}
 use Rattle.topology.specs.declared.TopologyError.the-variants.{Hyperthreading, ProcessorCount, ThreadsPerUnit}
 use Rattle.topology.specs.Topology.{Inputs}
 use Rattle.masking.specs.Place
 use Rattle.table.specs.declared.Choices.{Choices}
 use Rattle.table.specs.declared.Subleaf.the-variants.{Some}
 use Rattle.table.specs.declared.Refusal.{Refusal}
-use Rattle.table.specs.declared.Refusal.the-variants.{PagesLength, PageCount, MissingRequiredResult, InvlpgbUnavailable, SaveAreaOverflow, TopologyInconsistent, UnknownEdition}
+use Rattle.table.specs.declared.Refusal.the-variants.{PagesLength, PageCount, MissingRequiredResult, InvlpgbUnavailable, SaveAreaOverflow, TopologyInconsistent, UnknownEdition, ReservedBytes}
 use Rattle.table.specs.Rows.{Rows}
 use Rattle.checks.specs.Required.{requiredAt, requiredCount, placeRequired}
 use Rattle.checks.specs.ExtendedState.{xfem, combinedMask}
@@ -36,6 +36,21 @@ pub record CountFault (s : List ℕ) : Type 0 where
   pub page : ℕ
   pub inside : page < length s / 4096
   pub above : 64 < countOf s page
+
+-- byte k of the eight reserved ones of the entry at position q of page p: document 01, "64 entries of 48 bytes from 16", "8 reserved at 40"
+abbrev pub reservedByte : List ℕ → ℕ → ℕ → ℕ → ℕ
+reservedByte s p q k = getD s (4096 * p + 16 + 48 * q + 40 + k) 0
+
+-- 17. document 02, P10: "a nonzero reserved byte in an entry below its page's count, naming leaf EAX_IN with no subleaf, first in page and entry
+-- order, after 2 and before 3". The entry at position q of page p has one, and none before it has.
+pub record ReservedFault (s : List ℕ) (p q : ℕ) : Type 0 where
+  pub inside : p < length s / 4096
+  pub belowCount : q < countOf s p
+  pub byte : ℕ
+  pub reserved : byte < 8
+  pub nonzero : reservedByte s p q byte ≢ 0
+  pub pagesBefore : (i j k : ℕ) → i < p → j < countOf s i → k < 8 → reservedByte s i j k ≡ 0
+  pub entriesBefore : (j k : ℕ) → j < q → k < 8 → reservedByte s p j k ≡ 0
 
 -- 3. required leaves, in list order: "no such row; names leaf and subleaf". The j-th of the two lists has no row, and all before it have.
 pub record RequiredFault (m : Rows) (j : ℕ) : Type 0 where
@@ -89,25 +104,27 @@ ThreadsFault i = (1 < i .t) ⊎ (processorsSaid i ≤ i .t)
 
 -- the checks in order. 6 and 7 exclude each other where s = 0; where s is 1 to 7, 7 comes first
 pub data Check : Type 0 where
-  edition pagesLength pageCounts requiredLeaves invlpgb components saveArea processorCount hyperthreading threadsPerUnit : Check
+  edition pagesLength pageCounts reservedBytes requiredLeaves invlpgb components saveArea processorCount hyperthreading threadsPerUnit : Check
 
 abbrev pub rank : Check → ℕ
 rank edition = 0
 rank pagesLength = 1
 rank pageCounts = 2
-rank requiredLeaves = 3
-rank invlpgb = 4
-rank components = 5
-rank saveArea = 6
-rank processorCount = 7
-rank hyperthreading = 8
-rank threadsPerUnit = 9
+rank reservedBytes = 3
+rank requiredLeaves = 4
+rank invlpgb = 5
+rank components = 6
+rank saveArea = 7
+rank processorCount = 8
+rank hyperthreading = 9
+rank threadsPerUnit = 10
 
 -- the condition of a check holds of a page set's bytes under the caller's choices, and the refusal names these details
 abbrev pub Fault : Choices → List ℕ → Check → Refusal → Type 0
 Fault chosen s edition r = EditionFault (chosen .edition) × (r ≡ UnknownEdition)
 Fault chosen s pagesLength r = LengthFault s × (r ≡ PagesLength)
 Fault chosen s pageCounts r = CountFault s × (r ≡ PageCount)
+Fault chosen s reservedBytes r = (p : ℕ) × (q : ℕ) × ReservedFault s p q × (r ≡ ReservedBytes (entryAt s p q .leaf))
 Fault chosen s requiredLeaves r =
     (j : ℕ) × RequiredFault (rowsFor chosen s) j × (r ≡ MissingRequiredResult (requiredAt j .leaf) (requiredAt j .subleaf))
 Fault chosen s invlpgb r = InvlpgbFault (rowsFor chosen s) × (r ≡ InvlpgbUnavailable)

@@ -18,7 +18,7 @@ use Rattle.build.specs.Build.{rowsFor, answer}
 use Rattle.buffer.specs.WritesExactly.{front-exactly}
 use Rattle.write.specs.Write.{write}
 use Rattle.refusals.specs.Conditions.{Check, Fault}
-use Rattle.refusals.specs.Conditions.Check.{edition, pagesLength, pageCounts, requiredLeaves, invlpgb, components, saveArea, processorCount, hyperthreading, threadsPerUnit}
+use Rattle.refusals.specs.Conditions.Check.{edition, pagesLength, pageCounts, reservedBytes, requiredLeaves, invlpgb, components, saveArea, processorCount, hyperthreading, threadsPerUnit}
 use Rattle.refusals.specs.Exactly.{FirstFault, BuildsExactly, WritesExactly, imageOf}
 use Rattle.refusals.specs.StagesSettled.{checkCount, rank-lt, first-fault-unique, Judged, answer-judged}
 use Rattle.refusals.specs.StagesSettled.Judged.{accepted, refused}
@@ -53,12 +53,13 @@ builds-exactly chosen s = go (answer-judged chosen s)
 
 -- the numbers that building gives
 abbrev pub buildingNumber : ℕ → Bool
-buildingNumber n = ltb n 9 || eqb n 15
+buildingNumber n = ltb n 9 || (eqb n 15 || eqb n 17)
 
 pub fault-number : (chosen : Choices) (s : List ℕ) (c : Check) (r : Refusal) → Fault chosen s c r → buildingNumber (details r .number) ≡ true
 fault-number chosen s edition r f = rw (f .1)
 fault-number chosen s pagesLength r f = rw (f .1)
 fault-number chosen s pageCounts r f = rw (f .1)
+fault-number chosen s reservedBytes r f = rw (f .3)
 fault-number chosen s requiredLeaves r f = rw (f .2)
 fault-number chosen s invlpgb r f = rw (f .1)
 fault-number chosen s components r f = rw (f .2)

@@ -2,6 +2,7 @@ pub mod Conditions
 pub mod Exactly
 pub mod Settles
 pub mod PagesSettled
+pub mod ReservedSettled
 pub mod RequiredSettled
 pub mod ExtendedStateSettled
 pub mod TopologySettled

@@ -1,4 +1,4 @@
--- The answer's verdict is the verdicts of the ten checks in the order of their ranks, and so refuses exactly at the first fault.
+-- The answer's verdict is the verdicts of the eleven checks in the order of their ranks, and so refuses exactly at the first fault.
 use mathlib.Core.Path.{_≡_, refl, sym, ap, _∙_}
 use mathlib.Core.List.{List, [], _∷_}
 use mathlib.Core.Logic.{inl, inr}
@@ -17,13 +17,14 @@ use Rattle.table.specs.Refusal.{andThen}
 use Rattle.table.specs.Rows.{Rows}
 use Rattle.checks.specs.TopologyInputs.{inputsOf}
 use Rattle.checks.specs.Checks.{requiredVerdict, invlpgbVerdict, componentsVerdict, areaVerdict, rowsVerdict}
-use Rattle.build.specs.Build.{rowsFor, editionVerdict, lengthVerdict, countsVerdict, lawfulVerdict, verdictOf, answer}
+use Rattle.build.specs.Build.{rowsFor, editionVerdict, lengthVerdict, countsVerdict, reservedVerdict, lawfulVerdict, verdictOf, answer}
 use Rattle.refusals.specs.Conditions.{Check, rank, Fault, processorsSaid}
-use Rattle.refusals.specs.Conditions.Check.{edition, pagesLength, pageCounts, requiredLeaves, invlpgb, components, saveArea, processorCount, hyperthreading, threadsPerUnit}
+use Rattle.refusals.specs.Conditions.Check.{edition, pagesLength, pageCounts, reservedBytes, requiredLeaves, invlpgb, components, saveArea, processorCount, hyperthreading, threadsPerUnit}
 use Rattle.refusals.specs.Exactly.{FirstFault}
 use Rattle.refusals.specs.Settles.{Settles, decided-unique}
 use Rattle.refusals.specs.Settles.Settles.{passes, refuses}
 use Rattle.refusals.specs.PagesSettled.{edition-decides, length-decides, counts-decide}
+use Rattle.refusals.specs.ReservedSettled.{reserved-decides}
 use Rattle.refusals.specs.RequiredSettled.{required-decides, invlpgb-decides}
 use Rattle.refusals.specs.ExtendedStateSettled.{components-decide, area-decides}
 use Rattle.refusals.specs.TopologySettled.{processorCountVerdict, hyperthreadingVerdict, threadsVerdict, topology-in-order, mt-lt, processor-count-decides, hyperthreading-decides, threads-decide}
@@ -38,6 +39,7 @@ module _ (chosen : Choices) (s : List ℕ) where
   stage edition = editionVerdict (chosen .edition)
   stage pagesLength = lengthVerdict s
   stage pageCounts = countsVerdict s
+  stage reservedBytes = reservedVerdict s
   stage requiredLeaves = requiredVerdict rows
   stage invlpgb = invlpgbVerdict rows
   stage components = componentsVerdict rows
@@ -50,6 +52,7 @@ module _ (chosen : Choices) (s : List ℕ) where
   stage-decides edition = edition-decides (chosen .edition)
   stage-decides pagesLength = length-decides s
   stage-decides pageCounts = counts-decide s
+  stage-decides reservedBytes = reserved-decides s
   stage-decides requiredLeaves = required-decides rows
   stage-decides invlpgb = invlpgb-decides rows
   stage-decides components = components-decide rows
@@ -65,6 +68,7 @@ checks =
     edition
     ∷ pagesLength
     ∷ pageCounts
+    ∷ reservedBytes
     ∷ requiredLeaves
     ∷ invlpgb
     ∷ components
@@ -78,13 +82,14 @@ checkAt : ℕ → Check
 checkAt n = getD checks n threadsPerUnit
 
 abbrev pub checkCount : ℕ
-checkCount = 10
+checkCount = 11
 
 check-rank : (c : Check) → (rank c < checkCount) × (checkAt (rank c) ≡ c)
 unfolding checkAt checks
 check-rank edition = (lit< tt, refl)
 check-rank pagesLength = (lit< tt, refl)
 check-rank pageCounts = (lit< tt, refl)
+check-rank reservedBytes = (lit< tt, refl)
 check-rank requiredLeaves = (lit< tt, refl)
 check-rank invlpgb = (lit< tt, refl)
 check-rank components = (lit< tt, refl)

@@ -1,5 +1,6 @@
 -- Demand 3, for any two page sets A and B under the same choices of secure AVIC and edition (document 02, P7: "proved for any edition, the same
--- for A and B, in one argument"). "Let A be accepted and B of lawful length and counts, and
+-- for A and B, in one argument"). Their pages "must be clean" (P10): an accepted set's are, and `lawfulVerdict` asks it of B's.
+-- "Let A be accepted and B of lawful length and counts, and
 -- let B have, for every row of A's table but 0 and 80000000h, a first counted entry with at least the bits of A's in document 01's
 -- feature registers and equal in all others that it doesn't free. Then B is refused exactly when a leaf 0xD subleaf that its own mask
 -- needs has no counted entry, by refusal 3, or else a size overflows, by 5; and if accepted its table has every row of A's, beyond these

@@ -65,7 +65,7 @@ pub accepted-rows : (chosen : Choices) (s : List ℕ) → answer chosen s .verdi
 unfolding answer verdictOf
 accepted-rows chosen s e = then-right (lawfulVerdict s) _ (then-right (editionVerdict (chosen .edition)) _ e)
 
--- its edition is 1 or 2, and its length and counts are lawful
+-- its edition is 1 or 2, and its pages are lawful
 pub accepted-edition : (chosen : Choices) (s : List ℕ) → answer chosen s .verdict ≡ Accepted → editionVerdict (chosen .edition) ≡ Accepted
 unfolding answer verdictOf
 accepted-edition chosen s e = then-left (editionVerdict (chosen .edition)) _ e

@@ -8,6 +8,7 @@ pub mod RowsAgain
 pub mod MaskedRows
 pub mod TableList
 pub mod PagesRead
+pub mod PagesLawful
 pub mod TableRows
 pub mod ReadsExactlyProof
 pub mod RoundTripProof

@@ -1,8 +1,9 @@
--- The two pages made of rows: lawful, and their counted entries are the rows, those of page 0 first.
+-- The two pages made of rows: their words, and their counted entries, which are the rows, those of page 0 first.
 use mathlib.Core.Path.{_≡_, refl, sym, ap, ap₂, _∙_, fun-ext}
 use mathlib.Core.Bool.{Bool, true, false, not, _||_}
 use mathlib.Core.List.{List, [], _∷_, _++_, map, append-assoc, append-nil}
 use Prim.Native.Nat.{ℕ, zero, suc, _+_, _-_, _*_, _/_, _≤_, _<_}
+use native.Mathlib.Nat.{zero-add}
 use native.Mathlib.Omega.{arith}
 use lib.Dec.{eqb}
 use lib.ListN.{length, getD, replicate, length-append}
@@ -76,19 +77,20 @@ keep-append f (x ∷ xs) ys = go (f x) (keep-append f xs ys)
 
 -- ---- the entries of one page
 
+-- the words of the entries after the first
+pub words-past : (r : ListRow) (rs : List ListRow) (post : List ℕ) (q j : ℕ)
+    → getD (entryWords r ++ (entriesWords rs ++ post)) (12 * suc q + j) 0 ≡ getD (entriesWords rs ++ post) (12 * q + j) 0
+words-past r rs post q j =
+    let p : 12 * suc q + j ≡ 12 + (12 * q + j) = omega arith in
+    ap (λ (n : ℕ). getD (entryWords r ++ (entriesWords rs ++ post)) n 0) p ∙ getD-append-add (entryWords r) (entriesWords rs ++ post) (12 * q + j) 0
+
 page-read : (rs : List ListRow) (post : List ℕ) → AllFit rs
     → tabulate (length rs) (λ q. fromWords (λ j. cut (getD (entriesWords rs ++ post) (12 * q + j) 0))) ≡ map ofRow rs
 unfolding tabulate entriesWords
 page-read [] post h = refl
 page-read (r ∷ rs) post h =
     ap₂ _∷_ (ap ofRow (h .0))
-    (ap (tabulate (length rs)) (fun-ext (λ q. ap fromWords (fun-ext (λ j. ap cut (past q j))))) ∙ page-read rs post (h .1))
-  where
-    past : (q j : ℕ) → getD (entryWords r ++ (entriesWords rs ++ post)) (12 * suc q + j) 0 ≡ getD (entriesWords rs ++ post) (12 * q + j) 0
-    past q j =
-        let p : 12 * suc q + j ≡ 12 + (12 * q + j) = omega arith in
-        ap (λ (n : ℕ). getD (entryWords r ++ (entriesWords rs ++ post)) n 0) p ∙ getD-append-add (entryWords r) (entriesWords rs ++ post)
-        (12 * q + j) 0
+    (ap (tabulate (length rs)) (fun-ext (λ q. ap fromWords (fun-ext (λ j. ap cut (words-past r rs post q j))))) ∙ page-read rs post (h .1))
 
 page-entries : (s : List ℕ) (p q n : ℕ) → map ofEntry (onPage s p q n) ≡ tabulate n (λ j. ofEntry (entryAt s p (q + j)))
 unfolding onPage tabulate
@@ -149,6 +151,13 @@ entry-words s p q =
       registers = result (wordAt s (o + 24)) (wordAt s (o + 28)) (wordAt s (o + 32)) (wordAt s (o + 36));
     }
 
+-- the entries of page p, by their words
+page-words : (s : List ℕ) (p n : ℕ) (f : ℕ → ℕ → ℕ) → ((q j : ℕ) → wordAt s (4096 * p + 16 + 48 * q + 4 * j) ≡ f q j)
+    → map ofEntry (onPage s p 0 n) ≡ tabulate n (λ q. fromWords (f q))
+page-words s p n f e =
+    page-entries s p 0 n
+    ∙ ap (tabulate n) (fun-ext (λ q. ap (λ (k : ℕ). ofEntry (entryAt s p k)) (zero-add q) ∙ entry-words s p q ∙ ap fromWords (fun-ext (e q))))
+
 words-page : (rs : List ListRow) (k : ℕ) → getD (pageWords rs) (suc (suc (suc (suc k)))) 0 ≡ getD (entriesWords rs ++ replicate
     (1020 - 12 * length rs) 0) k 0
 unfolding pageWords
@@ -168,43 +177,41 @@ module _ (A B : List ListRow) (fitA : AllFit A) (fitB : AllFit B) (fewA : length
   unfolding pageWords
   words-0 k = ap (λ (l : List ℕ). getD l k 0) (append-assoc (entriesWords A) (replicate (1020 - 12 * length A) 0) (pageWords B))
 
-  count-0 : countOf s 0 ≡ length A
+  pub count-0 : countOf s 0 ≡ length A
   count-0 = word-bytes W 0 ∙ (unfold pageWords in cut-small (length A) (omega arith))
 
-  count-1 : countOf s 1 ≡ length B
+  pub count-1 : countOf s 1 ≡ length B
   count-1 = word-bytes W 1024 ∙ ap cut (words-1 0) ∙ (unfold pageWords in cut-small (length B) (omega arith))
 
   pub length-s : length s ≡ 8192
   length-s = length-bytes W ∙ omega (arith, length-append (pageWords A) (pageWords B), length-page A fewA, length-page B fewB)
 
-  abbrev afterA : List ℕ
+  abbrev pub afterA : List ℕ
   afterA = replicate (1020 - 12 * length A) 0 ++ pageWords B
 
+  abbrev pub afterB : List ℕ
+  afterB = replicate (1020 - 12 * length B) 0
+
+  -- word j of the entry at position q of each page
+  pub word-0 : (q j : ℕ) → wordAt s (4096 * 0 + 16 + 48 * q + 4 * j) ≡ cut (getD (entriesWords A ++ afterA) (12 * q + j) 0)
+  word-0 q j =
+      let p : 4096 * 0 + 16 + 48 * q + 4 * j ≡ 4 * suc (suc (suc (suc (12 * q + j)))) = omega arith in
+      ap (wordAt s) p ∙ word-bytes W (suc (suc (suc (suc (12 * q + j))))) ∙ ap cut (words-0 (12 * q + j))
+
+  pub word-1 : (q j : ℕ) → wordAt s (4096 * 1 + 16 + 48 * q + 4 * j) ≡ cut (getD (entriesWords B ++ afterB) (12 * q + j) 0)
+  word-1 q j =
+      let p : 4096 * 1 + 16 + 48 * q + 4 * j ≡ 4 * (1024 + suc (suc (suc (suc (12 * q + j))))) = omega arith in
+      ap (wordAt s) p
+      ∙ word-bytes W (1024 + suc (suc (suc (suc (12 * q + j)))))
+      ∙ ap cut (words-1 (suc (suc (suc (suc (12 * q + j))))) ∙ words-page B (12 * q + j))
+
   entries-0 : map ofEntry (onPage s 0 0 (length A)) ≡ map ofRow A
-  entries-0 = page-entries s 0 0 (length A) ∙ ap (tabulate (length A)) (fun-ext at) ∙ page-read A afterA fitA
-    where
-      at : (q : ℕ) → ofEntry (entryAt s 0 (0 + q)) ≡ fromWords (λ j. cut (getD (entriesWords A ++ afterA) (12 * q + j) 0))
-      at q =
-          entry-words s 0 (0 + q)
-          ∙ ap fromWords
-          (fun-ext (λ j.
-          let p : 4096 * 0 + 16 + 48 * (0 + q) + 4 * j ≡ 4 * suc (suc (suc (suc (12 * q + j)))) = omega arith in
-          ap (wordAt s) p ∙ word-bytes W (suc (suc (suc (suc (12 * q + j))))) ∙ ap cut (words-0 (12 * q + j))))
+  entries-0 = page-words s 0 (length A) _ word-0 ∙ page-read A afterA fitA
 
   entries-1 : map ofEntry (onPage s 1 0 (length B)) ≡ map ofRow B
-  entries-1 = page-entries s 1 0 (length B) ∙ ap (tabulate (length B)) (fun-ext at) ∙ page-read B (replicate (1020 - 12 * length B) 0) fitB
-    where
-      at : (q : ℕ) → ofEntry (entryAt s 1 (0 + q)) ≡ fromWords (λ j. cut (getD (entriesWords B ++ replicate (1020 - 12 * length B) 0) (12 * q + j) 0))
-      at q =
-          entry-words s 1 (0 + q)
-          ∙ ap fromWords
-          (fun-ext (λ j.
-          let p : 4096 * 1 + 16 + 48 * (0 + q) + 4 * j ≡ 4 * (1024 + suc (suc (suc (suc (12 * q + j))))) = omega arith in
-          ap (wordAt s) p
-          ∙ word-bytes W (1024 + suc (suc (suc (suc (12 * q + j)))))
-          ∙ ap cut (words-1 (suc (suc (suc (suc (12 * q + j))))) ∙ words-page B (12 * q + j))))
+  entries-1 = page-words s 1 (length B) _ word-1 ∙ page-read B afterB fitB
 
-  pages-in : pagesIn s ≡ 2
+  pub pages-in : pagesIn s ≡ 2
   pages-in = ap (λ (n : ℕ). n / 4096) length-s
 
   pub good-length : badLength s ≡ false
@@ -288,15 +295,15 @@ page-of-place i l r p = ap (λ (f : CpuidFunction). sameFunction f ExtendedState
 -- ---- the pages that reading gives
 
 module _ (rs : List ListRow) (fit : AllFit rs) (few-0 : length (rowsOn0 rs) ≤ mostEntries) (few-1 : length (rowsOn1 rs) ≤ mostEntries) where
-  fits-0 : AllFit (rowsOn0 rs)
+  pub fits-0 : AllFit (rowsOn0 rs)
   unfolding rowsOn0
   fits-0 = fit-kept (λ r. not (isExtendedState r)) rs fit
 
-  fits-1 : AllFit (rowsOn1 rs)
+  pub fits-1 : AllFit (rowsOn1 rs)
   unfolding rowsOn1
   fits-1 = fit-kept isExtendedState rs fit
 
-  whole : pagesOf rs ≡ bytesOfWords (pageWords (rowsOn0 rs) ++ pageWords (rowsOn1 rs))
+  pub whole : pagesOf rs ≡ bytesOfWords (pageWords (rowsOn0 rs) ++ pageWords (rowsOn1 rs))
   unfolding pagesOf
   whole = sym (bytes-append (pageWords (rowsOn0 rs)) (pageWords (rowsOn1 rs)))
 

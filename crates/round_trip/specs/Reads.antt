@@ -6,6 +6,8 @@ use lib.ListN.{length, getD, drop}
 use Rattle.x86defs.specs.declared.CpuidResult.{CpuidResult}
 use Rattle.pages.specs.Layout.{Entry, countOf}
 use Rattle.pages.specs.Entries.{onPage, counted}
+use Rattle.table.specs.declared.Verdict.the-variants.{Accepted}
+use Rattle.build.specs.Build.{lawfulVerdict}
 use Rattle.kvm_list.specs.Format.{ListRow, rowsIn}
 use Rattle.kvm_checks.specs.ListChecks.{rowsOn0, rowsOn1}
 use Rattle.kvm_pages.specs.ListPages.{pagesOf}
@@ -31,6 +33,8 @@ pub record ReadMakes (l buffer : List ℕ) : Type 0 where
   -- 8,192 bytes, each given by the list's rows; lent bytes beyond stay
   pub two : length (pagesOf (rowsIn l)) ≡ 8192
   pub bytes : readList l buffer .buffer ≡ pagesOf (rowsIn l) ++ drop 8192 buffer
+  -- of lawful length and counts, and clean: neither 1, 2 nor 17 applies
+  pub lawful : lawfulVerdict (pagesOf (rowsIn l)) ≡ Accepted
   -- page by page, and all that count
   pub page0 : map ofEntry (onPage (pagesOf (rowsIn l)) 0 0 (countOf (pagesOf (rowsIn l)) 0)) ≡ map ofRow (rowsOn0 (rowsIn l))
   pub page1 : map ofEntry (onPage (pagesOf (rowsIn l)) 1 0 (countOf (pagesOf (rowsIn l)) 1)) ≡ map ofRow (rowsOn1 (rowsIn l))

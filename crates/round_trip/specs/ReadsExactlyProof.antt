@@ -27,6 +27,7 @@ use Rattle.kvm_import.specs.Import.{listVerdict, readList}
 use Rattle.round_trip.specs.Reads.{AreBytes, ReadMakes}
 use Rattle.round_trip.specs.ReadsExactly.{LengthHolds, RowHolds, FieldsHold, RowsFit, ReadsExactly}
 use Rattle.round_trip.specs.PagesRead.{AllFit, page-0, page-1, all-counted}
+use Rattle.round_trip.specs.PagesLawful.{pages-lawful}
 
 -- ---- 10
 
@@ -210,6 +211,7 @@ module _ (l : List ℕ) (bytes : AreBytes l) where
       record {
         two = pages-length (rowsIn l) (g .0) (g .1);
         bytes = x .beyond 8192 e;
+        lawful = pages-lawful (rowsIn l) rows-small (g .0) (g .1);
         page0 = page-0 (rowsIn l) rows-small (g .0) (g .1);
         page1 = page-1 (rowsIn l) rows-small (g .0) (g .1);
         all = all-counted (rowsIn l) rows-small (g .0) (g .1);

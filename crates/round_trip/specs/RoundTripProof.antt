@@ -11,25 +11,20 @@ use borrow.Author.Tests.{ltb-true, le-leb}
 use Rattle.bits.specs.Choice.{pick}
 use Rattle.bits.specs.Lists.{sumTo, one}
 use Rattle.bits.specs.ListsLaws.{sum-ext, getD-tabulate}
-use Rattle.pages.specs.Layout.{badLength, countsFit}
 use Rattle.pages.specs.Entries.{counted}
 use Rattle.masking.specs.Kept.{places}
 use Rattle.table.specs.declared.Choices.{Choices}
-use Rattle.table.specs.declared.Refusal.the-variants.{UnknownEdition}
-use Rattle.table.specs.Edition.{knownEdition}
 use Rattle.table.specs.declared.CpuidResults.{CpuidResults}
 use Rattle.table.specs.declared.Verdict.{Verdict}
 use Rattle.table.specs.declared.Verdict.the-variants.{Accepted}
 use Rattle.table.specs.Rows.{Row, Rows, vacant}
 use Rattle.table.specs.Table.{tableOf, countRows, rowIn, rowsIn as tableRows}
 use Rattle.checks.specs.Checks.{rowsVerdict}
-use Rattle.checks.specs.ChecksLaws.{demanded, then-skips}
+use Rattle.checks.specs.ChecksLaws.{then-skips}
 use Rattle.update.specs.Finish.{finished}
 use Rattle.collect.specs.FirstEntries.{firstAt, maskRow, rowsOf}
-use Rattle.collect.specs.Collect.{collected-rows}
 use Rattle.build.specs.Built.{tableFor, builtFrom}
-use Rattle.build.specs.Build.{editionVerdict, rowsFor, verdictOf, answer}
-use Rattle.build.specs.BuildLaws.{answer-collected}
+use Rattle.build.specs.Build.{editionVerdict, lawfulVerdict, rowsFor, verdictOf, answer}
 use Rattle.buffer.specs.declared.Written.the-variants.{Bytes}
 use Rattle.buffer.specs.Front.{AfterWrite, writeFront}
 use Rattle.buffer.specs.WritesExactly.{front-exactly}
@@ -46,27 +41,18 @@ use Rattle.round_trip.specs.Again.{readAgain, again}
 use Rattle.round_trip.specs.RowsAgain.{built-again}
 use Rattle.round_trip.specs.MaskedRows.{rows-masked}
 use Rattle.round_trip.specs.TableList.{rowsRead, fit-0, fit-1, rows-read, list-accepted}
-use Rattle.round_trip.specs.PagesRead.{AllFit, pages-length, pages-counts, pages-first}
+use Rattle.round_trip.specs.PagesRead.{AllFit, pages-first}
+use Rattle.round_trip.specs.PagesLawful.{pages-lawful}
 use Rattle.round_trip.specs.TableRows.{fit-cut, first-in-table, masked-stands}
 use Rattle.round_trip.specs.RoundTrip.{listLength, exported, imported as importedOf, Returns, RoundTrip, ListWritesExactly}
 
 -- ---- the answer, of lawful pages
 
-lawful-answer : (chosen : Choices) (s : List ℕ) → knownEdition (chosen .edition) ≡ true → badLength s ≡ false → countsFit s ≡ true
-    → answer chosen s ≡ builtFrom (chosen .edition) (rowsFor chosen s)
-lawful-answer chosen s k e f =
-    sym (answer-collected chosen s k e f refl refl) ∙ ap (builtFrom (chosen .edition)) (collected-rows (chosen .«secure_avic») s)
-
-accepted-answer : (chosen : Choices) (s : List ℕ) → answer chosen s .verdict ≡ Accepted
+lawful-answer : (chosen : Choices) (s : List ℕ) → editionVerdict (chosen .edition) ≡ Accepted → lawfulVerdict s ≡ Accepted
     → answer chosen s ≡ builtFrom (chosen .edition) (rowsFor chosen s)
 unfolding answer verdictOf builtFrom
-accepted-answer chosen s e =
-    ap (λ (v : Verdict). record { verdict = v; table = tableFor (chosen .edition) v (rowsFor chosen s) })
-    (then-skips (accepted-edition chosen s e) ∙ then-skips (accepted-lawful chosen s e))
-
-accepted-known : (chosen : Choices) (s : List ℕ) → answer chosen s .verdict ≡ Accepted → knownEdition (chosen .edition) ≡ true
-unfolding editionVerdict
-accepted-known chosen s e = demanded _ UnknownEdition (accepted-edition chosen s e)
+lawful-answer chosen s k l =
+    ap (λ (v : Verdict). record { verdict = v; table = tableFor (chosen .edition) v (rowsFor chosen s) }) (then-skips k ∙ then-skips l)
 
 -- ---- the pages of any table's list
 
@@ -136,12 +122,10 @@ list-writes-exactly chosen s buffer = record {
 same-answer : (chosen : Choices) (s : List ℕ) → answer chosen s .verdict ≡ Accepted → answer chosen (imported (answer chosen s .table)) ≡ answer chosen s
 same-answer chosen s e =
     let t : CpuidResults = answer chosen s .table in
-    lawful-answer chosen (imported t) (accepted-known chosen s e)
-    (pages-length (rowsRead t) (fit t) (fit-0 t) (fit-1 t))
-    (pages-counts (rowsRead t) (fit t) (fit-0 t) (fit-1 t))
+    lawful-answer chosen (imported t) (accepted-edition chosen s e) (pages-lawful (rowsRead t) (fit t) (fit-0 t) (fit-1 t))
     ∙ ap (builtFrom (chosen .edition)) (imported-rows t (chosen .«secure_avic») ∙ again-ext (chosen .«secure_avic») (tableRows t) (finished (chosen .edition) (rowsFor chosen s)) (answer-row chosen s e))
     ∙ built-again (chosen .edition) (chosen .«secure_avic») (rowsFor chosen s) (rows-masked (chosen .«secure_avic») s) (accepted-rows chosen s e)
-    ∙ sym (accepted-answer chosen s e)
+    ∙ sym (lawful-answer chosen s (accepted-edition chosen s e) (accepted-lawful chosen s e))
 
 pub round-trip : RoundTrip
 round-trip chosen s e buffer pages h k =

@@ -45,6 +45,7 @@ pub enum Refusal {
     CompactSizeTooLarge,
     UnknownEdition,
     EditionBack,
+    ReservedBytes(CpuidFunction),
 }
 
 pub enum Verdict {

@@ -1,7 +1,8 @@
 -- `build::build` meets its contract: one return a case of the answer.
 use mathlib.Core.Path.{sym, _∙_}
 use Rattle.build.specs.StageLaws.{required-found, required-refuses, required-passes}
-use Rattle.build.specs.BuildLaws.{answer-unknown, answer-bad-length, answer-bad-count, answer-collected}
+use Rattle.build.specs.LawfulLaws.{lawful-counts, lawful-clean}
+use Rattle.build.specs.BuildLaws.{answer-unknown, answer-unlawful, answer-collected}
 use borrow.Author.Needs.{needs}
 use Rattle.build.proofs.build.Statement.{statement}
 use Rattle.build.proofs.build.Tie as tie
@@ -11,40 +12,35 @@ returns c = c .refused .ensures ∙ answer-unknown _ _ (sym (c .before .before .
 
 returns-2 : tie.Need-returns-2
 returns-2 c =
-    let b = c .before .before in let known = b .before in
-    c .refused2 .ensures
-    ∙ answer-bad-length _ _ (sym (known .before .known-edition .ensures) ∙ known .if1 .taken) (sym (b .bad-length .ensures) ∙ c .before .if2 .taken)
+    let v = c .before .before in let l = v .before .before in let known = l .before in
+    answer-unlawful _ _ (sym (known .before .known-edition .ensures) ∙ known .if1 .taken) (l .validate-pages .ensures) (v .lawful .given .1)
+    (c .refused2 .ensures)
 
 collect-requires : tie.Need-collect-requires
-collect-requires c κs = sym (c .before .counts-fit .ensures) ∙ c .if3 .taken
+collect-requires c κs =
+    let e = sym (c .before .before .validate-pages .ensures) ∙ c .enum-told .given .1 in
+    (lawful-counts _ e, lawful-clean _ e)
 
 returns-3 : tie.Need-returns-3
 returns-3 c =
     let v = c .before .before in let s = v .before .before in let k = s .before .before in
-    let e = k .before in let f = e .before in let g = f .before in let known = g .before .before in
-    answer-collected _ _ (sym (known .before .known-edition .ensures) ∙ known .if1 .taken) (sym (g .before .bad-length .ensures) ∙ g .if2 .left)
-    (sym (f .counts-fit .ensures) ∙ e .if3 .taken) (k .collect .ensures)
+    let e = k .before in let l = e .before .before in let known = l .before in
+    answer-collected _ _ (sym (known .before .known-edition .ensures) ∙ known .if1 .taken) (l .validate-pages .ensures) (e .enum-told .given .1)
+    (k .collect .ensures)
     (required-refuses (k .collect .result) (s .validate-required .ensures) _ (v .verdict .given .1) (c .refused3 .ensures))
 
 from-invlpgb-requires : tie.Need-from-invlpgb-requires
 from-invlpgb-requires c κs =
     let s = c .before .before in
-    sym (required-found (s .before .before .collect .result) (s .validate-required .ensures)) ∙ c .enum-told .given .1
+    sym (required-found (s .before .before .collect .result) (s .validate-required .ensures)) ∙ c .enum-told2 .given .1
 
 returns-4 : tie.Need-returns-4
 returns-4 c =
     let v = c .before in let s = v .before .before in let k = s .before .before in
-    let e = k .before in let f = e .before in let g = f .before in let known = g .before .before in
-    answer-collected _ _ (sym (known .before .known-edition .ensures) ∙ known .if1 .taken) (sym (g .before .bad-length .ensures) ∙ g .if2 .left)
-    (sym (f .counts-fit .ensures) ∙ e .if3 .taken) (k .collect .ensures)
-    (required-passes (k .collect .result) (s .validate-required .ensures) _ (v .enum-told .given .1) (c .from-invlpgb .ensures))
-
-returns-5 : tie.Need-returns-5
-returns-5 c =
-    let f = c .before .before in let g = f .before in let known = g .before .before in
-    c .refused4 .ensures
-    ∙ answer-bad-count _ _ (sym (known .before .known-edition .ensures) ∙ known .if1 .taken) (sym (g .before .bad-length .ensures) ∙ g .if2 .left)
-    (sym (f .counts-fit .ensures) ∙ c .before .if3 .left)
+    let e = k .before in let l = e .before .before in let known = l .before in
+    answer-collected _ _ (sym (known .before .known-edition .ensures) ∙ known .if1 .taken) (l .validate-pages .ensures) (e .enum-told .given .1)
+    (k .collect .ensures)
+    (required-passes (k .collect .result) (s .validate-required .ensures) _ (v .enum-told2 .given .1) (c .from-invlpgb .ensures))
 
 pub build-spec : {M : Type 1} → statement M
 build-spec =
@@ -54,9 +50,10 @@ build-spec =
     (λ c κs. search needs)
     returns
     (λ c κs. search needs)
+    (λ c. search needs)
     (λ c κs. search needs)
     returns-2
-    (λ c κs. search needs)
+    (λ c. search needs)
     collect-requires
     (λ c κs. search needs)
     (λ c. search needs)
@@ -64,6 +61,4 @@ build-spec =
     returns-3
     (λ c. search needs)
     from-invlpgb-requires
-    returns-4
-    (λ c κs. search needs)
-    returns-5)
+    returns-4)

@@ -44,32 +44,33 @@ take-requires c κs =
     let l = c .before .before in
     let w = l .before in
     let h : l .loop2 .index .«page_index» < _ = rw (w .before .before .before .before .before .page-count .ensures, ← c .if2 .taken) at (w .if1 .taken) in
-    (h, turn _ _ (l .loop2 .inv .0 .valid) h .fits (w .before .before .before .before .before .before .before .before .pre))
+    let p = w .before .before .before .before .before .before .before .before .pre in
+    record { lawful = p .0; clean = p .1; page = h; position = turn _ _ (l .loop2 .inv .0 .valid) h .below }
 
 loop2-less : tie.Need-loop2-less Inv-loop2 μ-loop2 Inv-loop μ-loop
 loop2-less c =
     let k = c .before .before .before .before in
     let l = k .before .before .before in
-    rw (k .take .ensures .1) (turn _ _ (l .loop2 .inv .0 .valid) (take-requires (k .before) (k .take .lifetimes) .0) .falls)
+    rw (k .take .ensures .next) (turn _ _ (l .loop2 .inv .0 .valid) (take-requires (k .before) (k .take .lifetimes) .page) .falls)
 
 loop2-again : tie.Need-loop2-again Inv-loop2 μ-loop2 Inv-loop μ-loop
 loop2-again c =
     let k = c .before .before .before .before in
     let e = k .before in
     let l = e .before .before in
-    let h = take-requires e (k .take .lifetimes) .0 in
-    let at = c .before .before .counted-place .ensures ∙ ap countedPlace (k .take .ensures .0) ∙ counted-place-stored _ in (
-      rw (k .take .ensures .1)
+    let h = take-requires e (k .take .lifetimes) .page in
+    let at = c .before .before .counted-place .ensures ∙ ap countedPlace (k .take .ensures .found) ∙ counted-place-stored _ in (
+      rw (k .take .ensures .next)
           (collecting-next _ _ (l .loop2 .t) _ _ (l .loop2 .inv .0) h
           (⊎-elim
           (λ w. turn-kept _ (l .loop2 .t) _ _ _ at (w .2 .taken) (w .3))
           (⊎-elim
           (λ w.
           turn-new _ (l .loop2 .t) _ _ _ at _ _ _ (w .6 .result) (l .before .before .before .before .before .before .before .kept-leaves .ensures) (w .3 .ensures .0)
-          (k .take .ensures .0) (w .2 .left) (w .6 .ensures) (w .7))
+          (k .take .ensures .found) (w .2 .left) (w .6 .ensures) (w .7))
           (λ w. turn-none _ (l .loop2 .t) _ _ _ at (l .loop2 .inv .0 .whole) (w .0 .left) (w .1)))
           (c .before .if3 .came))),
-      rw (k .take .ensures .1) (omega (arith, turn _ _ (l .loop2 .inv .0 .valid) h .rises, l .loop2 .inv .1)),
+      rw (k .take .ensures .next) (omega (arith, turn _ _ (l .loop2 .inv .0 .valid) h .rises, l .loop2 .inv .1)),
     )
 
 returns : tie.Need-returns Inv-loop2 μ-loop2 Inv-loop μ-loop

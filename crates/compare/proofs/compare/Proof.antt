@@ -3,8 +3,10 @@ use borrow.Author.Needs.{needs}
 use mathlib.Core.Path.{_≡_, sym, ap, _∙_}
 use Rattle.build.specs.declared.Built.{Built}
 use Rattle.table.specs.declared.Verdict.the-variants.{Accepted}
-use Rattle.build.specs.Build.{answer}
-use Rattle.compare.specs.ReturnLaws.{accepted-counts, refused-a, bad-length-b, bad-count-b, rows-compared}
+use Rattle.build.specs.Build.{lawfulVerdict, answer}
+use Rattle.build.specs.LawfulLaws.{lawful-counts, lawful-clean}
+use Rattle.rise.specs.RiseProof.{accepted-lawful}
+use Rattle.compare.specs.ReturnLaws.{refused-a, unlawful-b, rows-compared}
 use Rattle.compare.specs.DecidesProof.{decided}
 use Rattle.compare.proofs.compare.Statement.{statement}
 use Rattle.compare.proofs.compare.Tie as tie
@@ -23,31 +25,27 @@ accepted c = sym (ap (λ (x : Built). x .verdict) (c .before .before .build .ens
 
 returns-2 : tie.Need-returns-2
 returns-2 c =
-    let l = c .before in
-    decided _ _ _ (bad-length-b _ _ _ (accepted (l .before)) (sym (l .bad-length .ensures) ∙ c .if1 .taken))
+    let l = c .before in let v = l .before .before in
+    decided _ _ _ (unlawful-b _ _ _ (accepted (v .before)) (sym (v .validate-pages .ensures) ∙ l .lawful .given .1))
 
 collect-requires : tie.Need-collect-requires
-collect-requires c κs = let l = c .before .before .before in accepted-counts _ _ (accepted (l .before .before))
+collect-requires c κs =
+    let e = accepted-lawful _ _ (accepted (c .before .before .before .before)) in
+    (lawful-counts _ e, lawful-clean _ e)
+
+-- where B is lawful
+lawful : (c : tie.After-enum-told2) → lawfulVerdict (start (c .before .before .before) .args .b .now) ≡ Accepted
+lawful c = sym (c .before .before .validate-pages .ensures) ∙ c .enum-told2 .given .1
 
 collect-requires-2 : tie.Need-collect-requires-2
-collect-requires-2 c κs = let t = c .before .before in sym (t .before .counts-fit .ensures) ∙ t .if2 .taken
+collect-requires-2 c κs = let e = lawful (c .before .before) in (lawful-counts _ e, lawful-clean _ e)
 
 returns-3 : tie.Need-returns-3
 returns-3 c =
-    let t = c .before .before .before .before in
-    let l = t .before .before in
+    let l = c .before .before .before .before in let e = l .before .before .before in
     decided _ _ _
-    (rows-compared _ _ _ (accepted (l .before .before)) (sym (l .before .bad-length .ensures) ∙ l .if1 .left)
-    (sym (t .before .counts-fit .ensures) ∙ t .if2 .taken)
-    (l .before .before .before .before .build .ensures) (c .before .before .collect .ensures) (c .before .collect2 .ensures)
-    (c .first-failing .ensures))
-
-returns-4 : tie.Need-returns-4
-returns-4 c =
-    let l = c .before .before in
-    decided _ _ _
-    (bad-count-b _ _ _ (accepted (l .before .before)) (sym (l .before .bad-length .ensures) ∙ l .if1 .left)
-    (sym (c .before .counts-fit .ensures) ∙ c .if2 .left))
+    (rows-compared _ _ _ (accepted e) (lawful l) (e .before .before .build .ensures) (c .before .before .collect .ensures)
+    (c .before .collect2 .ensures) (c .first-failing .ensures))
 
 pub compare-spec : {M : Type 1} → statement M
 compare-spec =
@@ -58,10 +56,10 @@ compare-spec =
     returns
     (λ c. search needs)
     (λ c κs. search needs)
+    (λ c. search needs)
     returns-2
-    (λ c κs. search needs)
+    (λ c. search needs)
     collect-requires
     collect-requires-2
     (λ c κs. search needs)
-    returns-3
-    returns-4)
+    returns-3)

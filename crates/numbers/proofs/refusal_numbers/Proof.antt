@@ -45,10 +45,15 @@ returns-13 c = rw (c .before .enum-told11 .given .1) (c .sized11 .ensures)
 returns-14 : tie.Need-returns-14
 returns-14 c = rw (c .before .enum-told12 .given .1) (c .sized12 .ensures)
 
+returns-15 : tie.Need-returns-15
+returns-15 c = rw (c .before .before .refusal3 .given .1) (c .at-leaf2 .ensures)
+
 pub refusal-numbers-spec : {M : Type 1} → statement M
 refusal-numbers-spec =
     tie.close
     (tie.spec
+    (λ c. search needs)
+    (λ c κs. search needs)
     (λ c. search needs)
     (λ c κs. search needs)
     (λ c. search needs)
@@ -90,4 +95,5 @@ refusal-numbers-spec =
     returns-11
     returns-12
     returns-13
-    returns-14)
+    returns-14
+    returns-15)

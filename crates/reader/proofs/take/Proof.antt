@@ -1,7 +1,7 @@
 -- `reader::take` meets its contract: a walk of its MIR, by hand. A reader is made of the slice and the index passed; the entry at its index is read by `pages::entry_at`; then the reader's index, a field of a local, is lent to `increment` for a lifetime of the call, and comes back stepped.
 -- Of both callees the proof knows their contracts alone. In a local MIR erases the lifetime of the reader's type, so its value is shown to have the type at `erased`.
 use mathlib.Core.Path.{_≡_, refl, sym, ap, subst}
-use Prim.Native.Nat.{ℕ, _<_}
+use Prim.Native.Nat.{ℕ}
 use mathlib.Core.List.{List, [], _∷_}
 use lib.ListN.{length}
 use lib.Dec.{T}
@@ -43,7 +43,7 @@ use denote.Triple.Table.{entered, cited}
 use denote.Triple.Walked.{says, needs, Stays, stay-none, stay-none-slice, walkOf, goes-none, goes-none-slice, Walks, ends-at, walked, walk-meets}
 use denote.Triple.Clauses.{ensured, lasts}
 use denote.Exit.{yes}
-use Rattle.pages.specs.Layout.{pagesIn, entryAt, mostEntries}
+use Rattle.pages.specs.Layout.{entryAt}
 use Rattle.pages.specs.Walk.{incremented, parsed}
 use Rattle.pages.specs.declared.CpuidPageIndex.{CpuidPageIndex}
 use Rattle.pages.specs.declared.ParsedCpuidEntry.{ParsedCpuidEntry}
@@ -55,6 +55,8 @@ use Rattle.pages.proofs.entry_at as at-index
 use Rattle.pages.proofs.entry_at.Symbol as at-index-def
 use Rattle.pages.proofs.entry_at.Symbol.{name as #pages·entry-at}
 use Rattle.pages.proofs.entry_at.Met as at-index-thm
+use Rattle.reader.specs.Read.{Readable}
+use Rattle.reader.specs.ReadLaws.{readable-within, readable-clean}
 use Rattle.reader.specs.declared.SnpCpuidIterator.{SnpCpuidIterator}
 use Rattle.reader.specs.declared.Taken.{Taken}
 use Rattle.reader.proofs.SnpCpuidIterator as T
@@ -77,10 +79,6 @@ stayed = (stay-none-slice (0 ∷ []) tt (plain (λ _. u8)) yes, (stay-none (λ _
 abbrev vals : CpuidPageIndex → List Val
 vals = LL.vals P.the-type P′.the-laws
 
--- what is asked of the index
-abbrev Within : List ℕ → CpuidPageIndex → Type 0
-Within xs i = (i .«page_index» < pagesIn xs) × (i .«function_index» < mostEntries)
-
 module _ {M : Type 1} (𝓤 : URA M) (H : Heap 𝓤) (A : Atoms 𝓤) (mem′ : Memory → SProp 𝓤) (run : Routine → Fun 𝓤) where
   -- the contracts that the proof cites
   abbrev AtIndex : Contract 𝓤
@@ -89,7 +87,7 @@ module _ {M : Type 1} (𝓤 : URA M) (H : Heap 𝓤) (A : Atoms 𝓤) (mem′ : 
   abbrev Inc : Contract 𝓤
   Inc = tripleOf 𝓤 H A inc.signature (inc.spec 𝓤 H A mem′ run)
 
-module _ {M : Type 1} (𝓤 : URA M) (H : Heap 𝓤) (A : Atoms 𝓤) (W : Given 𝓤 H A) (mem′ : Memory → SProp 𝓤) (run : Routine → Fun 𝓤) (κ : Lft) (q : Share) (s : RefT (List ℕ)) (i : CpuidPageIndex) (ii : Is P.the-row i (LL.vals P.the-type P′.the-laws i)) (within : Within (now s) i) where
+module _ {M : Type 1} (𝓤 : URA M) (H : Heap 𝓤) (A : Atoms 𝓤) (W : Given 𝓤 H A) (mem′ : Memory → SProp 𝓤) (run : Routine → Fun 𝓤) (κ : Lft) (q : Share) (s : RefT (List ℕ)) (i : CpuidPageIndex) (ii : Is P.the-row i (LL.vals P.the-type P′.the-laws i)) (readable : Readable (now s) i) where
   -- the machine value that s has
   abbrev v : Val
   v = sliceVal (s .ptr) (length (s .now))
@@ -124,7 +122,7 @@ module _ {M : Type 1} (𝓤 : URA M) (H : Heap 𝓤) (A : Atoms 𝓤) (W : Given
   goes-entry : ent 𝓤 (⋆ 𝓤 H A ((‵ (flft κ q) ⊛ ‵ ftrue) ∷ ‵ Own ∷ ‵ (P.the-row .own i (vals i)) ∷ [])) (AtIndex 𝓤 H A mem′ run .pre to-entry)
   goes-entry =
       qed W ((‵ (flft κ q) ⊛ ‵ ftrue) ∷ ‵ Own ∷ ‵ (P.the-row .own i (vals i)) ∷ []) ∵
-      says ! within $ frame ! $ nothing ! $ move ! (2 ∷ 0 ∷ []) $ fjoin ! $ move ! (1 ∷ 0 ∷ []) $ fjoin ! $ done !
+      says ! (readable-within readable) $ frame ! $ nothing ! $ move ! (2 ∷ 0 ∷ []) $ fjoin ! $ move ! (1 ∷ 0 ∷ []) $ fjoin ! $ done !
 
   entry-said : (t : ParsedCpuidEntry) → ent 𝓤 (ensured 𝓤 H A at-index.ended (at-index.clauses 𝓤 H A mem′ run) (κ, tt) (s, (i, tt)) tt t) (fact 𝓤 (t ≡ found))
   entry-said t = exE 𝓤 _ (λ ws. snd∗ 𝓤 (sem 𝓤 H A (lasts at-index.ended (κ, tt) (s, (i, tt)) ws)) (fact 𝓤 (t ≡ found)))
@@ -189,7 +187,7 @@ module _ {M : Type 1} (𝓤 : URA M) (H : Heap 𝓤) (A : Atoms 𝓤) (W : Given
   exits : (t : ParsedCpuidEntry) → t ≡ found → Is K.the-row (both t) (LL.vals K.the-type K′.the-laws (both t)) → ent 𝓤 (⋆ 𝓤 H A ((‵ (flft κ q) ⊛ ‵ ftrue) ∷ ‵ Own ∷ [])) (Post (answer t))
   exits t e is =
       qed W ((‵ (flft κ q) ⊛ ‵ ftrue) ∷ ‵ Own ∷ []) ∵
-      suffices ! _ (ends-at 𝓤 H A take.ended stayed (take.clauses 𝓤 H A mem′ run) W (((κ, tt), (q, tt), tt, (s, (i, tt)), at), tt) (answer t) (both t) (tt, (tt, tt)) (tt, (tt, tt))) $ says ! (e, refl) $
+      suffices ! _ (ends-at 𝓤 H A take.ended stayed (take.clauses 𝓤 H A mem′ run) W (((κ, tt), (q, tt), tt, (s, (i, tt)), at), tt) (answer t) (both t) (tt, (tt, tt)) (tt, (tt, tt))) $ says ! (record { found = e; clean = readable-clean readable; next = refl }) $
       frame ! $ nothing ! $ owned ! P.the-row (Is P.the-row) (LL.makes P.the-type P′.the-plain 𝓤 H A) i _ ii $ fjoin ! $ move ! (1 ∷ 0 ∷ []) $ fjoin ! $ frame ! $
       owned ! K.the-row (Is K.the-row) (LL.makes K.the-type K′.the-plain 𝓤 H A) (both t) _ is $ done !
 
@@ -247,8 +245,8 @@ module _ {M : Type 1} (𝓤 : URA M) (H : Heap 𝓤) (A : Atoms 𝓤) (W : Given
       → Walks 𝓤 H A take.ended stayed (WpFn 𝓤 H C Λ code.function) (take.clauses 𝓤 H A mem′ run)
   take-walks C Λ fm known-entry known-inc = walked 𝓤 H A take.ended stayed (take.clauses 𝓤 H A mem′ run) (WpFn 𝓤 H C Λ code.function)
       (λ κs. (slice-vals, (vals, tt))) (λ κs. (shr-slice-tells (named 0) (κs .0) u8, (LL.tells P.the-type P′.the-laws, tt)))
-      (λ κs qs bounds a g are. needs 𝓤 (Within (now (a .0)) (a .1 .0)) _ (λ within.
-      walk 𝓤 H A W mem′ run (κs .0) (qs .0) (a .0) (a .1 .0) (are .1 .0) within C Λ fm known-entry known-inc (are .0)))
+      (λ κs qs bounds a g are. needs 𝓤 (Readable (now (a .0)) (a .1 .0)) _ (λ readable.
+      walk 𝓤 H A W mem′ run (κs .0) (qs .0) (a .0) (a .1 .0) (are .1 .0) readable C Λ fm known-entry known-inc (are .0)))
 
 take-meets : {M : Type 1} (𝓤 : URA M) (H : Heap 𝓤) (A : Atoms 𝓤) (W : Given 𝓤 H A) (mem′ : Memory → SProp 𝓤) (run : Routine → Fun 𝓤) (𝓣 : Tables 𝓤 H)
     → Triple 𝓤 (𝓣 .C #pages·entry-at) (AtIndex 𝓤 H A mem′ run) → Triple 𝓤 (𝓣 .C #reader·increment) (Inc 𝓤 H A mem′ run)

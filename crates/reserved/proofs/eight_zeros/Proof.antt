@@ -1,0 +1,21 @@
+-- `reserved::eight_zeros` meets its contract: eight bytes are zero exactly where the number of two words is.
+use borrow.Author.Needs.{needs}
+use Rattle.reserved.specs.ZerosLaws.{zeros-by-number}
+use Rattle.reserved.proofs.eight_zeros.Statement.{statement}
+use Rattle.reserved.proofs.eight_zeros.Tie as tie
+
+returns : tie.Need-returns
+returns c = rw (c .before .word-at .ensures, c .word-at2 .ensures) (zeros-by-number _ _)
+
+pub eight-zeros-spec : {M : Type 1} → statement M
+eight-zeros-spec =
+    tie.close
+    (tie.spec
+    (λ c κs. search needs)
+    (λ c. search needs)
+    (λ c. search needs)
+    (λ c κs. search needs)
+    (λ c. search needs)
+    (λ c. search needs)
+    (λ c. search needs)
+    returns)
