@@ -75,14 +75,28 @@ def page_counts(pages):
     return counts
 
 
-def counted_entries(pages):
-    """(EAX_IN, ECX_IN, results) of each counted entry, in order. "A Dh entry counts only on page 1." """
+def entry_places(pages):
+    """(page, offset) of each entry below its page's count, in page and entry order."""
     for number, count in enumerate(page_counts(pages)):
         for position in range(count):
-            at = number * PAGE_SIZE + 16 + 48 * position
-            leaf, ecx_in = struct.unpack_from('<II', pages, at)
-            if leaf != STATE or number == 1:
-                yield leaf, ecx_in, struct.unpack_from('<4I', pages, at + 24)
+            yield number, number * PAGE_SIZE + 16 + 48 * position
+
+
+def check_reserved(pages):
+    """Document 02, P10: "17 a nonzero reserved byte in an entry below its page's count, naming leaf EAX_IN with no subleaf, first in page and entry
+    order, after 2 and before 3." The eight stand at 40."""
+    for _, at in entry_places(pages):
+        if any(pages[at + 40:at + 48]):
+            raise Refusal(17, *struct.unpack_from('<I', pages, at))
+
+
+def counted_entries(pages):
+    """(EAX_IN, ECX_IN, results) of each counted entry, in order. "A Dh entry counts only on page 1." """
+    check_reserved(pages)
+    for number, at in entry_places(pages):
+        leaf, ecx_in = struct.unpack_from('<II', pages, at)
+        if leaf != STATE or number == 1:
+            yield leaf, ecx_in, struct.unpack_from('<4I', pages, at + 24)
 
 
 # "Corners of masking.rs" and the first of "Corners of mod.rs"

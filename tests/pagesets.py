@@ -12,13 +12,21 @@ STATE = 0xD
 
 
 def page(entries, count=None, fill=0):
-    """One page; `count` stands in for the number of entries, `fill` is the byte at every place that is not read."""
+    """One page; `count` stands in for the number of entries, `fill` is the byte at every place that is not read. The reserved bytes of an entry are
+    read below the count alone (document 02, P10), and are zeros there."""
     count = len(entries) if count is None else count
     unread = bytes([fill])
     data = struct.pack('<I', count) + unread * 12
-    for leaf, ecx_in, *result in entries:
-        data += struct.pack('<II', leaf, ecx_in) + unread * 16 + struct.pack('<4I', *result) + unread * 8
+    for position, (leaf, ecx_in, *result) in enumerate(entries):
+        data += struct.pack('<II', leaf, ecx_in) + unread * 16 + struct.pack('<4I', *result)
+        data += bytes(8) if position < count else unread * 8
     return data + unread * (PAGE_SIZE - len(data))
+
+
+def with_byte(data, number, position, offset, value):
+    """The pages with one byte changed: that at `offset` from the entry at `position` of page `number`, and its reserved bytes stand at 40 to 47."""
+    at = PAGE_SIZE * number + 16 + 48 * position + offset
+    return data[:at] + bytes([value]) + data[at + 1:]
 
 
 def pages(*groups, fill=0):
