@@ -7,6 +7,7 @@ from importlib import import_module
 FILES = (
     'vectors_document_01',
     'vectors_editions',
+    'vectors_reserved',
     'rust_list',
 )
 
