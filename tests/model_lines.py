@@ -8,7 +8,7 @@ NO_SUCH_LINE = ('no such line',)
 DIGITS = b'0123456789'
 CAPITALS = b'0123456789ABCDEF'
 
-# The numbers in use, each with the details that it names: document 01, "Where each check stands", then P2, P3 and P7.
+# The numbers in use, each with the details that it names: document 01, "Where each check stands", then P2, P3, P7 and P10.
 NAMES = {
     1: (),
     2: (),
@@ -25,6 +25,7 @@ NAMES = {
     13: (),
     14: (),
     15: (),
+    17: ('leaf',),
 }
 
 
