@@ -1,15 +1,22 @@
--- The answer for any bytes: document 01's checks in order, then the table. `pages` in words: s is the list of the page bytes.
-use mathlib.Core.Bool.{Bool, not}
+-- The answer for any bytes: document 01's checks in order, then the table. c is what the caller chooses, s the list of the page bytes.
+use mathlib.Core.Bool.{false, not}
 use mathlib.Core.List.{List}
 use Prim.Native.Nat.{ℕ}
 use Rattle.pages.specs.Layout.{badLength, countsFit}
-use Rattle.table.specs.declared.Refusal.the-variants.{PagesLength, PageCount}
+use Rattle.table.specs.declared.Refusal.the-variants.{PagesLength, PageCount, UnknownEdition}
+use Rattle.table.specs.declared.Choices.{Choices}
 use Rattle.table.specs.declared.Verdict.{Verdict}
 use Rattle.table.specs.Refusal.{andThen}
+use Rattle.table.specs.Edition.{knownEdition}
+use Rattle.table.specs.Rows.{Rows}
 use Rattle.checks.specs.Checks.{refuseUnless, rowsVerdict}
 use Rattle.build.specs.Built.{tableFor}
 use Rattle.build.specs.declared.Built.{Built}
 use Rattle.collect.specs.FirstEntries.{rowsOf}
+
+-- document 02, P7: "15 an edition other than 1 or 2, before 1"
+unfoldable pub editionVerdict : ℕ → Verdict
+editionVerdict n = refuseUnless (knownEdition n) UnknownEdition
 
 -- 1, then 2
 unfoldable pub lengthVerdict : List ℕ → Verdict
@@ -22,8 +29,16 @@ countsVerdict s = refuseUnless (countsFit s) PageCount
 unfoldable pub lawfulVerdict : List ℕ → Verdict
 lawfulVerdict s = andThen (lengthVerdict s) (countsVerdict s)
 
-unfoldable pub verdictOf : Bool → List ℕ → Verdict
-verdictOf avic s = andThen (lawfulVerdict s) (rowsVerdict (rowsOf avic s))
+-- what document 01 has: secure AVIC off, here under edition n
+abbrev pub underEdition : ℕ → Choices
+underEdition n = record { «secure_avic» = false; edition = n }
 
-unfoldable pub answer : Bool → List ℕ → Built
-answer avic s = record { verdict = verdictOf avic s; table = tableFor (verdictOf avic s) (rowsOf avic s) }
+-- the masked first entries: of what is chosen, only secure AVIC decides over them
+abbrev pub rowsFor : Choices → List ℕ → Rows
+rowsFor c s = rowsOf (c .«secure_avic») s
+
+unfoldable pub verdictOf : Choices → List ℕ → Verdict
+verdictOf c s = andThen (editionVerdict (c .edition)) (andThen (lawfulVerdict s) (rowsVerdict (rowsFor c s)))
+
+unfoldable pub answer : Choices → List ℕ → Built
+answer c s = record { verdict = verdictOf c s; table = tableFor (c .edition) (verdictOf c s) (rowsFor c s) }

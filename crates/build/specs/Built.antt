@@ -1,4 +1,5 @@
 -- The answer to masked first entries: document 01's checks in order, then the table.
+use Prim.Native.Nat.{ℕ}
 use Rattle.table.specs.declared.Verdict.{Verdict}
 use Rattle.table.specs.declared.Verdict.the-variants.{Accepted, Refused}
 use Rattle.table.specs.Rows.{Rows}
@@ -9,11 +10,11 @@ use Rattle.update.specs.Finish.{finished}
 use Rattle.table.specs.Table.{tableOf, emptyTable}
 use Rattle.build.specs.declared.Built.{Built}
 
--- the table that goes with a verdict on masked first entries
-abbrev pub tableFor : Verdict → Rows → CpuidResults
-tableFor Accepted m = tableOf (finished m) (combinedMask m)
-tableFor (Refused r) m = emptyTable
+-- the table that goes with a verdict on masked first entries, under edition n
+abbrev pub tableFor : ℕ → Verdict → Rows → CpuidResults
+tableFor n Accepted m = tableOf (finished n m) (combinedMask m)
+tableFor n (Refused r) m = emptyTable
 
--- the answer to masked first entries, once length and counts are lawful
-unfoldable pub builtFrom : Rows → Built
-builtFrom m = record { verdict = rowsVerdict m; table = tableFor (rowsVerdict m) m }
+-- the answer to masked first entries, once edition, length and counts are lawful
+unfoldable pub builtFrom : ℕ → Rows → Built
+builtFrom n m = record { verdict = rowsVerdict m; table = tableFor n (rowsVerdict m) m }

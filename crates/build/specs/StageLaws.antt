@@ -33,11 +33,11 @@ use Rattle.checks.specs.SaveAreaLaws.{size-bytes}
 
 -- ---- a check with verdict u, of which the code found v, before those with verdict w
 
-module _ (m : Rows) (u w : Verdict) {v : Verdict} (e : v ≡ u) {q : Built} where
-  pub stage-refuses : {r : Refusal} → v ≡ Refused r → q ≡ refusedBuilt r → q ≡ builtBy (andThen u w) m
+module _ (n : ℕ) (m : Rows) (u w : Verdict) {v : Verdict} (e : v ≡ u) {q : Built} where
+  pub stage-refuses : {r : Refusal} → v ≡ Refused r → q ≡ refusedBuilt r → q ≡ builtBy n (andThen u w) m
   stage-refuses f g = g ∙ rw (← e, f)
 
-  pub stage-passes : v ≡ Accepted → q ≡ builtBy w m → q ≡ builtBy (andThen u w) m
+  pub stage-passes : v ≡ Accepted → q ≡ builtBy n w m → q ≡ builtBy n (andThen u w) m
   stage-passes f g = g ∙ rw (← e, f)
 
 -- ---- the required leaves: v is what the flags of t give
@@ -47,13 +47,13 @@ module _ (t : CpuidResults) {v : Verdict} (e : v ≡ requiredVerdict (presentIn 
   unfolding requiredVerdict
   required-found = e
 
-  pub required-refuses : {q : Built} {r : Refusal} → v ≡ Refused r → q ≡ refusedBuilt r → q ≡ builtFrom (rowsIn t)
+  pub required-refuses : (n : ℕ) {q : Built} {r : Refusal} → v ≡ Refused r → q ≡ refusedBuilt r → q ≡ builtFrom n (rowsIn t)
   unfolding builtFrom rowsVerdict
-  required-refuses = stage-refuses (rowsIn t) (requiredVerdict (rowsIn t)) (fromInvlpgb (rowsIn t)) required-found
+  required-refuses n = stage-refuses n (rowsIn t) (requiredVerdict (rowsIn t)) (fromInvlpgb (rowsIn t)) required-found
 
-  pub required-passes : {q : Built} → v ≡ Accepted → q ≡ builtBy (fromInvlpgb (rowsIn t)) (rowsIn t) → q ≡ builtFrom (rowsIn t)
+  pub required-passes : (n : ℕ) {q : Built} → v ≡ Accepted → q ≡ builtBy n (fromInvlpgb (rowsIn t)) (rowsIn t) → q ≡ builtFrom n (rowsIn t)
   unfolding builtFrom rowsVerdict
-  required-passes = stage-passes (rowsIn t) (requiredVerdict (rowsIn t)) (fromInvlpgb (rowsIn t)) required-found
+  required-passes n = stage-passes n (rowsIn t) (requiredVerdict (rowsIn t)) (fromInvlpgb (rowsIn t)) required-found
 
 -- ---- the save area: z is the size over the registers of t
 
@@ -84,15 +84,15 @@ unfolding inputsOf
 topology-inputs m a b c d e f = f ∙ ap topologyOf (rw (a, b, c, d, e))
 
 module _ (m : Rows) {p : Topology} (e : p ≡ topologyOf (inputsOf m)) where
-  pub topology-refuses : {r : TopologyError} {q : Built} → p ≡ Inconsistent r → q ≡ refusedBuilt (TopologyInconsistent r)
-      → q ≡ builtBy (topologyVerdict m) m
+  pub topology-refuses : (n : ℕ) {r : TopologyError} {q : Built} → p ≡ Inconsistent r → q ≡ refusedBuilt (TopologyInconsistent r)
+      → q ≡ builtBy n (topologyVerdict m) m
   unfolding topologyVerdict
-  topology-refuses f g = g ∙ rw (← e, f)
+  topology-refuses n f g = g ∙ rw (← e, f)
 
   pub topology-found : {v : ℕ} → p ≡ Processors v → v ≡ processors (topologyOf (inputsOf m))
   topology-found f = rw (← e, f)
 
-  pub topology-passes : {v : ℕ} {t : CpuidResults} → p ≡ Processors v → t ≡ tableOf (finished m) (combinedMask m)
-      → _≡_ {A = Built} (record { verdict = Accepted; table = t }) (builtBy (topologyVerdict m) m)
+  pub topology-passes : (n : ℕ) {v : ℕ} {t : CpuidResults} → p ≡ Processors v → t ≡ tableOf (finished n m) (combinedMask m)
+      → _≡_ {A = Built} (record { verdict = Accepted; table = t }) (builtBy n (topologyVerdict m) m)
   unfolding topologyVerdict
-  topology-passes f g = rw (← e, f, g)
+  topology-passes n f g = rw (← e, f, g)

@@ -1,4 +1,5 @@
 -- The stages of `build_rows`: the answer from a check on.
+use Prim.Native.Nat.{ℕ}
 use Rattle.table.specs.declared.Refusal.{Refusal}
 use Rattle.table.specs.declared.Verdict.{Verdict}
 use Rattle.table.specs.declared.Verdict.the-variants.{Refused}
@@ -12,9 +13,9 @@ use Rattle.build.specs.Built.{tableFor}
 abbrev pub refusedBuilt : Refusal → Built
 refusedBuilt r = record { verdict = Refused r; table = emptyTable }
 
--- the answer that goes with a verdict on masked first entries
-abbrev pub builtBy : Verdict → Rows → Built
-builtBy v m = record { verdict = v; table = tableFor v m }
+-- the answer that goes with a verdict on masked first entries, under edition n
+abbrev pub builtBy : ℕ → Verdict → Rows → Built
+builtBy n v m = record { verdict = v; table = tableFor n v m }
 
 -- the checks from each on
 abbrev pub fromArea : Rows → Verdict

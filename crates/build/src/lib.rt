@@ -7,10 +7,12 @@ use checks::validate_invlpgb;
 use checks::validate_required;
 use checks::xsave_size;
 use masking::place;
+use table::Choices;
 use table::CpuidResults;
 use table::Refusal;
 use table::Verdict;
 use table::empty_table;
+use table::known_edition;
 use topology::Topology;
 use topology::extended_topology;
 use x86defs::apic_core_id_size;
@@ -32,16 +34,17 @@ pub struct Built {
     pub table: CpuidResults,
 }
 
-// The answer to the masked first entries of the 88 places: the checks of required leaves, and those below, one function a check.
-pub fn build_rows(t: CpuidResults) -> Built
-    ensures { λ r. ⌜ r ≡ builtFrom (rowsIn t) ⌝ }
+// The answer to the masked first entries of the 88 places, under an edition of the AVX rule: the checks of required leaves, and those below, one
+// function a check.
+pub fn build_rows(t: CpuidResults, edition: u32) -> Built
+    ensures { λ r. ⌜ r ≡ builtFrom edition (rowsIn t) ⌝ }
 {
     let present = t.present;
     let verdict = validate_required(present);
     if let Verdict::Refused(r) = verdict {
         return refused(r);
     }
-    from_invlpgb(t)
+    from_invlpgb(t, edition)
 }
 
 // A refused answer holds an empty table.
@@ -56,22 +59,22 @@ pub fn refused(r: Refusal) -> Built
 }
 
 // The same for rows of which `validate_required` has refused none: from the check of INVLPGB on.
-pub fn from_invlpgb(t: CpuidResults) -> Built
+pub fn from_invlpgb(t: CpuidResults, edition: u32) -> Built
     requires { ⌜ requiredVerdict (rowsIn t) ≡ Verdict.Accepted ⌝ }
-    ensures { λ r. ⌜ r ≡ builtBy (fromInvlpgb (rowsIn t)) (rowsIn t) ⌝ }
+    ensures { λ r. ⌜ r ≡ builtBy edition (fromInvlpgb (rowsIn t)) (rowsIn t) ⌝ }
 {
     let sizes = t.results[place::EXTENDED_ADDRESS_SPACE_SIZES];
     let verdict = validate_invlpgb(sizes);
     if let Verdict::Refused(r) = verdict {
         return refused(r);
     }
-    from_components(t)
+    from_components(t, edition)
 }
 
 // From the check of D subleaves on.
-fn from_components(t: CpuidResults) -> Built
+fn from_components(t: CpuidResults, edition: u32) -> Built
     requires { ⌜ requiredVerdict (rowsIn t) ≡ Verdict.Accepted ⌝ }
-    ensures { λ r. ⌜ r ≡ builtBy (fromComponents (rowsIn t)) (rowsIn t) ⌝ }
+    ensures { λ r. ⌜ r ≡ builtBy edition (fromComponents (rowsIn t)) (rowsIn t) ⌝ }
 {
     let subleaf0 = t.results[place::EXTENDED_STATE_0];
     let subleaf1 = t.results[place::EXTENDED_STATE_1];
@@ -81,13 +84,13 @@ fn from_components(t: CpuidResults) -> Built
     if let Verdict::Refused(r) = verdict {
         return refused(r);
     }
-    from_area(t)
+    from_area(t, edition)
 }
 
 // From the size of the save area on, which is over XFEM alone.
-fn from_area(t: CpuidResults) -> Built
+fn from_area(t: CpuidResults, edition: u32) -> Built
     requires { ⌜ requiredVerdict (rowsIn t) ≡ Verdict.Accepted ⌝ }
-    ensures { λ r. ⌜ r ≡ builtBy (fromArea (rowsIn t)) (rowsIn t) ⌝ }
+    ensures { λ r. ⌜ r ≡ builtBy edition (fromArea (rowsIn t)) (rowsIn t) ⌝ }
 {
     let subleaf0 = t.results[place::EXTENDED_STATE_0];
     let results = t.results;
@@ -95,13 +98,13 @@ fn from_area(t: CpuidResults) -> Built
     let Size::Bytes(bytes) = size else {
         return refused(Refusal::SaveAreaOverflow);
     };
-    from_topology(t, bytes)
+    from_topology(t, edition, bytes)
 }
 
 // From the topology on, to the table.
-fn from_topology(t: CpuidResults, size: u32) -> Built
+fn from_topology(t: CpuidResults, edition: u32, size: u32) -> Built
     requires { ⌜ (requiredVerdict (rowsIn t) ≡ Verdict.Accepted) × (size ≡ saveArea (rowsIn t) (xfem (rowsIn t))) ⌝ }
-    ensures { λ r. ⌜ r ≡ builtBy (topologyVerdict (rowsIn t)) (rowsIn t) ⌝ }
+    ensures { λ r. ⌜ r ≡ builtBy edition (topologyVerdict (rowsIn t)) (rowsIn t) ⌝ }
 {
     let version = t.results[place::VERSION_AND_FEATURES];
     let sizes = t.results[place::EXTENDED_ADDRESS_SPACE_SIZES];
@@ -115,7 +118,7 @@ fn from_topology(t: CpuidResults, size: u32) -> Built
     );
     match topology {
         Topology::Processors(processors) => {
-            let table = update::finish(t, size, processors);
+            let table = update::finish(t, edition, size, processors);
             Built {
                 verdict: Verdict::Accepted,
                 table,
@@ -127,20 +130,23 @@ fn from_topology(t: CpuidResults, size: u32) -> Built
 
 // Pages of any length, count and content: one table, or one refusal. The flags are asked for required leaves by themselves, since handing
 // the table on copies it: a set without one is refused before that.
-pub fn build(pages: &[u8], secure_avic: bool) -> Built
-    ensures { λ r. ⌜ r ≡ answer «secure_avic» (now (pages .entry)) ⌝ }
+pub fn build(pages: &[u8], choices: Choices) -> Built
+    ensures { λ r. ⌜ r ≡ answer choices (now (pages .entry)) ⌝ }
 {
+    if known_edition(choices.edition) {} else {
+        return refused(Refusal::UnknownEdition);
+    }
     if pages::bad_length(pages) {
         return refused(Refusal::PagesLength);
     }
     if pages::counts_fit(pages) {
-        let t = collect::collect(pages, secure_avic);
+        let t = collect::collect(pages, choices.secure_avic);
         let present = t.present;
         let verdict = validate_required(present);
         if let Verdict::Refused(r) = verdict {
             return refused(r);
         }
-        return from_invlpgb(t);
+        return from_invlpgb(t, choices.edition);
     }
     refused(Refusal::PageCount)
 }

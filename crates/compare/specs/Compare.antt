@@ -9,14 +9,14 @@ use Rattle.bits.specs.Search.{Failing, lowest}
 use Rattle.bits.specs.Search.Failing.{at, none}
 use Rattle.x86defs.specs.declared.CpuidResult.{CpuidResult}
 use Rattle.masking.specs.Kept.{places, leafAt, indexedAt, subleafAt}
+use Rattle.table.specs.declared.Choices.{Choices}
 use Rattle.table.specs.declared.Subleaf.{Subleaf}
 use Rattle.table.specs.declared.Subleaf.the-variants.{None, Some}
 use Rattle.table.specs.declared.Verdict.{Verdict}
 use Rattle.table.specs.declared.Verdict.the-variants.{Accepted, Refused}
 use Rattle.table.specs.Rows.{Row, Rows}
 use Rattle.update.specs.Kinds.{Kinds, kindsAt}
-use Rattle.collect.specs.FirstEntries.{rowsOf}
-use Rattle.build.specs.Build.{lawfulVerdict, answer}
+use Rattle.build.specs.Build.{rowsFor, lawfulVerdict, answer}
 use Rattle.rise.specs.Decide.{risesTest, placeTest, inTable}
 use Rattle.compare.specs.declared.Register.{Register}
 use Rattle.compare.specs.declared.Register.the-variants.{Eax, Ebx, Ecx, Edx}
@@ -62,5 +62,5 @@ abbrev pub afterB : Verdict → Compared → Compared
 afterB Accepted c = c
 afterB (Refused r) c = UnlawfulB r
 
-unfoldable pub compared : Bool → List ℕ → List ℕ → Compared
-compared avic a b = afterA (answer avic a .verdict) (afterB (lawfulVerdict b) (comparedRows (inTable avic a) (rowsOf avic a) (rowsOf avic b)))
+unfoldable pub compared : Choices → List ℕ → List ℕ → Compared
+compared chosen a b = afterA (answer chosen a .verdict) (afterB (lawfulVerdict b) (comparedRows (inTable chosen a) (rowsFor chosen a) (rowsFor chosen b)))

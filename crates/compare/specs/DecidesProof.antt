@@ -12,14 +12,14 @@ use Rattle.bits.specs.SearchLaws.{Lowest, lowest-none, lowest-all, lowest-at, l
 use Rattle.x86defs.specs.declared.CpuidFunction.{CpuidFunction}
 use Rattle.x86defs.specs.declared.CpuidResult.{CpuidResult}
 use Rattle.masking.specs.Kept.{places, leafAt}
+use Rattle.table.specs.declared.Choices.{Choices}
 use Rattle.table.specs.declared.Subleaf.{Subleaf}
 use Rattle.table.specs.declared.Verdict.{Verdict}
 use Rattle.table.specs.declared.Verdict.the-variants.{Accepted, Refused}
 use Rattle.table.specs.Rows.{Rows}
 use Rattle.update.specs.Finish.{ruleAt}
 use Rattle.update.specs.Kinds.{Kinds, EntryAtLeast, Registers, kindsAt, fromEntry}
-use Rattle.collect.specs.FirstEntries.{rowsOf}
-use Rattle.build.specs.Build.{lawfulVerdict, answer}
+use Rattle.build.specs.Build.{rowsFor, lawfulVerdict, answer}
 use Rattle.rise.specs.Rise.{EntryRises, RiseHypothesis as Hypothesis}
 use Rattle.rise.specs.Decide.{risesTest, registersTest, placeTest, inTable, test-rises, rises-test, test-fails, place-rises, rises-place}
 use Rattle.rise.specs.RiseProof.{demand-3}
@@ -102,20 +102,20 @@ module _ (k : Kinds) (a b : CpuidResult) where
 
 -- ---- the places before the first that fails
 
-module _ (avic : Bool) (a b : List ℕ) where
+module _ (chosen : Choices) (a b : List ℕ) where
   abbrev A : Rows
-  A = rowsOf avic a
+  A = rowsFor chosen a
 
   abbrev B : Rows
-  B = rowsOf avic b
+  B = rowsFor chosen b
 
   abbrev test : ℕ → Bool
-  test = placeTest (inTable avic a) A B
+  test = placeTest (inTable chosen a) A B
 
-  module _ (accepted : answer avic a .verdict ≡ Accepted) (lawful : lawfulVerdict b ≡ Accepted) where
-    reached : (i : ℕ) → Lowest test 0 places i → Reached avic a b (leafAt i) (subleafNamed i) i
+  module _ (accepted : answer chosen a .verdict ≡ Accepted) (lawful : lawfulVerdict b ≡ Accepted) where
+    reached : (i : ℕ) → Lowest test 0 places i → Reached chosen a b (leafAt i) (subleafNamed i) i
     reached i h =
-        let asked = if-fails (fromEntry (ruleAt i) && inTable avic a i) _ (h .fails) .0 in
+        let asked = if-fails (fromEntry (ruleAt i) && inTable chosen a i) _ (h .fails) .0 in
         record {
           accepted = accepted;
           lawful = lawful;
@@ -124,17 +124,17 @@ module _ (avic : Bool) (a b : List ℕ) where
           subleafAtPlace = refl;
           entry = and-left _ _ asked;
           inA = and-right (fromEntry (ruleAt i)) _ asked;
-          before = λ j l f p. place-rises (inTable avic a) A B j (h .before j zero-le l) f p;
+          before = λ j l f p. place-rises (inTable chosen a) A B j (h .before j zero-le l) f p;
         }
 
-    failing : (i : ℕ) → Lowest test 0 places i → Means avic a b (failingAt A B i)
+    failing : (i : ℕ) → Lowest test 0 places i → Means chosen a b (failingAt A B i)
     failing i h = go (B i .present) refl
       where
         fails : (B i .present && registersTest (kindsAt i) (A i .result) (B i .result)) ≡ false
-        fails = if-fails (fromEntry (ruleAt i) && inTable avic a i) _ (h .fails) .1
+        fails = if-fails (fromEntry (ruleAt i) && inTable chosen a i) _ (h .fails) .1
 
         go : (p : Bool) → B i .present ≡ p
-            → Means avic a b
+            → Means chosen a b
             (pick p (Differs (leafAt i) (subleafNamed i) (firstRegister (kindsAt i) (A i .result) (B i .result)))
             (NoEntry (leafAt i) (subleafNamed i)))
         go true e = record {
@@ -146,57 +146,57 @@ module _ (avic : Bool) (a b : List ℕ) where
         }
         go false e = record { place = i; reached = reached i h; absent = e }
 
-    rows-mean : (f : Failing) → lowest test 0 places ≡ f → Means avic a b (firstFailing f (failingAt A B))
+    rows-mean : (f : Failing) → lowest test 0 places ≡ f → Means chosen a b (firstFailing f (failingAt A B))
     rows-mean (at i) e = failing i (lowest-at test 0 places i e)
     rows-mean none e =
-        let rises : Hypothesis avic a b = record {
+        let rises : Hypothesis chosen a b = record {
           accepted = accepted;
           lawful = lawful;
-          entries = λ i l f p. place-rises (inTable avic a) A B i (lowest-none test 0 places e i zero-le l) f p;
+          entries = λ i l f p. place-rises (inTable chosen a) A B i (lowest-none test 0 places e i zero-le l) f p;
         } in
-        (rises, demand-3 avic a b rises)
+        (rises, demand-3 chosen a b rises)
 
-  means : Means avic a b (compared avic a b)
+  means : Means chosen a b (compared chosen a b)
   unfolding compared comparedRows
-  means = go (answer avic a .verdict) refl (lawfulVerdict b) refl
+  means = go (answer chosen a .verdict) refl (lawfulVerdict b) refl
     where
-      go : (v : Verdict) → answer avic a .verdict ≡ v → (w : Verdict) → lawfulVerdict b ≡ w
-          → Means avic a b (afterA v (afterB w (comparedRows (inTable avic a) A B)))
+      go : (v : Verdict) → answer chosen a .verdict ≡ v → (w : Verdict) → lawfulVerdict b ≡ w
+          → Means chosen a b (afterA v (afterB w (comparedRows (inTable chosen a) A B)))
       go (Refused r) e w f = e
       go Accepted e (Refused r) f = (e, f)
       go Accepted e Accepted f = rows-mean e f (lowest test 0 places) refl
 
-  complete : Hypothesis avic a b → compared avic a b ≡ Rises
+  complete : Hypothesis chosen a b → compared chosen a b ≡ Rises
   unfolding compared comparedRows
   complete h =
       rw (h .accepted, h .lawful)
       (ap (λ (f : Failing). firstFailing f (failingAt A B))
-      (lowest-all test 0 places (λ j l u. rises-place (inTable avic a) A B j (λ f p. h .entries j u f p))))
+      (lowest-all test 0 places (λ j l u. rises-place (inTable chosen a) A B j (λ f p. h .entries j u f p))))
 
   -- a place that is reached and fails is the one that the search finds
-  module _ {leaf : CpuidFunction} {subleaf : Subleaf} (i : ℕ) (h : Reached avic a b leaf subleaf i) (fails : EntryRises i (A i) (B i) → ⊥) where
+  module _ {leaf : CpuidFunction} {subleaf : Subleaf} (i : ℕ) (h : Reached chosen a b leaf subleaf i) (fails : EntryRises i (A i) (B i) → ⊥) where
     lowest-place : Lowest test 0 places i
     lowest-place = record {
       from = zero-le;
       below = h .below;
-      fails = is-false (test i) (λ e. fails (place-rises (inTable avic a) A B i e (h .entry) (h .inA)));
-      before = λ j _ l. rises-place (inTable avic a) A B j (h .before j l);
+      fails = is-false (test i) (λ e. fails (place-rises (inTable chosen a) A B i e (h .entry) (h .inA)));
+      before = λ j _ l. rises-place (inTable chosen a) A B j (h .before j l);
     }
 
     found : (f : Failing) → lowest test 0 places ≡ f → f ≡ at i
     found none e = absurd (never-both (lowest-none test 0 places e i zero-le (h .below)) (lowest-place .fails))
     found (at j) e = ap at (lowest-unique (lowest-at test 0 places j e) lowest-place)
 
-    compared-there : compared avic a b ≡ failingAt A B i
+    compared-there : compared chosen a b ≡ failingAt A B i
     unfolding comparedRows
     compared-there =
-        with-verdicts avic a b (h .accepted) (h .lawful)
+        with-verdicts chosen a b (h .accepted) (h .lawful)
         ∙ ap (λ (f : Failing). firstFailing f (failingAt A B)) (found (lowest test 0 places) refl)
 
-  exact : (c : Compared) → Means avic a b c → compared avic a b ≡ c
+  exact : (c : Compared) → Means chosen a b c → compared chosen a b ≡ c
   exact Rises m = complete (m .0)
-  exact (RefusedA r) m = sym (refused-a avic a b m)
-  exact (UnlawfulB r) m = with-verdicts avic a b (m .0) (m .1)
+  exact (RefusedA r) m = sym (refused-a chosen a b m)
+  exact (UnlawfulB r) m = with-verdicts chosen a b (m .0) (m .1)
   exact (NoEntry leaf subleaf) m =
       let i = m .place in
       let h = m .reached in
@@ -212,9 +212,9 @@ module _ (avic : Bool) (a b : List ℕ) where
       ∙ ap (Differs (leafAt i) (subleafNamed i)) (first-unique k (A i .result) (B i .result) register (m .fails) (m .registersBefore))
       ∙ sym (ap₂ (λ (l : CpuidFunction) (s : Subleaf). Differs l s register) (h .leafAtPlace) (h .subleafAtPlace))
 
-  pub decides : Decides avic a b (compared avic a b)
+  pub decides : Decides chosen a b (compared chosen a b)
   decides = record { means = means; exact = exact; complete = complete }
 
 -- what a value has that is the comparison's
-pub decided : (avic : Bool) (a b : List ℕ) {r : Compared} → r ≡ compared avic a b → (r ≡ compared avic a b) × Decides avic a b r
-decided avic a b e = (e, subst (Decides avic a b) (sym e) (decides avic a b))
+pub decided : (chosen : Choices) (a b : List ℕ) {r : Compared} → r ≡ compared chosen a b → (r ≡ compared chosen a b) × Decides chosen a b r
+decided chosen a b e = (e, subst (Decides chosen a b) (sym e) (decides chosen a b))

@@ -1,6 +1,7 @@
 // Two servers compared. The pages of A and B come in; whether a guest of A may move to B goes out, or the first thing in the way.
 use kinds::Kinds;
 use masking::PLACES;
+use table::Choices;
 use table::CpuidResults;
 use table::Refusal;
 use table::Subleaf;
@@ -44,13 +45,13 @@ struct RegistersRise {
     edx: bool,
 }
 
-// Whether B meets the hypothesis of demand 3 beside A under a secure-AVIC choice, or the first thing that fails: A's refusal, then B's
+// Whether B meets the hypothesis of demand 3 beside A under the same choices, or the first thing that fails: A's refusal, then B's
 // length and counts, then the rows of A's table by rising leaf and subleaf, at each first B's entry and then EAX, EBX, ECX, EDX.
-pub fn compare(a: &[u8], b: &[u8], secure_avic: bool) -> Compared
-    ensures { λ r. ⌜ r ≡ compared «secure_avic» (now (a .entry)) (now (b .entry)) ⌝ }
-    ensures decides { λ r. ⌜ Decides «secure_avic» (now (a .entry)) (now (b .entry)) r ⌝ }
+pub fn compare(a: &[u8], b: &[u8], choices: Choices) -> Compared
+    ensures { λ r. ⌜ r ≡ compared choices (now (a .entry)) (now (b .entry)) ⌝ }
+    ensures decides { λ r. ⌜ Decides choices (now (a .entry)) (now (b .entry)) r ⌝ }
 {
-    let built = build::build(a, secure_avic);
+    let built = build::build(a, choices);
     let verdict = built.verdict;
     if let Verdict::Refused(refusal) = verdict {
         return Compared::RefusedA(refusal);
@@ -62,8 +63,8 @@ pub fn compare(a: &[u8], b: &[u8], secure_avic: bool) -> Compared
         let table = built.table;
         return first_failing(
             table,
-            collect::collect(a, secure_avic),
-            collect::collect(b, secure_avic),
+            collect::collect(a, choices.secure_avic),
+            collect::collect(b, choices.secure_avic),
         );
     }
     Compared::UnlawfulB(Refusal::PageCount)

@@ -1,11 +1,11 @@
 -- The proofs of the statements of Counts.
 use mathlib.Core.Path.{_≡_, ap}
-use mathlib.Core.Bool.{Bool}
 use mathlib.Core.List.{List}
 use Prim.Native.Nat.{ℕ, _≤_, _<_}
 use lib.ListN.{length}
 use native.Mathlib.Omega.{arith}
 use Rattle.masking.specs.Kept.{places}
+use Rattle.table.specs.declared.Choices.{Choices}
 use Rattle.table.specs.declared.Verdict.{Verdict}
 use Rattle.table.specs.declared.Verdict.the-variants.{Accepted}
 use Rattle.table.specs.Rows.{Rows}
@@ -14,8 +14,7 @@ use Rattle.update.specs.Finish.{finished}
 use Rattle.checks.specs.ChecksLaws.{then-right, AllPass, all-pass}
 use Rattle.table.specs.Table.{tableOf}
 use Rattle.build.specs.Built.{tableFor}
-use Rattle.collect.specs.FirstEntries.{rowsOf}
-use Rattle.build.specs.Build.{lawfulVerdict, verdictOf, answer}
+use Rattle.build.specs.Build.{rowsFor, editionVerdict, lawfulVerdict, verdictOf, answer}
 use Rattle.image.specs.Image.{image}
 use Rattle.counts.specs.Counts.{Counted, RowsCounted, SinglePageRefused}
 use Rattle.counts.specs.Standing.{stands, row-stands}
@@ -23,36 +22,36 @@ use Rattle.counts.specs.Sizes.{rows-count, bytes-count}
 use Rattle.counts.specs.Mask.{mask-within, components-most}
 use Rattle.counts.specs.SinglePage.{single-refused}
 
-rows-pass : (avic : Bool) (s : List ℕ) → answer avic s .verdict ≡ Accepted → AllPass (rowsOf avic s)
+rows-pass : (chosen : Choices) (s : List ℕ) → answer chosen s .verdict ≡ Accepted → AllPass (rowsFor chosen s)
 unfolding answer verdictOf
-rows-pass avic s e = all-pass (rowsOf avic s) (then-right (lawfulVerdict s) _ e)
+rows-pass chosen s e = all-pass (rowsFor chosen s) (then-right (lawfulVerdict s) _ (then-right (editionVerdict (chosen .edition)) _ e))
 
 pub rows-counted : RowsCounted
 unfolding answer
-rows-counted avic s e = record {
-  rows = rw table (rows-count (finished m) (combinedMask m) standing);
-  most = rw table (omega (arith, rows-count (finished m) (combinedMask m) standing, components-most (mask-within avic s)));
-  bytes = rw table (bytes-count (finished m) (combinedMask m) standing);
-  mask = rw table (mask-within avic s);
+rows-counted chosen s e = record {
+  rows = rw table (rows-count (finished (chosen .edition) m) (combinedMask m) standing);
+  most = rw table (omega (arith, rows-count (finished (chosen .edition) m) (combinedMask m) standing, components-most (mask-within (chosen .«secure_avic») s)));
+  bytes = rw table (bytes-count (finished (chosen .edition) m) (combinedMask m) standing);
+  mask = rw table (mask-within (chosen .«secure_avic») s);
 }
   where
     m : Rows
-    m = rowsOf avic s
+    m = rowsFor chosen s
 
-    table : answer avic s .table ≡ tableOf (finished m) (combinedMask m)
-    table = ap (λ (v : Verdict). tableFor v m) e
+    table : answer chosen s .table ≡ tableOf (finished (chosen .edition) m) (combinedMask m)
+    table = ap (λ (v : Verdict). tableFor (chosen .edition) v m) e
 
-    standing : (i : ℕ) → i < places → finished m i .present ≡ stands (combinedMask m) i
-    standing = row-stands m (rows-pass avic s e)
+    standing : (i : ℕ) → i < places → finished (chosen .edition) m i .present ≡ stands (combinedMask m) i
+    standing = row-stands (chosen .edition) m (rows-pass chosen s e)
 
 -- the two bounds in plain words, so that neither can be weakened unseen
-pub at-most-32 : (avic : Bool) (s : List ℕ) → answer avic s .verdict ≡ Accepted → answer avic s .table .«row_count» ≤ 32
-at-most-32 avic s e = rows-counted avic s e .most
+pub at-most-32 : (chosen : Choices) (s : List ℕ) → answer chosen s .verdict ≡ Accepted → answer chosen s .table .«row_count» ≤ 32
+at-most-32 chosen s e = rows-counted chosen s e .most
 
-pub at-most-732 : (avic : Bool) (s : List ℕ) → answer avic s .verdict ≡ Accepted → length (image (answer avic s .table)) ≤ 732
-at-most-732 avic s e =
-    let c : Counted avic s = rows-counted avic s e in
+pub at-most-732 : (chosen : Choices) (s : List ℕ) → answer chosen s .verdict ≡ Accepted → length (image (answer chosen s .table)) ≤ 732
+at-most-732 chosen s e =
+    let c : Counted chosen s = rows-counted chosen s e in
     omega (arith, c .bytes, components-most (c .mask))
 
 pub single-page-refused : SinglePageRefused
-single-page-refused avic s n e = single-refused avic s n (rows-pass avic s e)
+single-page-refused chosen s n e = single-refused (chosen .«secure_avic») s n (rows-pass chosen s e)

@@ -34,9 +34,9 @@ stands x i = pick (component i) (has (i - Place.extendedState 0) x) true
 abbrev kept : ℕ → (ℕ → Bool) → ℕ → Bool
 kept x p i = pick (component i) (has (i - Place.extendedState 0) x && p i) (madeHere i || p i)
 
-remains-at : (m : Rows) (p : ℕ → Bool) → tabulate places (λ i. remains (settings m) (ruleAt i) (p i)) ≡ tabulate places (kept (combinedMask m) p)
+remains-at : (n : ℕ) (m : Rows) (p : ℕ → Bool) → tabulate places (λ i. remains (settings n m) (ruleAt i) (p i)) ≡ tabulate places (kept (combinedMask m) p)
 unfolding tabulate settings enabledBy combinedMask
-remains-at m p = refl
+remains-at n m p = refl
 
 -- every place is a component's, made here, or one that an accepted table always has
 abbrev known : ℕ → Bool
@@ -46,13 +46,13 @@ all-known : every known places ≡ true
 all-known = refl
 
 -- the rows of an accepted table, by the mask alone
-module _ (m : Rows) (pass : AllPass m) where
+module _ (n : ℕ) (m : Rows) (pass : AllPass m) where
   entry-present : (i : ℕ) → i < places → always (ruleAt i) ≡ true → m i .present ≡ true
   entry-present i h e = let (listed, place) = always-required i h e in rw place at (required-present m (pass .required) (position i) listed)
 
-  pub row-stands : (i : ℕ) → i < places → finished m i .present ≡ stands (combinedMask m) i
+  pub row-stands : (i : ℕ) → i < places → finished n m i .present ≡ stands (combinedMask m) i
   row-stands i h =
-      finished-present m i ∙ tabulate-at places _ _ (remains-at m (λ i. m i .present)) i h
+      finished-present n m i ∙ tabulate-at places _ _ (remains-at n m (λ i. m i .present)) i h
       ∙ go (component i) refl (madeHere i) refl (every-at known places all-known i h)
     where
       k : ℕ

@@ -1,6 +1,5 @@
 -- Not empty words: a pair of page sets for each answer of a comparison.
 use mathlib.Core.Path.{_≡_, refl, sym}
-use mathlib.Core.Bool.{false}
 use mathlib.Core.List.{[]}
 use Rattle.x86defs.specs.Functions.{VersionAndFeatures, ExtendedStateEnumeration}
 use Rattle.pages.specs.Layout.{badLength}
@@ -12,28 +11,28 @@ use Rattle.compare.specs.Compare.{comparedRows, compared}
 use Rattle.compare.specs.ReturnLaws.{refused-a, bad-length-b}
 use Rattle.compare.specs.DecidesProof.{decides}
 use Rattle.examples.specs.PageSets.{serverA, serverB, serverWithoutD12, serverWithLargeD6}
-use Rattle.examples.specs.Evaluation.{evaluated}
+use Rattle.examples.specs.Evaluation.{first, evaluated}
 use Rattle.examples.specs.Computed.{serverA-accepted, serverB-rises, large-refused}
 
 -- a guest of A may move to B
-pub a-to-b : compared false serverA serverB ≡ Rises
-a-to-b = decides false serverA serverB .complete serverB-rises
+pub a-to-b : compared first serverA serverB ≡ Rises
+a-to-b = decides first serverA serverB .complete serverB-rises
 
 -- not back: B's 1.ECX has more
-pub b-to-a : compared false serverB serverA ≡ Differs VersionAndFeatures None Ecx
+pub b-to-a : compared first serverB serverA ≡ Differs VersionAndFeatures None Ecx
 unfolding evaluated compared comparedRows serverA serverB
 b-to-a = refl
 
 -- B's table has D.12
-pub b-to-without-d12 : compared false serverB serverWithoutD12 ≡ NoEntry ExtendedStateEnumeration (Some 12)
+pub b-to-without-d12 : compared first serverB serverWithoutD12 ≡ NoEntry ExtendedStateEnumeration (Some 12)
 unfolding evaluated compared comparedRows serverB serverWithoutD12
 b-to-without-d12 = refl
 
 -- a server that is refused has no guest
-pub from-large-d6 : compared false serverWithLargeD6 serverB ≡ RefusedA SaveAreaOverflow
-from-large-d6 = sym (refused-a false serverWithLargeD6 serverB large-refused)
+pub from-large-d6 : compared first serverWithLargeD6 serverB ≡ RefusedA SaveAreaOverflow
+from-large-d6 = sym (refused-a first serverWithLargeD6 serverB large-refused)
 
 -- no pages at all
-pub a-to-none : compared false serverA [] ≡ UnlawfulB PagesLength
+pub a-to-none : compared first serverA [] ≡ UnlawfulB PagesLength
 unfolding badLength
-a-to-none = sym (bad-length-b false serverA [] serverA-accepted refl)
+a-to-none = sym (bad-length-b first serverA [] serverA-accepted refl)

@@ -1,5 +1,4 @@
 -- The answer with every definition open: a theorem that unfolds `evaluated` computes with page bytes.
-use mathlib.Core.Bool.{Bool}
 use mathlib.Core.List.{List}
 use Prim.Native.Nat.{ℕ}
 use Rattle.bits.specs.Lists.{tabulate, keepIf, sumTo}
@@ -16,20 +15,26 @@ use Rattle.checks.specs.Required.{commonRequiredLeaves, snpRequiredLeaves, requ
 use Rattle.checks.specs.ExtendedState.{xfem, xss, combinedMask, areaBelow, sizeOf}
 use Rattle.checks.specs.TopologyInputs.{inputsOf}
 use Rattle.update.specs.Kinds.{registerKinds, kindsAt}
-use Rattle.update.specs.Finish.{finished, settings, enabledBy, versionEcx, featuresEbx, featuresEcx, featuresEdx, extendedVersionEdx, addressSizesEbx, unlessNoXss, ymmVersionEcx, ymmFeaturesEbx, ymmFeaturesEcx, avx512FeaturesEbx, avx512FeaturesEcx, avx512FeaturesEdx, cetSs, rdPid, rdtscp, ibrsAndStibp, btcNo, hypervisorPresent}
+use Rattle.update.specs.Finish.{finished, settings, enabledBy, ymmClears, edition1, edition2, versionEcx, featuresEbx, featuresEcx, featuresEdx, extendedVersionEcx, extendedVersionEdx, addressSizesEbx, unlessNoXss, avx512FeaturesEbx, avx512FeaturesEcx, avx512FeaturesEdx, cetSs, rdPid, rdtscp, ibrsAndStibp, btcNo, hypervisorPresent}
 use Rattle.checks.specs.Checks.{requiredVerdict, invlpgbVerdict, componentsOf, componentsVerdict, areaVerdict, topologyVerdict, rowsVerdict}
+use Rattle.table.specs.declared.Choices.{Choices}
+use Rattle.table.specs.Edition.{knownEdition}
 use Rattle.table.specs.Table.{countRows}
 use Rattle.build.specs.declared.Built.{Built}
 use Rattle.collect.specs.FirstEntries.{firstAt, legacyFeatures, rowsOf}
-use Rattle.build.specs.Build.{lengthVerdict, countsVerdict, lawfulVerdict, verdictOf, answer}
+use Rattle.build.specs.Build.{editionVerdict, lengthVerdict, countsVerdict, lawfulVerdict, underEdition, verdictOf, answer}
 
-unfoldable pub evaluated : Bool → List ℕ → Built
-unfolding answer verdictOf lawfulVerdict lengthVerdict countsVerdict badLength countsFit rowsVerdict requiredVerdict invlpgbVerdict componentsOf
+-- what the examples choose: secure AVIC off, edition 1
+abbrev pub first : Choices
+first = underEdition 1
+
+unfoldable pub evaluated : Choices → List ℕ → Built
+unfolding answer verdictOf editionVerdict knownEdition lawfulVerdict lengthVerdict countsVerdict badLength countsFit rowsVerdict requiredVerdict invlpgbVerdict componentsOf
     componentsVerdict areaVerdict topologyVerdict lowest placeRequired requiredAt commonRequiredLeaves snpRequiredLeaves rowsOf firstAt counted
     keepIf entries onPages onPage entryAt counts placeOf keptLeaves slot versionAndFeatures extendedFeatures extendedState0 extendedState1
     extendedVersionAndFeatures extendedAddressSpaceSizes extendedSvm extendedOptimization extendedSev secureAvicMask fieldsMask fieldMask maskOf
     legacyFeatures xfem xss combinedMask areaBelow sizeOf has bit field inputsOf topologyOf threadsIn tabulate sumTo countRows finished settings
-    enabledBy leastPower shiftOf clear clearUnless versionEcx featuresEbx featuresEcx featuresEdx extendedVersionEdx addressSizesEbx unlessNoXss
-    ymmVersionEcx ymmFeaturesEbx ymmFeaturesEcx avx512FeaturesEbx avx512FeaturesEcx avx512FeaturesEdx cetSs rdPid rdtscp ibrsAndStibp btcNo
+    enabledBy ymmClears edition1 edition2 leastPower shiftOf clear clearUnless versionEcx featuresEbx featuresEcx featuresEdx extendedVersionEcx
+    extendedVersionEdx addressSizesEbx unlessNoXss avx512FeaturesEbx avx512FeaturesEcx avx512FeaturesEdx cetSs rdPid rdtscp ibrsAndStibp btcNo
     hypervisorPresent AmdMaximum ExtendedAmdMaximum registerKinds kindsAt
-evaluated avic s = answer avic s
+evaluated chosen s = answer chosen s

@@ -1,6 +1,5 @@
 -- Lists for and from KVM, by computation: the head and the first row of server A's list, and a list for each answer of reading.
 use mathlib.Core.Path.{_≡_, refl}
-use mathlib.Core.Bool.{false}
 use mathlib.Core.List.{List, [], _∷_}
 use Prim.Native.Nat.{ℕ}
 use lib.ListN.{length, replicate, take}
@@ -15,10 +14,10 @@ use Rattle.kvm_list.specs.Format.{allWords, listBytes, rowAt, rowsIn}
 use Rattle.kvm_import.specs.Import.{badListLength, allLawful, fieldsLawful, rowsOn0, rowsOn1, rowsFit, listVerdict, entriesWords, pageWords, pagesOf, readList}
 use Rattle.kvm_export.specs.Export.{plainRow, rowsFrom, listRows, listOf}
 use Rattle.examples.specs.PageSets.{serverA}
-use Rattle.examples.specs.Evaluation.{evaluated}
+use Rattle.examples.specs.Evaluation.{first, evaluated}
 
 -- 27 rows; leaf 0 has the highest leaf Dh and "Auth" "cAMD" "enti"
-pub serverA-list : take 48 (listOf (answer false serverA .table)) ≡ bytesOfWords
+pub serverA-list : take 48 (listOf (answer first serverA .table)) ≡ bytesOfWords
     (27 ∷ 0 ∷ 0 ∷ 0 ∷ 0 ∷ 0xD ∷ 0x68747541 ∷ 0x444D4163 ∷ 0x69746E65 ∷ 0 ∷ 0 ∷ 0 ∷ [])
 unfolding evaluated serverA listOf listRows rowsFrom listBytes allWords bytesOfWords
 serverA-list = refl

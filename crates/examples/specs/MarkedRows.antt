@@ -1,4 +1,4 @@
--- Document 01, "Rows to prove": the fourteen marked rows as one table.
+-- Document 01, "Rows to prove": the fourteen marked rows as one table; edition 1 is document 01's.
 use mathlib.Core.Path.{_≡_, refl}
 use mathlib.Core.Bool.{Bool, false}
 use mathlib.Core.List.{List, [], _∷_}
@@ -46,7 +46,7 @@ stateRows xfem xsaves xss eax ebx i =
     (pick (eqb i (Place.extendedState 2)) (row (result eax ebx 0 0)) (pick (eqb i (Place.extendedState 11)) (row (result 16 0 1 0)) vacant)))
 
 shownArea : Verdict → Rows → Shown
-shownArea Accepted m = area (finished m (Place.extendedState 0) .result .ecx)
+shownArea Accepted m = area (finished 1 m (Place.extendedState 0) .result .ecx)
 shownArea (Refused r) m = refusal (details r .number)
 
 -- X: XFEM, and D.2's EAX and EBX
@@ -59,7 +59,7 @@ C : ℕ → ℕ → Shown
 unfolding stateRows
 C xsaves xss =
     let m : Rows = stateRows 7 xsaves xss 256 576 in
-    supervisor (finished m (Place.extendedState 1) .result .ecx) (finished m (Place.extendedState 11) .present)
+    supervisor (finished 1 m (Place.extendedState 1) .result .ecx) (finished 1 m (Place.extendedState 11) .present)
 
 pub marked : List Shown
 unfolding T X C

@@ -13,11 +13,10 @@ entry leaf subleaf a b c d = word leaf ++ word subleaf ++ replicate 16 0 ++ word
 abbrev pub page : ℕ → List ℕ → List ℕ
 page count entries = word count ++ replicate 12 0 ++ entries ++ replicate (4080 - length entries) 0
 
--- page 0: every required leaf but Dh, with the given 1.ECX, 7.0.EBX and 8000001Fh.EAX; one processor
-abbrev pub firstPage : ℕ → ℕ → ℕ → List ℕ
-firstPage versionEcx featuresEbx sevEax =
-    page 22
-    (entry 1 0 0xA00F11 0x10000 versionEcx 0x178BFBFF
+-- every required leaf but Dh, with the given 1.ECX, 7.0.EBX and 8000001Fh.EAX; one processor
+abbrev pub requiredEntries : ℕ → ℕ → ℕ → List ℕ
+requiredEntries versionEcx featuresEbx sevEax =
+    entry 1 0 0xA00F11 0x10000 versionEcx 0x178BFBFF
     ++ entry 5 0 0x40 0x40 3 0x11
     ++ entry 7 0 0 featuresEbx 0x40069C 0x10
     ++ entry 0xB 0 0 0 0 0
@@ -38,10 +37,14 @@ firstPage versionEcx featuresEbx sevEax =
     ++ entry 0x8000001D 2 0x143 0x1C0003F 0x3FF 2
     ++ entry 0x8000001D 3 0x163 0x3C0003F 0x7FFF 1
     ++ entry 0x8000001E 0 0 0 0 0
-    ++ entry 0x8000001F 0 sevEax 0x4173 0x1FD 1)
+    ++ entry 0x8000001F 0 sevEax 0x4173 0x1FD 1
+
+-- page 0 of these
+abbrev pub firstPage : ℕ → ℕ → ℕ → List ℕ
+firstPage versionEcx featuresEbx sevEax = page 22 (requiredEntries versionEcx featuresEbx sevEax)
 
 -- D.0 with its EAX, D.1 with its EAX and ECX, D.2
-abbrev stateEntries : ℕ → ℕ → ℕ → List ℕ
+abbrev pub stateEntries : ℕ → ℕ → ℕ → List ℕ
 stateEntries xfem xsaves xss = entry 0xD 0 xfem 0x340 0x340 0 ++ entry 0xD 1 xsaves 0x340 xss 0 ++ entry 0xD 2 0x100 0x240 0 0
 
 -- D.5, D.6 with the given size, D.7: the AVX-512 components

@@ -5,15 +5,15 @@ use mathlib.Core.List.{List, [], _∷_}
 use Prim.Native.Nat.{ℕ}
 use Rattle.bits.specs.Bits.{clear}
 use Rattle.masking.specs.Place
+use Rattle.table.specs.declared.Choices.{Choices}
 use Rattle.table.specs.declared.CpuidResults.{CpuidResults}
 use Rattle.table.specs.declared.Verdict.{Verdict}
 use Rattle.table.specs.declared.Verdict.the-variants.{Accepted}
 use Rattle.table.specs.Table.{tableOf, rowIn, rowsIn}
 use Rattle.checks.specs.ExtendedState.{combinedMask}
 use Rattle.update.specs.Finish.{finished}
-use Rattle.collect.specs.FirstEntries.{rowsOf}
 use Rattle.build.specs.declared.Built.{Built}
-use Rattle.build.specs.Build.{answer}
+use Rattle.build.specs.Build.{rowsFor, answer}
 use Rattle.rise.specs.RiseProof.{answer-table}
 use Rattle.examples.specs.Evaluation.{evaluated}
 use Rattle.guest.specs.declared.Processor.{Processor}
@@ -24,16 +24,16 @@ use Rattle.guest_pages.specs.GuestPages.{guestPages}
 use Rattle.guest_pages.specs.GuestPagesLaws.{guest-verdict, given-guest}
 
 -- with every definition open
-unfoldable pub computed : Bool → List ℕ → Built
+unfoldable pub computed : Choices → List ℕ → Built
 unfolding evaluated stateVerdict allowedVerdict compactVerdict allowed compactRegister compacts saveRegister compactBelow placed startOf numberSeen osxsaveSeen clear
-computed avic s = answer avic s
+computed chosen s = answer chosen s
 
 abbrev pub processor : ℕ → ℕ → ℕ → Bool → Processor
 processor n x s on = record { x2apic = n; xcr0 = x; xss = s; osxsave = on }
 
 -- the table of an accepted page set
-abbrev pub built : Bool → List ℕ → CpuidResults
-built avic s = tableOf (finished (rowsOf avic s)) (combinedMask (rowsOf avic s))
+abbrev pub built : Choices → List ℕ → CpuidResults
+built chosen s = tableOf (finished (chosen .edition) (rowsFor chosen s)) (combinedMask (rowsFor chosen s))
 
 -- 1.EBX, 1.ECX, B.0.EDX, B.1.EDX, D.0.EBX, D.1.EBX
 abbrev pub figures : CpuidResults → List ℕ
@@ -46,12 +46,12 @@ figures t =
     ∷ rowIn t (Place.extendedState 1) .result .ebx
     ∷ []
 
-module _ (avic : Bool) (s : List ℕ) (v : Processor) (accepted : answer avic s .verdict ≡ Accepted) where
-  pub seen-verdict : {w : Verdict} → stateVerdict (rowsIn (built avic s)) (v .xcr0) (v .xss) ≡ w → guestPages avic s v .verdict ≡ w
+module _ (chosen : Choices) (s : List ℕ) (v : Processor) (accepted : answer chosen s .verdict ≡ Accepted) where
+  pub seen-verdict : {w : Verdict} → stateVerdict (rowsIn (built chosen s)) (v .xcr0) (v .xss) ≡ w → guestPages chosen s v .verdict ≡ w
   seen-verdict e =
-      guest-verdict avic s v accepted ∙ ap (λ (t : CpuidResults). stateVerdict (rowsIn t) (v .xcr0) (v .xss)) (answer-table avic s accepted) ∙ e
+      guest-verdict chosen s v accepted ∙ ap (λ (t : CpuidResults). stateVerdict (rowsIn t) (v .xcr0) (v .xss)) (answer-table chosen s accepted) ∙ e
 
-  pub seen-figures : {l : List ℕ} → stateVerdict (rowsIn (built avic s)) (v .xcr0) (v .xss) ≡ Accepted → figures (guestTable (built avic s) v) ≡ l
-      → figures (guestPages avic s v .table) ≡ l
+  pub seen-figures : {l : List ℕ} → stateVerdict (rowsIn (built chosen s)) (v .xcr0) (v .xss) ≡ Accepted → figures (guestTable (built chosen s) v) ≡ l
+      → figures (guestPages chosen s v .table) ≡ l
   seen-figures e f =
-      ap figures (given-guest avic s v accepted (seen-verdict e) ∙ ap (λ (t : CpuidResults). guestTable t v) (answer-table avic s accepted)) ∙ f
+      ap figures (given-guest chosen s v accepted (seen-verdict e) ∙ ap (λ (t : CpuidResults). guestTable t v) (answer-table chosen s accepted)) ∙ f

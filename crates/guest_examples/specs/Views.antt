@@ -14,6 +14,7 @@ use Rattle.guest_pages.specs.GuestPages.{guestPages}
 use Rattle.guest_pages.specs.GuestPagesLaws.{building-first}
 use Rattle.guest_rise.specs.GuestRise.{GuestOutcome}
 use Rattle.guest_rise.specs.GuestRiseProof.{guest-rise}
+use Rattle.examples.specs.Evaluation.{first}
 use Rattle.guest_examples.specs.Seen.{computed, processor, built, figures, seen-verdict, seen-figures}
 
 -- ---- server A, all of its state, OSXSAVE on: bit 27 of 1.ECX is set
@@ -21,62 +22,62 @@ use Rattle.guest_examples.specs.Seen.{computed, processor, built, figure
 abbrev pub viewA : Processor
 viewA = processor 0x12345 0x7 0 true
 
-stateA : stateVerdict (rowsIn (built false serverA)) 0x7 0 ≡ Accepted
+stateA : stateVerdict (rowsIn (built first serverA)) 0x7 0 ≡ Accepted
 unfolding computed serverA
 stateA = refl
 
-figuresA : figures (guestTable (built false serverA) viewA) ≡ 0x45010000 ∷ 0xBED83203 ∷ 0x12345 ∷ 0x12345 ∷ 832 ∷ 832 ∷ []
+figuresA : figures (guestTable (built first serverA) viewA) ≡ 0x45010000 ∷ 0xBED83203 ∷ 0x12345 ∷ 0x12345 ∷ 832 ∷ 832 ∷ []
 unfolding computed serverA
 figuresA = refl
 
-pub a-given : guestPages false serverA viewA .verdict ≡ Accepted
-a-given = seen-verdict false serverA viewA serverA-accepted stateA
+pub a-given : guestPages first serverA viewA .verdict ≡ Accepted
+a-given = seen-verdict first serverA viewA serverA-accepted stateA
 
-pub a-figures : figures (guestPages false serverA viewA .table) ≡ 0x45010000 ∷ 0xBED83203 ∷ 0x12345 ∷ 0x12345 ∷ 832 ∷ 832 ∷ []
-a-figures = seen-figures false serverA viewA serverA-accepted stateA figuresA
+pub a-figures : figures (guestPages first serverA viewA .table) ≡ 0x45010000 ∷ 0xBED83203 ∷ 0x12345 ∷ 0x12345 ∷ 832 ∷ 832 ∷ []
+a-figures = seen-figures first serverA viewA serverA-accepted stateA figuresA
 
 -- ---- 13: without bit 0; beyond XFEM; beyond XFEM's 32 bits; XSS beyond the table's, which is 0
 
-beyond : stateVerdict (rowsIn (built false serverA)) 0x6 0
-    ∷ stateVerdict (rowsIn (built false serverA)) 0xE7 0
-    ∷ stateVerdict (rowsIn (built false serverA)) 0x7 0x800
+beyond : stateVerdict (rowsIn (built first serverA)) 0x6 0
+    ∷ stateVerdict (rowsIn (built first serverA)) 0xE7 0
+    ∷ stateVerdict (rowsIn (built first serverA)) 0x7 0x800
     ∷ []
     ≡ Refused StateBeyondTable ∷ Refused StateBeyondTable ∷ Refused StateBeyondTable ∷ []
 unfolding computed serverA
 beyond = refl
 
-beyond-high : stateVerdict (rowsIn (built false serverA)) 0x100000007 0 ≡ Refused StateBeyondTable
+beyond-high : stateVerdict (rowsIn (built first serverA)) 0x100000007 0 ≡ Refused StateBeyondTable
 unfolding computed serverA
 beyond-high = refl
 
-pub a-beyond : guestPages false serverA (processor 0 0x100000007 0 true) .verdict ≡ Refused StateBeyondTable
-a-beyond = seen-verdict false serverA (processor 0 0x100000007 0 true) serverA-accepted beyond-high
+pub a-beyond : guestPages first serverA (processor 0 0x100000007 0 true) .verdict ≡ Refused StateBeyondTable
+a-beyond = seen-verdict first serverA (processor 0 0x100000007 0 true) serverA-accepted beyond-high
 
 -- bit 1 is not asked: XCR0 1 is given
-without-sse : stateVerdict (rowsIn (built false serverA)) 0x1 0 ≡ Accepted
+without-sse : stateVerdict (rowsIn (built first serverA)) 0x1 0 ≡ Accepted
 unfolding computed serverA
 without-sse = refl
 
-pub a-without-sse : guestPages false serverA (processor 0 0x1 0 false) .verdict ≡ Accepted
-a-without-sse = seen-verdict false serverA (processor 0 0x1 0 false) serverA-accepted without-sse
+pub a-without-sse : guestPages first serverA (processor 0 0x1 0 false) .verdict ≡ Accepted
+a-without-sse = seen-verdict first serverA (processor 0 0x1 0 false) serverA-accepted without-sse
 
 -- ---- building's refusals come first
 
-pub unbuilt : guestPages false serverWithLargeD6 (processor 0 0 0 true) ≡ refusedAnswer SaveAreaOverflow
-unbuilt = building-first false serverWithLargeD6 (processor 0 0 0 true) SaveAreaOverflow large-refused
+pub unbuilt : guestPages first serverWithLargeD6 (processor 0 0 0 true) ≡ refusedAnswer SaveAreaOverflow
+unbuilt = building-first first serverWithLargeD6 (processor 0 0 0 true) SaveAreaOverflow large-refused
 
 -- ---- A's guest on B: both sizes stay. B's own state is larger.
 
-pub a-to-b : GuestOutcome (guestPages false serverA viewA .table) (guestPages false serverB viewA)
-a-to-b = guest-rise false serverA serverB viewA serverB-rises serverB-accepted a-given
+pub a-to-b : GuestOutcome (guestPages first serverA viewA .table) (guestPages first serverB viewA)
+a-to-b = guest-rise first serverA serverB viewA serverB-rises serverB-accepted a-given
 
-stateB : stateVerdict (rowsIn (built false serverB)) 0xE7 0x1800 ≡ Accepted
+stateB : stateVerdict (rowsIn (built first serverB)) 0xE7 0x1800 ≡ Accepted
 unfolding computed serverB
 stateB = refl
 
-figuresB : figures (guestTable (built false serverB) (processor 1 0xE7 0x1800 true)) ≡ 0x01010000 ∷ 0xFEDA3203 ∷ 1 ∷ 1 ∷ 2432 ∷ 2472 ∷ []
+figuresB : figures (guestTable (built first serverB) (processor 1 0xE7 0x1800 true)) ≡ 0x01010000 ∷ 0xFEDA3203 ∷ 1 ∷ 1 ∷ 2432 ∷ 2472 ∷ []
 unfolding computed serverB
 figuresB = refl
 
-pub b-figures : figures (guestPages false serverB (processor 1 0xE7 0x1800 true) .table) ≡ 0x01010000 ∷ 0xFEDA3203 ∷ 1 ∷ 1 ∷ 2432 ∷ 2472 ∷ []
-b-figures = seen-figures false serverB (processor 1 0xE7 0x1800 true) serverB-accepted stateB figuresB
+pub b-figures : figures (guestPages first serverB (processor 1 0xE7 0x1800 true) .table) ≡ 0x01010000 ∷ 0xFEDA3203 ∷ 1 ∷ 1 ∷ 2432 ∷ 2472 ∷ []
+b-figures = seen-figures first serverB (processor 1 0xE7 0x1800 true) serverB-accepted stateB figuresB

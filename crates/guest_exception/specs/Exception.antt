@@ -16,6 +16,7 @@ use Rattle.guest.specs.Guest.{guestTable}
 use Rattle.guest_pages.specs.GuestPages.{guestPages}
 use Rattle.guest_rise.specs.GuestRise.{GuestOutcome}
 use Rattle.guest_rise.specs.GuestRiseProof.{guest-rise}
+use Rattle.examples.specs.Evaluation.{first}
 use Rattle.guest_examples.specs.Seen.{computed, processor, built, figures, seen-verdict, seen-figures}
 use Rattle.guest_examples.specs.Views.{viewA}
 
@@ -31,11 +32,11 @@ plain = server 0x1
 unfoldable pub compacting : List ℕ
 compacting = server 0x3
 
-pub plain-accepted : answer false plain .verdict ≡ Accepted
+pub plain-accepted : answer first plain .verdict ≡ Accepted
 unfolding computed plain
 plain-accepted = refl
 
-pub compacting-accepted : answer false compacting .verdict ≡ Accepted
+pub compacting-accepted : answer first compacting .verdict ≡ Accepted
 unfolding computed compacting
 compacting-accepted = refl
 
@@ -43,46 +44,46 @@ compacting-lawful : lawfulVerdict compacting ≡ Accepted
 unfolding computed compacting
 compacting-lawful = refl
 
-test : pagesTest false plain compacting ≡ true
+test : pagesTest first plain compacting ≡ true
 unfolding computed plain compacting
 test = refl
 
-pub plain-to-compacting : RiseHypothesis false plain compacting
-plain-to-compacting = rises-by-test false plain compacting plain-accepted compacting-lawful test
+pub plain-to-compacting : RiseHypothesis first plain compacting
+plain-to-compacting = rises-by-test first plain compacting plain-accepted compacting-lawful test
 
 -- D.0.EBX is FFFFFFFFh, the largest; D.1.EBX is 0 on A, and on B 576 more than 32 bits hold
-plain-state : stateVerdict (rowsIn (built false plain)) 0x7 0 ≡ Accepted
+plain-state : stateVerdict (rowsIn (built first plain)) 0x7 0 ≡ Accepted
 unfolding computed plain
 plain-state = refl
 
-plain-shown : figures (guestTable (built false plain) viewA) ≡ 0x45010000 ∷ 0xBED83203 ∷ 0x12345 ∷ 0x12345 ∷ 0xFFFFFFFF ∷ 0 ∷ []
+plain-shown : figures (guestTable (built first plain) viewA) ≡ 0x45010000 ∷ 0xBED83203 ∷ 0x12345 ∷ 0x12345 ∷ 0xFFFFFFFF ∷ 0 ∷ []
 unfolding computed plain
 plain-shown = refl
 
-compacting-state : stateVerdict (rowsIn (built false compacting)) 0x7 0 ≡ Refused CompactSizeTooLarge
+compacting-state : stateVerdict (rowsIn (built first compacting)) 0x7 0 ≡ Refused CompactSizeTooLarge
 unfolding computed compacting
 compacting-state = refl
 
-pub plain-given : guestPages false plain viewA .verdict ≡ Accepted
-plain-given = seen-verdict false plain viewA plain-accepted plain-state
+pub plain-given : guestPages first plain viewA .verdict ≡ Accepted
+plain-given = seen-verdict first plain viewA plain-accepted plain-state
 
-pub plain-figures : figures (guestPages false plain viewA .table) ≡ 0x45010000 ∷ 0xBED83203 ∷ 0x12345 ∷ 0x12345 ∷ 0xFFFFFFFF ∷ 0 ∷ []
-plain-figures = seen-figures false plain viewA plain-accepted plain-state plain-shown
+pub plain-figures : figures (guestPages first plain viewA .table) ≡ 0x45010000 ∷ 0xBED83203 ∷ 0x12345 ∷ 0x12345 ∷ 0xFFFFFFFF ∷ 0 ∷ []
+plain-figures = seen-figures first plain viewA plain-accepted plain-state plain-shown
 
-pub compacting-refused : guestPages false compacting viewA .verdict ≡ Refused CompactSizeTooLarge
-compacting-refused = seen-verdict false compacting viewA compacting-accepted compacting-state
+pub compacting-refused : guestPages first compacting viewA .verdict ≡ Refused CompactSizeTooLarge
+compacting-refused = seen-verdict first compacting viewA compacting-accepted compacting-state
 
-pub plain-outcome : GuestOutcome (guestPages false plain viewA .table) (guestPages false compacting viewA)
-plain-outcome = guest-rise false plain compacting viewA plain-to-compacting compacting-accepted plain-given
+pub plain-outcome : GuestOutcome (guestPages first plain viewA .table) (guestPages first compacting viewA)
+plain-outcome = guest-rise first plain compacting viewA plain-to-compacting compacting-accepted plain-given
 
 -- without D.2, B's D.1.EBX is a size where A's is 0
-compacting-less-state : stateVerdict (rowsIn (built false compacting)) 0x3 0 ≡ Accepted
+compacting-less-state : stateVerdict (rowsIn (built first compacting)) 0x3 0 ≡ Accepted
 unfolding computed compacting
 compacting-less-state = refl
 
-compacting-less-shown : figures (guestTable (built false compacting) (processor 0 0x3 0 false)) ≡ 0x00010000 ∷ 0xB6D83203 ∷ 0 ∷ 0 ∷ 576 ∷ 576 ∷ []
+compacting-less-shown : figures (guestTable (built first compacting) (processor 0 0x3 0 false)) ≡ 0x00010000 ∷ 0xB6D83203 ∷ 0 ∷ 0 ∷ 576 ∷ 576 ∷ []
 unfolding computed compacting
 compacting-less-shown = refl
 
-pub compacting-less : figures (guestPages false compacting (processor 0 0x3 0 false) .table) ≡ 0x00010000 ∷ 0xB6D83203 ∷ 0 ∷ 0 ∷ 576 ∷ 576 ∷ []
-compacting-less = seen-figures false compacting (processor 0 0x3 0 false) compacting-accepted compacting-less-state compacting-less-shown
+pub compacting-less : figures (guestPages first compacting (processor 0 0x3 0 false) .table) ≡ 0x00010000 ∷ 0xB6D83203 ∷ 0 ∷ 0 ∷ 576 ∷ 576 ∷ []
+compacting-less = seen-figures first compacting (processor 0 0x3 0 false) compacting-accepted compacting-less-state compacting-less-shown

@@ -1,7 +1,7 @@
 -- What a processor's guest sees of a page set: "Building's refusals come first." Then 13 and 14, on the table's own rows.
-use mathlib.Core.Bool.{Bool}
 use mathlib.Core.List.{List}
 use Prim.Native.Nat.{ℕ}
+use Rattle.table.specs.declared.Choices.{Choices}
 use Rattle.table.specs.declared.Verdict.{Verdict}
 use Rattle.table.specs.Refusal.{andThen}
 use Rattle.table.specs.Table.{rowsIn}
@@ -18,9 +18,9 @@ use Rattle.guest.specs.Guest.{answerFor}
 abbrev pub guestOf : Built → Processor → GuestAnswer
 guestOf b v = answerFor (andThen (b .verdict) (stateVerdict (rowsIn (b .table)) (v .xcr0) (v .xss))) (b .table) v
 
-unfoldable pub guestPages : Bool → List ℕ → Processor → GuestAnswer
-guestPages avic s v = guestOf (answer avic s) v
+unfoldable pub guestPages : Choices → List ℕ → Processor → GuestAnswer
+guestPages chosen s v = guestOf (answer chosen s) v
 
 -- the guest's table as an image: 9 comes after all of these, and a refused write changes no lent byte
-unfoldable pub writeGuest : Bool → List ℕ → Processor → List ℕ → AfterWrite
-writeGuest avic s v buffer = writeVerdict (guestPages avic s v .verdict) (image (guestPages avic s v .table)) buffer
+unfoldable pub writeGuest : Choices → List ℕ → Processor → List ℕ → AfterWrite
+writeGuest chosen s v buffer = writeVerdict (guestPages chosen s v .verdict) (image (guestPages chosen s v .table)) buffer

@@ -1,8 +1,8 @@
 -- The ways through: building refuses, or the guest's answer is given on its table; a write, by what the guest was given.
 use mathlib.Core.Path.{_≡_, sym, ap, _∙_}
-use mathlib.Core.Bool.{Bool}
 use mathlib.Core.List.{List}
 use Prim.Native.Nat.{ℕ}
+use Rattle.table.specs.declared.Choices.{Choices}
 use Rattle.table.specs.declared.Refusal.{Refusal}
 use Rattle.table.specs.declared.Verdict.{Verdict}
 use Rattle.table.specs.declared.Verdict.the-variants.{Accepted, Refused}
@@ -34,50 +34,50 @@ module _ (b : Built) (v : Processor) where
   of-accepted e = with-verdict e
 
 -- "Building's refusals come first."
-module _ (avic : Bool) (s : List ℕ) (v : Processor) where
-  pub building-first : (r : Refusal) → answer avic s .verdict ≡ Refused r → guestPages avic s v ≡ refusedAnswer r
+module _ (chosen : Choices) (s : List ℕ) (v : Processor) where
+  pub building-first : (r : Refusal) → answer chosen s .verdict ≡ Refused r → guestPages chosen s v ≡ refusedAnswer r
   unfolding guestPages
-  building-first r = of-refused (answer avic s) v
+  building-first r = of-refused (answer chosen s) v
 
-  pub accepted-guest : answer avic s .verdict ≡ Accepted → guestPages avic s v ≡ guestAnswer (answer avic s .table) v
+  pub accepted-guest : answer chosen s .verdict ≡ Accepted → guestPages chosen s v ≡ guestAnswer (answer chosen s .table) v
   unfolding guestPages
-  accepted-guest = of-accepted (answer avic s) v
+  accepted-guest = of-accepted (answer chosen s) v
 
   -- a view of an accepted page set is that of its table
-  pub guest-verdict : answer avic s .verdict ≡ Accepted
-      → guestPages avic s v .verdict ≡ stateVerdict (rowsIn (answer avic s .table)) (v .xcr0) (v .xss)
+  pub guest-verdict : answer chosen s .verdict ≡ Accepted
+      → guestPages chosen s v .verdict ≡ stateVerdict (rowsIn (answer chosen s .table)) (v .xcr0) (v .xss)
   unfolding guestAnswer
   guest-verdict e = ap (λ (g : GuestAnswer). g .verdict) (accepted-guest e)
 
-  pub given-guest : answer avic s .verdict ≡ Accepted → guestPages avic s v .verdict ≡ Accepted
-      → guestPages avic s v .table ≡ guestTable (answer avic s .table) v
+  pub given-guest : answer chosen s .verdict ≡ Accepted → guestPages chosen s v .verdict ≡ Accepted
+      → guestPages chosen s v .table ≡ guestTable (answer chosen s .table) v
   unfolding guestPages
-  given-guest e f = ap (λ (w : Verdict). tableGiven w (answer avic s .table) v) f
+  given-guest e f = ap (λ (w : Verdict). tableGiven w (answer chosen s .table) v) f
 
-  pub refused-guest : (r : Refusal) → guestPages avic s v .verdict ≡ Refused r → guestPages avic s v ≡ refusedAnswer r
+  pub refused-guest : (r : Refusal) → guestPages chosen s v .verdict ≡ Refused r → guestPages chosen s v ≡ refusedAnswer r
   unfolding guestPages
-  refused-guest r f = ap (λ (w : Verdict). answerFor w (answer avic s .table) v) f
+  refused-guest r f = ap (λ (w : Verdict). answerFor w (answer chosen s .table) v) f
 
   -- in the terms of the code's returns
-  module _ {b : Built} (e : b ≡ answer avic s) where
-    same : guestOf b v ≡ guestPages avic s v
+  module _ {b : Built} (e : b ≡ answer chosen s) where
+    same : guestOf b v ≡ guestPages chosen s v
     unfolding guestPages
     same = ap (λ (w : Built). guestOf w v) e
 
-    pub building-refuses : {r : Refusal} {q : GuestAnswer} → b .verdict ≡ Refused r → q ≡ refusedAnswer r → q ≡ guestPages avic s v
+    pub building-refuses : {r : Refusal} {q : GuestAnswer} → b .verdict ≡ Refused r → q ≡ refusedAnswer r → q ≡ guestPages chosen s v
     building-refuses f g = g ∙ sym (of-refused b v f) ∙ same
 
-    pub building-passes : {q : GuestAnswer} → b .verdict ≡ Accepted → q ≡ guestAnswer (b .table) v → q ≡ guestPages avic s v
+    pub building-passes : {q : GuestAnswer} → b .verdict ≡ Accepted → q ≡ guestAnswer (b .table) v → q ≡ guestPages chosen s v
     building-passes f g = g ∙ sym (of-accepted b v f) ∙ same
 
 -- ---- a write
 
-module _ (avic : Bool) (s : List ℕ) (v : Processor) (buffer : List ℕ) {g : GuestAnswer} (e : g ≡ guestPages avic s v) where
+module _ (chosen : Choices) (s : List ℕ) (v : Processor) (buffer : List ℕ) {g : GuestAnswer} (e : g ≡ guestPages chosen s v) where
   pub write-refused : {r : Refusal} → g .verdict ≡ Refused r
-      → _≡_ {A = AfterWrite} (record { answer = NotWritten r; buffer = buffer }) (writeGuest avic s v buffer)
+      → _≡_ {A = AfterWrite} (record { answer = NotWritten r; buffer = buffer }) (writeGuest chosen s v buffer)
   unfolding writeGuest
   write-refused f = rw (← e, f)
 
-  pub write-given : g .verdict ≡ Accepted → writeFront (image (g .table)) buffer ≡ writeGuest avic s v buffer
+  pub write-given : g .verdict ≡ Accepted → writeFront (image (g .table)) buffer ≡ writeGuest chosen s v buffer
   unfolding writeGuest
   write-given f = rw (← e, f)

@@ -3,15 +3,16 @@
 use buffer::Written;
 use guest::GuestAnswer;
 use guest::Processor;
+use table::Choices;
 use table::Verdict;
 ghost use mathlib.Core.Path.{_≡_};
 ghost use Rattle.guest_pages.specs.GuestPages.{guestPages, writeGuest};
 
 // Builds the table of the given pages, and shows it as the processor's guest sees it.
-pub fn guest_pages(pages: &[u8], secure_avic: bool, v: Processor) -> GuestAnswer
-    ensures { λ r. ⌜ r ≡ guestPages «secure_avic» (now (pages .entry)) v ⌝ }
+pub fn guest_pages(pages: &[u8], choices: Choices, v: Processor) -> GuestAnswer
+    ensures { λ r. ⌜ r ≡ guestPages choices (now (pages .entry)) v ⌝ }
 {
-    let built = build::build(pages, secure_avic);
+    let built = build::build(pages, choices);
     let verdict = built.verdict;
     if let Verdict::Refused(r) = verdict {
         return guest::refused(r);
@@ -21,11 +22,11 @@ pub fn guest_pages(pages: &[u8], secure_avic: bool, v: Processor) -> GuestAnswer
 }
 
 // The same as an image at the front of `out`. A refusal leaves the buffer as it was.
-pub fn write_guest_image(pages: &[u8], secure_avic: bool, v: Processor, out: &mut [u8]) -> Written
-    ensures { λ r. ⌜ r ≡ writeGuest «secure_avic» (now (pages .entry)) v (now (out .entry)) .answer ⌝ }
-    ensures { λ _. ⌜ now (out .exit) ≡ writeGuest «secure_avic» (now (pages .entry)) v (now (out .entry)) .buffer ⌝ }
+pub fn write_guest_image(pages: &[u8], choices: Choices, v: Processor, out: &mut [u8]) -> Written
+    ensures { λ r. ⌜ r ≡ writeGuest choices (now (pages .entry)) v (now (out .entry)) .answer ⌝ }
+    ensures { λ _. ⌜ now (out .exit) ≡ writeGuest choices (now (pages .entry)) v (now (out .entry)) .buffer ⌝ }
 {
-    let seen = guest_pages(pages, secure_avic, v);
+    let seen = guest_pages(pages, choices, v);
     let verdict = seen.verdict;
     if let Verdict::Refused(r) = verdict {
         return Written::Refused(r);

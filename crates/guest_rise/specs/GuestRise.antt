@@ -9,6 +9,7 @@ use Rattle.bits.specs.Bits.{Within}
 use Rattle.masking.specs.Kept.{places}
 use Rattle.masking.specs.Place
 use Rattle.x86defs.specs.declared.CpuidResult.{CpuidResult}
+use Rattle.table.specs.declared.Choices.{Choices}
 use Rattle.table.specs.declared.CpuidResults.{CpuidResults}
 use Rattle.table.specs.declared.Refusal.the-variants.{CompactSizeTooLarge}
 use Rattle.table.specs.declared.Verdict.the-variants.{Accepted, Refused}
@@ -48,5 +49,5 @@ pub data GuestOutcome (a : CpuidResults) (g : GuestAnswer) : Type 0 where
   tooLarge : compactsIn a ≡ false → g .verdict ≡ Refused CompactSizeTooLarge → GuestOutcome a g
 
 abbrev pub GuestRise : Type 0
-GuestRise = (avic : Bool) (a b : List ℕ) (v : Processor) → RiseHypothesis avic a b → answer avic b .verdict ≡ Accepted
-    → guestPages avic a v .verdict ≡ Accepted → GuestOutcome (guestPages avic a v .table) (guestPages avic b v)
+GuestRise = (chosen : Choices) (a b : List ℕ) (v : Processor) → RiseHypothesis chosen a b → answer chosen b .verdict ≡ Accepted
+    → guestPages chosen a v .verdict ≡ Accepted → GuestOutcome (guestPages chosen a v .table) (guestPages chosen b v)

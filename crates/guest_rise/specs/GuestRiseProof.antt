@@ -1,12 +1,13 @@
 -- The headline statements of P3, over page bytes.
 use mathlib.Core.Path.{_≡_, refl, sym, ap, _∙_, subst₂}
-use mathlib.Core.Bool.{Bool, true}
+use mathlib.Core.Bool.{true}
 use mathlib.Core.List.{List}
 use Prim.Native.Nat.{ℕ, _-_, _^_, _<_, min}
 use native.Mathlib.Omega.{arith}
 use lib.Dec.{lit<}
 use Rattle.x86defs.specs.declared.CpuidResult.{CpuidResult}
 use Rattle.masking.specs.Place
+use Rattle.table.specs.declared.Choices.{Choices}
 use Rattle.table.specs.declared.CpuidResults.{CpuidResults}
 use Rattle.table.specs.declared.Verdict.the-variants.{Accepted}
 use Rattle.table.specs.Table.{rowIn, rowsIn}
@@ -27,57 +28,57 @@ use Rattle.guest_rise.specs.GuestTablesRise.{table-outcome, table-compac
 
 -- ---- the rise
 
-module _ (avic : Bool) (a b : List ℕ) (v : Processor) (rises : RiseHypothesis avic a b) (acceptedB : answer avic b .verdict ≡ Accepted)
-    (isGiven : guestPages avic a v .verdict ≡ Accepted) where
+module _ (chosen : Choices) (a b : List ℕ) (v : Processor) (rises : RiseHypothesis chosen a b) (acceptedB : answer chosen b .verdict ≡ Accepted)
+    (isGiven : guestPages chosen a v .verdict ≡ Accepted) where
   abbrev t : CpuidResults
-  t = answer avic a .table
+  t = answer chosen a .table
 
-  tables : TableRises t (answer avic b .table)
-  tables = demand-3 avic a b rises .table acceptedB
+  tables : TableRises t (answer chosen b .table)
+  tables = demand-3 chosen a b rises .table acceptedB
 
   givenA : stateVerdict (rowsIn t) (v .xcr0) (v .xss) ≡ Accepted
-  givenA = sym (guest-verdict avic a v (rises .accepted)) ∙ isGiven
+  givenA = sym (guest-verdict chosen a v (rises .accepted)) ∙ isGiven
 
   allowedA : Allowed (rowsIn t) (v .xcr0) (v .xss)
   allowedA = given-allowed (rowsIn t) (v .xcr0) (v .xss) givenA
 
-  outcome : GuestOutcome (guestPages avic a v .table) (guestPages avic b v)
+  outcome : GuestOutcome (guestPages chosen a v .table) (guestPages chosen b v)
   outcome =
       subst₂ (λ (g h : GuestAnswer). GuestOutcome (g .table) h)
-      (sym (accepted-guest avic a v (rises .accepted))) (sym (accepted-guest avic b v acceptedB))
-      (table-outcome t (answer avic b .table) v tables (built-supplied avic a (rises .accepted)) allowedA givenA)
+      (sym (accepted-guest chosen a v (rises .accepted))) (sym (accepted-guest chosen b v acceptedB))
+      (table-outcome t (answer chosen b .table) v tables (built-supplied chosen a (rises .accepted)) allowedA givenA)
 
   -- where A's D.1.EAX has either bit: given, and the whole of demand 3's comparison, D.0.EBX and D.1.EBX equal in it
   pub guest-rise-whole : compactsIn t ≡ true
-      → (guestPages avic b v .verdict ≡ Accepted) × TableRises (guestPages avic a v .table) (guestPages avic b v .table)
+      → (guestPages chosen b v .verdict ≡ Accepted) × TableRises (guestPages chosen a v .table) (guestPages chosen b v .table)
   guest-rise-whole c =
       subst₂ (λ (g h : GuestAnswer). (h .verdict ≡ Accepted) × TableRises (g .table) (h .table))
-      (sym (accepted-guest avic a v (rises .accepted))) (sym (accepted-guest avic b v acceptedB))
-      (table-compacts t (answer avic b .table) v tables (built-supplied avic a (rises .accepted)) allowedA givenA c)
+      (sym (accepted-guest chosen a v (rises .accepted))) (sym (accepted-guest chosen b v acceptedB))
+      (table-compacts t (answer chosen b .table) v tables (built-supplied chosen a (rises .accepted)) allowedA givenA c)
 
 pub guest-rise : GuestRise
 guest-rise = outcome
 
 -- ---- D.0.EBX of a built table is the size itself, and never passes 32 bits
 
-module _ (avic : Bool) (s : List ℕ) (v : Processor) (accepted : answer avic s .verdict ≡ Accepted)
-    (isGiven : guestPages avic s v .verdict ≡ Accepted) where
+module _ (chosen : Choices) (s : List ℕ) (v : Processor) (accepted : answer chosen s .verdict ≡ Accepted)
+    (isGiven : guestPages chosen s v .verdict ≡ Accepted) where
   abbrev w : CpuidResults
-  w = answer avic s .table
+  w = answer chosen s .table
 
   pub never-overflows : saveArea (rowsIn w) (v .xcr0) < 2 ^ 32
   never-overflows =
-      built-fits avic s accepted (v .xcr0) (given-allowed (rowsIn w) (v .xcr0) (v .xss) (sym (guest-verdict avic s v accepted) ∙ isGiven) .user)
+      built-fits chosen s accepted (v .xcr0) (given-allowed (rowsIn w) (v .xcr0) (v .xss) (sym (guest-verdict chosen s v accepted) ∙ isGiven) .user)
 
-  pub area-seen : rowIn (guestPages avic s v .table) (Place.extendedState 0) .result .ebx ≡ saveArea (rowsIn w) (v .xcr0)
+  pub area-seen : rowIn (guestPages chosen s v .table) (Place.extendedState 0) .result .ebx ≡ saveArea (rowsIn w) (v .xcr0)
   unfolding saveRegister
   area-seen =
-      ap (λ (q : CpuidResults). rowIn q (Place.extendedState 0) .result .ebx) (given-guest avic s v accepted isGiven)
+      ap (λ (q : CpuidResults). rowIn q (Place.extendedState 0) .result .ebx) (given-guest chosen s v accepted isGiven)
       ∙ ap (λ (r : CpuidResult). r .ebx) (seen-there w v (Place.extendedState 0) (lit< tt) there)
       ∙ fits (saveArea (rowsIn w) (v .xcr0)) never-overflows
     where
       there : rowIn w (Place.extendedState 0) .present ≡ true
-      there = built-supplied avic s accepted .required (Place.extendedState 0) (lit< tt) refl
+      there = built-supplied chosen s accepted .required (Place.extendedState 0) (lit< tt) refl
 
       fits : (n : ℕ) → n < 2 ^ 32 → min n (2 ^ 32 - 1) ≡ n
       fits n l = omega arith

@@ -7,6 +7,7 @@ use mathlib.Core.Logic.{_↔_}
 use Prim.Native.Nat.{ℕ, _<_}
 use Rattle.bits.specs.Lists.{keepIf}
 use Rattle.masking.specs.Kept.{places}
+use Rattle.table.specs.declared.Choices.{Choices}
 use Rattle.table.specs.declared.CpuidResults.{CpuidResults}
 use Rattle.table.specs.declared.Verdict.the-variants.{Accepted}
 use Rattle.table.specs.Table.{rowIn}
@@ -43,5 +44,5 @@ pub record SameTable (t u : CpuidResults) : Type 0 where
 
 -- of two accepted page sets, each under a choice of its own
 abbrev pub EqualImages : Type 0
-EqualImages = (avic avic′ : Bool) (s s′ : List ℕ) → answer avic s .verdict ≡ Accepted → answer avic′ s′ .verdict ≡ Accepted
-    → (image (answer avic s .table) ≡ image (answer avic′ s′ .table)) ↔ SameTable (answer avic s .table) (answer avic′ s′ .table)
+EqualImages = (chosen chosen′ : Choices) (s s′ : List ℕ) → answer chosen s .verdict ≡ Accepted → answer chosen′ s′ .verdict ≡ Accepted
+    → (image (answer chosen s .table) ≡ image (answer chosen′ s′ .table)) ↔ SameTable (answer chosen s .table) (answer chosen′ s′ .table)

@@ -12,6 +12,7 @@ use Rattle.topology.specs.Topology.{topologyOf, processors, threadLevel, coreLe
 use Rattle.topology.specs.TopologyLaws.{processors-fit, shift-fits}
 use Rattle.masking.specs.Kept.{places}
 use Rattle.masking.specs.Place
+use Rattle.table.specs.declared.Choices.{Choices}
 use Rattle.table.specs.declared.CpuidResults.{CpuidResults}
 use Rattle.table.specs.declared.Verdict.the-variants.{Accepted}
 use Rattle.table.specs.Rows.{Row, Rows, vacant}
@@ -21,9 +22,8 @@ use Rattle.checks.specs.ExtendedState.{xssOf, xfem, xss, combinedMask}
 use Rattle.checks.specs.TopologyInputs.{inputsOf}
 use Rattle.update.specs.Finish.{settings, finished}
 use Rattle.update.specs.FitLaws.{SettingsFit, finished-fits}
-use Rattle.collect.specs.FirstEntries.{rowsOf}
 use Rattle.collect.specs.RowsFit.{rows-fit}
-use Rattle.build.specs.Build.{answer}
+use Rattle.build.specs.Build.{rowsFor, answer}
 use Rattle.rise.specs.RiseProof.{answer-row, answer-mask}
 use Rattle.rise.specs.Same.{finished-absent}
 use Rattle.rise.specs.BuiltLaws.{area-fits, built-mask}
@@ -37,9 +37,9 @@ threads-fit t = go (eqb t 1)
     go true = record { eax = lit< tt; ebx = lit< tt; ecx = lit< tt; edx = lit< tt }
     go false = record { eax = lit< tt; ebx = lit< tt; ecx = lit< tt; edx = lit< tt }
 
-module _ (avic : Bool) (s : List ℕ) (e : answer avic s .verdict ≡ Accepted) where
+module _ (chosen : Choices) (s : List ℕ) (e : answer chosen s .verdict ≡ Accepted) where
   abbrev m : Rows
-  m = rowsOf avic s
+  m = rowsFor chosen s
 
   cores-fit : Fits (coreLevel (processors (topologyOf (inputsOf m))))
   unfolding inputsOf
@@ -50,14 +50,14 @@ module _ (avic : Bool) (s : List ℕ) (e : answer avic s .verdict ≡ Accepted) 
     edx = lit< tt;
   }
 
-  settings-fit : SettingsFit (settings m)
+  settings-fit : SettingsFit (settings (chosen .edition) m)
   unfolding settings
-  settings-fit = record { area = area-fits avic s e; threads = threads-fit (inputsOf m .t); cores = cores-fit }
+  settings-fit = record { area = area-fits chosen s e; threads = threads-fit (inputsOf m .t); cores = cores-fit }
 
-  pub accepted-plain : Plain (answer avic s .table)
+  pub accepted-plain : Plain (answer chosen s .table)
   accepted-plain = record {
-    absent = λ i h f. answer-row avic s e i h ∙ finished-absent m i (sym (ap (λ (r : Row). r .present) (answer-row avic s e i h)) ∙ f);
-    fits = λ i h. subst (λ (r : Row). Fits (r .result)) (sym (answer-row avic s e i h)) (finished-fits m settings-fit i (rows-fit avic s i));
+    absent = λ i h f. answer-row chosen s e i h ∙ finished-absent (chosen .edition) m i (sym (ap (λ (r : Row). r .present) (answer-row chosen s e i h)) ∙ f);
+    fits = λ i h. subst (λ (r : Row). Fits (r .result)) (sym (answer-row chosen s e i h)) (finished-fits (chosen .edition) m settings-fit i (rows-fit (chosen .«secure_avic») s i));
   }
 
 -- the combined mask, from the table's own rows of D.0 and D.1
@@ -67,12 +67,12 @@ mask-of-rows t u same =
     ap₂ (λ (a b : Row). bitOr (a .result .eax) (xssOf (b .result))) (same (Place.extendedState 0) (lit< tt)) (same (Place.extendedState 1) (lit< tt))
 
 pub equal-images : EqualImages
-equal-images avic avic′ s s′ e e′ = (
+equal-images chosen chosen′ s s′ e e′ = (
   λ i.
-      let same = rows-told (answer avic s .table) (answer avic′ s′ .table) (accepted-plain avic s e) (accepted-plain avic′ s′ e′) i in
+      let same = rows-told (answer chosen s .table) (answer chosen′ s′ .table) (accepted-plain chosen s e) (accepted-plain chosen′ s′ e′) i in
       record {
         rows = same;
-        mask = answer-mask avic s e ∙ sym (built-mask avic s e) ∙ mask-of-rows (answer avic s .table) (answer avic′ s′ .table) same ∙ built-mask avic′ s′ e′ ∙ sym (answer-mask avic′ s′ e′);
+        mask = answer-mask chosen s e ∙ sym (built-mask chosen s e) ∙ mask-of-rows (answer chosen s .table) (answer chosen′ s′ .table) same ∙ built-mask chosen′ s′ e′ ∙ sym (answer-mask chosen′ s′ e′);
       },
-  λ same. same-image (answer avic s .table) (answer avic′ s′ .table) (same .rows),
+  λ same. same-image (answer chosen s .table) (answer chosen′ s′ .table) (same .rows),
 )

@@ -1,9 +1,9 @@
 -- A write, by what building gave: refused and untouched, or the list placed.
 use mathlib.Core.Path.{_≡_}
-use mathlib.Core.Bool.{Bool}
 use mathlib.Core.List.{List}
 use Prim.Native.Nat.{ℕ}
 use Rattle.build.specs.declared.Built.{Built}
+use Rattle.table.specs.declared.Choices.{Choices}
 use Rattle.table.specs.declared.Refusal.{Refusal}
 use Rattle.table.specs.declared.Verdict.the-variants.{Accepted, Refused as NotBuilt}
 use Rattle.build.specs.Build.{answer}
@@ -11,12 +11,12 @@ use Rattle.buffer.specs.declared.Written.the-variants.{Refused}
 use Rattle.buffer.specs.Front.{AfterWrite, writeFront}
 use Rattle.kvm_export.specs.Export.{listOf, writeList}
 
-module _ (avic : Bool) (s buffer : List ℕ) {b : Built} (built : b ≡ answer avic s) where
+module _ (chosen : Choices) (s buffer : List ℕ) {b : Built} (built : b ≡ answer chosen s) where
   pub write-refused : {r : Refusal} → b .verdict ≡ NotBuilt r
-      → _≡_ {A = AfterWrite} (record { answer = Refused r; buffer = buffer }) (writeList avic s buffer)
+      → _≡_ {A = AfterWrite} (record { answer = Refused r; buffer = buffer }) (writeList chosen s buffer)
   unfolding writeList
   write-refused e = rw (← built, e)
 
-  pub write-accepted : b .verdict ≡ Accepted → writeFront (listOf (b .table)) buffer ≡ writeList avic s buffer
+  pub write-accepted : b .verdict ≡ Accepted → writeFront (listOf (b .table)) buffer ≡ writeList chosen s buffer
   unfolding writeList
   write-accepted e = rw (← built, e)

@@ -1,13 +1,13 @@
 -- Document 02, P2: "Write an accepted table as struct kvm_cpuid2: .. flag 1 where the row has a subleaf, else flag and index 0; rows stand in
 -- P1's order. .. Export starts from pages, as the image does, and after building's refusals gives 9 for a short buffer. Lent bytes beyond the
 -- list .. stay." P1's order is that of the places.
-use mathlib.Core.Bool.{Bool}
 use mathlib.Core.List.{List, [], _∷_}
 use Prim.Native.Nat.{ℕ, zero, suc}
 use Rattle.bits.specs.Choice.{pick}
 use Rattle.bits.specs.Lists.{one}
 use Rattle.x86defs.specs.declared.CpuidResult.{CpuidResult}
 use Rattle.masking.specs.Kept.{places, leafAt, indexedAt, subleafAt}
+use Rattle.table.specs.declared.Choices.{Choices}
 use Rattle.table.specs.declared.CpuidResults.{CpuidResults}
 use Rattle.table.specs.Table.{rowIn}
 use Rattle.build.specs.Build.{answer}
@@ -42,5 +42,5 @@ listRows t = rowsFrom t 0 places
 unfoldable pub listOf : CpuidResults → List ℕ
 listOf t = listBytes (listRows t)
 
-unfoldable pub writeList : Bool → List ℕ → List ℕ → AfterWrite
-writeList avic s buffer = writeVerdict (answer avic s .verdict) (listOf (answer avic s .table)) buffer
+unfoldable pub writeList : Choices → List ℕ → List ℕ → AfterWrite
+writeList chosen s buffer = writeVerdict (answer chosen s .verdict) (listOf (answer chosen s .table)) buffer

@@ -7,6 +7,7 @@ use kvm_list::ROW_SIZE;
 use kvm_list::put_zeros;
 use masking::PLACES;
 use masking::Run;
+use table::Choices;
 use table::CpuidResults;
 use table::Refusal;
 use table::Verdict;
@@ -20,11 +21,11 @@ ghost use Rattle.kvm_export.specs.Export.{listOf, writeList};
 ghost use Rattle.kvm_export.specs.Pieces.{rowBytes, runRow, rowsLeft};
 
 // Builds the table of the given pages and writes its list. Building's refusals come first, and leave the buffer as it was.
-pub fn write_list(pages: &[u8], secure_avic: bool, out: &mut [u8]) -> Written
-    ensures { λ r. ⌜ r ≡ writeList «secure_avic» (now (pages .entry)) (now (out .entry)) .answer ⌝ }
-    ensures { λ _. ⌜ now (out .exit) ≡ writeList «secure_avic» (now (pages .entry)) (now (out .entry)) .buffer ⌝ }
+pub fn write_list(pages: &[u8], choices: Choices, out: &mut [u8]) -> Written
+    ensures { λ r. ⌜ r ≡ writeList choices (now (pages .entry)) (now (out .entry)) .answer ⌝ }
+    ensures { λ _. ⌜ now (out .exit) ≡ writeList choices (now (pages .entry)) (now (out .entry)) .buffer ⌝ }
 {
-    let built = build::build(pages, secure_avic);
+    let built = build::build(pages, choices);
     let verdict = built.verdict;
     if let Verdict::Refused(r) = verdict {
         return Written::Refused(r);

@@ -15,7 +15,7 @@ use Rattle.topology.specs.declared.TopologyError.the-variants.{Hyperthreading, 
 use Rattle.table.specs.declared.Subleaf.{Subleaf}
 use Rattle.table.specs.declared.Subleaf.the-variants.{None, Some}
 use Rattle.table.specs.declared.Refusal.{Refusal}
-use Rattle.table.specs.declared.Refusal.the-variants.{PagesLength, PageCount, MissingRequiredResult, InvlpgbUnavailable, SaveAreaOverflow, TopologyInconsistent, BufferTooShort, ListLength, ListRows, ListFields, StateBeyondTable, CompactSizeTooLarge}
+use Rattle.table.specs.declared.Refusal.the-variants.{PagesLength, PageCount, MissingRequiredResult, InvlpgbUnavailable, SaveAreaOverflow, TopologyInconsistent, BufferTooShort, ListLength, ListRows, ListFields, StateBeyondTable, CompactSizeTooLarge, UnknownEdition}
 use Rattle.table.specs.Refusal.{Details, details}
 use Rattle.buffer.specs.declared.Written.the-variants.{Bytes, Refused}
 use Rattle.lines.specs.declared.LineDetails.{LineDetails}
@@ -156,3 +156,4 @@ every-refusal ListRows h = refl
 every-refusal ListFields h = refl
 every-refusal StateBeyondTable h = refl
 every-refusal CompactSizeTooLarge h = refl
+every-refusal UnknownEdition h = refl

@@ -1,5 +1,5 @@
 -- Document 02, P6: "for every number in use by then", and "only where that number names it". Every number in use has its row here: 1 to 9 from
--- document 01, "Where each check stands", 10 to 12 from P2, 13 and 14 from P3. A later number adds its row.
+-- document 01, "Where each check stands", 10 to 12 from P2, 13 and 14 from P3, 15 from P7. A later number adds its row.
 use mathlib.Core.Bool.{true, false}
 use mathlib.Core.List.{List, [], _∷_}
 use Prim.Native.Nat.{ℕ}
@@ -37,6 +37,7 @@ rows =
     nothing ∷  -- 12
     nothing ∷  -- 13
     nothing ∷  -- 14
+    nothing ∷  -- 15
     []
 
 -- what a number names

@@ -39,7 +39,7 @@ const ONLY_S: Named = Named {
 };
 
 // The first number beyond the table.
-const NUMBERS: usize = 15;
+const NUMBERS: usize = 16;
 
 // One row a number, from 0 on.
 const NAMES: [Named; NUMBERS] = [
@@ -51,6 +51,7 @@ const NAMES: [Named; NUMBERS] = [
     NOTHING,
     ONLY_S,
     ONLY_S,
+    NOTHING,
     NOTHING,
     NOTHING,
     NOTHING,

@@ -77,6 +77,7 @@ pub fn refusal_numbers(refusal: Refusal) -> AnswerNumbers
         Refusal::ListFields => sized(12, 0),
         Refusal::StateBeyondTable => sized(13, 0),
         Refusal::CompactSizeTooLarge => sized(14, 0),
+        Refusal::UnknownEdition => sized(15, 0),
     }
 }
 

@@ -1,6 +1,5 @@
 -- Which bytes the output is.
 use mathlib.Core.Path.{_≡_, refl, ap, _∙_}
-use mathlib.Core.Bool.{false}
 use mathlib.Core.List.{List, [], _∷_, _++_}
 use Prim.Native.Nat.{ℕ, _≤_, _<_}
 use lib.Dec.{leb}
@@ -12,7 +11,7 @@ use Rattle.table.specs.declared.Subleaf.the-variants.{None, Some}
 use Rattle.table.specs.declared.Refusal.{Refusal}
 use Rattle.table.specs.declared.Verdict.the-variants.{Accepted, Refused as NotBuilt}
 use Rattle.table.specs.Refusal.{Details, details}
-use Rattle.build.specs.Build.{answer}
+use Rattle.build.specs.Build.{underEdition, answer}
 use Rattle.numbers.specs.declared.AnswerNumbers.{AnswerNumbers}
 use Rattle.numbers.specs.Numbers.{detailNumbers, refusalNumbers}
 use Rattle.buffer.specs.Front.{bytesOf}
@@ -33,7 +32,7 @@ code-of (Some k) number leaf t = refl
 number-bytes : (d : Details) → numberBytes (detailNumbers d) ≡ refusalBytes d
 number-bytes d = ap (λ (k : ℕ). 3 ∷ d .number ∷ bytesOf (d .leaf) ++ bytesOf k ++ (d .s ∷ [])) (code-of (d .subleaf) (d .number) (d .leaf) (d .s))
 
-module _ (s : List ℕ) (short : length s ≤ longestInput) {b : Built} (built : b ≡ answer false s) where
+module _ (s : List ℕ) (short : length s ≤ longestInput) {b : Built} (built : b ≡ answer (underEdition 1) s) where
   pub output-refused : (r : Refusal) (n : AnswerNumbers) → b .verdict ≡ NotBuilt r → n ≡ refusalNumbers r → numberBytes n ≡ output s
   unfolding output
   output-refused r n e p = ap numberBytes p ∙ number-bytes (details r) ∙ rw (le-leb (length s) longestInput short, ← built, e)

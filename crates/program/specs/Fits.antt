@@ -14,7 +14,7 @@ use Rattle.table.specs.declared.Refusal.{Refusal}
 use Rattle.buffer.specs.declared.Written.{Written}
 use Rattle.buffer.specs.declared.Written.the-variants.{Bytes, Refused as NotWritten}
 use Rattle.buffer.specs.Front.{AfterWrite, writeFront}
-use Rattle.build.specs.Build.{answer}
+use Rattle.build.specs.Build.{underEdition, answer}
 use Rattle.image.specs.Image.{image}
 use Rattle.counts.specs.Counts.{Counted}
 use Rattle.counts.specs.CountsProof.{rows-counted}
@@ -26,10 +26,10 @@ room = 1024
 
 pub output-fits : (s : List ℕ) → length (output s) ≤ room
 unfolding output
-output-fits s = go (leb (length s) longestInput) (answer false s .verdict) refl
+output-fits s = go (leb (length s) longestInput) (answer (underEdition 1) s .verdict) refl
   where
-    go : (b : Bool) (v : Verdict) → answer false s .verdict ≡ v → length (pick b (outputFor v (image (answer false s .table))) (4 ∷ [])) ≤ room
-    go true Accepted e = let c : Counted false s = rows-counted false s e in omega (arith, c .bytes, components-most (c .mask))
+    go : (b : Bool) (v : Verdict) → answer (underEdition 1) s .verdict ≡ v → length (pick b (outputFor v (image (answer (underEdition 1) s .table))) (4 ∷ [])) ≤ room
+    go true Accepted e = let c : Counted (underEdition 1) s = rows-counted (underEdition 1) s e in omega (arith, c .bytes, components-most (c .mask))
     go true (Refused r) e = lit≤ tt
     go false v e = lit≤ tt
 

@@ -1,6 +1,6 @@
 -- Document 01, "Image and lookup": a program reads up to 65,536 bytes, secure AVIC off, and writes the image; on a refusal, byte 3, the
 -- number (1 byte), leaf, subleaf (4 bytes each, little-endian, none FFFFFFFFh), s (1 byte); on longer input, byte 4.
-use mathlib.Core.Bool.{false}
+-- "The program keeps edition 1" (document 02, P7).
 use mathlib.Core.List.{List, [], _∷_, _++_}
 use Prim.Native.Nat.{ℕ}
 use lib.Dec.{leb}
@@ -11,7 +11,7 @@ use Rattle.table.specs.declared.Subleaf.the-variants.{None, Some}
 use Rattle.table.specs.declared.Verdict.{Verdict}
 use Rattle.table.specs.declared.Verdict.the-variants.{Accepted, Refused}
 use Rattle.table.specs.Refusal.{Details, details}
-use Rattle.build.specs.Build.{answer}
+use Rattle.build.specs.Build.{underEdition, answer}
 use Rattle.buffer.specs.Front.{bytesOf}
 use Rattle.image.specs.Image.{image}
 
@@ -30,4 +30,4 @@ outputFor Accepted bytes = bytes
 outputFor (Refused r) bytes = refusalBytes (details r)
 
 unfoldable pub output : List ℕ → List ℕ
-output s = pick (leb (length s) longestInput) (outputFor (answer false s .verdict) (image (answer false s .table))) (4 ∷ [])
+output s = pick (leb (length s) longestInput) (outputFor (answer (underEdition 1) s .verdict) (image (answer (underEdition 1) s .table))) (4 ∷ [])

@@ -1,6 +1,7 @@
 // The program's output. Input bytes come in; the image, or the bytes that say why there is none, go out.
 use buffer::Written;
 use numbers::AnswerNumbers;
+use table::Choices;
 use table::Refusal;
 use table::Verdict;
 ghost use mathlib.Core.Path.{_≡_};
@@ -12,6 +13,12 @@ ghost use Rattle.program.specs.Bytes.{codeOf, numberBytes};
 ghost use Rattle.program.specs.Fits.{room};
 
 const LONGEST_INPUT: usize = 65536;
+
+// Secure AVIC off, edition 1.
+const CHOICES: Choices = Choices {
+    secure_avic: false,
+    edition: 1,
+};
 
 const REFUSAL_BYTES: usize = 11;
 
@@ -38,7 +45,7 @@ pub fn write_output(input: &[u8], out: &mut [u8]) -> Written
     if input.len() > LONGEST_INPUT {
         return put_too_long(out);
     }
-    let built = build::build(input, false);
+    let built = build::build(input, CHOICES);
     let verdict = built.verdict;
     if let Verdict::Refused(refusal) = verdict {
         return put_refusal(numbers::refusal_numbers(refusal), out);

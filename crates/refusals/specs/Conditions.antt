@@ -1,6 +1,6 @@
--- The conditions of document 01's table "Where each check stands", each stated by itself.
+-- The conditions of document 01's table "Where each check stands", each stated by itself, with those of document 02 that building gives.
 use mathlib.Core.Path.{_≡_}
-use mathlib.Core.Bool.{Bool, true, false}
+use mathlib.Core.Bool.{true, false}
 use mathlib.Core.List.{List}
 use mathlib.Core.Logic.{_⊎_, _≢_}
 use Prim.Native.Nat.{ℕ, _+_, _/_, _%_, _^_, _≤_, _<_}
@@ -13,14 +13,19 @@ use Rattle.pages.specs.Layout.{countOf}
 use Rattle.topology.specs.declared.TopologyError.the-variants.{Hyperthreading, ProcessorCount, ThreadsPerUnit}
 use Rattle.topology.specs.Topology.{Inputs}
 use Rattle.masking.specs.Place
+use Rattle.table.specs.declared.Choices.{Choices}
 use Rattle.table.specs.declared.Subleaf.the-variants.{Some}
 use Rattle.table.specs.declared.Refusal.{Refusal}
-use Rattle.table.specs.declared.Refusal.the-variants.{PagesLength, PageCount, MissingRequiredResult, InvlpgbUnavailable, SaveAreaOverflow, TopologyInconsistent}
+use Rattle.table.specs.declared.Refusal.the-variants.{PagesLength, PageCount, MissingRequiredResult, InvlpgbUnavailable, SaveAreaOverflow, TopologyInconsistent, UnknownEdition}
 use Rattle.table.specs.Rows.{Rows}
 use Rattle.checks.specs.Required.{requiredAt, requiredCount, placeRequired}
 use Rattle.checks.specs.ExtendedState.{xfem, combinedMask}
 use Rattle.checks.specs.TopologyInputs.{inputsOf}
-use Rattle.collect.specs.FirstEntries.{rowsOf}
+use Rattle.build.specs.Build.{rowsFor}
+
+-- 15. document 02, P7: "an edition other than 1 or 2", before all others
+abbrev pub EditionFault : ℕ → Type 0
+EditionFault n = (n ≢ 1) × (n ≢ 2)
 
 -- 1. length: "0, or not a multiple of 4,096"
 abbrev pub LengthFault : List ℕ → Type 0
@@ -84,30 +89,32 @@ ThreadsFault i = (1 < i .t) ⊎ (processorsSaid i ≤ i .t)
 
 -- the checks in order. 6 and 7 exclude each other where s = 0; where s is 1 to 7, 7 comes first
 pub data Check : Type 0 where
-  pagesLength pageCounts requiredLeaves invlpgb components saveArea processorCount hyperthreading threadsPerUnit : Check
+  edition pagesLength pageCounts requiredLeaves invlpgb components saveArea processorCount hyperthreading threadsPerUnit : Check
 
 abbrev pub rank : Check → ℕ
-rank pagesLength = 0
-rank pageCounts = 1
-rank requiredLeaves = 2
-rank invlpgb = 3
-rank components = 4
-rank saveArea = 5
-rank processorCount = 6
-rank hyperthreading = 7
-rank threadsPerUnit = 8
+rank edition = 0
+rank pagesLength = 1
+rank pageCounts = 2
+rank requiredLeaves = 3
+rank invlpgb = 4
+rank components = 5
+rank saveArea = 6
+rank processorCount = 7
+rank hyperthreading = 8
+rank threadsPerUnit = 9
 
--- the condition of a check holds of a page set's bytes, and the refusal names these details
-abbrev pub Fault : Bool → List ℕ → Check → Refusal → Type 0
-Fault avic s pagesLength r = LengthFault s × (r ≡ PagesLength)
-Fault avic s pageCounts r = CountFault s × (r ≡ PageCount)
-Fault avic s requiredLeaves r =
-    (j : ℕ) × RequiredFault (rowsOf avic s) j × (r ≡ MissingRequiredResult (requiredAt j .leaf) (requiredAt j .subleaf))
-Fault avic s invlpgb r = InvlpgbFault (rowsOf avic s) × (r ≡ InvlpgbUnavailable)
-Fault avic s components r = (k : ℕ) × ComponentFault (rowsOf avic s) k × (r ≡ MissingRequiredResult ExtendedStateEnumeration (Some k))
-Fault avic s saveArea r = AreaFault (rowsOf avic s) × (r ≡ SaveAreaOverflow)
-Fault avic s processorCount r =
-    ProcessorCountFault (inputsOf (rowsOf avic s)) × (r ≡ TopologyInconsistent (ProcessorCount (inputsOf (rowsOf avic s) .s)))
-Fault avic s hyperthreading r =
-    HyperthreadingFault (inputsOf (rowsOf avic s)) × (r ≡ TopologyInconsistent (Hyperthreading (inputsOf (rowsOf avic s) .s)))
-Fault avic s threadsPerUnit r = ThreadsFault (inputsOf (rowsOf avic s)) × (r ≡ TopologyInconsistent ThreadsPerUnit)
+-- the condition of a check holds of a page set's bytes under the caller's choices, and the refusal names these details
+abbrev pub Fault : Choices → List ℕ → Check → Refusal → Type 0
+Fault chosen s edition r = EditionFault (chosen .edition) × (r ≡ UnknownEdition)
+Fault chosen s pagesLength r = LengthFault s × (r ≡ PagesLength)
+Fault chosen s pageCounts r = CountFault s × (r ≡ PageCount)
+Fault chosen s requiredLeaves r =
+    (j : ℕ) × RequiredFault (rowsFor chosen s) j × (r ≡ MissingRequiredResult (requiredAt j .leaf) (requiredAt j .subleaf))
+Fault chosen s invlpgb r = InvlpgbFault (rowsFor chosen s) × (r ≡ InvlpgbUnavailable)
+Fault chosen s components r = (k : ℕ) × ComponentFault (rowsFor chosen s) k × (r ≡ MissingRequiredResult ExtendedStateEnumeration (Some k))
+Fault chosen s saveArea r = AreaFault (rowsFor chosen s) × (r ≡ SaveAreaOverflow)
+Fault chosen s processorCount r =
+    ProcessorCountFault (inputsOf (rowsFor chosen s)) × (r ≡ TopologyInconsistent (ProcessorCount (inputsOf (rowsFor chosen s) .s)))
+Fault chosen s hyperthreading r =
+    HyperthreadingFault (inputsOf (rowsFor chosen s)) × (r ≡ TopologyInconsistent (Hyperthreading (inputsOf (rowsFor chosen s) .s)))
+Fault chosen s threadsPerUnit r = ThreadsFault (inputsOf (rowsFor chosen s)) × (r ≡ TopologyInconsistent ThreadsPerUnit)

@@ -1,4 +1,4 @@
--- Checks 1 and 2: the verdicts on a page set's length and on its counts decide their conditions.
+-- Checks 15, 1 and 2: the verdicts on the edition, on a page set's length and on its counts decide their conditions.
 use mathlib.Core.Path.{_≡_, refl}
 use mathlib.Core.Bool.{Bool, true, false, not, _||_}
 use mathlib.Core.List.{List}
@@ -11,11 +11,22 @@ use borrow.Author.Tests.{eqb-true, eqb-false, leb-true, leb-false}
 use Rattle.bits.specs.Search.{every}
 use Rattle.bits.specs.SearchLaws.{every-at, every-fails}
 use Rattle.pages.specs.Layout.{pageSize, mostEntries, pagesIn, countOf, badLength, countsFit}
-use Rattle.table.specs.declared.Refusal.the-variants.{PagesLength, PageCount}
+use Rattle.table.specs.declared.Refusal.the-variants.{PagesLength, PageCount, UnknownEdition}
+use Rattle.table.specs.Edition.{knownEdition}
 use Rattle.checks.specs.Checks.{refuseUnless}
-use Rattle.build.specs.Build.{lengthVerdict, countsVerdict}
-use Rattle.refusals.specs.Conditions.{LengthFault, CountFault}
+use Rattle.build.specs.Build.{editionVerdict, lengthVerdict, countsVerdict}
+use Rattle.refusals.specs.Conditions.{EditionFault, LengthFault, CountFault}
 use Rattle.refusals.specs.Settles.{Settles, never, holds}
+
+pub edition-decides : (n : ℕ) → Settles (λ q. EditionFault n × (q ≡ UnknownEdition)) (editionVerdict n)
+unfolding editionVerdict knownEdition
+edition-decides n = go (eqb n 1) (eqb n 2) refl refl
+  where
+    go : (one two : Bool) → eqb n 1 ≡ one → eqb n 2 ≡ two
+        → Settles (λ q. EditionFault n × (q ≡ UnknownEdition)) (refuseUnless (one || two) UnknownEdition)
+    go true two p q = never (λ f. f .0 (eqb-true _ _ p))
+    go false true p q = never (λ f. f .1 (eqb-true _ _ q))
+    go false false p q = holds (eqb-false _ _ p, eqb-false _ _ q)
 
 pub length-decides : (s : List ℕ) → Settles (λ q. LengthFault s × (q ≡ PagesLength)) (lengthVerdict s)
 unfolding lengthVerdict badLength

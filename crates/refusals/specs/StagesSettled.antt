@@ -1,6 +1,5 @@
--- The answer's verdict is the verdicts of the nine checks in the order of their ranks, and so refuses exactly at the first fault.
+-- The answer's verdict is the verdicts of the ten checks in the order of their ranks, and so refuses exactly at the first fault.
 use mathlib.Core.Path.{_≡_, refl, sym, ap, _∙_}
-use mathlib.Core.Bool.{Bool}
 use mathlib.Core.List.{List, [], _∷_}
 use mathlib.Core.Logic.{inl, inr}
 use Prim.Native.Nat.{ℕ, zero, suc, _≤_, _<_}
@@ -10,6 +9,7 @@ use lib.Dec.{eqb, lit<}
 use lib.ListN.{getD}
 use borrow.Author.Tests.{eqb-true}
 use Rattle.bits.specs.SearchLaws.{every-at}
+use Rattle.table.specs.declared.Choices.{Choices}
 use Rattle.table.specs.declared.Refusal.{Refusal}
 use Rattle.table.specs.declared.Verdict.{Verdict}
 use Rattle.table.specs.declared.Verdict.the-variants.{Accepted, Refused}
@@ -17,25 +17,25 @@ use Rattle.table.specs.Refusal.{andThen}
 use Rattle.table.specs.Rows.{Rows}
 use Rattle.checks.specs.TopologyInputs.{inputsOf}
 use Rattle.checks.specs.Checks.{requiredVerdict, invlpgbVerdict, componentsVerdict, areaVerdict, rowsVerdict}
-use Rattle.collect.specs.FirstEntries.{rowsOf}
-use Rattle.build.specs.Build.{lengthVerdict, countsVerdict, lawfulVerdict, verdictOf, answer}
+use Rattle.build.specs.Build.{rowsFor, editionVerdict, lengthVerdict, countsVerdict, lawfulVerdict, verdictOf, answer}
 use Rattle.refusals.specs.Conditions.{Check, rank, Fault, processorsSaid}
-use Rattle.refusals.specs.Conditions.Check.{pagesLength, pageCounts, requiredLeaves, invlpgb, components, saveArea, processorCount, hyperthreading, threadsPerUnit}
+use Rattle.refusals.specs.Conditions.Check.{edition, pagesLength, pageCounts, requiredLeaves, invlpgb, components, saveArea, processorCount, hyperthreading, threadsPerUnit}
 use Rattle.refusals.specs.Exactly.{FirstFault}
 use Rattle.refusals.specs.Settles.{Settles, decided-unique}
 use Rattle.refusals.specs.Settles.Settles.{passes, refuses}
-use Rattle.refusals.specs.PagesSettled.{length-decides, counts-decide}
+use Rattle.refusals.specs.PagesSettled.{edition-decides, length-decides, counts-decide}
 use Rattle.refusals.specs.RequiredSettled.{required-decides, invlpgb-decides}
 use Rattle.refusals.specs.ExtendedStateSettled.{components-decide, area-decides}
 use Rattle.refusals.specs.TopologySettled.{processorCountVerdict, hyperthreadingVerdict, threadsVerdict, topology-in-order, mt-lt, processor-count-decides, hyperthreading-decides, threads-decide}
 
 -- ---- the verdict of each check
 
-module _ (avic : Bool) (s : List ℕ) where
+module _ (chosen : Choices) (s : List ℕ) where
   abbrev rows : Rows
-  rows = rowsOf avic s
+  rows = rowsFor chosen s
 
   abbrev stage : Check → Verdict
+  stage edition = editionVerdict (chosen .edition)
   stage pagesLength = lengthVerdict s
   stage pageCounts = countsVerdict s
   stage requiredLeaves = requiredVerdict rows
@@ -46,7 +46,8 @@ module _ (avic : Bool) (s : List ℕ) where
   stage hyperthreading = hyperthreadingVerdict (inputsOf rows)
   stage threadsPerUnit = threadsVerdict (processorsSaid (inputsOf rows)) (inputsOf rows .t)
 
-  stage-decides : (c : Check) → Settles (Fault avic s c) (stage c)
+  stage-decides : (c : Check) → Settles (Fault chosen s c) (stage c)
+  stage-decides edition = edition-decides (chosen .edition)
   stage-decides pagesLength = length-decides s
   stage-decides pageCounts = counts-decide s
   stage-decides requiredLeaves = required-decides rows
@@ -61,7 +62,8 @@ module _ (avic : Bool) (s : List ℕ) where
 
 checks : List Check
 checks =
-    pagesLength
+    edition
+    ∷ pagesLength
     ∷ pageCounts
     ∷ requiredLeaves
     ∷ invlpgb
@@ -76,10 +78,11 @@ checkAt : ℕ → Check
 checkAt n = getD checks n threadsPerUnit
 
 abbrev pub checkCount : ℕ
-checkCount = 9
+checkCount = 10
 
 check-rank : (c : Check) → (rank c < checkCount) × (checkAt (rank c) ≡ c)
 unfolding checkAt checks
+check-rank edition = (lit< tt, refl)
 check-rank pagesLength = (lit< tt, refl)
 check-rank pageCounts = (lit< tt, refl)
 check-rank requiredLeaves = (lit< tt, refl)
@@ -107,31 +110,31 @@ then-assoc : (u v w : Verdict) → andThen (andThen u v) w ≡ andThen u (andThe
 then-assoc Accepted v w = refl
 then-assoc (Refused r) v w = refl
 
-module _ (avic : Bool) (s : List ℕ) where
+module _ (chosen : Choices) (s : List ℕ) where
   -- the verdict of the checks whose rank is below n
   stagesBelow : ℕ → Verdict
   stagesBelow zero = Accepted
-  stagesBelow (suc n) = andThen (stagesBelow n) (stage avic s (checkAt n))
+  stagesBelow (suc n) = andThen (stagesBelow n) (stage chosen s (checkAt n))
 
-  verdict-in-order : verdictOf avic s ≡ stagesBelow checkCount
+  verdict-in-order : verdictOf chosen s ≡ stagesBelow checkCount
   unfolding verdictOf lawfulVerdict rowsVerdict stagesBelow checkAt checks
   verdict-in-order = simp (topology-in-order, then-assoc)
 
   -- there is one first fault at most
-  pub first-fault-unique : (q r : Refusal) → FirstFault avic s q → FirstFault avic s r → q ≡ r
+  pub first-fault-unique : (q r : Refusal) → FirstFault chosen s q → FirstFault chosen s r → q ≡ r
   first-fault-unique q r f g =
       let a : ¬ (rank (f .check) < rank (g .check)) = λ h. g .first (f .check) q h (f .fault) in
       let b : ¬ (rank (g .check) < rank (f .check)) = λ h. f .first (g .check) r h (g .fault) in
       let e : f .check ≡ g .check = rank-unique (f .check) (g .check) (omega arith) in
-      decided-unique (stage-decides avic s (g .check)) q r (rw e at (f .fault)) (g .fault)
+      decided-unique (stage-decides chosen s (g .check)) q r (rw e at (f .fault)) (g .fault)
 
   -- what a verdict on the checks of rank below n says
   pub data Judged (n : ℕ) (v : Verdict) : Type 0 where
-    accepted : v ≡ Accepted → ((c : Check) (r : Refusal) → rank c < n → Fault avic s c r → ⊥) → Judged n v
-    refused : (r : Refusal) → v ≡ Refused r → FirstFault avic s r → Judged n v
+    accepted : v ≡ Accepted → ((c : Check) (r : Refusal) → rank c < n → Fault chosen s c r → ⊥) → Judged n v
+    refused : (r : Refusal) → v ≡ Refused r → FirstFault chosen s r → Judged n v
 
   -- one check more, after a verdict u on those of rank below n
-  judged-step : (n : ℕ) (u v : Verdict) → n < checkCount → Judged n u → Settles (Fault avic s (checkAt n)) v
+  judged-step : (n : ℕ) (u v : Verdict) → n < checkCount → Judged n u → Settles (Fault chosen s (checkAt n)) v
       → Judged (suc n) (andThen u v)
   judged-step n u v l (refused r e f) d = refused r (rw e) f
   judged-step n u v l (accepted e none) (refuses r p f one) =
@@ -145,8 +148,8 @@ module _ (avic : Bool) (s : List ℕ) where
   stages-judged : (n : ℕ) → n ≤ checkCount → Judged n (stagesBelow n)
   unfolding stagesBelow
   stages-judged zero l = accepted refl (λ c r b. absurd (omega arith))
-  stages-judged (suc n) l = judged-step n _ _ l (stages-judged n (omega arith)) (stage-decides avic s (checkAt n))
+  stages-judged (suc n) l = judged-step n _ _ l (stages-judged n (omega arith)) (stage-decides chosen s (checkAt n))
 
-  pub answer-judged : Judged checkCount (answer avic s .verdict)
+  pub answer-judged : Judged checkCount (answer chosen s .verdict)
   unfolding answer
   answer-judged = rw verdict-in-order (stages-judged checkCount (le-refl checkCount))

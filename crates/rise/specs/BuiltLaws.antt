@@ -12,6 +12,7 @@ use Rattle.bits.specs.Bits.{has}
 use Rattle.x86defs.specs.declared.CpuidResult.{CpuidResult}
 use Rattle.masking.specs.Kept.{places}
 use Rattle.masking.specs.Place
+use Rattle.table.specs.declared.Choices.{Choices}
 use Rattle.table.specs.declared.CpuidResults.{CpuidResults}
 use Rattle.table.specs.declared.Verdict.the-variants.{Accepted}
 use Rattle.table.specs.Rows.{Row, Rows}
@@ -26,9 +27,8 @@ use Rattle.checks.specs.ChecksLaws.{AllPass, all-pass, required-present, then-r
 use Rattle.update.specs.Finish.{ruleAt, settings, enabledBy, finish, finished, unlessNoXss}
 use Rattle.update.specs.PlaceLaws.{always, position, always-required}
 use Rattle.update.specs.RemainsLaws.{finished-present, finished-result, always-remains}
-use Rattle.collect.specs.FirstEntries.{rowsOf}
-use Rattle.build.specs.Build.{lawfulVerdict, verdictOf, answer}
-use Rattle.rise.specs.RiseProof.{answer-row}
+use Rattle.build.specs.Build.{rowsFor, lawfulVerdict, verdictOf, answer}
+use Rattle.rise.specs.RiseProof.{answer-row, accepted-rows}
 
 -- a size that passes the check fits 32 bits
 size-fits : (n : ℕ) (z : Size) → z ≡ sizeOf n → sizeVerdict z ≡ Accepted → n < 2 ^ 32
@@ -39,35 +39,34 @@ twice : (p : Bool) (x : ℕ) → pick p (pick p x 0) 0 ≡ pick p x 0
 twice true x = refl
 twice false x = refl
 
-module _ (avic : Bool) (s : List ℕ) (e : answer avic s .verdict ≡ Accepted) where
+module _ (chosen : Choices) (s : List ℕ) (e : answer chosen s .verdict ≡ Accepted) where
   abbrev m : Rows
-  m = rowsOf avic s
+  m = rowsFor chosen s
 
   abbrev t : CpuidResults
-  t = answer avic s .table
+  t = answer chosen s .table
 
   pub accepted-passes : AllPass m
-  unfolding answer verdictOf
-  accepted-passes = all-pass m (then-right (lawfulVerdict s) _ e)
+  accepted-passes = all-pass m (accepted-rows chosen s e)
 
   pub area-fits : saveArea m (xfem m) < 2 ^ 32
   unfolding areaVerdict
   area-fits = size-fits (saveArea m (xfem m)) (sizeOf (saveArea m (xfem m))) refl (accepted-passes .area)
 
-  pub always-finished : (i : ℕ) → i < places → always (ruleAt i) ≡ true → finished m i .present ≡ true
+  pub always-finished : (i : ℕ) → i < places → always (ruleAt i) ≡ true → finished (chosen .edition) m i .present ≡ true
   always-finished i l f =
-      finished-present m i
-      ∙ always-remains (settings m) (λ j. m j .present) i l f
+      finished-present (chosen .edition) m i
+      ∙ always-remains (settings (chosen .edition) m) (λ j. m j .present) i l f
       ∙ subst (λ (n : ℕ). m n .present ≡ true) (always-required i l f .1)
       (required-present m (accepted-passes .required) (position i) (always-required i l f .0))
 
-  pub result-at : (i : ℕ) → i < places → finished m i .present ≡ true → rowIn t i .result ≡ finish (settings m) (ruleAt i) (m i .result)
-  result-at i l f = ap (λ (r : Row). r .result) (answer-row avic s e i l) ∙ finished-result m i f
+  pub result-at : (i : ℕ) → i < places → finished (chosen .edition) m i .present ≡ true → rowIn t i .result ≡ finish (settings (chosen .edition) m) (ruleAt i) (m i .result)
+  result-at i l f = ap (λ (r : Row). r .result) (answer-row chosen s e i l) ∙ finished-result (chosen .edition) m i f
 
-  state0 : rowIn t (Place.extendedState 0) .result ≡ finish (settings m) (ruleAt (Place.extendedState 0)) (m (Place.extendedState 0) .result)
+  state0 : rowIn t (Place.extendedState 0) .result ≡ finish (settings (chosen .edition) m) (ruleAt (Place.extendedState 0)) (m (Place.extendedState 0) .result)
   state0 = result-at (Place.extendedState 0) (lit< tt) (always-finished (Place.extendedState 0) (lit< tt) refl)
 
-  state1 : rowIn t (Place.extendedState 1) .result ≡ finish (settings m) (ruleAt (Place.extendedState 1)) (m (Place.extendedState 1) .result)
+  state1 : rowIn t (Place.extendedState 1) .result ≡ finish (settings (chosen .edition) m) (ruleAt (Place.extendedState 1)) (m (Place.extendedState 1) .result)
   state1 = result-at (Place.extendedState 1) (lit< tt) (always-finished (Place.extendedState 1) (lit< tt) refl)
 
   pub built-xfem : xfem (rowsIn t) ≡ xfem m

@@ -14,14 +14,14 @@ use Rattle.bits.specs.Bits.{bit}
 use Rattle.bits.specs.BitsLaws.{within-of-and, and-of-within}
 use Rattle.x86defs.specs.declared.CpuidResult.{CpuidResult}
 use Rattle.masking.specs.Kept.{places}
+use Rattle.table.specs.declared.Choices.{Choices}
 use Rattle.table.specs.declared.Verdict.the-variants.{Accepted}
 use Rattle.table.specs.Rows.{Row, Rows}
 use Rattle.update.specs.Finish.{ruleAt}
 use Rattle.update.specs.Kinds.{Kind, Kinds, EntryAtLeast, Registers, kindsAt, fromEntry}
 use Rattle.update.specs.Kinds.Kind.{feature, featureBut28, area, freed, other}
 use Rattle.table.specs.Table.{rowIn}
-use Rattle.collect.specs.FirstEntries.{rowsOf}
-use Rattle.build.specs.Build.{lawfulVerdict, answer}
+use Rattle.build.specs.Build.{rowsFor, lawfulVerdict, answer}
 use Rattle.rise.specs.Rise.{EntryRises, RiseHypothesis}
 
 -- whether a register of B's entry is as the hypothesis wants it
@@ -97,17 +97,17 @@ module _ (inA : ℕ → Bool) (A B : Rows) (i : ℕ) where
       go true f false p = refl
       go false f p e = refl
 
-abbrev pub inTable : Bool → List ℕ → ℕ → Bool
-inTable avic a i = rowIn (answer avic a .table) i .present
+abbrev pub inTable : Choices → List ℕ → ℕ → Bool
+inTable chosen a i = rowIn (answer chosen a .table) i .present
 
-abbrev pub pagesTest : Bool → List ℕ → List ℕ → Bool
-pagesTest avic a b = every (placeTest (inTable avic a) (rowsOf avic a) (rowsOf avic b)) places
+abbrev pub pagesTest : Choices → List ℕ → List ℕ → Bool
+pagesTest chosen a b = every (placeTest (inTable chosen a) (rowsFor chosen a) (rowsFor chosen b)) places
 
-pub rises-by-test : (avic : Bool) (a b : List ℕ) → answer avic a .verdict ≡ Accepted → lawfulVerdict b ≡ Accepted → pagesTest avic a b ≡ true
-    → RiseHypothesis avic a b
-rises-by-test avic a b v l t = record { accepted = v; lawful = l; entries = at-place }
+pub rises-by-test : (chosen : Choices) (a b : List ℕ) → answer chosen a .verdict ≡ Accepted → lawfulVerdict b ≡ Accepted → pagesTest chosen a b ≡ true
+    → RiseHypothesis chosen a b
+rises-by-test chosen a b v l t = record { accepted = v; lawful = l; entries = at-place }
   where
-    at-place : (i : ℕ) → i < places → fromEntry (ruleAt i) ≡ true → inTable avic a i ≡ true → EntryRises i (rowsOf avic a i) (rowsOf avic b i)
+    at-place : (i : ℕ) → i < places → fromEntry (ruleAt i) ≡ true → inTable chosen a i ≡ true → EntryRises i (rowsFor chosen a i) (rowsFor chosen b i)
     at-place i u f p =
-        place-rises (inTable avic a) (rowsOf avic a) (rowsOf avic b) i
-        (every-at (placeTest (inTable avic a) (rowsOf avic a) (rowsOf avic b)) places t i u) f p
+        place-rises (inTable chosen a) (rowsFor chosen a) (rowsFor chosen b) i
+        (every-at (placeTest (inTable chosen a) (rowsFor chosen a) (rowsFor chosen b)) places t i u) f p

@@ -1,4 +1,5 @@
--- Demand 3, for any two page sets A and B under the same secure-AVIC choice. "Let A be accepted and B of lawful length and counts, and
+-- Demand 3, for any two page sets A and B under the same choices of secure AVIC and edition (document 02, P7: "proved for any edition, the same
+-- for A and B, in one argument"). "Let A be accepted and B of lawful length and counts, and
 -- let B have, for every row of A's table but 0 and 80000000h, a first counted entry with at least the bits of A's in document 01's
 -- feature registers and equal in all others that it doesn't free. Then B is refused exactly when a leaf 0xD subleaf that its own mask
 -- needs has no counted entry, by refusal 3, or else a size overflows, by 5; and if accepted its table has every row of A's, beyond these
@@ -16,6 +17,7 @@ use Rattle.pages.specs.Entries.{counted}
 use Rattle.masking.specs.Masks.{applyMask}
 use Rattle.masking.specs.Kept.{places, masksAt}
 use Rattle.masking.specs.Place
+use Rattle.table.specs.declared.Choices.{Choices}
 use Rattle.table.specs.declared.CpuidResults.{CpuidResults}
 use Rattle.table.specs.declared.Subleaf.the-variants.{Some}
 use Rattle.table.specs.declared.Refusal.the-variants.{MissingRequiredResult, SaveAreaOverflow}
@@ -25,8 +27,8 @@ use Rattle.table.specs.Rows.{Row, Rows}
 use Rattle.update.specs.Finish.{ruleAt}
 use Rattle.update.specs.Kinds.{EntryAtLeast, TableAtLeast, Registers, kindsAt, fromEntry}
 use Rattle.table.specs.Table.{rowIn}
-use Rattle.collect.specs.FirstEntries.{firstAt, rowsOf}
-use Rattle.build.specs.Build.{lawfulVerdict, answer}
+use Rattle.collect.specs.FirstEntries.{firstAt}
+use Rattle.build.specs.Build.{rowsFor, lawfulVerdict, answer}
 use Rattle.refusals.specs.Conditions.{Lacking, ComponentFault, AreaFault}
 
 -- B has a row at place i, and its registers compare with A's
@@ -35,22 +37,22 @@ pub record EntryRises (i : ℕ) (a b : Row) : Type 0 where
   pub registers : Registers EntryAtLeast (kindsAt i) (a .result) (b .result)
 
 -- "for every row of A's table but 0 and 80000000h": entries are compared as masked, D.0.EAX with its bits 0 and 1 set
-pub record RiseHypothesis (avic : Bool) (a b : List ℕ) : Type 0 where
-  pub accepted : answer avic a .verdict ≡ Accepted
+pub record RiseHypothesis (chosen : Choices) (a b : List ℕ) : Type 0 where
+  pub accepted : answer chosen a .verdict ≡ Accepted
   pub lawful : lawfulVerdict b ≡ Accepted
-  pub entries : (i : ℕ) → i < places → fromEntry (ruleAt i) ≡ true → rowIn (answer avic a .table) i .present ≡ true
-      → EntryRises i (rowsOf avic a i) (rowsOf avic b i)
+  pub entries : (i : ℕ) → i < places → fromEntry (ruleAt i) ≡ true → rowIn (answer chosen a .table) i .present ≡ true
+      → EntryRises i (rowsFor chosen a i) (rowsFor chosen b i)
 
 -- the same by the letter: a first counted entry, compared as masked and as nothing more
 pub record FirstEntryRises (avic : Bool) (i : ℕ) (a b : Row) : Type 0 where
   pub present : b .present ≡ true
   pub registers : Registers EntryAtLeast (kindsAt i) (applyMask (masksAt avic i) (a .result)) (applyMask (masksAt avic i) (b .result))
 
-pub record HypothesisByTheLetter (avic : Bool) (a b : List ℕ) : Type 0 where
-  pub accepted : answer avic a .verdict ≡ Accepted
+pub record HypothesisByTheLetter (chosen : Choices) (a b : List ℕ) : Type 0 where
+  pub accepted : answer chosen a .verdict ≡ Accepted
   pub lawful : lawfulVerdict b ≡ Accepted
-  pub entries : (i : ℕ) → i < places → fromEntry (ruleAt i) ≡ true → rowIn (answer avic a .table) i .present ≡ true
-      → FirstEntryRises avic i (firstAt i (counted a)) (firstAt i (counted b))
+  pub entries : (i : ℕ) → i < places → fromEntry (ruleAt i) ≡ true → rowIn (answer chosen a .table) i .present ≡ true
+      → FirstEntryRises (chosen .«secure_avic») i (firstAt i (counted a)) (firstAt i (counted b))
 
 -- exactly one of three outcomes, each with its refusal or acceptance
 pub data Outcome (m : Rows) (v : Verdict) : Type 0 where
@@ -77,12 +79,24 @@ pub record TableRises (a b : CpuidResults) : Type 0 where
   pub others : (i : ℕ) → i < places → rowIn b i .present ≡ true → (rowIn a i .present ≡ true) ⊎ Further a b i
   pub mask : Within (a .«max_extended_state») (b .«max_extended_state»)
 
-pub record RiseConclusion (avic : Bool) (a b : List ℕ) : Type 0 where
-  pub outcome : Outcome (rowsOf avic b) (answer avic b .verdict)
-  pub table : answer avic b .verdict ≡ Accepted → TableRises (answer avic a .table) (answer avic b .table)
+-- from A under one choice to B under another
+pub record RiseTo (chosen other : Choices) (a b : List ℕ) : Type 0 where
+  pub outcome : Outcome (rowsFor other b) (answer other b .verdict)
+  pub table : answer other b .verdict ≡ Accepted → TableRises (answer chosen a .table) (answer other b .table)
+
+abbrev pub RiseConclusion : Choices → List ℕ → List ℕ → Type 0
+RiseConclusion chosen a b = RiseTo chosen chosen a b
 
 abbrev pub Demand3 : Type 0
-Demand3 = (avic : Bool) (a b : List ℕ) → RiseHypothesis avic a b → RiseConclusion avic a b
+Demand3 = (chosen : Choices) (a b : List ℕ) → RiseHypothesis chosen a b → RiseConclusion chosen a b
 
 abbrev pub Demand3ByTheLetter : Type 0
-Demand3ByTheLetter = (avic : Bool) (a b : List ℕ) → HypothesisByTheLetter avic a b → RiseConclusion avic a b
+Demand3ByTheLetter = (chosen : Choices) (a b : List ℕ) → HypothesisByTheLetter chosen a b → RiseConclusion chosen a b
+
+-- the same choices, but for the edition
+abbrev pub withEdition : Choices → ℕ → Choices
+withEdition chosen n = record { «secure_avic» = chosen .«secure_avic»; edition = n }
+
+-- P7: edition 2 leaves nothing that edition 1 clears, so from edition 2 to edition 1 is a rise too
+abbrev pub SecondToFirst : Type 0
+SecondToFirst = (chosen : Choices) (a b : List ℕ) → chosen .edition ≡ 2 → RiseHypothesis chosen a b → RiseTo chosen (withEdition chosen 1) a b

@@ -19,38 +19,41 @@ use Rattle.pages.specs.Entries.{counted}
 use Rattle.masking.specs.Masks.{applyMask, extendedState1}
 use Rattle.masking.specs.Kept.{places, keptLeaves, slot, masksAt}
 use Rattle.masking.specs.Place
+use Rattle.table.specs.declared.Choices.{Choices}
 use Rattle.table.specs.declared.Refusal.the-variants.{SaveAreaOverflow}
 use Rattle.table.specs.declared.Verdict.{Verdict}
 use Rattle.table.specs.declared.Verdict.the-variants.{Accepted}
 use Rattle.table.specs.Refusal.{andThen}
+use Rattle.table.specs.Edition.{knownEdition}
 use Rattle.table.specs.Rows.{Row, Rows, row, vacant}
 use Rattle.checks.specs.ExtendedState.{combinedMask}
-use Rattle.update.specs.Finish.{ruleAt, finished}
+use Rattle.update.specs.Finish.{ymmClears, ruleAt, finished}
+use Rattle.update.specs.FeatureLaws.{ClearsFewer, clears-same, second-to-first}
 use Rattle.update.specs.RemainsLaws.{finished-entry}
 use Rattle.update.specs.XsavesLaws.{XsavesEdx}
 use Rattle.update.specs.Kinds.{EntryAtLeast, TableAtLeast, Registers, registerKinds, kindsAt, fromEntry}
 use Rattle.update.specs.Kinds.Kind.{area, other}
 use Rattle.checks.specs.Checks.{missingComponent, componentsVerdict, areaVerdict, rowsVerdict}
-use Rattle.checks.specs.ChecksLaws.{component-present, then-right, then-skips}
+use Rattle.checks.specs.ChecksLaws.{component-present, then-left, then-right, then-skips}
 use Rattle.build.specs.Built.{tableFor}
 use Rattle.table.specs.Table.{tableOf, rowIn}
 use Rattle.collect.specs.FirstEntries.{firstAt, maskRow, maskedAt, legacyFeatures, rowsOf}
 use Rattle.collect.specs.FirstEntriesLaws.{row-of-place}
-use Rattle.build.specs.Build.{lawfulVerdict, verdictOf, answer}
+use Rattle.build.specs.Build.{editionVerdict, rowsFor, lawfulVerdict, verdictOf, answer}
 use Rattle.refusals.specs.Conditions.{Lacking, ComponentFault, AreaFault}
 use Rattle.refusals.specs.Settles.{Settles}
 use Rattle.refusals.specs.Settles.Settles.{passes, refuses}
 use Rattle.refusals.specs.ExtendedStateSettled.{components-decide, area-decides}
-use Rattle.rise.specs.Rise.{EntryRises, FirstEntryRises, RiseHypothesis, HypothesisByTheLetter, Outcome, Further, TableRises, Demand3, Demand3ByTheLetter}
+use Rattle.rise.specs.Rise.{EntryRises, FirstEntryRises, RiseHypothesis, HypothesisByTheLetter, Outcome, Further, TableRises, RiseTo, Demand3, Demand3ByTheLetter, withEdition, SecondToFirst}
 use Rattle.rise.specs.Rise.Outcome.{missing, overflow, accepted}
 use Rattle.rise.specs.RowsRise.{present-rises, registers-rise, others-further, mask-rises, verdict-rises}
 
 -- ---- the answer of an accepted page set
 
-pub answer-table : (avic : Bool) (s : List ℕ) → answer avic s .verdict ≡ Accepted
-    → answer avic s .table ≡ tableOf (finished (rowsOf avic s)) (combinedMask (rowsOf avic s))
+pub answer-table : (chosen : Choices) (s : List ℕ) → answer chosen s .verdict ≡ Accepted
+    → answer chosen s .table ≡ tableOf (finished (chosen .edition) (rowsFor chosen s)) (combinedMask (rowsFor chosen s))
 unfolding answer
-answer-table avic s e = ap (λ (v : Verdict). tableFor v (rowsOf avic s)) e
+answer-table chosen s e = ap (λ (v : Verdict). tableFor (chosen .edition) v (rowsFor chosen s)) e
 
 pub table-row : (m : Rows) (x i : ℕ) → i < places → rowIn (tableOf m x) i ≡ m i
 table-row m x i l k = record {
@@ -58,17 +61,26 @@ table-row m x i l k = record {
   result = getD-tabulate places (λ j. m j .result) i (result 0 0 0 0) l k;
 }
 
-pub accepted-rows : (avic : Bool) (s : List ℕ) → answer avic s .verdict ≡ Accepted → rowsVerdict (rowsOf avic s) ≡ Accepted
+pub accepted-rows : (chosen : Choices) (s : List ℕ) → answer chosen s .verdict ≡ Accepted → rowsVerdict (rowsFor chosen s) ≡ Accepted
 unfolding answer verdictOf
-accepted-rows avic s e = then-right (lawfulVerdict s) _ e
+accepted-rows chosen s e = then-right (lawfulVerdict s) _ (then-right (editionVerdict (chosen .edition)) _ e)
 
-pub answer-row : (avic : Bool) (s : List ℕ) → answer avic s .verdict ≡ Accepted → (i : ℕ) → i < places
-    → rowIn (answer avic s .table) i ≡ finished (rowsOf avic s) i
-answer-row avic s e i l = ap (λ t. rowIn t i) (answer-table avic s e) ∙ table-row (finished (rowsOf avic s)) (combinedMask (rowsOf avic s)) i l
+-- its edition is 1 or 2, and its length and counts are lawful
+pub accepted-edition : (chosen : Choices) (s : List ℕ) → answer chosen s .verdict ≡ Accepted → editionVerdict (chosen .edition) ≡ Accepted
+unfolding answer verdictOf
+accepted-edition chosen s e = then-left (editionVerdict (chosen .edition)) _ e
 
-pub answer-mask : (avic : Bool) (s : List ℕ) → answer avic s .verdict ≡ Accepted
-    → answer avic s .table .«max_extended_state» ≡ combinedMask (rowsOf avic s)
-answer-mask avic s e = ap (λ t. t .«max_extended_state») (answer-table avic s e)
+pub accepted-lawful : (chosen : Choices) (s : List ℕ) → answer chosen s .verdict ≡ Accepted → lawfulVerdict s ≡ Accepted
+unfolding answer verdictOf
+accepted-lawful chosen s e = then-left (lawfulVerdict s) _ (then-right (editionVerdict (chosen .edition)) _ e)
+
+pub answer-row : (chosen : Choices) (s : List ℕ) → answer chosen s .verdict ≡ Accepted → (i : ℕ) → i < places
+    → rowIn (answer chosen s .table) i ≡ finished (chosen .edition) (rowsFor chosen s) i
+answer-row chosen s e i l = ap (λ t. rowIn t i) (answer-table chosen s e) ∙ table-row (finished (chosen .edition) (rowsFor chosen s)) (combinedMask (rowsFor chosen s)) i l
+
+pub answer-mask : (chosen : Choices) (s : List ℕ) → answer chosen s .verdict ≡ Accepted
+    → answer chosen s .table .«max_extended_state» ≡ combinedMask (rowsFor chosen s)
+answer-mask chosen s e = ap (λ t. t .«max_extended_state») (answer-table chosen s e)
 
 -- ---- D.1.EDX is masked to 0
 
@@ -102,46 +114,51 @@ outcome-of m = go (components-decide m) (area-decides m)
     go (passes e none) (refuses r f (g, p) one) = overflow (none-lacking m e) g (rw (e, f, p))
     go (passes e none) (passes f no-sum) = accepted (none-lacking m e) (λ g. no-sum SaveAreaOverflow (g, refl)) (rw (e, f))
 
--- ---- demand 3
+-- ---- demand 3, with B under edition n
 
-module _ (avic : Bool) (a b : List ℕ) (rises : RiseHypothesis avic a b) where
-  entriesAB : (i : ℕ) → i < places → fromEntry (ruleAt i) ≡ true → finished (rowsOf avic a) i .present ≡ true
-      → EntryRises i (rowsOf avic a i) (rowsOf avic b i)
-  entriesAB i l f p = rises .entries i l f (ap (λ (r : Row). r .present) (answer-row avic a (rises .accepted) i l) ∙ p)
+module _ (chosen : Choices) (n : ℕ) (known : editionVerdict n ≡ Accepted) (fewer : ClearsFewer (ymmClears (chosen .edition)) (ymmClears n))
+    (a b : List ℕ) (rises : RiseHypothesis chosen a b) where
+  abbrev choiceB : Choices
+  choiceB = withEdition chosen n
 
-  rowsA : rowsVerdict (rowsOf avic a) ≡ Accepted
-  rowsA = accepted-rows avic a (rises .accepted)
+  entriesAB : (i : ℕ) → i < places → fromEntry (ruleAt i) ≡ true → finished (chosen .edition) (rowsFor chosen a) i .present ≡ true
+      → EntryRises i (rowsFor chosen a i) (rowsFor choiceB b i)
+  entriesAB i l f p = rises .entries i l f (ap (λ (r : Row). r .present) (answer-row chosen a (rises .accepted) i l) ∙ p)
 
-  verdictB : answer avic b .verdict ≡ andThen (componentsVerdict (rowsOf avic b)) (areaVerdict (rowsOf avic b))
+  rowsA : rowsVerdict (rowsFor chosen a) ≡ Accepted
+  rowsA = accepted-rows chosen a (rises .accepted)
+
+  verdictB : answer choiceB b .verdict ≡ andThen (componentsVerdict (rowsFor choiceB b)) (areaVerdict (rowsFor choiceB b))
   unfolding answer verdictOf
   verdictB =
-      then-skips (rises .lawful)
-      ∙ verdict-rises (rowsOf avic a) (rowsOf avic b) (xsaves-edx avic a) (xsaves-edx avic b) rowsA entriesAB
+      then-skips known
+      ∙ then-skips (rises .lawful)
+      ∙ verdict-rises (chosen .edition) n fewer (rowsFor chosen a) (rowsFor choiceB b) (xsaves-edx (chosen .«secure_avic») a) (xsaves-edx (chosen .«secure_avic») b) rowsA entriesAB
 
   -- the rows of both answers are the finished rows
-  module _ (e : answer avic b .verdict ≡ Accepted) where
-    rowA : (i : ℕ) → i < places → rowIn (answer avic a .table) i ≡ finished (rowsOf avic a) i
-    rowA = answer-row avic a (rises .accepted)
+  module _ (e : answer choiceB b .verdict ≡ Accepted) where
+    rowA : (i : ℕ) → i < places → rowIn (answer chosen a .table) i ≡ finished (chosen .edition) (rowsFor chosen a) i
+    rowA = answer-row chosen a (rises .accepted)
 
-    rowB : (i : ℕ) → i < places → rowIn (answer avic b .table) i ≡ finished (rowsOf avic b) i
-    rowB = answer-row avic b e
+    rowB : (i : ℕ) → i < places → rowIn (answer choiceB b .table) i ≡ finished n (rowsFor choiceB b) i
+    rowB = answer-row choiceB b e
 
-    toA : (i : ℕ) → i < places → rowIn (answer avic a .table) i .present ≡ true → finished (rowsOf avic a) i .present ≡ true
+    toA : (i : ℕ) → i < places → rowIn (answer chosen a .table) i .present ≡ true → finished (chosen .edition) (rowsFor chosen a) i .present ≡ true
     toA i l p = sym (ap (λ (r : Row). r .present) (rowA i l)) ∙ p
 
-    rowsAB : (i : ℕ) → i < places → rowIn (answer avic a .table) i .present ≡ true → rowIn (answer avic b .table) i .present ≡ true
+    rowsAB : (i : ℕ) → i < places → rowIn (answer chosen a .table) i .present ≡ true → rowIn (answer choiceB b .table) i .present ≡ true
     rowsAB i l p =
         ap (λ (r : Row). r .present) (rowB i l)
-        ∙ present-rises (rowsOf avic a) (rowsOf avic b) (xsaves-edx avic a) (xsaves-edx avic b) rowsA entriesAB i l (toA i l p)
+        ∙ present-rises (chosen .edition) n fewer (rowsFor chosen a) (rowsFor choiceB b) (xsaves-edx (chosen .«secure_avic») a) (xsaves-edx (chosen .«secure_avic») b) rowsA entriesAB i l (toA i l p)
 
-    registersAB : (i : ℕ) → i < places → rowIn (answer avic a .table) i .present ≡ true
-        → Registers TableAtLeast (kindsAt i) (rowIn (answer avic a .table) i .result) (rowIn (answer avic b .table) i .result)
+    registersAB : (i : ℕ) → i < places → rowIn (answer chosen a .table) i .present ≡ true
+        → Registers TableAtLeast (kindsAt i) (rowIn (answer chosen a .table) i .result) (rowIn (answer choiceB b .table) i .result)
     registersAB i l p =
         subst₂ (λ (x y : Row). Registers TableAtLeast (kindsAt i) (x .result) (y .result)) (sym (rowA i l)) (sym (rowB i l))
-        (registers-rise (rowsOf avic a) (rowsOf avic b) (xsaves-edx avic a) (xsaves-edx avic b) rowsA entriesAB i l (toA i l p))
+        (registers-rise (chosen .edition) n fewer (rowsFor chosen a) (rowsFor choiceB b) (xsaves-edx (chosen .«secure_avic») a) (xsaves-edx (chosen .«secure_avic») b) rowsA entriesAB i l (toA i l p))
 
-    othersAB : (i : ℕ) → i < places → rowIn (answer avic b .table) i .present ≡ true
-        → (rowIn (answer avic a .table) i .present ≡ true) ⊎ Further (answer avic a .table) (answer avic b .table) i
+    othersAB : (i : ℕ) → i < places → rowIn (answer choiceB b .table) i .present ≡ true
+        → (rowIn (answer chosen a .table) i .present ≡ true) ⊎ Further (answer chosen a .table) (answer choiceB b .table) i
     othersAB i l p =
         ⊎-elim (λ q. inl (ap (λ (r : Row). r .present) (rowA i l) ∙ q))
         (λ (k, at, low, high, inB, notInA). inr (record {
@@ -149,25 +166,29 @@ module _ (avic : Bool) (a b : List ℕ) (rises : RiseHypothesis avic a b) where
           place = at;
           from = low;
           below = high;
-          inB = ap (has k) (answer-mask avic b e) ∙ inB;
-          notInA = ap (has k) (answer-mask avic a (rises .accepted)) ∙ notInA;
+          inB = ap (has k) (answer-mask choiceB b e) ∙ inB;
+          notInA = ap (has k) (answer-mask chosen a (rises .accepted)) ∙ notInA;
         }))
-        (others-further (rowsOf avic a) (rowsOf avic b) (xsaves-edx avic a) (xsaves-edx avic b) rowsA entriesAB i l
+        (others-further (chosen .edition) n fewer (rowsFor chosen a) (rowsFor choiceB b) (xsaves-edx (chosen .«secure_avic») a) (xsaves-edx (chosen .«secure_avic») b) rowsA entriesAB i l
         (sym (ap (λ (r : Row). r .present) (rowB i l)) ∙ p))
 
-    maskAB : Within (answer avic a .table .«max_extended_state») (answer avic b .table .«max_extended_state»)
+    maskAB : Within (answer chosen a .table .«max_extended_state») (answer choiceB b .table .«max_extended_state»)
     maskAB =
-        subst₂ Within (sym (answer-mask avic a (rises .accepted))) (sym (answer-mask avic b e))
-        (mask-rises (rowsOf avic a) (rowsOf avic b) (xsaves-edx avic a) (xsaves-edx avic b) rowsA entriesAB)
+        subst₂ Within (sym (answer-mask chosen a (rises .accepted))) (sym (answer-mask choiceB b e))
+        (mask-rises (chosen .edition) n fewer (rowsFor chosen a) (rowsFor choiceB b) (xsaves-edx (chosen .«secure_avic») a) (xsaves-edx (chosen .«secure_avic») b) rowsA entriesAB)
 
-    tableAB : TableRises (answer avic a .table) (answer avic b .table)
+    tableAB : TableRises (answer chosen a .table) (answer choiceB b .table)
     tableAB = record { rows = rowsAB; registers = registersAB; others = othersAB; mask = maskAB }
 
+  risen : RiseTo chosen choiceB a b
+  risen = record { outcome = rw verdictB (outcome-of (rowsFor choiceB b)); table = tableAB }
+
 pub demand-3 : Demand3
-demand-3 avic a b rises = record {
-  outcome = rw (verdictB avic a b rises) (outcome-of (rowsOf avic b));
-  table = tableAB avic a b rises;
-}
+demand-3 chosen a b rises = risen chosen (chosen .edition) (accepted-edition chosen a (rises .accepted)) (clears-same refl) a b rises
+
+pub second-to-first-rises : SecondToFirst
+unfolding editionVerdict knownEdition ymmClears
+second-to-first-rises chosen a b e rises = risen chosen 1 refl (rw e second-to-first) a b rises
 
 -- ---- by the letter: entries compared as masked compare with D.0.EAX's bits 0 and 1 set, too
 
@@ -217,17 +238,17 @@ letter-entry avic i x y e h = record {
       (letter-registers avic (x .result) (y .result) i (h .registers));
 }
 
-letter-rises : (avic : Bool) (a b : List ℕ) → HypothesisByTheLetter avic a b → RiseHypothesis avic a b
-letter-rises avic a b h = record {
+letter-rises : (chosen : Choices) (a b : List ℕ) → HypothesisByTheLetter chosen a b → RiseHypothesis chosen a b
+letter-rises chosen a b h = record {
   accepted = h .accepted;
   lawful = h .lawful;
   entries = λ i l f p.
-      subst₂ (EntryRises i) (sym (row-of-place avic a i l)) (sym (row-of-place avic b i l))
-      (letter-entry avic i (firstAt i (counted a)) (firstAt i (counted b))
-      (sym (ap (λ (r : Row). r .present) (row-of-place avic a i l) ∙ mask-row-present avic i (firstAt i (counted a)))
-      ∙ finished-entry (rowsOf avic a) i l f (sym (ap (λ (r : Row). r .present) (answer-row avic a (h .accepted) i l)) ∙ p))
+      subst₂ (EntryRises i) (sym (row-of-place (chosen .«secure_avic») a i l)) (sym (row-of-place (chosen .«secure_avic») b i l))
+      (letter-entry (chosen .«secure_avic») i (firstAt i (counted a)) (firstAt i (counted b))
+      (sym (ap (λ (r : Row). r .present) (row-of-place (chosen .«secure_avic») a i l) ∙ mask-row-present (chosen .«secure_avic») i (firstAt i (counted a)))
+      ∙ finished-entry (chosen .edition) (rowsFor chosen a) i l f (sym (ap (λ (r : Row). r .present) (answer-row chosen a (h .accepted) i l)) ∙ p))
       (h .entries i l f p));
 }
 
 pub demand-3-by-the-letter : Demand3ByTheLetter
-demand-3-by-the-letter avic a b rises = demand-3 avic a b (letter-rises avic a b rises)
+demand-3-by-the-letter chosen a b rises = demand-3 chosen a b (letter-rises chosen a b rises)

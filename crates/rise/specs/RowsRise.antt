@@ -20,7 +20,8 @@ use Rattle.checks.specs.Required.{placeRequired}
 use Rattle.checks.specs.ExtendedState.{xfem, xss, combinedMask, sumAt, saveArea}
 use Rattle.checks.specs.ExtendedStateLaws.{area-mono, xss-mono, in-combined}
 use Rattle.checks.specs.TopologyInputs.{inputsOf}
-use Rattle.update.specs.Finish.{Settings, ruleAt, enabledBy, settings, remains, finished}
+use Rattle.update.specs.Finish.{Settings, ymmClears, ruleAt, enabledBy, settings, remains, finished}
+use Rattle.update.specs.FeatureLaws.{ClearsFewer}
 use Rattle.update.specs.Kinds.{Kinds, kinds, EntryAtLeast, TableAtLeast, Registers, kindsAt, fromEntry}
 use Rattle.update.specs.Kinds.Kind.{other}
 use Rattle.update.specs.RuleKinds.{featureEax, kindsOf, kinds-at, component-kinds}
@@ -33,10 +34,10 @@ use Rattle.update.specs.PlaceLaws.Sort.{made, required, subleaf}
 use Rattle.rise.specs.Rise.{EntryRises}
 use Rattle.rise.specs.RuleLaws.{SettingsRise, finish-rises, remains-rises}
 
--- ---- the theorem on rows
+-- ---- the theorem on rows, A's under edition nA and B's under nB, which clears no bit that nA leaves: the same edition, or from 2 to 1
 
-module _ (A B : Rows) (zeroA : XsavesEdx A) (zeroB : XsavesEdx B) (accepted : rowsVerdict A ≡ Accepted)
-    (entries : (i : ℕ) → i < places → fromEntry (ruleAt i) ≡ true → finished A i .present ≡ true → EntryRises i (A i) (B i)) where
+module _ (nA nB : ℕ) (fewer : ClearsFewer (ymmClears nA) (ymmClears nB)) (A B : Rows) (zeroA : XsavesEdx A) (zeroB : XsavesEdx B) (accepted : rowsVerdict A ≡ Accepted)
+    (entries : (i : ℕ) → i < places → fromEntry (ruleAt i) ≡ true → finished nA A i .present ≡ true → EntryRises i (A i) (B i)) where
   pass : AllPass A
   pass = all-pass A accepted
 
@@ -45,8 +46,8 @@ module _ (A B : Rows) (zeroA : XsavesEdx A) (zeroB : XsavesEdx B) (accepted : ro
       subst (λ (n : ℕ). A n .present ≡ true) (always-required i l e .1)
       (required-present A (pass .required) (position i) (always-required i l e .0))
 
-  inTableA : (i : ℕ) → i < places → always (ruleAt i) ≡ true → finished A i .present ≡ true
-  inTableA i l e = finished-present A i ∙ always-remains (settings A) (λ j. A j .present) i l e ∙ presentA i l e
+  inTableA : (i : ℕ) → i < places → always (ruleAt i) ≡ true → finished nA A i .present ≡ true
+  inTableA i l e = finished-present nA A i ∙ always-remains (settings nA A) (λ j. A j .present) i l e ∙ presentA i l e
 
   entry : (i : ℕ) → i < places → always (ruleAt i) ≡ true → EntryRises i (A i) (B i)
   entry i l e = entries i l (always-from-entry (ruleAt i) e) (inTableA i l e)
@@ -59,8 +60,8 @@ module _ (A B : Rows) (zeroA : XsavesEdx A) (zeroB : XsavesEdx B) (accepted : ro
   at : (i : ℕ) → i < places → always (ruleAt i) ≡ true → Registers EntryAtLeast (kindsOf (featureEax i) (ruleAt i)) (A i .result) (B i .result)
   at i l e = byRule i l (entry i l e .registers)
 
-  componentInTableA : (k : ℕ) → 2 ≤ k → k < 64 → has k (combinedMask A) ≡ true → finished A (Place.extendedState k) .present ≡ true
-  componentInTableA k l u h = component-finished A k l u ∙ and-both h (component-present A (pass .components) k l u h)
+  componentInTableA : (k : ℕ) → 2 ≤ k → k < 64 → has k (combinedMask A) ≡ true → finished nA A (Place.extendedState k) .present ≡ true
+  componentInTableA k l u h = component-finished nA A k l u ∙ and-both h (component-present A (pass .components) k l u h)
 
   componentEntry : (k : ℕ) → 2 ≤ k → k < 64 → has k (combinedMask A) ≡ true
       → Registers EntryAtLeast (kinds other other other other) (A (Place.extendedState k) .result) (B (Place.extendedState k) .result)
@@ -92,9 +93,10 @@ module _ (A B : Rows) (zeroA : XsavesEdx A) (zeroB : XsavesEdx B) (accepted : ro
       let e = componentEntry k l u (in-combined A k h) in
       ap₂ _+_ (e .eax) (e .ebx)
 
-  settingsRise : SettingsRise (settings A) (settings B)
+  settingsRise : SettingsRise (settings nA A) (settings nB B)
   unfolding settings enabledBy
   settingsRise = record {
+    clears = fewer;
     enabled = record { xfem = xfemRises; xss = xssRises; tscAux = has-mono 9 (at Place.extendedSevFeatures (lit< tt) refl .eax) };
     saveArea = area-mono A B 64 xfemRises sums;
     threads = cc sameInputs;
@@ -102,39 +104,39 @@ module _ (A B : Rows) (zeroA : XsavesEdx A) (zeroB : XsavesEdx B) (accepted : ro
   }
 
   -- every row of A's, with its registers
-  pub present-rises : (i : ℕ) → i < places → finished A i .present ≡ true → finished B i .present ≡ true
+  pub present-rises : (i : ℕ) → i < places → finished nA A i .present ≡ true → finished nB B i .present ≡ true
   present-rises i l h =
-      finished-present B i
+      finished-present nB B i
       ∙ go (fromEntry (ruleAt i)) refl
     where
-      go : (b : Bool) → fromEntry (ruleAt i) ≡ b → remains (settings B) (ruleAt i) (B i .present) ≡ true
-      go true e = remains-rises settingsRise (ruleAt i) (A i .present) (B i .present) (λ _. entries i l e h .present) (sym (finished-present A i) ∙ h)
-      go false e = made-remains (settings B) (λ j. B j .present) i l e
+      go : (b : Bool) → fromEntry (ruleAt i) ≡ b → remains (settings nB B) (ruleAt i) (B i .present) ≡ true
+      go true e = remains-rises settingsRise (ruleAt i) (A i .present) (B i .present) (λ _. entries i l e h .present) (sym (finished-present nA A i) ∙ h)
+      go false e = made-remains (settings nB B) (λ j. B j .present) i l e
 
-  pub registers-rise : (i : ℕ) → i < places → finished A i .present ≡ true
-      → Registers TableAtLeast (kindsAt i) (finished A i .result) (finished B i .result)
+  pub registers-rise : (i : ℕ) → i < places → finished nA A i .present ≡ true
+      → Registers TableAtLeast (kindsAt i) (finished nA A i .result) (finished nB B i .result)
   registers-rise i l h =
-      rw (kinds-at i l, finished-result A i h, finished-result B i (present-rises i l h))
+      rw (kinds-at i l, finished-result nA A i h, finished-result nB B i (present-rises i l h))
       (finish-rises settingsRise (featureEax i) (ruleAt i) (A i .result) (B i .result) (λ e. byRule i l (entries i l e h .registers))
-      (xsaves-at A zeroA i l) (xsaves-at B zeroB i l))
+      (xsaves-at nA A zeroA i l) (xsaves-at nB B zeroB i l))
 
   -- beyond these only the subleaves of further bits
   abbrev pub Beyond : ℕ → Type 0
   Beyond i = (k : ℕ) × (i ≡ Place.extendedState k) × (2 ≤ k) × (k < 64) × (has k (combinedMask B) ≡ true) × (has k (combinedMask A) ≡ false)
 
-  pub others-further : (i : ℕ) → i < places → finished B i .present ≡ true → (finished A i .present ≡ true) ⊎ Beyond i
+  pub others-further : (i : ℕ) → i < places → finished nB B i .present ≡ true → (finished nA A i .present ≡ true) ⊎ Beyond i
   others-further i l h = go (sort i l)
     where
-      go : Sort i → (finished A i .present ≡ true) ⊎ Beyond i
-      go (made e) = inl (finished-present A i ∙ made-remains (settings A) (λ j. A j .present) i l e)
+      go : Sort i → (finished nA A i .present ≡ true) ⊎ Beyond i
+      go (made e) = inl (finished-present nA A i ∙ made-remains (settings nA A) (λ j. A j .present) i l e)
       go (required e) = inl (inTableA i l e)
       go (subleaf k e p q) = inMask (has k (combinedMask A)) refl
         where
           inB : has k (combinedMask B) ≡ true
-          inB = and-left _ _ (sym (component-finished B k p q) ∙ subst (λ (n : ℕ). finished B n .present ≡ true) e h)
+          inB = and-left _ _ (sym (component-finished nB B k p q) ∙ subst (λ (j : ℕ). finished nB B j .present ≡ true) e h)
 
-          inMask : (b : Bool) → has k (combinedMask A) ≡ b → (finished A i .present ≡ true) ⊎ Beyond i
-          inMask true f = inl (subst (λ (n : ℕ). finished A n .present ≡ true) (sym e) (componentInTableA k p q f))
+          inMask : (b : Bool) → has k (combinedMask A) ≡ b → (finished nA A i .present ≡ true) ⊎ Beyond i
+          inMask true f = inl (subst (λ (j : ℕ). finished nA A j .present ≡ true) (sym e) (componentInTableA k p q f))
           inMask false f = inr (k, e, p, q, inB, f)
 
   pub mask-rises : Within (combinedMask A) (combinedMask B)

@@ -7,19 +7,20 @@ use lib.Bits.{bitOr}
 use Rattle.bits.specs.Choice.{pick}
 use Rattle.bits.specs.ChoiceLaws.{and-left, and-right, and-both}
 use Rattle.bits.specs.Bits.{has, Within}
-use Rattle.bits.specs.BitsLaws.{has-mono, within-or, within-of-and, and-of-within}
+use Rattle.bits.specs.BitsLaws.{has-mono, within-or, within-of-and, and-of-within, within-trans}
 use Rattle.x86defs.specs.declared.CpuidResult.{CpuidResult}
-use Rattle.update.specs.Finish.{Made, Needed, Rule, Enabled, Settings, makeRow, changeRow, finish, remains, unlessNoXss, addressSizesEbx, versionEcx, featuresEbx, featuresEcx, featuresEdx, extendedVersionEdx}
+use Rattle.update.specs.Finish.{Made, Needed, Rule, Enabled, Settings, makeRow, changeRow, finish, remains, unlessNoXss, addressSizesEbx, versionEcx, featuresEbx, featuresEcx, featuresEdx, extendedVersionEcx, extendedVersionEdx}
 use Rattle.update.specs.Finish.Needed.{versionAndFeatures, extendedFeatures, threadLevelRow, coreLevelRow, extendedState0, extendedState1, extendedVersionAndFeatures, extendedAddressSpaceSizes, untouched}
 use Rattle.update.specs.Finish.Rule.{made, needed, component}
 use Rattle.update.specs.Kinds.{Kinds, kinds, EntryAtLeast, TableAtLeast, Registers, fromEntry}
 use Rattle.update.specs.Kinds.Kind.{feature, freed, other}
 use Rattle.update.specs.RuleKinds.{kindsOf}
 use Rattle.update.specs.XsavesLaws.{XsavesRow}
-use Rattle.update.specs.FeatureLaws.{EnablesAtLeast, at-least-of-and, versionEcx-and, featuresEbx-and, featuresEcx-and, featuresEdx-and, extendedVersionEdx-and, addressSizesEbx-and}
+use Rattle.update.specs.FeatureLaws.{EnablesAtLeast, at-least-of-and, versionEcx-and, featuresEbx-and, featuresEcx-and, featuresEdx-and, extendedVersionEcx-and, extendedVersionEdx-and, addressSizesEbx-and, ClearsFewer, versionEcx-fewer, featuresEbx-fewer, featuresEcx-fewer, extendedVersionEcx-fewer}
 
--- what B's rows need from each other, compared with A's
+-- what B's rows need from each other, compared with A's; of the same edition or not, B clears no bit that A leaves
 pub record SettingsRise (c d : Settings) : Type 0 where
+  pub clears : ClearsFewer (c .clears) (d .clears)
   pub enabled : EnablesAtLeast (c .enabled) (d .enabled)
   pub saveArea : c .saveArea ≤ d .saveArea
   pub threads : c .threads ≡ d .threads
@@ -53,13 +54,16 @@ module _ {c d : Settings} (s : SettingsRise c d) where
   needed-rises f versionAndFeatures a b h p q = record {
     eax = h .eax;
     ebx = h .ebx;
-    ecx = at-least-of-and versionEcx versionEcx-and (s .enabled) (h .ecx);
+    ecx =
+        within-trans (at-least-of-and (versionEcx (c .clears)) (versionEcx-and (c .clears)) (s .enabled) (h .ecx)) (versionEcx-fewer (s .clears) (d .enabled) (b .ecx));
     edx = h .edx;
   }
   needed-rises f extendedFeatures a b h p q = record {
     eax = h .eax;
-    ebx = at-least-of-and featuresEbx featuresEbx-and (s .enabled) (h .ebx);
-    ecx = at-least-of-and featuresEcx featuresEcx-and (s .enabled) (h .ecx);
+    ebx =
+        within-trans (at-least-of-and (featuresEbx (c .clears)) (featuresEbx-and (c .clears)) (s .enabled) (h .ebx)) (featuresEbx-fewer (s .clears) (d .enabled) (b .ebx));
+    ecx =
+        within-trans (at-least-of-and (featuresEcx (c .clears)) (featuresEcx-and (c .clears)) (s .enabled) (h .ecx)) (featuresEcx-fewer (s .clears) (d .enabled) (b .ecx));
     edx = at-least-of-and featuresEdx featuresEdx-and (s .enabled) (h .edx);
   }
   needed-rises f threadLevelRow a b h p q = made-registers (s .threads)
@@ -74,7 +78,9 @@ module _ {c d : Settings} (s : SettingsRise c d) where
   needed-rises f extendedVersionAndFeatures a b h p q = record {
     eax = h .eax;
     ebx = h .ebx;
-    ecx = h .ecx;
+    ecx =
+        within-trans (at-least-of-and (extendedVersionEcx (c .clears)) (extendedVersionEcx-and (c .clears)) (s .enabled) (h .ecx))
+        (extendedVersionEcx-fewer (s .clears) (d .enabled) (b .ecx));
     edx = at-least-of-and extendedVersionEdx extendedVersionEdx-and (s .enabled) (h .edx);
   }
   needed-rises f extendedAddressSpaceSizes a b h p q =

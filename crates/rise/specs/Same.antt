@@ -12,6 +12,7 @@ use Rattle.bits.specs.ListsLaws.{length-tabulate, tabulated, getD-tabulate, sum
 use Rattle.bits.specs.BitsLaws.{within-refl, within-antisym}
 use Rattle.x86defs.specs.declared.CpuidResult.{CpuidResult}
 use Rattle.masking.specs.Kept.{places}
+use Rattle.table.specs.declared.Choices.{Choices}
 use Rattle.table.specs.declared.Verdict.the-variants.{Accepted}
 use Rattle.table.specs.Rows.{Row, Rows, row, vacant}
 use Rattle.checks.specs.ExtendedState.{combinedMask}
@@ -21,13 +22,12 @@ use Rattle.update.specs.Kinds.Kind.{feature, featureBut28, area, freed, other}
 use Rattle.update.specs.RemainsLaws.{finished-entry}
 use Rattle.checks.specs.ChecksLaws.{then-left}
 use Rattle.table.specs.Table.{rowIn, countRows}
-use Rattle.collect.specs.FirstEntries.{rowsOf}
-use Rattle.build.specs.Build.{lawfulVerdict, verdictOf, answer}
+use Rattle.build.specs.Build.{rowsFor, lawfulVerdict, verdictOf, answer}
 use Rattle.rise.specs.Rise.{RiseHypothesis, TableRises}
-use Rattle.rise.specs.RiseProof.{answer-table, answer-row, answer-mask, demand-3}
+use Rattle.rise.specs.RiseProof.{answer-table, answer-row, answer-mask, accepted-lawful, demand-3}
 
 abbrev pub SameFigures : Type 0
-SameFigures = (avic : Bool) (a b : List ℕ) → RiseHypothesis avic a b → RiseHypothesis avic b a → answer avic a ≡ answer avic b
+SameFigures = (chosen : Choices) (a b : List ℕ) → RiseHypothesis chosen a b → RiseHypothesis chosen b a → answer chosen a ≡ answer chosen b
 
 -- ---- every accepted server rises to itself
 
@@ -46,14 +46,13 @@ registers-itself k a = record {
   edx = register-itself (k .edx) (a .edx);
 }
 
-pub rises-itself : (avic : Bool) (a : List ℕ) → answer avic a .verdict ≡ Accepted → RiseHypothesis avic a a
-unfolding answer verdictOf
-rises-itself avic a e = record {
+pub rises-itself : (chosen : Choices) (a : List ℕ) → answer chosen a .verdict ≡ Accepted → RiseHypothesis chosen a a
+rises-itself chosen a e = record {
   accepted = e;
-  lawful = then-left (lawfulVerdict a) _ e;
+  lawful = accepted-lawful chosen a e;
   entries = λ i l f p. record {
-    present = finished-entry (rowsOf avic a) i l f (sym (ap (λ (r : Row). r .present) (answer-row avic a e i l)) ∙ p);
-    registers = registers-itself (kindsAt i) (rowsOf avic a i .result);
+    present = finished-entry (chosen .edition) (rowsFor chosen a) i l f (sym (ap (λ (r : Row). r .present) (answer-row chosen a e i l)) ∙ p);
+    registers = registers-itself (kindsAt i) (rowsFor chosen a i .result);
   };
 }
 
@@ -77,37 +76,37 @@ registers-same k a b p q = λ i. record {
 -- ---- tables that are at least each other have equal rows
 
 -- a row that is not there is all zeros
-pub finished-absent : (m : Rows) (i : ℕ) → finished m i .present ≡ false → finished m i ≡ vacant
+pub finished-absent : (n : ℕ) (m : Rows) (i : ℕ) → finished n m i .present ≡ false → finished n m i ≡ vacant
 unfolding finished
-finished-absent m i = go (remains (settings m) (ruleAt i) (m i .present)) (finish (settings m) (ruleAt i) (m i .result))
+finished-absent n m i = go (remains (settings n m) (ruleAt i) (m i .present)) (finish (settings n m) (ruleAt i) (m i .result))
   where
     go : (b : Bool) (r : CpuidResult) → pick b (row r) vacant .present ≡ false → pick b (row r) vacant ≡ vacant
     go true r e = absurd (never-both refl e)
     go false r e = refl
 
-module _ (avic : Bool) (a b : List ℕ) (rises : RiseHypothesis avic a b) (back : RiseHypothesis avic b a) where
+module _ (chosen : Choices) (a b : List ℕ) (rises : RiseHypothesis chosen a b) (back : RiseHypothesis chosen b a) where
   abbrev A : Rows
-  A = finished (rowsOf avic a)
+  A = finished (chosen .edition) (rowsFor chosen a)
 
   abbrev B : Rows
-  B = finished (rowsOf avic b)
+  B = finished (chosen .edition) (rowsFor chosen b)
 
-  atA : (i : ℕ) → i < places → rowIn (answer avic a .table) i ≡ A i
-  atA = answer-row avic a (rises .accepted)
+  atA : (i : ℕ) → i < places → rowIn (answer chosen a .table) i ≡ A i
+  atA = answer-row chosen a (rises .accepted)
 
-  atB : (i : ℕ) → i < places → rowIn (answer avic b .table) i ≡ B i
-  atB = answer-row avic b (back .accepted)
+  atB : (i : ℕ) → i < places → rowIn (answer chosen b .table) i ≡ B i
+  atB = answer-row chosen b (back .accepted)
 
-  forth : TableRises (answer avic a .table) (answer avic b .table)
-  forth = demand-3 avic a b rises .table (back .accepted)
+  forth : TableRises (answer chosen a .table) (answer chosen b .table)
+  forth = demand-3 chosen a b rises .table (back .accepted)
 
-  return : TableRises (answer avic b .table) (answer avic a .table)
-  return = demand-3 avic b a back .table (rises .accepted)
+  return : TableRises (answer chosen b .table) (answer chosen a .table)
+  return = demand-3 chosen b a back .table (rises .accepted)
 
   row-same : (i : ℕ) → i < places → A i ≡ B i
-  row-same i l = go (rowIn (answer avic a .table) i .present) (rowIn (answer avic b .table) i .present) refl refl
+  row-same i l = go (rowIn (answer chosen a .table) i .present) (rowIn (answer chosen b .table) i .present) refl refl
     where
-      go : (p q : Bool) → rowIn (answer avic a .table) i .present ≡ p → rowIn (answer avic b .table) i .present ≡ q → A i ≡ B i
+      go : (p q : Bool) → rowIn (answer chosen a .table) i .present ≡ p → rowIn (answer chosen b .table) i .present ≡ q → A i ≡ B i
       go true true e f =
           sym (atA i l)
           ∙ (λ k. record {
@@ -118,12 +117,12 @@ module _ (avic : Bool) (a b : List ℕ) (rises : RiseHypothesis avic a b) (back 
       go true false e f = absurd (never-both (forth .rows i l e) f)
       go false true e f = absurd (never-both (return .rows i l f) e)
       go false false e f =
-          finished-absent (rowsOf avic a) i (sym (ap (λ (r : Row). r .present) (atA i l)) ∙ e)
-          ∙ sym (finished-absent (rowsOf avic b) i (sym (ap (λ (r : Row). r .present) (atB i l)) ∙ f))
+          finished-absent (chosen .edition) (rowsFor chosen a) i (sym (ap (λ (r : Row). r .present) (atA i l)) ∙ e)
+          ∙ sym (finished-absent (chosen .edition) (rowsFor chosen b) i (sym (ap (λ (r : Row). r .present) (atB i l)) ∙ f))
 
-  mask-same : combinedMask (rowsOf avic a) ≡ combinedMask (rowsOf avic b)
+  mask-same : combinedMask (rowsFor chosen a) ≡ combinedMask (rowsFor chosen b)
   mask-same =
-      sym (answer-mask avic a (rises .accepted)) ∙ within-antisym (forth .mask) (return .mask) ∙ answer-mask avic b (back .accepted)
+      sym (answer-mask chosen a (rises .accepted)) ∙ within-antisym (forth .mask) (return .mask) ∙ answer-mask chosen b (back .accepted)
 
   column-same {ℓ} : {X : Type ℓ} (f : Row → X) → tabulate places (λ i. f (A i)) ≡ tabulate places (λ i. f (B i))
   column-same f =
@@ -134,19 +133,19 @@ module _ (avic : Bool) (a b : List ℕ) (rises : RiseHypothesis avic a b) (back 
   unfolding countRows
   count-same = sum-ext (λ i. one (A i .present)) (λ i. one (B i .present)) places (λ i l. ap (λ (r : Row). one (r .present)) (row-same i l))
 
-  table-same : answer avic a .table ≡ answer avic b .table
+  table-same : answer chosen a .table ≡ answer chosen b .table
   table-same =
-      answer-table avic a (rises .accepted)
+      answer-table chosen a (rises .accepted)
       ∙ (λ k. record {
         present = column-same (λ (r : Row). r .present) k;
         results = column-same (λ (r : Row). r .result) k;
         «row_count» = count-same k;
         «max_extended_state» = mask-same k;
       })
-      ∙ sym (answer-table avic b (back .accepted))
+      ∙ sym (answer-table chosen b (back .accepted))
 
 pub same-figures : SameFigures
-same-figures avic a b rises back = λ k. record {
+same-figures chosen a b rises back = λ k. record {
   verdict = (rises .accepted ∙ sym (back .accepted)) k;
-  table = table-same avic a b rises back k;
+  table = table-same chosen a b rises back k;
 }

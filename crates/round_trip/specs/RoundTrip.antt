@@ -1,9 +1,9 @@
 -- Document 02, P2: "exporting, importing and building again with the same secure-AVIC choice returns the same table and combined mask".
 use mathlib.Core.Path.{_≡_}
-use mathlib.Core.Bool.{Bool}
 use mathlib.Core.List.{List}
 use Prim.Native.Nat.{ℕ, _+_, _*_, _≤_}
 use lib.ListN.{length, take}
+use Rattle.table.specs.declared.Choices.{Choices}
 use Rattle.table.specs.declared.Verdict.the-variants.{Accepted}
 use Rattle.build.specs.Build.{answer}
 use Rattle.buffer.specs.declared.Written.the-variants.{Bytes}
@@ -12,28 +12,28 @@ use Rattle.kvm_import.specs.Import.{readList}
 use Rattle.kvm_export.specs.Export.{listOf, writeList}
 
 -- how many bytes the list of an accepted page set has
-abbrev pub listLength : Bool → List ℕ → ℕ
-listLength avic s = 8 + 40 * answer avic s .table .«row_count»
+abbrev pub listLength : Choices → List ℕ → ℕ
+listLength chosen s = 8 + 40 * answer chosen s .table .«row_count»
 
 -- the bytes that writing leaves at the front of one lent buffer, and those that reading them leaves at the front of another
-abbrev pub exported : Bool → List ℕ → List ℕ → List ℕ
-exported avic s buffer = take (listLength avic s) (writeList avic s buffer .buffer)
+abbrev pub exported : Choices → List ℕ → List ℕ → List ℕ
+exported chosen s buffer = take (listLength chosen s) (writeList chosen s buffer .buffer)
 
-abbrev pub imported : Bool → List ℕ → List ℕ → List ℕ → List ℕ
-imported avic s buffer pages = take 8192 (readList (exported avic s buffer) pages .buffer)
+abbrev pub imported : Choices → List ℕ → List ℕ → List ℕ → List ℕ
+imported chosen s buffer pages = take 8192 (readList (exported chosen s buffer) pages .buffer)
 
 -- both succeed, and what is built of the pages is the same: verdict, rows, count and combined mask
-pub record Returns (avic : Bool) (s buffer pages : List ℕ) : Type 0 where
-  pub written : writeList avic s buffer .answer ≡ Bytes (listLength avic s)
-  pub read : readList (exported avic s buffer) pages .answer ≡ Bytes 8192
-  pub same : answer avic (imported avic s buffer pages) ≡ answer avic s
+pub record Returns (chosen : Choices) (s buffer pages : List ℕ) : Type 0 where
+  pub written : writeList chosen s buffer .answer ≡ Bytes (listLength chosen s)
+  pub read : readList (exported chosen s buffer) pages .answer ≡ Bytes 8192
+  pub same : answer chosen (imported chosen s buffer pages) ≡ answer chosen s
 
 abbrev pub RoundTrip : Type 0
-RoundTrip = (avic : Bool) (s : List ℕ) → answer avic s .verdict ≡ Accepted → (buffer pages : List ℕ) → listLength avic s ≤ length buffer
+RoundTrip = (chosen : Choices) (s : List ℕ) → answer chosen s .verdict ≡ Accepted → (buffer pages : List ℕ) → listLength chosen s ≤ length buffer
     → 8192 ≤ length pages
-    → Returns avic s buffer pages
+    → Returns chosen s buffer pages
 
 -- writing: building's refusals first, then 9 exactly where the buffer is shorter than the list; an accepted table's list has 8 + 40 × rows bytes
-pub record ListWritesExactly (avic : Bool) (s buffer : List ℕ) : Type 0 where
-  pub answers : FrontExactly (answer avic s .verdict) (listOf (answer avic s .table)) buffer (writeList avic s buffer)
-  pub size : answer avic s .verdict ≡ Accepted → length (listOf (answer avic s .table)) ≡ listLength avic s
+pub record ListWritesExactly (chosen : Choices) (s buffer : List ℕ) : Type 0 where
+  pub answers : FrontExactly (answer chosen s .verdict) (listOf (answer chosen s .table)) buffer (writeList chosen s buffer)
+  pub size : answer chosen s .verdict ≡ Accepted → length (listOf (answer chosen s .table)) ≡ listLength chosen s

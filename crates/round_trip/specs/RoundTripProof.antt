@@ -14,25 +14,28 @@ use Rattle.bits.specs.ListsLaws.{sum-ext, getD-tabulate}
 use Rattle.pages.specs.Layout.{badLength, countsFit}
 use Rattle.pages.specs.Entries.{counted}
 use Rattle.masking.specs.Kept.{places}
+use Rattle.table.specs.declared.Choices.{Choices}
+use Rattle.table.specs.declared.Refusal.the-variants.{UnknownEdition}
+use Rattle.table.specs.Edition.{knownEdition}
 use Rattle.table.specs.declared.CpuidResults.{CpuidResults}
 use Rattle.table.specs.declared.Verdict.{Verdict}
 use Rattle.table.specs.declared.Verdict.the-variants.{Accepted}
 use Rattle.table.specs.Rows.{Row, Rows, vacant}
 use Rattle.table.specs.Table.{tableOf, countRows, rowIn, rowsIn as tableRows}
 use Rattle.checks.specs.Checks.{rowsVerdict}
-use Rattle.checks.specs.ChecksLaws.{then-left, then-right, then-skips}
+use Rattle.checks.specs.ChecksLaws.{demanded, then-skips}
 use Rattle.update.specs.Finish.{finished}
 use Rattle.collect.specs.FirstEntries.{firstAt, maskRow, rowsOf}
 use Rattle.collect.specs.Collect.{collected-rows}
 use Rattle.build.specs.Built.{tableFor, builtFrom}
-use Rattle.build.specs.Build.{lawfulVerdict, verdictOf, answer}
+use Rattle.build.specs.Build.{editionVerdict, rowsFor, verdictOf, answer}
 use Rattle.build.specs.BuildLaws.{answer-collected}
 use Rattle.buffer.specs.declared.Written.the-variants.{Bytes}
 use Rattle.buffer.specs.Front.{AfterWrite, writeFront}
 use Rattle.buffer.specs.WritesExactly.{front-exactly}
 use Rattle.image.specs.Pieces.{rowsAmong}
 use Rattle.refusals.specs.ExactlyProof.{not-short}
-use Rattle.rise.specs.RiseProof.{answer-table, answer-row}
+use Rattle.rise.specs.RiseProof.{answer-table, answer-row, accepted-edition, accepted-lawful, accepted-rows}
 use Rattle.kvm_list.specs.Format.{rowsIn}
 use Rattle.kvm_import.specs.Import.{listVerdict, pagesOf, readList}
 use Rattle.kvm_import.specs.PagesLaws.{pages-length as two-pages}
@@ -48,17 +51,21 @@ use Rattle.round_trip.specs.RoundTrip.{listLength, exported, imported as
 
 -- ---- the answer, of lawful pages
 
-lawful-answer : (avic : Bool) (s : List ℕ) → badLength s ≡ false → countsFit s ≡ true → answer avic s ≡ builtFrom (rowsOf avic s)
-lawful-answer avic s e f = sym (answer-collected avic s e f refl refl) ∙ ap builtFrom (collected-rows avic s)
+lawful-answer : (chosen : Choices) (s : List ℕ) → knownEdition (chosen .edition) ≡ true → badLength s ≡ false → countsFit s ≡ true
+    → answer chosen s ≡ builtFrom (chosen .edition) (rowsFor chosen s)
+lawful-answer chosen s k e f =
+    sym (answer-collected chosen s k e f refl refl) ∙ ap (builtFrom (chosen .edition)) (collected-rows (chosen .«secure_avic») s)
 
-accepted-answer : (avic : Bool) (s : List ℕ) → answer avic s .verdict ≡ Accepted → answer avic s ≡ builtFrom (rowsOf avic s)
+accepted-answer : (chosen : Choices) (s : List ℕ) → answer chosen s .verdict ≡ Accepted
+    → answer chosen s ≡ builtFrom (chosen .edition) (rowsFor chosen s)
 unfolding answer verdictOf builtFrom
-accepted-answer avic s e =
-    ap (λ (v : Verdict). record { verdict = v; table = tableFor v (rowsOf avic s) }) (then-skips (then-left (lawfulVerdict s) _ e))
+accepted-answer chosen s e =
+    ap (λ (v : Verdict). record { verdict = v; table = tableFor (chosen .edition) v (rowsFor chosen s) })
+    (then-skips (accepted-edition chosen s e) ∙ then-skips (accepted-lawful chosen s e))
 
-accepted-rows : (avic : Bool) (s : List ℕ) → answer avic s .verdict ≡ Accepted → rowsVerdict (rowsOf avic s) ≡ Accepted
-unfolding answer verdictOf
-accepted-rows avic s e = then-right (lawfulVerdict s) _ e
+accepted-known : (chosen : Choices) (s : List ℕ) → answer chosen s .verdict ≡ Accepted → knownEdition (chosen .edition) ≡ true
+unfolding editionVerdict
+accepted-known chosen s e = demanded _ UnknownEdition (accepted-edition chosen s e)
 
 -- ---- the pages of any table's list
 
@@ -113,43 +120,43 @@ list-size m x =
     (λ i l. ap (λ (k : ℕ). one (getD (t .present) k false)) (zero-add i) ∙ ap one (getD-tabulate places (λ j. m j .present) i false l)) in
     list-length t ∙ omega (arith, count-rows t, n)
 
-answer-size : (avic : Bool) (s : List ℕ) → answer avic s .verdict ≡ Accepted → length (listOf (answer avic s .table)) ≡ listLength avic s
-answer-size avic s e = rw (answer-table avic s e) (list-size _ _)
+answer-size : (chosen : Choices) (s : List ℕ) → answer chosen s .verdict ≡ Accepted → length (listOf (answer chosen s .table)) ≡ listLength chosen s
+answer-size chosen s e = rw (answer-table chosen s e) (list-size _ _)
 
-pub list-writes-exactly : (avic : Bool) (s buffer : List ℕ) → ListWritesExactly avic s buffer
+pub list-writes-exactly : (chosen : Choices) (s buffer : List ℕ) → ListWritesExactly chosen s buffer
 unfolding writeList
-list-writes-exactly avic s buffer = record {
-  answers = front-exactly (answer avic s .verdict) (listOf (answer avic s .table)) buffer (writeList avic s buffer) refl (not-short avic s);
-  size = answer-size avic s;
+list-writes-exactly chosen s buffer = record {
+  answers = front-exactly (answer chosen s .verdict) (listOf (answer chosen s .table)) buffer (writeList chosen s buffer) refl (not-short chosen s);
+  size = answer-size chosen s;
 }
 
 -- ---- the theorem
 
-same-answer : (avic : Bool) (s : List ℕ) → answer avic s .verdict ≡ Accepted → answer avic (imported (answer avic s .table)) ≡ answer avic s
-same-answer avic s e =
-    let t : CpuidResults = answer avic s .table in
-    lawful-answer avic (imported t)
+same-answer : (chosen : Choices) (s : List ℕ) → answer chosen s .verdict ≡ Accepted → answer chosen (imported (answer chosen s .table)) ≡ answer chosen s
+same-answer chosen s e =
+    let t : CpuidResults = answer chosen s .table in
+    lawful-answer chosen (imported t) (accepted-known chosen s e)
     (pages-length (rowsRead t) (fit t) (fit-0 t) (fit-1 t))
     (pages-counts (rowsRead t) (fit t) (fit-0 t) (fit-1 t))
-    ∙ ap builtFrom (imported-rows t avic ∙ again-ext avic (tableRows t) (finished (rowsOf avic s)) (answer-row avic s e))
-    ∙ built-again avic (rowsOf avic s) (rows-masked avic s) (accepted-rows avic s e)
-    ∙ sym (accepted-answer avic s e)
+    ∙ ap (builtFrom (chosen .edition)) (imported-rows t (chosen .«secure_avic») ∙ again-ext (chosen .«secure_avic») (tableRows t) (finished (chosen .edition) (rowsFor chosen s)) (answer-row chosen s e))
+    ∙ built-again (chosen .edition) (chosen .«secure_avic») (rowsFor chosen s) (rows-masked (chosen .«secure_avic») s) (accepted-rows chosen s e)
+    ∙ sym (accepted-answer chosen s e)
 
 pub round-trip : RoundTrip
-round-trip avic s e buffer pages h k =
-    let t : CpuidResults = answer avic s .table in
-    let x = list-writes-exactly avic s buffer in
-    let n : length (listOf t) ≡ listLength avic s = x .size e in
-    let w : writeList avic s buffer .answer ≡ Bytes (listLength avic s) = x .answers .written (listLength avic s) .1 (e, sym n, h) in
-    let b : writeList avic s buffer .buffer ≡ listOf t ++ drop (listLength avic s) buffer = x .answers .beyond (listLength avic s) w in
-    let f : exported avic s buffer ≡ listOf t = rw (b, ← n) (take-front (listOf t) _) in
-    let r : readList (exported avic s buffer) pages ≡ record { answer = Bytes 8192; buffer = imported t ++ drop 8192 pages } =
+round-trip chosen s e buffer pages h k =
+    let t : CpuidResults = answer chosen s .table in
+    let x = list-writes-exactly chosen s buffer in
+    let n : length (listOf t) ≡ listLength chosen s = x .size e in
+    let w : writeList chosen s buffer .answer ≡ Bytes (listLength chosen s) = x .answers .written (listLength chosen s) .1 (e, sym n, h) in
+    let b : writeList chosen s buffer .buffer ≡ listOf t ++ drop (listLength chosen s) buffer = x .answers .beyond (listLength chosen s) w in
+    let f : exported chosen s buffer ≡ listOf t = rw (b, ← n) (take-front (listOf t) _) in
+    let r : readList (exported chosen s buffer) pages ≡ record { answer = Bytes 8192; buffer = imported t ++ drop 8192 pages } =
     ap (λ (l : List ℕ). readList l pages) f ∙ read-table t pages k in
     let two : length (imported t) ≡ 8192 = two-pages (rowsRead t) (fit-0 t) (fit-1 t) in
-    let g : importedOf avic s buffer pages ≡ imported t =
+    let g : importedOf chosen s buffer pages ≡ imported t =
     ap (λ (o : AfterWrite). take 8192 (o .buffer)) r ∙ ap (λ (m : ℕ). take m (imported t ++ drop 8192 pages)) (sym two) ∙ take-front (imported t) _ in
     record {
       written = w;
       read = ap (λ (o : AfterWrite). o .answer) r;
-      same = ap (answer avic) g ∙ same-answer avic s e;
+      same = ap (answer chosen) g ∙ same-answer chosen s e;
     }

@@ -32,7 +32,7 @@ use Rattle.checks.specs.ExtendedStateLaws.{area-mono, xsaves-ecx, in-combined}
 use Rattle.checks.specs.TopologyInputs.{inputsOf}
 use Rattle.checks.specs.Checks.{refuseAt, missingComponent, invlpgbVerdict, componentsOf, componentsVerdict, areaVerdict, topologyVerdict, topologyRefusal, rowsVerdict}
 use Rattle.checks.specs.ChecksLaws.{AllPass, all-pass, required-present, present-required, component-present, demanded, then-skips}
-use Rattle.update.specs.Finish.{Rule, Settings, ruleAt, enabledBy, settings, finish, remains, finishRow, finished, unlessNoXss, addressSizesEbx}
+use Rattle.update.specs.Finish.{Rule, Settings, ymmClears, ruleAt, enabledBy, settings, finish, remains, finishRow, finished, unlessNoXss, addressSizesEbx}
 use Rattle.update.specs.Kinds.{fromEntry}
 use Rattle.update.specs.PlaceLaws.{always, always-from-entry, required-place, position, always-required, component-rule}
 use Rattle.update.specs.RemainsLaws.{finished-present, finished-result, finished-entry, always-remains, component-finished}
@@ -85,27 +85,27 @@ entry-present : (b : Bool) (x : CpuidResult) → pick b (row x) vacant .present 
 entry-present true x = refl
 entry-present false x = refl
 
-module _ (avic : Bool) (m : Rows) (masked : Masked avic m) where
+module _ (edition : ℕ) (avic : Bool) (m : Rows) (masked : Masked avic m) where
   abbrev n : Rows
-  n = again avic (finished m)
+  n = again avic (finished edition m)
 
-  n-at : (i : ℕ) → i < places → n i ≡ readAgain avic i (finished m i)
+  n-at : (i : ℕ) → i < places → n i ≡ readAgain avic i (finished edition m i)
   unfolding again
   n-at i l = pick-true _ _ (lt-ltb i places l)
 
   -- a row that is in the table and comes from an entry
-  in-table : (i : ℕ) → i < places → fromEntry (ruleAt i) ≡ true → finished m i .present ≡ true
-      → n i ≡ row (maskedAt avic i (finish (settings m) (ruleAt i) (m i .result)))
+  in-table : (i : ℕ) → i < places → fromEntry (ruleAt i) ≡ true → finished edition m i .present ≡ true
+      → n i ≡ row (maskedAt avic i (finish (settings edition m) (ruleAt i) (m i .result)))
   in-table i l f p =
-      n-at i l ∙ pick-true _ _ f ∙ pick-true _ _ p ∙ ap (λ (q : CpuidResult). row (maskedAt avic i q)) (finished-result m i p)
+      n-at i l ∙ pick-true _ _ f ∙ pick-true _ _ p ∙ ap (λ (q : CpuidResult). row (maskedAt avic i q)) (finished-result edition m i p)
 
   -- finishing it under the first settings gives it again
-  finished-again : (i : ℕ) → i < places → finishRow (settings m) (ruleAt i) (n i) ≡ finished m i
+  finished-again : (i : ℕ) → i < places → finishRow (settings edition m) (ruleAt i) (n i) ≡ finished edition m i
   unfolding finished
   finished-again i l = ap (finishRow c t) (n-at i l) ∙ go (remains c t (m i .present)) refl
     where
       c : Settings
-      c = settings m
+      c = settings edition m
 
       t : Rule
       t = ruleAt i
@@ -122,7 +122,7 @@ module _ (avic : Bool) (m : Rows) (masked : Masked avic m) where
           ∙ remains-again c t (m i .present)
           ∙ e)
           ∙ ap row
-          (finish-again c avic i r t (λ f. masked .fixed i l (finished-entry m i l f (finished-present m i ∙ e))) (keeps-12 avic i l))
+          (finish-again c avic i r t (λ f. masked .fixed i l (finished-entry edition m i l f (finished-present edition m i ∙ e))) (keeps-12 avic i l))
       go false e =
           ap (finishRow c t) (pick-same (fromEntry t) vacant)
           ∙ pick-false _ _
@@ -143,18 +143,18 @@ module _ (avic : Bool) (m : Rows) (masked : Masked avic m) where
         (required-present m (pass .required) (position i) (always-required i l e .0))
 
     required-row : (i : ℕ) → i < places → always (ruleAt i) ≡ true
-        → n i ≡ row (maskedAt avic i (finish (settings m) (ruleAt i) (m i .result)))
+        → n i ≡ row (maskedAt avic i (finish (settings edition m) (ruleAt i) (m i .result)))
     required-row i l e =
         in-table i l (always-from-entry (ruleAt i) e)
-        (finished-present m i ∙ always-remains (settings m) (λ j. m j .present) i l e ∙ present i l e)
+        (finished-present edition m i ∙ always-remains (settings edition m) (λ j. m j .present) i l e ∙ present i l e)
 
     component-row : (k : ℕ) → 2 ≤ k → k < 64 → has k (combinedMask m) ≡ true → n (Place.extendedState k) ≡ row (m (Place.extendedState k) .result)
     component-row k l u h =
         let i : ℕ = Place.extendedState k in
         let b : i < places = omega arith in
         let p : m i .present ≡ true = component-present m (pass .components) k l u h in
-        in-table i b (ap fromEntry (component-rule k l u)) (component-finished m k l u ∙ and-both h p)
-        ∙ ap (λ (t : Rule). row (maskedAt avic i (finish (settings m) t (m i .result)))) (component-rule k l u)
+        in-table i b (ap fromEntry (component-rule k l u)) (component-finished edition m k l u ∙ and-both h p)
+        ∙ ap (λ (t : Rule). row (maskedAt avic i (finish (settings edition m) t (m i .result)))) (component-rule k l u)
         ∙ ap row (masked .fixed i b p)
 
     -- the registers that rows need from each other, each left as it was
@@ -162,7 +162,7 @@ module _ (avic : Bool) (m : Rows) (masked : Masked avic m) where
       same-row : maskedAt avic i (m i .result) ≡ m i .result
       same-row = masked .fixed i l (present i l e)
 
-      made-row : n i .result ≡ maskedAt avic i (finish (settings m) (ruleAt i) (m i .result))
+      made-row : n i .result ≡ maskedAt avic i (finish (settings edition m) (ruleAt i) (m i .result))
       made-row = ap (λ (r : Row). r .result) (required-row i l e)
 
     xfem-again : xfem n ≡ xfem m
@@ -212,9 +212,10 @@ module _ (avic : Bool) (m : Rows) (masked : Masked avic m) where
         ap (saveArea n) xfem-again
         ∙ le-antisymm (area-mono n m 64 (within-refl (xfem m)) sums) (area-mono m n 64 (within-refl (xfem m)) (λ k l u h. sym (sums k l u h)))
 
-    settings-again : settings n ≡ settings m
+    settings-again : settings edition n ≡ settings edition m
     unfolding settings enabledBy
     settings-again = λ k. record {
+      clears = ymmClears edition;
       enabled = record { xfem = xfem-again k; xss = xss-again k; tscAux = has 9 (sev-again k) };
       saveArea = area-again k;
       threads = threadLevel (inputs-again k .t);
@@ -223,7 +224,7 @@ module _ (avic : Bool) (m : Rows) (masked : Masked avic m) where
 
     -- ---- every row, the mask and the verdict
 
-    pub row-again : (i : ℕ) → i < places → finished n i ≡ finished m i
+    pub row-again : (i : ℕ) → i < places → finished edition n i ≡ finished edition m i
     unfolding finished
     row-again i l = ap (λ (c : Settings). finishRow c (ruleAt i) (n i)) settings-again ∙ finished-again i l
 
@@ -271,7 +272,7 @@ module _ (avic : Bool) (m : Rows) (masked : Masked avic m) where
         ∙ topology-again
 
     -- the whole answer
-    pub built-again : builtFrom n ≡ builtFrom m
+    pub built-again : builtFrom edition n ≡ builtFrom edition m
     unfolding builtFrom
     built-again =
         rw (verdict-again, accepted)

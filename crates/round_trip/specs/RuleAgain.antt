@@ -12,7 +12,7 @@ use Rattle.x86defs.specs.declared.CpuidResult.{CpuidResult}
 use Rattle.x86defs.specs.Functions.{result}
 use Rattle.masking.specs.Kept.{masksAt}
 use Rattle.table.specs.Rows.{Row, Rows, row, vacant}
-use Rattle.update.specs.Finish.{Needed, Rule, changeRow, Enabled, Settings, hasYmm, hasAvx512, hasCet, ymmVersionEcx, ymmFeaturesEbx, ymmFeaturesEcx, avx512FeaturesEbx, avx512FeaturesEcx, avx512FeaturesEdx, cetSs, rdPid, rdtscp, ibrsAndStibp, btcNo, hypervisorPresent, versionEcx, featuresEbx, featuresEcx, featuresEdx, extendedVersionEdx, addressSizesEbx, unlessNoXss, finish, remains}
+use Rattle.update.specs.Finish.{Needed, Rule, changeRow, Enabled, YmmClears, Settings, hasYmm, hasAvx512, hasCet, avx512FeaturesEbx, avx512FeaturesEcx, avx512FeaturesEdx, cetSs, rdPid, rdtscp, ibrsAndStibp, btcNo, hypervisorPresent, versionEcx, featuresEbx, featuresEcx, featuresEdx, extendedVersionEcx, extendedVersionEdx, addressSizesEbx, unlessNoXss, finish, remains}
 use Rattle.update.specs.Finish.Needed.{versionAndFeatures, extendedFeatures, threadLevelRow, coreLevelRow, extendedState0, extendedState1, extendedVersionAndFeatures, extendedAddressSpaceSizes, untouched}
 use Rattle.update.specs.Finish.Rule.{made, needed, component}
 use Rattle.update.specs.Kinds.{fromEntry}
@@ -64,21 +64,26 @@ bitwise-again {f} b m x e =
 
 -- ---- each register
 
-module _ (c : Enabled) (m x : ℕ) (e : bitAnd x m ≡ x) where
-  versionEcx-again : versionEcx c (bitAnd (versionEcx c x) m) ≡ versionEcx c x
+module _ (y : YmmClears) (c : Enabled) (m x : ℕ) (e : bitAnd x m ≡ x) where
+  versionEcx-again : versionEcx y c (bitAnd (versionEcx y c x) m) ≡ versionEcx y c x
   unfolding versionEcx
   versionEcx-again = bitwise-again (bitwise-or _ (bitwise-clear (hasYmm c) _ bitwise-same)) m x e
 
-  featuresEbx-again : featuresEbx c (bitAnd (featuresEbx c x) m) ≡ featuresEbx c x
+  featuresEbx-again : featuresEbx y c (bitAnd (featuresEbx y c x) m) ≡ featuresEbx y c x
   unfolding featuresEbx
   featuresEbx-again = bitwise-again (bitwise-clear (hasAvx512 c) _ (bitwise-clear (hasYmm c) _ bitwise-same)) m x e
 
-  featuresEcx-again : featuresEcx c (bitAnd (featuresEcx c x) m) ≡ featuresEcx c x
+  featuresEcx-again : featuresEcx y c (bitAnd (featuresEcx y c x) m) ≡ featuresEcx y c x
   unfolding featuresEcx
   featuresEcx-again =
       bitwise-again
       (bitwise-clear (c .tscAux) _ (bitwise-clear (hasAvx512 c) _ (bitwise-clear (hasYmm c) _ (bitwise-clear (hasCet c) _ bitwise-same)))) m x e
 
+  extendedVersionEcx-again : extendedVersionEcx y c (bitAnd (extendedVersionEcx y c x) m) ≡ extendedVersionEcx y c x
+  unfolding extendedVersionEcx
+  extendedVersionEcx-again = bitwise-again (bitwise-clear (hasYmm c) _ bitwise-same) m x e
+
+module _ (c : Enabled) (m x : ℕ) (e : bitAnd x m ≡ x) where
   featuresEdx-again : featuresEdx c (bitAnd (featuresEdx c x) m) ≡ featuresEdx c x
   unfolding featuresEdx
   featuresEdx-again = bitwise-again (bitwise-clear (hasAvx512 c) _ bitwise-same) m x e
@@ -144,11 +149,12 @@ isSizes (component k) = false
 module _ (c : Settings) (avic : Bool) (i : ℕ) (r : CpuidResult) where
   change-again : (t : Needed) → maskedAt avic i r ≡ r → (sizesNeeded t ≡ true → bit 12 (masksAt avic i .ebx) ≡ 1)
       → changeRow c t (maskedAt avic i (changeRow c t r)) ≡ changeRow c t r
-  change-again versionAndFeatures e h = λ k. result (e k .eax) (e k .ebx) (versionEcx-again (c .enabled) _ _ (λ j. e j .ecx) k) (e k .edx)
+  change-again versionAndFeatures e h = λ k.
+      result (e k .eax) (e k .ebx) (versionEcx-again (c .clears) (c .enabled) _ _ (λ j. e j .ecx) k) (e k .edx)
   change-again extendedFeatures e h = λ k.
       result (e k .eax)
-      (featuresEbx-again (c .enabled) _ _ (λ j. e j .ebx) k)
-      (featuresEcx-again (c .enabled) _ _ (λ j. e j .ecx) k)
+      (featuresEbx-again (c .clears) (c .enabled) _ _ (λ j. e j .ebx) k)
+      (featuresEcx-again (c .clears) (c .enabled) _ _ (λ j. e j .ecx) k)
       (featuresEdx-again (c .enabled) _ _ (λ j. e j .edx) k)
   change-again threadLevelRow e h = refl
   change-again coreLevelRow e h = refl
@@ -158,7 +164,9 @@ module _ (c : Settings) (avic : Bool) (i : ℕ) (r : CpuidResult) where
       (unlessNoXss-again (c .enabled) _ _ (λ j. e j .ecx) k)
       (unlessNoXss-again (c .enabled) _ _ (λ j. e j .edx) k)
   change-again extendedVersionAndFeatures e h = λ k.
-      result (e k .eax) (e k .ebx) (e k .ecx) (extendedVersionEdx-again (c .enabled) _ _ (λ j. e j .edx) k)
+      result (e k .eax) (e k .ebx)
+      (extendedVersionEcx-again (c .clears) (c .enabled) _ _ (λ j. e j .ecx) k)
+      (extendedVersionEdx-again (c .enabled) _ _ (λ j. e j .edx) k)
   change-again extendedAddressSpaceSizes e h = λ k.
       result (e k .eax) (addressSizesEbx-again _ _ (h refl) (λ j. e j .ebx) k) (e k .ecx) (e k .edx)
   change-again untouched e h = e

@@ -3,6 +3,7 @@ use mathlib.Core.Bool.{Bool}
 use Prim.Native.Nat.{ℕ}
 use Rattle.bits.specs.Choice.{pick}
 use Rattle.build.specs.declared.Built.{Built}
+use Rattle.table.specs.declared.Choices.{Choices}
 use Rattle.table.specs.declared.Verdict.the-variants.{Accepted}
 use Rattle.table.specs.declared.Subleaf.{Subleaf}
 use Rattle.table.specs.declared.Subleaf.the-variants.{None, Some}
@@ -19,6 +20,10 @@ use Rattle.snp_cpuid.specs.declared.SnpCpuidBuilt.{SnpCpuidBuilt}
 use Rattle.snp_cpuid.specs.declared.SnpCpuidFound.{SnpCpuidFound}
 use Rattle.snp_cpuid.specs.declared.SnpCpuidWritten.{SnpCpuidWritten}
 use Rattle.snp_cpuid.specs.declared.SnpCpuidCompared.{SnpCpuidCompared}
+
+-- what a caller chooses
+abbrev pub choicesOf : Bool → ℕ → Choices
+choicesOf avic edition = record { «secure_avic» = avic; edition = edition }
 
 abbrev pub builtWith : AnswerNumbers → ℕ → ℕ → SnpCpuidBuilt
 builtWith n rows mask = record {

@@ -2,6 +2,7 @@
 use mathlib.Core.Bool.{Bool}
 use mathlib.Core.List.{List}
 use Prim.Native.Nat.{ℕ}
+use Rattle.table.specs.declared.Choices.{Choices}
 use Rattle.table.specs.declared.Subleaf.{Subleaf}
 use Rattle.lookup.specs.Lookup.{lookup}
 use Rattle.numbers.specs.Numbers.{numbersOf}
@@ -19,5 +20,5 @@ abbrev pub guestNumbers : GuestAnswer → SnpCpuidBuilt
 guestNumbers g = builtWith (numbersOf (g .verdict)) (g .table .«row_count») (g .table .«max_extended_state»)
 
 -- the lookup in the guest's table
-abbrev pub guestFound : Bool → List ℕ → Processor → ℕ → Subleaf → Bool → SnpCpuidFound
-guestFound avic s v leaf subleaf enforce = foundNumbers (lookup (guestPages avic s v .table) (record { 0 = leaf }) subleaf enforce)
+abbrev pub guestFound : Choices → List ℕ → Processor → ℕ → Subleaf → Bool → SnpCpuidFound
+guestFound chosen s v leaf subleaf enforce = foundNumbers (lookup (guestPages chosen s v .table) (record { 0 = leaf }) subleaf enforce)

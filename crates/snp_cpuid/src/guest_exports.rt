@@ -2,6 +2,7 @@
 use super::SnpCpuidBuilt;
 use super::SnpCpuidFound;
 use super::SnpCpuidWritten;
+use super::choices;
 use super::found_numbers;
 use super::subleaf_of;
 use super::written_numbers;
@@ -9,7 +10,7 @@ use guest::Processor;
 use x86defs::CpuidFunction;
 ghost use mathlib.Core.Path.{_≡_};
 ghost use Rattle.guest_pages.specs.GuestPages.{guestPages, writeGuest};
-ghost use Rattle.snp_cpuid.specs.Exports.{writtenNumbers, subleafOf};
+ghost use Rattle.snp_cpuid.specs.Exports.{choicesOf, writtenNumbers, subleafOf};
 ghost use Rattle.snp_cpuid.specs.GuestExports.{processorOf, guestNumbers, guestFound};
 
 // The processor that a caller describes.
@@ -29,15 +30,16 @@ fn processor(x2apic: u32, xcr0: u64, xss: u64, osxsave: bool) -> Processor
 pub extern "C" fn snp_cpuid_guest_build(
     pages: &[u8],
     secure_avic: bool,
+    edition: u32,
     x2apic: u32,
     xcr0: u64,
     xss: u64,
     osxsave: bool,
 ) -> SnpCpuidBuilt
-    ensures { λ r. ⌜ r ≡ guestNumbers (guestPages «secure_avic» (now (pages .entry)) (processorOf x2apic xcr0 xss osxsave)) ⌝ }
+    ensures { λ r. ⌜ r ≡ guestNumbers (guestPages (choicesOf «secure_avic» edition) (now (pages .entry)) (processorOf x2apic xcr0 xss osxsave)) ⌝ }
 {
     let v = processor(x2apic, xcr0, xss, osxsave);
-    let seen = guest_pages::guest_pages(pages, secure_avic, v);
+    let seen = guest_pages::guest_pages(pages, choices(secure_avic, edition), v);
     let verdict = seen.verdict;
     let table = seen.table;
     let numbers = numbers::answer_numbers(verdict);
@@ -57,6 +59,7 @@ pub extern "C" fn snp_cpuid_guest_build(
 pub extern "C" fn snp_cpuid_guest_lookup(
     pages: &[u8],
     secure_avic: bool,
+    edition: u32,
     x2apic: u32,
     xcr0: u64,
     xss: u64,
@@ -66,10 +69,10 @@ pub extern "C" fn snp_cpuid_guest_lookup(
     subleaf: u32,
     enforce_subleaf: bool,
 ) -> SnpCpuidFound
-    ensures { λ r. ⌜ r ≡ guestFound «secure_avic» (now (pages .entry)) (processorOf x2apic xcr0 xss osxsave) leaf (subleafOf «has_subleaf» subleaf) «enforce_subleaf» ⌝ }
+    ensures { λ r. ⌜ r ≡ guestFound (choicesOf «secure_avic» edition) (now (pages .entry)) (processorOf x2apic xcr0 xss osxsave) leaf (subleafOf «has_subleaf» subleaf) «enforce_subleaf» ⌝ }
 {
     let v = processor(x2apic, xcr0, xss, osxsave);
-    let seen = guest_pages::guest_pages(pages, secure_avic, v);
+    let seen = guest_pages::guest_pages(pages, choices(secure_avic, edition), v);
     let table = seen.table;
     let named = subleaf_of(has_subleaf, subleaf);
     let result = lookup::leaf_result(table, CpuidFunction(leaf), named, enforce_subleaf);
@@ -81,15 +84,16 @@ pub extern "C" fn snp_cpuid_guest_lookup(
 pub extern "C" fn snp_cpuid_write_guest_image(
     pages: &[u8],
     secure_avic: bool,
+    edition: u32,
     x2apic: u32,
     xcr0: u64,
     xss: u64,
     osxsave: bool,
     out: &mut [u8],
 ) -> SnpCpuidWritten
-    ensures { λ r. ⌜ r ≡ writtenNumbers (writeGuest «secure_avic» (now (pages .entry)) (processorOf x2apic xcr0 xss osxsave) (now (out .entry)) .answer) ⌝ }
-    ensures { λ _. ⌜ now (out .exit) ≡ writeGuest «secure_avic» (now (pages .entry)) (processorOf x2apic xcr0 xss osxsave) (now (out .entry)) .buffer ⌝ }
+    ensures { λ r. ⌜ r ≡ writtenNumbers (writeGuest (choicesOf «secure_avic» edition) (now (pages .entry)) (processorOf x2apic xcr0 xss osxsave) (now (out .entry)) .answer) ⌝ }
+    ensures { λ _. ⌜ now (out .exit) ≡ writeGuest (choicesOf «secure_avic» edition) (now (pages .entry)) (processorOf x2apic xcr0 xss osxsave) (now (out .entry)) .buffer ⌝ }
 {
     let v = processor(x2apic, xcr0, xss, osxsave);
-    written_numbers(guest_pages::write_guest_image(pages, secure_avic, v, out))
+    written_numbers(guest_pages::write_guest_image(pages, choices(secure_avic, edition), v, out))
 }

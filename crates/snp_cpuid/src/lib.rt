@@ -4,6 +4,7 @@ use compare::Compared;
 use compare::Register;
 use lookup::LeafResult;
 use numbers::AnswerNumbers;
+use table::Choices;
 use table::Subleaf;
 use table::Verdict;
 use x86defs::CpuidFunction;
@@ -13,7 +14,7 @@ ghost use Rattle.lookup.specs.Lookup.{lookup};
 ghost use Rattle.write.specs.Write.{write};
 ghost use Rattle.compare.specs.Compare.{compared};
 ghost use Rattle.compare.specs.Means.{order};
-ghost use Rattle.snp_cpuid.specs.Exports.{builtNumbers, foundNumbers, writtenNumbers, comparedWith, comparedNumbers, subleafOf};
+ghost use Rattle.snp_cpuid.specs.Exports.{choicesOf, builtNumbers, foundNumbers, writtenNumbers, comparedWith, comparedNumbers, subleafOf};
 
 mod guest_exports;
 mod kvm;
@@ -60,12 +61,22 @@ pub struct SnpCpuidCompared {
     pub register_index: u32,
 }
 
+// What a caller chooses.
+fn choices(secure_avic: bool, edition: u32) -> Choices
+    ensures { λ r. ⌜ r ≡ choicesOf «secure_avic» edition ⌝ }
+{
+    Choices {
+        secure_avic,
+        edition,
+    }
+}
+
 // Builds the table of the given pages.
 #[no_mangle]
-pub extern "C" fn snp_cpuid_build(pages: &[u8], secure_avic: bool) -> SnpCpuidBuilt
-    ensures { λ r. ⌜ r ≡ builtNumbers (answer «secure_avic» (now (pages .entry))) ⌝ }
+pub extern "C" fn snp_cpuid_build(pages: &[u8], secure_avic: bool, edition: u32) -> SnpCpuidBuilt
+    ensures { λ r. ⌜ r ≡ builtNumbers (answer (choicesOf «secure_avic» edition) (now (pages .entry))) ⌝ }
 {
-    let built = build::build(pages, secure_avic);
+    let built = build::build(pages, choices(secure_avic, edition));
     let verdict = built.verdict;
     let table = built.table;
     let numbers = numbers::answer_numbers(verdict);
@@ -117,15 +128,16 @@ fn found_numbers(result: LeafResult) -> SnpCpuidFound
 pub extern "C" fn snp_cpuid_lookup(
     pages: &[u8],
     secure_avic: bool,
+    edition: u32,
     leaf: u32,
     has_subleaf: bool,
     subleaf: u32,
     enforce_subleaf: bool,
 ) -> SnpCpuidFound
-    ensures { λ r. ⌜ r ≡ foundNumbers (lookup (answer «secure_avic» (now (pages .entry)) .table) (record { 0 = leaf })
+    ensures { λ r. ⌜ r ≡ foundNumbers (lookup (answer (choicesOf «secure_avic» edition) (now (pages .entry)) .table) (record { 0 = leaf })
         (subleafOf «has_subleaf» subleaf) «enforce_subleaf») ⌝ }
 {
-    let built = build::build(pages, secure_avic);
+    let built = build::build(pages, choices(secure_avic, edition));
     let table = built.table;
     let named = subleaf_of(has_subleaf, subleaf);
     let result = lookup::leaf_result(table, CpuidFunction(leaf), named, enforce_subleaf);
@@ -164,12 +176,13 @@ fn written_numbers(written: Written) -> SnpCpuidWritten
 pub extern "C" fn snp_cpuid_write_image(
     pages: &[u8],
     secure_avic: bool,
+    edition: u32,
     out: &mut [u8],
 ) -> SnpCpuidWritten
-    ensures { λ r. ⌜ r ≡ writtenNumbers (write «secure_avic» (now (pages .entry)) (now (out .entry)) .answer) ⌝ }
-    ensures { λ _. ⌜ now (out .exit) ≡ write «secure_avic» (now (pages .entry)) (now (out .entry)) .buffer ⌝ }
+    ensures { λ r. ⌜ r ≡ writtenNumbers (write (choicesOf «secure_avic» edition) (now (pages .entry)) (now (out .entry)) .answer) ⌝ }
+    ensures { λ _. ⌜ now (out .exit) ≡ write (choicesOf «secure_avic» edition) (now (pages .entry)) (now (out .entry)) .buffer ⌝ }
 {
-    written_numbers(write::write_image(pages, secure_avic, out))
+    written_numbers(write::write_image(pages, choices(secure_avic, edition), out))
 }
 
 // EAX to EDX as 0 to 3.
@@ -219,8 +232,13 @@ fn compared_numbers(compared: Compared) -> SnpCpuidCompared
 
 // Whether a guest of the server with pages `a` may move to the one with pages `b`, or the first thing in the way.
 #[no_mangle]
-pub extern "C" fn snp_cpuid_compare(a: &[u8], b: &[u8], secure_avic: bool) -> SnpCpuidCompared
-    ensures { λ r. ⌜ r ≡ comparedNumbers (compared «secure_avic» (now (a .entry)) (now (b .entry))) ⌝ }
+pub extern "C" fn snp_cpuid_compare(
+    a: &[u8],
+    b: &[u8],
+    secure_avic: bool,
+    edition: u32,
+) -> SnpCpuidCompared
+    ensures { λ r. ⌜ r ≡ comparedNumbers (compared (choicesOf «secure_avic» edition) (now (a .entry)) (now (b .entry))) ⌝ }
 {
-    compared_numbers(compare::compare(a, b, secure_avic))
+    compared_numbers(compare::compare(a, b, choices(secure_avic, edition)))
 }

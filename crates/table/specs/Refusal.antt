@@ -6,7 +6,7 @@ use Rattle.topology.specs.declared.TopologyError.the-variants.{Hyperthreading, 
 use Rattle.table.specs.declared.Subleaf.{Subleaf}
 use Rattle.table.specs.declared.Subleaf.the-variants.{None}
 use Rattle.table.specs.declared.Refusal.{Refusal}
-use Rattle.table.specs.declared.Refusal.the-variants.{PagesLength, PageCount, MissingRequiredResult, InvlpgbUnavailable, SaveAreaOverflow, TopologyInconsistent, BufferTooShort, ListLength, ListRows, ListFields, StateBeyondTable, CompactSizeTooLarge}
+use Rattle.table.specs.declared.Refusal.the-variants.{PagesLength, PageCount, MissingRequiredResult, InvlpgbUnavailable, SaveAreaOverflow, TopologyInconsistent, BufferTooShort, ListLength, ListRows, ListFields, StateBeyondTable, CompactSizeTooLarge, UnknownEdition}
 use Rattle.table.specs.declared.Verdict.{Verdict}
 use Rattle.table.specs.declared.Verdict.the-variants.{Accepted, Refused}
 
@@ -41,6 +41,7 @@ details ListRows = alone 11
 details ListFields = alone 12
 details StateBeyondTable = alone 13
 details CompactSizeTooLarge = alone 14
+details UnknownEdition = alone 15
 
 -- the first check that fails decides
 abbrev pub andThen : Verdict → Verdict → Verdict

@@ -19,11 +19,12 @@ use Rattle.x86defs.specs.declared.CpuidFunction.{CpuidFunction}
 use Rattle.x86defs.specs.declared.CpuidResult.{CpuidResult}
 use Rattle.x86defs.specs.Functions.{result}
 use Rattle.masking.specs.Kept.{places}
+use Rattle.table.specs.declared.Choices.{Choices}
 use Rattle.table.specs.declared.Subleaf.{Subleaf}
 use Rattle.topology.specs.declared.TopologyError.{TopologyError}
 use Rattle.topology.specs.declared.TopologyError.the-variants.{Hyperthreading, ProcessorCount, ThreadsPerUnit}
 use Rattle.table.specs.declared.Refusal.{Refusal}
-use Rattle.table.specs.declared.Refusal.the-variants.{PagesLength, PageCount, MissingRequiredResult, InvlpgbUnavailable, SaveAreaOverflow, TopologyInconsistent, BufferTooShort, ListLength, ListRows, ListFields, StateBeyondTable, CompactSizeTooLarge}
+use Rattle.table.specs.declared.Refusal.the-variants.{PagesLength, PageCount, MissingRequiredResult, InvlpgbUnavailable, SaveAreaOverflow, TopologyInconsistent, BufferTooShort, ListLength, ListRows, ListFields, StateBeyondTable, CompactSizeTooLarge, UnknownEdition}
 use Rattle.table.specs.Refusal.{details, topologyDetails}
 use Rattle.table.specs.declared.Verdict.{Verdict}
 use Rattle.table.specs.declared.Verdict.the-variants.{Accepted, Refused}
@@ -31,8 +32,7 @@ use Rattle.table.specs.Rows.{Row, Rows}
 use Rattle.update.specs.Kinds.{TableAtLeast, Registers, kindsAt}
 use Rattle.table.specs.Table.{rowIn}
 use Rattle.build.specs.Built.{tableFor}
-use Rattle.collect.specs.FirstEntries.{rowsOf}
-use Rattle.build.specs.Build.{answer}
+use Rattle.build.specs.Build.{rowsFor, answer}
 use Rattle.lookup.specs.declared.LeafResult.the-variants.{Some as Found, None as Nothing}
 use Rattle.lookup.specs.Lookup.{lookup, rowResult}
 use Rattle.lookup.specs.LookupLaws.{placeAsked, lookup-at}
@@ -52,11 +52,11 @@ use Rattle.snp_cpuid.specs.declared.SnpCpuidFound.{SnpCpuidFound}
 use Rattle.snp_cpuid.specs.Exports.{builtNumbers, foundNumbers, comparedNumbers}
 
 -- what snp_cpuid_build gives a page set, and snp_cpuid_lookup
-abbrev pub built : Bool → List ℕ → SnpCpuidBuilt
-built avic s = builtNumbers (answer avic s)
+abbrev pub built : Choices → List ℕ → SnpCpuidBuilt
+built chosen s = builtNumbers (answer chosen s)
 
-abbrev pub found : Bool → List ℕ → CpuidFunction → Subleaf → Bool → SnpCpuidFound
-found avic s leaf subleaf enforce = foundNumbers (lookup (answer avic s .table) leaf subleaf enforce)
+abbrev pub found : Choices → List ℕ → CpuidFunction → Subleaf → Bool → SnpCpuidFound
+found chosen s leaf subleaf enforce = foundNumbers (lookup (answer chosen s .table) leaf subleaf enforce)
 
 abbrev pub registersOf : SnpCpuidFound → CpuidResult
 registersOf f = result (f .eax) (f .ebx) (f .ecx) (f .edx)
@@ -79,17 +79,17 @@ pub data BuiltRises (m : Rows) (n : SnpCpuidBuilt) : Type 0 where
   refused-5 : ((k : ℕ) → Lacking m k → ⊥) → AreaFault m → n ≡ refusedNumbers 5 0 0 0 → BuiltRises m n
   accepted-0 : ((k : ℕ) → Lacking m k → ⊥) → (AreaFault m → ⊥) → n .number ≡ 0 → BuiltRises m n
 
-pub record ExportsRise (avic : Bool) (a b : List ℕ) : Type 0 where
-  pub answers : BuiltRises (rowsOf avic b) (built avic b)
+pub record ExportsRise (chosen : Choices) (a b : List ℕ) : Type 0 where
+  pub answers : BuiltRises (rowsFor chosen b) (built chosen b)
   -- where B is accepted: at least A's mask, and whatever is found in A's table is found in B's with registers that compare
-  pub mask : built avic b .number ≡ 0 → Within (built avic a .«max_extended_state») (built avic b .«max_extended_state»)
-  pub rows : built avic b .number ≡ 0 → (leaf : CpuidFunction) (subleaf : Subleaf) (enforce : Bool) → found avic a leaf subleaf enforce .found ≡ 1
-      → (found avic b leaf subleaf enforce .found ≡ 1)
-      × Registers TableAtLeast (kindsAt (placeAsked leaf subleaf enforce)) (registersOf (found avic a leaf subleaf enforce))
-      (registersOf (found avic b leaf subleaf enforce))
+  pub mask : built chosen b .number ≡ 0 → Within (built chosen a .«max_extended_state») (built chosen b .«max_extended_state»)
+  pub rows : built chosen b .number ≡ 0 → (leaf : CpuidFunction) (subleaf : Subleaf) (enforce : Bool) → found chosen a leaf subleaf enforce .found ≡ 1
+      → (found chosen b leaf subleaf enforce .found ≡ 1)
+      × Registers TableAtLeast (kindsAt (placeAsked leaf subleaf enforce)) (registersOf (found chosen a leaf subleaf enforce))
+      (registersOf (found chosen b leaf subleaf enforce))
   -- beyond these only: what is found in B's table and not in A's is a Dh subleaf from 2 up that B's mask has and A's has not
-  pub others : built avic b .number ≡ 0 → (leaf : CpuidFunction) (subleaf : Subleaf) (enforce : Bool) → found avic b leaf subleaf enforce .found ≡ 1
-      → (found avic a leaf subleaf enforce .found ≡ 1) ⊎ Further (answer avic a .table) (answer avic b .table) (placeAsked leaf subleaf enforce)
+  pub others : built chosen b .number ≡ 0 → (leaf : CpuidFunction) (subleaf : Subleaf) (enforce : Bool) → found chosen b leaf subleaf enforce .found ≡ 1
+      → (found chosen a leaf subleaf enforce .found ≡ 1) ⊎ Further (answer chosen a .table) (answer chosen b .table) (placeAsked leaf subleaf enforce)
 
 -- ---- the proof
 
@@ -112,24 +112,25 @@ refusal-numbered ListRows e = omega arith
 refusal-numbered ListFields e = omega arith
 refusal-numbered StateBeyondTable e = omega arith
 refusal-numbered CompactSizeTooLarge e = omega arith
+refusal-numbered UnknownEdition e = omega arith
 
 verdict-numbered : (v : Verdict) → numbersOf v .number ≡ 0 → v ≡ Accepted
 verdict-numbered Accepted e = refl
 verdict-numbered (Refused r) e = absurd (refusal-numbered r e)
 
 -- a table has 88 places
-table-whole : (avic : Bool) (s : List ℕ) → length (answer avic s .table .present) ≤ places
+table-whole : (chosen : Choices) (s : List ℕ) → length (answer chosen s .table .present) ≤ places
 unfolding answer
-table-whole avic s = go (Rattle.build.specs.Build.verdictOf avic s)
+table-whole chosen s = go (Rattle.build.specs.Build.verdictOf chosen s)
   where
-    go : (v : Verdict) → length (tableFor v (rowsOf avic s) .present) ≤ places
+    go : (v : Verdict) → length (tableFor (chosen .edition) v (rowsFor chosen s) .present) ≤ places
     go Accepted = le-of-eq (length-tabulate places _)
     go (Refused r) = le-of-eq (length-replicate places false)
 
-rise-answers : (avic : Bool) (b : List ℕ) → Outcome (rowsOf avic b) (answer avic b .verdict) → BuiltRises (rowsOf avic b) (built avic b)
-rise-answers avic b (missing k f e) = refused-3 k f (rw (builds-exactly avic b .empty _ e, e))
-rise-answers avic b (overflow n f e) = refused-5 n f (rw (builds-exactly avic b .empty _ e, e))
-rise-answers avic b (accepted n f e) = accepted-0 n f (rw e)
+rise-answers : (chosen : Choices) (b : List ℕ) → Outcome (rowsFor chosen b) (answer chosen b .verdict) → BuiltRises (rowsFor chosen b) (built chosen b)
+rise-answers chosen b (missing k f e) = refused-3 k f (rw (builds-exactly chosen b .empty _ e, e))
+rise-answers chosen b (overflow n f e) = refused-5 n f (rw (builds-exactly chosen b .empty _ e, e))
+rise-answers chosen b (accepted n f e) = accepted-0 n f (rw e)
 
 -- what is found is the row of the place that is asked for
 found-numbers : (r : Row) → r .present ≡ true
@@ -144,34 +145,34 @@ found-present r e = go (r .present) e
     go false e = absurd (omega arith)
 
 -- a row that is there stands at one of the 88 places
-present-inside : (avic : Bool) (s : List ℕ) (i : ℕ) → rowIn (answer avic s .table) i .present ≡ true → i < places
-present-inside avic s i e = go (ltb i places) refl
+present-inside : (chosen : Choices) (s : List ℕ) (i : ℕ) → rowIn (answer chosen s .table) i .present ≡ true → i < places
+present-inside chosen s i e = go (ltb i places) refl
   where
     go : (b : Bool) → ltb i places ≡ b → i < places
     go true f = ltb-true i places f
     go false f =
-        let h : length (answer avic s .table .present) ≤ i = omega (arith, table-whole avic s, ltb-false i places f) in
-        absurd (never-both e (List·getD-eq-default (answer avic s .table .present) false h))
+        let h : length (answer chosen s .table .present) ≤ i = omega (arith, table-whole chosen s, ltb-false i places f) in
+        absurd (never-both e (List·getD-eq-default (answer chosen s .table .present) false h))
 
-module _ (avic : Bool) (a b : List ℕ) (rises : RiseHypothesis avic a b) where
-  risen : RiseConclusion avic a b
-  risen = demand-3 avic a b rises
+module _ (chosen : Choices) (a b : List ℕ) (rises : RiseHypothesis chosen a b) where
+  risen : RiseConclusion chosen a b
+  risen = demand-3 chosen a b rises
 
-  rowsFound : TableRises (answer avic a .table) (answer avic b .table) → (leaf : CpuidFunction) (subleaf : Subleaf) (enforce : Bool)
-      → found avic a leaf subleaf enforce .found ≡ 1
-      → (found avic b leaf subleaf enforce .found ≡ 1)
-      × Registers TableAtLeast (kindsAt (placeAsked leaf subleaf enforce)) (registersOf (found avic a leaf subleaf enforce))
-      (registersOf (found avic b leaf subleaf enforce))
+  rowsFound : TableRises (answer chosen a .table) (answer chosen b .table) → (leaf : CpuidFunction) (subleaf : Subleaf) (enforce : Bool)
+      → found chosen a leaf subleaf enforce .found ≡ 1
+      → (found chosen b leaf subleaf enforce .found ≡ 1)
+      × Registers TableAtLeast (kindsAt (placeAsked leaf subleaf enforce)) (registersOf (found chosen a leaf subleaf enforce))
+      (registersOf (found chosen b leaf subleaf enforce))
   rowsFound t leaf subleaf enforce e =
       let i : ℕ = placeAsked leaf subleaf enforce in
-      let ra : Row = rowIn (answer avic a .table) i in
-      let rb : Row = rowIn (answer avic b .table) i in
-      let fa : foundNumbers (rowResult ra) ≡ found avic a leaf subleaf enforce =
-      ap foundNumbers (lookup-at (answer avic a .table) (table-whole avic a) leaf subleaf enforce i refl) in
-      let fb : foundNumbers (rowResult rb) ≡ found avic b leaf subleaf enforce =
-      ap foundNumbers (lookup-at (answer avic b .table) (table-whole avic b) leaf subleaf enforce i refl) in
+      let ra : Row = rowIn (answer chosen a .table) i in
+      let rb : Row = rowIn (answer chosen b .table) i in
+      let fa : foundNumbers (rowResult ra) ≡ found chosen a leaf subleaf enforce =
+      ap foundNumbers (lookup-at (answer chosen a .table) (table-whole chosen a) leaf subleaf enforce i refl) in
+      let fb : foundNumbers (rowResult rb) ≡ found chosen b leaf subleaf enforce =
+      ap foundNumbers (lookup-at (answer chosen b .table) (table-whole chosen b) leaf subleaf enforce i refl) in
       let pa : ra .present ≡ true = found-present ra (ap (λ (f : SnpCpuidFound). f .found) fa ∙ e) in
-      let l : i < places = present-inside avic a i pa in
+      let l : i < places = present-inside chosen a i pa in
       let pb : rb .present ≡ true = t .rows i l pa in
       let na = found-numbers ra pa in
       let nb = found-numbers rb pb in (
@@ -182,42 +183,42 @@ module _ (avic : Bool) (a b : List ℕ) (rises : RiseHypothesis avic a b) where
 
   -- a row that is there is found
   found-there : (s : List ℕ) (leaf : CpuidFunction) (subleaf : Subleaf) (enforce : Bool)
-      → rowIn (answer avic s .table) (placeAsked leaf subleaf enforce) .present ≡ true → found avic s leaf subleaf enforce .found ≡ 1
+      → rowIn (answer chosen s .table) (placeAsked leaf subleaf enforce) .present ≡ true → found chosen s leaf subleaf enforce .found ≡ 1
   found-there s leaf subleaf enforce p =
       let i : ℕ = placeAsked leaf subleaf enforce in
-      sym (ap (λ (f : SnpCpuidFound). f .found) (ap foundNumbers (lookup-at (answer avic s .table) (table-whole avic s) leaf subleaf enforce i refl)))
-      ∙ ap (λ (f : SnpCpuidFound). f .found) (found-numbers (rowIn (answer avic s .table) i) p)
+      sym (ap (λ (f : SnpCpuidFound). f .found) (ap foundNumbers (lookup-at (answer chosen s .table) (table-whole chosen s) leaf subleaf enforce i refl)))
+      ∙ ap (λ (f : SnpCpuidFound). f .found) (found-numbers (rowIn (answer chosen s .table) i) p)
 
-  othersFound : TableRises (answer avic a .table) (answer avic b .table) → (leaf : CpuidFunction) (subleaf : Subleaf) (enforce : Bool)
-      → found avic b leaf subleaf enforce .found ≡ 1
-      → (found avic a leaf subleaf enforce .found ≡ 1) ⊎ Further (answer avic a .table) (answer avic b .table) (placeAsked leaf subleaf enforce)
+  othersFound : TableRises (answer chosen a .table) (answer chosen b .table) → (leaf : CpuidFunction) (subleaf : Subleaf) (enforce : Bool)
+      → found chosen b leaf subleaf enforce .found ≡ 1
+      → (found chosen a leaf subleaf enforce .found ≡ 1) ⊎ Further (answer chosen a .table) (answer chosen b .table) (placeAsked leaf subleaf enforce)
   othersFound t leaf subleaf enforce e =
       let i : ℕ = placeAsked leaf subleaf enforce in
-      let rb : Row = rowIn (answer avic b .table) i in
-      let fb : foundNumbers (rowResult rb) ≡ found avic b leaf subleaf enforce =
-      ap foundNumbers (lookup-at (answer avic b .table) (table-whole avic b) leaf subleaf enforce i refl) in
+      let rb : Row = rowIn (answer chosen b .table) i in
+      let fb : foundNumbers (rowResult rb) ≡ found chosen b leaf subleaf enforce =
+      ap foundNumbers (lookup-at (answer chosen b .table) (table-whole chosen b) leaf subleaf enforce i refl) in
       let pb : rb .present ≡ true = found-present rb (ap (λ (f : SnpCpuidFound). f .found) fb ∙ e) in
-      elim (t .others i (present-inside avic b i pb) pb) [
+      elim (t .others i (present-inside chosen b i pb) pb) [
         | inl p ↦ inl (found-there a leaf subleaf enforce p)
         | inr f ↦ inr f
       ]
 
-  pub exports-rise : ExportsRise avic a b
+  pub exports-rise : ExportsRise chosen a b
   exports-rise = record {
-    answers = rise-answers avic b (risen .outcome);
-    mask = λ n. risen .table (verdict-numbered (answer avic b .verdict) n) .mask;
-    rows = λ n. rowsFound (risen .table (verdict-numbered (answer avic b .verdict) n));
-    others = λ n. othersFound (risen .table (verdict-numbered (answer avic b .verdict) n));
+    answers = rise-answers chosen b (risen .outcome);
+    mask = λ n. risen .table (verdict-numbered (answer chosen b .verdict) n) .mask;
+    rows = λ n. rowsFound (risen .table (verdict-numbered (answer chosen b .verdict) n));
+    others = λ n. othersFound (risen .table (verdict-numbered (answer chosen b .verdict) n));
   }
 
 -- ---- snp_cpuid_compare gives `comparedNumbers` of the comparison: answer 0 if and only if the hypothesis of demand 3 holds
 
-abbrev pub compareAnswer : Bool → List ℕ → List ℕ → ℕ
-compareAnswer avic a b = comparedNumbers (compared avic a b) .answer
+abbrev pub compareAnswer : Choices → List ℕ → List ℕ → ℕ
+compareAnswer chosen a b = comparedNumbers (compared chosen a b) .answer
 
-pub record ExportsCompare (avic : Bool) (a b : List ℕ) : Type 0 where
-  pub yes : compareAnswer avic a b ≡ 0 → RiseHypothesis avic a b × ExportsRise avic a b
-  pub complete : RiseHypothesis avic a b → compareAnswer avic a b ≡ 0
+pub record ExportsCompare (chosen : Choices) (a b : List ℕ) : Type 0 where
+  pub yes : compareAnswer chosen a b ≡ 0 → RiseHypothesis chosen a b × ExportsRise chosen a b
+  pub complete : RiseHypothesis chosen a b → compareAnswer chosen a b ≡ 0
 
 answer-numbered : (c : Compared) → comparedNumbers c .answer ≡ 0 → c ≡ Yes
 answer-numbered Yes e = refl
@@ -226,12 +227,12 @@ answer-numbered (UnlawfulB r) e = absurd (omega arith)
 answer-numbered (NoEntry leaf subleaf) e = absurd (omega arith)
 answer-numbered (Differs leaf subleaf register) e = absurd (omega arith)
 
-pub exports-compare : (avic : Bool) (a b : List ℕ) → ExportsCompare avic a b
-exports-compare avic a b =
-    let d : Decides avic a b (compared avic a b) = decides avic a b in
+pub exports-compare : (chosen : Choices) (a b : List ℕ) → ExportsCompare chosen a b
+exports-compare chosen a b =
+    let d : Decides chosen a b (compared chosen a b) = decides chosen a b in
     record {
       yes = λ e.
-          let rises : RiseHypothesis avic a b = subst (Means avic a b) (answer-numbered (compared avic a b) e) (d .means) .0 in
-          (rises, exports-rise avic a b rises);
+          let rises : RiseHypothesis chosen a b = subst (Means chosen a b) (answer-numbered (compared chosen a b) e) (d .means) .0 in
+          (rises, exports-rise chosen a b rises);
       complete = λ h. ap (λ (c : Compared). comparedNumbers c .answer) (d .complete h);
     }

@@ -1,17 +1,19 @@
 -- What is proved, statement by statement: the page to open first. Each names the file where its words are defined. The contracts tie the
 -- code to the definition: `build::build` promises `answer`, and every other entry point an equation with a definition over it.
--- `answer avic s` is the answer of the definition (crates/build/specs/Build.antt) to the page bytes s under the secure-AVIC choice avic.
+-- `answer chosen s` is the answer of the definition (crates/build/specs/Build.antt) to the page bytes s under what the caller chooses: secure
+-- AVIC or not, and the edition of the AVX rule.
 use mathlib.Core.Path.{_≡_}
 use mathlib.Core.Bool.{Bool, true, false}
 use mathlib.Core.List.{List, [], _∷_, map, _++_}
-use Prim.Native.Nat.{ℕ, _≤_, _<_, _^_}
+use Prim.Native.Nat.{ℕ, _+_, _≤_, _<_, _^_}
 use lib.ListN.{length, replicate, take}
 use Rattle.x86defs.specs.Functions.{result, VersionAndFeatures, ExtendedStateEnumeration}
 use Rattle.x86defs.specs.declared.CpuidFunction.{CpuidFunction}
+use Rattle.table.specs.declared.Choices.{Choices}
 use Rattle.table.specs.declared.Subleaf.{Subleaf}
 use Rattle.table.specs.declared.Subleaf.the-variants.{None, Some}
 use Rattle.table.specs.declared.Refusal.{Refusal}
-use Rattle.table.specs.declared.Refusal.the-variants.{PagesLength, MissingRequiredResult, SaveAreaOverflow, BufferTooShort, ListLength, ListRows, ListFields, StateBeyondTable, CompactSizeTooLarge}
+use Rattle.table.specs.declared.Refusal.the-variants.{UnknownEdition, PagesLength, MissingRequiredResult, SaveAreaOverflow, BufferTooShort, ListLength, ListRows, ListFields, StateBeyondTable, CompactSizeTooLarge}
 use Rattle.table.specs.declared.CpuidResults.{CpuidResults}
 use Rattle.table.specs.Rows.{Rows}
 use Rattle.table.specs.Table.{rowIn, rowsIn}
@@ -40,8 +42,8 @@ use Rattle.counts.specs.CountsProof.{rows-counted, at-most-32, at-most-732, sin
 use Rattle.images.specs.Images.{ImageAscends, EqualImages}
 use Rattle.images.specs.AscendLaws.{image-ascends}
 use Rattle.images.specs.ImagesProof.{equal-images}
-use Rattle.rise.specs.Rise.{RiseHypothesis, HypothesisByTheLetter, RiseConclusion, TableRises}
-use Rattle.rise.specs.RiseProof.{demand-3, demand-3-by-the-letter}
+use Rattle.rise.specs.Rise.{RiseHypothesis, HypothesisByTheLetter, RiseConclusion, RiseTo, TableRises, SecondToFirst}
+use Rattle.rise.specs.RiseProof.{demand-3, demand-3-by-the-letter, second-to-first-rises}
 use Rattle.rise.specs.Same.{rises-itself, same-figures}
 use Rattle.compare.specs.declared.Register.the-variants.{Ecx}
 use Rattle.compare.specs.declared.Compared.the-variants.{Rises as Yes, RefusedA, UnlawfulB, NoEntry, Differs}
@@ -88,7 +90,14 @@ use Rattle.round_trip.specs.Reads.{AreBytes, ReadMakes}
 use Rattle.round_trip.specs.ReadsExactly.{ReadsExactly}
 use Rattle.round_trip.specs.ReadsExactlyProof.{reads-exactly, read-makes}
 use Rattle.round_trip.specs.Ascends.{Ascend, rows-ascend as list-ascends}
+use Rattle.update.specs.Finish.{edition1, edition2}
+use Rattle.update.specs.FinishLaws.{figures as clears, ymm-figures, ymm-figures-2}
+use Rattle.editions.specs.Second.{SecondEdition, FirstEdition}
+use Rattle.editions.specs.SecondProof as Editions
+use Rattle.edition_examples.specs.WithoutYmm as WithoutYmm
+use Rattle.build.specs.Build.{underEdition}
 use Rattle.examples.specs.KvmLists as KvmLists
+use Rattle.examples.specs.Evaluation.{first}
 use Rattle.examples.specs.PageSets.{serverA, serverB, serverWithoutD12, serverWithLargeD6}
 use Rattle.examples.specs.Computed as Computed
 use Rattle.examples.specs.Compared as Pairs
@@ -97,45 +106,46 @@ use Rattle.examples.specs.MarkedRows.Shown.{core, refusal, area, supervisor}
 
 -- ---- Demand 1. crates/refusals/specs/Conditions.antt has each condition by itself, Exactly.antt the two records.
 
--- For each refusal 1 to 8: given if and only if its condition holds and no earlier one does; accepted if and only if none holds.
-pub each-refusal-exactly : (avic : Bool) (s : List ℕ) → BuildsExactly avic s
+-- For each refusal that building gives, 15 and 1 to 8: given if and only if its condition holds and no earlier one does; accepted if and only if
+-- none holds.
+pub each-refusal-exactly : (chosen : Choices) (s : List ℕ) → BuildsExactly chosen s
 each-refusal-exactly = builds-exactly
 
--- Refusal 9 likewise; every lent byte as it was for all nine; an accepted write leaves the bytes beyond the image.
-pub each-write-exactly : (avic : Bool) (s buffer : List ℕ) → WritesExactly avic s buffer
+-- Refusal 9 likewise; every lent byte as it was for all of them; an accepted write leaves the bytes beyond the image.
+pub each-write-exactly : (chosen : Choices) (s buffer : List ℕ) → WritesExactly chosen s buffer
 each-write-exactly = writes-exactly
 
 -- a refused table has no row to find, whatever is asked. crates/lookup/specs/Lookup.antt
-pub refused-finds-nothing : (avic : Bool) (s : List ℕ) (r : Refusal) → answer avic s .verdict ≡ Refused r
-    → (leaf : CpuidFunction) (sub : Subleaf) (enforce : Bool) → lookup (answer avic s .table) leaf sub enforce ≡ Nothing
-refused-finds-nothing avic s r e leaf sub enforce = rw (builds-exactly avic s .empty r e) (empty-finds-nothing leaf sub enforce)
+pub refused-finds-nothing : (chosen : Choices) (s : List ℕ) (r : Refusal) → answer chosen s .verdict ≡ Refused r
+    → (leaf : CpuidFunction) (sub : Subleaf) (enforce : Bool) → lookup (answer chosen s .table) leaf sub enforce ≡ Nothing
+refused-finds-nothing chosen s r e leaf sub enforce = rw (builds-exactly chosen s .empty r e) (empty-finds-nothing leaf sub enforce)
 
 -- ---- Demand 3. crates/rise/specs/Rise.antt has the hypothesis, the three outcomes and what B's table then has.
 
 -- B is refused exactly by 3 or 5, or accepted, and then its table rises from A's
-pub rise : (avic : Bool) (a b : List ℕ) → RiseHypothesis avic a b → RiseConclusion avic a b
+pub rise : (chosen : Choices) (a b : List ℕ) → RiseHypothesis chosen a b → RiseConclusion chosen a b
 rise = demand-3
 
 -- the hypothesis by the letter: first counted entries, compared as masked
-pub rise-by-the-letter : (avic : Bool) (a b : List ℕ) → HypothesisByTheLetter avic a b → RiseConclusion avic a b
+pub rise-by-the-letter : (chosen : Choices) (a b : List ℕ) → HypothesisByTheLetter chosen a b → RiseConclusion chosen a b
 rise-by-the-letter = demand-3-by-the-letter
 
 -- the same of what the exported functions return. crates/theorems/specs/Exported.antt
-pub rise-of-exports : (avic : Bool) (a b : List ℕ) → RiseHypothesis avic a b → ExportsRise avic a b
+pub rise-of-exports : (chosen : Choices) (a b : List ℕ) → RiseHypothesis chosen a b → ExportsRise chosen a b
 rise-of-exports = exports-rise
 
 -- two servers that rise to each other give one answer: the same table, so the same image and lookups. crates/rise/specs/Same.antt
-pub same-figures-both-ways : (avic : Bool) (a b : List ℕ) → RiseHypothesis avic a b → RiseHypothesis avic b a → answer avic a ≡ answer avic b
+pub same-figures-both-ways : (chosen : Choices) (a b : List ℕ) → RiseHypothesis chosen a b → RiseHypothesis chosen b a → answer chosen a ≡ answer chosen b
 same-figures-both-ways = same-figures
 
 -- and each accepted server rises to itself
-pub each-rises-to-itself : (avic : Bool) (a : List ℕ) → answer avic a .verdict ≡ Accepted → RiseHypothesis avic a a
+pub each-rises-to-itself : (chosen : Choices) (a : List ℕ) → answer chosen a .verdict ≡ Accepted → RiseHypothesis chosen a a
 each-rises-to-itself = rises-itself
 
 -- ---- May a guest of server A move to server B? crates/compare/specs/Compare.antt has the comparison, Means.antt what each answer says.
 
 -- the answer is yes if and only if the hypothesis of demand 3 holds; any other names the first thing that fails
-pub comparison-decides : (avic : Bool) (a b : List ℕ) → Decides avic a b (compared avic a b)
+pub comparison-decides : (chosen : Choices) (a b : List ℕ) → Decides chosen a b (compared chosen a b)
 comparison-decides = decides
 
 -- its order: places rise by leaf, then by subleaf. crates/table/specs/Order.antt
@@ -143,14 +153,56 @@ pub comparison-in-order : (i j : ℕ) → i < j → j < places → Precedes i j
 comparison-in-order = places-rise
 
 -- snp_cpuid_compare answers 0 if and only if the hypothesis holds; what the other exported functions return for B then rises from A's
-pub comparison-of-exports : (avic : Bool) (a b : List ℕ) → ExportsCompare avic a b
+pub comparison-of-exports : (chosen : Choices) (a b : List ℕ) → ExportsCompare chosen a b
 comparison-of-exports = exports-compare
+
+-- ---- P7, edition 2 of the AVX rule. crates/update/specs/Finish.antt has the clears of each edition, crates/editions/specs/Second.antt the
+-- statements. All that is said above and below of `chosen` is said for any edition, the same for A and B, in one argument.
+
+-- what goes without XFEM bit 2, of 1.ECX, 7.0.EBX, 7.0.ECX and 80000001h.ECX, in edition 1 and in edition 2
+pub edition-1-clears : clears edition1 ≡ 0x10001000 ∷ 0x20 ∷ 0x700 ∷ 0 ∷ []
+edition-1-clears = ymm-figures
+
+pub edition-2-clears : clears edition2 ≡ (0x10001000 + 2 ^ 29) ∷ 0x20 ∷ 0x700 ∷ (2 ^ 11 + 2 ^ 16) ∷ []
+edition-2-clears = ymm-figures-2
+
+-- edition 1 is document 01's rule: 80000001h.ECX stays as masked
+pub edition-1-leaves-80000001h : FirstEdition
+edition-1-leaves-80000001h = Editions.first-edition
+
+-- edition 2 refuses what edition 1 refuses, and its table is edition 1's with exactly the three bits cleared where XFEM lacks bit 2
+pub edition-2-clears-three-bits : (chosen : Choices) (s : List ℕ) → SecondEdition chosen s
+edition-2-clears-three-bits = Editions.second-edition
+
+-- from edition 2 to edition 1 is a rise, from any A to any B that demand 3's hypothesis allows
+pub rise-from-2-to-1 : SecondToFirst
+rise-from-2-to-1 = second-to-first-rises
+
+-- Not empty words: a server without YMM state whose entries have the three bits, its 1.ECX and 80000001h.ECX under each edition, the rise from 2 to
+-- 1, and none from 1 to 2. crates/edition_examples/specs/WithoutYmm.antt
+pub without-ymm-accepted : answer (underEdition 2) WithoutYmm.withoutYmm .verdict ≡ Accepted
+without-ymm-accepted = WithoutYmm.second-accepted
+
+pub without-ymm-1 : WithoutYmm.figures first ≡ 0xAED82203 ∷ 0x4109F3 ∷ []
+without-ymm-1 = WithoutYmm.first-figures
+
+pub without-ymm-2 : WithoutYmm.figures (underEdition 2) ≡ 0x8ED82203 ∷ 0x4001F3 ∷ []
+without-ymm-2 = WithoutYmm.second-figures
+
+pub without-ymm-2-to-1 : RiseTo (underEdition 2) first WithoutYmm.withoutYmm WithoutYmm.withoutYmm
+without-ymm-2-to-1 = WithoutYmm.from-second
+
+pub no-rise-from-1-to-2 : TableRises (answer first WithoutYmm.withoutYmm .table) (answer (underEdition 2) WithoutYmm.withoutYmm .table) → ⊥
+no-rise-from-1-to-2 = WithoutYmm.not-from-first
+
+pub no-third-edition : answer (underEdition 3) [] .verdict ≡ Refused UnknownEdition
+no-third-edition = WithoutYmm.third-refused
 
 -- ---- P3, what one processor's guest sees. crates/guest/specs/Guest.antt has the guest's table, State.antt refusals 13 and 14 and the two
 -- sizes, Compact.antt the compacted size; crates/guest_pages/specs/GuestPages.antt the same from pages.
 
 -- Building's refusals first; then 13, 14 and the view, each if and only if its condition holds.
-pub each-guest-answer-exactly : (avic : Bool) (s : List ℕ) (v : Processor) → GuestExactly avic s v
+pub each-guest-answer-exactly : (chosen : Choices) (s : List ℕ) (v : Processor) → GuestExactly chosen s v
 each-guest-answer-exactly = guest-exactly
 
 -- 13 and 14 of any rows, a table's own or others: one of three, which exclude each other. crates/guest_rise/specs/StateExactly.antt
@@ -158,8 +210,8 @@ pub each-state-exactly : (m : Rows) (x s : ℕ) → StateAnswers m x s (stateVer
 each-state-exactly = state-answers
 
 -- the guest's image: 9 exactly where the buffer is shorter, after all of these; every lent byte
-pub each-guest-write-exactly : (avic : Bool) (s : List ℕ) (v : Processor) (buffer : List ℕ)
-    → FrontExactly (guestPages avic s v .verdict) (image (guestPages avic s v .table)) buffer (writeGuest avic s v buffer)
+pub each-guest-write-exactly : (chosen : Choices) (s : List ℕ) (v : Processor) (buffer : List ℕ)
+    → FrontExactly (guestPages chosen s v .verdict) (image (guestPages chosen s v .table)) buffer (writeGuest chosen s v buffer)
 each-guest-write-exactly = guest-writes-exactly
 
 -- the rows of five places differ, and no others
@@ -170,11 +222,11 @@ pub no-other-row-differs : (t : CpuidResults) (v : Processor) (i : ℕ) → i < 
 no-other-row-differs = Seen.elsewhere
 
 -- D.0.EBX of a table that building accepted never overflows: it is the size itself
-pub guest-size-never-overflows : (avic : Bool) (s : List ℕ) (v : Processor) → answer avic s .verdict ≡ Accepted
-    → guestPages avic s v .verdict ≡ Accepted
-    → (saveArea (rowsIn (answer avic s .table)) (v .xcr0) < 2 ^ 32)
-    × (rowIn (guestPages avic s v .table) (Place.extendedState 0) .result .ebx ≡ saveArea (rowsIn (answer avic s .table)) (v .xcr0))
-guest-size-never-overflows avic s v a g = (GuestRiseProof.never-overflows avic s v a g, GuestRiseProof.area-seen avic s v a g)
+pub guest-size-never-overflows : (chosen : Choices) (s : List ℕ) (v : Processor) → answer chosen s .verdict ≡ Accepted
+    → guestPages chosen s v .verdict ≡ Accepted
+    → (saveArea (rowsIn (answer chosen s .table)) (v .xcr0) < 2 ^ 32)
+    × (rowIn (guestPages chosen s v .table) (Place.extendedState 0) .result .ebx ≡ saveArea (rowsIn (answer chosen s .table)) (v .xcr0))
+guest-size-never-overflows chosen s v a g = (GuestRiseProof.never-overflows chosen s v a g, GuestRiseProof.area-seen chosen s v a g)
 
 -- The rise of guest answers: B's view is given and its table rises from A's, or A's D.1.EAX has neither bit 1 nor bit 3, and then D.1.EBX is
 -- free or B is refused by 14, and nothing else is loosened. crates/guest_rise/specs/GuestRise.antt
@@ -182,47 +234,47 @@ pub guest-rise : GuestRise
 guest-rise = GuestRiseProof.guest-rise
 
 -- where A's D.1.EAX has either bit: given, and the tables rise as in demand 3, D.0.EBX and D.1.EBX equal among the rest
-pub guest-rise-whole : (avic : Bool) (a b : List ℕ) (v : Processor) → RiseHypothesis avic a b → answer avic b .verdict ≡ Accepted
-    → guestPages avic a v .verdict ≡ Accepted → compactsIn (answer avic a .table) ≡ true
-    → (guestPages avic b v .verdict ≡ Accepted) × TableRises (guestPages avic a v .table) (guestPages avic b v .table)
+pub guest-rise-whole : (chosen : Choices) (a b : List ℕ) (v : Processor) → RiseHypothesis chosen a b → answer chosen b .verdict ≡ Accepted
+    → guestPages chosen a v .verdict ≡ Accepted → compactsIn (answer chosen a .table) ≡ true
+    → (guestPages chosen b v .verdict ≡ Accepted) × TableRises (guestPages chosen a v .table) (guestPages chosen b v .table)
 guest-rise-whole = GuestRiseProof.guest-rise-whole
 
 -- Not empty words. crates/guest_examples/specs/Views.antt: server A's guest with all of its state, and the six registers that it reads
 -- anew (1.EBX, 1.ECX, B.0.EDX, B.1.EDX, D.0.EBX, D.1.EBX)
-pub guest-of-a : figures (guestPages false serverA Views.viewA .table) ≡ 0x45010000 ∷ 0xBED83203 ∷ 0x12345 ∷ 0x12345 ∷ 832 ∷ 832 ∷ []
+pub guest-of-a : figures (guestPages first serverA Views.viewA .table) ≡ 0x45010000 ∷ 0xBED83203 ∷ 0x12345 ∷ 0x12345 ∷ 832 ∷ 832 ∷ []
 guest-of-a = Views.a-figures
 
 -- 13, by a bit above 31
-pub guest-of-a-beyond : guestPages false serverA (processor 0 0x100000007 0 true) .verdict ≡ Refused StateBeyondTable
+pub guest-of-a-beyond : guestPages first serverA (processor 0 0x100000007 0 true) .verdict ≡ Refused StateBeyondTable
 guest-of-a-beyond = Views.a-beyond
 
 -- bit 1 of XCR0 is not asked
-pub guest-of-a-without-sse : guestPages false serverA (processor 0 0x1 0 false) .verdict ≡ Accepted
+pub guest-of-a-without-sse : guestPages first serverA (processor 0 0x1 0 false) .verdict ≡ Accepted
 guest-of-a-without-sse = Views.a-without-sse
 
 -- building first: 5, of a processor that 13 would refuse
-pub guest-unbuilt : guestPages false serverWithLargeD6 (processor 0 0 0 true) ≡ refusedAnswer SaveAreaOverflow
+pub guest-unbuilt : guestPages first serverWithLargeD6 (processor 0 0 0 true) ≡ refusedAnswer SaveAreaOverflow
 guest-unbuilt = Views.unbuilt
 
 -- A's guest on B; all of B's own state
-pub guest-from-a-to-b : GuestOutcome (guestPages false serverA Views.viewA .table) (guestPages false serverB Views.viewA)
+pub guest-from-a-to-b : GuestOutcome (guestPages first serverA Views.viewA .table) (guestPages first serverB Views.viewA)
 guest-from-a-to-b = Views.a-to-b
 
-pub guest-of-b : figures (guestPages false serverB (processor 1 0xE7 0x1800 true) .table) ≡ 0x01010000 ∷ 0xFEDA3203 ∷ 1 ∷ 1 ∷ 2432 ∷ 2472 ∷ []
+pub guest-of-b : figures (guestPages first serverB (processor 1 0xE7 0x1800 true) .table) ≡ 0x01010000 ∷ 0xFEDA3203 ∷ 1 ∷ 1 ∷ 2432 ∷ 2472 ∷ []
 guest-of-b = Views.b-figures
 
 -- the exception: a server with neither bit, where D.1.EBX is 0 and D.0.EBX the largest size, and one with bit 1, which refuses by 14.
 -- crates/guest_exception/specs/Exception.antt
-pub exception-rises : RiseHypothesis false Exception.plain Exception.compacting
+pub exception-rises : RiseHypothesis first Exception.plain Exception.compacting
 exception-rises = Exception.plain-to-compacting
 
-pub exception-given : figures (guestPages false Exception.plain Views.viewA .table) ≡ 0x45010000 ∷ 0xBED83203 ∷ 0x12345 ∷ 0x12345 ∷ 0xFFFFFFFF ∷ 0 ∷ []
+pub exception-given : figures (guestPages first Exception.plain Views.viewA .table) ≡ 0x45010000 ∷ 0xBED83203 ∷ 0x12345 ∷ 0x12345 ∷ 0xFFFFFFFF ∷ 0 ∷ []
 exception-given = Exception.plain-figures
 
-pub exception-refused : guestPages false Exception.compacting Views.viewA .verdict ≡ Refused CompactSizeTooLarge
+pub exception-refused : guestPages first Exception.compacting Views.viewA .verdict ≡ Refused CompactSizeTooLarge
 exception-refused = Exception.compacting-refused
 
-pub exception-outcome : GuestOutcome (guestPages false Exception.plain Views.viewA .table) (guestPages false Exception.compacting Views.viewA)
+pub exception-outcome : GuestOutcome (guestPages first Exception.plain Views.viewA .table) (guestPages first Exception.compacting Views.viewA)
 exception-outcome = Exception.plain-outcome
 
 -- compacted sizes: order, alignment of the start, the largest that is given and the first that is not. crates/guest_examples/specs/CompactSizes.antt
@@ -268,17 +320,17 @@ three-need-two-bits = three-and-128
 -- ---- Counts. crates/counts/specs/Counts.antt.
 
 -- 26 rows and one for each combined bit from 2 up, at most 32; an image of 582 bytes and 25 for each such bit
-pub counts : (avic : Bool) (s : List ℕ) → answer avic s .verdict ≡ Accepted → Counted avic s
+pub counts : (chosen : Choices) (s : List ℕ) → answer chosen s .verdict ≡ Accepted → Counted chosen s
 counts = rows-counted
 
-pub at-most-32-rows : (avic : Bool) (s : List ℕ) → answer avic s .verdict ≡ Accepted → answer avic s .table .«row_count» ≤ 32
+pub at-most-32-rows : (chosen : Choices) (s : List ℕ) → answer chosen s .verdict ≡ Accepted → answer chosen s .table .«row_count» ≤ 32
 at-most-32-rows = at-most-32
 
-pub at-most-732-bytes : (avic : Bool) (s : List ℕ) → answer avic s .verdict ≡ Accepted → length (image (answer avic s .table)) ≤ 732
+pub at-most-732-bytes : (chosen : Choices) (s : List ℕ) → answer chosen s .verdict ≡ Accepted → length (image (answer chosen s .table)) ≤ 732
 at-most-732-bytes = at-most-732
 
 -- page 1 is missing, and with it Dh
-pub single-page-never-accepted : (avic : Bool) (s : List ℕ) → length s ≡ 4096 → answer avic s .verdict ≡ Accepted → ⊥
+pub single-page-never-accepted : (chosen : Choices) (s : List ℕ) → length s ≡ 4096 → answer chosen s .verdict ≡ Accepted → ⊥
 single-page-never-accepted = single-page-refused
 
 -- ---- P1: leaves in rising order. crates/table/specs/Order.antt, crates/images/specs/Images.antt.
@@ -303,7 +355,7 @@ pub kvm-read-makes : (l : List ℕ) → AreBytes l → (buffer : List ℕ) → r
 kvm-read-makes = read-makes
 
 -- writing: building's refusals, then 9 exactly where the buffer is shorter than 8 + 40 × rows; a refused write changes no lent byte
-pub kvm-writes-exactly : (avic : Bool) (s buffer : List ℕ) → ListWritesExactly avic s buffer
+pub kvm-writes-exactly : (chosen : Choices) (s buffer : List ℕ) → ListWritesExactly chosen s buffer
 kvm-writes-exactly = list-writes-exactly
 
 -- reading: 10, 12, 11 and 9, each given if and only if its condition holds and no earlier one does; a refused read changes no lent byte
@@ -315,10 +367,10 @@ pub kvm-rows-ascend : (t : CpuidResults) → Ascend (listRows t)
 kvm-rows-ascend = list-ascends
 
 -- server A's list goes round; its head and its first row; and a list for each answer of reading
-pub a-goes-round : (buffer pages : List ℕ) → 1088 ≤ length buffer → 8192 ≤ length pages → Returns false serverA buffer pages
-a-goes-round buffer pages h k = round-trip false serverA Computed.serverA-accepted buffer pages (rw Computed.serverA-rows h) k
+pub a-goes-round : (buffer pages : List ℕ) → 1088 ≤ length buffer → 8192 ≤ length pages → Returns first serverA buffer pages
+a-goes-round buffer pages h k = round-trip first serverA Computed.serverA-accepted buffer pages (rw Computed.serverA-rows h) k
 
-pub a-listed : take 48 (listOf (answer false serverA .table))
+pub a-listed : take 48 (listOf (answer first serverA .table))
     ≡ bytesOfWords (27 ∷ 0 ∷ 0 ∷ 0 ∷ 0 ∷ 0xD ∷ 0x68747541 ∷ 0x444D4163 ∷ 0x69746E65 ∷ 0 ∷ 0 ∷ 0 ∷ [])
 a-listed = KvmLists.serverA-list
 
@@ -351,46 +403,46 @@ reader-in-order s n l = (reader-gives s n l, reader-gives-counted s n l)
 pub a-whole-set : length serverA ≡ 8192
 a-whole-set = Computed.serverA-length
 
-pub a-accepted : answer false serverA .verdict ≡ Accepted
+pub a-accepted : answer first serverA .verdict ≡ Accepted
 a-accepted = Computed.serverA-accepted
 
 -- B meets the hypothesis with more features, and is accepted with a larger mask
-pub b-rises : RiseHypothesis false serverA serverB
+pub b-rises : RiseHypothesis first serverA serverB
 b-rises = Computed.serverB-rises
 
-pub b-accepted : answer false serverB .verdict ≡ Accepted
+pub b-accepted : answer first serverB .verdict ≡ Accepted
 b-accepted = Computed.serverB-accepted
 
-pub b-richer : answer false serverA .table .«max_extended_state» ∷ answer false serverB .table .«max_extended_state» ∷ [] ≡ 0x7 ∷ 0x18E7 ∷ []
+pub b-richer : answer first serverA .table .«max_extended_state» ∷ answer first serverB .table .«max_extended_state» ∷ [] ≡ 0x7 ∷ 0x18E7 ∷ []
 b-richer = Computed.masks
 
 -- two more that meet it, one refused by 3 and one by 5
-pub without-d12-rises : RiseHypothesis false serverA serverWithoutD12
+pub without-d12-rises : RiseHypothesis first serverA serverWithoutD12
 without-d12-rises = Computed.without-rises
 
-pub without-d12-refused : answer false serverWithoutD12 .verdict ≡ Refused (MissingRequiredResult ExtendedStateEnumeration (Some 12))
+pub without-d12-refused : answer first serverWithoutD12 .verdict ≡ Refused (MissingRequiredResult ExtendedStateEnumeration (Some 12))
 without-d12-refused = Computed.without-refused
 
-pub large-d6-rises : RiseHypothesis false serverA serverWithLargeD6
+pub large-d6-rises : RiseHypothesis first serverA serverWithLargeD6
 large-d6-rises = Computed.large-rises
 
-pub large-d6-refused : answer false serverWithLargeD6 .verdict ≡ Refused SaveAreaOverflow
+pub large-d6-refused : answer first serverWithLargeD6 .verdict ≡ Refused SaveAreaOverflow
 large-d6-refused = Computed.large-refused
 
 -- a comparison that says yes, and one for each way to say no
-pub a-to-b : compared false serverA serverB ≡ Yes
+pub a-to-b : compared first serverA serverB ≡ Yes
 a-to-b = Pairs.a-to-b
 
-pub b-to-a : compared false serverB serverA ≡ Differs VersionAndFeatures None Ecx
+pub b-to-a : compared first serverB serverA ≡ Differs VersionAndFeatures None Ecx
 b-to-a = Pairs.b-to-a
 
-pub b-to-without-d12 : compared false serverB serverWithoutD12 ≡ NoEntry ExtendedStateEnumeration (Some 12)
+pub b-to-without-d12 : compared first serverB serverWithoutD12 ≡ NoEntry ExtendedStateEnumeration (Some 12)
 b-to-without-d12 = Pairs.b-to-without-d12
 
-pub from-large-d6 : compared false serverWithLargeD6 serverB ≡ RefusedA SaveAreaOverflow
+pub from-large-d6 : compared first serverWithLargeD6 serverB ≡ RefusedA SaveAreaOverflow
 from-large-d6 = Pairs.from-large-d6
 
-pub a-to-none : compared false serverA [] ≡ UnlawfulB PagesLength
+pub a-to-none : compared first serverA [] ≡ UnlawfulB PagesLength
 a-to-none = Pairs.a-to-none
 
 -- ---- P6: refusals as lines. crates/lines/specs/NumbersInUse.antt has what each number names, Line.antt the line, WriteLine.antt and

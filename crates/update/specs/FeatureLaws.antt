@@ -1,13 +1,13 @@
 -- Joins by and go through every rule on feature registers: what a rule makes of the and of two registers, under the and of what is
 -- enabled, is the and of what it makes of each. "At least" follows, by one argument for all registers.
 use mathlib.Core.Path.{_≡_, refl, sym, ap, ap₂, _∙_}
-use mathlib.Core.Bool.{Bool, true, _&&_}
-use Prim.Native.Nat.{ℕ, _-_}
+use mathlib.Core.Bool.{Bool, true, false, _&&_}
+use Prim.Native.Nat.{ℕ, _-_, _^_}
 use lib.Bits.{bitAnd, bitOr}
 use Rattle.bits.specs.ChoiceLaws.{and-implied, and-swap}
-use Rattle.bits.specs.Bits.{has, clearUnless, Within}
-use Rattle.bits.specs.BitsLaws.{has-and, or-and, and-of-within, within-of-and, clear-unless-and}
-use Rattle.update.specs.Finish.{Enabled, hasYmm, hasAvx512, hasCet, versionEcx, featuresEbx, featuresEcx, featuresEdx, extendedVersionEdx, addressSizesEbx, hypervisorPresent, ymmVersionEcx, ibrsAndStibp, btcNo}
+use Rattle.bits.specs.Bits.{has, maskOf, clear, clearUnless, Within}
+use Rattle.bits.specs.BitsLaws.{has-and, or-and, and-of-within, within-of-and, within-refl, within-eq, within-and, within-or, clear-unless-and}
+use Rattle.update.specs.Finish.{Enabled, YmmClears, edition1, edition2, hasYmm, hasAvx512, hasCet, versionEcx, featuresEbx, featuresEcx, featuresEdx, extendedVersionEcx, extendedVersionEdx, addressSizesEbx, hypervisorPresent, ibrsAndStibp, btcNo}
 
 -- what two sets both enable
 abbrev pub bothEnable : Enabled → Enabled → Enabled
@@ -45,21 +45,30 @@ clear-and {test} p m c d x y z e = ap₂ (λ (b : Bool) (n : ℕ). clearUnless b
 
 -- ---- each register
 
-pub versionEcx-and : (c d : Enabled) (x y : ℕ) → versionEcx (bothEnable c d) (bitAnd x y) ≡ bitAnd (versionEcx c x) (versionEcx d y)
-unfolding versionEcx
-versionEcx-and c d x y =
-    ap (λ (n : ℕ). bitOr n hypervisorPresent) (clear-and ymm-splits ymmVersionEcx c d x y _ refl)
-    ∙ or-and (clearUnless (hasYmm c) ymmVersionEcx x) (clearUnless (hasYmm d) ymmVersionEcx y) hypervisorPresent
+module _ (clears : YmmClears) where
+  pub versionEcx-and : (c d : Enabled) (x y : ℕ)
+      → versionEcx clears (bothEnable c d) (bitAnd x y) ≡ bitAnd (versionEcx clears c x) (versionEcx clears d y)
+  unfolding versionEcx
+  versionEcx-and c d x y =
+      ap (λ (n : ℕ). bitOr n hypervisorPresent) (clear-and ymm-splits (clears .versionEcx) c d x y _ refl)
+      ∙ or-and (clearUnless (hasYmm c) (clears .versionEcx) x) (clearUnless (hasYmm d) (clears .versionEcx) y) hypervisorPresent
 
-pub featuresEbx-and : (c d : Enabled) (x y : ℕ) → featuresEbx (bothEnable c d) (bitAnd x y) ≡ bitAnd (featuresEbx c x) (featuresEbx d y)
-unfolding featuresEbx
-featuresEbx-and c d x y = clear-and avx512-splits _ c d _ _ _ (clear-and ymm-splits _ c d x y _ refl)
+  pub featuresEbx-and : (c d : Enabled) (x y : ℕ)
+      → featuresEbx clears (bothEnable c d) (bitAnd x y) ≡ bitAnd (featuresEbx clears c x) (featuresEbx clears d y)
+  unfolding featuresEbx
+  featuresEbx-and c d x y = clear-and avx512-splits _ c d _ _ _ (clear-and ymm-splits _ c d x y _ refl)
 
-pub featuresEcx-and : (c d : Enabled) (x y : ℕ) → featuresEcx (bothEnable c d) (bitAnd x y) ≡ bitAnd (featuresEcx c x) (featuresEcx d y)
-unfolding featuresEcx
-featuresEcx-and c d x y =
-    clear-and tsc-aux-splits _ c d _ _ _
-    (clear-and avx512-splits _ c d _ _ _ (clear-and ymm-splits _ c d _ _ _ (clear-and cet-splits _ c d x y _ refl)))
+  pub featuresEcx-and : (c d : Enabled) (x y : ℕ)
+      → featuresEcx clears (bothEnable c d) (bitAnd x y) ≡ bitAnd (featuresEcx clears c x) (featuresEcx clears d y)
+  unfolding featuresEcx
+  featuresEcx-and c d x y =
+      clear-and tsc-aux-splits _ c d _ _ _
+      (clear-and avx512-splits _ c d _ _ _ (clear-and ymm-splits _ c d _ _ _ (clear-and cet-splits _ c d x y _ refl)))
+
+  pub extendedVersionEcx-and : (c d : Enabled) (x y : ℕ)
+      → extendedVersionEcx clears (bothEnable c d) (bitAnd x y) ≡ bitAnd (extendedVersionEcx clears c x) (extendedVersionEcx clears d y)
+  unfolding extendedVersionEcx
+  extendedVersionEcx-and c d x y = clear-and ymm-splits _ c d x y _ refl
 
 pub featuresEdx-and : (c d : Enabled) (x y : ℕ) → featuresEdx (bothEnable c d) (bitAnd x y) ≡ bitAnd (featuresEdx c x) (featuresEdx d y)
 unfolding featuresEdx
@@ -95,3 +104,57 @@ both-enable-less {c} {d} h i = record {
 pub at-least-of-and : (f : Enabled → ℕ → ℕ) → ((c d : Enabled) (x y : ℕ) → f (bothEnable c d) (bitAnd x y) ≡ bitAnd (f c x) (f d y))
     → {c d : Enabled} {x y : ℕ} → EnablesAtLeast c d → Within x y → Within (f c x) (f d y)
 at-least-of-and f law {c} {d} {x} {y} h g = within-of-and (sym (law c d x y) ∙ ap₂ f (both-enable-less h) (and-of-within g))
+
+-- ---- fewer clears
+
+-- z clears no bit that y leaves: what remains of a register is at least as much
+abbrev leaves : ℕ → ℕ
+leaves m = 2 ^ 32 - 1 - m
+
+pub record ClearsFewer (y z : YmmClears) : Type 0 where
+  pub versionEcx : Within (leaves (y .versionEcx)) (leaves (z .versionEcx))
+  pub featuresEbx : Within (leaves (y .featuresEbx)) (leaves (z .featuresEbx))
+  pub featuresEcx : Within (leaves (y .featuresEcx)) (leaves (z .featuresEcx))
+  pub extendedVersionEcx : Within (leaves (y .extendedVersionEcx)) (leaves (z .extendedVersionEcx))
+
+pub clears-same : {y z : YmmClears} → y ≡ z → ClearsFewer y z
+clears-same e = record {
+  versionEcx = within-eq (ap (λ (c : YmmClears). leaves (c .versionEcx)) e);
+  featuresEbx = within-eq (ap (λ (c : YmmClears). leaves (c .featuresEbx)) e);
+  featuresEcx = within-eq (ap (λ (c : YmmClears). leaves (c .featuresEcx)) e);
+  extendedVersionEcx = within-eq (ap (λ (c : YmmClears). leaves (c .extendedVersionEcx)) e);
+}
+
+-- edition 1 clears no bit that edition 2 leaves
+pub second-to-first : ClearsFewer edition2 edition1
+unfolding edition1 edition2 maskOf
+second-to-first = record {
+  versionEcx = within-of-and refl;
+  featuresEbx = within-of-and refl;
+  featuresEcx = within-of-and refl;
+  extendedVersionEcx = within-of-and refl;
+}
+
+clear-fewer : (b : Bool) (m k : ℕ) {x y : ℕ} → Within (leaves m) (leaves k) → Within x y → Within (clearUnless b m x) (clearUnless b k y)
+unfolding clearUnless clear
+clear-fewer true m k h g = g
+clear-fewer false m k h g = within-and g h
+
+module _ {y z : YmmClears} (h : ClearsFewer y z) (c : Enabled) (x : ℕ) where
+  pub versionEcx-fewer : Within (versionEcx y c x) (versionEcx z c x)
+  unfolding versionEcx
+  versionEcx-fewer = within-or (clear-fewer (hasYmm c) _ _ (h .versionEcx) (within-refl x)) (within-refl hypervisorPresent)
+
+  pub featuresEbx-fewer : Within (featuresEbx y c x) (featuresEbx z c x)
+  unfolding featuresEbx
+  featuresEbx-fewer = clear-fewer (hasAvx512 c) _ _ (within-refl _) (clear-fewer (hasYmm c) _ _ (h .featuresEbx) (within-refl x))
+
+  pub featuresEcx-fewer : Within (featuresEcx y c x) (featuresEcx z c x)
+  unfolding featuresEcx
+  featuresEcx-fewer =
+      clear-fewer (c .tscAux) _ _ (within-refl _)
+      (clear-fewer (hasAvx512 c) _ _ (within-refl _) (clear-fewer (hasYmm c) _ _ (h .featuresEcx) (within-refl _)))
+
+  pub extendedVersionEcx-fewer : Within (extendedVersionEcx y c x) (extendedVersionEcx z c x)
+  unfolding extendedVersionEcx
+  extendedVersionEcx-fewer = clear-fewer (hasYmm c) _ _ (h .extendedVersionEcx) (within-refl x)

@@ -1,5 +1,5 @@
 -- Document 01, "Corners of mod.rs": what becomes of each row. A row's final value depends on its masked entry and on one record of what
--- rows need from each other.
+-- rows need from each other, the clears of the AVX rule's edition among it (document 02, P7).
 use mathlib.Core.Bool.{Bool, true, _&&_}
 use mathlib.Core.List.{[], _∷_}
 use Prim.Native.Nat.{ℕ, _-_}
@@ -13,6 +13,7 @@ use Rattle.x86defs.specs.VersionAndFeaturesEcx as Version
 use Rattle.x86defs.specs.ExtendedFeatureSubleaf0Ebx as Ebx7
 use Rattle.x86defs.specs.ExtendedFeatureSubleaf0Ecx as Ecx7
 use Rattle.x86defs.specs.ExtendedFeatureSubleaf0Edx as Edx7
+use Rattle.x86defs.specs.ExtendedVersionAndFeaturesEcx as ExtendedEcx
 use Rattle.x86defs.specs.ExtendedVersionAndFeaturesEdx as ExtendedVersion
 use Rattle.x86defs.specs.ExtendedAddressSpaceSizesEbx as Sizes
 use Rattle.x86defs.specs.ExtendedSevFeaturesEax as Sev
@@ -60,8 +61,16 @@ pub record Enabled : Type 0 where
   pub xss : ℕ
   pub tscAux : Bool
 
+-- what goes without YMM state, as a mask of each register
+pub record YmmClears : Type 0 where
+  pub versionEcx : ℕ
+  pub featuresEbx : ℕ
+  pub featuresEcx : ℕ
+  pub extendedVersionEcx : ℕ
+
 -- what rows need from each other
 pub record Settings : Type 0 where
+  pub clears : YmmClears
   pub enabled : Enabled
   pub saveArea : ℕ
   pub threads : CpuidResult
@@ -74,8 +83,37 @@ enabledBy m = record {
   tscAux = has (Sev.position Sev.ExtendedSevFeaturesEax.tsc-aux-virtualization) (m Place.extendedSevFeatures .result .eax);
 }
 
-unfoldable pub settings : Rows → Settings
-settings m = record {
+-- Document 01: "Without XFEM bit 2: clear 1.ECX 10001000h, 7.0.EBX 20h, 7.0.ECX 700h", which is edition 1 of the rule
+unfoldable pub edition1 : YmmClears
+edition1 = record {
+  versionEcx = maskOf Version.position (Version.VersionAndFeaturesEcx.fma ∷ Version.VersionAndFeaturesEcx.avx ∷ []);
+  featuresEbx = maskOf Ebx7.position (Ebx7.ExtendedFeatureSubleaf0Ebx.avx2 ∷ []);
+  featuresEcx =
+      maskOf Ecx7.position
+      (Ecx7.ExtendedFeatureSubleaf0Ecx.gfni ∷ Ecx7.ExtendedFeatureSubleaf0Ecx.vaes ∷ Ecx7.ExtendedFeatureSubleaf0Ecx.vpclmulqdq ∷ []);
+  extendedVersionEcx = 0;
+}
+
+-- Document 02, P7: "Edition 2 also clears 1.ECX bit 29 and 80000001h.ECX bits 11 (XOP) and 16 (FMA4) when XFEM lacks bit 2"
+unfoldable pub edition2 : YmmClears
+edition2 = record {
+  versionEcx =
+      maskOf Version.position
+      (Version.VersionAndFeaturesEcx.fma ∷ Version.VersionAndFeaturesEcx.avx ∷ Version.VersionAndFeaturesEcx.f16c ∷ []);
+  featuresEbx = edition1 .featuresEbx;
+  featuresEcx = edition1 .featuresEcx;
+  extendedVersionEcx =
+      maskOf ExtendedEcx.position (ExtendedEcx.ExtendedVersionAndFeaturesEcx.xop ∷ ExtendedEcx.ExtendedVersionAndFeaturesEcx.fma4 ∷ []);
+}
+
+-- the clears of an edition by its number; any number but 1 and 2 is refused before a row is made (Build.antt, `editionVerdict`)
+unfoldable pub ymmClears : ℕ → YmmClears
+ymmClears n = pick (eqb n 2) edition2 edition1
+
+-- n is the edition
+unfoldable pub settings : ℕ → Rows → Settings
+settings n m = record {
+  clears = ymmClears n;
   enabled = enabledBy m;
   saveArea = saveArea m (xfem m);
   threads = threadLevel (inputsOf m .t);
@@ -92,18 +130,7 @@ hasAvx512 c = has 2 (c .xfem) && (has 5 (c .xfem) && (has 6 (c .xfem) && has 7 (
 abbrev pub hasCet : Enabled → Bool
 hasCet c = has 11 (c .xss) && has 12 (c .xss)
 
--- the clear masks, by named bits
-unfoldable pub ymmVersionEcx : ℕ
-ymmVersionEcx = maskOf Version.position (Version.VersionAndFeaturesEcx.fma ∷ Version.VersionAndFeaturesEcx.avx ∷ [])
-
-unfoldable pub ymmFeaturesEbx : ℕ
-ymmFeaturesEbx = maskOf Ebx7.position (Ebx7.ExtendedFeatureSubleaf0Ebx.avx2 ∷ [])
-
-unfoldable pub ymmFeaturesEcx : ℕ
-ymmFeaturesEcx =
-    maskOf Ecx7.position
-    (Ecx7.ExtendedFeatureSubleaf0Ecx.gfni ∷ Ecx7.ExtendedFeatureSubleaf0Ecx.vaes ∷ Ecx7.ExtendedFeatureSubleaf0Ecx.vpclmulqdq ∷ [])
-
+-- the other clear masks, by named bits
 unfoldable pub avx512FeaturesEbx : ℕ
 avx512FeaturesEbx =
     maskOf Ebx7.position
@@ -148,19 +175,22 @@ unfoldable pub hypervisorPresent : ℕ
 hypervisorPresent = maskOf Version.position (Version.VersionAndFeaturesEcx.hypervisor-present ∷ [])
 
 -- the registers of each feature leaf, each a function of its masked value
-unfoldable pub versionEcx : Enabled → ℕ → ℕ
-versionEcx c x = bitOr (clearUnless (hasYmm c) ymmVersionEcx x) hypervisorPresent
+unfoldable pub versionEcx : YmmClears → Enabled → ℕ → ℕ
+versionEcx y c x = bitOr (clearUnless (hasYmm c) (y .versionEcx) x) hypervisorPresent
 
-unfoldable pub featuresEbx : Enabled → ℕ → ℕ
-featuresEbx c x = clearUnless (hasAvx512 c) avx512FeaturesEbx (clearUnless (hasYmm c) ymmFeaturesEbx x)
+unfoldable pub featuresEbx : YmmClears → Enabled → ℕ → ℕ
+featuresEbx y c x = clearUnless (hasAvx512 c) avx512FeaturesEbx (clearUnless (hasYmm c) (y .featuresEbx) x)
 
-unfoldable pub featuresEcx : Enabled → ℕ → ℕ
-featuresEcx c x =
+unfoldable pub featuresEcx : YmmClears → Enabled → ℕ → ℕ
+featuresEcx y c x =
     clearUnless (c .tscAux) rdPid
-    (clearUnless (hasAvx512 c) avx512FeaturesEcx (clearUnless (hasYmm c) ymmFeaturesEcx (clearUnless (hasCet c) cetSs x)))
+    (clearUnless (hasAvx512 c) avx512FeaturesEcx (clearUnless (hasYmm c) (y .featuresEcx) (clearUnless (hasCet c) cetSs x)))
 
 unfoldable pub featuresEdx : Enabled → ℕ → ℕ
 featuresEdx c x = clearUnless (hasAvx512 c) avx512FeaturesEdx x
+
+unfoldable pub extendedVersionEcx : YmmClears → Enabled → ℕ → ℕ
+extendedVersionEcx y c x = clearUnless (hasYmm c) (y .extendedVersionEcx) x
 
 unfoldable pub extendedVersionEdx : Enabled → ℕ → ℕ
 extendedVersionEdx c x = clearUnless (c .tscAux) rdtscp x
@@ -180,14 +210,16 @@ makeRow extendedMaxFunction = result ExtendedAmdMaximum vendorEbx vendorEcx vend
 
 -- the registers of a required row, from its entry's
 abbrev pub changeRow : Settings → Needed → CpuidResult → CpuidResult
-changeRow c versionAndFeatures r = result (r .eax) (r .ebx) (versionEcx (c .enabled) (r .ecx)) (r .edx)
+changeRow c versionAndFeatures r = result (r .eax) (r .ebx) (versionEcx (c .clears) (c .enabled) (r .ecx)) (r .edx)
 changeRow c extendedFeatures r =
-    result (r .eax) (featuresEbx (c .enabled) (r .ebx)) (featuresEcx (c .enabled) (r .ecx)) (featuresEdx (c .enabled) (r .edx))
+    result (r .eax) (featuresEbx (c .clears) (c .enabled) (r .ebx)) (featuresEcx (c .clears) (c .enabled) (r .ecx))
+    (featuresEdx (c .enabled) (r .edx))
 changeRow c threadLevelRow r = c .threads
 changeRow c coreLevelRow r = c .cores
 changeRow c extendedState0 r = result (r .eax) (r .ebx) (c .saveArea) (r .edx)
 changeRow c extendedState1 r = result (r .eax) (r .ebx) (unlessNoXss (c .enabled) (r .ecx)) (unlessNoXss (c .enabled) (r .edx))
-changeRow c extendedVersionAndFeatures r = result (r .eax) (r .ebx) (r .ecx) (extendedVersionEdx (c .enabled) (r .edx))
+changeRow c extendedVersionAndFeatures r =
+    result (r .eax) (r .ebx) (extendedVersionEcx (c .clears) (c .enabled) (r .ecx)) (extendedVersionEdx (c .enabled) (r .edx))
 changeRow c extendedAddressSpaceSizes r = result (r .eax) (addressSizesEbx (r .ebx)) (r .ecx) (r .edx)
 changeRow c untouched r = r
 
@@ -208,5 +240,6 @@ remains c (component k) p = has k (bitOr (c .enabled .xfem) (c .enabled .xss)) &
 abbrev pub finishRow : Settings → Rule → Row → Row
 finishRow c t r = pick (remains c t (r .present)) (row (finish c t (r .result))) vacant
 
-unfoldable pub finished : Rows → Rows
-finished m i = finishRow (settings m) (ruleAt i) (m i)
+-- the rows of an accepted table under edition n
+unfoldable pub finished : ℕ → Rows → Rows
+finished n m i = finishRow (settings n m) (ruleAt i) (m i)

@@ -18,7 +18,7 @@ use Rattle.table.specs.declared.Verdict.the-variants.{Accepted}
 use Rattle.table.specs.Rows.{Row, Rows}
 use Rattle.checks.specs.ExtendedState.{xfem, xss, combinedMask}
 use Rattle.checks.specs.TopologyInputs.{inputsOf}
-use Rattle.update.specs.Finish.{Enabled, Settings, ruleAt, enabledBy, settings, finish, finishRow, finished}
+use Rattle.update.specs.Finish.{Enabled, YmmClears, Settings, ymmClears, ruleAt, enabledBy, settings, finish, finishRow, finished}
 use Rattle.checks.specs.Checks.{requiredVerdict}
 use Rattle.table.specs.Table.{countRows, tableOf, rowsIn}
 use Rattle.update.specs.PlaceLaws.{always, position, always-required}
@@ -87,7 +87,7 @@ stored-results c p r = refl
 
 -- ---- of rows that passed the check of required leaves
 
-module _ (m : Rows) (h : requiredVerdict m ≡ Accepted) where
+module _ (n : ℕ) (m : Rows) (h : requiredVerdict m ≡ Accepted) where
   abbrev p : ℕ → Bool
   p i = m i .present
 
@@ -103,53 +103,54 @@ module _ (m : Rows) (h : requiredVerdict m ≡ Accepted) where
           sym (ap p (sym (q .1)) ∙ required-present m h (position i) (q .0))
       go false e = refl
 
-  finished-present : markPresent (tabulate places (λ i. dropped m (combinedMask m) i .present)) ≡ tabulate places (λ i. finished m i .present)
+  finished-present : markPresent (tabulate places (λ i. dropped m (combinedMask m) i .present)) ≡ tabulate places (λ i. finished n m i .present)
   unfolding combinedMask settings enabledBy finished
   finished-present =
       ap markPresent (tabulate-ext places _ _ (λ i l. ap (λ (w : Row). droppedRow (combinedMask m) i w .present) (sym (known-at i l))))
-      ∙ stored-present (settings m) p r
-      ∙ tabulate-ext places _ _ (λ i l. ap (λ (w : Row). finishRow (settings m) (ruleAt i) w .present) (known-at i l))
+      ∙ stored-present (settings n m) p r
+      ∙ tabulate-ext places _ _ (λ i l. ap (λ (w : Row). finishRow (settings n m) (ruleAt i) w .present) (known-at i l))
 
   finished-results :
-      storeResults (settings m) r (tabulate places (λ i. dropped m (combinedMask m) i .result)) ≡ tabulate places (λ i. finished m i .result)
+      storeResults (settings n m) r (tabulate places (λ i. dropped m (combinedMask m) i .result)) ≡ tabulate places (λ i. finished n m i .result)
   unfolding combinedMask settings enabledBy finished
   finished-results =
-      ap (storeResults (settings m) r)
+      ap (storeResults (settings n m) r)
       (tabulate-ext places _ _ (λ i l. ap (λ (w : Row). droppedRow (combinedMask m) i w .result) (sym (known-at i l))))
-      ∙ stored-results (settings m) p r
-      ∙ tabulate-ext places _ _ (λ i l. ap (λ (w : Row). finishRow (settings m) (ruleAt i) w .result) (known-at i l))
+      ∙ stored-results (settings n m) p r
+      ∙ tabulate-ext places _ _ (λ i l. ap (λ (w : Row). finishRow (settings n m) (ruleAt i) w .result) (known-at i l))
 
-  finished-count : presentCount (tabulate places (λ i. finished m i .present)) places ≡ countRows (finished m)
+  finished-count : presentCount (tabulate places (λ i. finished n m i .present)) places ≡ countRows (finished n m)
   unfolding countRows
-  finished-count = sum-ext _ _ places (λ i l. ap one (getD-tabulate places (λ i. finished m i .present) i false l))
+  finished-count = sum-ext _ _ places (λ i l. ap one (getD-tabulate places (λ i. finished n m i .present) i false l))
 
 -- the table, from what the code has at hand
-abbrev pub settingsWith : Enabled → ℕ → ℕ → ℕ → Settings
-settingsWith e size t v = record { enabled = e; saveArea = size; threads = threadLevel t; cores = coreLevel v }
+abbrev pub settingsWith : YmmClears → Enabled → ℕ → ℕ → ℕ → Settings
+settingsWith y e size t v = record { clears = y; enabled = e; saveArea = size; threads = threadLevel t; cores = coreLevel v }
 
-settings-eq : {e f : Enabled} {a b u v : ℕ} (t : ℕ) → e ≡ f → a ≡ b → u ≡ v → settingsWith e a t u ≡ settingsWith f b t v
-settings-eq t p q r = rw (p, q, r)
+settings-eq : {y z : YmmClears} {e f : Enabled} {a b u v : ℕ} (t : ℕ) → y ≡ z → e ≡ f → a ≡ b → u ≡ v
+    → settingsWith y e a t u ≡ settingsWith z f b t v
+settings-eq t o p q r = rw (o, p, q, r)
 
 table-eq : {p q : List Bool} {l k : List CpuidResult} {n m x y : ℕ} → p ≡ q → l ≡ k → n ≡ m → x ≡ y → table p l n x ≡ table q k m y
 table-eq a b c d = rw (a, b, c, d)
 
-pub finished-table : (t : CpuidResults) {e : Enabled} {x size v n : ℕ} {d : CpuidResults} {l : List CpuidResult} → Ready (rowsIn t) size v
-    → e
+pub finished-table : (edition : ℕ) (t : CpuidResults) {y : YmmClears} {e : Enabled} {x size v n : ℕ} {d : CpuidResults} {l : List CpuidResult}
+    → Ready (rowsIn t) size v → y ≡ ymmClears edition → e
     ≡ enabledFrom (rowsIn t (Place.extendedState 0) .result) (rowsIn t (Place.extendedState 1) .result) (rowsIn t Place.extendedSevFeatures .result)
     → x ≡ bitOr (e .xfem) (e .xss) → d ≡ droppedTable t x → n ≡ presentCount (markPresent (d .present)) places
-    → l ≡ storeResults (settingsWith e size (inputsOf (rowsIn t) .t) v) (λ i. rowsIn t i .result) (d .results)
-    → table (markPresent (d .present)) l n x ≡ tableOf (finished (rowsIn t)) (combinedMask (rowsIn t))
+    → l ≡ storeResults (settingsWith y e size (inputsOf (rowsIn t) .t) v) (λ i. rowsIn t i .result) (d .results)
+    → table (markPresent (d .present)) l n x ≡ tableOf (finished edition (rowsIn t)) (combinedMask (rowsIn t))
 unfolding combinedMask settings enabledBy xfem xss
-finished-table t {e} {x} {size} {v} {n} {d} ready f g k c r =
+finished-table edition t {y} {e} {x} {size} {v} {n} {d} ready o f g k c r =
     let m : Rows = rowsIn t in
     let q : x ≡ combinedMask m = g ∙ ap (λ (w : Enabled). bitOr (w .xfem) (w .xss)) f in
     let k₁ : d ≡ droppedTable t (combinedMask m) = k ∙ ap (droppedTable t) q in
-    let s : settingsWith e size (inputsOf m .t) v ≡ settings m = settings-eq (inputsOf m .t) f (ready .area) (ready .topology) in
-    let e₁ = ap (λ (w : CpuidResults). markPresent (w .present)) k₁ ∙ finished-present m (ready .required) in
+    let s : settingsWith y e size (inputsOf m .t) v ≡ settings edition m = settings-eq (inputsOf m .t) o f (ready .area) (ready .topology) in
+    let e₁ = ap (λ (w : CpuidResults). markPresent (w .present)) k₁ ∙ finished-present edition m (ready .required) in
     table-eq e₁
     (r
     ∙ ap (λ (w : Settings). storeResults w (λ i. m i .result) (d .results)) s
-    ∙ ap (λ (w : CpuidResults). storeResults (settings m) (λ i. m i .result) (w .results)) k₁
-    ∙ finished-results m (ready .required))
-    (c ∙ ap (λ (l : List Bool). presentCount l places) e₁ ∙ finished-count m (ready .required))
+    ∙ ap (λ (w : CpuidResults). storeResults (settings edition m) (λ i. m i .result) (w .results)) k₁
+    ∙ finished-results edition m (ready .required))
+    (c ∙ ap (λ (l : List Bool). presentCount l places) e₁ ∙ finished-count edition m (ready .required))
     q

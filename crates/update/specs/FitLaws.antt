@@ -9,7 +9,7 @@ use Rattle.x86defs.specs.declared.CpuidResult.{CpuidResult}
 use Rattle.x86defs.specs.Functions.{AmdMaximum, ExtendedAmdMaximum}
 use Rattle.table.specs.Rows.{Rows, row, vacant}
 use Rattle.table.specs.Fits.{Fits}
-use Rattle.update.specs.Finish.{Made, Needed, Rule, Settings, Enabled, ruleAt, settings, makeRow, changeRow, finish, remains, finished, versionEcx, featuresEbx, featuresEcx, featuresEdx, extendedVersionEdx, addressSizesEbx, unlessNoXss, hypervisorPresent, btcNo}
+use Rattle.update.specs.Finish.{Made, Needed, Rule, Settings, Enabled, ruleAt, settings, makeRow, changeRow, finish, remains, finished, versionEcx, featuresEbx, featuresEcx, featuresEdx, extendedVersionEcx, extendedVersionEdx, addressSizesEbx, unlessNoXss, hypervisorPresent, btcNo}
 use Rattle.update.specs.Finish.Made.{vendorAndMaxFunction, extendedMaxFunction}
 use Rattle.update.specs.Finish.Needed.{versionAndFeatures, extendedFeatures, threadLevelRow, coreLevelRow, extendedState0, extendedState1, extendedVersionAndFeatures, extendedAddressSpaceSizes, untouched}
 use Rattle.update.specs.Finish.Rule.{made, needed, component}
@@ -29,7 +29,7 @@ unless-fits e {x} h = go (eqb (e .xss) 0)
     go false = h
 
 change-fits : (c : Settings) → SettingsFit c → (t : Needed) (r : CpuidResult) → Fits r → Fits (changeRow c t r)
-unfolding versionEcx featuresEbx featuresEcx featuresEdx extendedVersionEdx addressSizesEbx hypervisorPresent btcNo maskOf
+unfolding versionEcx featuresEbx featuresEcx featuresEdx extendedVersionEcx extendedVersionEdx addressSizesEbx hypervisorPresent btcNo maskOf
 change-fits c s versionAndFeatures r f = record { eax = f .eax; ebx = f .ebx; ecx = or-fits (clear-fits _ _ (f .ecx)) (lit< tt); edx = f .edx }
 change-fits c s extendedFeatures r f = record {
   eax = f .eax;
@@ -46,7 +46,7 @@ change-fits c s extendedState1 r f = record {
   ecx = unless-fits (c .enabled) (f .ecx);
   edx = unless-fits (c .enabled) (f .edx);
 }
-change-fits c s extendedVersionAndFeatures r f = record { eax = f .eax; ebx = f .ebx; ecx = f .ecx; edx = clear-fits _ _ (f .edx) }
+change-fits c s extendedVersionAndFeatures r f = record { eax = f .eax; ebx = f .ebx; ecx = clear-fits _ _ (f .ecx); edx = clear-fits _ _ (f .edx) }
 change-fits c s extendedAddressSpaceSizes r f = record { eax = f .eax; ebx = clear-fits _ _ (or-fits (f .ebx) (lit< tt)); ecx = f .ecx; edx = f .edx }
 change-fits c s untouched r f = f
 
@@ -61,10 +61,10 @@ finish-fits c s (needed t) r f = change-fits c s t r f
 finish-fits c s (component k) r f = f
 
 -- all rows, the absent ones included
-pub finished-fits : (m : Rows) → SettingsFit (settings m) → (i : ℕ) → Fits (m i .result) → Fits (finished m i .result)
+pub finished-fits : (n : ℕ) (m : Rows) → SettingsFit (settings n m) → (i : ℕ) → Fits (m i .result) → Fits (finished n m i .result)
 unfolding finished
-finished-fits m s i f = go (remains (settings m) (ruleAt i) (m i .present))
+finished-fits n m s i f = go (remains (settings n m) (ruleAt i) (m i .present))
   where
-    go : (b : Bool) → Fits (pick b (row (finish (settings m) (ruleAt i) (m i .result))) vacant .result)
-    go true = finish-fits (settings m) s (ruleAt i) (m i .result) f
+    go : (b : Bool) → Fits (pick b (row (finish (settings n m) (ruleAt i) (m i .result))) vacant .result)
+    go true = finish-fits (settings n m) s (ruleAt i) (m i .result) f
     go false = record { eax = lit< tt; ebx = lit< tt; ecx = lit< tt; edx = lit< tt }

@@ -23,7 +23,7 @@ use Rattle.update.specs.Finish.Rule.{made, needed, component}
 use Rattle.update.specs.Kinds.{Kind, Kinds, registerKinds, kindsAt}
 use Rattle.update.specs.Kinds.Kind.{feature, featureBut28, area, freed, other}
 use Rattle.update.specs.RuleKinds.{featureEax, kindsOf, kinds-at}
-use Rattle.update.specs.FeatureLaws.{bothEnable, versionEcx-and, featuresEbx-and, featuresEcx-and, featuresEdx-and, extendedVersionEdx-and, addressSizesEbx-and}
+use Rattle.update.specs.FeatureLaws.{bothEnable, versionEcx-and, featuresEbx-and, featuresEcx-and, featuresEdx-and, extendedVersionEcx-and, extendedVersionEdx-and, addressSizesEbx-and}
 
 -- joined by and where the register holds features; else the first's
 abbrev pub joined : Kind → ℕ → ℕ → ℕ
@@ -134,16 +134,17 @@ pub record FeaturesJoin (k : Kinds) (z x y : CpuidResult) : Type 0 where
 abbrev EndsAsXss : Settings → CpuidResult → Type 0
 EndsAsXss c r = unlessNoXss (c .enabled) (r .ecx) ≡ c .enabled .xss
 
-module _ (e c d : Settings) (joins : e .enabled ≡ bothEnable (c .enabled) (d .enabled)) where
+module _ (e c d : Settings) (joins : e .enabled ≡ bothEnable (c .enabled) (d .enabled)) (clearsC : c .clears ≡ e .clears)
+    (clearsD : d .clears ≡ e .clears) where
   pub finish-join : (f : Bool) (t : Rule) (a b : CpuidResult)
       → (t ≡ needed extendedState1 → EndsAsXss e (joinResults (kindsOf f t) a b) × EndsAsXss c a × EndsAsXss d b)
       → FeaturesJoin (kindsOf f t) (finish e t (joinResults (kindsOf f t) a b)) (finish c t a) (finish d t b)
   finish-join f (made t) a b h = record { eax = tt; ebx = tt; ecx = tt; edx = tt }
-  finish-join f (needed versionAndFeatures) a b h = record { eax = tt; ebx = tt; ecx = rw joins (versionEcx-and _ _ _ _); edx = refl }
+  finish-join f (needed versionAndFeatures) a b h = record { eax = tt; ebx = tt; ecx = rw (joins, clearsC, clearsD) (versionEcx-and _ _ _ _ _); edx = refl }
   finish-join f (needed extendedFeatures) a b h = record {
     eax = tt;
-    ebx = rw joins (featuresEbx-and _ _ _ _);
-    ecx = rw joins (featuresEcx-and _ _ _ _);
+    ebx = rw (joins, clearsC, clearsD) (featuresEbx-and _ _ _ _ _);
+    ecx = rw (joins, clearsC, clearsD) (featuresEcx-and _ _ _ _ _);
     edx = rw joins (featuresEdx-and _ _ _ _);
   }
   finish-join f (needed threadLevelRow) a b h = record { eax = tt; ebx = tt; ecx = tt; edx = tt }
@@ -156,7 +157,12 @@ module _ (e c d : Settings) (joins : e .enabled ≡ bothEnable (c .enabled) (d .
     edx = tt;
   }
   finish-join f (needed extendedVersionAndFeatures) a b h =
-      record { eax = tt; ebx = tt; ecx = refl; edx = rw joins (extendedVersionEdx-and _ _ _ _) }
+      record {
+        eax = tt;
+        ebx = tt;
+        ecx = rw (joins, clearsC, clearsD) (extendedVersionEcx-and _ _ _ _ _);
+        edx = rw joins (extendedVersionEdx-and _ _ _ _);
+      }
   finish-join f (needed extendedAddressSpaceSizes) a b h = record { eax = tt; ebx = addressSizesEbx-and _ _; ecx = tt; edx = tt }
   finish-join true (needed untouched) a b h = record { eax = refl; ebx = tt; ecx = tt; edx = tt }
   finish-join false (needed untouched) a b h = record { eax = tt; ebx = tt; ecx = tt; edx = tt }

@@ -26,14 +26,14 @@ result-picked true r e = refl
 result-picked false r e = absurd (never-both e refl)
 
 -- a finished row is there exactly where its rule lets it remain
-pub finished-present : (m : Rows) (i : ℕ) → finished m i .present ≡ remains (settings m) (ruleAt i) (m i .present)
+pub finished-present : (n : ℕ) (m : Rows) (i : ℕ) → finished n m i .present ≡ remains (settings n m) (ruleAt i) (m i .present)
 unfolding finished
-finished-present m i = present-picked _ _
+finished-present n m i = present-picked _ _
 
 -- and then has its rule's registers
-pub finished-result : (m : Rows) (i : ℕ) → finished m i .present ≡ true → finished m i .result ≡ finish (settings m) (ruleAt i) (m i .result)
+pub finished-result : (n : ℕ) (m : Rows) (i : ℕ) → finished n m i .present ≡ true → finished n m i .result ≡ finish (settings n m) (ruleAt i) (m i .result)
 unfolding finished
-finished-result m i e = result-picked (remains (settings m) (ruleAt i) (m i .present)) _ (sym (finished-present m i) ∙ e)
+finished-result n m i e = result-picked (remains (settings n m) (ruleAt i) (m i .present)) _ (sym (finished-present n m i) ∙ e)
 
 -- made here: always. One equation over all places, whatever the settings and the entries
 all-made : (c : Settings) (p : ℕ → Bool)
@@ -53,20 +53,20 @@ pub always-remains : (c : Settings) (p : ℕ → Bool) (i : ℕ) → i < places 
 always-remains c p i l e = sym (pick-true _ _ e) ∙ tabulate-at places _ _ (all-always c p) i l
 
 -- a D subleaf from 2 up: with its bit and its entry
-pub component-finished : (m : Rows) (k : ℕ) → 2 ≤ k → k < 64
-    → finished m (Place.extendedState k) .present ≡ (has k (combinedMask m) && m (Place.extendedState k) .present)
+pub component-finished : (n : ℕ) (m : Rows) (k : ℕ) → 2 ≤ k → k < 64
+    → finished n m (Place.extendedState k) .present ≡ (has k (combinedMask m) && m (Place.extendedState k) .present)
 unfolding combinedMask settings enabledBy
-component-finished m k l u =
-    finished-present m (Place.extendedState k)
-    ∙ ap (λ (t : Rule). remains (settings m) t (m (Place.extendedState k) .present)) (component-rule k l u)
+component-finished n m k l u =
+    finished-present n m (Place.extendedState k)
+    ∙ ap (λ (t : Rule). remains (settings n m) t (m (Place.extendedState k) .present)) (component-rule k l u)
 
 -- a row of the table that comes from an entry had that entry
-pub finished-entry : (m : Rows) (i : ℕ) → i < places → fromEntry (ruleAt i) ≡ true → finished m i .present ≡ true → m i .present ≡ true
-finished-entry m i l f e = go (sort i l)
+pub finished-entry : (n : ℕ) (m : Rows) (i : ℕ) → i < places → fromEntry (ruleAt i) ≡ true → finished n m i .present ≡ true → m i .present ≡ true
+finished-entry n m i l f e = go (sort i l)
   where
     go : Sort i → m i .present ≡ true
     go (made g) = absurd (never-both f g)
-    go (required g) = sym (finished-present m i ∙ always-remains (settings m) (λ j. m j .present) i l g) ∙ e
+    go (required g) = sym (finished-present n m i ∙ always-remains (settings n m) (λ j. m j .present) i l g) ∙ e
     go (subleaf k p q r) =
-        subst (λ (n : ℕ). m n .present ≡ true) (sym p)
-        (and-right (has k (combinedMask m)) _ (sym (component-finished m k q r) ∙ subst (λ (n : ℕ). finished m n .present ≡ true) p e))
+        subst (λ (j : ℕ). m j .present ≡ true) (sym p)
+        (and-right (has k (combinedMask m)) _ (sym (component-finished n m k q r) ∙ subst (λ (j : ℕ). finished n m j .present ≡ true) p e))

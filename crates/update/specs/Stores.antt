@@ -20,10 +20,19 @@ use Rattle.checks.specs.TopologyInputs.{inputsOf}
 use Rattle.checks.specs.Checks.{requiredVerdict}
 use Rattle.table.specs.declared.CpuidResults.{CpuidResults}
 use Rattle.update.specs.declared.features.Enabled as Declared
-use Rattle.update.specs.Finish.{Enabled}
+use Rattle.update.specs.declared.features.YmmClears as DeclaredClears
+use Rattle.update.specs.Finish.{Enabled, YmmClears}
 use Rattle.table.specs.Table.{rowsIn}
 
 -- the code's settings, as the definition has them
+abbrev pub clearsWith : DeclaredClears.YmmClears → YmmClears
+clearsWith y = record {
+  versionEcx = y .«version_ecx»;
+  featuresEbx = y .«features_ebx»;
+  featuresEcx = y .«features_ecx»;
+  extendedVersionEcx = y .«extended_version_ecx»;
+}
+
 abbrev pub enabledWith : Declared.Enabled → Enabled
 enabledWith e = record { xfem = e .xfem; xss = e .xss; tscAux = e .«tsc_aux» }
 

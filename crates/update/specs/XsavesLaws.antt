@@ -27,9 +27,9 @@ pub record XsavesRow (c : Settings) (r : CpuidResult) : Type 0 where
 abbrev pub XsavesEdx : Rows → Type 0
 XsavesEdx m = m (Place.extendedState 1) .result .edx ≡ 0
 
-xsaves-row : (m : Rows) → XsavesEdx m → XsavesRow (settings m) (m (Place.extendedState 1) .result)
+xsaves-row : (n : ℕ) (m : Rows) → XsavesEdx m → XsavesRow (settings n m) (m (Place.extendedState 1) .result)
 unfolding settings enabledBy unlessNoXss
-xsaves-row m z = record { ecx = xsaves-ecx m; edx = z }
+xsaves-row n m z = record { ecx = xsaves-ecx m; edx = z }
 
 -- ---- the only place under that rule
 
@@ -59,5 +59,5 @@ pub only-xsaves : (i : ℕ) → i < places → ruleAt i ≡ needed extendedState
 only-xsaves i l e =
     eqb-true i (Place.extendedState 1) (if-holds (isXsaves (ruleAt i)) _ (every-at xsavesTest places all-xsaves i l) (ap isXsaves e))
 
-pub xsaves-at : (m : Rows) → XsavesEdx m → (i : ℕ) → i < places → ruleAt i ≡ needed extendedState1 → XsavesRow (settings m) (m i .result)
-xsaves-at m z i l e = subst (λ (n : ℕ). XsavesRow (settings m) (m n .result)) (sym (only-xsaves i l e)) (xsaves-row m z)
+pub xsaves-at : (n : ℕ) (m : Rows) → XsavesEdx m → (i : ℕ) → i < places → ruleAt i ≡ needed extendedState1 → XsavesRow (settings n m) (m i .result)
+xsaves-at n m z i l e = subst (λ (j : ℕ). XsavesRow (settings n m) (m j .result)) (sym (only-xsaves i l e)) (xsaves-row n m z)

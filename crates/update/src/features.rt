@@ -5,15 +5,22 @@ use x86defs::ibpb;
 use x86defs::tsc_aux_virtualization;
 ghost use mathlib.Core.Path.{_≡_};
 ghost use Rattle.x86defs.specs.Functions.{result};
-ghost use Rattle.update.specs.Finish.{hasYmm, hasAvx512, hasCet, versionEcx, featuresEbx, featuresEcx, featuresEdx, extendedVersionEdx, addressSizesEbx, unlessNoXss};
-ghost use Rattle.update.specs.Stores.{enabledWith, enabledFrom};
+ghost use Rattle.update.specs.Finish.{hasYmm, hasAvx512, hasCet, ymmClears, versionEcx, featuresEbx, featuresEcx, featuresEdx, extendedVersionEcx, extendedVersionEdx, addressSizesEbx, unlessNoXss};
+ghost use Rattle.update.specs.Stores.{clearsWith, enabledWith, enabledFrom};
 
-// The clear masks: what goes without YMM state, and without AVX-512 state.
+// The clear masks: what goes without YMM state, in both editions of the rule and beyond these in edition 2 (document 02, P7), and without
+// AVX-512 state.
 const YMM_VERSION_ECX: u32 = 0x10001000;
 
 const YMM_FEATURES_EBX: u32 = 0x20;
 
 const YMM_FEATURES_ECX: u32 = 0x700;
+
+const F16C: u32 = 0x20000000;
+
+const XOP_AND_FMA4: u32 = 0x10800;
+
+const EDITION_2: u32 = 2;
 
 const AVX512_FEATURES_EBX: u32 = 0xD0230000;
 
@@ -34,6 +41,36 @@ const IBRS_AND_STIBP: u32 = 0xC000;
 const BTC_NO: u32 = 0x20000000;
 
 const HYPERVISOR_PRESENT: u32 = 0x80000000;
+
+// What goes without YMM state, register by register.
+pub struct YmmClears {
+    pub version_ecx: u32,
+    pub features_ebx: u32,
+    pub features_ecx: u32,
+    pub extended_version_ecx: u32,
+}
+
+impl YmmClears {
+    // By the edition of the rule.
+    pub fn of(edition: u32) -> Self
+        ensures { λ r. ⌜ clearsWith r ≡ ymmClears edition ⌝ }
+    {
+        if edition == EDITION_2 {
+            return Self {
+                version_ecx: YMM_VERSION_ECX | F16C,
+                features_ebx: YMM_FEATURES_EBX,
+                features_ecx: YMM_FEATURES_ECX,
+                extended_version_ecx: XOP_AND_FMA4,
+            };
+        }
+        Self {
+            version_ecx: YMM_VERSION_ECX,
+            features_ebx: YMM_FEATURES_EBX,
+            features_ecx: YMM_FEATURES_ECX,
+            extended_version_ecx: 0,
+        }
+    }
+}
 
 // What decides over feature bits of other rows.
 pub struct Enabled {
@@ -78,24 +115,24 @@ impl Enabled {
 }
 
 // Leaf 1.
-pub fn version_and_features(e: Enabled, r: CpuidResult) -> CpuidResult
-    ensures { λ q. ⌜ q ≡ result (r .eax) (r .ebx) (versionEcx (enabledWith e) (r .ecx)) (r .edx) ⌝ }
+pub fn version_and_features(y: YmmClears, e: Enabled, r: CpuidResult) -> CpuidResult
+    ensures { λ q. ⌜ q ≡ result (r .eax) (r .ebx) (versionEcx (clearsWith y) (enabledWith e) (r .ecx)) (r .edx) ⌝ }
 {
-    let ecx = bits::clear_unless(e.has_ymm(), YMM_VERSION_ECX, r.ecx) | HYPERVISOR_PRESENT;
+    let ecx = bits::clear_unless(e.has_ymm(), y.version_ecx, r.ecx) | HYPERVISOR_PRESENT;
     CpuidResult { ecx, ..r }
 }
 
 // Leaf 7.
-pub fn extended_features(e: Enabled, r: CpuidResult) -> CpuidResult
-    ensures { λ q. ⌜ q ≡ result (r .eax) (featuresEbx (enabledWith e) (r .ebx)) (featuresEcx (enabledWith e) (r .ecx))
-        (featuresEdx (enabledWith e) (r .edx)) ⌝ }
+pub fn extended_features(y: YmmClears, e: Enabled, r: CpuidResult) -> CpuidResult
+    ensures { λ q. ⌜ q ≡ result (r .eax) (featuresEbx (clearsWith y) (enabledWith e) (r .ebx))
+        (featuresEcx (clearsWith y) (enabledWith e) (r .ecx)) (featuresEdx (enabledWith e) (r .edx)) ⌝ }
 {
     let ymm = e.has_ymm();
     let avx512 = e.has_avx512();
-    let ymm_ebx = bits::clear_unless(ymm, YMM_FEATURES_EBX, r.ebx);
+    let ymm_ebx = bits::clear_unless(ymm, y.features_ebx, r.ebx);
     let ebx = bits::clear_unless(avx512, AVX512_FEATURES_EBX, ymm_ebx);
     let cet_ecx = bits::clear_unless(e.has_cet(), CET_SS, r.ecx);
-    let ymm_ecx = bits::clear_unless(ymm, YMM_FEATURES_ECX, cet_ecx);
+    let ymm_ecx = bits::clear_unless(ymm, y.features_ecx, cet_ecx);
     let avx512_ecx = bits::clear_unless(avx512, AVX512_FEATURES_ECX, ymm_ecx);
     let ecx = bits::clear_unless(e.tsc_aux, RD_PID, avx512_ecx);
     let edx = bits::clear_unless(avx512, AVX512_FEATURES_EDX, r.edx);
@@ -117,11 +154,13 @@ pub fn extended_state_1(e: Enabled, r: CpuidResult) -> CpuidResult
 }
 
 // Leaf 80000001h.
-pub fn extended_version_and_features(e: Enabled, r: CpuidResult) -> CpuidResult
-    ensures { λ q. ⌜ q ≡ result (r .eax) (r .ebx) (r .ecx) (extendedVersionEdx (enabledWith e) (r .edx)) ⌝ }
+pub fn extended_version_and_features(y: YmmClears, e: Enabled, r: CpuidResult) -> CpuidResult
+    ensures { λ q. ⌜ q ≡ result (r .eax) (r .ebx) (extendedVersionEcx (clearsWith y) (enabledWith e) (r .ecx))
+        (extendedVersionEdx (enabledWith e) (r .edx)) ⌝ }
 {
+    let ecx = bits::clear_unless(e.has_ymm(), y.extended_version_ecx, r.ecx);
     let edx = bits::clear_unless(e.tsc_aux, RDTSCP, r.edx);
-    CpuidResult { edx, ..r }
+    CpuidResult { ecx, edx, ..r }
 }
 
 // Leaf 80000008h.

@@ -1,6 +1,7 @@
 // What becomes of the rows of an accepted table. Masked first entries come in; the table goes out.
 use checks::max_extended_state;
 use features::Enabled;
+use features::YmmClears;
 use features::extended_features;
 use features::extended_state_1;
 use features::extended_version_and_features;
@@ -92,11 +93,12 @@ fn count_rows(present: [bool; PLACES]) -> usize
     count
 }
 
-// The table of rows that passed every check, from the size of the save area and the number of processors.
-pub fn finish(t: CpuidResults, size: u32, processors: u32) -> CpuidResults
+// The table of rows that passed every check, from the edition of the AVX rule, the size of the save area and the number of processors.
+pub fn finish(t: CpuidResults, edition: u32, size: u32, processors: u32) -> CpuidResults
     requires { ⌜ Ready (rowsIn t) size processors ⌝ }
-    ensures { λ r. ⌜ r ≡ tableOf (finished (rowsIn t)) (combinedMask (rowsIn t)) ⌝ }
+    ensures { λ r. ⌜ r ≡ tableOf (finished edition (rowsIn t)) (combinedMask (rowsIn t)) ⌝ }
 {
+    let y = YmmClears::of(edition);
     let subleaf0 = t.results[place::EXTENDED_STATE_0];
     let subleaf1 = t.results[place::EXTENDED_STATE_1];
     let sev = t.results[place::EXTENDED_SEV_FEATURES];
@@ -111,8 +113,8 @@ pub fn finish(t: CpuidResults, size: u32, processors: u32) -> CpuidResults
     out.present[place::VENDOR_AND_MAX_FUNCTION] = true;
     out.present[place::EXTENDED_MAX_FUNCTION] = true;
     out.results[place::VENDOR_AND_MAX_FUNCTION] = vendor_and_max_function(AMD_MAXIMUM);
-    out.results[place::VERSION_AND_FEATURES] = version_and_features(e, version);
-    out.results[place::EXTENDED_FEATURES] = extended_features(e, features);
+    out.results[place::VERSION_AND_FEATURES] = version_and_features(y, e, version);
+    out.results[place::EXTENDED_FEATURES] = extended_features(y, e, features);
     out.results[place::THREAD_LEVEL] = thread_level(threads_per_compute_unit(topology.ebx));
     out.results[place::CORE_LEVEL] = core_level(processors);
     out.results[place::EXTENDED_STATE_0] = CpuidResult {
@@ -122,6 +124,7 @@ pub fn finish(t: CpuidResults, size: u32, processors: u32) -> CpuidResults
     out.results[place::EXTENDED_STATE_1] = extended_state_1(e, subleaf1);
     out.results[place::EXTENDED_MAX_FUNCTION] = vendor_and_max_function(EXTENDED_AMD_MAXIMUM);
     out.results[place::EXTENDED_VERSION_AND_FEATURES] = extended_version_and_features(
+        y,
         e,
         extended_version,
     );

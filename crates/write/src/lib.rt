@@ -1,15 +1,16 @@
 // From pages to the image. Pages and a lent buffer come in; the table's bytes go out, or a refusal and the buffer as it was.
 use buffer::Written;
+use table::Choices;
 use table::Verdict;
 ghost use mathlib.Core.Path.{_≡_};
 ghost use Rattle.write.specs.Write.{write};
 
 // Builds the table of the given pages and writes its image. Building's refusals come first, and leave the buffer as it was.
-pub fn write_image(pages: &[u8], secure_avic: bool, out: &mut [u8]) -> Written
-    ensures { λ r. ⌜ r ≡ write «secure_avic» (now (pages .entry)) (now (out .entry)) .answer ⌝ }
-    ensures { λ _. ⌜ now (out .exit) ≡ write «secure_avic» (now (pages .entry)) (now (out .entry)) .buffer ⌝ }
+pub fn write_image(pages: &[u8], choices: Choices, out: &mut [u8]) -> Written
+    ensures { λ r. ⌜ r ≡ write choices (now (pages .entry)) (now (out .entry)) .answer ⌝ }
+    ensures { λ _. ⌜ now (out .exit) ≡ write choices (now (pages .entry)) (now (out .entry)) .buffer ⌝ }
 {
-    let built = build::build(pages, secure_avic);
+    let built = build::build(pages, choices);
     let verdict = built.verdict;
     if let Verdict::Refused(r) = verdict {
         return Written::Refused(r);

@@ -8,7 +8,7 @@ use Rattle.build.proofs.build_rows.Tie as tie
 returns : tie.Need-returns
 returns c =
     let v = c .before .before in let s = v .before .before in
-    required-refuses (s .before .before .args .t) (s .validate-required .ensures) (v .verdict .given .1) (c .refused .ensures)
+    required-refuses (s .before .before .args .t) (s .validate-required .ensures) _ (v .verdict .given .1) (c .refused .ensures)
 
 from-invlpgb-requires : tie.Need-from-invlpgb-requires
 from-invlpgb-requires c κs =
@@ -18,7 +18,7 @@ from-invlpgb-requires c κs =
 returns-2 : tie.Need-returns-2
 returns-2 c =
     let v = c .before in let s = v .before .before in
-    required-passes (s .before .before .args .t) (s .validate-required .ensures) (v .enum-told .given .1) (c .from-invlpgb .ensures)
+    required-passes (s .before .before .args .t) (s .validate-required .ensures) _ (v .enum-told .given .1) (c .from-invlpgb .ensures)
 
 pub build-rows-spec : {M : Type 1} → statement M
 build-rows-spec =

@@ -12,7 +12,7 @@ returns : tie.Need-returns
 unfolding xfem
 returns c =
     let v = c .before in let s = v .before .before in let t = s .before .before .before .before .args .t1 in let m = rowsIn t in
-    stage-refuses m (areaVerdict m) (topologyVerdict m) (area-verdict t (s .xsave-size .ensures)) (ap sizeVerdict (v .enum-told .given .1))
+    stage-refuses _ m (areaVerdict m) (topologyVerdict m) (area-verdict t (s .xsave-size .ensures)) (ap sizeVerdict (v .enum-told .given .1))
     (c .refused .ensures)
 
 from-topology-requires : tie.Need-from-topology-requires
@@ -25,7 +25,7 @@ returns-2 : tie.Need-returns-2
 unfolding xfem
 returns-2 c =
     let v = c .before .before in let s = v .before .before in let t = s .before .before .before .before .args .t1 in let m = rowsIn t in
-    stage-passes m (areaVerdict m) (topologyVerdict m) (area-verdict t (s .xsave-size .ensures)) (ap sizeVerdict (v .size .given .1))
+    stage-passes _ m (areaVerdict m) (topologyVerdict m) (area-verdict t (s .xsave-size .ensures)) (ap sizeVerdict (v .size .given .1))
     (c .from-topology .ensures)
 
 pub from-area-spec : {M : Type 1} → statement M

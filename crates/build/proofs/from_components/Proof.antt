@@ -25,12 +25,12 @@ found c =
 returns : tie.Need-returns
 returns c =
     let v = c .before .before in let s = v .before .before in let m = rowsBefore s in
-    stage-refuses m (componentsVerdict m) (fromArea m) (found s) (v .verdict .given .1) (c .refused .ensures)
+    stage-refuses _ m (componentsVerdict m) (fromArea m) (found s) (v .verdict .given .1) (c .refused .ensures)
 
 returns-2 : tie.Need-returns-2
 returns-2 c =
     let v = c .before in let s = v .before .before in let m = rowsBefore s in
-    stage-passes m (componentsVerdict m) (fromArea m) (found s) (v .enum-told .given .1) (c .from-area .ensures)
+    stage-passes _ m (componentsVerdict m) (fromArea m) (found s) (v .enum-told .given .1) (c .from-area .ensures)
 
 pub from-components-spec : {M : Type 1} → statement M
 from-components-spec =

@@ -11,13 +11,13 @@ returns : tie.Need-returns
 unfolding invlpgbVerdict
 returns c =
     let v = c .before .before in let s = v .before .before in let m = rowsIn (s .before .before .args .t1) in
-    stage-refuses m (invlpgbVerdict m) (fromComponents m) (s .validate-invlpgb .ensures) (v .verdict .given .1) (c .refused .ensures)
+    stage-refuses _ m (invlpgbVerdict m) (fromComponents m) (s .validate-invlpgb .ensures) (v .verdict .given .1) (c .refused .ensures)
 
 returns-2 : tie.Need-returns-2
 unfolding invlpgbVerdict
 returns-2 c =
     let v = c .before in let s = v .before .before in let m = rowsIn (s .before .before .args .t1) in
-    stage-passes m (invlpgbVerdict m) (fromComponents m) (s .validate-invlpgb .ensures) (v .enum-told .given .1) (c .from-components .ensures)
+    stage-passes _ m (invlpgbVerdict m) (fromComponents m) (s .validate-invlpgb .ensures) (v .enum-told .given .1) (c .from-components .ensures)
 
 pub from-invlpgb-spec : {M : Type 1} → statement M
 from-invlpgb-spec =

@@ -34,12 +34,12 @@ finish-requires c κs =
 returns : tie.Need-returns
 returns c =
     let v = c .before .before in let s = v .before .before in
-    topology-passes (rows s) (found s) (v .topology .given .1) (c .finish .ensures)
+    topology-passes (rows s) (found s) _ (v .topology .given .1) (c .finish .ensures)
 
 returns-2 : tie.Need-returns-2
 returns-2 c =
     let v = c .before .before in let s = v .before .before in
-    topology-refuses (rows s) (found s) (v .topology2 .given .1) (c .refused .ensures)
+    topology-refuses (rows s) (found s) _ (v .topology2 .given .1) (c .refused .ensures)
 
 pub from-topology-spec : {M : Type 1} → statement M
 from-topology-spec =

@@ -18,7 +18,7 @@ returns c =
 abbrev start : tie.After-enum-told → tie.Start
 start c = let built = c .before .before in built .before .before .before
 
-accepted : (c : tie.After-enum-told) → answer (start c .args .secure-avic) (start c .args .a .now) .verdict ≡ Accepted
+accepted : (c : tie.After-enum-told) → answer (start c .args .choices) (start c .args .a .now) .verdict ≡ Accepted
 accepted c = sym (ap (λ (x : Built). x .verdict) (c .before .before .build .ensures)) ∙ c .enum-told .given .1
 
 returns-2 : tie.Need-returns-2

@@ -5,13 +5,15 @@ use Rattle.snp_cpuid.proofs.snp_cpuid_lookup.Tie as tie
 
 returns : tie.Need-returns
 returns c =
-    rw (← c .before .before .before .before .build .ensures, ← c .before .before .subleaf-of .ensures, ← c .before .leaf-result .ensures)
+    let b = c .before .before .before .before in
+    rw (← b .before .choices .ensures, ← b .build .ensures, ← c .before .before .subleaf-of .ensures, ← c .before .leaf-result .ensures)
     (c .found-numbers .ensures)
 
 pub snp-cpuid-lookup-spec : {M : Type 1} → statement M
 snp-cpuid-lookup-spec =
     tie.close
     (tie.spec
+    (λ c κs. search needs)
     (λ c κs. search needs)
     (λ c κs. search needs)
     (λ c κs. search needs)

@@ -5,7 +5,7 @@ use Rattle.x86defs.specs.Functions.{AmdMaximum, ExtendedAmdMaximum}
 use Rattle.topology.specs.Topology.{threadLevel}
 use Rattle.checks.specs.TopologyInputs.{inputsOf}
 use Rattle.table.specs.Table.{rowsIn}
-use Rattle.update.specs.Stores.{enabledWith}
+use Rattle.update.specs.Stores.{clearsWith, enabledWith}
 use Rattle.update.specs.FinishedTable.{settingsWith, stores, finished-table}
 use Rattle.update.proofs.finish.Statement.{statement}
 use Rattle.update.proofs.finish.Tie as tie
@@ -17,10 +17,10 @@ returns c =
     let state1 = extended-max .before in let cores = state1 .before in let threads = cores .before in let t = threads .before in
     let features = t .before in let version = features .before in let max = version .before in let dropped = max .before in
     let extended-version-read = dropped .before .before .before in let mask = extended-version-read .before .before .before in
-    let enabled = mask .before in let start = enabled .before .before .before .before in
+    let enabled = mask .before in let clears = enabled .before .before .before .before in let start = clears .before in
     let m = rowsIn (start .args .t1) in
-    let settings = settingsWith (enabledWith (enabled .new .result)) (start .args .size) (inputsOf m .t) (start .args .processors) in
-    finished-table (start .args .t1) (start .pre) (enabled .new .ensures) (mask .max-extended-state .ensures)
+    let settings = settingsWith (clearsWith (clears .of .result)) (enabledWith (enabled .new .result)) (start .args .size) (inputsOf m .t) (start .args .processors) in
+    finished-table (start .args .edition) (start .args .t1) (start .pre) (clears .of .ensures) (enabled .new .ensures) (mask .max-extended-state .ensures)
     (dropped .drop-subleaves .ensures) (c .count-rows .ensures)
     (stores settings (λ i. m i .result) (dropped .drop-subleaves .result .results)
     (max .vendor-and-max-function .ensures)
@@ -38,6 +38,7 @@ pub finish-spec : {M : Type 1} → statement M
 finish-spec =
     tie.close
     (tie.spec
+    (λ c κs. search needs)
     (λ c. search needs)
     (λ c. search needs)
     (λ c. search needs)

@@ -7,12 +7,13 @@ returns : tie.Need-returns
 returns c =
     let g = c .before .before .before .before in
     let l = c .before in
-    rw (← g .before .processor .ensures, ← g .guest-pages .ensures, ← l .before .subleaf-of .ensures, ← l .leaf-result .ensures) (c .found-numbers .ensures)
+    rw (← g .before .choices .ensures, ← g .before .before .processor .ensures, ← g .guest-pages .ensures, ← l .before .subleaf-of .ensures, ← l .leaf-result .ensures) (c .found-numbers .ensures)
 
 pub snp-cpuid-guest-lookup-spec : {M : Type 1} → statement M
 snp-cpuid-guest-lookup-spec =
     tie.close
     (tie.spec
+    (λ c κs. search needs)
     (λ c κs. search needs)
     (λ c κs. search needs)
     (λ c κs. search needs)

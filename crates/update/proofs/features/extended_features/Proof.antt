@@ -1,12 +1,12 @@
 -- `features::extended_features` meets its contract: the code's masks are the definition's figures.
 use borrow.Author.Needs.{needs}
 use Rattle.bits.specs.Bits.{maskOf}
-use Rattle.update.specs.Finish.{featuresEbx, featuresEcx, featuresEdx, ymmFeaturesEbx, ymmFeaturesEcx, avx512FeaturesEbx, avx512FeaturesEcx, avx512FeaturesEdx, cetSs, rdPid}
+use Rattle.update.specs.Finish.{featuresEbx, featuresEcx, featuresEdx, avx512FeaturesEbx, avx512FeaturesEcx, avx512FeaturesEdx, cetSs, rdPid}
 use Rattle.update.proofs.features.extended_features.Statement.{statement}
 use Rattle.update.proofs.features.extended_features.Tie as tie
 
 returns : tie.Need-returns
-unfolding featuresEbx featuresEcx featuresEdx ymmFeaturesEbx ymmFeaturesEcx avx512FeaturesEbx avx512FeaturesEcx avx512FeaturesEdx cetSs rdPid maskOf
+unfolding featuresEbx featuresEcx featuresEdx avx512FeaturesEbx avx512FeaturesEcx avx512FeaturesEdx cetSs rdPid maskOf
 returns c = cc
 
 pub extended-features-spec : {M : Type 1} → statement M

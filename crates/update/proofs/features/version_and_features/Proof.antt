@@ -1,12 +1,12 @@
 -- `features::version_and_features` meets its contract: the code's masks are the definition's figures.
 use borrow.Author.Needs.{needs}
 use Rattle.bits.specs.Bits.{maskOf}
-use Rattle.update.specs.Finish.{versionEcx, ymmVersionEcx, hypervisorPresent}
+use Rattle.update.specs.Finish.{versionEcx, hypervisorPresent}
 use Rattle.update.proofs.features.version_and_features.Statement.{statement}
 use Rattle.update.proofs.features.version_and_features.Tie as tie
 
 returns : tie.Need-returns
-unfolding versionEcx ymmVersionEcx hypervisorPresent maskOf
+unfolding versionEcx hypervisorPresent maskOf
 returns c = cc
 
 pub version-and-features-spec : {M : Type 1} → statement M
