@@ -1,4 +1,5 @@
-/* Document 01's table in plain C, as a C programmer would write it: the yardstick of docs/PERFORMANCE.md, and nothing that the port uses. */
+/* Document 01's table in plain C, with document 02's refusal 17, as a C programmer would write it: the yardstick of docs/PERFORMANCE.md, and nothing
+ * that the port uses. */
 #include "plain.h"
 
 #include <string.h>
@@ -70,6 +71,23 @@ static const struct row *mask_of(unsigned place, int avic)
     case 87: return &MASK_1F[avic];
     default: return &ONES;
     }
+}
+
+/* the first entry below its page's count with a reserved byte that is not zero */
+static const uint8_t *unclean(const uint8_t *pages, size_t count)
+{
+    for (size_t p = 0; p < count; p++) {
+        const uint8_t *page = pages + p * PAGE;
+        uint32_t n = word(page);
+        for (uint32_t q = 0; q < n; q++) {
+            const uint8_t *e = page + 16 + 48 * q;
+            uint64_t reserved;
+            memcpy(&reserved, e + 40, sizeof reserved);
+            if (reserved)
+                return e;
+        }
+    }
+    return NULL;
 }
 
 static void collect(struct table *t, const uint8_t *pages, size_t count, int avic)
@@ -235,6 +253,9 @@ struct plain_answer plain_write_image(const uint8_t *pages, size_t length, int a
     for (size_t p = 0; p < length / PAGE; p++)
         if (word(pages + p * PAGE) > 64)
             return refuse(2, 0, 0xffffffff, 0);
+    const uint8_t *e = unclean(pages, length / PAGE);
+    if (e)
+        return refuse(17, word(e), 0xffffffff, 0);
     collect(&t, pages, length / PAGE, avic);
     struct plain_answer a = finish(&t);
     if (a.number)

@@ -46,6 +46,10 @@ FAULTS = [
     ('a fifth cache', 'snp.rs', 'if subleaf <= 3', 'if subleaf <= 4'),
     ('topology before extended state', 'mod.rs', 'self.update_extended_state(arch_initializer)?;',
      'self.update_extended_topology(arch_initializer)?; self.update_extended_state(arch_initializer)?;'),
+    # document 02, P10: "XCR0_IN and XSS_IN remain unread", and the Rust tells no reserved byte from zero
+    ('XCR0_IN read', 'snp.rs', 'ecx: leaf.ecx_out,', 'ecx: leaf.ecx_out | leaf.xfem_in as u32,'),
+    ('XSS_IN read', 'snp.rs', 'ecx: leaf.ecx_out,', 'ecx: leaf.ecx_out | leaf.xss_in as u32,'),
+    ('a reserved word read', 'snp.rs', 'edx: leaf.edx_out,', 'edx: leaf.edx_out | unsafe { *std::ptr::from_ref(leaf).cast::<u32>().add(11) },'),
 ]
 
 

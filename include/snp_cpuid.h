@@ -33,6 +33,9 @@ extern "C" {
  *                                                  14 a compacted save-area size overflows
  *                                                  15 the edition is neither 1 nor 2: before all others
  *                                                  16 a table goes from edition 2 back to 1: after 15, before 13 and 14
+ *  17 one of the eight reserved bytes (40 to 47) of an entry below its page's count is not zero: after 2 and before 3. It names the leaf,
+ *     EAX_IN, of the first such entry, whether or not a table keeps it, and no subleaf. XCR0_IN, XSS_IN, the bytes after the count and
+ *     entries from the count on are not looked at.
  * A leaf, subleaf or s that the number does not name is 0. */
 
 /* What building gives. A refused table has row_count 0 and max_extended_state 0. */
@@ -68,7 +71,8 @@ struct snp_cpuid_written {
 /* What a comparison gives. answer:
  *   0 a guest of A may move to B: B's pages have what A's table has, and more only in feature bits
  *   1 A itself is refused: number and its details say why
- *   2 B's length (number 1) or a count of its pages (number 2) is not lawful
+ *   2 B's length (number 1) or a count of its pages (number 2) is not lawful, or a reserved byte of an entry is not zero (number 17, which
+ *     names the leaf)
  *   3 B has no entry for the leaf, and subleaf where the leaf has them, that A's table has
  *   4 the register of B's entry for the leaf and subleaf lacks a bit of A's where it is a feature register, or else differs
  * Of 3 and 4 it is the first, by rising leaf, subleaf and register. What the answer does not name is 0. */
@@ -180,6 +184,7 @@ struct snp_cpuid_carried snp_cpuid_carry(uint8_t *image, size_t length, uint32_t
 /* A refusal as one line of ASCII: the number in decimal, then, each after one space, the details that it names, leaf in eight hexadecimal capitals,
  * subleaf (left out where there is none) and s in decimal, and a newline. The numbers in use, by what they name:
  *   nothing: 1 2 4 5 8 9 10 11 12 13 14 15 16
+ *   leaf: 17
  *   leaf and subleaf: 3
  *   s: 6 7
  * Writes the line at the front of out. subleaf is read only where has_subleaf is true. There is no such line where the number is not in use, s is

@@ -8,7 +8,7 @@ import struct
 import sys
 
 import model
-from pagesets import PAGE_ENTRIES, PAGE_SIZE, STATE
+from pagesets import PAGE_ENTRIES, PAGE_SIZE, STATE, with_byte
 import replayed
 from replayed import MILAN, edits
 
@@ -179,8 +179,42 @@ def by_entries():
 def unknown_editions():
     """Document 02, P7: 15 before all else, whatever A and B are."""
     for edition, choice in product((0, 3, 257, 258, 1 << 31, ALL), (False, True)):
-        for a, b in product((MILAN, b'', put(MILAN, 0, PAGE_ENTRIES + 1), set_to(STATE, 2, model.EAX, ALL)), repeat=2):
+        sets = MILAN, b'', put(MILAN, 0, PAGE_ENTRIES + 1), set_to(STATE, 2, model.EAX, ALL), with_byte(MILAN, 0, 0, 40, 1)
+        for a, b in product(sets, repeat=2):
             yield a, b, choice, edition
+
+
+def reserved():
+    """Document 02, P10: a reserved byte in each entry, and bytes that are not tested; "the pages .. of servers A and B must be clean". """
+    where = [(page, position) for page in (0, 1) for position in range(word(MILAN, page * PAGE_SIZE))]
+    sets = [with_byte(MILAN, *place, 40 + number % 8, 1 << number % 8) for number, place in enumerate(where)]
+    # the first entry above a page's count; XCR0_IN and XSS_IN; bytes after the count
+    sets += [with_byte(MILAN, page, word(MILAN, page * PAGE_SIZE), 40, 1) for page in (0, 1)]
+    sets += [with_byte(MILAN, 0, 1, offset, 0xFF) for offset in (8, 16, 23)] + [MILAN[:4] + b'\xFF' * 12 + MILAN[16:]]
+    # entries that no table has: filtered, second, of leaf Dh on page 0
+    for entry in (FILTERED, 7, 1, 2, 3, 4), (ALL, ALL, 1, 2, 3, 4), (1, 0, 1, 2, 3, 4), (STATE, 0, 1, 2, 3, 4):
+        sets.append(with_byte(appended(MILAN, 0, *entry), 0, word(MILAN, 0), 47, 0x80))
+    # the first of several
+    sets += [with_byte(with_byte(MILAN, *where[3], 47, 1), *later, 40, 0xFF) for later in (where[2], where[4], (1, 0), where[-1])]
+    for data in sets:
+        yield MILAN, data, False
+        yield data, MILAN, True
+
+
+def reserved_order():
+    """B's 1 and 2 before its 17, and that before what its entries lack; A's refusal before all of B's."""
+    def unclean(data, page=1, position=1):
+        return with_byte(data, page, position, 44, 2)
+    unlawful = [MILAN[:-1], MILAN + bytes(1), put(MILAN, 0, PAGE_ENTRIES + 1), put(MILAN, PAGE_SIZE, ALL), MILAN + put(bytes(PAGE_SIZE), 0, ALL)]
+    lacking = [put(MILAN, find(1), FILTERED), set_to(5, 0, model.EAX, ALL), set_to(STATE, 2, model.EAX, ALL), set_to(0x80000008, 0, model.EBX, 0)]
+    for data in [*unlawful, *lacking]:
+        for choice in False, True:
+            yield MILAN, unclean(data), choice
+            yield MILAN, unclean(data, 0, 0), choice
+            yield unclean(data), MILAN, choice
+            yield data, unclean(MILAN), choice
+            yield unclean(MILAN), data, choice
+    yield unclean(MILAN), unclean(MILAN, 0, 0), False
 
 
 # The file
@@ -197,9 +231,9 @@ def told(answer):
     return [*words, f'{leaf:x}', '-' if subleaf is None else str(subleaf), *('eax ebx ecx edx'.split()[number] for number in rest)]
 
 
-GROUPS = (single_bits, secure_avic, missing, damaged, refused, others, bit_28, by_entries, unknown_editions)
+GROUPS = (single_bits, secure_avic, missing, damaged, refused, others, bit_28, by_entries, unknown_editions, reserved, reserved_order)
 # asked again under edition 2
-AGAIN = (missing, damaged, refused, others, bit_28)
+AGAIN = (missing, damaged, refused, others, bit_28, reserved, reserved_order)
 
 
 def pairs_of(*groups, edition=1):
@@ -212,8 +246,9 @@ def main(words):
     answers = [model.compare(*pair) for pair in pairs]
     lines = [' '.join([str(int(choice)), str(edition), edits(MILAN, a), edits(MILAN, b), *told(answer)])
              for (a, b, choice, edition), answer in zip(pairs, answers)]
-    every = 'rises', 'refused A', 'unlawful B', 'no entry', 'differs'
-    return replayed.main(words, 'comparisons', 'comparisons', lines, (answer[0] for answer in answers), every)
+    every = 'rises', 'refused A', 'unlawful B 1', 'unlawful B 2', 'unlawful B 17', 'no entry', 'differs'
+    kinds = (f'unlawful B {answer[1]}' if answer[0] == 'unlawful B' else answer[0] for answer in answers)
+    return replayed.main(words, 'comparisons', 'comparisons', lines, kinds, every)
 
 
 if __name__ == '__main__':

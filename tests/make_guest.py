@@ -12,7 +12,7 @@ import sys
 
 import model
 from model_guest import guest
-from pagesets import STATE, changed, minimal, page, rich, spread, with_topology, without
+from pagesets import STATE, changed, minimal, page, rich, spread, with_byte, with_topology, without
 import replayed
 from replayed import MILAN, edits
 from vectors_document_01 import Damage
@@ -93,6 +93,7 @@ def building_first():
     sets = [b'', MILAN[1:], page([], 65), MILAN[:4096], spread(without(rich(), STATE, 7)), spread(without(rich(), 0x8000001A))]
     sets += [spread(changed(rich(), 0x80000008, ebx=0)), spread(changed(rich(), STATE, 2, eax=ALL)), spread(with_topology(rich(), 7, 127, 128, 0, 0))]
     sets += [spread(with_topology(rich(), 7, 128, 128, 1, 0)), spread(with_topology(minimal(), 0, 0, 1, 1, 1))]
+    sets += [with_byte(MILAN, 1, 0, 40, 1), with_byte(MILAN, 0, 0, 47, 0x80), with_byte(spread(without(rich(), 1)), 0, 1, 43, 1)]
     for data in sets:
         yield data, ('b', view(0, 0, ALL))
         yield data, ('l', view(0, 0, ALL), 1, None, False)
@@ -141,7 +142,7 @@ def editions():
         yield data, ('w', one, 732)
     large_state = spread(changed(changed(rich(), STATE, 2, eax=ALL, ebx=0), STATE, 1, eax=2))
     for edition in 0, 3, 257, 1 << 31, ALL:
-        for data in b'', page([], 65), MILAN[:4096], large_state, MILAN:
+        for data in b'', page([], 65), MILAN[:4096], with_byte(MILAN, 0, 0, 40, 1), large_state, MILAN:
             for one in view(0, 7, edition=edition), view(0, 2, edition=edition):
                 yield from built(data, one)
                 yield data, ('l', one, 1, None, False)
@@ -199,7 +200,7 @@ def main(words):
     made = [*lines()]
     answers = [line.split(' | ')[1].split() for line in made if not line.startswith('p ')]
     kinds = [answer[1] if answer[0] == 'r' else 'given' for answer in answers]
-    return replayed.main(words, 'guest', 'guest answers', made, kinds, [*'1 2 3 4 5 6 7 8 9 13 14 15'.split(), 'given'])
+    return replayed.main(words, 'guest', 'guest answers', made, kinds, [*'1 2 3 4 5 6 7 8 9 13 14 15 17'.split(), 'given'])
 
 
 if __name__ == '__main__':

@@ -12,6 +12,7 @@ import sys
 from make_comparisons import richer, set_to
 import model
 from model_kvm import PAIR_SIZE, kvm_list, read_list, write_list
+from pagesets import with_byte
 import replayed
 from replayed import MILAN, edits
 
@@ -40,7 +41,8 @@ def writes():
     accepted = [MILAN, richer(), set_to(STATE, 0, model.EAX, 3), set_to(0x8000001F, 0, model.EAX, 0xFFFFFFFF)]
     refused = [b'', MILAN[:4095], MILAN[:4096], struct.pack('<I', 65) + MILAN[4:], set_to(0x80000008, 0, model.EBX, 0),
                set_to(STATE, 2, model.EAX, 0xFFFFFFFF), set_to(0x80000008, 0, model.ECX, 0), set_to(1, 0, model.EDX, 0),
-               set_to(0x80000008, 0, model.ECX, 0x1001), set_to(0x8000001E, 0, model.EBX, 0xFF00)]
+               set_to(0x80000008, 0, model.ECX, 0x1001), set_to(0x8000001E, 0, model.EBX, 0xFF00), with_byte(MILAN, 0, 0, 40, 1),
+               with_byte(MILAN, 1, 1, 47, 0x80)]
     for choice in False, True:
         for pages in accepted:
             size = len(kvm_list(model.build(pages, choice)))
@@ -106,7 +108,7 @@ def lines():
 def main(words):
     answers, made = zip(*lines())
     kinds = (answer[1] if answer[0] == 'refusal' else answer[0] for answer in answers)
-    return replayed.main(words, 'kvm', 'lists for KVM', made, kinds, [*range(1, 13), 15, 'written', 'read'])
+    return replayed.main(words, 'kvm', 'lists for KVM', made, kinds, [*range(1, 13), 15, 17, 'written', 'read'])
 
 
 if __name__ == '__main__':

@@ -1,5 +1,5 @@
 """A model of document 01: what building, lookup, the image, writing and the program answer for any page bytes, and of demand 3's hypothesis;
-with document 02's order of rows (P1), shift (P5) and editions (P7).
+with document 02's order of rows (P1), shift (P5), editions (P7) and reserved bytes (P10).
 
 An answer is ('table', rows, mask), rows {(leaf, subleaf or None): (EAX, EBX, ECX, EDX)} and mask the combined mask,
 or ('refusal', number, leaf, subleaf or None, s). Quotations and titles in the comments are document 01's.

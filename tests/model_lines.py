@@ -8,7 +8,7 @@ NO_SUCH_LINE = ('no such line',)
 DIGITS = b'0123456789'
 CAPITALS = b'0123456789ABCDEF'
 
-# The numbers in use, each with the details that it names: document 01, "Where each check stands", then P2, P3, P7 and P8.
+# The numbers in use, each with the details that it names: document 01, "Where each check stands", then P2, P3, P7, P8 and P10.
 NAMES = {
     1: (),
     2: (),
@@ -26,6 +26,7 @@ NAMES = {
     14: (),
     15: (),
     16: (),
+    17: ('leaf',),
 }
 
 

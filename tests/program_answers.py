@@ -10,7 +10,7 @@ import subprocess
 import sys
 
 import model
-from pagesets import STATE, minimal, rich, spread, with_topology
+from pagesets import STATE, minimal, pages, rich, split, spread, with_byte, with_topology
 import vector_groups
 
 PROGRAM = Path(__file__).resolve().parent.parent / 'target' / 'bin' / 'snp_cpuid_image'
@@ -21,6 +21,9 @@ REQUIRED = model.COMMON_REQUIRED_LEAVES + model.SNP_REQUIRED_LEAVES + [(STATE, s
 REFUSALS = {('refusal', number, 0, None, 0) for number in (1, 2, 4, 5, 8)}
 REFUSALS |= {('refusal', 3, *key, 0) for key in REQUIRED}
 REFUSALS |= {('refusal', number, 0, None, s) for number in (6, 7) for s in range(8)}
+# 17 may name any leaf: every required one, and some that no table has
+UNCLEAN = sorted({leaf for leaf, _ in REQUIRED} | {0, 0x100, 0x40000000, 0x80000000, 0xFFFFFFFF})
+REFUSALS |= {('refusal', 17, leaf, None, 0) for leaf in UNCLEAN}
 
 
 def topologies():
@@ -30,6 +33,15 @@ def topologies():
         for rows in minimal(), rich():
             yield spread(with_topology(rows, s, 0, lps, 0, 0))
             yield spread(with_topology(rows, s, 0, lps + 1, 1, 0))
+
+
+def unclean():
+    """Refusal 17 for each of these leaves, at the front of page 0 and of page 1."""
+    first, second = split(rich())
+    for leaf in UNCLEAN:
+        entry = leaf, 3, 1, 2, 3, 4
+        yield with_byte(pages([entry, *first], second), 0, 0, 45, 0x20)
+        yield with_byte(pages(first, [entry, *second]), 1, 0, 40, 1)
 
 
 def lengths():
@@ -42,7 +54,7 @@ def lengths():
 def inputs():
     """Every page set of the vectors and those above, once."""
     sets = [vector.pages for vector in vector_groups.vectors()]
-    return list(dict.fromkeys([*sets, *topologies(), *lengths()]))
+    return list(dict.fromkeys([*sets, *topologies(), *unclean(), *lengths()]))
 
 
 @cache
@@ -55,7 +67,7 @@ def lacking(sets):
     """What no input asks for: each answer with its details, and the two lengths about the limit."""
     refused = {answer for answer in map(told, sets) if answer[0] == 'refusal'}
     lacks = [f'no input is answered by {answer}' for answer in sorted(REFUSALS - refused, key=str)]
-    lacks += [f'{answer} is not in the list' for answer in sorted(refused - REFUSALS, key=str)]
+    lacks += [f'{answer} is not in the list' for answer in sorted(refused - REFUSALS, key=str) if (answer[1], *answer[3:]) != (17, None, 0)]
     kinds = {(len(data), told(data)[0]) for data in sets if LONGEST <= len(data) <= LONGEST + 1}
     for kind in (LONGEST, 'table'), (LONGEST, 'refusal'), (LONGEST + 1, 'too long'):
         if kind not in kinds:

@@ -12,7 +12,7 @@ from model_guest import guest
 from model_kvm import read_list, write_list
 from model_lines import read_line, write_line
 from model_masks import KEPT, bits
-from pagesets import STATE, changed, minimal, page, rich, spread, with_topology, without
+from pagesets import STATE, changed, minimal, page, rich, spread, with_byte, with_topology, without
 from vectors_document_01 import Damage
 
 MILAN = Path(__file__).with_name('epyc-milan.pages').read_bytes()
@@ -108,7 +108,7 @@ class Unknown(unittest.TestCase):
     # a page set for each other refusal, and an accepted one
     SETS = (b'', MILAN[1:], page([], 65) * 2, MILAN[:4096], spread(without(rich(), STATE, 7)), spread(changed(rich(), 0x80000008, ebx=0)),
             spread(changed(rich(), STATE, 2, eax=ALL)), spread(with_topology(rich(), 7, 127, 128, 0, 0)),
-            spread(with_topology(rich(), 7, 128, 128, 1, 0)), spread(with_topology(rich(), 7, 127, 128, 1, 2)), MILAN)
+            spread(with_topology(rich(), 7, 128, 128, 1, 0)), spread(with_topology(rich(), 7, 127, 128, 1, 2)), with_byte(MILAN, 1, 0, 47, 1), MILAN)
 
     def test_before_every_other(self):
         told = set()
@@ -121,7 +121,7 @@ class Unknown(unittest.TestCase):
                 self.assertEqual(model.write(data, choice, b'x', edition), (refusal(15), b'x'))
                 self.assertEqual(write_list(data, choice, b'x', edition), (refusal(15), b'x'))
                 self.assertEqual(guest(data, choice, 0, 0, ALL, False, edition), refusal(15))
-        self.assertEqual(told, set(range(9)))
+        self.assertEqual(told, {*range(9), 17})
 
     def test_a_lookup_finds_nothing(self):
         self.assertIsNone(model.lookup(model.build(MILAN, False, 3), 1, None, False))

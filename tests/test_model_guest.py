@@ -10,7 +10,7 @@ import unittest
 
 import model
 from model_guest import guest, guest_of
-from pagesets import STATE, changed, minimal, page, rich, spread, with_topology, without
+from pagesets import STATE, changed, minimal, page, rich, spread, with_byte, with_topology, without
 from vectors_document_01 import Damage
 
 MILAN = Path(__file__).with_name('epyc-milan.pages').read_bytes()
@@ -154,7 +154,7 @@ class Refusals(unittest.TestCase):
     def test_building_s_refusals_first(self):
         for source, wanted in (b'', refusal(1)), (page([], 65), refusal(2)), (MILAN[:4096], refusal(3, STATE, 0)), \
                 (spread(without(rich(), STATE, 7)), refusal(3, STATE, 7)), \
-                (spread(with_topology(minimal(), 5, 0, 0, 0, 0)), refusal(7, s=5)):
+                (spread(with_topology(minimal(), 5, 0, 0, 0, 0)), refusal(7, s=5)), (with_byte(MILAN, 1, 0, 40, 1), refusal(17, STATE)):
             self.assertEqual(guest(source, False, 0, 0, ALL, False), wanted)
 
     def test_of_a_table(self):

@@ -7,7 +7,7 @@ import unittest
 
 import model
 from model_kvm import read_list, write_list
-from pagesets import STATE, changed, entries, minimal, page, pages, rich, spread, with_topology, without
+from pagesets import STATE, changed, entries, minimal, page, pages, rich, spread, with_byte, with_topology, without
 from vectors_document_01 import Damage
 
 MILAN = Path(__file__).with_name('epyc-milan.pages').read_bytes()
@@ -61,7 +61,7 @@ class Export(unittest.TestCase):
 
     def test_building_s_refusals_first(self):
         for source, wanted in (b'', refusal(1)), (page([], 65), refusal(2)), (MILAN[:4096], refusal(3, STATE, 0)), \
-                (spread(with_topology(minimal(), 5, 0, 0, 0, 0)), refusal(7, s=5)):
+                (spread(with_topology(minimal(), 5, 0, 0, 0, 0)), refusal(7, s=5)), (with_byte(MILAN, 1, 0, 40, 1), refusal(17, STATE)):
             for buffer in b'', b'y' * 2000:
                 self.assertEqual(write_list(source, False, buffer), (wanted, buffer))
 
@@ -109,6 +109,13 @@ class Import(unittest.TestCase):
                 self.assertEqual(read_list(listing(rows), room), (refusal(11), room))
         answer, data = read_list(listing([(STATE,), (1,)] * 64), ROOM)
         self.assertEqual((answer, data[0], data[4096]), (('read', 8192), 64, 64))
+
+    def test_pages_are_clean(self):
+        """ "all other bytes 0", whatever was lent: no list gives pages that document 02, P10, refuses by 17. """
+        for rows in [(STATE,), (1,)] * 64, [(0xFFFFFFFF, 0xFFFFFFFF, 1, *[0xFFFFFFFF] * 4)] * 64, []:
+            _, data = read_list(listing(rows), ROOM)
+            model.check_reserved(data)
+            self.assertEqual({data[at + 40:at + 48] for _, at in model.entry_places(data)}, {bytes(8)} if rows else set())
 
     def test_9(self):
         for room in b'', b'z', ROOM[1:]:

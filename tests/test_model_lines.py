@@ -9,6 +9,7 @@ import unittest
 from model_lines import NAMES, NO_SUCH_LINE, read_line, write_line
 
 ALL = 0xFFFFFFFF
+IN_USE = [*range(1, 16), 17]
 
 # lines written down from document 02's words
 LINES = {
@@ -29,6 +30,8 @@ LINES = {
     (14, 0, None, 0): '14\n',
     (15, 0, None, 0): '15\n',
     (16, 0, None, 0): '16\n',
+    (17, 0, None, 0): '17 00000000\n',
+    (17, 0x8000001D, None, 0): '17 8000001D\n',
 }
 
 
@@ -67,8 +70,9 @@ class Writing(unittest.TestCase):
             self.assertEqual(write_line(*refusal, b'x' * 30), (('written', len(text)), text.encode() + b'x' * (30 - len(text))))
 
     def test_numbers_in_use(self):
-        self.assertEqual(sorted(NAMES), list(range(1, len(NAMES) + 1)))
-        self.assertEqual({number for number, names in NAMES.items() if names}, {3, 6, 7})
+        self.assertEqual(list(NAMES), IN_USE)
+        self.assertEqual({number: names for number, names in NAMES.items() if names},
+                         {3: ('leaf', 'subleaf'), 6: ('s',), 7: ('s',), 17: ('leaf',)})
 
     def test_9(self):
         for refusal, text in LINES.items():
@@ -77,8 +81,9 @@ class Writing(unittest.TestCase):
             self.assertEqual(write_line(*refusal, bytes(len(text))), (('written', len(text)), text.encode()))
 
     def test_no_such_line(self):
-        strange = [(number, 0, None, 0) for number in (0, len(NAMES) + 1, 99, 100, 255)]
+        strange = [(number, 0, None, 0) for number in range(256) if number not in IN_USE]
         strange += [(3, 1, 2, 3), (3, 0, None, 1), (6, 1, None, 1), (6, 0, 0, 1), (7, 0, 1, 0), (7, ALL, None, 0)]
+        strange += [(17, 1, 0, 0), (17, 0, 0, 0), (17, 1, None, 1), (17, 1, 2, 3)]
         for number, names in NAMES.items():
             if not names:
                 strange += [(number, 1, None, 0), (number, 0, 0, 0), (number, 0, None, 1), (number, 1 << 31, 5, 9)]
@@ -105,7 +110,9 @@ class Reading(unittest.TestCase):
                      '3\n', '3 \n', '3 D\n', '3 0000000d\n', '3 0000000d 0\n', '3 000000D\n', '3 00000000D\n', '3  0000000D\n', '3 0000000D \n',
                      '3 0000000D  0\n', '3 0000000D 00\n', '3 0000000D 01\n', '3 0000000D 4294967296\n', '3 0000000D 0 0\n',
                      '3 0000000D none\n', '3 0x00000D\n', '3 0000000D 99999999999\n', '6\n', '6 \n', '6 256\n', '6 00\n', '6 07\n', '6 1 1\n',
-                     '6 0000000D\n', '7 A\n', '8 0\n', '9 1\n', '10 0\n', '1 0\n', '3 0000000D\t0\n', '3\t0000000D\n', '3 0000000_D\n', '1_0\n'):
+                     '6 0000000D\n', '7 A\n', '8 0\n', '9 1\n', '10 0\n', '1 0\n', '3 0000000D\t0\n', '3\t0000000D\n', '3 0000000_D\n', '1_0\n',
+                     '17\n', '17 0000000D 0\n', '17 D\n', '17 0000000d\n',
+                     *(f'{number}\n' for number in range(300) if number not in IN_USE)):
             self.assertEqual(read_line(text.encode()), NO_SUCH_LINE, text)
         self.assertEqual(read_line('\u0661\n'.encode()), NO_SUCH_LINE)
         self.assertEqual(read_line(b'\xff\n'), NO_SUCH_LINE)

@@ -13,7 +13,7 @@ SETS = program_answers.inputs()
 class Inputs(unittest.TestCase):
     def test_all_answers_are_asked_for(self):
         self.assertEqual(program_answers.lacking(SETS), [])
-        self.assertEqual(len(program_answers.REFUSALS), 5 + 30 + 16)
+        self.assertEqual(len(program_answers.REFUSALS), 5 + 30 + 16 + 24)
 
     def test_an_answer_without_input_is_told(self):
         for answer in program_answers.REFUSALS:

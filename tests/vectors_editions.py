@@ -6,7 +6,7 @@ from itertools import product
 from pathlib import Path
 import struct
 
-from pagesets import PAGE_SIZE, STATE, changed, minimal, page, rich, spread, with_topology, without
+from pagesets import PAGE_SIZE, STATE, changed, minimal, page, rich, spread, with_byte, with_topology, without
 from vector import build, lookup, write
 from vectors_document_01 import Damage, stated
 
@@ -66,7 +66,7 @@ def unknown_editions():
 
 
 def before_every_refusal():
-    """15 before 1 to 8: each set under editions that are none, and under edition 2."""
+    """15 before 1 to 8 and 17: each set under editions that are none, and under edition 2."""
     rows = rich()
     refused = {
         '1, no pages': b'',
@@ -79,6 +79,7 @@ def before_every_refusal():
         '6': spread(with_topology(rows, 7, 127, 128, 0, 0)),
         '7': spread(with_topology(rows, 7, 128, 128, 1, 0)),
         '8': spread(with_topology(rows, 7, 127, 128, 1, 2)),
+        '17': with_byte(spread(rows), 1, 2, 41, 1),
     }
     for (number, data), edition in product(refused.items(), (ALL, 0, 3, 2)):
         yield build(f'refusal {number}, edition {edition:X}h', data, edition=edition)

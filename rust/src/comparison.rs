@@ -12,7 +12,7 @@ pub enum Comparison {
     Rises,
     /// A itself gives no table, so it has no guest.
     RefusedA(Refusal),
-    /// B's length or a count of its pages is not lawful.
+    /// B's length or a count of its pages is not lawful, or a reserved byte of an entry is not zero: by 1, 2 or 17.
     UnlawfulB(Refusal),
     /// A's table has a row for which B has no entry.
     NoEntry {

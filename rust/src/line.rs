@@ -24,6 +24,7 @@ impl Refusal {
     /// // an s of 0 is written too, and a subleaf of none is left out
     /// assert_eq!(Refusal::TopologyInconsistent(TopologyError::Hyperthreading(0)).line(), "6 0\n");
     /// assert_eq!(Refusal::MissingRequiredResult(1, None).line(), "3 00000001\n");
+    /// assert_eq!(Refusal::ReservedBytes { leaf: 0xD }.line(), "17 0000000D\n");
     ///
     /// // small letters, leading zeros and bytes beyond the newline are no line
     /// assert_eq!("3 0000000d 12\n".parse::<Refusal>(), Err(NoSuchLine));

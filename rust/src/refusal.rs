@@ -34,6 +34,11 @@ pub enum Refusal {
     UnknownEdition,
     /// 16: a table was to go from edition 2 of the AVX rule back to 1.
     EditionBack,
+    /// 17: a reserved byte of an entry below its page's count is not zero. It comes after 2 and before 3.
+    ReservedBytes {
+        /// the leaf of the first such entry, EAX_IN, whether or not a table keeps it
+        leaf: u32,
+    },
 }
 
 /// How the topology leaves disagree. The number is s, bits 12 to 15 of 80000008h.ECX: the size of the APIC core id.
@@ -134,6 +139,11 @@ const TABLE: &[Line] = &[
     },
     Line { number: 15, name: |_| Refusal::UnknownEdition, words: |_| "the AVX rule has no such edition: it has editions 1 and 2".into() },
     Line { number: 16, name: |_| Refusal::EditionBack, words: |_| "a table does not go from edition 2 of the AVX rule back to edition 1".into() },
+    Line {
+        number: 17,
+        name: |d| Refusal::ReservedBytes { leaf: d.leaf },
+        words: |d| format!("an entry for leaf {:X}h has a reserved byte, one of its last eight, that is not zero", d.leaf),
+    },
 ];
 
 impl Refusal {
@@ -146,6 +156,7 @@ impl Refusal {
     pub fn details(&self) -> Details {
         match *self {
             Refusal::MissingRequiredResult(leaf, subleaf) => Details { leaf, subleaf, ..Details::default() },
+            Refusal::ReservedBytes { leaf } => Details { leaf, ..Details::default() },
             Refusal::TopologyInconsistent(TopologyError::Hyperthreading(s) | TopologyError::ProcessorCount(s)) => Details { s, ..Details::default() },
             Refusal::PagesLength
             | Refusal::PageCount
@@ -237,6 +248,7 @@ mod tests {
             (14, none, Refusal::CompactSizeTooLarge),
             (15, none, Refusal::UnknownEdition),
             (16, none, Refusal::EditionBack),
+            (17, Details { leaf: 0x4000_0000, ..none }, Refusal::ReservedBytes { leaf: 0x4000_0000 }),
         ] {
             assert_eq!((refusal.number(), refusal.details()), (number, named));
             assert_eq!(Refusal::of(number, named), refusal);

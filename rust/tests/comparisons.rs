@@ -3,7 +3,7 @@
 mod replay;
 
 use snp_cpuid::{Comparison, Options, Refusal, compare};
-use std::collections::BTreeMap;
+use std::collections::{BTreeMap, BTreeSet};
 
 /// The shipped set with the edits of one word.
 fn edited(word: &str) -> Vec<u8> {
@@ -18,6 +18,7 @@ fn place(leaf: u32, subleaf: Option<u32>) -> String {
 fn details(refusal: Refusal) -> String {
     let (leaf, subleaf) = match refusal {
         Refusal::MissingRequiredResult(leaf, subleaf) => (leaf, subleaf),
+        Refusal::ReservedBytes { leaf } => (leaf, None),
         _ => (0, None),
     };
     let s = match refusal {
@@ -40,17 +41,22 @@ fn told(answer: Comparison) -> (&'static str, String) {
 #[test]
 fn answers_are_the_models() {
     let text = std::fs::read_to_string("tests/comparisons.txt").expect("the list");
-    let mut seen = BTreeMap::new();
+    let (mut seen, mut unlawful) = (BTreeMap::new(), BTreeSet::new());
     for (number, line) in text.lines().enumerate() {
         let mut words = line.splitn(5, ' ');
         let mut word = || words.next().expect("five words");
         let options = Options::new().secure_avic(word() == "1").edition(word().parse().expect("an edition"));
         let (a, b, wanted) = (edited(word()), edited(word()), word());
-        let (kind, details) = told(compare(&a, &b, options));
+        let answer = compare(&a, &b, options);
+        if let Comparison::UnlawfulB(refusal) = answer {
+            unlawful.insert(refusal.number());
+        }
+        let (kind, details) = told(answer);
         assert_eq!(format!("{kind} {details}").trim(), wanted, "line {}: {line}", number + 1);
         *seen.entry(kind).or_insert(0) += 1;
     }
     assert_eq!(seen.len(), 5, "every answer occurs: {seen:?}");
+    assert!(unlawful.into_iter().eq([1, 2, 17]));
 }
 
 #[test]
@@ -59,4 +65,8 @@ fn texts_name_what_to_look_at() {
     assert_eq!(texts("-", "-"), "a guest of A may move to B");
     assert!(texts("#0", "-").starts_with("A is refused: the CPUID pages must be"));
     assert!(texts("-", "#1").starts_with("B's pages cannot be read: "));
+    // byte 40 of the entry of leaf 1, the second of page 0
+    let unclean = "an entry for leaf 1h has a reserved byte, one of its last eight, that is not zero";
+    assert_eq!(texts("-", "@68:01"), format!("B's pages cannot be read: {unclean}"));
+    assert_eq!(texts("@68:01", "-"), format!("A is refused: {unclean}"));
 }

@@ -87,7 +87,7 @@ fn answers_are_the_models() {
         *seen.entry(wanted.strip_prefix("r ").map_or("given", |refusal| refusal.split(' ').next().unwrap()).to_string()).or_insert(0) += 1;
     }
     let kinds: Vec<&str> = seen.keys().map(String::as_str).collect();
-    assert_eq!(kinds, ["1", "13", "14", "15", "2", "3", "4", "5", "6", "7", "8", "9", "given"], "every answer occurs: {seen:?}");
+    assert_eq!(kinds, ["1", "13", "14", "15", "17", "2", "3", "4", "5", "6", "7", "8", "9", "given"], "every answer occurs: {seen:?}");
 }
 
 /// Rows that no processor changes are the paravisor's, and the others but for what document 02 names.

@@ -54,5 +54,5 @@ fn answers_and_lent_bytes_are_the_models() {
         *seen.entry((words[0].to_string(), answer.err().map_or(0, |refusal| refusal.number()))).or_insert(0) += 1;
     }
     let numbers = |kind: &str| seen.keys().filter(|(k, _)| k == kind).map(|(_, number)| *number).collect::<Vec<_>>();
-    assert_eq!((numbers("write"), numbers("read")), (vec![0, 1, 2, 3, 4, 5, 6, 7, 8, 9, 15], vec![0, 9, 10, 11, 12]));
+    assert_eq!((numbers("write"), numbers("read")), (vec![0, 1, 2, 3, 4, 5, 6, 7, 8, 9, 15, 17], vec![0, 9, 10, 11, 12]));
 }

@@ -32,6 +32,13 @@ fn without(leaf: u32, subleaf: u32) -> Vec<u8> {
     pages
 }
 
+/// The set with one byte of one entry set; 40 to 47 are its reserved ones.
+fn unclean(mut pages: Vec<u8>, leaf: u32, subleaf: u32, byte: usize) -> Vec<u8> {
+    let at = entry(&pages, leaf, subleaf) + byte;
+    pages[at] = 1;
+    pages
+}
+
 #[test]
 fn rows_are_the_images_of_the_model() {
     // the program's expected output, which the model of document 01 wrote (tests/model.py)
@@ -68,7 +75,7 @@ fn every_lookup_is_the_librarys() {
 
 #[test]
 fn every_refusal_by_name() {
-    let cases: [(Vec<u8>, Refusal); 11] = [
+    let cases: [(Vec<u8>, Refusal); 13] = [
         (vec![], Refusal::PagesLength),
         (epyc()[1..].to_vec(), Refusal::PagesLength),
         (
@@ -89,6 +96,9 @@ fn every_refusal_by_name() {
         // a processor count that is not 2^s
         (with(0x1, 0, 1, |ebx| ebx ^ 1 << 16), Refusal::TopologyInconsistent(TopologyError::ProcessorCount(s()))),
         (with(0x8000_001E, 0, 1, |ebx| ebx | 0xFF00), Refusal::TopologyInconsistent(TopologyError::ThreadsPerUnit)),
+        (unclean(epyc(), 0x8000_001D, 3, 47), Refusal::ReservedBytes { leaf: 0x8000_001D }),
+        // before 3
+        (unclean(without(0x1, 0), 0x4000_0000, 0, 40), Refusal::ReservedBytes { leaf: 0x4000_0000 }),
     ];
     for (pages, refusal) in cases {
         assert_eq!(build(&pages, Options::new()).err(), Some(refusal));
@@ -168,6 +178,22 @@ fn an_edition_that_is_none() {
     }
 }
 
+/// Document 02, P10: of the entries of one page each byte from XCR0_IN on that is no result, below the count and above it.
+#[test]
+fn eight_bytes_of_an_entry_below_the_count() {
+    let (shipped, first) = (build(&epyc(), Options::new()), PAGE_BYTES + 16);
+    let count = u32::from_le_bytes(epyc()[PAGE_BYTES..PAGE_BYTES + 4].try_into().unwrap()) as usize;
+    for position in 0..64 {
+        for byte in (8..24).chain(40..48) {
+            let mut pages = epyc();
+            pages[first + 48 * position + byte] = 0x80;
+            let refused = position < count && byte >= 40;
+            let wanted = if refused { Err(Refusal::ReservedBytes { leaf: 0xD }) } else { shipped.clone() };
+            assert_eq!(build(&pages, Options::new()), wanted, "{position} {byte}");
+        }
+    }
+}
+
 #[test]
 fn usual_options() {
     assert_eq!(Options::default(), Options::new());
@@ -182,6 +208,10 @@ fn texts_name_what_to_look_at() {
     assert_eq!(text(Refusal::MissingRequiredResult(0x8000_001D, Some(3))), "no entry for leaf 8000001Dh subleaf 3h, which every guest needs");
     assert!(text(Refusal::MissingRequiredResult(0xD, Some(11))).contains("leaf Dh subleaf Bh on page 1"));
     assert!(text(Refusal::TopologyInconsistent(TopologyError::ProcessorCount(7))).contains("APIC core id size 7"));
+    assert_eq!(
+        text(Refusal::ReservedBytes { leaf: 0x4000_0000 }),
+        "an entry for leaf 40000000h has a reserved byte, one of its last eight, that is not zero"
+    );
     let refusals = [Refusal::PagesLength, Refusal::PageCount, Refusal::InvlpgbUnavailable, Refusal::SaveAreaOverflow, Refusal::BufferTooShort];
     assert_eq!(refusals.map(|r| r.number()), [1, 2, 4, 5, 9]);
 }

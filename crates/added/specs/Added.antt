@@ -24,7 +24,7 @@ pub data CountAfter (s u : List ℕ) (p : ℕ) : Type 0 where
 
 -- u is s with entries added
 pub record Added (s u : List ℕ) : Type 0 where
-  -- "with lawful counts": neither 1 nor 2 applies to u
+  -- "with lawful counts": neither 1 nor 2 applies to u; nor does 17, as "the pages of P9 .. must be clean" (P10)
   pub lawful : lawfulVerdict u ≡ Accepted
   -- the pages of s, "or further pages at the end"
   pub pages : pagesIn s ≤ pagesIn u

@@ -1,4 +1,4 @@
--- What a verdict that is covered says of its checks: neither 15, 1, 2 nor 3 was given.
+-- What a verdict that is covered says of its checks: neither 15, 1, 2, 17 nor 3 was given.
 use mathlib.Core.Path.{_≡_, refl}
 use mathlib.Core.Bool.{Bool, true, false, not}
 use mathlib.Core.List.{List}
@@ -7,6 +7,9 @@ use native.Mathlib.Omega.{arith}
 use Rattle.bits.specs.Search.Failing.{at, none}
 use Rattle.bits.specs.Search.{Failing, lowest}
 use Rattle.pages.specs.Layout.{badLength, countsFit}
+use Rattle.reserved.specs.declared.Reserved.{Reserved}
+use Rattle.reserved.specs.declared.Reserved.the-variants.{Zero, Nonzero}
+use Rattle.reserved.specs.Reserved.{reservedOf}
 use Rattle.table.specs.declared.Refusal.the-variants.{UnknownEdition, PagesLength, PageCount}
 use Rattle.table.specs.declared.Refusal.{Refusal}
 use Rattle.table.specs.declared.Verdict.the-variants.{Accepted, Refused}
@@ -17,7 +20,7 @@ use Rattle.table.specs.Rows.{Rows}
 use Rattle.checks.specs.Checks.{refuseAt, missingRequired, missingComponent, requiredVerdict, componentsOf, componentsVerdict, refuseUnless}
 use Rattle.checks.specs.ExtendedState.{combinedMask, supplied}
 use Rattle.checks.specs.Required.{placeRequired, requiredCount}
-use Rattle.build.specs.Build.{editionVerdict, lengthVerdict, countsVerdict, lawfulVerdict}
+use Rattle.build.specs.Build.{editionVerdict, lengthVerdict, countsVerdict, cleanVerdict, reservedVerdict, lawfulVerdict}
 use Rattle.added.specs.Added.{Covered}
 
 -- 15 is not covered
@@ -29,16 +32,19 @@ edition-found n v = go (knownEdition n)
     go true c = refl
     go false c = absurd (omega (arith, c .1))
 
--- neither 1 nor 2 is
+-- neither 1, 2 nor 17 is
 pub lawful-found : (s : List ℕ) (v : Verdict) → Covered (andThen (lawfulVerdict s) v) → lawfulVerdict s ≡ Accepted
-unfolding lawfulVerdict lengthVerdict countsVerdict
-lawful-found s v = go (not (badLength s)) (countsFit s)
+unfolding lawfulVerdict lengthVerdict countsVerdict reservedVerdict
+lawful-found s v = go (not (badLength s)) (countsFit s) (reservedOf s)
   where
-    go : (p q : Bool) → Covered (andThen (andThen (refuseUnless p PagesLength) (refuseUnless q PageCount)) v)
-        → andThen (refuseUnless p PagesLength) (refuseUnless q PageCount) ≡ Accepted
-    go true true c = refl
-    go true false c = absurd (omega (arith, c .0))
-    go false q c = absurd (omega (arith, c .0))
+    abbrev verdicts : Bool → Bool → Reserved → Verdict
+    verdicts p q b = andThen (refuseUnless p PagesLength) (andThen (refuseUnless q PageCount) (cleanVerdict b))
+
+    go : (p q : Bool) (b : Reserved) → Covered (andThen (verdicts p q b) v) → verdicts p q b ≡ Accepted
+    go true true Zero c = refl
+    go true true (Nonzero leaf) c = absurd (omega (arith, c .1))
+    go true false b c = absurd (omega (arith, c .0))
+    go false q b c = absurd (omega (arith, c .0))
 
 -- a search whose refusals are not covered has found nothing
 search-passes : (f : Failing) (r : ℕ → Refusal) (v : Verdict) → ((j : ℕ) → Covered (Refused (r j)) → ⊥) → Covered (andThen (refuseAt f r) v)

@@ -9,6 +9,7 @@ use port::Found;
 use port::Options;
 use port::Written;
 
+use crate::pages;
 use crate::random::Random;
 
 /// The functions that are held against the Rust; a test puts wrong ones in their place.
@@ -37,6 +38,8 @@ pub struct Case {
     pub pages: Vec<u8>,
     pub secure_avic: bool,
     pub depth: Depth,
+    /// Whether reserved bytes stay as the family made them.
+    pub unclean: bool,
 }
 
 /// What was asked and answered.
@@ -64,7 +67,7 @@ const LEAVES: [u32; 40] = [
 const SUBLEAVES: [u32; 18] = [0, 1, 2, 3, 4, 5, 6, 7, 8, 9, 11, 12, 13, 62, 63, 64, 0x80000000, 0xffffffff];
 
 pub fn check(port: &Port, case: &Case) -> Result<Seen, String> {
-    let answer = with_the_least_shift(oracle::answer(&case.pages, case.secure_avic));
+    let answer = with_the_least_shift(with_the_reserved_bytes(oracle::answer(&case.pages, case.secure_avic), case)?);
     let mut seen = Seen {
         refusal: match &answer {
             Answer::Table { .. } => Refusal::default(),
@@ -81,6 +84,24 @@ pub fn check(port: &Port, case: &Case) -> Result<Seen, String> {
         one.check(&mut seen).map_err(|what| format!("edition {edition}: {what}"))?;
     }
     Ok(seen)
+}
+
+/// What the port must answer where the Rust gives this: the same, but for refusal 17 where a reserved byte of an entry below its page's count is not
+/// zero (document 02, P10); 1 and 2, which the Rust tells, come before it. The Rust reads no such byte: with zeros there it must answer the same.
+fn with_the_reserved_bytes(answer: Answer, case: &Case) -> Result<Answer, String> {
+    if matches!(answer, Answer::Refusal(Refusal { number: 1 | 2, .. }) | Answer::Unknown(_)) {
+        return Ok(answer);
+    }
+    let Some(leaf) = pages::first_unclean(&case.pages) else {
+        return Ok(answer);
+    };
+    let mut clean = case.pages.clone();
+    pages::clean(&mut clean);
+    let clean = oracle::answer(&clean, case.secure_avic);
+    if clean != answer {
+        return Err(format!("the Rust reads a reserved byte\n  as it is: {answer:x?}\n  with zeros: {clean:x?}"));
+    }
+    Ok(Answer::Refusal(Refusal { number: 17, leaf, ..Refusal::default() }))
 }
 
 /// What the port must answer where the Rust gives this: the same, but for the shift in B.1.EAX where v, in EBX, is no power of two. There the Rust

@@ -15,6 +15,7 @@ pub struct Family {
     pub make: fn(number: u64, random: &mut Random, case: &mut Case),
 }
 
+/// The families of document 01, of which list.txt is a sample. Their reserved bytes are zero where length and counts are lawful.
 pub const FAMILIES: [Family; 9] = [
     Family { name: "topology, corners", cases: CORNERS, quick_step: 1, make: topology_corners },
     Family { name: "extended state", cases: 3 << 17, quick_step: 97, make: extended_state },
@@ -26,6 +27,16 @@ pub const FAMILIES: [Family; 9] = [
     Family { name: "damaged sets", cases: 2_000_000, quick_step: 200, make: damaged },
     Family { name: "topology, all", cases: 4 << 21, quick_step: 1021, make: topology_all },
 ];
+
+/// Document 02, P10: sets with reserved bytes that are not zero, below the count and beyond.
+pub const UNCLEAN: [Family; 2] = [
+    Family { name: "reserved, one bit", cases: RESERVED_BITS, quick_step: 1, make: reserved_bits },
+    Family { name: "reserved, among faults", cases: 500_000, quick_step: 50, make: reserved_bytes },
+];
+
+pub fn families() -> impl Iterator<Item = &'static Family> {
+    FAMILIES.iter().chain(&UNCLEAN)
+}
 
 /// The digits of a number, each below its bound; the first turns fastest.
 fn digits<const N: usize>(number: u64, bounds: [usize; N]) -> [usize; N] {
@@ -164,10 +175,7 @@ fn faults_together(number: u64, random: &mut Random, case: &mut Case) {
     let late = chosen.map(|fault| spoil(&mut set, fault));
     pages::write(&set, 0xee, &mut case.pages);
     for fault in late.into_iter().flatten() {
-        match fault {
-            Late::Count => set_count(&mut case.pages, random.below(2), 65 + random.below(3) as u32),
-            Late::Length => case.pages.truncate(2 * PAGE - 1 - random.below(PAGE - 1)),
-        }
+        fault.spoil(&mut case.pages, random);
     }
     case.secure_avic = random.below(2) > 0;
     case.depth = Depth::Sampled(random.next());
@@ -177,6 +185,16 @@ fn faults_together(number: u64, random: &mut Random, case: &mut Case) {
 enum Late {
     Count,
     Length,
+}
+
+impl Late {
+    /// In one of the first two pages.
+    fn spoil(self, bytes: &mut Vec<u8>, random: &mut Random) {
+        match self {
+            Late::Count => set_count(bytes, random.below(2), 65 + random.below(3) as u32),
+            Late::Length => bytes.truncate(2 * PAGE - 1 - random.below(PAGE - 1)),
+        }
+    }
 }
 
 fn spoil(set: &mut Set, fault: usize) -> Option<Late> {
@@ -386,4 +404,57 @@ fn damage_bytes(bytes: &mut Vec<u8>, random: &mut Random) {
             bytes[at] ^= 1 << random.below(8);
         }
     }
+}
+
+const RESERVED_BITS: u64 = 64 * 64 * 2 * 3;
+
+/// One bit of the reserved bytes of each of the 64 entries of both pages: refusal 17 below the count, and from it on the Rust's answer.
+fn reserved_bits(number: u64, random: &mut Random, case: &mut Case) {
+    let [bit, position, page, base] = digits(number, [64, MOST, 2, 3]);
+    pages::write(&[minimal, rich, milan][base](), 0, &mut case.pages);
+    case.pages[place(page, position) + RESERVED.start + bit / 8] = 1 << (bit % 8);
+    case.unclean = true;
+    case.secure_avic = random.below(2) > 0;
+    case.depth = if bit == 0 { Depth::Sampled(random.next()) } else { Depth::Answer };
+}
+
+/// Up to three bytes set that the Rust does not read, with up to two faults and among entries that do not count: for the order of 17 and its leaf.
+fn reserved_bytes(number: u64, random: &mut Random, case: &mut Case) {
+    let mut set = [minimal, rich, milan][number as usize % 3]();
+    let faults = random.below(3);
+    let late: Vec<Option<Late>> = (0..faults).map(|_| spoil(&mut set, random.below(FAULTS))).collect();
+    if random.below(4) == 0 {
+        set.push(Vec::new());
+    }
+    for _ in 0..random.below(6) {
+        distract(&mut set, random);
+    }
+    let fill = random.next() as u8;
+    pages::write(&set, random.pick(&[0, fill]), &mut case.pages);
+    pages::clean(&mut case.pages);
+    case.unclean = true;
+    for _ in 0..random.below(4) {
+        soil(&mut case.pages, random);
+    }
+    for fault in late.into_iter().flatten() {
+        fault.spoil(&mut case.pages, random);
+    }
+    case.secure_avic = random.below(2) > 0;
+    case.depth = if random.below(4) == 0 { Depth::Sampled(random.next()) } else { Depth::Answer };
+}
+
+/// A byte that the Rust does not read: a reserved one of an entry below the count, at it or above it, any of an entry above, one of XCR0_IN or
+/// XSS_IN, or one after the count.
+fn soil(bytes: &mut [u8], random: &mut Random) {
+    let page = random.below(bytes.len() / PAGE);
+    let count = word(bytes, page * PAGE) as usize;
+    let unused = count + random.below(MOST + 1 - count);
+    let at = match random.below(8) {
+        0..4 if count > 0 => place(page, random.below(count)) + RESERVED.start + random.below(8),
+        4 if count < MOST => place(page, count) + RESERVED.start + random.below(8),
+        5 if unused < MOST => place(page, unused) + random.below(48),
+        6 if count > 0 => place(page, random.below(count)) + 8 + random.below(16),
+        _ => page * PAGE + 4 + random.below(12),
+    };
+    bytes[at] = 1 + random.below(255) as u8;
 }

@@ -1,5 +1,7 @@
 //! Page sets (document 01, "Page bytes"), from single entries up to whole sets.
 
+use std::ops::Range;
+
 pub const PAGE: usize = 4096;
 pub const MOST: usize = 64;
 pub const STATE: u32 = 0xd;
@@ -104,10 +106,13 @@ pub fn place(page: usize, position: usize) -> usize {
     page * PAGE + 16 + 48 * position
 }
 
-/// The words of an entry that are read, by their place in it: the two IN numbers and the four results.
+/// The words of an entry that the Rust reads, by their place in it: the two IN numbers and the four results.
 pub const WORDS: [usize; 6] = [0, 4, 24, 28, 32, 36];
 
-/// The pages as bytes; `fill` stands wherever nothing is read.
+/// The reserved bytes of an entry, by their place in it.
+pub const RESERVED: Range<usize> = 40..48;
+
+/// The pages as bytes; `fill` stands wherever the Rust does not read.
 pub fn write(set: &Set, fill: u8, bytes: &mut Vec<u8>) {
     bytes.clear();
     bytes.resize(set.len() * PAGE, fill);
@@ -135,6 +140,34 @@ pub fn read(bytes: &[u8]) -> Set {
                 .collect()
         })
         .collect()
+}
+
+/// The leaf of the first entry below its page's count, in page and entry order, with a reserved byte that is not zero. No count may be above 64.
+pub fn first_unclean(bytes: &[u8]) -> Option<u32> {
+    let mut entries = (0..bytes.len() / PAGE).flat_map(|page| (0..word(bytes, page * PAGE) as usize).map(move |position| place(page, position)));
+    entries.find(|at| bytes[*at..][RESERVED] != [0; 8]).map(|at| word(bytes, at))
+}
+
+/// Takes an entry away; those after it move up.
+pub fn remove_at(bytes: &mut [u8], page: usize, position: usize) {
+    let count = (word(bytes, page * PAGE) as usize).min(MOST);
+    if position < count {
+        bytes.copy_within(place(page, position + 1)..place(page, MOST), place(page, position));
+        bytes[place(page, MOST - 1)..place(page, MOST)].fill(0);
+        set_count(bytes, page, count as u32 - 1);
+    }
+}
+
+/// Zero in every reserved byte of an entry below its page's count; pages of no lawful length or counts stay as they are.
+pub fn clean(bytes: &mut [u8]) {
+    if !bytes.len().is_multiple_of(PAGE) || bytes.chunks(PAGE).any(|page| word(page, 0) as usize > MOST) {
+        return;
+    }
+    for page in bytes.chunks_mut(PAGE) {
+        for position in 0..word(page, 0) as usize {
+            page[place(0, position)..][RESERVED].fill(0);
+        }
+    }
 }
 
 pub fn word(bytes: &[u8], at: usize) -> u32 {

@@ -10,23 +10,30 @@ use std::thread;
 use std::time::Duration;
 use std::time::Instant;
 
+use oracle::Refusal;
+
 use crate::check;
 use crate::check::Case;
 use crate::check::Port;
 use crate::check::Seen;
-use crate::families::FAMILIES;
 use crate::families::Family;
+use crate::families::families;
 use crate::pages;
 use crate::random::Random;
 use crate::shrink;
 
+/// The answers of building: 0 where accepted, else the refusal.
+const ANSWERS: [u32; 10] = [0, 1, 2, 3, 4, 5, 6, 7, 8, 17];
+
 /// Counts over some cases.
 #[derive(Clone, Default)]
 pub struct Counts {
-    /// By answer: 0 where accepted, else the refusal.
-    answers: [u64; 9],
+    /// By answer.
+    answers: [u64; ANSWERS.len()],
     /// The rows that refusal 3 named.
     missing: BTreeSet<(u32, Option<u32>)>,
+    /// The leaves that refusal 17 named.
+    unclean: BTreeSet<u32>,
     lookups: u64,
     writes: u64,
     short_buffers: u64,
@@ -36,9 +43,12 @@ pub struct Counts {
 
 impl Counts {
     fn add(&mut self, seen: &Seen) {
-        self.answers[seen.refusal.number as usize] += 1;
-        if seen.refusal.number == 3 {
-            self.missing.insert((seen.refusal.leaf, seen.refusal.subleaf));
+        let Refusal { number, leaf, subleaf, .. } = seen.refusal;
+        self.answers[ANSWERS.iter().position(|answer| *answer == number).expect("an answer of building")] += 1;
+        match number {
+            3 => drop(self.missing.insert((leaf, subleaf))),
+            17 => drop(self.unclean.insert(leaf)),
+            _ => {}
         }
         self.lookups += seen.lookups;
         self.writes += seen.writes;
@@ -51,6 +61,7 @@ impl Counts {
             *sum += more;
         }
         self.missing.extend(&other.missing);
+        self.unclean.extend(&other.unclean);
         self.lookups += other.lookups;
         self.writes += other.writes;
         self.short_buffers += other.short_buffers;
@@ -68,7 +79,9 @@ impl fmt::Display for Summary {
             counts.answers.iter().try_for_each(|count| write!(f, "{count:>9}"))?;
             writeln!(f, "{:>7.1} s", time.as_secs_f64())
         };
-        writeln!(f, "{:24}{:>9}{:>9}{:>9}{:>9}{:>9}{:>9}{:>9}{:>9}{:>9}{:>9}", "", "sets", "accepted", 1, 2, 3, 4, 5, 6, 7, 8)?;
+        write!(f, "{:24}{:>9}{:>9}", "", "sets", "accepted")?;
+        ANSWERS[1..].iter().try_for_each(|number| write!(f, "{number:>9}"))?;
+        writeln!(f)?;
         let mut all = Counts::default();
         let mut time = Duration::ZERO;
         for (name, counts, taken) in &self.0 {
@@ -79,11 +92,12 @@ impl fmt::Display for Summary {
         line(f, "all", &all, time)?;
         writeln!(
             f,
-            "{} writes, of which {} refused with 9; {} lookups; refusal 3 named {} different rows",
+            "{} writes, of which {} refused with 9; {} lookups; refusal 3 named {} different rows, 17 {} different leaves",
             all.writes,
             all.short_buffers,
             all.lookups,
-            all.missing.len()
+            all.missing.len(),
+            all.unclean.len()
         )?;
         writeln!(f, "each set under editions 1 and 2, which hides F16C, XOP or FMA4 in {} of them", all.hidden)?;
         writeln!(f, "no difference")
@@ -103,8 +117,9 @@ impl fmt::Display for Difference {
         writeln!(f, "{} bytes, secure AVIC {}", self.case.pages.len(), self.case.secure_avic)?;
         for (number, page) in pages::read(&self.case.pages).iter().enumerate() {
             writeln!(f, "page {number}: count {}", pages::word(&self.case.pages, number * pages::PAGE))?;
-            for entry in page {
-                writeln!(f, "  {:x}.{:x}: {:08x?}", entry.leaf, entry.subleaf, entry.registers)?;
+            for (position, entry) in page.iter().enumerate() {
+                let reserved = &self.case.pages[pages::place(number, position)..][pages::RESERVED];
+                writeln!(f, "  {:x}.{:x}: {:08x?}, reserved {reserved:02x?}", entry.leaf, entry.subleaf, entry.registers)?;
             }
         }
         write!(f, "{}", self.what)
@@ -114,7 +129,7 @@ impl fmt::Display for Difference {
 /// All families, or the first difference.
 pub fn all(port: &Port, quick: bool, seed: u64) -> Result<Summary, Box<Difference>> {
     let mut lines = Vec::new();
-    for family in &FAMILIES {
+    for family in families() {
         let start = Instant::now();
         let counts = one(port, family, quick, seed)?;
         lines.push((family.name, counts, start.elapsed()));
@@ -178,6 +193,10 @@ pub fn make(family: &Family, seed: u64, number: u64, case: &mut Case) {
     let start = family.name.bytes().fold(seed, |mixed, byte| mixed.wrapping_mul(257).wrapping_add(byte.into()));
     let mut random = Random::new(start.wrapping_add(number.wrapping_mul(0xd1b54a32d192ed03)));
     (family.make)(number, &mut random, case);
+    // The Rust is matched where reserved bytes are zero (document 02, P10); where it tells 1 or 2, old data may stand there.
+    if !case.unclean {
+        pages::clean(&mut case.pages);
+    }
 }
 
 fn difference(port: &Port, family: &Family, seed: u64, number: u64) -> Difference {

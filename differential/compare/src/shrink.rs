@@ -5,7 +5,6 @@ use crate::pages;
 use crate::pages::Entry;
 use crate::pages::MOST;
 use crate::pages::PAGE;
-use crate::pages::WORDS;
 
 /// The smallest case found for which `differs` still holds.
 pub fn shrink(case: &Case, differs: impl Fn(&Case) -> bool) -> Case {
@@ -35,7 +34,7 @@ fn attempt(best: &mut Case, differs: &impl Fn(&Case) -> bool, change: impl FnOnc
     }
 }
 
-/// Secure AVIC off, no part of a page, and nothing where nothing is read.
+/// Secure AVIC off, no part of a page, and nothing where nothing is read: everywhere, or else after the count and above it.
 fn plain(best: &mut Case, differs: &impl Fn(&Case) -> bool) {
     attempt(best, differs, |case| case.secure_avic = false);
     attempt(best, differs, |case| case.pages.truncate(case.pages.len() / PAGE * PAGE));
@@ -44,6 +43,12 @@ fn plain(best: &mut Case, differs: &impl Fn(&Case) -> bool) {
             let set = pages::read(&case.pages);
             pages::write(&set, 0, &mut case.pages);
         });
+    }
+    for (page, entries) in pages::read(&best.pages).iter().enumerate() {
+        let start = page * PAGE;
+        for unused in [start + 4..start + 16, pages::place(page, entries.len())..start + PAGE] {
+            attempt(best, differs, |case| case.pages[unused].fill(0));
+        }
     }
 }
 
@@ -56,13 +61,7 @@ fn fewer_pages(best: &mut Case, differs: &impl Fn(&Case) -> bool) {
 fn fewer_entries(best: &mut Case, differs: &impl Fn(&Case) -> bool) {
     for page in 0..best.pages.len() / PAGE {
         for position in (0..MOST).rev() {
-            attempt(best, differs, |case| {
-                let mut set = pages::read(&case.pages);
-                if position < set[page].len() && case.pages.len().is_multiple_of(PAGE) {
-                    set[page].remove(position);
-                    pages::write(&set, 0, &mut case.pages);
-                }
-            });
+            attempt(best, differs, |case| pages::remove_at(&mut case.pages, page, position));
         }
     }
 }
@@ -70,7 +69,7 @@ fn fewer_entries(best: &mut Case, differs: &impl Fn(&Case) -> bool) {
 fn fewer_bits(best: &mut Case, differs: &impl Fn(&Case) -> bool) {
     let set = pages::read(&best.pages);
     for (page, position) in positions(&set) {
-        for at in WORDS.map(|word| pages::place(page, position) + word) {
+        for at in (pages::place(page, position)..pages::place(page, position + 1)).step_by(4) {
             attempt(best, differs, |case| pages::set_word(&mut case.pages, at, 0));
             for bit in (0..32).rev() {
                 let old = pages::word(&best.pages, at);

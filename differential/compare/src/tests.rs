@@ -6,6 +6,7 @@ use crate::check::PORT;
 use crate::check::Port;
 use crate::check::check;
 use crate::families::FAMILIES;
+use crate::families::UNCLEAN;
 use crate::pages;
 use crate::pages::*;
 use crate::run;
@@ -16,10 +17,16 @@ use port::Built;
 use port::Found;
 use port::Options;
 use port::Written;
+use std::ops::Range;
 
 /// The difference that the quick form finds in a port with one function wrong.
 fn found(port: Port) -> Box<Difference> {
     FAMILIES.iter().find_map(|family| run::one(&port, family, true, 1).err()).expect("a difference is found")
+}
+
+/// The same of the families of document 02, P10.
+fn found_unclean(port: Port) -> Box<Difference> {
+    UNCLEAN.iter().find_map(|family| run::one(&port, family, true, 1).err()).expect("a difference is found")
 }
 
 fn entries(difference: &Difference) -> usize {
@@ -161,6 +168,127 @@ fn a_lookup_that_never_enforces() {
         port::lookup(pages, options, Asked { enforce: false, ..asked })
     }
     found(Port { lookup, ..PORT });
+}
+
+/// The pages with zero in the reserved bytes of entries below the count: in all of them, or in one of the eight, or in entries that a test names.
+fn forgotten(pages: &[u8], bytes: Range<usize>, which: impl Fn(usize, u32) -> bool) -> Vec<u8> {
+    let mut changed = pages.to_vec();
+    for (page, entries) in pages::read(pages).iter().enumerate() {
+        for (position, _) in entries.iter().enumerate().filter(|(_, entry)| which(page, entry.leaf)) {
+            changed[place(page, position) + bytes.start..place(page, position) + bytes.end].fill(0);
+        }
+    }
+    changed
+}
+
+/// No function may answer as the Rust does, for zeros.
+#[test]
+fn reserved_bytes_that_are_not_read() {
+    fn clean(pages: &[u8]) -> Vec<u8> {
+        forgotten(pages, RESERVED, |_, _| true)
+    }
+    fn build(pages: &[u8], options: Options) -> Built {
+        port::build(&clean(pages), options)
+    }
+    fn lookup(pages: &[u8], options: Options, asked: Asked) -> Found {
+        port::lookup(&clean(pages), options, asked)
+    }
+    fn write_image(pages: &[u8], options: Options, out: &mut [u8]) -> Written {
+        port::write_image(&clean(pages), options, out)
+    }
+    assert_eq!(entries(&found_unclean(Port { build, ..PORT })), 1);
+    assert_eq!(entries(&found_unclean(Port { write_image, ..PORT })), 1);
+    // a table, with leaf 1
+    assert_eq!(entries(&found_unclean(Port { lookup, ..PORT })), 24);
+}
+
+#[test]
+fn each_reserved_byte_that_is_not_read() {
+    fn build<const BYTE: usize>(pages: &[u8], options: Options) -> Built {
+        port::build(&forgotten(pages, RESERVED.start + BYTE..RESERVED.start + BYTE + 1, |_, _| true), options)
+    }
+    for build in [build::<0>, build::<1>, build::<2>, build::<3>, build::<4>, build::<5>, build::<6>, build::<7>] {
+        assert_eq!(entries(&found_unclean(Port { build, ..PORT })), 1);
+    }
+}
+
+/// Entries of leaf Dh off page 1, of leaves that no table keeps, and of every page but the first.
+#[test]
+fn entries_whose_reserved_bytes_are_not_read() {
+    fn state(pages: &[u8], options: Options) -> Built {
+        port::build(&forgotten(pages, RESERVED, |page, leaf| leaf == STATE && page != 1), options)
+    }
+    fn filtered(pages: &[u8], options: Options) -> Built {
+        port::build(&forgotten(pages, RESERVED, |_, leaf| leaf != STATE && REQUIRED.iter().all(|required| required.0 != leaf)), options)
+    }
+    fn later(pages: &[u8], options: Options) -> Built {
+        port::build(&forgotten(pages, RESERVED, |page, _| page > 0), options)
+    }
+    assert_eq!(entries(&found_unclean(Port { build: state, ..PORT })), 1);
+    assert_eq!(entries(&found_unclean(Port { build: filtered, ..PORT })), 1);
+    assert_eq!(entries(&found_unclean(Port { build: later, ..PORT })), 1);
+}
+
+/// The entry at the count, XCR0_IN, and the bytes after the count.
+#[test]
+fn bytes_that_are_not_reserved_tested() {
+    fn with(built: Built, unclean: bool) -> Built {
+        if unclean && ![1, 2, 17].contains(&built.number) { Built { number: 17, ..Built::default() } } else { built }
+    }
+    fn any(pages: &[u8], bytes: Range<usize>) -> bool {
+        pages.chunks(PAGE).any(|page| page.get(bytes.clone()).is_some_and(|bytes| bytes.iter().any(|byte| *byte != 0)))
+    }
+    fn at_the_count(pages: &[u8], options: Options) -> Built {
+        let unused =
+            |page: &[u8]| word(page, 0) < MOST as u32 && any(page, place(0, word(page, 0) as usize) + 40..place(0, word(page, 0) as usize) + 48);
+        let built = port::build(pages, options);
+        with(built, pages.len().is_multiple_of(PAGE) && pages.chunks(PAGE).any(unused))
+    }
+    fn xcr0_in(pages: &[u8], options: Options) -> Built {
+        with(port::build(pages, options), any(pages, 16 + 8..16 + 16))
+    }
+    fn after_the_count(pages: &[u8], options: Options) -> Built {
+        with(port::build(pages, options), any(pages, 4..16))
+    }
+    for build in [at_the_count as fn(&[u8], Options) -> Built, xcr0_in, after_the_count] {
+        assert!(entries(&found_unclean(Port { build, ..PORT })) <= 1);
+    }
+}
+
+#[test]
+fn wrong_details_of_refusal_17() {
+    fn subleaf_named(pages: &[u8], options: Options) -> Built {
+        let built = port::build(pages, options);
+        Built { has_subleaf: built.has_subleaf | u32::from(built.number == 17), ..built }
+    }
+    fn last_named(pages: &[u8], options: Options) -> Built {
+        let built = port::build(pages, options);
+        if built.number != 17 {
+            return built;
+        }
+        let entries = (0..pages.len() / PAGE).flat_map(|page| (0..word(pages, page * PAGE) as usize).map(move |position| place(page, position)));
+        let last = entries.filter(|at| pages[*at..][RESERVED] != [0; 8]).last().expect("an entry is named");
+        Built { leaf: word(pages, last), ..built }
+    }
+    assert_eq!(entries(&found_unclean(Port { build: subleaf_named, ..PORT })), 1);
+    assert_eq!(entries(&found_unclean(Port { build: last_named, ..PORT })), 2);
+}
+
+/// 17 before a later page's 2, and after 3.
+#[test]
+fn refusal_17_at_another_place_in_the_order() {
+    fn before_2(pages: &[u8], options: Options) -> Built {
+        let built = port::build(pages, options);
+        let first = port::build(&pages[..PAGE.min(pages.len())], options);
+        if (built.number, first.number) == (2, 17) { first } else { built }
+    }
+    fn after_3(pages: &[u8], options: Options) -> Built {
+        let built = port::build(pages, options);
+        let clean = port::build(&forgotten(pages, RESERVED, |_, _| true), options);
+        if (built.number, clean.number) == (17, 3) { clean } else { built }
+    }
+    assert_eq!(entries(&found_unclean(Port { build: before_2, ..PORT })), 65);
+    assert_eq!(entries(&found_unclean(Port { build: after_3, ..PORT })), 1);
 }
 
 /// The Rust's answer for the minimal set with this change; the port must agree on it.

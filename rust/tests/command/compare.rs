@@ -1,7 +1,7 @@
 //! `compare`: pairs of page sets whose answer demand 3 and document 01 ("Feature registers of demand 3") give.
 
 use crate::features::{FEATURES, REGISTERS};
-use crate::page_sets::{epyc, rich, set, topology, with, without};
+use crate::page_sets::{epyc, rich, set, topology, unclean, with, without};
 use crate::run::{EPYC, Folder, Ran, run, run_on};
 use std::fs;
 
@@ -213,6 +213,7 @@ fn refused_sets_are_status_1_with_the_refusal() {
     for (b, why) in [
         (vec![], "{to}'s length or counts are not lawful, refusal 1"),
         (counted, "{to}'s length or counts are not lawful, refusal 2"),
+        (unclean(&without(0x5, 0), 1, 0, 3), "{to}'s entry for leaf 0000000D has a reserved byte that is not zero, refusal 17"),
         (set(&without(0x5, 0)), "{to} has no entry for leaf 00000005"),
         (set(&without(0x8000_001D, 2)), "{to} has no entry for leaf 8000001D.2"),
         (set(&with(0x8000_0008, 0, 1, |ebx| ebx & !8)), "the hypothesis fails first at leaf 80000008 EBX"),

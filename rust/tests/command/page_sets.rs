@@ -57,6 +57,13 @@ pub fn without(leaf: u32, subleaf: u32) -> Entries {
     entries
 }
 
+/// The set with a reserved byte set, of the eight, in one entry of one page.
+pub fn unclean(entries: &Entries, page: usize, position: usize, byte: usize) -> Vec<u8> {
+    let mut bytes = set(entries);
+    bytes[page * PAGE_BYTES + 16 + 48 * position + 40 + byte] = 1;
+    bytes
+}
+
 /// The rows that building asks for.
 pub const REQUIRED: [(u32, u32); 24] = [
     (0x1, 0),

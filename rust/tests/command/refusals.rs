@@ -1,6 +1,6 @@
 //! Every refusal that a page set can have: its line, its status, and nothing written.
 
-use crate::page_sets::{epyc, set, with, without};
+use crate::page_sets::{epyc, set, unclean, with, without};
 use crate::run::{BUILDING, EPYC, Folder, run, run_on, with_files};
 use std::fs;
 
@@ -23,6 +23,9 @@ fn cases() -> Vec<(Vec<u8>, &'static str, &'static str)> {
         // T6: more processors than 2^s
         (set(&with(0x8000_0008, 0, 2, |ecx| ecx | 0x80)), "7", "(leaf 00000000, subleaf none, s 7)"),
         (set(&with(0x8000_001E, 0, 1, |ebx| ebx | 0xFF00)), "8", "(leaf 00000000, subleaf none, s 0)"),
+        // leaf 0, which no table reads, and the second entry of leaf Dh; leaf 1 is missing besides
+        (unclean(&epyc(), 0, 0, 0), "17", "(leaf 00000000, subleaf none, s 0)"),
+        (unclean(&without(0x1, 0), 1, 1, 7), "17", "(leaf 0000000D, subleaf none, s 0)"),
     ]
 }
 
@@ -44,7 +47,10 @@ fn each_is_one_line_with_all_it_carries() {
 }
 
 /// The lines of the cases, written down from document 02, P6.
-const LINES: [&str; 11] = ["1\n", "1\n", "2\n", "3 8000001A\n", "3 8000001D 3\n", "3 0000000D 11\n", "4\n", "5\n", "6 7\n", "7 7\n", "8\n"];
+#[rustfmt::skip]
+const LINES: [&str; 13] = [
+    "1\n", "1\n", "2\n", "3 8000001A\n", "3 8000001D 3\n", "3 0000000D 11\n", "4\n", "5\n", "6 7\n", "7 7\n", "8\n", "17 00000000\n", "17 0000000D\n",
+];
 
 #[test]
 fn each_has_a_line_on_standard_output() {
@@ -85,7 +91,9 @@ fn compare_gives_the_line_after_its_report() {
 
 #[test]
 fn what_is_no_line_is_not_explained() {
-    for line in ["", "0", "01", "21", "3", "3 0000000d", "3 0000000D 02", "3  0000000D", "6", "6 256", "1 ", " 1", "1\n", "1\r", "one"] {
+    for line in
+        ["", "0", "01", "21", "17", "17 0000000D 0", "3", "3 0000000d", "3 0000000D 02", "3  0000000D", "6", "6 256", "1 ", " 1", "1\n", "1\r", "one"]
+    {
         let ran = run(&["explain", line]);
         assert_eq!((ran.status, ran.line().ends_with(": no such line")), (1, true), "{line:?}");
     }
@@ -116,4 +124,17 @@ fn the_words_of_a_missing_state_name_the_page() {
     let file = folder.file("pages", set(&without(0xD, 2)));
     let words = "refusal 3: no entry for leaf Dh subleaf 2h on page 1, where the entries of Dh must stand (leaf 0000000D, subleaf 2, s 0)";
     assert_eq!(run(&["table", &file]).line(), format!("{file}: {words}"));
+}
+
+/// Bytes that document 02, P10, leaves untested: above the count, after it, and XCR0_IN and XSS_IN.
+#[test]
+fn other_bytes_are_not_looked_at() {
+    let folder = Folder::new("unread_bytes");
+    let usual = run(&["table", &folder.file("pages", set(&epyc()))]);
+    assert_eq!(usual.status, 0);
+    let count = epyc().keys().filter(|(leaf, _)| *leaf == 0xD).count();
+    let mut pages = unclean(&epyc(), 1, count, 0);
+    pages[4096 + 4..4096 + 16].fill(0xFF);
+    pages[16 + 8..16 + 24].fill(0xFF);
+    assert_eq!(run(&["table", &folder.file("pages", pages)]), usual);
 }

@@ -110,6 +110,9 @@ impl Direction<'_> {
         let why = match self.answer {
             Comparison::Rises => return self.promise(),
             Comparison::RefusedA(refusal) => format!("{from} is refused, by {}", refusal.number()),
+            Comparison::UnlawfulB(Refusal::ReservedBytes { leaf }) => {
+                format!("{to}'s entry for leaf {} has a reserved byte that is not zero, refusal 17", print::place(leaf, None))
+            }
             Comparison::UnlawfulB(refusal) => format!("{to}'s length or counts are not lawful, refusal {}", refusal.number()),
             Comparison::NoEntry { leaf, subleaf } => format!("{to} has no entry for leaf {}", print::place(leaf, subleaf)),
             Comparison::Differs { leaf, subleaf, register } => self.differs(leaf, subleaf, register),
