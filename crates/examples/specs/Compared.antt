@@ -5,10 +5,11 @@ use Rattle.x86defs.specs.Functions.{VersionAndFeatures, ExtendedStateEnumeratio
 use Rattle.pages.specs.Layout.{badLength}
 use Rattle.table.specs.declared.Subleaf.the-variants.{None, Some}
 use Rattle.table.specs.declared.Refusal.the-variants.{PagesLength, SaveAreaOverflow}
+use Rattle.build.specs.LawfulLaws.{lawful-bad-length}
 use Rattle.compare.specs.declared.Register.the-variants.{Ecx}
 use Rattle.compare.specs.declared.Compared.the-variants.{Rises, RefusedA, UnlawfulB, NoEntry, Differs}
 use Rattle.compare.specs.Compare.{comparedRows, compared}
-use Rattle.compare.specs.ReturnLaws.{refused-a, bad-length-b}
+use Rattle.compare.specs.ReturnLaws.{refused-a, unlawful-b}
 use Rattle.compare.specs.DecidesProof.{decides}
 use Rattle.examples.specs.PageSets.{serverA, serverB, serverWithoutD12, serverWithLargeD6}
 use Rattle.examples.specs.Evaluation.{first, evaluated}
@@ -35,4 +36,4 @@ from-large-d6 = sym (refused-a first serverWithLargeD6 serverB large-refused)
 -- no pages at all
 pub a-to-none : compared first serverA [] ≡ UnlawfulB PagesLength
 unfolding badLength
-a-to-none = sym (bad-length-b first serverA [] serverA-accepted refl)
+a-to-none = sym (unlawful-b first serverA [] serverA-accepted (sym (lawful-bad-length [] refl)))

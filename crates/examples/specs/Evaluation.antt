@@ -8,6 +8,7 @@ use Rattle.x86defs.specs.Fields.{fieldsMask}
 use Rattle.x86defs.specs.Functions.{AmdMaximum, ExtendedAmdMaximum}
 use Rattle.pages.specs.Layout.{entryAt, badLength, countsFit}
 use Rattle.pages.specs.Entries.{onPage, onPages, entries, counts, counted}
+use Rattle.reserved.specs.Reserved.{eightZeros, firstNonzero, reservedOf}
 use Rattle.masking.specs.Masks.{versionAndFeatures, extendedFeatures, extendedState0, extendedState1, extendedVersionAndFeatures, extendedAddressSpaceSizes, extendedSvm, extendedOptimization, extendedSev, secureAvicMask}
 use Rattle.masking.specs.Kept.{keptLeaves, placeOf, slot}
 use Rattle.topology.specs.Topology.{threadsIn, topologyOf, leastPower, shiftOf}
@@ -22,15 +23,15 @@ use Rattle.table.specs.Edition.{knownEdition}
 use Rattle.table.specs.Table.{countRows}
 use Rattle.build.specs.declared.Built.{Built}
 use Rattle.collect.specs.FirstEntries.{firstAt, legacyFeatures, rowsOf}
-use Rattle.build.specs.Build.{editionVerdict, lengthVerdict, countsVerdict, lawfulVerdict, underEdition, verdictOf, answer}
+use Rattle.build.specs.Build.{editionVerdict, lengthVerdict, countsVerdict, reservedVerdict, lawfulVerdict, underEdition, verdictOf, answer}
 
 -- what the examples choose: secure AVIC off, edition 1
 abbrev pub first : Choices
 first = underEdition 1
 
 unfoldable pub evaluated : Choices → List ℕ → Built
-unfolding answer verdictOf editionVerdict knownEdition lawfulVerdict lengthVerdict countsVerdict badLength countsFit rowsVerdict requiredVerdict invlpgbVerdict componentsOf
-    componentsVerdict areaVerdict topologyVerdict lowest placeRequired requiredAt commonRequiredLeaves snpRequiredLeaves rowsOf firstAt counted
+unfolding answer verdictOf editionVerdict knownEdition lawfulVerdict lengthVerdict countsVerdict reservedVerdict badLength countsFit reservedOf firstNonzero eightZeros
+    rowsVerdict requiredVerdict invlpgbVerdict componentsOf componentsVerdict areaVerdict topologyVerdict lowest placeRequired requiredAt commonRequiredLeaves snpRequiredLeaves rowsOf firstAt counted
     keepIf entries onPages onPage entryAt counts placeOf keptLeaves slot versionAndFeatures extendedFeatures extendedState0 extendedState1
     extendedVersionAndFeatures extendedAddressSpaceSizes extendedSvm extendedOptimization extendedSev secureAvicMask fieldsMask fieldMask maskOf
     legacyFeatures xfem xss combinedMask areaBelow sizeOf has bit field inputsOf topologyOf threadsIn tabulate sumTo countRows finished settings

@@ -1,0 +1,63 @@
+-- Not empty words: page sets with a nonzero reserved byte (document 02, P10), by computation.
+use mathlib.Core.Path.{_≡_, refl, sym, ap}
+use mathlib.Core.Bool.{true}
+use mathlib.Core.List.{List, [], _∷_, _++_}
+use Prim.Native.Nat.{ℕ}
+use lib.ListN.{replicate}
+use Rattle.x86defs.specs.Functions.{function}
+use Rattle.reserved.specs.Reserved.{allClean}
+use Rattle.table.specs.declared.Refusal.the-variants.{PageCount, ReservedBytes}
+use Rattle.table.specs.declared.Verdict.the-variants.{Accepted, Refused}
+use Rattle.table.specs.Edition.{knownEdition}
+use Rattle.build.specs.declared.Built.{Built}
+use Rattle.build.specs.Build.{lawfulVerdict, answer}
+use Rattle.build.specs.BuildLaws.{answer-unlawful}
+use Rattle.build.specs.LawfulLaws.{lawful-clean}
+use Rattle.rise.specs.RiseProof.{accepted-lawful}
+use Rattle.compare.specs.declared.Compared.the-variants.{UnlawfulB}
+use Rattle.compare.specs.Compare.{compared}
+use Rattle.compare.specs.ReturnLaws.{unlawful-b}
+use Rattle.examples.specs.Evaluation.{first, evaluated}
+use Rattle.examples.specs.PageSets.{word, page, requiredEntries, stateEntries, serverA}
+use Rattle.examples.specs.Computed.{serverA-accepted}
+
+-- an entry of zeros but for its leaf and the last of its reserved bytes
+abbrev unclean : ℕ → List ℕ
+unclean leaf = word leaf ++ replicate 43 0 ++ (1 ∷ [])
+
+-- server A with one such entry more on page 0, of a leaf that is filtered; it stands below the count where that is 23
+unfoldable pub withUnclean : ℕ → List ℕ
+withUnclean count = page count (requiredEntries 0x3ED83203 0x219C07A9 0x3F ++ unclean 0x40000000) ++ page 3 (stateEntries 0x7 0x7 0)
+
+unlawful : lawfulVerdict (withUnclean 23) ≡ Refused (ReservedBytes (function 0x40000000))
+unfolding evaluated withUnclean
+unlawful = refl
+
+pub filtered-refused : answer first (withUnclean 23) .verdict ≡ Refused (ReservedBytes (function 0x40000000))
+unfolding knownEdition
+filtered-refused = sym (ap (λ (b : Built). b .verdict) (answer-unlawful first (withUnclean 23) refl refl unlawful refl))
+
+pub a-to-unclean : compared first serverA (withUnclean 23) ≡ UnlawfulB (ReservedBytes (function 0x40000000))
+a-to-unclean = sym (unlawful-b first serverA (withUnclean 23) serverA-accepted unlawful)
+
+-- "Bytes after the count and unused entries aren't tested"
+pub unused-accepted : answer first (withUnclean 22) .verdict ≡ Accepted
+unfolding evaluated withUnclean
+unused-accepted = refl
+
+-- before 3: no required leaf is there, and a Dh entry on page 0 does not count; the first of two is named
+unfoldable pub twoUnclean : List ℕ
+twoUnclean = page 2 (unclean 0xD ++ unclean 0x40000000)
+
+pub two-refused : answer first twoUnclean .verdict ≡ Refused (ReservedBytes (function 0xD))
+unfolding evaluated twoUnclean
+two-refused = refl
+
+-- after 2, of a later page
+pub later-count-refused : answer first (twoUnclean ++ page 65 []) .verdict ≡ Refused PageCount
+unfolding evaluated twoUnclean
+later-count-refused = refl
+
+-- server A is clean, so the reader gives its entries with zeros there
+pub serverA-clean : allClean serverA ≡ true
+serverA-clean = lawful-clean serverA (accepted-lawful first serverA serverA-accepted)

@@ -1,0 +1,1 @@
+// Page sets with a nonzero reserved byte, computed: no code.
