@@ -16,8 +16,8 @@ pub enum NotCarried {
 impl Table {
     /// The table taken from edition `from` of the AVX rule, under which it was built, to edition `to`, on a processor with this XCR0 and XSS.
     ///
-    /// From 1 to 2 it is the table that edition 2 makes of the same pages, and the save sizes of the processor's guest stay what they were. Within one
-    /// edition it is the same table. [`Refusal::UnknownEdition`] comes first, then [`Refusal::EditionBack`] from 2 to 1, then
+    /// From 1 to 2 it is the table that edition 2 makes of the same pages, and the save sizes of the processor's guest stay what they were. Within
+    /// one edition it is the same table. [`Refusal::UnknownEdition`] comes first, then [`Refusal::EditionBack`] from 2 to 1, then
     /// [`Refusal::StateBeyondTable`] and [`Refusal::CompactSizeTooLarge`], which a guest of this processor would have too.
     ///
     /// ```
