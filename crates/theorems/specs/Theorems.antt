@@ -7,13 +7,13 @@ use mathlib.Core.Bool.{Bool, true, false}
 use mathlib.Core.List.{List, [], _∷_, map, _++_}
 use Prim.Native.Nat.{ℕ, _+_, _≤_, _<_, _^_}
 use lib.ListN.{length, replicate, take}
-use Rattle.x86defs.specs.Functions.{result, VersionAndFeatures, ExtendedStateEnumeration}
+use Rattle.x86defs.specs.Functions.{function, result, VersionAndFeatures, ExtendedStateEnumeration}
 use Rattle.x86defs.specs.declared.CpuidFunction.{CpuidFunction}
 use Rattle.table.specs.declared.Choices.{Choices}
 use Rattle.table.specs.declared.Subleaf.{Subleaf}
 use Rattle.table.specs.declared.Subleaf.the-variants.{None, Some}
 use Rattle.table.specs.declared.Refusal.{Refusal}
-use Rattle.table.specs.declared.Refusal.the-variants.{UnknownEdition, EditionBack, PagesLength, MissingRequiredResult, SaveAreaOverflow, TopologyInconsistent, BufferTooShort, ListLength, ListRows, ListFields, StateBeyondTable, CompactSizeTooLarge}
+use Rattle.table.specs.declared.Refusal.the-variants.{UnknownEdition, EditionBack, ReservedBytes, PagesLength, MissingRequiredResult, SaveAreaOverflow, TopologyInconsistent, BufferTooShort, ListLength, ListRows, ListFields, StateBeyondTable, CompactSizeTooLarge}
 use Rattle.table.specs.declared.CpuidResults.{CpuidResults}
 use Rattle.table.specs.Rows.{Rows}
 use Rattle.table.specs.Table.{emptyTable, rowIn, rowsIn}
@@ -30,7 +30,7 @@ use Rattle.masking.specs.Place
 use Rattle.pages.specs.Walk.{firstIndex, parsed, countsRead}
 use Rattle.build.specs.Build.{answer}
 use Rattle.reader.specs.Read.{given}
-use Rattle.reader.specs.ReadLaws.{reader-gives, reader-gives-counted}
+use Rattle.reader.specs.ReadLaws.{reader-gives, reader-gives-counted, reader-gives-clean}
 use Rattle.lookup.specs.declared.LeafResult.the-variants.{None as Nothing}
 use Rattle.lookup.specs.Lookup.{lookup}
 use Rattle.lookup.specs.LookupLaws.{empty-finds-nothing}
@@ -111,6 +111,8 @@ use Rattle.added.specs.Added.{Added, Covered}
 use Rattle.added.specs.BeginningLaws.{entries-begin}
 use Rattle.added.specs.AddedProof.{added-same, added-rises}
 use Rattle.added_examples.specs.Spare as Spare
+use Rattle.reserved.specs.Reserved.{clean, allClean}
+use Rattle.reserved_examples.specs.Unclean as Unclean
 use Rattle.examples.specs.KvmLists as KvmLists
 use Rattle.examples.specs.Evaluation.{first}
 use Rattle.examples.specs.PageSets.{serverA, serverB, serverWithoutD12, serverWithLargeD6}
@@ -121,7 +123,7 @@ use Rattle.examples.specs.MarkedRows.Shown.{core, refusal, area, supervisor}
 
 -- ---- Demand 1. crates/refusals/specs/Conditions.antt has each condition by itself, Exactly.antt the two records.
 
--- For each refusal that building gives, 15 and 1 to 8: given if and only if its condition holds and no earlier one does; accepted if and only if
+-- For each refusal that building gives, 15, 1, 2, 17 and 3 to 8: given if and only if its condition holds and no earlier one does; accepted if and only if
 -- none holds.
 pub each-refusal-exactly : (chosen : Choices) (s : List ℕ) → BuildsExactly chosen s
 each-refusal-exactly = builds-exactly
@@ -375,6 +377,31 @@ threads-with-an-entry = (Spare.threads-refused, Spare.threads-added, Spare.threa
 pub missing-leaf-arrives : (answer first Spare.withoutD2 .verdict ≡ Refused (MissingRequiredResult ExtendedStateEnumeration (Some 2)))
     × Added Spare.withoutD2 serverA × (answer first serverA .verdict ≡ Accepted)
 missing-leaf-arrives = (Spare.without-refused, Spare.without-added, Computed.serverA-accepted)
+
+-- ---- P10, reserved bytes of an entry. crates/reserved/specs/Reserved.antt: `allClean` says that the eight reserved bytes of every entry below its
+-- page's count are zero. It is part of what lawful pages are (`lawfulVerdict`, crates/build/specs/Build.antt), which demand 3, the comparison and P9 ask.
+
+-- of clean pages every entry that a reader gives is clean: the entries whose reserved bytes are zero are all of them
+pub reader-gives-clean-entries : (s : List ℕ) (n : ℕ) → length (entries s) ≤ n → allClean s ≡ true
+    → given s n (firstIndex s) ≡ map parsed (keepIf (clean s) (entries s))
+reader-gives-clean-entries = reader-gives-clean
+
+-- Not empty words: server A is clean; with an entry of a filtered leaf that is not, 17 names the leaf, and the comparison too; above the count it is not
+-- tested; 17 comes before 3, names the first, and comes after a later page's 2. crates/reserved_examples/specs/Unclean.antt
+pub a-clean : allClean serverA ≡ true
+a-clean = Unclean.serverA-clean
+
+pub unclean-filtered : answer first (Unclean.withUnclean 23) .verdict ≡ Refused (ReservedBytes (function 0x40000000))
+unclean-filtered = Unclean.filtered-refused
+
+pub unclean-compared : compared first serverA (Unclean.withUnclean 23) ≡ UnlawfulB (ReservedBytes (function 0x40000000))
+unclean-compared = Unclean.a-to-unclean
+
+pub unclean-unused : answer first (Unclean.withUnclean 22) .verdict ≡ Accepted
+unclean-unused = Unclean.unused-accepted
+
+pub unclean-before-missing : answer first Unclean.twoUnclean .verdict ≡ Refused (ReservedBytes (function 0xD))
+unclean-before-missing = Unclean.two-refused
 
 -- ---- The fourteen marked rows of document 01, T1 to T10, X1 to X3 (two figures) and C1. crates/examples/specs/MarkedRows.antt.
 
