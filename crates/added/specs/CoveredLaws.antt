@@ -37,10 +37,9 @@ pub lawful-found : (s : List ℕ) (v : Verdict) → Covered (andThen (lawfulVerd
 unfolding lawfulVerdict lengthVerdict countsVerdict reservedVerdict
 lawful-found s v = go (not (badLength s)) (countsFit s) (reservedOf s)
   where
-    abbrev verdicts : Bool → Bool → Reserved → Verdict
-    verdicts p q b = andThen (refuseUnless p PagesLength) (andThen (refuseUnless q PageCount) (cleanVerdict b))
-
-    go : (p q : Bool) (b : Reserved) → Covered (andThen (verdicts p q b) v) → verdicts p q b ≡ Accepted
+    go : (p q : Bool) (b : Reserved)
+        → Covered (andThen (andThen (refuseUnless p PagesLength) (andThen (refuseUnless q PageCount) (cleanVerdict b))) v)
+        → andThen (refuseUnless p PagesLength) (andThen (refuseUnless q PageCount) (cleanVerdict b)) ≡ Accepted
     go true true Zero c = refl
     go true true (Nonzero leaf) c = absurd (omega (arith, c .1))
     go true false b c = absurd (omega (arith, c .0))
