@@ -9,7 +9,7 @@ import unittest
 from model_lines import NAMES, NO_SUCH_LINE, read_line, write_line
 
 ALL = 0xFFFFFFFF
-IN_USE = [*range(1, 16), 17]
+IN_USE = list(range(1, 18))
 
 # lines written down from document 02's words
 LINES = {
