@@ -36,6 +36,9 @@ extern "C" {
  *  17 one of the eight reserved bytes (40 to 47) of an entry below its page's count is not zero: after 2 and before 3. It names the leaf,
  *     EAX_IN, of the first such entry, whether or not a table keeps it, and no subleaf. XCR0_IN, XSS_IN, the bytes after the count and
  *     entries from the count on are not looked at.
+ *  18 a pool has fewer than 2 or more than 16 page sets, or their lengths do not sum to the bytes handed over: before 15
+ *  19 servers of a pool differ, in a row that all their tables have, elsewhere than in feature registers or D.0.ECX: after every server's own
+ *  20 no single bit of the results decides over the answer: after 15, 1, 2 and 17
  * A leaf, subleaf or s that the number does not name is 0. */
 
 /* What building gives. A refused table has row_count 0 and max_extended_state 0. */
@@ -183,7 +186,7 @@ struct snp_cpuid_carried snp_cpuid_carry(uint8_t *image, size_t length, uint32_t
 
 /* A refusal as one line of ASCII: the number in decimal, then, each after one space, the details that it names, leaf in eight hexadecimal capitals,
  * subleaf (left out where there is none) and s in decimal, and a newline. The numbers in use, by what they name:
- *   nothing: 1 2 4 5 8 9 10 11 12 13 14 15 16
+ *   nothing: 1 2 4 5 8 9 10 11 12 13 14 15 16 18 19 20
  *   leaf: 17
  *   leaf and subleaf: 3
  *   s: 6 7

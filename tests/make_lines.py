@@ -27,7 +27,7 @@ def named():
 
 def unnamed():
     """Numbers not in use, details that a number does not name, one at a time and all at once, and numbers wider than their field."""
-    between = [number for number in range(21) if number not in NAMES]
+    between = [number for number in range(25) if number not in NAMES]
     for number in *between, 99, 100, 255, 256, 256 + 1, 256 + 3, 65536 + 6, 65536 + 17, ALL:
         yield number, 0, None, 0
         yield number, 0xD, 2, 7
@@ -69,7 +69,7 @@ def strange():
         yield b'\n' + text
         yield text.lower()
         yield text[:-1] + b'\r\n'
-    for text in ('', '0', '15', '16', '17', '17 ', '17 D', '17 0000000D', '17 0000000d', '17 0000000D 0', '17 10000000D', '18', '256', '257',
+    for text in ('', '0', '15', '16', '17', '17 ', '17 D', '17 0000000D', '17 0000000d', '17 0000000D 0', '17 10000000D', '18', '18 0000000D', '21', '256', '257',
                  '4294967297', '4294967299 0000000D', '18446744073709551617', '01', '001', '3', '3 ', '3 D', '3 000000D', '3 00000000D',
                  '3 0000000D 0012', '3 0000000D 4294967296', '3 0000000D 4294967308', '3 0000000D 42949672950',
                  '3 0000000D 12 0', '3 0000000D none', '3 10000000D', '3 10000000D 12', '6', '6 256', '6 257', '6 262', '6 4294967296', '6 00',

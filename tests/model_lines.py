@@ -8,7 +8,7 @@ NO_SUCH_LINE = ('no such line',)
 DIGITS = b'0123456789'
 CAPITALS = b'0123456789ABCDEF'
 
-# The numbers in use, each with the details that it names: document 01, "Where each check stands", then P2, P3, P7, P8 and P10.
+# The numbers in use, each with the details that it names: document 01, "Where each check stands", then P2, P3, P7, P8, P10, P12 and P13.
 NAMES = {
     1: (),
     2: (),
@@ -27,6 +27,9 @@ NAMES = {
     15: (),
     16: (),
     17: ('leaf',),
+    18: (),
+    19: (),
+    20: (),
 }
 
 

@@ -9,7 +9,7 @@ import unittest
 from model_lines import NAMES, NO_SUCH_LINE, read_line, write_line
 
 ALL = 0xFFFFFFFF
-IN_USE = list(range(1, 18))
+IN_USE = list(range(1, 21))
 
 # lines written down from document 02's words
 LINES = {
@@ -32,6 +32,9 @@ LINES = {
     (16, 0, None, 0): '16\n',
     (17, 0, None, 0): '17 00000000\n',
     (17, 0x8000001D, None, 0): '17 8000001D\n',
+    (18, 0, None, 0): '18\n',
+    (19, 0, None, 0): '19\n',
+    (20, 0, None, 0): '20\n',
 }
 
 

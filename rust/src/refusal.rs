@@ -39,6 +39,12 @@ pub enum Refusal {
         /// the leaf of the first such entry, EAX_IN, whether or not a table keeps it
         leaf: u32,
     },
+    /// 18: a pool has fewer than 2 or more than 16 servers' page sets, or their lengths do not sum to the bytes handed over.
+    PoolSets,
+    /// 19: the servers of a pool differ, in a row that all their tables have, elsewhere than in feature bits or the save area's size.
+    PoolDiffers,
+    /// 20: no single bit of the pages' results decides over the answer.
+    NothingDecides,
 }
 
 /// How the topology leaves disagree. The number is s, bits 12 to 15 of 80000008h.ECX: the size of the APIC core id.
@@ -144,6 +150,17 @@ const TABLE: &[Line] = &[
         name: |d| Refusal::ReservedBytes { leaf: d.leaf },
         words: |d| format!("an entry for leaf {:X}h has a reserved byte, one of its last eight, that is not zero", d.leaf),
     },
+    Line {
+        number: 18,
+        name: |_| Refusal::PoolSets,
+        words: |_| "a pool has 2 to 16 page sets, and their lengths sum to the bytes handed over".into(),
+    },
+    Line {
+        number: 19,
+        name: |_| Refusal::PoolDiffers,
+        words: |_| "the servers of the pool differ, in a row that all their tables have, elsewhere than in feature bits or the size of the save area".into(),
+    },
+    Line { number: 20, name: |_| Refusal::NothingDecides, words: |_| "no single bit of the results decides over the answer".into() },
 ];
 
 impl Refusal {
@@ -170,7 +187,10 @@ impl Refusal {
             | Refusal::StateBeyondTable
             | Refusal::CompactSizeTooLarge
             | Refusal::UnknownEdition
-            | Refusal::EditionBack => Details::default(),
+            | Refusal::EditionBack
+            | Refusal::PoolSets
+            | Refusal::PoolDiffers
+            | Refusal::NothingDecides => Details::default(),
         }
     }
 
@@ -249,6 +269,9 @@ mod tests {
             (15, none, Refusal::UnknownEdition),
             (16, none, Refusal::EditionBack),
             (17, Details { leaf: 0x4000_0000, ..none }, Refusal::ReservedBytes { leaf: 0x4000_0000 }),
+            (18, none, Refusal::PoolSets),
+            (19, none, Refusal::PoolDiffers),
+            (20, none, Refusal::NothingDecides),
         ] {
             assert_eq!((refusal.number(), refusal.details()), (number, named));
             assert_eq!(Refusal::of(number, named), refusal);

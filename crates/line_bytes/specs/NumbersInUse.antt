@@ -1,5 +1,6 @@
 -- Document 02, P6: "for every number in use by then", and "only where that number names it". Every number in use has its row here: 1 to 9 from
--- document 01, "Where each check stands", 10 to 12 from P2, 13 and 14 from P3, 15 from P7, 16 from P8, 17 from P10. A later number adds its row.
+-- document 01, "Where each check stands", 10 to 12 from P2, 13 and 14 from P3, 15 from P7, 16 from P8, 17 from P10,
+-- 18 and 19 from P12, 20 from P13. A later number adds its row.
 use mathlib.Core.Bool.{true, false}
 use mathlib.Core.List.{List, [], _∷_}
 use Prim.Native.Nat.{ℕ}
@@ -44,6 +45,9 @@ rows =
     nothing ∷  -- 15
     nothing ∷  -- 16
     onlyLeaf ∷  -- 17
+    nothing ∷  -- 18
+    nothing ∷  -- 19
+    nothing ∷  -- 20
     []
 
 -- what a number names

@@ -46,7 +46,7 @@ const ONLY_S: Named = Named {
 };
 
 // The first number beyond the table.
-const NUMBERS: usize = 18;
+const NUMBERS: usize = 21;
 
 // One row a number, from 0 on.
 const NAMES: [Named; NUMBERS] = [
@@ -68,6 +68,9 @@ const NAMES: [Named; NUMBERS] = [
     NOTHING,
     NOTHING,
     ONLY_LEAF,
+    NOTHING,
+    NOTHING,
+    NOTHING,
 ];
 
 // Which details a number names.

@@ -15,7 +15,7 @@ use Rattle.topology.specs.declared.TopologyError.the-variants.{Hyperthreading, 
 use Rattle.table.specs.declared.Subleaf.{Subleaf}
 use Rattle.table.specs.declared.Subleaf.the-variants.{None, Some}
 use Rattle.table.specs.declared.Refusal.{Refusal}
-use Rattle.table.specs.declared.Refusal.the-variants.{PagesLength, PageCount, MissingRequiredResult, InvlpgbUnavailable, SaveAreaOverflow, TopologyInconsistent, BufferTooShort, ListLength, ListRows, ListFields, StateBeyondTable, CompactSizeTooLarge, UnknownEdition, EditionBack, ReservedBytes}
+use Rattle.table.specs.declared.Refusal.the-variants.{PagesLength, PageCount, MissingRequiredResult, InvlpgbUnavailable, SaveAreaOverflow, TopologyInconsistent, BufferTooShort, ListLength, ListRows, ListFields, StateBeyondTable, CompactSizeTooLarge, UnknownEdition, EditionBack, ReservedBytes, PoolSets, PoolDiffers, NothingDecides}
 use Rattle.table.specs.Refusal.{Details, details}
 use Rattle.buffer.specs.declared.Written.the-variants.{Bytes, Refused}
 use Rattle.line_bytes.specs.declared.LineDetails.{LineDetails}
@@ -159,3 +159,6 @@ every-refusal CompactSizeTooLarge h = refl
 every-refusal UnknownEdition h = refl
 every-refusal EditionBack h = refl
 every-refusal (ReservedBytes leaf) h = refl
+every-refusal PoolSets h = refl
+every-refusal PoolDiffers h = refl
+every-refusal NothingDecides h = refl

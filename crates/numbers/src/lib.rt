@@ -80,6 +80,9 @@ pub fn refusal_numbers(refusal: Refusal) -> AnswerNumbers
         Refusal::UnknownEdition => sized(15, 0),
         Refusal::EditionBack => sized(16, 0),
         Refusal::ReservedBytes(leaf) => at_leaf(17, leaf.0, Subleaf::None),
+        Refusal::PoolSets => sized(18, 0),
+        Refusal::PoolDiffers => sized(19, 0),
+        Refusal::NothingDecides => sized(20, 0),
     }
 }
 

@@ -6,7 +6,7 @@ use Rattle.topology.specs.declared.TopologyError.the-variants.{Hyperthreading, 
 use Rattle.table.specs.declared.Subleaf.{Subleaf}
 use Rattle.table.specs.declared.Subleaf.the-variants.{None}
 use Rattle.table.specs.declared.Refusal.{Refusal}
-use Rattle.table.specs.declared.Refusal.the-variants.{PagesLength, PageCount, MissingRequiredResult, InvlpgbUnavailable, SaveAreaOverflow, TopologyInconsistent, BufferTooShort, ListLength, ListRows, ListFields, StateBeyondTable, CompactSizeTooLarge, UnknownEdition, EditionBack, ReservedBytes}
+use Rattle.table.specs.declared.Refusal.the-variants.{PagesLength, PageCount, MissingRequiredResult, InvlpgbUnavailable, SaveAreaOverflow, TopologyInconsistent, BufferTooShort, ListLength, ListRows, ListFields, StateBeyondTable, CompactSizeTooLarge, UnknownEdition, EditionBack, ReservedBytes, PoolSets, PoolDiffers, NothingDecides}
 use Rattle.table.specs.declared.Verdict.{Verdict}
 use Rattle.table.specs.declared.Verdict.the-variants.{Accepted, Refused}
 
@@ -44,6 +44,9 @@ details CompactSizeTooLarge = alone 14
 details UnknownEdition = alone 15
 details EditionBack = alone 16
 details (ReservedBytes leaf) = record { number = 17; leaf = leaf .0; subleaf = None; s = 0 }
+details PoolSets = alone 18
+details PoolDiffers = alone 19
+details NothingDecides = alone 20
 
 -- the first check that fails decides
 abbrev pub andThen : Verdict → Verdict → Verdict

@@ -46,6 +46,9 @@ pub enum Refusal {
     UnknownEdition,
     EditionBack,
     ReservedBytes(CpuidFunction),
+    PoolSets,
+    PoolDiffers,
+    NothingDecides,
 }
 
 pub enum Verdict {

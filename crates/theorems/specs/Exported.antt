@@ -24,7 +24,7 @@ use Rattle.table.specs.declared.Subleaf.{Subleaf}
 use Rattle.topology.specs.declared.TopologyError.{TopologyError}
 use Rattle.topology.specs.declared.TopologyError.the-variants.{Hyperthreading, ProcessorCount, ThreadsPerUnit}
 use Rattle.table.specs.declared.Refusal.{Refusal}
-use Rattle.table.specs.declared.Refusal.the-variants.{PagesLength, PageCount, MissingRequiredResult, InvlpgbUnavailable, SaveAreaOverflow, TopologyInconsistent, BufferTooShort, ListLength, ListRows, ListFields, StateBeyondTable, CompactSizeTooLarge, UnknownEdition, EditionBack, ReservedBytes}
+use Rattle.table.specs.declared.Refusal.the-variants.{PagesLength, PageCount, MissingRequiredResult, InvlpgbUnavailable, SaveAreaOverflow, TopologyInconsistent, BufferTooShort, ListLength, ListRows, ListFields, StateBeyondTable, CompactSizeTooLarge, UnknownEdition, EditionBack, ReservedBytes, PoolSets, PoolDiffers, NothingDecides}
 use Rattle.table.specs.Refusal.{details, topologyDetails}
 use Rattle.table.specs.declared.Verdict.{Verdict}
 use Rattle.table.specs.declared.Verdict.the-variants.{Accepted, Refused}
@@ -115,6 +115,9 @@ refusal-numbered CompactSizeTooLarge e = omega arith
 refusal-numbered UnknownEdition e = omega arith
 refusal-numbered EditionBack e = omega arith
 refusal-numbered (ReservedBytes leaf) e = omega arith
+refusal-numbered PoolSets e = omega arith
+refusal-numbered PoolDiffers e = omega arith
+refusal-numbered NothingDecides e = omega arith
 
 verdict-numbered : (v : Verdict) → numbersOf v .number ≡ 0 → v ≡ Accepted
 verdict-numbered Accepted e = refl

@@ -48,10 +48,25 @@ returns-14 c = rw (c .before .enum-told12 .given .1) (c .sized12 .ensures)
 returns-15 : tie.Need-returns-15
 returns-15 c = rw (c .before .before .refusal3 .given .1) (c .at-leaf2 .ensures)
 
+returns-16 : tie.Need-returns-16
+returns-16 c = rw (c .before .enum-told13 .given .1) (c .sized13 .ensures)
+
+returns-17 : tie.Need-returns-17
+returns-17 c = rw (c .before .enum-told14 .given .1) (c .sized14 .ensures)
+
+returns-18 : tie.Need-returns-18
+returns-18 c = rw (c .before .enum-told15 .given .1) (c .sized15 .ensures)
+
 pub refusal-numbers-spec : {M : Type 1} → statement M
 refusal-numbers-spec =
     tie.close
     (tie.spec
+    (λ c. search needs)
+    (λ c κs. search needs)
+    (λ c. search needs)
+    (λ c κs. search needs)
+    (λ c. search needs)
+    (λ c κs. search needs)
     (λ c. search needs)
     (λ c κs. search needs)
     (λ c. search needs)
@@ -96,4 +111,7 @@ refusal-numbers-spec =
     returns-12
     returns-13
     returns-14
-    returns-15)
+    returns-15
+    returns-16
+    returns-17
+    returns-18)
