@@ -1,4 +1,4 @@
-// Runs test vectors: commands come in on standard input, and a line of text goes out for each build, lookup and write.
+// Runs test vectors: commands come in on standard input, and a line of text goes out for each build, lookup, first entry and write.
 //
 // A command is 16 bytes: its kind, three flags (0 or 1: secure AVIC, a subleaf is given, the subleaf is enforced), and the
 // numbers a, b and edition of 4 bytes, the lowest first. The page set is all zeros at the start and changes by commands alone.
@@ -6,11 +6,13 @@
 //   d  b bytes follow, which go into the page set at a
 //   b  build
 //   l  look leaf a up, with subleaf b
+//   f  find the first entry of leaf a, with subleaf b
 //   w  write the image into a bytes that hold A5h
 // tests/make_vectors.py makes the commands, and the lines that are to come out.
 use libc::STDIN_FILENO;
 use libc::STDOUT_FILENO;
 use snp_cpuid::SnpCpuidBuilt;
+use snp_cpuid::SnpCpuidFirst;
 use snp_cpuid::SnpCpuidFound;
 use snp_cpuid::SnpCpuidWritten;
 
@@ -140,6 +142,7 @@ fn answer(command: Command, set: &[u8], line: &mut [u8]) -> bool {
     match kind {
         b'b' => print_built(snp_cpuid::snp_cpuid_build(set, avic, edition), line),
         b'l' => print_found(look_up(command, set), line),
+        b'f' => print_first(snp_cpuid::snp_cpuid_first_entry(set, command.a, command.b), line),
         b'w' => write(set, avic, edition, command.a as usize, line),
         _ => false,
     }
@@ -190,7 +193,7 @@ fn print_built(built: SnpCpuidBuilt, line: &mut [u8]) -> bool {
     print(line, at)
 }
 
-// l found EAX EBX ECX EDX
+// l found EAX EBX ECX EDX origin page entry
 fn print_found(found: SnpCpuidFound, line: &mut [u8]) -> bool {
     let mut at = put(line, 0, b'l');
     at = put_word(line, at, found.found);
@@ -198,6 +201,27 @@ fn print_found(found: SnpCpuidFound, line: &mut [u8]) -> bool {
     at = put_word(line, at, found.ebx);
     at = put_word(line, at, found.ecx);
     at = put_word(line, at, found.edx);
+    at = put_word(line, at, found.origin);
+    at = put_long(line, at, found.page);
+    at = put_word(line, at, found.entry);
+    print(line, at)
+}
+
+// f number leaf has_subleaf subleaf s found page entry
+fn print_first(first: SnpCpuidFirst, line: &mut [u8]) -> bool {
+    let start = put(line, 0, b'f');
+    let mut at = put_refusal(
+        line,
+        start,
+        first.number,
+        first.leaf,
+        first.has_subleaf,
+        first.subleaf,
+        first.s,
+    );
+    at = put_word(line, at, first.found);
+    at = put_long(line, at, first.page);
+    at = put_word(line, at, first.entry);
     print(line, at)
 }
 
