@@ -142,7 +142,10 @@ fn answer(command: Command, set: &[u8], line: &mut [u8]) -> bool {
     match kind {
         b'b' => print_built(snp_cpuid::snp_cpuid_build(set, avic, edition), line),
         b'l' => print_found(look_up(command, set), line),
-        b'f' => print_first(snp_cpuid::snp_cpuid_first_entry(set, command.a, command.b), line),
+        b'f' => print_first(
+            snp_cpuid::snp_cpuid_first_entry(set, command.a, command.b),
+            line,
+        ),
         b'w' => write(set, avic, edition, command.a as usize, line),
         _ => false,
     }
