@@ -21,7 +21,7 @@ use Rattle.table.specs.declared.Choices.{Choices}
 use Rattle.table.specs.declared.Verdict.{Verdict}
 use Rattle.table.specs.declared.Verdict.the-variants.{Accepted, Refused}
 use Rattle.table.specs.declared.CpuidResults.{CpuidResults}
-use Rattle.build.specs.Built.{builtFrom}
+use Rattle.build.specs.Built.{builtFrom, withoutOrigins}
 use Rattle.table.specs.Table.{emptyTable, rowsIn}
 use Rattle.table.specs.Rows.{Rows}
 use Rattle.table.specs.Edition.{knownEdition}
@@ -30,7 +30,7 @@ use Rattle.collect.specs.Collect.{collected, collected-rows}
 use Rattle.build.specs.Build.{editionVerdict, lawfulVerdict, rowsFor, verdictOf, originsIn, answer}
 
 -- a table without rows has no origins, whatever stands in the pages
-no-origins : (s : List ℕ) → replicate places 0 ≡ originsIn emptyTable s
+pub no-origins : (s : List ℕ) → replicate places 0 ≡ originsIn emptyTable s
 unfolding originsIn originOf
 no-origins s =
     tabulated places _ (replicate places 0) 0 (length-replicate {A = ℕ} places 0) (λ i l.
@@ -57,6 +57,11 @@ module _ (c : Choices) (s : List ℕ) where
   refused-with : {r : Refusal} {q : Built} → q ≡ notBuilt r → verdictOf c s ≡ Refused r → q ≡ answer c s
   refused-with {r} e f =
       e ∙ ap (λ (o : List ℕ). record { verdict = Refused r; table = emptyTable; origins = o }) (no-origins s) ∙ sym (built-with f)
+
+  -- the answer of lawful edition and pages, origins aside, is that of the rows
+  pub answer-of-rows : editionVerdict (c .edition) ≡ Accepted → lawfulVerdict s ≡ Accepted → withoutOrigins (answer c s) ≡ builtFrom (c .edition) m
+  unfolding answer verdictOf builtFrom
+  answer-of-rows e f = rw (e, f)
 
   pub answer-unknown : {q : Built} → knownEdition (c .edition) ≡ false → q ≡ notBuilt UnknownEdition → q ≡ answer c s
   answer-unknown k g = refused-with g (unfold verdictOf editionVerdict in rw k)

@@ -23,6 +23,8 @@ builtFrom n m = record { verdict = rowsVerdict m; table = tableFor n (rowsVerdic
 
 -- Document 02, P11: "sameness with the Rust, in P2, in P8 and between servers A and B means everything but origins": the verdict, with its refusal
 -- and details, and the table
-pub record SameButOrigins (a b : Built) : Type 0 where
-  pub verdict : a .verdict ≡ b .verdict
-  pub table : a .table ≡ b .table
+abbrev pub withoutOrigins : Built → RowsBuilt
+withoutOrigins b = record { verdict = b .verdict; table = b .table }
+
+abbrev pub SameButOrigins : Built → Built → Type 0
+SameButOrigins a b = withoutOrigins a ≡ withoutOrigins b

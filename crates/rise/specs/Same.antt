@@ -127,7 +127,7 @@ module _ (chosen : Choices) (a b : List ℕ) (rises : RiseHypothesis chosen a b)
   table-same = answer-table chosen a (rises .accepted) ∙ table-ext row-same mask-same ∙ sym (answer-table chosen b (back .accepted))
 
 pub same-figures : SameFigures
-same-figures chosen a b rises back = record {
-  verdict = rises .accepted ∙ sym (back .accepted);
-  table = table-same chosen a b rises back;
+same-figures chosen a b rises back = λ k. record {
+  verdict = (rises .accepted ∙ sym (back .accepted)) k;
+  table = table-same chosen a b rises back k;
 }
