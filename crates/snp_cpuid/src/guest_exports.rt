@@ -64,10 +64,12 @@ pub extern "C" fn snp_cpuid_guest_lookup(
 {
     let v = processor(x2apic, xcr0, xss, osxsave);
     let built = build::build(pages, choices(secure_avic, edition));
+    let origins = built.origins;
     let seen = guest_pages::guest_of(built, v);
+    let table = seen.table;
     let named = subleaf_of(has_subleaf, subleaf);
-    let result = lookup::leaf_result(seen.table, CpuidFunction(leaf), named, enforce_subleaf);
-    let origin = lookup::leaf_origin(built.origins, CpuidFunction(leaf), named, enforce_subleaf);
+    let result = lookup::leaf_result(table, CpuidFunction(leaf), named, enforce_subleaf);
+    let origin = lookup::leaf_origin(origins, CpuidFunction(leaf), named, enforce_subleaf);
     found_numbers(result, origin)
 }
 

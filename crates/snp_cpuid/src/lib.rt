@@ -49,9 +49,11 @@ pub extern "C" fn snp_cpuid_lookup(
     ensures { λ r. ⌜ r ≡ foundIn (answer (choicesOf «secure_avic» edition) (now (pages .entry))) leaf (subleafOf «has_subleaf» subleaf) «enforce_subleaf» ⌝ }
 {
     let built = build::build(pages, choices(secure_avic, edition));
+    let table = built.table;
+    let origins = built.origins;
     let named = subleaf_of(has_subleaf, subleaf);
-    let result = lookup::leaf_result(built.table, CpuidFunction(leaf), named, enforce_subleaf);
-    let origin = lookup::leaf_origin(built.origins, CpuidFunction(leaf), named, enforce_subleaf);
+    let result = lookup::leaf_result(table, CpuidFunction(leaf), named, enforce_subleaf);
+    let origin = lookup::leaf_origin(origins, CpuidFunction(leaf), named, enforce_subleaf);
     found_numbers(result, origin)
 }
 
