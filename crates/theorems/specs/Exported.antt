@@ -261,10 +261,10 @@ FoundOrigins = (chosen : Choices) (s : List ℕ) (leaf : CpuidFunction) (subleaf
     → originFound (found chosen s leaf subleaf enforce) ≡ originTold (originAt chosen s (placeAsked leaf subleaf enforce))
 
 pub found-origins : FoundOrigins
-found-origins chosen s leaf subleaf enforce accepted e =
+found-origins chosen s leaf subleaf enforce built-of e =
     let i : ℕ = placeAsked leaf subleaf enforce in
     let r : Row = rowIn (answer chosen s .table) i in
     let f : from chosen s leaf subleaf enforce (rowResult r) ≡ found chosen s leaf subleaf enforce =
     ap (from chosen s leaf subleaf enforce) (lookup-at (answer chosen s .table) (table-whole chosen s) leaf subleaf enforce i refl) in
     let p : r .present ≡ true = found-present _ r (ap (λ (x : SnpCpuidFound). x .found) f ∙ e) in
-    ap originFound (sym f ∙ found-numbers _ r p) ∙ rows-have-origins chosen s accepted i (present-inside chosen s i p) .told
+    ap originFound (sym f ∙ found-numbers _ r p) ∙ rows-have-origins chosen s built-of i (present-inside chosen s i p) .told
