@@ -11,7 +11,7 @@ use Rattle.masking.specs.Kept.{places}
 use Rattle.origins.specs.Origin.{isMadeHere, originOf, originNumber, finishedOrigins}
 use Rattle.origins.specs.Origin.Origin.{neither, madeHere}
 use Rattle.origins.specs.OriginLaws.{finished-origins}
-use Rattle.collect.specs.FirstEntries.{standsAt, foundOrigins}
+use Rattle.locate.specs.Stands.{standsAt, foundOrigins}
 use Rattle.checks.specs.Checks.{rowsVerdict}
 use Rattle.build.specs.declared.RowsBuilt.{RowsBuilt}
 use Rattle.build.specs.declared.Built.{Built}

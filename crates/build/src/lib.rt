@@ -167,7 +167,7 @@ pub fn build(pages: &[u8], choices: Choices) -> Built
     if let Verdict::Refused(r) = lawful {
         return not_built(r);
     }
-    let collected = collect::collect(pages, choices.secure_avic);
+    let collected = locate::collect_located(pages, choices.secure_avic);
     let present = collected.table.present;
     let verdict = validate_required(present);
     if let Verdict::Refused(r) = verdict {
@@ -188,13 +188,13 @@ pub fn build_table(pages: &[u8], choices: Choices) -> RowsBuilt
     if let Verdict::Refused(r) = lawful {
         return refused(r);
     }
-    let collected = collect::collect(pages, choices.secure_avic);
-    let present = collected.table.present;
+    let t = collect::collect(pages, choices.secure_avic);
+    let present = t.present;
     let verdict = validate_required(present);
     if let Verdict::Refused(r) = verdict {
         return refused(r);
     }
-    from_invlpgb(collected.table, choices.edition)
+    from_invlpgb(t, choices.edition)
 }
 
 // A refused answer: an empty table, and no origins.

@@ -30,21 +30,21 @@ returns-3 c =
     let v = c .before .before in let s = v .before .before in let k = s .before .before in
     let e = k .before in let l = e .before .before in let known = l .before in
     table-collected _ _ (sym (known .before .known-edition .ensures) ∙ known .if1 .taken) (l .validate-pages .ensures) (e .enum-told .given .1)
-    (k .collect .ensures .0)
-    (required-refuses (k .collect .result .table) (s .validate-required .ensures) _ (v .verdict .given .1) (c .refused3 .ensures))
+    (k .collect .ensures)
+    (required-refuses (k .collect .result) (s .validate-required .ensures) _ (v .verdict .given .1) (c .refused3 .ensures))
 
 from-invlpgb-requires : tie.Need-from-invlpgb-requires
 from-invlpgb-requires c κs =
     let s = c .before .before in
-    sym (required-found (s .before .before .collect .result .table) (s .validate-required .ensures)) ∙ c .enum-told2 .given .1
+    sym (required-found (s .before .before .collect .result) (s .validate-required .ensures)) ∙ c .enum-told2 .given .1
 
 returns-4 : tie.Need-returns-4
 returns-4 c =
     let v = c .before in let s = v .before .before in let k = s .before .before in
     let e = k .before in let l = e .before .before in let known = l .before in
     table-collected _ _ (sym (known .before .known-edition .ensures) ∙ known .if1 .taken) (l .validate-pages .ensures) (e .enum-told .given .1)
-    (k .collect .ensures .0)
-    (required-passes (k .collect .result .table) (s .validate-required .ensures) _ (v .enum-told2 .given .1) (c .from-invlpgb .ensures))
+    (k .collect .ensures)
+    (required-passes (k .collect .result) (s .validate-required .ensures) _ (v .enum-told2 .given .1) (c .from-invlpgb .ensures))
 
 pub build-table-spec : {M : Type 1} → statement M
 build-table-spec =
