@@ -102,16 +102,7 @@ impl Joined {
         // SAFETY: the pointers and lengths are those of slices; the function reads the first two and writes within the last
         let written = unsafe {
             let (servers, room) = (lengths.len(), out.len());
-            exports::snp_cpuid_write_pool_image(
-                pages.as_ptr(),
-                pages.len(),
-                lengths.as_ptr(),
-                servers,
-                secure_avic,
-                edition,
-                out.as_mut_ptr(),
-                room,
-            )
+            exports::snp_cpuid_write_pool_image(pages.as_ptr(), pages.len(), lengths.as_ptr(), servers, secure_avic, edition, out.as_mut_ptr(), room)
         };
         written.accepted().map(|written| written.length as usize)
     }
