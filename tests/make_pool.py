@@ -1,7 +1,7 @@
 """Makes rust/tests/pool.txt: pools of servers, as model_pool.py answers.
 
-A line `s EDITS` makes a page set of the one before, the first of tests/epyc-milan.pages; sets are counted from 0. The other lines ask of a pool, for a
-secure-AVIC choice, an edition, the numbers of its sets and the lengths that are given for them (= for their own), which follow their letter; the
+A line `s EDITS` makes a page set of the one before, the first of tests/epyc-milan.pages; sets are counted from 0. The other lines ask of a pool, for
+a secure-AVIC choice, an edition, the numbers of its sets and the lengths that are given for them (= for their own), which follow their letter; the
 answer stands after a bar:
 b                        the row count, the mask, the image's length, and the edits that make it of the one of its length told before, the first of
                          zeros
@@ -12,7 +12,6 @@ all else is hexadecimal; a list has commas, and - where it is empty; a subleaf o
 """
 from itertools import permutations, product
 import random
-import struct
 import sys
 
 from make_comparisons import ALL, FILTERED, appended, find, flipped, places, put, register, richer, set_to, with_topology, word
@@ -97,15 +96,16 @@ def lengths():
     wrong += [(whole,), (LENGTH,), (), (LENGTH, LENGTH, 1), (LENGTH, LENGTH, LENGTH), (whole, LENGTH)]
     for power in 8, 16, 32, 63, 64:
         wrap = 1 << power
-        some = (LENGTH, wrap + LENGTH), (wrap + LENGTH, LENGTH), (wrap - 1, whole + 1), (wrap - LENGTH, LENGTH + whole), (wrap // 2, wrap // 2 + whole)
-        wrong += [pair for pair in some if all(0 <= length < 1 << 64 for length in pair)]
-        wrong += [(wrap // 2, wrap // 2, LENGTH, LENGTH), (wrap // 4,) * 4 + (LENGTH, LENGTH), (LENGTH, wrap - 1, LENGTH, 1)]
-    wrong = [some for some in wrong if all(length < 1 << 64 for length in some)]
+        wrong += [(LENGTH, wrap + LENGTH), (wrap + LENGTH, LENGTH), (wrap - 1, whole + 1), (wrap - LENGTH, LENGTH + whole)]
+        wrong += [(wrap // 2, wrap // 2 + whole), (wrap // 2, wrap // 2, LENGTH, LENGTH), (wrap // 4,) * 4 + (LENGTH, LENGTH)]
+        wrong.append((LENGTH, wrap - 1, LENGTH, 1))
+    wrong = [some for some in wrong if all(0 <= length < 1 << 64 for length in some)]
     wrong += [((1 << 64) - 1,) * count for count in (1, 2, 16, 17)] + [(LENGTH, LENGTH) + (0,) * 15, (LENGTH, LENGTH) + (0,) * 14]
     for some in wrong:
         yield from built(asked(*two, lengths=some))
     # the lengths alone say where a set ends; 0 is a set too
-    for some in (0, whole), (whole, 0), (PAGE_SIZE, 3 * PAGE_SIZE), (3 * PAGE_SIZE, PAGE_SIZE), (1, whole - 1), (LENGTH, 0, LENGTH), (0, LENGTH, LENGTH):
+    right = [(0, whole), (whole, 0), (PAGE_SIZE, 3 * PAGE_SIZE), (3 * PAGE_SIZE, PAGE_SIZE), (1, whole - 1), (LENGTH, 0, LENGTH), (0, LENGTH, LENGTH)]
+    for some in right:
         yield from built(asked(*two, lengths=some))
     for some in (LENGTH, whole), (whole, LENGTH), (LENGTH, LENGTH, LENGTH), (LENGTH, LENGTH, LENGTH, 0), (LENGTH - 1, LENGTH, LENGTH + 1):
         yield from built(asked(*three, lengths=some))
@@ -242,7 +242,8 @@ def lookups():
             for enforce in False, True:
                 yield two, ('l', leaf, subleaf, enforce)
     unlike = set_to(5, 0, model.EAX, ALL)
-    for one in asked(MILAN), asked(MILAN, unlike), asked(MILAN, REFUSED[3]), asked(MILAN, MILAN, edition=3), asked(MILAN, MILAN, lengths=(1, 1)), asked():
+    without_a_table = [asked(), asked(MILAN), asked(MILAN, MILAN, lengths=(1, 1)), asked(MILAN, MILAN, edition=3)]
+    for one in [*without_a_table, asked(MILAN, REFUSED[3]), asked(MILAN, unlike)]:
         for leaf, subleaf in (0, None), (1, None), (1, 0), (STATE, 2), (0xB, 0):
             yield one, ('l', leaf, subleaf, False)
 

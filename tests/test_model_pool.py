@@ -315,7 +315,7 @@ class Properties(unittest.TestCase):
                         self.assertEqual(value, tables[0][1][key][register], (key, register))
 
     def test_greatest(self):
-        """ "a table whose feature bits and mask lie within every server's has none beyond the pool's": the tables of all servers, and of all pools. """
+        """ "a table whose feature bits and mask lie within every server's has none beyond the pool's": of all servers' tables, and all pools'. """
         found = {bits(table) for _, _, answer, tables in self.accepted for table in (answer, *tables)}
         met = 0
         for _, _, answer, tables in self.accepted:

@@ -18,8 +18,10 @@ pub struct NotPooled {
 /// The table that a guest keeps on every server of a pool: of the page sets of 2 to 16 servers, under the same options.
 ///
 /// A feature bit, an extended state or a row is there exactly where all servers' tables have it; D.0.ECX, the size of the save area, is that of the
-/// states that are left; every other register is the first server's, and so is where the rows came from. [`Refusal::PoolSets`] comes first; then the first refusal of a server, in their order; then [`Refusal::PoolDiffers`],
-/// where the servers differ, in a row that all their tables have, elsewhere than in feature bits or D.0.ECX.
+/// states that are left; every other register is the first server's, and so is where the rows came from.
+///
+/// [`Refusal::PoolSets`] comes first; then the first refusal of a server, in their order; then [`Refusal::PoolDiffers`], where the servers differ, in
+/// a row that all their tables have, elsewhere than in feature bits or D.0.ECX.
 ///
 /// ```
 /// use snp_cpuid::{NotPooled, Options, Refusal, build, pool};

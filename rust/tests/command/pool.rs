@@ -116,8 +116,8 @@ fn refusals_in_their_order() {
     let none = "(leaf 00000000, subleaf none, s 0)";
     let sets = format!("the pool: refusal 18: a pool has 2 to 16 page sets, and their lengths sum to the bytes handed over {none}");
     let differ = format!(
-        "the pool: refusal 19: the servers of the pool differ, in a row that all their tables have, elsewhere than in feature bits or the size of the \
-         save area {none}"
+        "the pool: refusal 19: the servers of the pool differ, in a row that all their tables have, elsewhere than in feature bits or the size of \
+         the save area {none}"
     );
     let own = "refusal 3: no entry for leaf Dh subleaf 2h on page 1, where the entries of Dh must stand (leaf 0000000D, subleaf 2, s 0)";
     let own = format!("{wrong}: {own}");
