@@ -1,5 +1,5 @@
 """Tests of make_pool.py: its list tells wrong readings of document 02, P12, from the right one."""
-from functools import cache
+from functools import cache, reduce
 from itertools import accumulate
 import unittest
 from unittest import mock
@@ -11,8 +11,11 @@ import model_pool
 from model_pool import check_alike, equal_bits, joined, lookup_origin, page_sets, pool
 
 ALL = 0xFFFFFFFF
-POOLS = list(dict.fromkeys(one for one, (letter, *_) in make_pool.questions() if letter == 'b'))
-LOOKUPS = [(one, rest) for one, (letter, *rest) in make_pool.questions() if letter == 'l']
+QUESTIONS = [*make_pool.questions()]
+LOOKUPS = [(one, rest) for one, (letter, *rest) in QUESTIONS if letter == 'l']
+# some of every group first, so that a wrong reading is soon told
+STEP = 41
+POOLS = [one for start in range(STEP) for one, question in QUESTIONS[start::STEP] if question == ('b',)]
 
 
 def answers(reading=pool):
@@ -22,7 +25,8 @@ def answers(reading=pool):
 
 def setUpModule():
     """The readings speak of pools: what single servers give is the same in all of them, and is asked once."""
-    built, entries = cache(model.build), cache(lambda *server: [(key, tuple(row)) for key, row in model_first_rows(*server).items()])
+    first_rows = model.first_rows
+    built, entries = cache(model.build), cache(lambda *server: [(key, tuple(row)) for key, row in first_rows(*server).items()])
     for name, known in ('build', built), ('first_rows', lambda *server: {key: list(row) for key, row in entries(*server)}):
         patched = mock.patch.object(model, name, known)
         patched.start()
@@ -30,9 +34,7 @@ def setUpModule():
     RIGHT.extend(answers())
 
 
-model_first_rows = model.first_rows
-
-
+# the answers by the model as it is
 RIGHT = []
 # registers that must be equal, and feature registers, of which one is read wrongly
 EQUAL = ((1, None), EAX), ((STATE, 0), EBX), ((STATE, 1), EBX), ((0x8000001D, 3), ECX)
@@ -46,10 +48,12 @@ class WrongReadings(unittest.TestCase):
                 self.assertTrue(any(old != new for old, new in zip(RIGHT, answers())), (name, number))
 
     def test_right(self):
-        def by_reading(pages, lengths):
-            return page_sets(pages, lengths)
-        with mock.patch.object(model_pool, 'page_sets', by_reading):
-            self.assertTrue(all(old == new for old, new in zip(RIGHT, answers())))
+        """The same in other words: joined one by one; a bit must be equal where demand 3 does not let it rise."""
+        def by_rises(key, register):
+            return sum(1 << bit for bit in range(32) if not model.register_rises(key, register, 0, 1 << bit))
+        with mock.patch.object(model_pool, 'joined', lambda entries: reduce(lambda pooled, other: joined([pooled, other]), entries)):
+            with mock.patch.object(model_pool, 'equal_bits', cache(by_rises)):
+                self.assertTrue(all(old == new for old, new in zip(RIGHT, answers())))
 
     def test_sets(self):
         """Other bounds; sums of 32 or 64 bits, short or long ones let pass; all sets as long as the first."""
