@@ -26,7 +26,7 @@ keeps-28 a b =
     let one : bit 28 (2 ^ 28) ≡ 1 = unfold bit in refl in
     omega (arith, bit-and 28 a (bitOr b (2 ^ 28)), bit-or 28 b (2 ^ 28), one, bit-lt 28 a, bit-lt 28 b)
 
-other-bits : (k : ℕ) → (k ≡ 28 → ⊥) → bit k (2 ^ 28) ≡ 0
+pub other-bits : (k : ℕ) → (k ≡ 28 → ⊥) → bit k (2 ^ 28) ≡ 0
 unfolding bit
 other-bits k n = go (ltb k 28) refl
   where

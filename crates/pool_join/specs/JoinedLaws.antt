@@ -217,5 +217,9 @@ module _ (edition : ℕ) where
             s,
           )
           (finish-join-at (settings edition (withServer a b)) (settings edition a) (settings edition b) (enabled-settings a b) refl refl a b i l
-          (λ r. (subst (λ (x : CpuidResult). unlessNoXss (settings edition (withServer a b) .enabled) (x .ecx) ≡ settings edition (withServer a b) .enabled .xss) s
-          (ends-as-xss (withServer a b) i l r), ends-as-xss a i l r, ends-as-xss b i l r)))
+          (λ r. (
+            subst (λ (x : CpuidResult). unlessNoXss (settings edition (withServer a b) .enabled) (x .ecx) ≡ settings edition (withServer a b) .enabled .xss) s
+                (ends-as-xss (withServer a b) i l r),
+            ends-as-xss a i l r,
+            ends-as-xss b i l r,
+          )))

@@ -1,0 +1,73 @@
+-- Two entries of 32-bit registers agree in the bits asked exactly where they are alike by their kinds.
+use mathlib.Core.Path.{_≡_, refl, sym, ap, ap₂, _∙_}
+use mathlib.Core.Bool.{Bool, true, false, _&&_}
+use Prim.Native.Nat.{ℕ, _-_, _^_, _<_}
+use native.Mathlib.Nat.{mod-eq-of-lt}
+use native.Mathlib.Omega.{arith}
+use lib.Dec.{eqb}
+use lib.Bits.{bitAnd, and-zero-r, and-mask}
+use lib.ListN.{getD}
+use borrow.Author.Tests.{eqb-true, eqb-false, eq-eqb}
+use Rattle.bits.specs.Bits.{bit}
+use Rattle.bits.specs.BitsLaws.{bit-and, bit-lt, bits-ext}
+use Rattle.bits.specs.ListsLaws.{getD-tabulate}
+use Rattle.x86defs.specs.declared.CpuidResult.{CpuidResult}
+use Rattle.x86defs.specs.Functions.{result}
+use Rattle.masking.specs.Kept.{places}
+use Rattle.table.specs.Fits.{Fits}
+use Rattle.update.specs.Kinds.{Kind, Kinds, kindsAt}
+use Rattle.update.specs.Kinds.Kind.{feature, featureBut28, area, freed, other}
+use Rattle.pool_join.specs.Alike.{alikeTest, registersAlike}
+use Rattle.pool_join.specs.AskedBits.{askedBits, askedResults, askedTable, agree, sameBits}
+use Rattle.pool_join.specs.EntryLaws.{other-bits}
+
+-- two tests that imply each other
+pub same-truth : (p q : Bool) → (p ≡ true → q ≡ true) → (q ≡ true → p ≡ true) → p ≡ q
+same-truth true q f g = sym (f refl)
+same-truth false true f g = g refl
+same-truth false false f g = refl
+
+-- ---- a register
+
+whole : (a : ℕ) → a < 2 ^ 32 → bitAnd a (2 ^ 32 - 1) ≡ a
+whole a h = and-mask a 32 ∙ mod-eq-of-lt h
+
+at-28 : (a : ℕ) → bit 28 (bitAnd a (2 ^ 28)) ≡ bit 28 a
+at-28 a =
+    let one : bit 28 (2 ^ 28) ≡ 1 = unfold bit in refl in
+    omega (arith, bit-and 28 a (2 ^ 28), one, bit-lt 28 a)
+
+only-28 : (a b : ℕ) → bit 28 a ≡ bit 28 b → bitAnd a (2 ^ 28) ≡ bitAnd b (2 ^ 28)
+only-28 a b e = bits-ext _ _ at-bit
+  where
+    at-bit : (k : ℕ) → bit k (bitAnd a (2 ^ 28)) ≡ bit k (bitAnd b (2 ^ 28))
+    at-bit k = go (eqb k 28) refl
+      where
+        go : (t : Bool) → eqb k 28 ≡ t → bit k (bitAnd a (2 ^ 28)) ≡ bit k (bitAnd b (2 ^ 28))
+        go true q = let p : k ≡ 28 = eqb-true k 28 q in rw p (at-28 a ∙ e ∙ sym (at-28 b))
+        go false q = omega (arith, bit-and k a (2 ^ 28), bit-and k b (2 ^ 28), other-bits k (eqb-false k 28 q))
+
+none-asked : (a b : ℕ) → agree 0 a b ≡ true
+none-asked a b = eq-eqb _ _ (and-zero-r a ∙ sym (and-zero-r b))
+
+agrees : (k : Kind) (a b : ℕ) → a < 2 ^ 32 → b < 2 ^ 32 → agree (askedBits k) a b ≡ alikeTest k a b
+agrees feature a b h l = none-asked a b
+agrees featureBut28 a b h l =
+    same-truth (agree (2 ^ 28) a b) (eqb (bit 28 a) (bit 28 b))
+    (λ e. eq-eqb _ _ (sym (at-28 a) ∙ ap (bit 28) (eqb-true _ _ e) ∙ at-28 b))
+    (λ e. eq-eqb _ _ (only-28 a b (eqb-true _ _ e)))
+agrees area a b h l = none-asked a b
+agrees freed a b h l = none-asked a b
+agrees other a b h l = ap₂ eqb (whole a h) (whole b l)
+
+-- ---- an entry
+
+pub same-alike : (k : Kinds) (a b : CpuidResult) → Fits a → Fits b → sameBits (askedResults k) a b ≡ registersAlike k a b
+same-alike k a b f g =
+    ap₂ _&&_ (agrees (k .eax) _ _ (f .eax) (g .eax))
+    (ap₂ _&&_ (agrees (k .ebx) _ _ (f .ebx) (g .ebx))
+    (ap₂ _&&_ (agrees (k .ecx) _ _ (f .ecx) (g .ecx)) (agrees (k .edx) _ _ (f .edx) (g .edx))))
+
+pub asked-at : (i : ℕ) → i < places → getD askedTable i (result 0 0 0 0) ≡ askedResults (kindsAt i)
+unfolding askedTable
+asked-at i l = getD-tabulate places (λ j. askedResults (kindsAt j)) i (result 0 0 0 0) l
