@@ -6,6 +6,3 @@ pub mod EntryLaws
 pub mod JoinedLaws
 pub mod PoolLaws
 pub mod AlikeLaws
-pub mod AskedBits
-pub mod AskedLaws
-pub mod CodeLaws

@@ -8,9 +8,9 @@ use lib.ListN.{getD}
 use Rattle.bits.specs.Choice.{pick}
 use Rattle.bits.specs.Search.{every}
 use Rattle.masking.specs.Kept.{places}
-use Rattle.pool_join.specs.CodeLaws.{every-passes, every-stops, every-ends}
-use Rattle.pool_join.proofs.all_alike.Statement.{statement}
-use Rattle.pool_join.proofs.all_alike.Tie as tie
+use Rattle.pool_rows.specs.CodeLaws.{every-passes, every-stops, every-ends}
+use Rattle.pool_rows.proofs.all_alike.Statement.{statement}
+use Rattle.pool_rows.proofs.all_alike.Tie as tie
 
 abbrev Inv-loop : tie.InvT-loop
 Inv-loop asked alike place₀ place = (place ≤ places) × (every (λ i. pick (getD asked i false) (getD alike i false) true) place ≡ true)

@@ -4,9 +4,9 @@ use mathlib.Core.Path.{refl}
 use Rattle.bits.specs.Lists.{tabulate}
 use Rattle.masking.specs.Kept.{keptLeaves, slot}
 use Rattle.update.specs.Kinds.{registerKinds, kindsAt}
-use Rattle.pool_join.specs.AskedBits.{askedTable}
-use Rattle.pool_join.proofs.asked_bits.Statement.{statement}
-use Rattle.pool_join.proofs.asked_bits.Tie as tie
+use Rattle.pool_rows.specs.AskedBits.{askedTable}
+use Rattle.pool_rows.proofs.asked_bits.Statement.{statement}
+use Rattle.pool_rows.proofs.asked_bits.Tie as tie
 
 returns : tie.Need-returns
 unfolding askedTable tabulate kindsAt registerKinds slot keptLeaves

@@ -5,9 +5,9 @@ use Prim.Native.Nat.{_-_, _≤_}
 use native.Mathlib.Omega.{arith}
 use lib.ListN.{length, length-map}
 use Rattle.masking.specs.Kept.{places}
-use Rattle.pool_join.specs.CodeLaws.{Testing, testing-starts, testing-next, testing-ends}
-use Rattle.pool_join.proofs.still_alike.Statement.{statement}
-use Rattle.pool_join.proofs.still_alike.Tie as tie
+use Rattle.pool_rows.specs.CodeLaws.{Testing, testing-starts, testing-next, testing-ends}
+use Rattle.pool_rows.proofs.still_alike.Statement.{statement}
+use Rattle.pool_rows.proofs.still_alike.Tie as tie
 
 abbrev Inv-loop : tie.InvT-loop
 Inv-loop asked alike t u out₀ place₀ out place = (place ≤ places) × Testing asked alike t u out place

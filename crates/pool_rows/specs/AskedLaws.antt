@@ -17,9 +17,9 @@ use Rattle.masking.specs.Kept.{places}
 use Rattle.table.specs.Fits.{Fits}
 use Rattle.update.specs.Kinds.{Kind, Kinds, kindsAt}
 use Rattle.update.specs.Kinds.Kind.{feature, featureBut28, area, freed, other}
 use Rattle.pool_join.specs.Alike.{alikeTest, registersAlike}
-use Rattle.pool_join.specs.AskedBits.{askedBits, askedResults, askedTable, agree, sameBits}
+use Rattle.pool_rows.specs.AskedBits.{askedBits, askedResults, askedTable, agree, sameBits}
 use Rattle.pool_join.specs.EntryLaws.{other-bits}
 
 -- two tests that imply each other
 pub same-truth : (p q : Bool) → (p ≡ true → q ≡ true) → (q ≡ true → p ≡ true) → p ≡ q

@@ -4,9 +4,9 @@ use mathlib.Core.Path.{_≡_, refl}
 use lib.ListN.{length, length-map}
 use Rattle.masking.specs.Kept.{keptLeaves, slot}
 use Rattle.update.specs.Kinds.{registerKinds, kindsAt}
-use Rattle.pool_join.specs.CodeLaws.{joined-rows}
-use Rattle.pool_join.proofs.with_server.Statement.{statement}
-use Rattle.pool_join.proofs.with_server.Tie as tie
+use Rattle.pool_rows.specs.CodeLaws.{joined-rows}
+use Rattle.pool_rows.proofs.with_server.Statement.{statement}
+use Rattle.pool_rows.proofs.with_server.Tie as tie
 
 first-length : (c : tie.Start) → length (c .args .t1 .results) ≡ 88
 first-length c = simp length-map at (c .good .0 .1 .1 .1 .0 .1 .0 .1)
