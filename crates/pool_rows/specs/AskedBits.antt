@@ -1,10 +1,12 @@
 -- The test of 19 as the code makes it: two entries at a place are alike where they agree in the bits asked of its kinds.
-use mathlib.Core.Bool.{Bool, false, _&&_}
+use mathlib.Core.Bool.{Bool, true, false, _&&_}
 use mathlib.Core.List.{List}
 use Prim.Native.Nat.{ℕ, _-_, _^_}
 use lib.Dec.{eqb}
 use lib.Bits.{bitAnd}
 use lib.ListN.{getD}
+use Rattle.bits.specs.Choice.{pick}
+use Rattle.bits.specs.Search.{every}
 use Rattle.bits.specs.Lists.{tabulate}
 use Rattle.x86defs.specs.declared.CpuidResult.{CpuidResult}
 use Rattle.x86defs.specs.Functions.{result}
@@ -38,3 +40,7 @@ sameBits m a b =
 -- the places that were alike so far and at which two row sets agree
 unfoldable pub stillAlike : List CpuidResult → List Bool → Rows → Rows → List Bool
 stillAlike asked alike a b = tabulate places (λ i. getD alike i false && sameBits (getD asked i (result 0 0 0 0)) (a i .result) (b i .result))
+
+-- whether every place that is asked is alike
+unfoldable pub alikeWhere : List Bool → List Bool → Bool
+alikeWhere asked alike = every (λ i. pick (getD asked i false) (getD alike i false) true) places

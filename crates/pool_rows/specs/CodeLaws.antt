@@ -8,6 +8,7 @@ use native.Mathlib.Omega.{arith}
 use lib.Dec.{ltb}
 use lib.ListN.{length, getD, set, List·getD-eq-default}
 use borrow.Author.Tests.{ltb-true, ltb-false}
+use Rattle.bits.specs.Choice.{pick}
 use Rattle.bits.specs.ChoiceLaws.{and-both, never-both}
 use Rattle.bits.specs.Search.{every}
 use Rattle.bits.specs.SearchLaws.{every-at}
@@ -22,7 +23,7 @@ use Rattle.update.specs.Kinds.{Kind, Kinds, registerKinds, kindsAt}
 use Rattle.update.specs.Kinds.Kind.{feature, featureBut28, area, freed, other}
 use Rattle.update.specs.DropLaws.{UpTo, up-to-next}
 use Rattle.pool_join.specs.Join.{pooled, pooledResults, withServer}
-use Rattle.pool_rows.specs.AskedBits.{sameBits, stillAlike}
+use Rattle.pool_rows.specs.AskedBits.{sameBits, stillAlike, alikeWhere}
 
 -- ---- the eight stores
 
@@ -110,18 +111,29 @@ module _ (asked : List CpuidResult) (alike : List Bool) (t u : CpuidResults) whe
   unfolding stillAlike
   testing-ends out i e n d = tabulated places _ out false (d .size ∙ n) (λ j h. d .below j (omega arith))
 
--- ---- whether a test holds at every place, in the terms of a loop that counts up and stops at the first that fails
+-- ---- whether every place that is asked is alike, in the terms of a loop that counts up and stops at the first that is not
 
-module _ (test : ℕ → Bool) where
-  pub every-passes : (i : ℕ) → every test i ≡ true → test i ≡ true → every test (i + 1) ≡ true
-  every-passes i e f = rw (add-one, every) (and-both f e)
+module _ (asked alike : List Bool) where
+  abbrev test : ℕ → Bool
+  test i = pick (getD asked i false) (getD alike i false) true
 
-  pub every-stops : (i n : ℕ) → i < n → test i ≡ false → false ≡ every test n
-  every-stops i n l e = go (every test n) refl
+  abbrev pub AlikeBelow : ℕ → Type 0
+  AlikeBelow i = every test i ≡ true
+
+  pub where-starts : AlikeBelow 0
+  where-starts = refl
+
+  pub where-next : (i : ℕ) → AlikeBelow i → test i ≡ true → AlikeBelow (i + 1)
+  where-next i e f = rw (add-one, every) (and-both f e)
+
+  pub where-stops : (i : ℕ) → i < places → test i ≡ false → false ≡ alikeWhere asked alike
+  unfolding alikeWhere
+  where-stops i l e = go (every test places) refl
     where
-      go : (b : Bool) → every test n ≡ b → false ≡ every test n
-      go true f = absurd (never-both (every-at test n f i l) e)
+      go : (b : Bool) → every test places ≡ b → false ≡ every test places
+      go true f = absurd (never-both (every-at test places f i l) e)
       go false f = sym f
 
-  pub every-ends : (i n : ℕ) → i ≡ n → every test i ≡ true → true ≡ every test n
-  every-ends i n e f = sym (ap (every test) (sym e) ∙ f)
+  pub where-ends : (i : ℕ) → i ≡ places → AlikeBelow i → true ≡ alikeWhere asked alike
+  unfolding alikeWhere
+  where-ends i e f = sym (ap (every test) (sym e) ∙ f)

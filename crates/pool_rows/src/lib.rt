@@ -5,24 +5,76 @@ use masking::place;
 use table::CpuidResults;
 use x86defs::CpuidResult;
 ghost use mathlib.Core.Path.{_≡_};
-ghost use mathlib.Core.Bool.{true, false};
-ghost use lib.Bits.{bitAnd};
-ghost use lib.ListN.{getD};
+ghost use mathlib.Core.Bool.{true};
+ghost use Prim.Native.Nat.{_^_};
+ghost use lib.Bits.{bitAnd, bitOr};
 ghost use Rattle.bits.specs.Choice.{pick};
-ghost use Rattle.bits.specs.Search.{every};
-ghost use Rattle.bits.specs.Lists.{tabulate};
 ghost use Rattle.x86defs.specs.Functions.{result};
-ghost use Rattle.masking.specs.Kept.{places};
-ghost use Rattle.table.specs.Table.{rowIn, rowsIn};
+ghost use Rattle.table.specs.Table.{rowsIn};
 ghost use Rattle.pool_join.specs.Join.{withServer};
-ghost use Rattle.pool_rows.specs.AskedBits.{askedTable, sameBits, stillAlike};
+ghost use Rattle.pool_rows.specs.AskedBits.{askedTable, sameBits, stillAlike, alikeWhere};
 
 // Bit 28 of 1.EDX, which is no feature.
 const MT_PER_SOCKET: u32 = 0x10000000;
 
 const ALL_BITS: u32 = 0xFFFFFFFF;
 
-// EAX by and, all else the first's.
+// Leaf 1: ECX and EDX by and, but bit 28.
+fn join_version(a: CpuidResult, b: CpuidResult) -> CpuidResult
+    ensures { λ r. ⌜ r ≡ result (a .eax) (a .ebx) (bitAnd (a .ecx) (b .ecx)) (bitAnd (a .edx) (bitOr (b .edx) (2 ^ 28))) ⌝ }
+{
+    CpuidResult {
+        ecx: a.ecx & b.ecx,
+        edx: a.edx & (b.edx | MT_PER_SOCKET),
+        ..a
+    }
+}
+
+// Leaf 7: EBX, ECX and EDX.
+fn join_features(a: CpuidResult, b: CpuidResult) -> CpuidResult
+    ensures { λ r. ⌜ r ≡ result (a .eax) (bitAnd (a .ebx) (b .ebx)) (bitAnd (a .ecx) (b .ecx)) (bitAnd (a .edx) (b .edx)) ⌝ }
+{
+    CpuidResult {
+        ebx: a.ebx & b.ebx,
+        ecx: a.ecx & b.ecx,
+        edx: a.edx & b.edx,
+        ..a
+    }
+}
+
+// D.1: EAX and ECX.
+fn join_state1(a: CpuidResult, b: CpuidResult) -> CpuidResult
+    ensures { λ r. ⌜ r ≡ result (bitAnd (a .eax) (b .eax)) (a .ebx) (bitAnd (a .ecx) (b .ecx)) (a .edx) ⌝ }
+{
+    CpuidResult {
+        eax: a.eax & b.eax,
+        ecx: a.ecx & b.ecx,
+        ..a
+    }
+}
+
+// Leaf 80000001h: ECX and EDX.
+fn join_extended_version(a: CpuidResult, b: CpuidResult) -> CpuidResult
+    ensures { λ r. ⌜ r ≡ result (a .eax) (a .ebx) (bitAnd (a .ecx) (b .ecx)) (bitAnd (a .edx) (b .edx)) ⌝ }
+{
+    CpuidResult {
+        ecx: a.ecx & b.ecx,
+        edx: a.edx & b.edx,
+        ..a
+    }
+}
+
+// Leaf 80000008h: EBX.
+fn join_sizes(a: CpuidResult, b: CpuidResult) -> CpuidResult
+    ensures { λ r. ⌜ r ≡ result (a .eax) (bitAnd (a .ebx) (b .ebx)) (a .ecx) (a .edx) ⌝ }
+{
+    CpuidResult {
+        ebx: a.ebx & b.ebx,
+        ..a
+    }
+}
+
+// D.0, 8000001Ah and 8000001Fh: EAX.
 fn join_eax(a: CpuidResult, b: CpuidResult) -> CpuidResult
     ensures { λ r. ⌜ r ≡ result (bitAnd (a .eax) (b .eax)) (a .ebx) (a .ecx) (a .edx) ⌝ }
 {
@@ -36,51 +88,41 @@ fn join_eax(a: CpuidResult, b: CpuidResult) -> CpuidResult
 pub fn with_server(t: CpuidResults, u: CpuidResults) -> CpuidResults
     ensures { λ r. ⌜ rowsIn r ≡ withServer (rowsIn t) (rowsIn u) ⌝ }
 {
-    let version = t.results[place::VERSION_AND_FEATURES];
-    let version_b = u.results[place::VERSION_AND_FEATURES];
-    let features = t.results[place::EXTENDED_FEATURES];
-    let features_b = u.results[place::EXTENDED_FEATURES];
-    let state0 = t.results[place::EXTENDED_STATE_0];
-    let state0_b = u.results[place::EXTENDED_STATE_0];
-    let state1 = t.results[place::EXTENDED_STATE_1];
-    let state1_b = u.results[place::EXTENDED_STATE_1];
-    let extended_version = t.results[place::EXTENDED_VERSION_AND_FEATURES];
-    let extended_version_b = u.results[place::EXTENDED_VERSION_AND_FEATURES];
-    let sizes = t.results[place::EXTENDED_ADDRESS_SPACE_SIZES];
-    let sizes_b = u.results[place::EXTENDED_ADDRESS_SPACE_SIZES];
-    let optimization = t.results[place::EXTENDED_OPTIMIZATION_IDENTIFIERS];
-    let optimization_b = u.results[place::EXTENDED_OPTIMIZATION_IDENTIFIERS];
-    let sev = t.results[place::EXTENDED_SEV_FEATURES];
-    let sev_b = u.results[place::EXTENDED_SEV_FEATURES];
+    let a = t.results;
+    let b = u.results;
     let mut out = t;
-    out.results[place::VERSION_AND_FEATURES] = CpuidResult {
-        ecx: version.ecx & version_b.ecx,
-        edx: version.edx & (version_b.edx | MT_PER_SOCKET),
-        ..version
-    };
-    out.results[place::EXTENDED_FEATURES] = CpuidResult {
-        ebx: features.ebx & features_b.ebx,
-        ecx: features.ecx & features_b.ecx,
-        edx: features.edx & features_b.edx,
-        ..features
-    };
-    out.results[place::EXTENDED_STATE_0] = join_eax(state0, state0_b);
-    out.results[place::EXTENDED_STATE_1] = CpuidResult {
-        eax: state1.eax & state1_b.eax,
-        ecx: state1.ecx & state1_b.ecx,
-        ..state1
-    };
-    out.results[place::EXTENDED_VERSION_AND_FEATURES] = CpuidResult {
-        ecx: extended_version.ecx & extended_version_b.ecx,
-        edx: extended_version.edx & extended_version_b.edx,
-        ..extended_version
-    };
-    out.results[place::EXTENDED_ADDRESS_SPACE_SIZES] = CpuidResult {
-        ebx: sizes.ebx & sizes_b.ebx,
-        ..sizes
-    };
-    out.results[place::EXTENDED_OPTIMIZATION_IDENTIFIERS] = join_eax(optimization, optimization_b);
-    out.results[place::EXTENDED_SEV_FEATURES] = join_eax(sev, sev_b);
+    out.results[place::VERSION_AND_FEATURES] = join_version(
+        a[place::VERSION_AND_FEATURES],
+        b[place::VERSION_AND_FEATURES],
+    );
+    out.results[place::EXTENDED_FEATURES] = join_features(
+        a[place::EXTENDED_FEATURES],
+        b[place::EXTENDED_FEATURES],
+    );
+    out.results[place::EXTENDED_STATE_0] = join_eax(
+        a[place::EXTENDED_STATE_0],
+        b[place::EXTENDED_STATE_0],
+    );
+    out.results[place::EXTENDED_STATE_1] = join_state1(
+        a[place::EXTENDED_STATE_1],
+        b[place::EXTENDED_STATE_1],
+    );
+    out.results[place::EXTENDED_VERSION_AND_FEATURES] = join_extended_version(
+        a[place::EXTENDED_VERSION_AND_FEATURES],
+        b[place::EXTENDED_VERSION_AND_FEATURES],
+    );
+    out.results[place::EXTENDED_ADDRESS_SPACE_SIZES] = join_sizes(
+        a[place::EXTENDED_ADDRESS_SPACE_SIZES],
+        b[place::EXTENDED_ADDRESS_SPACE_SIZES],
+    );
+    out.results[place::EXTENDED_OPTIMIZATION_IDENTIFIERS] = join_eax(
+        a[place::EXTENDED_OPTIMIZATION_IDENTIFIERS],
+        b[place::EXTENDED_OPTIMIZATION_IDENTIFIERS],
+    );
+    out.results[place::EXTENDED_SEV_FEATURES] = join_eax(
+        a[place::EXTENDED_SEV_FEATURES],
+        b[place::EXTENDED_SEV_FEATURES],
+    );
     out
 }
 
@@ -178,7 +220,7 @@ fn alike_where(asked: bool, alike: bool) -> bool
 
 // Whether every place that is asked is alike.
 pub fn all_alike(asked: [bool; PLACES], alike: [bool; PLACES]) -> bool
-    ensures { λ r. ⌜ r ≡ every (λ i. pick (getD asked i false) (getD alike i false) true) places ⌝ }
+    ensures { λ r. ⌜ r ≡ alikeWhere asked alike ⌝ }
 {
     let mut place: usize = 0;
     while place < PLACES {
