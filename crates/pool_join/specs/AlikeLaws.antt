@@ -1,5 +1,5 @@
 -- The computed test of 19 says what its words say.
-use mathlib.Core.Path.{_≡_, refl}
+use mathlib.Core.Path.{_≡_, refl, sym}
 use mathlib.Core.Bool.{Bool, true, false}
 use Prim.Native.Nat.{ℕ, zero, suc, _≤_, _<_}
 use native.Mathlib.Omega.{arith}
@@ -14,8 +14,11 @@ use Rattle.masking.specs.Kept.{places}
 use Rattle.table.specs.Rows.{Rows}
 use Rattle.update.specs.Kinds.{Kind, Kinds, Registers, kindsAt}
 use Rattle.update.specs.Kinds.Kind.{feature, featureBut28, area, freed, other}
+use Rattle.pool_join.specs.Join.{pool}
 use Rattle.pool_join.specs.Alike.{Alike, alikeTest, registersAlike, allHave, alikeTo, allAlike, AlikeAt, AllAlike}
 use Rattle.pool_join.specs.RunLaws.{all-at, all-of}
+use Rattle.pool_join.specs.EntryLaws.{registers-refl, registers-both}
+use Rattle.pool_join.specs.PoolLaws.{like-first}
 
 test-alike : (k : Kind) (a b : ℕ) → alikeTest k a b ≡ true → Alike k a b
 test-alike feature a b e = tt
@@ -50,6 +53,12 @@ registers-test k a b h =
     and-both (alike-test (k .eax) _ _ (h .eax))
     (and-both (alike-test (k .ebx) _ _ (h .ebx)) (and-both (alike-test (k .ecx) _ _ (h .ecx)) (alike-test (k .edx) _ _ (h .edx))))
 
+-- two tests that imply each other
+pub same-truth : (p q : Bool) → (p ≡ true → q ≡ true) → (q ≡ true → p ≡ true) → p ≡ q
+same-truth true q f g = sym (f refl)
+same-truth false true f g = g refl
+same-truth false false f g = refl
+
 -- a test that holds of every number below n
 pub every-of : (test : ℕ → Bool) (n : ℕ) → ((i : ℕ) → i < n → test i ≡ true) → every test n ≡ true
 every-of test zero h = refl
@@ -81,3 +90,12 @@ module _ (edition : ℕ) (f : ℕ → Rows) (n : ℕ) where
       go : (i : ℕ) → i < places → (b : Bool) → allHave edition f n i ≡ b → pick b (alikeTo f n i) true ≡ true
       go i l true h = at-alike f n i (a i l h)
       go i l false h = refl
+
+-- the joined entries stand for the first's
+pub alike-first : (f : ℕ → Rows) (n i : ℕ) (r : CpuidResult) → registersAlike (kindsAt i) (pool f n i .result) r ≡ registersAlike (kindsAt i) (f 0 i .result) r
+alike-first f n i r =
+    let k : Kinds = kindsAt i in
+    let p : Registers Alike k (f 0 i .result) (pool f n i .result) = like-first f n i in
+    same-truth _ _
+    (λ e. registers-test k _ _ (registers-both k (registers-both k p (registers-refl k (f 0 i .result))) (test-registers k _ _ e)))
+    (λ e. registers-test k _ _ (registers-both k p (test-registers k _ _ e)))

@@ -1,0 +1,5 @@
+pub mod Sets
+pub mod Pool
+pub mod Servers
+pub mod SetsLaws
+pub mod ServersLaws

@@ -1,0 +1,32 @@
+-- What the code's steps give: one server by itself, and all of them joined.
+use mathlib.Core.Path.{_≡_}
+use mathlib.Core.Bool.{Bool}
+use mathlib.Core.List.{List}
+use Prim.Native.Nat.{ℕ}
+use Rattle.bits.specs.Lists.{tabulate}
+use Rattle.masking.specs.Kept.{places}
+use Rattle.table.specs.declared.Choices.{Choices}
+use Rattle.table.specs.declared.CpuidResults.{CpuidResults}
+use Rattle.table.specs.declared.Verdict.{Verdict}
+use Rattle.table.specs.declared.Verdict.the-variants.{Accepted, Refused}
+use Rattle.table.specs.Table.{emptyTable, rowsIn}
+use Rattle.collect.specs.Collect.{collected}
+use Rattle.build.specs.Build.{answer}
+use Rattle.pool_join.specs.Alike.{alikeTo}
+use Rattle.pool.specs.declared.Server.{Server}
+use Rattle.pool.specs.declared.Joined.{Joined}
+use Rattle.pool.specs.Sets.{lastOf}
+use Rattle.pool.specs.Pool.{serverRows, firstRefused, serversVerdict, numberOf, poolRows}
+
+abbrev pub tableGiven : Verdict → CpuidResults → CpuidResults
+tableGiven Accepted t = t
+tableGiven (Refused r) t = emptyTable
+
+unfoldable pub serverOf : Choices → List ℕ → Server
+serverOf c s = record { verdict = answer c s .verdict; table = tableGiven (answer c s .verdict) (collected (c .«secure_avic») s) }
+
+pub record JoinsRest (c : Choices) (pages lengths : List ℕ) (r : Joined) : Type 0 where
+  pub verdict : r .verdict ≡ serversVerdict c pages lengths
+  pub server : r .server ≡ numberOf (firstRefused c pages lengths)
+  pub rows : r .verdict ≡ Accepted → rowsIn (r .table) ≡ poolRows c pages lengths
+  pub alike : r .verdict ≡ Accepted → r .alike ≡ tabulate places (λ i. alikeTo (serverRows c pages lengths) (lastOf lengths) i)

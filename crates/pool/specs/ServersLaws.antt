@@ -1,0 +1,149 @@
+-- The code's steps: one server by itself, and the servers after the first, one a turn.
+use mathlib.Core.Path.{_≡_, refl, sym, ap, ap₂, _∙_}
+use mathlib.Core.Bool.{Bool, true, false}
+use mathlib.Core.List.{List}
+use Prim.Native.Nat.{ℕ, zero, suc, _+_, _-_, _≤_, _<_}
+use native.Mathlib.Omega.{arith}
+use lib.ListN.{length, replicate}
+use Rattle.bits.specs.Search.{Failing, lowest}
+use Rattle.bits.specs.Search.Failing.{at, none}
+use Rattle.bits.specs.SearchLaws.{lowest-passes, lowest-stops, lowest-ends}
+use Rattle.masking.specs.Kept.{places}
+use Rattle.table.specs.declared.Choices.{Choices}
+use Rattle.table.specs.declared.CpuidResults.{CpuidResults}
+use Rattle.table.specs.declared.Refusal.{Refusal}
+use Rattle.table.specs.declared.Refusal.the-variants.{UnknownEdition}
+use Rattle.table.specs.declared.Verdict.{Verdict}
+use Rattle.table.specs.declared.Verdict.the-variants.{Accepted, Refused}
+use Rattle.table.specs.Edition.{knownEdition}
+use Rattle.table.specs.Rows.{Rows}
+use Rattle.table.specs.Table.{emptyTable, rowsIn}
+use Rattle.checks.specs.Checks.{rowsVerdict}
+use Rattle.collect.specs.Collect.{collected, collected-rows}
+use Rattle.collect.specs.RowsFit.{rows-fit}
+use Rattle.build.specs.Built.{builtFrom}
+use Rattle.build.specs.Build.{editionVerdict, lawfulVerdict, rowsFor, verdictOf, answer}
+use Rattle.pool_join.specs.Join.{withServer, pool}
+use Rattle.pool_rows.specs.AskedBits.{askedTable, stillAlike}
+use Rattle.pool_rows.specs.AskedLaws.{alikeFlags, flags-first, flags-next}
+use Rattle.pool.specs.declared.Server.{Server}
+use Rattle.pool.specs.declared.Joined.{Joined}
+use Rattle.pool.specs.Sets.{setAt, lastOf}
+use Rattle.pool.specs.Pool.{serverVerdict, serverRows, isAccepted, firstRefused, refusedBy, serversVerdict, numberOf, poolRows}
+use Rattle.pool.specs.Servers.{tableGiven, serverOf, JoinsRest}
+
+-- ---- one server
+
+abbrev pub refusedServer : Refusal → Server
+refusedServer r = record { verdict = Refused r; table = emptyTable }
+
+module _ (c : Choices) (s : List ℕ) where
+  server-with : {v : Verdict} → verdictOf c s ≡ v → serverOf c s ≡ record { verdict = v; table = tableGiven v (collected (c .«secure_avic») s) }
+  unfolding serverOf answer
+  server-with e = ap (λ (x : Verdict). record { verdict = x; table = tableGiven x (collected (c .«secure_avic») s) }) e
+
+  pub server-unknown : knownEdition (c .edition) ≡ false → {q : Server} → q ≡ refusedServer UnknownEdition → q ≡ serverOf c s
+  server-unknown k g = g ∙ sym (server-with (unfold verdictOf editionVerdict in rw k))
+
+  module _ (k : knownEdition (c .edition) ≡ true) {v : Verdict} (e : v ≡ lawfulVerdict s) where
+    pub server-unlawful : {r : Refusal} → v ≡ Refused r → {q : Server} → q ≡ refusedServer r → q ≡ serverOf c s
+    server-unlawful f g = g ∙ sym (server-with (unfold verdictOf editionVerdict in rw (k, ← e, f)))
+
+    -- w is the verdict on the collected rows
+    module _ (f : v ≡ Accepted) {t : CpuidResults} {w : Verdict} (g : t ≡ collected (c .«secure_avic») s) (h : w ≡ rowsVerdict (rowsIn t)) where
+      rows-verdict : verdictOf c s ≡ w
+      unfolding verdictOf editionVerdict
+      rows-verdict = rw (k, ← e, f) (sym (h ∙ ap rowsVerdict (ap rowsIn g ∙ collected-rows (c .«secure_avic») s)))
+
+      pub server-refused : {r : Refusal} → w ≡ Refused r → {q : Server} → q ≡ refusedServer r → q ≡ serverOf c s
+      server-refused p q = q ∙ sym (server-with (rows-verdict ∙ p))
+
+      pub server-accepted : w ≡ Accepted → record { verdict = Accepted; table = t } ≡ serverOf c s
+      server-accepted p = ap (λ (x : CpuidResults). record { verdict = Accepted; table = x }) g ∙ sym (server-with (rows-verdict ∙ p))
+
+  -- what the step says of the server
+  pub server-verdict : {x : Server} → x ≡ serverOf c s → x .verdict ≡ answer c s .verdict
+  unfolding serverOf
+  server-verdict e = ap (λ (y : Server). y .verdict) e
+
+  pub server-rows : {x : Server} → x ≡ serverOf c s → x .verdict ≡ Accepted → rowsIn (x .table) ≡ rowsFor c s
+  unfolding serverOf
+  server-rows {x} e p =
+      ap (λ (y : Server). rowsIn (y .table)) e
+      ∙ ap (λ (v : Verdict). rowsIn (tableGiven v (collected (c .«secure_avic») s))) (sym (server-verdict e) ∙ p)
+      ∙ collected-rows (c .«secure_avic») s
+
+-- ---- the servers after the first
+
+abbrev pub refusedJoined : Refusal → ℕ → Joined
+refusedJoined r k = record { verdict = Refused r; server = k; table = emptyTable; alike = replicate places false }
+
+module _ (c : Choices) (pages lengths : List ℕ) where
+  abbrev f : ℕ → Rows
+  f = serverRows c pages lengths
+
+  abbrev test : ℕ → Bool
+  test k = isAccepted (serverVerdict c pages lengths k)
+
+  -- before server k: none is refused so far, and their entries are joined
+  pub record Joining (k : ℕ) (t : CpuidResults) (alike : List Bool) : Type 0 where
+    pub passed : firstRefused c pages lengths ≡ lowest test k (length lengths - k)
+    pub rows : rowsIn t ≡ pool f (k - 1)
+    pub flags : alike ≡ alikeFlags f (k - 1)
+
+  pub joining-starts : 2 ≤ length lengths → serverVerdict c pages lengths 0 ≡ Accepted → (t : CpuidResults) → rowsIn t ≡ f 0
+      → Joining 1 t (replicate places true)
+  unfolding firstRefused pool
+  joining-starts l e t r =
+      let whole : length lengths ≡ length lengths - 0 = omega arith in
+      record {
+        passed = ap (lowest test 0) whole ∙ lowest-passes test (length lengths) 0 (omega arith) (ap isAccepted e);
+        rows = r;
+        flags = flags-first f;
+      }
+
+  pub joining-next : (k : ℕ) (t u w : CpuidResults) (alike found : List Bool) → 1 ≤ k → k < length lengths → serverVerdict c pages lengths k ≡ Accepted
+      → rowsIn u ≡ f k → found ≡ stillAlike askedTable alike (rowsIn t) (rowsIn u) → rowsIn w ≡ withServer (rowsIn t) (rowsIn u)
+      → Joining k t alike → Joining (k + 1) w found
+  unfolding pool
+  joining-next k t u w alike found l h e q p r j =
+      let s : k ≡ suc (k - 1) = omega arith in
+      let s₁ : k + 1 - 1 ≡ suc (k - 1) = omega arith in
+      let q₁ : rowsIn u ≡ f (suc (k - 1)) = q ∙ ap f s in
+      record {
+        passed = j .passed ∙ lowest-passes test (length lengths) k h (ap isAccepted e);
+        rows = r ∙ ap₂ withServer (j .rows) q₁ ∙ sym (ap (pool f) s₁);
+        flags =
+            p
+            ∙ flags-next f (k - 1) (λ a b. rows-fit (c .«secure_avic») (setAt pages lengths a) b) (j .flags) (j .rows) q₁
+            ∙ sym (ap (alikeFlags f) s₁);
+      }
+
+  found-verdict : {x : Failing} → firstRefused c pages lengths ≡ x → serversVerdict c pages lengths ≡ refusedBy x (serverVerdict c pages lengths)
+  unfolding serversVerdict
+  found-verdict e = ap (λ (y : Failing). refusedBy y (serverVerdict c pages lengths)) e
+
+  -- server k is refused
+  pub joining-refuses : (k : ℕ) (t : CpuidResults) (alike : List Bool) {r : Refusal} {q : Joined} → k < length lengths
+      → serverVerdict c pages lengths k ≡ Refused r → q ≡ refusedJoined r k → Joining k t alike → JoinsRest c pages lengths q
+  joining-refuses k t alike {r} {q} l e g j =
+      let p : firstRefused c pages lengths ≡ at k = j .passed ∙ lowest-stops test (length lengths) k l (ap isAccepted e) in
+      let no : q .verdict ≡ Accepted → ⊥ = λ h. absurd (let z : _≡_ {A = ℕ} 0 1 = cc in omega arith) in
+      record {
+        verdict = ap (λ (x : Joined). x .verdict) g ∙ sym (found-verdict p ∙ e);
+        server = ap (λ (x : Joined). x .server) g ∙ sym (ap numberOf p);
+        rows = λ h. absurd (no h);
+        alike = λ h. absurd (no h);
+      }
+
+  -- all servers pass
+  pub joining-ends : (k : ℕ) (t : CpuidResults) (alike : List Bool) → k ≡ length lengths → Joining k t alike
+      → JoinsRest c pages lengths (record { verdict = Accepted; server = 0; table = t; alike = alike })
+  joining-ends k t alike e j =
+      let p : firstRefused c pages lengths ≡ none = j .passed ∙ lowest-ends test (length lengths) k (omega arith) in
+      record {
+        verdict = sym (found-verdict p);
+        server = sym (ap numberOf p);
+        rows = λ h. j .rows ∙ ap (λ (n : ℕ). pool f (n - 1)) e;
+        alike = λ h. j .flags ∙ ap (λ (n : ℕ). alikeFlags f (n - 1)) e;
+      }
