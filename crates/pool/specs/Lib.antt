@@ -3,3 +3,4 @@ pub mod Pool
 pub mod Servers
 pub mod SetsLaws
 pub mod ServersLaws
+pub mod PooledLaws

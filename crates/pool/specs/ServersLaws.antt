@@ -9,6 +9,7 @@ use Rattle.bits.specs.Search.{Failing, lowest}
 use Rattle.bits.specs.Search.Failing.{at, none}
 use Rattle.bits.specs.SearchLaws.{lowest-passes, lowest-stops, lowest-ends}
 use Rattle.masking.specs.Kept.{places}
+use Rattle.x86defs.specs.declared.CpuidResult.{CpuidResult}
 use Rattle.table.specs.declared.Choices.{Choices}
 use Rattle.table.specs.declared.CpuidResults.{CpuidResults}
 use Rattle.table.specs.declared.Refusal.{Refusal}
@@ -17,7 +18,7 @@ use Rattle.table.specs.declared.Verdict.{Verdict}
 use Rattle.table.specs.declared.Verdict.the-variants.{Accepted, Refused}
 use Rattle.table.specs.Edition.{knownEdition}
 use Rattle.table.specs.Rows.{Rows}
-use Rattle.table.specs.Table.{emptyTable, rowsIn}
+use Rattle.table.specs.Table.{rowsIn}
 use Rattle.checks.specs.Checks.{rowsVerdict}
 use Rattle.collect.specs.Collect.{collected, collected-rows}
 use Rattle.collect.specs.RowsFit.{rows-fit}
@@ -30,12 +31,9 @@ use Rattle.pool.specs.declared.Server.{Server}
 use Rattle.pool.specs.declared.Joined.{Joined}
 use Rattle.pool.specs.Sets.{setAt, lastOf}
 use Rattle.pool.specs.Pool.{serverVerdict, serverRows, isAccepted, firstRefused, refusedBy, serversVerdict, numberOf, poolRows}
-use Rattle.pool.specs.Servers.{tableGiven, serverOf, JoinsRest}
+use Rattle.pool.specs.Servers.{tableGiven, serverOf, JoinsRest, refusedServer, refusedJoined}
 
 -- ---- one server
-
-abbrev pub refusedServer : Refusal → Server
-refusedServer r = record { verdict = Refused r; table = emptyTable }
 
 module _ (c : Choices) (s : List ℕ) where
   server-with : {v : Verdict} → verdictOf c s ≡ v → serverOf c s ≡ record { verdict = v; table = tableGiven v (collected (c .«secure_avic») s) }
@@ -73,10 +71,18 @@ module _ (c : Choices) (s : List ℕ) where
       ∙ ap (λ (v : Verdict). rowsIn (tableGiven v (collected (c .«secure_avic») s))) (sym (server-verdict e) ∙ p)
       ∙ collected-rows (c .«secure_avic») s
 
--- ---- the servers after the first
+-- of a part of the slice that is server k's set
+module _ (c : Choices) (pages lengths : List ℕ) (k : ℕ) {s : List ℕ} (part : s ≡ setAt pages lengths k) {x : Server} (e : x ≡ serverOf c s) where
+  same-set : x ≡ serverOf c (setAt pages lengths k)
+  same-set = e ∙ ap (serverOf c) part
 
-abbrev pub refusedJoined : Refusal → ℕ → Joined
-refusedJoined r k = record { verdict = Refused r; server = k; table = emptyTable; alike = replicate places false }
+  pub part-verdict : {v : Verdict} → x .verdict ≡ v → serverVerdict c pages lengths k ≡ v
+  part-verdict p = sym (server-verdict c (setAt pages lengths k) same-set) ∙ p
+
+  pub part-rows : x .verdict ≡ Accepted → rowsIn (x .table) ≡ serverRows c pages lengths k
+  part-rows = server-rows c (setAt pages lengths k) same-set
+
+-- ---- the servers after the first
 
 module _ (c : Choices) (pages lengths : List ℕ) where
   abbrev f : ℕ → Rows
@@ -102,11 +108,11 @@ module _ (c : Choices) (pages lengths : List ℕ) where
         flags = flags-first f;
       }
 
-  pub joining-next : (k : ℕ) (t u w : CpuidResults) (alike found : List Bool) → 1 ≤ k → k < length lengths → serverVerdict c pages lengths k ≡ Accepted
-      → rowsIn u ≡ f k → found ≡ stillAlike askedTable alike (rowsIn t) (rowsIn u) → rowsIn w ≡ withServer (rowsIn t) (rowsIn u)
+  pub joining-next : (k : ℕ) (t u w : CpuidResults) (alike found : List Bool) {asked : List CpuidResult} → asked ≡ askedTable → 1 ≤ k → k < length lengths
+      → serverVerdict c pages lengths k ≡ Accepted → rowsIn u ≡ f k → found ≡ stillAlike asked alike (rowsIn t) (rowsIn u) → rowsIn w ≡ withServer (rowsIn t) (rowsIn u)
       → Joining k t alike → Joining (k + 1) w found
   unfolding pool
-  joining-next k t u w alike found l h e q p r j =
+  joining-next k t u w alike found a l h e q p r j =
       let s : k ≡ suc (k - 1) = omega arith in
       let s₁ : k + 1 - 1 ≡ suc (k - 1) = omega arith in
       let q₁ : rowsIn u ≡ f (suc (k - 1)) = q ∙ ap f s in
@@ -115,6 +121,7 @@ module _ (c : Choices) (pages lengths : List ℕ) where
         rows = r ∙ ap₂ withServer (j .rows) q₁ ∙ sym (ap (pool f) s₁);
         flags =
             p
+            ∙ ap (λ (m : List CpuidResult). stillAlike m alike (rowsIn t) (rowsIn u)) a
             ∙ flags-next f (k - 1) (λ a b. rows-fit (c .«secure_avic») (setAt pages lengths a) b) (j .flags) (j .rows) q₁
             ∙ sym (ap (alikeFlags f) s₁);
       }

@@ -32,10 +32,9 @@ use Rattle.pool_join.specs.JoinedLaws.{mask-with, masked-with, with-acce
 pub record Servers (f : ℕ → Rows) (n : ℕ) : Type 0 where
   pub accepted : (k : ℕ) → k ≤ n → rowsVerdict (f k) ≡ Accepted
   pub masked : (k : ℕ) → k ≤ n → MaskedState (f k)
-  pub xsaves : (k : ℕ) → k ≤ n → XsavesEdx (f k)
 
 fewer : (f : ℕ → Rows) (n : ℕ) → Servers f (suc n) → Servers f n
-fewer f n s = record { accepted = λ k l. s .accepted k (omega arith); masked = λ k l. s .masked k (omega arith); xsaves = λ k l. s .xsaves k (omega arith) }
+fewer f n s = record { accepted = λ k l. s .accepted k (omega arith); masked = λ k l. s .masked k (omega arith) }
 
 -- ---- accepted, and its mask, 19 or not
 
@@ -69,9 +68,9 @@ unfolding pool withServer
 like-first f zero i = registers-refl (kindsAt i) (f 0 i .result)
 like-first f (suc n) i = registers-pooled (kindsAt i) (f (suc n) i .result) (like-first f n i)
 
-pub xsaves-first : (f : ℕ → Rows) (n : ℕ) → Servers f n → XsavesEdx (pool f n)
+pub xsaves-first : (f : ℕ → Rows) (n : ℕ) → XsavesEdx (f 0) → XsavesEdx (pool f n)
 unfolding kindsAt registerKinds slot keptLeaves
-xsaves-first f n s = sym (like-first f n (Place.extendedState 1) .edx) ∙ s .xsaves 0 (omega arith)
+xsaves-first f n z = sym (like-first f n (Place.extendedState 1) .edx) ∙ z
 
 -- the next server's entry is like the pool's so far
 pub like-next : (f : ℕ → Rows) (n i : ℕ) → AlikeAt f (suc n) i → Registers Alike (kindsAt i) (pool f n i .result) (f (suc n) i .result)

@@ -1,0 +1,184 @@
+-- The answer to a pool, case by case, in the terms of the code's returns.
+use mathlib.Core.Path.{_≡_, refl, sym, ap, ap₂, _∙_}
+use mathlib.Core.Bool.{Bool, true, false, _&&_}
+use mathlib.Core.List.{List}
+use Prim.Native.Nat.{ℕ, zero, suc, _-_, _≤_, _<_}
+use native.Mathlib.Omega.{arith}
+use lib.ListN.{length, getD}
+use Rattle.bits.specs.Choice.{pick}
+use Rattle.bits.specs.ChoiceLaws.{never-both}
+use Rattle.bits.specs.Search.{Failing, every, lowest}
+use Rattle.bits.specs.Search.Failing.{at, none}
+use Rattle.bits.specs.SearchLaws.{Lowest, lowest-none, lowest-at, lowest-stops}
+use Rattle.bits.specs.Bits.{Within, maskOf}
+use Rattle.bits.specs.BitsLaws.{within-trans, within-of-and, within-zero, and-within-right}
+use Rattle.bits.specs.Lists.{tabulate}
+use Rattle.bits.specs.ListsLaws.{getD-tabulate}
+use Rattle.x86defs.specs.declared.CpuidResult.{CpuidResult}
+use Rattle.masking.specs.Masks.{extendedState0, extendedState1}
+use Rattle.masking.specs.Kept.{places, keptLeaves, slot}
+use Rattle.masking.specs.Place
+use Rattle.table.specs.declared.Choices.{Choices}
+use Rattle.table.specs.declared.CpuidResults.{CpuidResults}
+use Rattle.table.specs.declared.Refusal.{Refusal}
+use Rattle.table.specs.declared.Refusal.the-variants.{PoolSets, PoolDiffers}
+use Rattle.table.specs.declared.Verdict.{Verdict}
+use Rattle.table.specs.declared.Verdict.the-variants.{Accepted, Refused}
+use Rattle.table.specs.Refusal.{andThen}
+use Rattle.table.specs.Rows.{Row, Rows}
+use Rattle.table.specs.Table.{tableOf, rowIn, rowsIn}
+use Rattle.checks.specs.ExtendedState.{xss, combinedMask}
+use Rattle.checks.specs.Checks.{rowsVerdict}
+use Rattle.checks.specs.ChecksLaws.{then-right}
+use Rattle.update.specs.Finish.{finished}
+use Rattle.update.specs.JoinLaws.{MaskedState}
+use Rattle.collect.specs.FirstEntries.{rowsOf}
+use Rattle.build.specs.declared.Built.{Built}
+use Rattle.build.specs.Built.{tableFor, builtFrom}
+use Rattle.build.specs.Build.{editionVerdict, lawfulVerdict, verdictOf, answer}
+use Rattle.counts.specs.Mask.{register-within, xfem-within, xss-within}
+use Rattle.pool_join.specs.Join.{pool}
+use Rattle.pool_join.specs.Alike.{allHave, alikeTo, allAlike}
+use Rattle.pool_join.specs.PoolLaws.{Servers, pool-accepted, pool-rows}
+use Rattle.pool_rows.specs.AskedBits.{alikeWhere}
+use Rattle.pool.specs.declared.Joined.{Joined}
+use Rattle.pool.specs.declared.Pooled.{Pooled}
+use Rattle.pool.specs.Sets.{setAt, lastOf, lawfulSets, setsVerdict}
+use Rattle.pool.specs.SetsLaws.{at-least-two}
+use Rattle.pool.specs.Pool.{serverVerdict, serverRows, isAccepted, firstRefused, refusedBy, serversVerdict, poolRows, alikeVerdict, poolVerdict, numberOf, serverFor, serverNamed, pooled}
+use Rattle.pool.specs.Servers.{JoinsRest, refusedPool}
+
+-- the same test at every place
+every-same : (p q : ℕ → Bool) (n : ℕ) → ((i : ℕ) → i < n → p i ≡ q i) → every p n ≡ every q n
+every-same p q zero h = refl
+every-same p q (suc n) h = ap₂ _&&_ (h n (omega arith)) (every-same p q n (λ i l. h i (omega arith)))
+
+-- ---- what all servers accepted says
+
+-- masked first entries of any pages are as the join wants them
+masked-state : (avic : Bool) (s : List ℕ) → MaskedState (rowsOf avic s)
+unfolding extendedState0 extendedState1 maskOf slot keptLeaves
+masked-state avic s = record {
+  xfem = within-trans (xfem-within avic s) (within-of-and refl);
+  xss =
+      within-trans (xss-within (rowsOf avic s))
+      (register-within (λ r. r .ecx) avic s (Place.extendedState 1)
+      (λ r. within-trans (and-within-right (r .ecx) (extendedState1 .ecx)) (within-of-and refl)) (within-zero 0x1800));
+}
+
+is-accepted : (v : Verdict) → isAccepted v ≡ true → v ≡ Accepted
+is-accepted Accepted e = refl
+is-accepted (Refused r) e = absurd (never-both e refl)
+
+module _ (c : Choices) (pages lengths : List ℕ) where
+  abbrev f : ℕ → Rows
+  f = serverRows c pages lengths
+
+  abbrev n : ℕ
+  n = lastOf lengths
+
+  abbrev test : ℕ → Bool
+  test k = isAccepted (serverVerdict c pages lengths k)
+
+  -- none is refused
+  none-refused : serversVerdict c pages lengths ≡ Accepted → firstRefused c pages lengths ≡ none
+  unfolding serversVerdict firstRefused
+  none-refused e = go (firstRefused c pages lengths) refl e
+    where
+      go : (x : Failing) → firstRefused c pages lengths ≡ x → refusedBy x (serverVerdict c pages lengths) ≡ Accepted → firstRefused c pages lengths ≡ none
+      go (at k) p q = absurd (never-both (ap isAccepted q) (lowest-at test 0 (length lengths) k p .fails))
+      go none p q = p
+
+  pub each-accepted : serversVerdict c pages lengths ≡ Accepted → (k : ℕ) → k < length lengths → serverVerdict c pages lengths k ≡ Accepted
+  unfolding firstRefused
+  each-accepted e k l = is-accepted _ (lowest-none test 0 (length lengths) (none-refused e) k (omega arith) (omega arith))
+
+  server-accepted : (k : ℕ) → serverVerdict c pages lengths k ≡ Accepted → rowsVerdict (f k) ≡ Accepted
+  unfolding answer verdictOf
+  server-accepted k e = then-right (lawfulVerdict (setAt pages lengths k)) _ (then-right (editionVerdict (c .edition)) _ e)
+
+  pub servers-of : ((k : ℕ) → k ≤ n → serverVerdict c pages lengths k ≡ Accepted) → Servers f n
+  servers-of h = record {
+    accepted = λ k l. server-accepted k (h k l);
+    masked = λ k l. masked-state (c .«secure_avic») (setAt pages lengths k);
+  }
+
+  -- ---- the answer by its verdict
+
+  pooled-with : {v : Verdict} {k : ℕ} → poolVerdict c pages lengths ≡ v → serverNamed c pages lengths ≡ k
+      → pooled c pages lengths ≡ record { verdict = v; server = k; table = tableFor (c .edition) v (poolRows c pages lengths) }
+  unfolding pooled
+  pooled-with {v} {k} e p = rw (e, p)
+
+  pub pooled-sets : lawfulSets pages lengths ≡ false → {q : Pooled} → q ≡ refusedPool PoolSets 0 → q ≡ pooled c pages lengths
+  pooled-sets e g = g ∙ sym (pooled-with (unfold poolVerdict setsVerdict in rw e) (unfold serverNamed setsVerdict in rw e))
+
+  module _ (lawful : lawfulSets pages lengths ≡ true) where
+    named : (x : Failing) → firstRefused c pages lengths ≡ x → serverNamed c pages lengths ≡ numberOf x
+    unfolding serverNamed setsVerdict
+    named x e = rw (lawful, e)
+
+    -- a server is refused
+    server-with : {v : Verdict} → serversVerdict c pages lengths ≡ v → poolVerdict c pages lengths ≡ andThen v (alikeVerdict c pages lengths)
+    unfolding poolVerdict setsVerdict
+    server-with e = rw (lawful, e)
+
+    pub pooled-first : {r : Refusal} → serverVerdict c pages lengths 0 ≡ Refused r → {q : Pooled} → q ≡ refusedPool r 0 → q ≡ pooled c pages lengths
+    unfolding serversVerdict firstRefused
+    pooled-first e g =
+        let whole : length lengths ≡ length lengths - 0 = omega arith in
+        let p : firstRefused c pages lengths ≡ at 0 =
+        ap (lowest test 0) whole ∙ lowest-stops test (length lengths) 0 (omega (arith, at-least-two pages lengths lawful)) (ap isAccepted e) in
+        g ∙ sym (pooled-with (server-with (ap (λ (x : Failing). refusedBy x (serverVerdict c pages lengths)) p ∙ e)) (named (at 0) p))
+
+    module _ (q : Joined) (j : JoinsRest c pages lengths q) where
+      pub pooled-server : {r : Refusal} → q .verdict ≡ Refused r → {w : Pooled} → w ≡ refusedPool r (q .server) → w ≡ pooled c pages lengths
+      pooled-server {r} e g =
+          g ∙ sym (pooled-with (server-with (sym (j .verdict) ∙ e)) (named (firstRefused c pages lengths) refl ∙ sym (j .server)))
+
+      -- all are accepted
+      module _ (passed : q .verdict ≡ Accepted) {built : Built} (b : built ≡ builtFrom (c .edition) (rowsIn (q .table))) where
+        all-accepted : serversVerdict c pages lengths ≡ Accepted
+        all-accepted = sym (j .verdict) ∙ passed
+
+        servers : Servers f n
+        servers = servers-of (λ k l. each-accepted all-accepted k (omega (arith, at-least-two pages lengths lawful)))
+
+        rows : rowsIn (q .table) ≡ pool f n
+        rows = j .rows passed
+
+        pub pool-table : built .table ≡ tableOf (finished (c .edition) (pool f n)) (combinedMask (pool f n))
+        unfolding builtFrom
+        pool-table =
+            ap (λ (x : Built). x .table) (b ∙ ap (builtFrom (c .edition)) rows)
+            ∙ ap (λ (v : Verdict). tableFor (c .edition) v (pool f n)) (pool-accepted f n servers)
+
+        -- the rows of the pool's table are those that all tables have
+        asked-all : (i : ℕ) → i < places → getD (built .table .present) i false ≡ allHave (c .edition) f n i
+        asked-all i l =
+            ap (λ (x : CpuidResults). getD (x .present) i false) pool-table
+            ∙ getD-tabulate places (λ j. finished (c .edition) (pool f n) j .present) i false l
+            ∙ pool-rows (c .edition) f n servers i l
+
+        alike-at : (i : ℕ) → i < places → getD (q .alike) i false ≡ alikeTo f n i
+        alike-at i l =
+            ap (λ (x : List Bool). getD x i false) (j .alike passed) ∙ getD-tabulate places (λ i. alikeTo f n i) i false l
+
+        alike-found : alikeWhere (built .table .present) (q .alike) ≡ allAlike (c .edition) f n
+        unfolding alikeWhere allAlike
+        alike-found = every-same _ _ places (λ i l. ap₂ (λ (a b : Bool). pick a b true) (asked-all i l) (alike-at i l))
+
+        module _ {a : Bool} (found : a ≡ alikeWhere (built .table .present) (q .alike)) where
+          alike-verdict : {b : Bool} → a ≡ b → poolVerdict c pages lengths ≡ pick b Accepted (Refused PoolDiffers)
+          unfolding alikeVerdict
+          alike-verdict h = server-with all-accepted ∙ ap (λ (x : Bool). pick x Accepted (Refused PoolDiffers)) (sym alike-found ∙ sym found ∙ h)
+
+          none-named : serverNamed c pages lengths ≡ 0
+          none-named = named none (none-refused all-accepted)
+
+          pub pooled-differs : a ≡ false → {w : Pooled} → w ≡ refusedPool PoolDiffers 0 → w ≡ pooled c pages lengths
+          pooled-differs h g = g ∙ sym (pooled-with (alike-verdict h) none-named)
+
+          pub pooled-accepted : a ≡ true → record { verdict = Accepted; server = 0; table = built .table } ≡ pooled c pages lengths
+          pooled-accepted h =
+              ap (λ (x : CpuidResults). record { verdict = Accepted; server = 0; table = x }) pool-table ∙ sym (pooled-with (alike-verdict h) none-named)
