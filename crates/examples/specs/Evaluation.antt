@@ -22,15 +22,16 @@ use Rattle.table.specs.declared.Choices.{Choices}
 use Rattle.table.specs.Edition.{knownEdition}
 use Rattle.table.specs.Table.{countRows}
 use Rattle.build.specs.declared.Built.{Built}
-use Rattle.collect.specs.FirstEntries.{firstAt, legacyFeatures, rowsOf}
-use Rattle.build.specs.Build.{editionVerdict, lengthVerdict, countsVerdict, reservedVerdict, lawfulVerdict, underEdition, verdictOf, answer}
+use Rattle.origins.specs.Origin.{isMadeHere, originOf}
+use Rattle.collect.specs.FirstEntries.{firstAt, standsAt, legacyFeatures, rowsOf}
+use Rattle.build.specs.Build.{editionVerdict, lengthVerdict, countsVerdict, reservedVerdict, lawfulVerdict, underEdition, verdictOf, originsIn, answer}
 
 -- what the examples choose: secure AVIC off, edition 1
 abbrev pub first : Choices
 first = underEdition 1
 
 unfoldable pub evaluated : Choices → List ℕ → Built
-unfolding answer verdictOf editionVerdict knownEdition lawfulVerdict lengthVerdict countsVerdict reservedVerdict badLength countsFit reservedOf firstNonzero eightZeros
+unfolding answer originsIn isMadeHere originOf standsAt verdictOf editionVerdict knownEdition lawfulVerdict lengthVerdict countsVerdict reservedVerdict badLength countsFit reservedOf firstNonzero eightZeros
     rowsVerdict requiredVerdict invlpgbVerdict componentsOf componentsVerdict areaVerdict topologyVerdict lowest placeRequired requiredAt commonRequiredLeaves snpRequiredLeaves rowsOf firstAt counted
     keepIf entries onPages onPage entryAt counts placeOf keptLeaves slot versionAndFeatures extendedFeatures extendedState0 extendedState1
     extendedVersionAndFeatures extendedAddressSpaceSizes extendedSvm extendedOptimization extendedSev secureAvicMask fieldsMask fieldMask maskOf
