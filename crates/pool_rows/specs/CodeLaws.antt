@@ -21,7 +21,7 @@ use Rattle.table.specs.declared.CpuidResults.{CpuidResults}
 use Rattle.table.specs.Table.{rowIn, rowsIn}
 use Rattle.update.specs.Kinds.{Kind, Kinds, registerKinds, kindsAt}
 use Rattle.update.specs.Kinds.Kind.{feature, featureBut28, area, freed, other}
-use Rattle.update.specs.DropLaws.{UpTo, up-to-next}
+use Rattle.bits.specs.InPlace.{UpTo, up-to-next}
 use Rattle.pool_join.specs.Join.{pooled, pooledResults, withServer}
 use Rattle.pool_rows.specs.AskedBits.{sameBits, stillAlike, alikeWhere}
 

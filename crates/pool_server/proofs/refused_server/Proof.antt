@@ -1,7 +1,7 @@
--- `pool::refused_server` meets its contract: the refusal, beside the empty table.
+-- `pool_server::refused_server` meets its contract: the refusal, beside the empty table.
 use borrow.Author.Needs.{needs}
-use Rattle.pool.proofs.refused_server.Statement.{statement}
-use Rattle.pool.proofs.refused_server.Tie as tie
+use Rattle.pool_server.proofs.refused_server.Statement.{statement}
+use Rattle.pool_server.proofs.refused_server.Tie as tie
 
 returns : tie.Need-returns
 returns c = rw (c .empty-table .ensures)
