@@ -15,7 +15,7 @@ use Rattle.table.specs.Refusal.{andThen}
 use Rattle.table.specs.Rows.{Rows}
 use Rattle.checks.specs.Checks.{refuseUnless}
 use Rattle.build.specs.Built.{tableFor}
-use Rattle.build.specs.Build.{rowsFor, answer}
+use Rattle.build.specs.Build.{rowsFor, originsIn, answer}
 use Rattle.pool_join.specs.Join.{pool}
 use Rattle.pool_join.specs.Alike.{allAlike}
 use Rattle.pool.specs.declared.Pooled.{Pooled}
@@ -72,9 +72,11 @@ serverNamed c pages lengths = serverFor (setsVerdict pages lengths) (numberOf (f
 abbrev pub pooledTable : Choices → List ℕ → List ℕ → CpuidResults
 pooledTable c pages lengths = tableFor (c .edition) (poolVerdict c pages lengths) (poolRows c pages lengths)
 
+-- "keeps all else from the first, origins included": where each row of the pool's table stands in the first server's pages (document 02, P11)
 unfoldable pub pooled : Choices → List ℕ → List ℕ → Pooled
 pooled c pages lengths = record {
   verdict = poolVerdict c pages lengths;
   server = serverNamed c pages lengths;
   table = pooledTable c pages lengths;
+  origins = originsIn (pooledTable c pages lengths) (setAt pages lengths 0);
 }

@@ -15,6 +15,7 @@ use Rattle.bits.specs.BitsLaws.{within-trans, within-of-and, within-zero, and-w
 use Rattle.bits.specs.Lists.{tabulate}
 use Rattle.bits.specs.ListsLaws.{getD-tabulate}
 use Rattle.x86defs.specs.declared.CpuidResult.{CpuidResult}
+use Rattle.pages.specs.Entries.{counted}
 use Rattle.masking.specs.Masks.{extendedState0, extendedState1}
 use Rattle.masking.specs.Kept.{places, keptLeaves, slot}
 use Rattle.masking.specs.Place
@@ -26,16 +27,19 @@ use Rattle.table.specs.declared.Verdict.{Verdict}
 use Rattle.table.specs.declared.Verdict.the-variants.{Accepted, Refused}
 use Rattle.table.specs.Refusal.{andThen}
 use Rattle.table.specs.Rows.{Row, Rows}
-use Rattle.table.specs.Table.{tableOf, rowIn, rowsIn}
+use Rattle.table.specs.Table.{tableOf, emptyTable, rowIn, rowsIn}
 use Rattle.checks.specs.ExtendedState.{xss, combinedMask}
 use Rattle.checks.specs.Checks.{rowsVerdict}
 use Rattle.checks.specs.ChecksLaws.{then-right}
 use Rattle.update.specs.Finish.{finished}
 use Rattle.update.specs.JoinLaws.{MaskedState}
-use Rattle.collect.specs.FirstEntries.{rowsOf}
-use Rattle.build.specs.declared.Built.{Built}
+use Rattle.origins.specs.Origin.{finishedOrigins}
+use Rattle.origins.specs.OriginLaws.{finished-origins}
+use Rattle.collect.specs.FirstEntries.{standsAt, foundOrigins, rowsOf}
+use Rattle.build.specs.declared.RowsBuilt.{RowsBuilt}
 use Rattle.build.specs.Built.{tableFor, builtFrom}
-use Rattle.build.specs.Build.{editionVerdict, lawfulVerdict, verdictOf, answer}
+use Rattle.build.specs.Build.{editionVerdict, lawfulVerdict, verdictOf, originsIn, answer}
+use Rattle.build.specs.BuildLaws.{no-origins}
 use Rattle.counts.specs.Mask.{register-within, xfem-within, xss-within}
 use Rattle.pool_join.specs.Join.{pool}
 use Rattle.pool_join.specs.Alike.{allHave, alikeTo, allAlike}
@@ -52,6 +56,11 @@ use Rattle.pool.specs.Servers.{JoinsRest, refusedPool}
 every-same : (p q : ℕ → Bool) (n : ℕ) → ((i : ℕ) → i < n → p i ≡ q i) → every p n ≡ every q n
 every-same p q zero h = refl
 every-same p q (suc n) h = ap₂ _&&_ (h n (omega arith)) (every-same p q n (λ i l. h i (omega arith)))
+
+-- the origins of a table, from where the first entries stand
+located-origins : (t : CpuidResults) (s : List ℕ) → finishedOrigins (t .present) (foundOrigins s) ≡ originsIn t s
+unfolding originsIn foundOrigins
+located-origins t s = finished-origins (t .present) (λ i. standsAt i (counted s))
 
 -- ---- what all servers accepted says
 
@@ -105,13 +114,24 @@ module _ (c : Choices) (pages lengths : List ℕ) where
 
   -- ---- the answer by its verdict
 
+  -- an answer whose origins are of the first server's pages
+  abbrev pooledBy : Verdict → ℕ → CpuidResults → Pooled
+  pooledBy v k t = record { verdict = v; server = k; table = t; origins = originsIn t (setAt pages lengths 0) }
+
   pooled-with : {v : Verdict} {k : ℕ} → poolVerdict c pages lengths ≡ v → serverNamed c pages lengths ≡ k
-      → pooled c pages lengths ≡ record { verdict = v; server = k; table = tableFor (c .edition) v (poolRows c pages lengths) }
+      → pooled c pages lengths ≡ pooledBy v k (tableFor (c .edition) v (poolRows c pages lengths))
   unfolding pooled
   pooled-with {v} {k} e p = rw (e, p)
 
+  refused-with : {r : Refusal} {k : ℕ} {q : Pooled} → q ≡ refusedPool r k → poolVerdict c pages lengths ≡ Refused r → serverNamed c pages lengths ≡ k
+      → q ≡ pooled c pages lengths
+  refused-with {r} {k} g e p =
+      g
+      ∙ ap (λ (o : List ℕ). record { verdict = Refused r; server = k; table = emptyTable; origins = o }) (no-origins (setAt pages lengths 0))
+      ∙ sym (pooled-with {v = Refused r} e p)
+
   pub pooled-sets : lawfulSets pages lengths ≡ false → {q : Pooled} → q ≡ refusedPool PoolSets 0 → q ≡ pooled c pages lengths
-  pooled-sets e g = g ∙ sym (pooled-with (unfold poolVerdict setsVerdict in rw e) (unfold serverNamed setsVerdict in rw e))
+  pooled-sets e g = refused-with g (unfold poolVerdict setsVerdict in rw e) (unfold serverNamed setsVerdict in rw e)
 
   module _ (lawful : lawfulSets pages lengths ≡ true) where
     named : (x : Failing) → firstRefused c pages lengths ≡ x → serverNamed c pages lengths ≡ numberOf x
@@ -129,15 +149,15 @@ module _ (c : Choices) (pages lengths : List ℕ) where
         let whole : length lengths ≡ length lengths - 0 = omega arith in
         let p : firstRefused c pages lengths ≡ at 0 =
         ap (lowest test 0) whole ∙ lowest-stops test (length lengths) 0 (omega (arith, at-least-two pages lengths lawful)) (ap isAccepted e) in
-        g ∙ sym (pooled-with (server-with (ap (λ (x : Failing). refusedBy x (serverVerdict c pages lengths)) p ∙ e)) (named (at 0) p))
+        refused-with g (server-with (ap (λ (x : Failing). refusedBy x (serverVerdict c pages lengths)) p ∙ e)) (named (at 0) p)
 
     module _ (q : Joined) (j : JoinsRest c pages lengths q) where
       pub pooled-server : {r : Refusal} → q .verdict ≡ Refused r → {w : Pooled} → w ≡ refusedPool r (q .server) → w ≡ pooled c pages lengths
       pooled-server {r} e g =
-          g ∙ sym (pooled-with (server-with (sym (j .verdict) ∙ e)) (named (firstRefused c pages lengths) refl ∙ sym (j .server)))
+          refused-with g (server-with (sym (j .verdict) ∙ e)) (named (firstRefused c pages lengths) refl ∙ sym (j .server))
 
       -- all are accepted
-      module _ (passed : q .verdict ≡ Accepted) {built : Built} (b : built ≡ builtFrom (c .edition) (rowsIn (q .table))) where
+      module _ (passed : q .verdict ≡ Accepted) {built : RowsBuilt} (b : built ≡ builtFrom (c .edition) (rowsIn (q .table))) where
         all-accepted : serversVerdict c pages lengths ≡ Accepted
         all-accepted = sym (j .verdict) ∙ passed
 
@@ -150,7 +170,7 @@ module _ (c : Choices) (pages lengths : List ℕ) where
         pub pool-table : built .table ≡ tableOf (finished (c .edition) (pool f n)) (combinedMask (pool f n))
         unfolding builtFrom
         pool-table =
-            ap (λ (x : Built). x .table) (b ∙ ap (builtFrom (c .edition)) rows)
+            ap (λ (x : RowsBuilt). x .table) (b ∙ ap (builtFrom (c .edition)) rows)
             ∙ ap (λ (v : Verdict). tableFor (c .edition) v (pool f n)) (pool-accepted f n servers)
 
         -- the rows of the pool's table are those that all tables have
@@ -177,8 +197,13 @@ module _ (c : Choices) (pages lengths : List ℕ) where
           none-named = named none (none-refused all-accepted)
 
           pub pooled-differs : a ≡ false → {w : Pooled} → w ≡ refusedPool PoolDiffers 0 → w ≡ pooled c pages lengths
-          pooled-differs h g = g ∙ sym (pooled-with (alike-verdict h) none-named)
+          pooled-differs h g = refused-with g (alike-verdict h) none-named
 
-          pub pooled-accepted : a ≡ true → record { verdict = Accepted; server = 0; table = built .table } ≡ pooled c pages lengths
-          pooled-accepted h =
-              ap (λ (x : CpuidResults). record { verdict = Accepted; server = 0; table = x }) pool-table ∙ sym (pooled-with (alike-verdict h) none-named)
+          -- o are the origins of the table, from where the first server's entries stand
+          pub pooled-accepted : a ≡ true → {x o : List ℕ} → x ≡ foundOrigins (setAt pages lengths 0) → o ≡ finishedOrigins (built .table .present) x
+              → record { verdict = Accepted; server = 0; table = built .table; origins = o } ≡ pooled c pages lengths
+          pooled-accepted h p q =
+              ap (λ (w : List ℕ). record { verdict = Accepted; server = 0; table = built .table; origins = w })
+              (q ∙ ap (finishedOrigins (built .table .present)) p ∙ located-origins (built .table) (setAt pages lengths 0))
+              ∙ ap (pooledBy Accepted 0) pool-table
+              ∙ sym (pooled-with (alike-verdict h) none-named)

@@ -1,4 +1,4 @@
--- What the code's steps give: one server by itself, and all of them joined.
+-- What the code's steps give: all servers joined, or a refusal.
 use mathlib.Core.Path.{_≡_}
 use mathlib.Core.Bool.{false}
 use mathlib.Core.List.{List}
@@ -7,26 +7,14 @@ use lib.ListN.{replicate}
 use Rattle.bits.specs.Lists.{tabulate}
 use Rattle.masking.specs.Kept.{places}
 use Rattle.table.specs.declared.Choices.{Choices}
-use Rattle.table.specs.declared.CpuidResults.{CpuidResults}
 use Rattle.table.specs.declared.Refusal.{Refusal}
-use Rattle.table.specs.declared.Verdict.{Verdict}
 use Rattle.table.specs.declared.Verdict.the-variants.{Accepted, Refused}
 use Rattle.table.specs.Table.{emptyTable, rowsIn}
-use Rattle.collect.specs.Collect.{collected}
-use Rattle.build.specs.Build.{answer}
 use Rattle.pool_join.specs.Alike.{alikeTo}
-use Rattle.pool.specs.declared.Server.{Server}
 use Rattle.pool.specs.declared.Joined.{Joined}
 use Rattle.pool.specs.declared.Pooled.{Pooled}
 use Rattle.pool.specs.Sets.{lastOf}
 use Rattle.pool.specs.Pool.{serverRows, firstRefused, serversVerdict, numberOf, poolRows}
-
-abbrev pub tableGiven : Verdict → CpuidResults → CpuidResults
-tableGiven Accepted t = t
-tableGiven (Refused r) t = emptyTable
-
-unfoldable pub serverOf : Choices → List ℕ → Server
-serverOf c s = record { verdict = answer c s .verdict; table = tableGiven (answer c s .verdict) (collected (c .«secure_avic») s) }
 
 pub record JoinsRest (c : Choices) (pages lengths : List ℕ) (r : Joined) : Type 0 where
   pub verdict : r .verdict ≡ serversVerdict c pages lengths
@@ -35,11 +23,8 @@ pub record JoinsRest (c : Choices) (pages lengths : List ℕ) (r : Joined) : Typ
   pub alike : r .verdict ≡ Accepted → r .alike ≡ tabulate places (λ i. alikeTo (serverRows c pages lengths) (lastOf lengths) i)
 
 -- refused steps hold nothing
-abbrev pub refusedServer : Refusal → Server
-refusedServer r = record { verdict = Refused r; table = emptyTable }
-
 abbrev pub refusedJoined : Refusal → ℕ → Joined
 refusedJoined r k = record { verdict = Refused r; server = k; table = emptyTable; alike = replicate places false }
 
 abbrev pub refusedPool : Refusal → ℕ → Pooled
-refusedPool r k = record { verdict = Refused r; server = k; table = emptyTable }
+refusedPool r k = record { verdict = Refused r; server = k; table = emptyTable; origins = replicate places 0 }

@@ -1,4 +1,4 @@
--- The code's steps: one server by itself, and the servers after the first, one a turn.
+-- The code's steps: the servers after the first, one a turn.
 use mathlib.Core.Path.{_≡_, refl, sym, ap, ap₂, _∙_}
 use mathlib.Core.Bool.{Bool, true, false}
 use mathlib.Core.List.{List}
@@ -13,63 +13,22 @@ use Rattle.x86defs.specs.declared.CpuidResult.{CpuidResult}
 use Rattle.table.specs.declared.Choices.{Choices}
 use Rattle.table.specs.declared.CpuidResults.{CpuidResults}
 use Rattle.table.specs.declared.Refusal.{Refusal}
-use Rattle.table.specs.declared.Refusal.the-variants.{UnknownEdition}
 use Rattle.table.specs.declared.Verdict.{Verdict}
 use Rattle.table.specs.declared.Verdict.the-variants.{Accepted, Refused}
-use Rattle.table.specs.Edition.{knownEdition}
 use Rattle.table.specs.Rows.{Rows}
 use Rattle.table.specs.Table.{rowsIn}
-use Rattle.checks.specs.Checks.{rowsVerdict}
-use Rattle.collect.specs.Collect.{collected, collected-rows}
+use Rattle.collect.specs.FirstEntries.{foundOrigins}
 use Rattle.collect.specs.RowsFit.{rows-fit}
-use Rattle.build.specs.Built.{builtFrom}
-use Rattle.build.specs.Build.{editionVerdict, lawfulVerdict, rowsFor, verdictOf, answer}
 use Rattle.pool_join.specs.Join.{withServer, pool}
 use Rattle.pool_rows.specs.AskedBits.{askedTable, stillAlike}
 use Rattle.pool_rows.specs.AskedLaws.{alikeFlags, flags-first, flags-next}
-use Rattle.pool.specs.declared.Server.{Server}
+use Rattle.pool_server.specs.declared.Server.{Server}
+use Rattle.pool_server.specs.Server.{serverOf}
+use Rattle.pool_server.specs.ServerLaws.{server-verdict, server-rows, server-origins}
 use Rattle.pool.specs.declared.Joined.{Joined}
 use Rattle.pool.specs.Sets.{setAt, lastOf}
 use Rattle.pool.specs.Pool.{serverVerdict, serverRows, isAccepted, firstRefused, refusedBy, serversVerdict, numberOf, poolRows}
-use Rattle.pool.specs.Servers.{tableGiven, serverOf, JoinsRest, refusedServer, refusedJoined}
-
--- ---- one server
-
-module _ (c : Choices) (s : List ℕ) where
-  server-with : {v : Verdict} → verdictOf c s ≡ v → serverOf c s ≡ record { verdict = v; table = tableGiven v (collected (c .«secure_avic») s) }
-  unfolding serverOf answer
-  server-with e = ap (λ (x : Verdict). record { verdict = x; table = tableGiven x (collected (c .«secure_avic») s) }) e
-
-  pub server-unknown : knownEdition (c .edition) ≡ false → {q : Server} → q ≡ refusedServer UnknownEdition → q ≡ serverOf c s
-  server-unknown k g = g ∙ sym (server-with (unfold verdictOf editionVerdict in rw k))
-
-  module _ (k : knownEdition (c .edition) ≡ true) {v : Verdict} (e : v ≡ lawfulVerdict s) where
-    pub server-unlawful : {r : Refusal} → v ≡ Refused r → {q : Server} → q ≡ refusedServer r → q ≡ serverOf c s
-    server-unlawful f g = g ∙ sym (server-with (unfold verdictOf editionVerdict in rw (k, ← e, f)))
-
-    -- w is the verdict on the collected rows
-    module _ (f : v ≡ Accepted) {t : CpuidResults} {w : Verdict} (g : t ≡ collected (c .«secure_avic») s) (h : w ≡ rowsVerdict (rowsIn t)) where
-      rows-verdict : verdictOf c s ≡ w
-      unfolding verdictOf editionVerdict
-      rows-verdict = rw (k, ← e, f) (sym (h ∙ ap rowsVerdict (ap rowsIn g ∙ collected-rows (c .«secure_avic») s)))
-
-      pub server-refused : {r : Refusal} → w ≡ Refused r → {q : Server} → q ≡ refusedServer r → q ≡ serverOf c s
-      server-refused p q = q ∙ sym (server-with (rows-verdict ∙ p))
-
-      pub server-accepted : w ≡ Accepted → record { verdict = Accepted; table = t } ≡ serverOf c s
-      server-accepted p = ap (λ (x : CpuidResults). record { verdict = Accepted; table = x }) g ∙ sym (server-with (rows-verdict ∙ p))
-
-  -- what the step says of the server
-  pub server-verdict : {x : Server} → x ≡ serverOf c s → x .verdict ≡ answer c s .verdict
-  unfolding serverOf
-  server-verdict e = ap (λ (y : Server). y .verdict) e
-
-  pub server-rows : {x : Server} → x ≡ serverOf c s → x .verdict ≡ Accepted → rowsIn (x .table) ≡ rowsFor c s
-  unfolding serverOf
-  server-rows {x} e p =
-      ap (λ (y : Server). rowsIn (y .table)) e
-      ∙ ap (λ (v : Verdict). rowsIn (tableGiven v (collected (c .«secure_avic») s))) (sym (server-verdict e) ∙ p)
-      ∙ collected-rows (c .«secure_avic») s
+use Rattle.pool.specs.Servers.{JoinsRest, refusedJoined}
 
 -- of a part of the slice that is server k's set
 module _ (c : Choices) (pages lengths : List ℕ) (k : ℕ) {s : List ℕ} (part : s ≡ setAt pages lengths k) {x : Server} (e : x ≡ serverOf c s) where
@@ -80,7 +39,10 @@ module _ (c : Choices) (pages lengths : List ℕ) (k : ℕ) {s : List ℕ} (part
   part-verdict p = sym (server-verdict c (setAt pages lengths k) same-set) ∙ p
 
   pub part-rows : x .verdict ≡ Accepted → rowsIn (x .table) ≡ serverRows c pages lengths k
-  part-rows = server-rows c (setAt pages lengths k) same-set
+  part-rows = server-rows c (setAt pages lengths k) x same-set
+
+  pub part-origins : x .verdict ≡ Accepted → x .origins ≡ foundOrigins (setAt pages lengths k)
+  part-origins = server-origins c (setAt pages lengths k) x same-set
 
 -- ---- the servers after the first
 

@@ -1,37 +1,32 @@
 // One table for a pool of servers. Their page sets, end to end beside a list of lengths, come in; one table that any of them can keep goes out,
 // or one refusal and, where it is a server's own, which server it is.
 use build::build_rows;
-use build::validate_pages;
 use masking::PLACES;
+use origins::finish_origins;
 use pool_rows::all_alike;
 use pool_rows::asked_bits;
 use pool_rows::still_alike;
 use pool_rows::with_server;
+use pool_server::server_rows;
 use table::Choices;
 use table::CpuidResults;
 use table::Refusal;
 use table::Verdict;
 use table::empty_table;
-use table::known_edition;
 ghost use mathlib.Core.Path.{_≡_};
 ghost use mathlib.Core.Bool.{true};
 ghost use Rattle.table.specs.Table.{rowsIn};
 ghost use Rattle.pool.specs.Sets.{lawfulSets};
 ghost use Rattle.pool.specs.Pool.{serverVerdict, serverRows, pooled};
-ghost use Rattle.pool.specs.Servers.{refusedServer, refusedJoined, refusedPool, serverOf, JoinsRest};
+ghost use Rattle.pool.specs.Servers.{refusedJoined, refusedPool, JoinsRest};
 
-// What pooling gives: accepted with its table, or refused with an empty one. `server` is the number, from 0, of the server whose own refusal it
-// is, else 0.
+// What pooling gives: accepted with its table and where each row stood in the first server's pages, or refused with an empty one. `server` is the
+// number, from 0, of the server whose own refusal it is, else 0.
 pub struct Pooled {
     pub verdict: Verdict,
     pub server: usize,
     pub table: CpuidResults,
-}
-
-// One server by itself: what building gives, and the masked first entries where it accepts.
-struct Server {
-    verdict: Verdict,
-    table: CpuidResults,
+    pub origins: [u64; PLACES],
 }
 
 // All servers joined: the first that is refused, or the joined entries and the places at which all are like the first.
@@ -64,39 +59,6 @@ pub fn sets_fit(pages: &[u8], lengths: &[u64]) -> bool
         k = k + 1;
     }
     left == 0
-}
-
-fn refused_server(r: Refusal) -> Server
-    ensures { λ q. ⌜ q ≡ refusedServer r ⌝ }
-{
-    let table = empty_table();
-    Server {
-        verdict: Verdict::Refused(r),
-        table,
-    }
-}
-
-// A server's pages, walked once: building's verdict, and the masked first entries where it accepts.
-fn server_rows(pages: &[u8], choices: Choices) -> Server
-    ensures { λ r. ⌜ r ≡ serverOf choices (now (pages .entry)) ⌝ }
-{
-    if known_edition(choices.edition) {} else {
-        return refused_server(Refusal::UnknownEdition);
-    }
-    let lawful = validate_pages(pages);
-    if let Verdict::Refused(r) = lawful {
-        return refused_server(r);
-    }
-    let t = collect::collect(pages, choices.secure_avic);
-    let built = build_rows(t, choices.edition);
-    let verdict = built.verdict;
-    if let Verdict::Refused(r) = verdict {
-        return refused_server(r);
-    }
-    Server {
-        verdict: Verdict::Accepted,
-        table: t,
-    }
 }
 
 fn refused_joined(r: Refusal, server: usize) -> Joined
@@ -155,6 +117,7 @@ fn refused_pool(r: Refusal, server: usize) -> Pooled
         verdict: Verdict::Refused(r),
         server,
         table,
+        origins: [0; PLACES],
     }
 }
 
@@ -181,10 +144,13 @@ fn pool_servers(pages: &[u8], lengths: &[u64], choices: Choices) -> Pooled
     let present = table.present;
     let alike = joined.alike;
     if all_alike(present, alike) {
+        let found = first.origins;
+        let origins = finish_origins(present, found);
         return Pooled {
             verdict: Verdict::Accepted,
             server: 0,
             table,
+            origins,
         };
     }
     refused_pool(Refusal::PoolDiffers, 0)

@@ -3,7 +3,7 @@ use borrow.Author.Needs.{needs}
 use mathlib.Core.Path.{_≡_, sym, _∙_}
 use native.Mathlib.Omega.{arith}
 use Rattle.pool.specs.SetsLaws.{start-first, first-set, at-least-two, set-ends}
-use Rattle.pool.specs.ServersLaws.{part-verdict, part-rows}
+use Rattle.pool.specs.ServersLaws.{part-verdict, part-rows, part-origins}
 use Rattle.pool.specs.PooledLaws.{pooled-first, pooled-server, pooled-differs, pooled-accepted}
 use Rattle.pool.proofs.pool_servers.Statement.{statement}
 use Rattle.pool.proofs.pool_servers.Tie as tie
@@ -42,9 +42,13 @@ returns-2 c =
 
 returns-3 : tie.Need-returns-3
 returns-3 c =
-    let b = c .before .before .before .before .before in let e = b .before .before in let j = e .before .before in let s = j .before .before .before .before .before .before .before .before in let a = s .args in
+    let i = c .before .before in let b = i .before .before .before .before .before in let e = b .before .before in let j = e .before .before in
+    let t = j .before in let r = t .before .before in let s = r .before .before .before .before .before in let a = s .args in
     pooled-accepted (a .choices) (a .pages .now) (a .lengths .now) (s .pre) (j .join-rest .result) (j .join-rest .ensures) (e .enum-told2 .given .1)
-    (b .build-rows .ensures) (c .before .all-alike .ensures) (c .if1 .taken)
+    (b .build-rows .ensures) (i .before .all-alike .ensures) (i .if1 .taken)
+    (part-origins (a .choices) (a .pages .now) (a .lengths .now) 0 (first-set (a .pages .now) (a .lengths .now)) (r .server-rows .ensures)
+    (t .enum-told .given .1))
+    (c .finish-origins .ensures)
 
 returns-4 : tie.Need-returns-4
 returns-4 c =
@@ -70,6 +74,7 @@ pool-servers-spec =
     (λ c κs. search needs)
     returns-2
     (λ c. search needs)
+    (λ c κs. search needs)
     (λ c κs. search needs)
     (λ c κs. search needs)
     returns-3
