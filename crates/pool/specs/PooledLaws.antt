@@ -45,12 +45,12 @@ use Rattle.pool_join.specs.Join.{pool}
 use Rattle.pool_join.specs.Alike.{allHave, alikeTo, allAlike}
 use Rattle.pool_join.specs.PoolLaws.{Servers, pool-accepted, pool-rows}
 use Rattle.pool_rows.specs.AskedBits.{alikeWhere}
-use Rattle.pool.specs.declared.Joined.{Joined}
+use Rattle.pool_sets.specs.declared.Joined.{Joined}
+use Rattle.pool_sets.specs.Sets.{setAt, lastOf, lawfulSets, setsVerdict}
+use Rattle.pool_sets.specs.SetsLaws.{at-least-two}
+use Rattle.pool_sets.specs.Servers.{serverVerdict, serverRows, isAccepted, firstRefused, refusedBy, serversVerdict, numberOf, poolRows, JoinsRest}
 use Rattle.pool.specs.declared.Pooled.{Pooled}
-use Rattle.pool.specs.Sets.{setAt, lastOf, lawfulSets, setsVerdict}
-use Rattle.pool.specs.SetsLaws.{at-least-two}
-use Rattle.pool.specs.Pool.{serverVerdict, serverRows, isAccepted, firstRefused, refusedBy, serversVerdict, poolRows, alikeVerdict, poolVerdict, numberOf, serverFor, serverNamed, pooled}
-use Rattle.pool.specs.Servers.{JoinsRest, refusedPool}
+use Rattle.pool.specs.Pool.{alikeVerdict, poolVerdict, serverFor, serverNamed, pooled, refusedPool}
 
 -- the same test at every place
 every-same : (p q : ℕ → Bool) (n : ℕ) → ((i : ℕ) → i < n → p i ≡ q i) → every p n ≡ every q n

@@ -8,8 +8,10 @@ ghost use mathlib.Core.Path.{_≡_};
 ghost use mathlib.Core.Bool.{true};
 ghost use Prim.Native.Nat.{_^_};
 ghost use lib.Bits.{bitAnd, bitOr};
+ghost use lib.ListN.{replicate};
 ghost use Rattle.bits.specs.Choice.{pick};
 ghost use Rattle.x86defs.specs.Functions.{result};
+ghost use Rattle.masking.specs.Kept.{places};
 ghost use Rattle.table.specs.Table.{rowsIn};
 ghost use Rattle.pool_join.specs.Join.{withServer};
 ghost use Rattle.pool_rows.specs.AskedBits.{askedTable, sameBits, stillAlike, alikeWhere};
@@ -176,6 +178,13 @@ pub fn asked_bits() -> [CpuidResult; PLACES]
     asked[place::EXTENDED_OPTIMIZATION_IDENTIFIERS] = CpuidResult { eax: 0, ..all };
     asked[place::EXTENDED_SEV_FEATURES] = CpuidResult { eax: 0, ..all };
     asked
+}
+
+// The flags of the first server, which is like itself at every place.
+pub fn all_places() -> [bool; PLACES]
+    ensures { λ r. ⌜ r ≡ replicate places true ⌝ }
+{
+    [true; PLACES]
 }
 
 // Whether two entries agree in the bits asked.

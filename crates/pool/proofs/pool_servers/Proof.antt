@@ -2,8 +2,8 @@
 use borrow.Author.Needs.{needs}
 use mathlib.Core.Path.{_≡_, sym, _∙_}
 use native.Mathlib.Omega.{arith}
-use Rattle.pool.specs.SetsLaws.{start-first, first-set, at-least-two, set-ends}
-use Rattle.pool.specs.ServersLaws.{part-verdict, part-rows, part-origins}
+use Rattle.pool_sets.specs.SetsLaws.{start-first, first-set, at-least-two, set-ends}
+use Rattle.pool_sets.specs.ServersLaws.{part-verdict, part-rows, part-origins}
 use Rattle.pool.specs.PooledLaws.{pooled-first, pooled-server, pooled-differs, pooled-accepted}
 use Rattle.pool.proofs.pool_servers.Statement.{statement}
 use Rattle.pool.proofs.pool_servers.Tie as tie

@@ -12,7 +12,7 @@ use lib.ListN.{length, getD, take, drop}
 use borrow.Author.Tests.{leb-true, eqb-true, eqb-false, eq-eqb, ne-eqb, le-leb, lt-leb}
 use Rattle.bits.specs.ChoiceLaws.{and-left, and-right}
 use Rattle.bits.specs.Lists.{sumTo}
-use Rattle.pool.specs.Sets.{startOf, setAt, lawfulSets}
+use Rattle.pool_sets.specs.Sets.{startOf, setAt, lawfulSets}
 
 -- ---- where sets stand
 

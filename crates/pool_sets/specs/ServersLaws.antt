@@ -25,10 +25,9 @@ use Rattle.pool_rows.specs.AskedLaws.{alikeFlags, flags-first, flags-next}
 use Rattle.pool_server.specs.declared.Server.{Server}
 use Rattle.pool_server.specs.Server.{serverOf}
 use Rattle.pool_server.specs.ServerLaws.{server-verdict, server-rows, server-origins}
-use Rattle.pool.specs.declared.Joined.{Joined}
-use Rattle.pool.specs.Sets.{setAt, lastOf}
-use Rattle.pool.specs.Pool.{serverVerdict, serverRows, isAccepted, firstRefused, refusedBy, serversVerdict, numberOf, poolRows}
-use Rattle.pool.specs.Servers.{JoinsRest, refusedJoined}
+use Rattle.pool_sets.specs.declared.Joined.{Joined}
+use Rattle.pool_sets.specs.Sets.{setAt, lastOf}
+use Rattle.pool_sets.specs.Servers.{serverVerdict, serverRows, isAccepted, firstRefused, refusedBy, serversVerdict, numberOf, poolRows, JoinsRest, refusedJoined}
 
 -- of a part of the slice that is server k's set
 module _ (c : Choices) (pages lengths : List ℕ) (k : ℕ) {s : List ℕ} (part : s ≡ setAt pages lengths k) {x : Server} (e : x ≡ serverOf c s) where
@@ -60,14 +59,14 @@ module _ (c : Choices) (pages lengths : List ℕ) where
     pub flags : alike ≡ alikeFlags f (k - 1)
 
   pub joining-starts : 2 ≤ length lengths → serverVerdict c pages lengths 0 ≡ Accepted → (t : CpuidResults) → rowsIn t ≡ f 0
-      → Joining 1 t (replicate places true)
+      → {alike : List Bool} → alike ≡ replicate places true → Joining 1 t alike
   unfolding firstRefused pool
-  joining-starts l e t r =
+  joining-starts l e t r a =
       let whole : length lengths ≡ length lengths - 0 = omega arith in
       record {
         passed = ap (lowest test 0) whole ∙ lowest-passes test (length lengths) 0 (omega arith) (ap isAccepted e);
         rows = r;
-        flags = flags-first f;
+        flags = a ∙ flags-first f;
       }
 
   pub joining-next : (k : ℕ) (t u w : CpuidResults) (alike found : List Bool) {asked : List CpuidResult} → asked ≡ askedTable → 1 ≤ k → k < length lengths

@@ -1,13 +1,13 @@
--- `pool::sets_fit` meets its contract: before each turn the bytes left and those passed are all.
+-- `pool_sets::sets_fit` meets its contract: before each turn the bytes left and those passed are all.
 use borrow.Author.Needs.{needs}
 use mathlib.Core.Path.{_≡_, sym}
 use Prim.Native.Nat.{_+_, _-_, _≤_}
 use native.Mathlib.Omega.{arith}
 use lib.ListN.{length}
-use Rattle.pool.specs.Sets.{startOf}
-use Rattle.pool.specs.SetsLaws.{start-first, start-next, too-few, too-many, beyond, summed}
-use Rattle.pool.proofs.sets_fit.Statement.{statement}
-use Rattle.pool.proofs.sets_fit.Tie as tie
+use Rattle.pool_sets.specs.Sets.{startOf}
+use Rattle.pool_sets.specs.SetsLaws.{start-first, start-next, too-few, too-many, beyond, summed}
+use Rattle.pool_sets.proofs.sets_fit.Statement.{statement}
+use Rattle.pool_sets.proofs.sets_fit.Tie as tie
 
 abbrev Inv-loop : tie.InvT-loop
 Inv-loop pages lengths n left₀ k₀ left k = (k ≤ n) × (left + startOf lengths k ≡ length pages)

@@ -1,7 +1,7 @@
--- `pool::refused_joined` meets its contract: the refusal, beside the empty table.
+-- `pool_sets::refused_joined` meets its contract: the refusal, beside the empty table.
 use borrow.Author.Needs.{needs}
-use Rattle.pool.proofs.refused_joined.Statement.{statement}
-use Rattle.pool.proofs.refused_joined.Tie as tie
+use Rattle.pool_sets.proofs.refused_joined.Statement.{statement}
+use Rattle.pool_sets.proofs.refused_joined.Tie as tie
 
 returns : tie.Need-returns
 returns c = rw (c .empty-table .ensures)
