@@ -1,0 +1,2 @@
+pub mod RowsPool
+pub mod PoolRight
