@@ -9,7 +9,7 @@ use Rattle.bits.specs.Choice.{pick}
 use Rattle.bits.specs.ChoiceLaws.{never-both}
 use Rattle.bits.specs.Search.{Failing, every, lowest}
 use Rattle.bits.specs.Search.Failing.{at, none}
-use Rattle.bits.specs.SearchLaws.{Lowest, lowest-none, lowest-at, lowest-stops}
+use Rattle.bits.specs.SearchLaws.{Lowest, lowest-none, lowest-all, lowest-at, lowest-stops}
 use Rattle.bits.specs.Bits.{Within, maskOf}
 use Rattle.bits.specs.BitsLaws.{within-trans, within-of-and, within-zero, and-within-right}
 use Rattle.bits.specs.Lists.{tabulate}
@@ -30,7 +30,7 @@ use Rattle.table.specs.Rows.{Row, Rows}
 use Rattle.table.specs.Table.{tableOf, emptyTable, rowIn, rowsIn}
 use Rattle.checks.specs.ExtendedState.{xss, combinedMask}
 use Rattle.checks.specs.Checks.{rowsVerdict}
-use Rattle.checks.specs.ChecksLaws.{then-right}
+use Rattle.checks.specs.ChecksLaws.{then-left, then-right, demanded}
 use Rattle.update.specs.Finish.{finished}
 use Rattle.update.specs.JoinLaws.{MaskedState}
 use Rattle.origins.specs.Origin.{finishedOrigins}
@@ -90,7 +90,7 @@ module _ (c : Choices) (pages lengths : List ℕ) where
   test k = isAccepted (serverVerdict c pages lengths k)
 
   -- none is refused
-  none-refused : serversVerdict c pages lengths ≡ Accepted → firstRefused c pages lengths ≡ none
+  pub none-refused : serversVerdict c pages lengths ≡ Accepted → firstRefused c pages lengths ≡ none
   unfolding serversVerdict firstRefused
   none-refused e = go (firstRefused c pages lengths) refl e
     where
@@ -102,7 +102,7 @@ module _ (c : Choices) (pages lengths : List ℕ) where
   unfolding firstRefused
   each-accepted e k l = is-accepted _ (lowest-none test 0 (length lengths) (none-refused e) k (omega arith) (omega arith))
 
-  server-accepted : (k : ℕ) → serverVerdict c pages lengths k ≡ Accepted → rowsVerdict (f k) ≡ Accepted
+  pub server-accepted : (k : ℕ) → serverVerdict c pages lengths k ≡ Accepted → rowsVerdict (f k) ≡ Accepted
   unfolding answer verdictOf
   server-accepted k e = then-right (lawfulVerdict (setAt pages lengths k)) _ (then-right (editionVerdict (c .edition)) _ e)
 
@@ -115,13 +115,38 @@ module _ (c : Choices) (pages lengths : List ℕ) where
   -- ---- the answer by its verdict
 
   -- an answer whose origins are of the first server's pages
-  abbrev pooledBy : Verdict → ℕ → CpuidResults → Pooled
+  abbrev pub pooledBy : Verdict → ℕ → CpuidResults → Pooled
   pooledBy v k t = record { verdict = v; server = k; table = t; origins = originsIn t (setAt pages lengths 0) }
 
   pooled-with : {v : Verdict} {k : ℕ} → poolVerdict c pages lengths ≡ v → serverNamed c pages lengths ≡ k
       → pooled c pages lengths ≡ pooledBy v k (tableFor (c .edition) v (poolRows c pages lengths))
   unfolding pooled
   pooled-with {v} {k} e p = rw (e, p)
+
+  -- where the sets are lawful and no server is refused, 19 decides
+  pub pooled-alike : lawfulSets pages lengths ≡ true → ((k : ℕ) → k < length lengths → serverVerdict c pages lengths k ≡ Accepted)
+      → pooled c pages lengths ≡ pooledBy (alikeVerdict c pages lengths) 0 (tableFor (c .edition) (alikeVerdict c pages lengths) (poolRows c pages lengths))
+  unfolding firstRefused poolVerdict setsVerdict serversVerdict serverNamed
+  pooled-alike lawful each =
+      let p : firstRefused c pages lengths ≡ none = lowest-all test 0 (length lengths) (λ k l u. ap isAccepted (each k (omega arith))) in
+      let v : poolVerdict c pages lengths ≡ alikeVerdict c pages lengths = rw (lawful, p) in
+      let s : serverNamed c pages lengths ≡ 0 = rw (lawful, p) in
+      pooled-with v s
+
+  -- an accepted pool passes every check
+  pub passes-sets : poolVerdict c pages lengths ≡ Accepted → lawfulSets pages lengths ≡ true
+  unfolding poolVerdict setsVerdict
+  passes-sets e = demanded (lawfulSets pages lengths) PoolSets (then-left (setsVerdict pages lengths) _ e)
+
+  pub passes-servers : poolVerdict c pages lengths ≡ Accepted → serversVerdict c pages lengths ≡ Accepted
+  unfolding poolVerdict
+  passes-servers e = then-left (serversVerdict c pages lengths) _ (then-right (setsVerdict pages lengths) _ e)
+
+  pub passes-alike : poolVerdict c pages lengths ≡ Accepted → allAlike (c .edition) f n ≡ true
+  unfolding poolVerdict alikeVerdict
+  passes-alike e =
+      demanded (allAlike (c .edition) f n) PoolDiffers
+      (then-right (serversVerdict c pages lengths) _ (then-right (setsVerdict pages lengths) _ e))
 
   refused-with : {r : Refusal} {k : ℕ} {q : Pooled} → q ≡ refusedPool r k → poolVerdict c pages lengths ≡ Refused r → serverNamed c pages lengths ≡ k
       → q ≡ pooled c pages lengths

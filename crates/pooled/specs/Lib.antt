@@ -1,2 +1,3 @@
 pub mod RowsPool
 pub mod PoolRight
+pub mod PoolProof
