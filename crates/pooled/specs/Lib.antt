@@ -1,3 +1,5 @@
 pub mod RowsPool
 pub mod PoolRight
 pub mod PoolProof
+pub mod OrderProof
+pub mod PoolExactly
