@@ -3,3 +3,4 @@ pub mod PoolRight
 pub mod PoolProof
 pub mod OrderProof
 pub mod PoolExactly
+pub mod ExactlyProof

@@ -91,9 +91,9 @@ entry-rises f zero i a k l =
 entry-rises f (suc n) i a k l =
     elim (eq-or-lt-of-le l) [
       | inl q ↦ subst (λ (j : ℕ). Registers EntryAtLeast (kindsAt i) (withServer (pool f n) (f (suc n)) i .result) (f j i .result)) (sym q)
-        (all-to-other (kindsAt i) (pool f n i .result) (f (suc n) i .result) (like-next f n i a))
+          (all-to-other (kindsAt i) (pool f n i .result) (f (suc n) i .result) (like-next f n i a))
       | inr q ↦ all-to-first (kindsAt i) (pool f n i .result) (f (suc n) i .result) (f k i .result) (like-next f n i a)
-        (entry-rises f n i (fewer-alike f n i a) k (omega arith))
+          (entry-rises f n i (fewer-alike f n i a) k (omega arith))
     ]
 
 -- ---- the table
