@@ -7,8 +7,8 @@ use Rattle.table.specs.declared.Refusal.the-variants.{PagesLength, SaveAreaOver
 use Rattle.table.specs.declared.Verdict.{Verdict}
 use Rattle.table.specs.declared.Verdict.the-variants.{Accepted, Refused}
 use Rattle.build.specs.Build.{underEdition}
-use Rattle.examples.specs.Evaluation.{first, evaluated}
-use Rattle.examples.specs.PageSets.{serverA, serverB, serverWithLargeD6}
+use Rattle.page_sets.specs.Evaluation.{first, evaluated}
+use Rattle.page_sets.specs.PageSets.{serverA, serverB, serverWithLargeD6}
 use Rattle.pool_join.specs.Join.{withServer, pool, allTo}
 use Rattle.pool_join.specs.Alike.{allHave, alikeTo, allAlike}
 use Rattle.pool_sets.specs.Sets.{startOf, setAt, lawfulSets, setsVerdict}
