@@ -4,6 +4,7 @@ use mathlib.Core.Bool.{Bool, true, false, _&&_}
 use mathlib.Core.List.{List}
 use Prim.Native.Nat.{ℕ, zero, suc, _-_, _≤_, _<_}
 use native.Mathlib.Omega.{arith}
+use lib.Dec.{lit<}
 use lib.ListN.{length, getD}
 use Rattle.bits.specs.Choice.{pick}
 use Rattle.bits.specs.ChoiceLaws.{never-both}
@@ -47,7 +48,7 @@ use Rattle.pool_join.specs.PoolLaws.{Servers, pool-accepted, pool-rows}
 use Rattle.pool_rows.specs.AskedBits.{alikeWhere}
 use Rattle.pool_sets.specs.declared.Joined.{Joined}
 use Rattle.pool_sets.specs.Sets.{setAt, lastOf, lawfulSets, setsVerdict}
-use Rattle.pool_sets.specs.SetsLaws.{at-least-two}
+use Rattle.pool_sets.specs.SetsLaws.{at-least-two, at-most-sixteen}
 use Rattle.pool_sets.specs.Servers.{serverVerdict, serverRows, isAccepted, firstRefused, refusedBy, serversVerdict, numberOf, poolRows, JoinsRest}
 use Rattle.pool.specs.declared.Pooled.{Pooled}
 use Rattle.pool.specs.Pool.{alikeVerdict, poolVerdict, serverFor, serverNamed, pooled, refusedPool}
@@ -232,3 +233,15 @@ module _ (c : Choices) (pages lengths : List ℕ) where
               (q ∙ ap (finishedOrigins (built .table .present)) p ∙ located-origins (built .table) (setAt pages lengths 0))
               ∙ ap (pooledBy Accepted 0) pool-table
               ∙ sym (pooled-with (alike-verdict h) none-named)
+
+-- a server is named by a number below 16
+pub server-below : (c : Choices) (pages lengths : List ℕ) → pooled c pages lengths .server < 16
+unfolding pooled serverNamed setsVerdict firstRefused
+server-below c pages lengths = go (lawfulSets pages lengths) refl (firstRefused c pages lengths) refl
+  where
+    go : (b : Bool) → lawfulSets pages lengths ≡ b → (x : Failing) → firstRefused c pages lengths ≡ x
+        → serverFor (pick b Accepted (Refused PoolSets)) (numberOf x) < 16
+    go false e x p = lit< tt
+    go true e none p = lit< tt
+    go true e (at k) p =
+        omega (arith, lowest-at (λ j. isAccepted (serverVerdict c pages lengths j)) 0 (length lengths) k p .below, at-most-sixteen pages lengths e)

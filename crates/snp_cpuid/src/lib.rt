@@ -24,6 +24,7 @@ mod carry_exports;
 mod guest_exports;
 mod kvm;
 mod line_exports;
+mod pool_exports;
 
 // Builds the table of the given pages.
 #[no_mangle]
