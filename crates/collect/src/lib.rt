@@ -83,8 +83,5 @@ pub fn collect(pages: &[u8], secure_avic: bool) -> Collected
             index = next;
         }
     }
-    Collected {
-        table: t,
-        origins,
-    }
+    Collected { table: t, origins }
 }

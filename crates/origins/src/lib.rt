@@ -3,8 +3,9 @@ use masking::PLACES;
 use masking::place;
 ghost use mathlib.Core.Path.{_≡_};
 ghost use Prim.Native.Nat.{_+_, _*_, _^_, _<_};
-ghost use Rattle.bits.specs.Choice.{pick};
 ghost use Rattle.origins.specs.Origin.{Origin, originNumber, finishedOrigins, originRead};
+
+const NONE: u64 = 0;
 
 const MADE_HERE: u64 = 1;
 
@@ -38,20 +39,12 @@ pub fn finish_origins(present: [bool; PLACES], found: [u64; PLACES]) -> [u64; PL
     out[place::VENDOR_AND_MAX_FUNCTION] = MADE_HERE;
     let mut i: usize = 0;
     while i < PLACES {
-        out[i] = of_row(present[i], out[i]);
+        if present[i] {} else {
+            out[i] = NONE;
+        }
         i += 1;
     }
     out
-}
-
-// The origin of a row that is there; else 0.
-fn of_row(present: bool, origin: u64) -> u64
-    ensures { λ r. ⌜ r ≡ pick present origin 0 ⌝ }
-{
-    if present {
-        return origin;
-    }
-    0
 }
 
 // Reads an origin's number back.

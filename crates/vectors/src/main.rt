@@ -200,13 +200,9 @@ fn print_built(built: SnpCpuidBuilt, line: &mut [u8]) -> bool {
 fn print_found(found: SnpCpuidFound, line: &mut [u8]) -> bool {
     let mut at = put(line, 0, b'l');
     at = put_word(line, at, found.found);
-    at = put_word(line, at, found.eax);
-    at = put_word(line, at, found.ebx);
-    at = put_word(line, at, found.ecx);
-    at = put_word(line, at, found.edx);
+    at = put_registers(line, at, found.eax, found.ebx, found.ecx, found.edx);
     at = put_word(line, at, found.origin);
-    at = put_long(line, at, found.page);
-    at = put_word(line, at, found.entry);
+    at = put_place(line, at, found.page, found.entry);
     print(line, at)
 }
 
@@ -223,8 +219,7 @@ fn print_first(first: SnpCpuidFirst, line: &mut [u8]) -> bool {
         first.s,
     );
     at = put_word(line, at, first.found);
-    at = put_long(line, at, first.page);
-    at = put_word(line, at, first.entry);
+    at = put_place(line, at, first.page, first.entry);
     print(line, at)
 }
 
@@ -275,6 +270,20 @@ fn put_refusal(
     next = put_word(line, next, has_subleaf);
     next = put_word(line, next, subleaf);
     put_word(line, next, s)
+}
+
+// EAX to EDX.
+fn put_registers(line: &mut [u8], at: usize, eax: u32, ebx: u32, ecx: u32, edx: u32) -> usize {
+    let mut next = put_word(line, at, eax);
+    next = put_word(line, next, ebx);
+    next = put_word(line, next, ecx);
+    put_word(line, next, edx)
+}
+
+// A page, and an entry's position on it.
+fn put_place(line: &mut [u8], at: usize, page: u64, entry: u32) -> usize {
+    let next = put_long(line, at, page);
+    put_word(line, next, entry)
 }
 
 // Two digits for each byte.

@@ -1,13 +1,13 @@
 -- `origins::finish_origins` meets its contract: places below the one that the loop has come to are finished, the others as they were marked.
 use borrow.Author.Needs.{needs}
-use mathlib.Core.Path.{_≡_, _∙_, refl, sym, ap}
-use mathlib.Core.Bool.{false}
-use Prim.Native.Nat.{_-_, _≤_, _<_}
+use mathlib.Core.Path.{_≡_, _∙_, refl, sym}
+use mathlib.Core.Logic.{⊎-elim}
+use Prim.Native.Nat.{_-_, _≤_}
 use native.Mathlib.Nat.{le-refl}
 use native.Mathlib.Omega.{arith}
-use lib.ListN.{length, getD, length-set, length-map}
-use Rattle.bits.specs.Choice.{pick}
-use Rattle.bits.specs.InPlace.{UpTo, up-to-next, up-to-end}
+use lib.ListN.{length}
+use Rattle.bits.specs.ChoiceLaws.{pick-true, pick-false}
+use Rattle.bits.specs.InPlace.{UpTo, up-to-next, up-to-same, up-to-end}
 use Rattle.origins.specs.OriginLaws.{marked, length-marked, finishedAt, finished-stores}
 use Rattle.origins.proofs.finish_origins.Statement.{statement}
 use Rattle.origins.proofs.finish_origins.Tie as tie
@@ -27,8 +27,15 @@ found-length c = search needs
 
 loop-again : tie.Need-loop-again Inv-loop μ-loop
 loop-again c =
-    let l = c .before .before .loop in
-    (search needs, up-to-next refl (omega (arith, l .inv .1 .size, length-marked (c .before .before .before .args .found), found-length (c .before .before .before))) (c .of-row .ensures ∙ ap (λ n. pick (getD (c .before .before .before .args .t1) (l .i) false) n 0) (l .inv .1 .above (l .i) (le-refl (l .i)))) (l .inv .1))
+    let l = c .before .before in
+    let u = l .loop .inv .1 in
+    let s = l .before in (
+      search needs,
+      ⊎-elim
+          (λ w. rw (w .1) (up-to-same refl (u .above (l .loop .i) (le-refl (l .loop .i)) ∙ sym (pick-true _ _ (w .0 .taken))) u))
+          (λ w. rw (w .1) (up-to-next refl (omega (arith, u .size, length-marked (s .args .found), found-length s)) (sym (pick-false _ _ (w .0 .left))) u))
+          (c .if1 .came),
+    )
 
 returns : tie.Need-returns Inv-loop μ-loop
 returns c =
@@ -48,9 +55,6 @@ finish-origins-spec =
     (λ c. search needs)
     loop-holds
     (λ c. search needs)
-    (λ c. search needs)
-    (λ c. search needs)
-    (λ c κs. search needs)
     (λ c. search needs)
     (λ c. search needs)
     (λ c. search needs)

@@ -16,7 +16,7 @@ use Rattle.table.specs.Refusal.{details, topologyDetails}
 use Rattle.table.specs.Rows.{Row, Rows, row, vacant}
 use Rattle.checks.specs.Checks.{areaVerdict}
 use Rattle.update.specs.Finish.{finished}
-use Rattle.examples.specs.Evaluation.{evaluated}
+use Rattle.page_sets.specs.Evaluation.{evaluated}
 
 -- what a marked row tells
 pub data Shown : Type 0 where

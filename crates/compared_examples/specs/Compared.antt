@@ -11,9 +11,9 @@ use Rattle.compare.specs.declared.Compared.the-variants.{Rises, RefusedA, Unlaw
 use Rattle.compare.specs.Compare.{comparedRows, compared}
 use Rattle.compare.specs.ReturnLaws.{refused-a, unlawful-b}
 use Rattle.compare.specs.DecidesProof.{decides}
-use Rattle.examples.specs.PageSets.{serverA, serverB, serverWithoutD12, serverWithLargeD6}
-use Rattle.examples.specs.Evaluation.{first, evaluated}
+use Rattle.page_sets.specs.PageSets.{serverA, serverB, serverWithoutD12, serverWithLargeD6}
+use Rattle.page_sets.specs.Evaluation.{first, evaluated}
 use Rattle.examples.specs.Computed.{serverA-accepted, serverB-rises, large-refused}
 
 -- a guest of A may move to B
 pub a-to-b : compared first serverA serverB ≡ Rises

@@ -15,8 +15,8 @@ use Rattle.kvm_checks.specs.ListChecks.{badListLength, allLawful, fieldsLawful,
 use Rattle.kvm_pages.specs.ListPages.{entriesWords, pageWords, pagesOf}
 use Rattle.kvm_import.specs.Import.{listVerdict, readList}
 use Rattle.kvm_export.specs.Export.{plainRow, rowsFrom, listRows, listOf}
-use Rattle.examples.specs.PageSets.{serverA}
-use Rattle.examples.specs.Evaluation.{first, evaluated}
+use Rattle.page_sets.specs.PageSets.{serverA}
+use Rattle.page_sets.specs.Evaluation.{first, evaluated}
 
 -- 27 rows; leaf 0 has the highest leaf Dh and "Auth" "cAMD" "enti"
 pub serverA-list : take 48 (listOf (answer first serverA .table)) ≡ bytesOfWords
