@@ -23,6 +23,8 @@ pub struct NotPooled {
 /// [`Refusal::PoolSets`] comes first; then the first refusal of a server, in their order; then [`Refusal::PoolDiffers`], where the servers differ, in
 /// a row that all their tables have, elsewhere than in feature bits or D.0.ECX.
 ///
+/// Where the rows came from is asked of the library row by row, as [`build`](crate::build) does; [`write_pool_image`] does not ask.
+///
 /// ```
 /// use snp_cpuid::{NotPooled, Options, Refusal, build, pool};
 ///
