@@ -1,7 +1,7 @@
 /* Build and image, by the proved library, by plain C of one compiler or two and, with WITH_RUST, by the Rust of differential/oracle, in one process.
  * Each round times all on the same input, in turns. A line for each input has tabs between its words: its name, the port's median in ns, and for
  * each of the others name, median and the median of the rounds' ratios: port / C, or Rust / port. bench/run links it in several orders. The Rust
- * builds its set of leaves, and writes no image. */
+ * builds its set of leaves, and writes no image. A last line has the port alone: a pool of 16 servers, 16 single builds, and their ratio. */
 #include "../include/snp_cpuid.h"
 #include "plain.h"
 
@@ -168,6 +168,32 @@ static void measure(const char *name, const uint8_t *pages, size_t n)
     putchar('\n');
 }
 
+/* one pool of 16 servers with the same set, beside 16 builds; plain C and the Rust have no pool */
+static void measure_pool(const uint8_t *pages, size_t n)
+{
+    enum { SERVERS = 16, CALLS = 1000 };
+    double pool[ROUNDS], single[ROUNDS], ratio[ROUNDS];
+    uint64_t lengths[SERVERS];
+    uint8_t *sets = malloc(SERVERS * n), out[ROOM] = {0}, alone[ROOM] = {0};
+    for (int k = 0; k < SERVERS; k++) {
+        lengths[k] = n;
+        memcpy(sets + k * n, pages, n);
+    }
+    struct snp_cpuid_written w = snp_cpuid_write_pool_image(sets, SERVERS * n, lengths, SERVERS, false, EDITION, out, ROOM);
+    if (w.number || w.length != snp_cpuid_write_image(pages, n, false, EDITION, alone, ROOM).length || memcmp(out, alone, ROOM))
+        differ("pool", "images of a pool of equals and of one of them");
+    for (int i = 0; i < ROUNDS; i++) {
+        double t = now();
+        for (int c = 0; c < CALLS; c++)
+            sink += snp_cpuid_write_pool_image(sets, SERVERS * n, lengths, SERVERS, false, EDITION, out, ROOM).length;
+        pool[i] = (now() - t) / CALLS;
+        single[i] = SERVERS * port_ns(pages, n, SERVERS * CALLS);
+        ratio[i] = pool[i] / single[i];
+    }
+    printf("pool\t%.1f\t%.1f\t%.4f\n", median(pool), median(single), median(ratio));
+    free(sets);
+}
+
 /* the set in the file, with both pages filled up to 64 entries by leaves that are filtered or already there */
 static uint8_t *full_pages(const uint8_t *pages)
 {
@@ -213,5 +239,6 @@ int main(int argc, char **argv)
     sixteen[16 * 4096 - 4096 + 16 + 48 * 63 + 47] = 1;
     measure("refused by 17: sixteen full pages, the last entry", sixteen, 16 * 4096);
 #endif
+    measure_pool(pages, sizeof pages);
     return 0;
 }

@@ -31,7 +31,7 @@ extern "C" {
  *                                                  12 a list's flag is not 0 or 1, or a word that is to be zero is not
  *                                                  13 XCR0 or XSS is beyond the table
  *                                                  14 a compacted save-area size overflows
- *                                                  15 the edition is neither 1 nor 2: before all others
+ *                                                  15 the edition is neither 1 nor 2: before all others but 18
  *                                                  16 a table goes from edition 2 back to 1: after 15, before 13 and 14
  *  17 one of the eight reserved bytes (40 to 47) of an entry below its page's count is not zero: after 2 and before 3. It names the leaf,
  *     EAX_IN, of the first such entry, whether or not a table keeps it, and no subleaf. XCR0_IN, XSS_IN, the bytes after the count and
@@ -119,6 +119,18 @@ struct snp_cpuid_line_read {
 struct snp_cpuid_carried {
     uint32_t is_image;
     uint32_t number;
+};
+
+/* What a pool of servers gives. A refused pool has row_count 0 and max_extended_state 0. */
+struct snp_cpuid_pooled {
+    uint32_t number;
+    uint32_t leaf;
+    uint32_t has_subleaf; /* 1 where the refusal names a subleaf */
+    uint32_t subleaf;
+    uint32_t s;
+    uint32_t server; /* the index, from 0, of the server whose own refusal it is, else 0 */
+    uint64_t row_count;
+    uint64_t max_extended_state; /* the combined mask */
 };
 
 /* Where the first entry for a leaf stands: number 0 with found 1, its page and its position on the page, both counted from 0, or with found 0 and
@@ -211,6 +223,24 @@ struct snp_cpuid_first snp_cpuid_first_entry(const uint8_t *pages, size_t length
  * edition is neither 1 nor 2; 16 from 2 to 1; then 13 and 14, as a guest has them, by the table's own rows, also within one edition. Where it
  * refuses, or the bytes are no image, they are as they were. */
 struct snp_cpuid_carried snp_cpuid_carry(uint8_t *image, size_t length, uint32_t from, uint32_t to, uint64_t xcr0, uint64_t xss);
+
+/* One table for a pool of 2 to 16 servers, which a guest may keep when it moves between them. Their page sets stand end to end, the length bytes at
+ * pages; lengths has the bytes of each, `servers` numbers in server order. The choices are the same for all. Feature registers (1.ECX, 1.EDX but bit
+ * 28, 7.0.EBX, ECX and EDX, 80000001h.ECX and EDX, 80000008h.EBX, D.0.EAX, D.1.EAX and ECX, 8000001Ah.EAX, 8000001Fh.EAX) of the servers' first
+ * entries are joined by and, all else is the first server's, and the table is built of that: its feature registers and combined mask are the and of the
+ * servers' tables', and its rows are those that all have. Refusals in this order: 18; then any server's own, in server order, which server tells
+ * (an edition other than 1 or 2 is the first's own, 15); then 19. */
+struct snp_cpuid_pooled snp_cpuid_pool(const uint8_t *pages, size_t length, const uint64_t *lengths, size_t servers, bool secure_avic,
+                                       uint32_t edition);
+
+/* Builds the pool's table and looks a row up in it, as snp_cpuid_lookup does. The origin is where the row stood in the first server's pages. */
+struct snp_cpuid_found snp_cpuid_pool_lookup(const uint8_t *pages, size_t length, const uint64_t *lengths, size_t servers, bool secure_avic,
+                                             uint32_t edition, uint32_t leaf, bool has_subleaf, uint32_t subleaf, bool enforce_subleaf);
+
+/* Builds the pool's table and writes its image at the front of out, as snp_cpuid_write_image does: the pool's refusals first, then 9. Where it refuses,
+ * out is as it was; bytes beyond the image are as they were. */
+struct snp_cpuid_written snp_cpuid_write_pool_image(const uint8_t *pages, size_t length, const uint64_t *lengths, size_t servers, bool secure_avic,
+                                                    uint32_t edition, uint8_t *out, size_t room);
 
 /* A refusal as one line of ASCII: the number in decimal, then, each after one space, the details that it names, leaf in eight hexadecimal capitals,
  * subleaf (left out where there is none) and s in decimal, and a newline. The numbers in use, by what they name:

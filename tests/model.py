@@ -248,20 +248,24 @@ def rust_answer(answer):
 
 # The public functions
 
+def build_rows(rows, edition):
+    """The table of masked first entries, in their place; refusals 3 to 8 of "Where each check stands"."""
+    check_required(rows)
+    xfem, xss = state_masks(rows)
+    finish_state(rows, xfem, xss)
+    rows[0xB, 0], rows[0xB, 1] = topology(*topology_inputs(rows))
+    clear_by_state(rows, xfem, xss, edition)
+    finish_features(rows)
+    return 'table', {key: tuple(registers) for key, registers in rows.items()}, xfem | xss
+
+
 def build(pages, secure_avic, edition=1):
     """The table of the pages, or the refusal of the first check that fails in "Where each check stands". The edition is one of any 32 bits."""
     try:
         check_edition(edition)
-        rows = first_rows(pages, secure_avic)
-        check_required(rows)
-        xfem, xss = state_masks(rows)
-        finish_state(rows, xfem, xss)
-        rows[0xB, 0], rows[0xB, 1] = topology(*topology_inputs(rows))
+        return build_rows(first_rows(pages, secure_avic), edition)
     except Refusal as refusal:
         return refusal.answer
-    clear_by_state(rows, xfem, xss, edition)
-    finish_features(rows)
-    return 'table', {key: tuple(registers) for key, registers in rows.items()}, xfem | xss
 
 
 def by_leaf(key):
@@ -269,11 +273,16 @@ def by_leaf(key):
     return key[0], key[1] or 0
 
 
+def feature_bits(key, register):
+    """The bits of a register that are features."""
+    return 0xFFFFFFFF & ~NO_FEATURE.get((*key, register), 0) if register in FEATURES.get(key, ()) else 0
+
+
 def register_rises(key, register, a, b):
     """Whether one register of B's entry is as demand 3 asks: "at least" means every bit set in A's."""
     if register in FREED.get(key, ()):
         return True
-    features = 0xFFFFFFFF & ~NO_FEATURE.get((*key, register), 0) if register in FEATURES.get(key, ()) else 0
+    features = feature_bits(key, register)
     return a & features & ~b == 0 and (a ^ b) & ~features == 0
 
 
@@ -325,7 +334,11 @@ def image(answer):
 
 def write(pages, secure_avic, buffer, edition=1):
     """(('written', length) or the refusal, the lent bytes afterwards). It "gives building's refusals before 9". """
-    answer = build(pages, secure_avic, edition)
+    return write_answer(build(pages, secure_avic, edition), buffer)
+
+
+def write_answer(answer, buffer):
+    """The same of an answer that stands."""
     if answer[0] == 'refusal':
         return answer, bytes(buffer)
     data = image(answer)

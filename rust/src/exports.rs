@@ -90,6 +90,19 @@ pub struct First {
     pub entry: u32,
 }
 
+#[repr(C)]
+#[derive(Clone, Copy, Debug, Default, PartialEq, Eq)]
+pub struct Pooled {
+    pub number: u32,
+    pub leaf: u32,
+    pub has_subleaf: u32,
+    pub subleaf: u32,
+    pub s: u32,
+    pub server: u32,
+    pub row_count: u64,
+    pub max_extended_state: u64,
+}
+
 unsafe extern "C" {
     pub fn snp_cpuid_build(pages: *const u8, length: usize, secure_avic: bool, edition: u32) -> Built;
     pub fn snp_cpuid_lookup(
@@ -146,4 +159,27 @@ unsafe extern "C" {
     pub fn snp_cpuid_carry(image: *mut u8, length: usize, from: u32, to: u32, xcr0: u64, xss: u64) -> Carried;
     pub fn snp_cpuid_write_line(number: u32, leaf: u32, has_subleaf: bool, subleaf: u32, s: u32, out: *mut u8, room: usize) -> LineWritten;
     pub fn snp_cpuid_read_line(line: *const u8, length: usize) -> LineRead;
+    pub fn snp_cpuid_pool(pages: *const u8, length: usize, lengths: *const u64, servers: usize, secure_avic: bool, edition: u32) -> Pooled;
+    pub fn snp_cpuid_pool_lookup(
+        pages: *const u8,
+        length: usize,
+        lengths: *const u64,
+        servers: usize,
+        secure_avic: bool,
+        edition: u32,
+        leaf: u32,
+        has_subleaf: bool,
+        subleaf: u32,
+        enforce_subleaf: bool,
+    ) -> Found;
+    pub fn snp_cpuid_write_pool_image(
+        pages: *const u8,
+        length: usize,
+        lengths: *const u64,
+        servers: usize,
+        secure_avic: bool,
+        edition: u32,
+        out: *mut u8,
+        room: usize,
+    ) -> Written;
 }

@@ -24,6 +24,7 @@ mod kvm;
 mod line;
 mod options;
 mod origin;
+mod pool;
 mod refusal;
 mod table;
 
@@ -36,6 +37,7 @@ pub use kvm::{KVM_PAGES_BYTES, MOST_KVM_BYTES, read_kvm, write_kvm};
 pub use line::NoSuchLine;
 pub use options::Options;
 pub use origin::{Found, Origin, first_entry};
+pub use pool::{NotPooled, pool, pool_lookup, write_pool_image};
 pub use refusal::{Details, Refusal, TopologyError};
 pub use table::{CpuidResult, Row, Rows, Table};
 

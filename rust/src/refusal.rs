@@ -3,7 +3,7 @@
 use std::error::Error;
 use std::fmt;
 
-/// Why a page set gave no table, a buffer nothing, a list no pages, or a table was not carried to another edition.
+/// Why a page set or a pool of them gave no table, a buffer nothing, a list no pages, or a table was not carried to another edition.
 #[derive(Clone, Copy, Debug, PartialEq, Eq, Hash)]
 pub enum Refusal {
     /// 1: the length is 0 or no multiple of 4,096.
@@ -158,7 +158,9 @@ const TABLE: &[Line] = &[
     Line {
         number: 19,
         name: |_| Refusal::PoolDiffers,
-        words: |_| "the servers of the pool differ, in a row that all their tables have, elsewhere than in feature bits or the size of the save area".into(),
+        words: |_| {
+            "the servers of the pool differ, in a row that all their tables have, elsewhere than in feature bits or the size of the save area".into()
+        },
     },
     Line { number: 20, name: |_| Refusal::NothingDecides, words: |_| "no single bit of the results decides over the answer".into() },
 ];

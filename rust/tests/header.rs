@@ -29,6 +29,7 @@ fn c_pair(declaration: &str) -> (String, String) {
         "size_t" => "usize",
         "bool" => "bool",
         "const uint8_t *" => "*const u8",
+        "const uint64_t *" => "*const u64",
         "uint8_t *" => "*mut u8",
         other => panic!("a type that this test does not know: {other}"),
     };

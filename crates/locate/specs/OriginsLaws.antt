@@ -141,9 +141,9 @@ module _ (s : List ℕ) (present : List Bool) (found : List ℕ) (i : CpuidPageI
       at′ j l true q =
           let r : j ≡ place = eqb-true j place q in
           rw r
-              (pick-true _ _ (getD-set-same present place true false (omega (arith, n)))
-              ∙ getD-set-same found place number 0 (omega (arith, w .size))
-              ∙ sym (takes p) ∙ sym (pick-false _ _ free) ∙ w .at place p)
+          (pick-true _ _ (getD-set-same present place true false (omega (arith, n)))
+          ∙ getD-set-same found place number 0 (omega (arith, w .size))
+          ∙ sym (takes p) ∙ sym (pick-false _ _ free) ∙ w .at place p)
       at′ j l false q =
           let r : j ≢ place = eqb-false j place q in
           rw (getD-set-other present place j true false r, getD-set-other found place j number 0 r) (same j l (λ e. r))

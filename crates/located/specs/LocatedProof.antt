@@ -189,8 +189,8 @@ module _ (chosen : Choices) (s : List ℕ) (accepted : answer chosen s .verdict 
       go (located x z f y) =
           let c : FirstCounted s i (f .found .page) (f .found .position) = first-counted f in
           rw y
-              (entry-read (f .found .page) (f .found .position)
-              (omega (arith, c .position, counts-fit-at s (lawful-counts s (accepted-lawful chosen s accepted)) (f .found .page) (c .page))))
+          (entry-read (f .found .page) (f .found .position)
+          (omega (arith, c .position, counts-fit-at s (lawful-counts s (accepted-lawful chosen s accepted)) (f .found .page) (c .page))))
 
   pub row-origins : Origins chosen s i
   row-origins = record {

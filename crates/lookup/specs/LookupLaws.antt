@@ -54,7 +54,6 @@ module _ (l : CpuidFunction) (p : ℕ) (at : p ≡ placeOf l 0) where
 
 -- ---- the place that is asked for
 
-
 -- past the last place there is no row, since a table has 88
 module _ (t : CpuidResults) (whole : length (t .present) ≤ places) where
   past-last : rowResult (rowIn t places) ≡ Nothing

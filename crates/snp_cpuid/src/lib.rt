@@ -24,6 +24,7 @@ mod carry_exports;
 mod guest_exports;
 mod kvm;
 mod line_exports;
+mod pool_exports;
 
 // Builds the table of the given pages.
 #[no_mangle]
@@ -32,7 +33,11 @@ pub extern "C" fn snp_cpuid_build(pages: &[u8], secure_avic: bool, edition: u32)
 {
     let built = build::build_table(pages, choices(secure_avic, edition));
     let verdict = built.verdict;
-    built_numbers(verdict, built.table.row_count, built.table.max_extended_state)
+    built_numbers(
+        verdict,
+        built.table.row_count,
+        built.table.max_extended_state,
+    )
 }
 
 // Builds, and looks a row up as leaf_result_ref does; with the row it tells where it came from.

@@ -13,6 +13,7 @@ mod lookup;
 mod names;
 mod origins;
 mod page_sets;
+mod pool;
 mod refusals;
 mod run;
 mod table;

@@ -8,7 +8,8 @@ use std::process::{Command, Stdio};
 /// The shipped page set.
 pub const EPYC: &str = "../tests/epyc-milan.pages";
 
-/// Runs of each command that builds the table of one page set and prints nothing where it is refused: the page set is PAGES, the output OUT.
+/// Runs of each command that builds the table of one page set, or of two servers that have the same, and prints nothing where it is refused: the page
+/// set is PAGES, the output OUT.
 #[rustfmt::skip]
 pub const BUILDING: &[&[&str]] = &[
     &["table", "PAGES"],
@@ -20,6 +21,8 @@ pub const BUILDING: &[&[&str]] = &[
     &["to-dump", "PAGES", "-o", "OUT"],
     &["to-kvm", "PAGES", "-o", "OUT"],
     &["carry", "PAGES", "--from", "1", "--to", "2", "--xcr0", "1", "--xss", "0", "-o", "OUT"],
+    &["pool", "PAGES", "PAGES"],
+    &["pool", "PAGES", "PAGES", "-o", "OUT"],
 ];
 
 /// Those of them that build under one edition; `carry` names two.

@@ -6,7 +6,7 @@ use std::ffi::{OsStr, OsString};
 /// Operands and options, as they were given.
 #[derive(Default)]
 pub struct Arguments {
-    /// the operands, as many as the command takes
+    /// the operands, as many as the command takes; more where its last may be given more than once
     pub operands: Vec<OsString>,
     options: Vec<(&'static str, OsString)>,
 }

@@ -4,11 +4,14 @@ use crate::arguments::Arguments;
 use crate::failure::Failure;
 use crate::option::Opt;
 
+/// What the name of an operand ends in that may be given more than once.
+pub const MORE: &str = "..";
+
 /// One command. Its usage line, its option lines and its line in the main help are made from these.
 pub struct Command {
     /// its name
     pub name: &'static str,
-    /// its operands, each by the name that the help gives it
+    /// its operands, each by the name that the help gives it; the last may be given more than once where its name ends in two dots
     pub operands: &'static [&'static str],
     /// its options, by groups: its own, and those that it shares with others
     pub options: &'static [&'static [Opt]],
@@ -23,6 +26,11 @@ pub struct Command {
 }
 
 impl Command {
+    /// Whether the last operand may be given more than once.
+    pub fn takes_more(&self) -> bool {
+        self.operands.last().is_some_and(|name| name.ends_with(MORE))
+    }
+
     /// All its options, in the order of the help.
     pub fn options(&self) -> impl Iterator<Item = &'static Opt> {
         self.options.iter().copied().flatten()

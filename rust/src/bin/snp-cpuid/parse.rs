@@ -1,7 +1,7 @@
 //! The arguments of a command, read from the command line.
 
 use crate::arguments::Arguments;
-use crate::command::Command;
+use crate::command::{Command, MORE};
 use crate::failure::Failure;
 use crate::input::shown;
 use crate::option::Opt;
@@ -63,9 +63,9 @@ fn take(
 /// Whether a command has all its arguments and no more.
 fn whole(command: &Command, arguments: &Arguments) -> Result<(), String> {
     if let Some(missing) = command.operands.get(arguments.operands.len()) {
-        return Err(format!("{missing} is missing"));
+        return Err(format!("{} is missing", missing.trim_end_matches(MORE)));
     }
-    if let Some(more) = arguments.operands.get(command.operands.len()) {
+    if let Some(more) = arguments.operands.get(command.operands.len()).filter(|_| !command.takes_more()) {
         return Err(format!("one operand too many, '{}'", shown(more)));
     }
     match command.options().find(|option| option.required && !arguments.has(option)) {

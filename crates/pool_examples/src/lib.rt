@@ -1,0 +1,1 @@
+// Pools of whole page sets, computed: statements and proofs, no code.

@@ -1,0 +1,3 @@
+pub mod AskedBits
+pub mod AskedLaws
+pub mod CodeLaws

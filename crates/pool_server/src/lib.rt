@@ -1,0 +1,58 @@
+// One server of a pool by itself. Its pages come in; building's verdict goes out and, where it accepts, the masked first entries and where each
+// stands.
+use build::build_rows;
+use build::validate_pages;
+use masking::PLACES;
+use table::Choices;
+use table::CpuidResults;
+use table::Refusal;
+use table::Verdict;
+use table::empty_table;
+use table::known_edition;
+ghost use mathlib.Core.Path.{_≡_};
+ghost use Rattle.pool_server.specs.Server.{refusedServer, serverOf};
+
+// What building gives, and what it starts from where it accepts.
+pub struct Server {
+    pub verdict: Verdict,
+    pub table: CpuidResults,
+    pub origins: [u64; PLACES],
+}
+
+// A refused server gives no entries.
+fn refused_server(r: Refusal) -> Server
+    ensures { λ q. ⌜ q ≡ refusedServer r ⌝ }
+{
+    let table = empty_table();
+    Server {
+        verdict: Verdict::Refused(r),
+        table,
+        origins: [0; PLACES],
+    }
+}
+
+// The pages, walked once.
+pub fn server_rows(pages: &[u8], choices: Choices) -> Server
+    ensures { λ r. ⌜ r ≡ serverOf choices (now (pages .entry)) ⌝ }
+{
+    if known_edition(choices.edition) {} else {
+        return refused_server(Refusal::UnknownEdition);
+    }
+    let lawful = validate_pages(pages);
+    if let Verdict::Refused(r) = lawful {
+        return refused_server(r);
+    }
+    let collected = collect::collect(pages, choices.secure_avic);
+    let table = collected.table;
+    let built = build_rows(table, choices.edition);
+    let verdict = built.verdict;
+    if let Verdict::Refused(r) = verdict {
+        return refused_server(r);
+    }
+    let origins = collected.origins;
+    Server {
+        verdict: Verdict::Accepted,
+        table,
+        origins,
+    }
+}

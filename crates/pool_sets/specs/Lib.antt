@@ -1,0 +1,4 @@
+pub mod Sets
+pub mod Servers
+pub mod SetsLaws
+pub mod ServersLaws

@@ -1,0 +1,2 @@
+pub mod WritePool
+pub mod WritePoolLaws

@@ -1,0 +1,110 @@
+// One table for a pool of servers, for C and Rust: document 02, P12. Page sets end to end and their lengths in, plain numbers or an image out.
+use answers::SnpCpuidFound;
+use answers::SnpCpuidWritten;
+use answers::choices;
+use answers::found_numbers;
+use answers::subleaf_of;
+use answers::written_numbers;
+use pool::build_pool;
+use pool_write::write_pool_image;
+use table::Verdict;
+use x86defs::CpuidFunction;
+ghost use mathlib.Core.Path.{_≡_};
+ghost use Prim.Native.Nat.{_<_};
+ghost use Rattle.pool.specs.Pool.{pooled};
+ghost use Rattle.pool_write.specs.WritePool.{writePool};
+ghost use Rattle.answers.specs.Answers.{choicesOf, writtenNumbers, subleafOf};
+ghost use Rattle.snp_cpuid.specs.PoolExports.{pooledGiven, pooledNumbers, pooledFound};
+
+#[repr(C)]
+pub struct SnpCpuidPooled {
+    pub number: u32,
+    pub leaf: u32,
+    pub has_subleaf: u32,
+    pub subleaf: u32,
+    pub s: u32,
+    pub server: u32,
+    pub row_count: u64,
+    pub max_extended_state: u64,
+}
+
+// What a pool gives, as numbers: the verdict's, whose refusal it is, how many rows there are and the combined mask.
+fn pooled_numbers(
+    verdict: Verdict,
+    server: usize,
+    row_count: usize,
+    max_extended_state: u64,
+) -> SnpCpuidPooled
+    requires { ⌜ server < 16 ⌝ }
+    ensures { λ r. ⌜ r ≡ pooledGiven verdict server «row_count» «max_extended_state» ⌝ }
+{
+    let numbers = numbers::answer_numbers(verdict);
+    SnpCpuidPooled {
+        number: numbers.number as u32,
+        leaf: numbers.leaf,
+        has_subleaf: numbers.has_subleaf,
+        subleaf: numbers.subleaf,
+        s: numbers.s as u32,
+        server: server as u32,
+        row_count: row_count as u64,
+        max_extended_state,
+    }
+}
+
+// Builds one table for servers whose page sets stand end to end.
+#[no_mangle]
+pub extern "C" fn snp_cpuid_pool(
+    pages: &[u8],
+    lengths: &[u64],
+    secure_avic: bool,
+    edition: u32,
+) -> SnpCpuidPooled
+    ensures { λ r. ⌜ r ≡ pooledNumbers (pooled (choicesOf «secure_avic» edition) (now (pages .entry)) (now (lengths .entry))) ⌝ }
+{
+    let built = build_pool(pages, lengths, choices(secure_avic, edition));
+    let verdict = built.verdict;
+    pooled_numbers(
+        verdict,
+        built.server,
+        built.table.row_count,
+        built.table.max_extended_state,
+    )
+}
+
+// Builds, and looks a row up as leaf_result_ref does; with the row it tells where it stood in the first server's pages.
+#[no_mangle]
+pub extern "C" fn snp_cpuid_pool_lookup(
+    pages: &[u8],
+    lengths: &[u64],
+    secure_avic: bool,
+    edition: u32,
+    leaf: u32,
+    has_subleaf: bool,
+    subleaf: u32,
+    enforce_subleaf: bool,
+) -> SnpCpuidFound
+    ensures { λ r. ⌜ r ≡ pooledFound (pooled (choicesOf «secure_avic» edition) (now (pages .entry)) (now (lengths .entry))) leaf (subleafOf «has_subleaf» subleaf) «enforce_subleaf» ⌝ }
+{
+    let built = build_pool(pages, lengths, choices(secure_avic, edition));
+    let table = built.table;
+    let origins = built.origins;
+    let named = subleaf_of(has_subleaf, subleaf);
+    let result = lookup::leaf_result(table, CpuidFunction(leaf), named, enforce_subleaf);
+    let origin = lookup::leaf_origin(origins, CpuidFunction(leaf), named, enforce_subleaf);
+    found_numbers(result, origin)
+}
+
+// Builds, and writes the image of the pool's table at the front of `out`.
+#[no_mangle]
+pub extern "C" fn snp_cpuid_write_pool_image(
+    pages: &[u8],
+    lengths: &[u64],
+    secure_avic: bool,
+    edition: u32,
+    out: &mut [u8],
+) -> SnpCpuidWritten
+    ensures { λ r. ⌜ r ≡ writtenNumbers (writePool (choicesOf «secure_avic» edition) (now (pages .entry)) (now (lengths .entry)) (now (out .entry)) .answer) ⌝ }
+    ensures { λ _. ⌜ now (out .exit) ≡ writePool (choicesOf «secure_avic» edition) (now (pages .entry)) (now (lengths .entry)) (now (out .entry)) .buffer ⌝ }
+{
+    written_numbers(write_pool_image(pages, lengths, choices(secure_avic, edition), out))
+}
