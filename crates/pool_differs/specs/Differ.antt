@@ -5,29 +5,18 @@ use Prim.Native.Nat.{ℕ}
 use Rattle.table.specs.declared.Refusal.the-variants.{PoolDiffers}
 use Rattle.table.specs.declared.Verdict.the-variants.{Accepted, Refused}
 use Rattle.page_sets.specs.Evaluation.{first}
-use Rattle.page_sets.specs.PageSets.{entry, page, requiredEntries, firstPage, serverA}
+use Rattle.page_sets.specs.PageSets.{entry, page, firstPage, serverA}
 use Rattle.pool.specs.Pool.{pooled}
 use Rattle.pool_examples.specs.Pools.{two, serverW, pooledOpen}
 
 abbrev pub three : List ℕ
 three = 8192 ∷ 8192 ∷ 8192 ∷ []
 
--- A without bit 28 of 1.EDX in its first entry of leaf 1
-unfoldable pub serverM : List ℕ
-serverM =
-    page 23 (entry 1 0 0xA00F11 0x10000 0x3ED83203 0x078BFBFF ++ requiredEntries 0x3ED83203 0x219C07A9 0x3F)
-    ++ page 3 (entry 0xD 0 0x7 0x340 0x340 0 ++ entry 0xD 1 0x7 0x340 0 0 ++ entry 0xD 2 0x100 0x240 0 0)
-
 -- A with another size of D.2
 unfoldable pub serverD : List ℕ
 serverD =
     firstPage 0x3ED83203 0x219C07A9 0x3F
     ++ page 3 (entry 0xD 0 0x7 0x340 0x340 0 ++ entry 0xD 1 0x7 0x340 0 0 ++ entry 0xD 2 0x101 0x240 0 0)
-
--- 19: bit 28 of 1.EDX, which is no feature
-pub a-and-m : pooled first (serverA ++ serverM) two .verdict ≡ Refused PoolDiffers
-unfolding pooledOpen serverM
-a-and-m = refl
 
 -- 19: another size of D.2, which both tables have
 pub a-and-d : pooled first (serverA ++ serverD) two .verdict ≡ Refused PoolDiffers
