@@ -36,7 +36,8 @@ use Rattle.update.specs.Finish.{finished}
 use Rattle.update.specs.JoinLaws.{MaskedState}
 use Rattle.origins.specs.Origin.{finishedOrigins}
 use Rattle.origins.specs.OriginLaws.{finished-origins}
-use Rattle.collect.specs.FirstEntries.{standsAt, foundOrigins, rowsOf}
+use Rattle.collect.specs.FirstEntries.{rowsOf}
+use Rattle.locate.specs.Stands.{standsAt, foundOrigins}
 use Rattle.build.specs.declared.RowsBuilt.{RowsBuilt}
 use Rattle.build.specs.Built.{tableFor, builtFrom}
 use Rattle.build.specs.Build.{editionVerdict, lawfulVerdict, verdictOf, originsIn, answer}

@@ -8,7 +8,7 @@ use Rattle.table.specs.declared.Refusal.{Refusal}
 use Rattle.table.specs.declared.Verdict.{Verdict}
 use Rattle.table.specs.declared.Verdict.the-variants.{Accepted, Refused}
 use Rattle.table.specs.Table.{emptyTable}
-use Rattle.collect.specs.FirstEntries.{foundOrigins}
+use Rattle.locate.specs.Stands.{foundOrigins}
 use Rattle.collect.specs.Collect.{collected}
 use Rattle.build.specs.Build.{answer}
 use Rattle.pool_server.specs.declared.Server.{Server}

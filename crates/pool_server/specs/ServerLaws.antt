@@ -12,7 +12,7 @@ use Rattle.table.specs.declared.Verdict.the-variants.{Accepted, Refused}
 use Rattle.table.specs.Edition.{knownEdition}
 use Rattle.table.specs.Table.{rowsIn}
 use Rattle.checks.specs.Checks.{rowsVerdict}
-use Rattle.collect.specs.FirstEntries.{foundOrigins}
+use Rattle.locate.specs.Stands.{foundOrigins}
 use Rattle.collect.specs.Collect.{collected, collected-rows}
 use Rattle.build.specs.Build.{editionVerdict, lawfulVerdict, rowsFor, verdictOf, answer}
 use Rattle.pool_server.specs.declared.Server.{Server}

@@ -42,7 +42,7 @@ pub fn server_rows(pages: &[u8], choices: Choices) -> Server
     if let Verdict::Refused(r) = lawful {
         return refused_server(r);
     }
-    let collected = collect::collect(pages, choices.secure_avic);
+    let collected = locate::collect_located(pages, choices.secure_avic);
     let table = collected.table;
     let built = build_rows(table, choices.edition);
     let verdict = built.verdict;

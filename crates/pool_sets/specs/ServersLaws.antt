@@ -17,7 +17,7 @@ use Rattle.table.specs.declared.Verdict.{Verdict}
 use Rattle.table.specs.declared.Verdict.the-variants.{Accepted, Refused}
 use Rattle.table.specs.Rows.{Rows}
 use Rattle.table.specs.Table.{rowsIn}
-use Rattle.collect.specs.FirstEntries.{foundOrigins}
+use Rattle.locate.specs.Stands.{foundOrigins}
 use Rattle.collect.specs.RowsFit.{rows-fit}
 use Rattle.pool_join.specs.Join.{withServer, pool}
 use Rattle.pool_rows.specs.AskedBits.{askedTable, stillAlike}

@@ -4,3 +4,4 @@ pub mod PoolProof
 pub mod OrderProof
 pub mod PoolExactly
 pub mod ExactlyProof
+pub mod PoolWrites

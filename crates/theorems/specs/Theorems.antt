@@ -126,6 +126,18 @@ use Rattle.examples.specs.Computed as Computed
 use Rattle.compared_examples.specs.Compared as Pairs
 use Rattle.marked_examples.specs.MarkedRows.{marked, marked-rows}
 use Rattle.marked_examples.specs.MarkedRows.Shown.{core, refusal, area, supervisor}
+use Rattle.pool.specs.Pool.{pooled}
+use Rattle.pool_write.specs.WritePool.{writePool}
+use Rattle.pooled.specs.PoolRight.{poolTable, PoolRight, Greatest, OneMore, OrderFree, NothingMore}
+use Rattle.pooled.specs.PoolProof.{pool-right, greatest, one-more}
+use Rattle.pooled.specs.OrderProof.{order-free}
+use Rattle.pooled.specs.PoolExactly.{PoolExactly, ServerFault, DifferFault}
+use Rattle.pooled.specs.ExactlyProof.{pool-exactly}
+use Rattle.pooled.specs.PoolWrites.{pool-writes-exactly}
+use Rattle.pool_examples.specs.Pools
+use Rattle.pool_differs.specs.Differ
+use Rattle.pool_differs.specs.Instances as PoolInstances
+use Rattle.pool_bit_28.specs.Bit28
 
 -- ---- Demand 1. crates/refusals/specs/Conditions.antt has each condition by itself, Exactly.antt the two records.
 
@@ -667,3 +679,64 @@ one-short = ComputedLines.one-short
 
 pub one-with-leaf : writeLine (told 1 0xD None 0) (7 ∷ []) ≡ leaves NoLineWritten (7 ∷ [])
 one-with-leaf = ComputedLines.one-with-leaf
+
+-- ---- P12, one table for a pool of servers. crates/pool_join/specs/Join.antt has the join and Alike.antt what 19 asks, crates/pool_sets/specs/Sets.antt
+-- the page sets in the slice, crates/pool/specs/Pool.antt the answer.
+
+-- 18, 15, a server's own refusal with its number, 19 and the table, each if and only if its condition holds and no earlier one does; a refused pool has no
+-- row. crates/pooled/specs/PoolExactly.antt
+pub each-pool-answer-exactly : (chosen : Choices) (pages lengths : List ℕ) → PoolExactly chosen pages lengths
+each-pool-answer-exactly = pool-exactly
+
+-- an accepted pool's rows, Dh subleaves among them, are those that all tables have; its feature registers and combined mask are the and of the servers';
+-- and its table rises to every server's. crates/pooled/specs/PoolRight.antt
+pub a-pool-is-the-and : (chosen : Choices) (pages lengths : List ℕ) → pooled chosen pages lengths .verdict ≡ Accepted → PoolRight chosen pages lengths
+a-pool-is-the-and = pool-right
+
+-- a table whose feature bits and mask lie within every server's has none beyond the pool's
+pub a-pool-is-the-greatest : (chosen : Choices) (pages lengths : List ℕ) → pooled chosen pages lengths .verdict ≡ Accepted → Greatest chosen pages lengths
+a-pool-is-the-greatest = greatest
+
+-- one server more, or several, wherever they stand: no feature bit, no mask bit and no row is added, where both pools are accepted
+pub one-server-more : OneMore
+one-server-more = one-more
+
+-- the order of the servers beyond the first does not matter: the whole answer is the same
+pub order-of-servers-is-free : OrderFree
+order-of-servers-is-free = order-free
+
+-- the pool's image: 9 exactly where the buffer is shorter, after the pool's refusals; every lent byte
+pub each-pool-write-exactly : (chosen : Choices) (pages lengths buffer : List ℕ)
+    → FrontExactly (pooled chosen pages lengths .verdict) (image (pooled chosen pages lengths .table)) buffer (writePool chosen pages lengths buffer)
+each-pool-write-exactly = pool-writes-exactly
+
+-- Not empty words: a pool of two; 18 for one set and for lengths that only wrap; 15; the second server's own 1; 19 for bit 28 of 1.EDX and for D.2, and
+-- accepted with a third server that has no D.2, so that one server more gave rows to a pool that was refused. crates/pool_examples, pool_differs and
+-- pool_bit_28
+pub pool-of-a-and-w : PoolRight first (serverA ++ Pools.serverW) Pools.two
+pool-of-a-and-w = PoolInstances.of-a-and-w
+
+pub one-alone-is-no-pool : pooled (underEdition 3) serverA (8192 ∷ []) .verdict ≡ Refused PoolSets
+one-alone-is-no-pool = Pools.one-alone
+
+pub lengths-do-not-wrap : pooled first (serverA ++ Pools.serverW) (0xFFFFFFFFFFFFFFFF ∷ 16385 ∷ []) .verdict ≡ Refused PoolSets
+lengths-do-not-wrap = Pools.wraps
+
+pub no-third-edition-in-a-pool : pooled (underEdition 3) serverA (8192 ∷ 0 ∷ []) .verdict ≡ Refused UnknownEdition
+no-third-edition-in-a-pool = Pools.unknown
+
+pub the-second-by-itself : ServerFault first serverA (8192 ∷ 0 ∷ []) 1 PagesLength
+the-second-by-itself = PoolInstances.of-own
+
+pub bit-28-is-no-feature : pooled first (serverA ++ Bit28.serverM) Pools.two .verdict ≡ Refused PoolDiffers
+bit-28-is-no-feature = Bit28.a-and-m
+
+pub d-2-differs : DifferFault first (serverA ++ Differ.serverD) Pools.two
+d-2-differs = PoolInstances.of-a-and-d
+
+pub a-third-server-lifts-it : pooled first (serverA ++ Differ.serverD ++ Pools.serverW) Differ.three .verdict ≡ Accepted
+a-third-server-lifts-it = Differ.a-and-d-and-w
+
+pub a-server-more-adds-nothing :
+    NothingMore (poolTable first (serverA ++ Pools.serverW) Pools.two) (poolTable first (serverA ++ Differ.serverD ++ Pools.serverW) Differ.three)
+a-server-more-adds-nothing = PoolInstances.of-one-more

@@ -17,8 +17,8 @@ returns-2 c =
     server-unlawful _ _ (sym (known .before .known-edition .ensures) ∙ known .if1 .taken) (l .validate-pages .ensures) (v .lawful .given .1)
     (c .refused-server2 .ensures)
 
-collect-requires : tie.Need-collect-requires
-collect-requires c κs =
+collect-located-requires : tie.Need-collect-located-requires
+collect-located-requires c κs =
     let e = sym (c .before .before .validate-pages .ensures) ∙ c .enum-told .given .1 in
     (lawful-counts _ e, lawful-clean _ e)
 
@@ -28,7 +28,7 @@ returns-3 c =
     let v = c .before .before in let b = v .before .before in let k = b .before .before in
     let e = k .before in let l = e .before .before in let known = l .before in
     server-refused _ _ (sym (known .before .known-edition .ensures) ∙ known .if1 .taken) (l .validate-pages .ensures) (e .enum-told .given .1)
-    (k .collect .result .table) (k .collect .ensures .0) (ap (λ (x : RowsBuilt). x .verdict) (b .build-rows .ensures)) (v .verdict .given .1) (c .refused-server3 .ensures)
+    (k .collect-located .result .table) (k .collect-located .ensures .0) (ap (λ (x : RowsBuilt). x .verdict) (b .build-rows .ensures)) (v .verdict .given .1) (c .refused-server3 .ensures)
 
 returns-4 : tie.Need-returns-4
 unfolding builtFrom
@@ -36,7 +36,7 @@ returns-4 c =
     let t = c .before in let b = t .before .before in let k = b .before .before in
     let e = k .before in let l = e .before .before in let known = l .before in
     server-accepted _ _ (sym (known .before .known-edition .ensures) ∙ known .if1 .taken) (l .validate-pages .ensures) (e .enum-told .given .1)
-    (k .collect .result .table) (k .collect .ensures .0) (ap (λ (x : RowsBuilt). x .verdict) (b .build-rows .ensures)) (t .enum-told2 .given .1) (k .collect .ensures .1)
+    (k .collect-located .result .table) (k .collect-located .ensures .0) (ap (λ (x : RowsBuilt). x .verdict) (b .build-rows .ensures)) (t .enum-told2 .given .1) (k .collect-located .ensures .1)
 
 pub server-rows-spec : {M : Type 1} → statement M
 server-rows-spec =
@@ -50,7 +50,7 @@ server-rows-spec =
     (λ c κs. search needs)
     returns-2
     (λ c. search needs)
-    collect-requires
+    collect-located-requires
     (λ c κs. search needs)
     (λ c. search needs)
     (λ c κs. search needs)
