@@ -3,8 +3,8 @@ use mathlib.Core.Path.{_≡_, refl, sym, ap, ap₂, _∙_}
 use mathlib.Core.Bool.{Bool, true, false}
 use mathlib.Core.List.{List, [], _∷_, _++_}
 use Prim.Native.Nat.{ℕ, zero, suc, _+_, _*_, _/_, _%_, _^_, _≤_, _<_}
-use native.Mathlib.Nat.{mod-lt}
 use native.Mathlib.Omega.{arith}
+use lib.Arith.{digits-div}
 use lib.Bits.{bitXor, xor-zero-r}
 use lib.Dec.{eqb}
 use lib.ListN.{length, getD, set, length-set}
@@ -17,23 +17,15 @@ use Rattle.flips.specs.Flips.{flip, flippedByte, flipped}
 use Rattle.flips.specs.OneBit.{bitIn, oneBit, xorResult, flipEntry}
 use Rattle.flips.specs.WordLaws.{word-other, word-at}
 
+-- which part of d bytes a byte is in
+part-known : (d a b x y : ℕ) → x < d → y < d → a * d + x ≡ b * d + y → a ≡ b
+part-known d a b x y u v e = sym (digits-div a u) ∙ ap (λ (n : ℕ). n / d) e ∙ digits-div b v
+
 -- a page, and an entry of it, are known by a byte of theirs
-page-known : (a b x y : ℕ) → x < 4096 → y < 4096 → 4096 * a + x ≡ 4096 * b + y → a ≡ b
-page-known a b x y u v e =
-    let l : ¬ (a < b) = λ h. omega arith in
-    let m : ¬ (b < a) = λ h. omega arith in
-    omega arith
-
-entry-known : (a b x y : ℕ) → x < 48 → y < 48 → 48 * a + x ≡ 48 * b + y → a ≡ b
-entry-known a b x y u v e =
-    let l : ¬ (a < b) = λ h. omega arith in
-    let m : ¬ (b < a) = λ h. omega arith in
-    omega arith
-
 pub known : (a b i j x y : ℕ) → x < 48 → y < 48 → i < mostEntries → j < mostEntries → entryStart a i + x ≡ entryStart b j + y → (a ≡ b) × (i ≡ j)
 known a b i j x y u v l m e =
-    let p : a ≡ b = page-known a b (firstEntry + entrySize * i + x) (firstEntry + entrySize * j + y) (omega arith) (omega arith) (omega arith) in
-    (p, entry-known i j x y u v (omega (arith, p)))
+    let p : a ≡ b = part-known pageSize a b (firstEntry + entrySize * i + x) (firstEntry + entrySize * j + y) (omega arith) (omega arith) (omega arith) in
+    (p, part-known entrySize i j x y u v (omega (arith, p)))
 
 -- a result bit of an entry of some page
 pub record Inside (s : List ℕ) (p q r k : ℕ) : Type 0 where
@@ -68,7 +60,7 @@ module _ (s : List ℕ) (p q r k : ℕ) (h : Inside s p q r k) where
   same-count p′ =
       other (pageSize * p′) (λ j l e.
       let y : ℕ = firstEntry + entrySize * q + 24 + 4 * r + k / 8 in
-      let g : p′ ≡ p = page-known p′ p j y (omega arith) (omega (arith, h .entry, h .register, h .bit)) (omega arith) in
+      let g : p′ ≡ p = part-known pageSize p′ p j y (omega arith) (omega (arith, h .entry, h .register, h .bit)) (omega arith) in
       omega (arith, g, h .entry))
 
   -- a register of its own entry

@@ -1,0 +1,8 @@
+pub mod Same
+pub mod SameLaws
+pub mod Changes
+pub mod PutRow
+pub mod PutRowLaws
+pub mod MaskLaws
+pub mod RowLaws
+pub mod ChangesLaws
