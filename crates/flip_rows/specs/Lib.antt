@@ -3,6 +3,5 @@ pub mod SameLaws
 pub mod Changes
 pub mod PutRow
 pub mod PutRowLaws
-pub mod MaskLaws
 pub mod RowLaws
 pub mod ChangesLaws
