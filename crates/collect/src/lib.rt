@@ -18,7 +18,7 @@ ghost use Rattle.collect.specs.Collect.{collected, countedPlace};
 const LEGACY_FEATURES: u32 = 3;
 
 // The place of an entry, or 88 where its leaf is filtered or it does not count: leaf Dh counts on page 1 alone.
-fn counted_place(entry: ParsedCpuidEntry) -> usize
+pub fn counted_place(entry: ParsedCpuidEntry) -> usize
     ensures { λ r. ⌜ r ≡ countedPlace entry ⌝ }
 {
     let leaf = entry.leaf;
