@@ -1,0 +1,4 @@
+pub mod Nearest
+pub mod FrontLaws
+pub mod BitLaws
+pub mod SearchLaws
