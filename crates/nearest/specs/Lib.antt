@@ -1,4 +1,3 @@
 pub mod Nearest
 pub mod FrontLaws
-pub mod BitLaws
 pub mod SearchLaws

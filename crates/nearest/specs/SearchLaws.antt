@@ -43,12 +43,12 @@ use Rattle.flip_rows.specs.Changes.{changes}
 use Rattle.flip_rows.specs.PutRow.{putRow}
 use Rattle.flip_rows.specs.RowLaws.{firstOf, first-none, first-cons, first-append}
 use Rattle.flip_rows.specs.ChangesLaws.{changes-nothing, changes-row}
-use Rattle.nearest.specs.declared.Deciding.{Deciding}
-use Rattle.nearest.specs.declared.Deciding.the-variants.{Number, NoNumber}
+use Rattle.deciding.specs.declared.Deciding.{Deciding}
+use Rattle.deciding.specs.declared.Deciding.the-variants.{Number, NoNumber}
 use Rattle.nearest.specs.declared.Nearest.{Nearest}
 use Rattle.nearest.specs.declared.Nearest.the-variants.{Bit, NoBit}
 use Rattle.nearest.specs.Nearest.{firstThat}
-use Rattle.nearest.specs.BitLaws.{keeps, bitFound, firstBit}
+use Rattle.deciding.specs.BitLaws.{keeps, bitFound, firstBit}
 
 -- ---- a search over a list of flips, and over the numbers below 128
 

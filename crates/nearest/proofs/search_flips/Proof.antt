@@ -12,7 +12,7 @@ use Rattle.table.specs.Table.{rowsIn}
 use Rattle.collect.specs.Collect.{countedPlace, counted-place-stored, collected-rows, row-masks}
 use Rattle.build.specs.LawfulLaws.{lawful-counts, lawful-clean}
 use Rattle.nearest.specs.Nearest.{chosen}
-use Rattle.nearest.specs.BitLaws.{answer-to}
+use Rattle.deciding.specs.BitLaws.{answer-to}
 use Rattle.nearest.specs.SearchLaws.{Searching, searching-first, searching-last, search-passes, search-none, search-found, bit-in, seen-taken, not-kept, position-fits}
 use Rattle.nearest.proofs.search_flips.Statement.{statement}
 use Rattle.nearest.proofs.search_flips.Tie as tie

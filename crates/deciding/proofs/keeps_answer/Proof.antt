@@ -1,11 +1,11 @@
--- `nearest::keeps_answer` meets its contract: a row that is there already, or building anew.
+-- `deciding::keeps_answer` meets its contract: a row that is there already, or building anew.
 use borrow.Author.Needs.{needs}
 use mathlib.Core.Path.{sym, _∙_}
 use Rattle.table.specs.Table.{rowsIn}
 use Rattle.flip_rows.specs.PutRowLaws.{there}
-use Rattle.nearest.specs.BitLaws.{keeps-there, keeps-built}
-use Rattle.nearest.proofs.keeps_answer.Statement.{statement}
-use Rattle.nearest.proofs.keeps_answer.Tie as tie
+use Rattle.deciding.specs.BitLaws.{keeps-there, keeps-built}
+use Rattle.deciding.proofs.keeps_answer.Statement.{statement}
+use Rattle.deciding.proofs.keeps_answer.Tie as tie
 
 returns : tie.Need-returns
 returns c =

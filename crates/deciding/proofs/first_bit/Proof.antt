@@ -1,12 +1,12 @@
--- `nearest::first_bit` meets its contract: at a quiet place no bit decides; else the bits passed keep the answer.
+-- `deciding::first_bit` meets its contract: at a quiet place no bit decides; else the bits passed keep the answer.
 use borrow.Author.Needs.{needs}
 use native.Mathlib.Omega.{arith}
 use mathlib.Core.Path.{_≡_, sym, _∙_}
 use Prim.Native.Nat.{_-_, _≤_}
 use Rattle.table.specs.Table.{rowsIn}
-use Rattle.nearest.specs.BitLaws.{firstBit, keeps-found, bitFrom, bit-first, bit-passes, bit-stops, bit-ends, bit-quiet}
-use Rattle.nearest.proofs.first_bit.Statement.{statement}
-use Rattle.nearest.proofs.first_bit.Tie as tie
+use Rattle.deciding.specs.BitLaws.{firstBit, keeps-found, bitFrom, bit-first, bit-passes, bit-stops, bit-ends, bit-quiet}
+use Rattle.deciding.proofs.first_bit.Statement.{statement}
+use Rattle.deciding.proofs.first_bit.Tie as tie
 
 abbrev Inv-loop : tie.InvT-loop
 Inv-loop edition base kept place x t n₀ n = (n ≤ 128) × (firstBit edition (rowsIn t) kept place x ≡ bitFrom edition (rowsIn t) kept place x n)

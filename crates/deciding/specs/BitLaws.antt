@@ -23,8 +23,8 @@ use Rattle.flip_rows.specs.PutRowLaws.{put-same}
 use Rattle.flip_rows.specs.ChangesLaws.{from-equal}
 use Rattle.quiet.specs.Quiet.{quiet}
 use Rattle.quiet.specs.QuietLaws.{quiet-same}
-use Rattle.nearest.specs.declared.Deciding.{Deciding}
-use Rattle.nearest.specs.declared.Deciding.the-variants.{Number, NoNumber}
+use Rattle.deciding.specs.declared.Deciding.{Deciding}
+use Rattle.deciding.specs.declared.Deciding.the-variants.{Number, NoNumber}
 
 -- what building from the rows under edition n gives
 pub record AnswerTo (n : ℕ) (m : Rows) (b : Built) : Type 0 where
