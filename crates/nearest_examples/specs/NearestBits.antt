@@ -157,8 +157,8 @@ second-not-first r k l u i f =
 pub first-among : Among first leaf1Twice 0 0 2 2
 first-among = among 0 2 2 (lit< tt) (lit< tt) (lit< tt) [] (entryAt leaf1Twice 0 1 ∷ []) leaf1Twice-entries
 
-pub first-is-first : FirstAt [] (entryAt leaf1Twice 0 0) Place.versionAndFeatures
-unfolding evaluated storedAt firstOf leaf1Twice
+pub first-is-first : FirstAt (first-among .before) (entryAt leaf1Twice 0 0) Place.versionAndFeatures
+unfolding evaluated first-among among storedAt firstOf leaf1Twice
 first-is-first = record { place = lit< tt; here = refl; new = refl }
 
 pub bit-outside : applyMask (masksAt false Place.versionAndFeatures) (oneBit 2 2) ≡ result 0 0 0 0

@@ -626,3 +626,5 @@ one-short = ComputedLines.one-short
 
 pub one-with-leaf : writeLine (told 1 0xD None 0) (7 ∷ []) ≡ leaves NoLineWritten (7 ∷ [])
 one-with-leaf = ComputedLines.one-with-leaf
+
+-- ---- P13: the nearest bit that matters. NearestBit.antt.
