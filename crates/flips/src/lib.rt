@@ -7,7 +7,7 @@ ghost use Rattle.flips.specs.OneBit.{oneBit, xorResult};
 // One result bit: page, entry, register (0 to 3: EAX, EBX, ECX, EDX) and bit.
 pub struct Flip {
     pub page: usize,
-    pub entry: usize,
+    pub entry: u32,
     pub register: u32,
     pub bit: u32,
 }

@@ -56,9 +56,10 @@ fn search_flips(pages: &[u8], secure_avic: bool, edition: u32) -> Nearest
                 let x = entry.result;
                 let bit = first_bit(t, edition, base, kept[row], place, x);
                 if let Deciding::Number(b) = bit {
+                    let position = index.function_index as u32;
                     return Nearest::Bit(Flip {
                         page: index.page_index,
-                        entry: index.function_index,
+                        entry: position,
                         register: b / 32,
                         bit: b % 32,
                     });

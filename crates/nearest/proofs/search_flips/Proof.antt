@@ -39,9 +39,20 @@ first-bit-requires c κs =
     let l = f .before .before .before .before .before in
     (f .if2 .taken, answer-to _ (l .before .before .build-rows .ensures))
 
+-- an entry stands among the first 64
+cast-position : tie.Need-cast-position Inv-loop μ-loop
+cast-position c =
+    let row = c .before .before .before .before .before .before .before in
+    let e = row .before .before .before .before in
+    let l = e .before .before .before in
+    let count = l .before .before .before .before in
+    let start = count .before .before .before in
+    let h : l .loop .index .«page_index» < _ = rw (count .page-count .ensures) at (e .before .if1 .taken) in
+    record { fits = omega (arith, position-fits _ _ (start .pre .1) (l .loop .inv .valid) h) }
+
 returns : tie.Need-returns Inv-loop μ-loop
 returns c =
-    let b = c .before in
+    let b = c .before .before in
     let first = b .before .before in
     let row = first .before .before .before in
     let new = row .before in
@@ -121,6 +132,7 @@ search-flips-spec =
     (λ c. search needs)
     first-bit-requires
     (λ c. search needs)
+    cast-position
     returns
     (λ c. search needs)
     (λ c. search needs)
