@@ -114,6 +114,19 @@ struct snp_cpuid_carried {
     uint32_t number;
 };
 
+/* The nearest bit that matters: number 0 with the bit's page, entry, register and bit, all from 0; else 15, 1, 2, 17 or 20, and no bit. */
+struct snp_cpuid_nearest {
+    uint32_t number;
+    uint32_t leaf;
+    uint32_t has_subleaf; /* 1 where the refusal names a subleaf */
+    uint32_t subleaf;
+    uint32_t s;
+    uint32_t entry;
+    uint64_t page;
+    uint32_t register_index; /* 0 to 3: EAX, EBX, ECX, EDX */
+    uint32_t bit;
+};
+
 /* The most bytes that an image can have, and a list for KVM; and the two pages that a list is read into. */
 #define SNP_CPUID_MOST_IMAGE_BYTES 732
 #define SNP_CPUID_MOST_KVM_BYTES 1288
@@ -198,6 +211,12 @@ struct snp_cpuid_line_written snp_cpuid_write_line(uint32_t number, uint32_t lea
 
 /* Reads the length bytes at line, the whole of them. They are a line exactly where snp_cpuid_write_line writes the same bytes for what they say. */
 struct snp_cpuid_line_read snp_cpuid_read_line(const uint8_t *line, size_t length);
+
+/* The first result bit, in entries below their page's count and ordered by page, entry, register and bit from 0, whose flip alone makes
+ * snp_cpuid_build answer otherwise: another table, refusal or detail. The pages are not written. Refusals in this order: 15, 1, 2 and 17,
+ * as building gives them; then 20 where no flip changes anything, which is so exactly where building gives 3 for a leaf of the two
+ * required lists. Of pages that building refuses otherwise some bit always decides: INVLPGB's, at the latest. */
+struct snp_cpuid_nearest snp_cpuid_nearest(const uint8_t *pages, size_t length, bool secure_avic, uint32_t edition);
 
 #ifdef __cplusplus
 }

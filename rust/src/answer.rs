@@ -1,6 +1,6 @@
 //! The plain numbers by which every exported function tells a refusal, read in one place.
 
-use crate::exports::{Built, Compared, Found, LineRead, Written};
+use crate::exports::{Built, Compared, Found, LineRead, Nearest, Written};
 use crate::{CpuidResult, Details, Refusal};
 
 /// An answer of an exported function that may be a refusal.
@@ -36,7 +36,7 @@ macro_rules! answers {
     };
 }
 
-answers!(Built, Written, Compared, LineRead);
+answers!(Built, Written, Compared, LineRead, Nearest);
 
 impl Found {
     /// The registers that a lookup found.

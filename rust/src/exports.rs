@@ -74,6 +74,20 @@ pub struct Carried {
     pub number: u32,
 }
 
+#[repr(C)]
+#[derive(Clone, Copy, Debug, Default, PartialEq, Eq)]
+pub struct Nearest {
+    pub number: u32,
+    pub leaf: u32,
+    pub has_subleaf: u32,
+    pub subleaf: u32,
+    pub s: u32,
+    pub entry: u32,
+    pub page: u64,
+    pub register_index: u32,
+    pub bit: u32,
+}
+
 unsafe extern "C" {
     pub fn snp_cpuid_build(pages: *const u8, length: usize, secure_avic: bool, edition: u32) -> Built;
     pub fn snp_cpuid_lookup(
@@ -129,4 +143,5 @@ unsafe extern "C" {
     pub fn snp_cpuid_carry(image: *mut u8, length: usize, from: u32, to: u32, xcr0: u64, xss: u64) -> Carried;
     pub fn snp_cpuid_write_line(number: u32, leaf: u32, has_subleaf: bool, subleaf: u32, s: u32, out: *mut u8, room: usize) -> LineWritten;
     pub fn snp_cpuid_read_line(line: *const u8, length: usize) -> LineRead;
+    pub fn snp_cpuid_nearest(pages: *const u8, length: usize, secure_avic: bool, edition: u32) -> Nearest;
 }

@@ -6,7 +6,7 @@ use crate::input::{read, shown};
 use crate::numbers::decimal;
 use crate::option::Opt;
 use crate::output;
-use snp_cpuid::{Comparison, MOST_KVM_BYTES, Options, Processor, Refusal, Table};
+use snp_cpuid::{Bit, Comparison, MOST_KVM_BYTES, Options, Processor, Refusal, Table};
 use std::ffi::OsStr;
 use std::fmt::Display;
 
@@ -55,6 +55,11 @@ impl Building {
     /// Whether a guest of one server may move to another.
     pub fn compare(&self, from: &[u8], to: &[u8]) -> Comparison {
         snp_cpuid::compare(from, to, self.options)
+    }
+
+    /// The nearest bit that matters.
+    pub fn nearest(&self, pages: &[u8]) -> Result<Bit, Refusal> {
+        snp_cpuid::nearest(pages, self.options)
     }
 
     /// The list for KVM of a file of pages.

@@ -61,7 +61,7 @@ fn run(arguments: &Arguments) -> Result<(), Failure> {
     let edition = building.edition();
     let mut report = format!("A  {}\nB  {}\nunder edition {edition} of the AVX rule\n\n{}\n\n", a.file, b.file, verdict(equal, &rises, &falls));
     if let (Ok(table_a), Ok(table_b)) = (&a.table, &b.table) {
-        report += &differences(table_a, table_b);
+        report += &differences(["A", "B"], table_a, table_b);
     }
     report += &(rises.told() + &falls.told());
     output::print(report)?;

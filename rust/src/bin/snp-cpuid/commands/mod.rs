@@ -8,6 +8,7 @@ mod from_kvm;
 mod guest;
 mod image;
 mod lookup;
+mod nearest;
 mod table;
 mod to_dump;
 mod to_kvm;
@@ -27,5 +28,6 @@ pub const ALL: &[Command] = &[
     from_kvm::COMMAND,
     to_kvm::COMMAND,
     compare::COMMAND,
+    nearest::COMMAND,
     explain::COMMAND,
 ];
