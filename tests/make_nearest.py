@@ -70,9 +70,10 @@ def first_entries():
 
 
 def passed_over():
-    """Before the first entry that decides: filtered leaves, leaf Dh on pages 0 and 2, rows that are made here, empty pages, later entries of a place."""
+    """What comes before the first entry that decides: filtered leaves, leaf Dh on pages 0 and 2, rows that are made here, empty pages, later entries
+    of a place."""
     state = (STATE, 0, ALL, ALL, ALL, ALL)
-    before = [FILTERED], [state], [FILTERED, state], [(0, 0, ALL, 0, 0, 0), (0x80000000, 0, 0, 0, 0, 0)], [(7, 1, 0, 0, 0, 0)], [(0xB, 2, 0, 0, 0, 0)]
+    before = [FILTERED], [state], [FILTERED, state], [(0, 0, ALL, 0, 0, 0), (0x80000000, 0, 0, 0, 0, 0)], [(7, 1, 0, 0, 0, 0), (0xB, 2, 0, 0, 0, 0)]
     others, states = [e for e in entries(minimal()) if e[0] != STATE], [e for e in entries(minimal()) if e[0] == STATE]
     for some in before:
         yield from asked(pages(some + others, states))
@@ -103,7 +104,8 @@ def no_invlpgb():
 def states():
     """3 for a D subleaf, and 5: the bits of D.0.EAX, of D.1.EAX and ECX, and of the sums; others decide nothing."""
     lacking = without(rich(), STATE, 5)
-    for first in [(STATE, 0)], [(STATE, 1)], [(STATE, 1), (STATE, 0)], [(SIZES, None)], [(STATE, 2), (5, None), (SIZES, None)], [(STATE, 11), (STATE, 1)]:
+    for first in ([(STATE, 0)], [(STATE, 1)], [(STATE, 1), (STATE, 0)], [(SIZES, None)], [(STATE, 2), (5, None), (SIZES, None)],
+                  [(STATE, 11), (STATE, 1)]):
         yield from asked(ordered(lacking, *first))
         yield from asked(ordered(without(lacking, STATE, 12), *first))
     yield from asked(ordered(changed(lacking, STATE, 1, eax=3), (STATE, 1)))
@@ -127,7 +129,8 @@ def topologies():
                (7, 127, 127, 1, 0), (3, 7, 8, 1, 2), (0, 0, 1, 1, 1), (0, 0, 0, 0, 1), (8, 0, 0, 0, 2), (15, 0, 0, 0, 255)]
     for numbers in figures:
         rows = with_topology(rich(), *numbers)
-        for first in [(1, None)], [(SIZES, None)], [(DEFINITION, None), (1, None)], [(5, None), (DEFINITION, None), (SIZES, None)], [(STATE, 7), (STATE, 0)]:
+        for first in ([(1, None)], [(SIZES, None)], [(DEFINITION, None), (1, None)], [(5, None), (DEFINITION, None), (SIZES, None)],
+                      [(STATE, 7), (STATE, 0)]):
             yield from asked(ordered(rows, *first))
     for numbers in (0, 0, 0, 0, 0), (0, 0, 1, 0, 0), (0, 2, 3, 1, 0), (7, 127, 128, 1, 1), (8, 0, 0, 0, 1), (15, 0, 0, 0, 0), (1, 0, 2, 1, 1):
         rows = with_topology(rich(), *numbers)

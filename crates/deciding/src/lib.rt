@@ -3,10 +3,12 @@
 use build::Built;
 use flip_rows::same_answer;
 use flip_rows::same_result;
+use flip_rows::same_verdict;
 use flip_rows::with_row;
 use flips::flip_bit;
 use masks::KeptLeaf;
 use quiet::is_quiet;
+use quiet::is_refused;
 use table::CpuidResults;
 use x86defs::CpuidResult;
 ghost use mathlib.Core.Path.{_≡_};
@@ -61,8 +63,12 @@ fn keeps_answer(t: CpuidResults, edition: u32, base: Built, place: usize, x: Cpu
     }
     let built = build::build_rows(with_row(t, place, x), edition);
     let verdict = built.verdict;
-    let table = built.table;
     let verdict_before = base.verdict;
+    if is_refused(verdict_before) {
+        // then the table is empty, and that of a verdict which is the same
+        return same_verdict(verdict, verdict_before);
+    }
+    let table = built.table;
     let table_before = base.table;
     same_answer(verdict, table, verdict_before, table_before)
 }

@@ -40,10 +40,13 @@ sameNumbers a b =
     eqb (a .number) (b .number)
     && (eqb (a .leaf) (b .leaf) && (eqb (a .«has_subleaf») (b .«has_subleaf») && (eqb (a .subleaf) (b .subleaf) && eqb (a .s) (b .s))))
 
+abbrev pub sameVerdict : Verdict → Verdict → Bool
+sameVerdict v w = sameNumbers (numbersOf v) (numbersOf w)
+
 -- ---- the same answer
 
 unfoldable pub sameAnswer : Verdict → CpuidResults → Verdict → CpuidResults → Bool
-sameAnswer v t w u = sameNumbers (numbersOf v) (numbersOf w) && sameTable t u
+sameAnswer v t w u = sameVerdict v w && sameTable t u
 
 -- the answers to two sets of masked first entries under edition n
 abbrev pub sameFrom : ℕ → Rows → Rows → Bool

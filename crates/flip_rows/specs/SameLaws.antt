@@ -34,7 +34,7 @@ result-same : (r : CpuidResult) → sameResult r r ≡ true
 unfolding sameResult
 result-same r = and-both (eqb-same (r .eax)) (and-both (eqb-same (r .ebx)) (and-both (eqb-same (r .ecx)) (eqb-same (r .edx))))
 
-table-same : (t : CpuidResults) → sameTable t t ≡ true
+pub table-same : (t : CpuidResults) → sameTable t t ≡ true
 unfolding sameTable sameRows
 table-same t =
     and-both (eqb-same (t .«row_count»))

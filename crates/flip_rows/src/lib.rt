@@ -8,7 +8,7 @@ ghost use mathlib.Core.Path.{_≡_};
 ghost use Prim.Native.Nat.{_<_};
 ghost use Rattle.masking.specs.Kept.{places};
 ghost use Rattle.table.specs.Table.{rowsIn};
-ghost use Rattle.flip_rows.specs.Same.{sameResult, sameRow, sameRows, sameTable, sameNumbers, sameAnswer};
+ghost use Rattle.flip_rows.specs.Same.{sameResult, sameRow, sameRows, sameTable, sameNumbers, sameVerdict, sameAnswer};
 ghost use Rattle.flip_rows.specs.PutRow.{putRow};
 
 // A table with another row at a place.
@@ -26,10 +26,17 @@ pub fn with_row(t: CpuidResults, place: usize, x: CpuidResult) -> CpuidResults
 pub fn same_answer(v: Verdict, t: CpuidResults, w: Verdict, u: CpuidResults) -> bool
     ensures { λ r. ⌜ r ≡ sameAnswer v t w u ⌝ }
 {
-    if same_numbers(numbers::answer_numbers(v), numbers::answer_numbers(w)) {
+    if same_verdict(v, w) {
         return same_table(t, u);
     }
     false
+}
+
+// Whether two verdicts are the same: the number and its details.
+pub fn same_verdict(v: Verdict, w: Verdict) -> bool
+    ensures { λ r. ⌜ r ≡ sameVerdict v w ⌝ }
+{
+    same_numbers(numbers::answer_numbers(v), numbers::answer_numbers(w))
 }
 
 fn same_numbers(a: AnswerNumbers, b: AnswerNumbers) -> bool

@@ -31,7 +31,8 @@ pub fn is_quiet(t: CpuidResults, verdict: Verdict, place: usize) -> bool
     quiet_at(is_refused(verdict), max_extended_state(subleaf0.eax, max_xss(subleaf1)), place)
 }
 
-fn is_refused(verdict: Verdict) -> bool
+// Whether a verdict refuses.
+pub fn is_refused(verdict: Verdict) -> bool
     ensures { λ r. ⌜ r ≡ refuses verdict ⌝ }
 {
     match verdict {

@@ -3,7 +3,7 @@ use borrow.Author.Needs.{needs}
 use mathlib.Core.Path.{sym, _∙_}
 use Rattle.table.specs.Table.{rowsIn}
 use Rattle.flip_rows.specs.PutRowLaws.{there}
-use Rattle.deciding.specs.BitLaws.{keeps-there, keeps-built}
+use Rattle.deciding.specs.BitLaws.{keeps-there, keeps-refused, keeps-built}
 use Rattle.deciding.proofs.keeps_answer.Statement.{statement}
 use Rattle.deciding.proofs.keeps_answer.Tie as tie
 
@@ -15,7 +15,13 @@ returns c =
 
 returns-2 : tie.Need-returns-2
 returns-2 c =
-    let built = c .before .before .before in let put = built .before in
+    let f = c .before in let r = f .before in let built = r .before in let put = built .before in
+    keeps-refused _ (built .build-rows .ensures) (put .with-row .ensures) (put .before .before .before .pre .1) (r .is-refused .ensures) (f .if3 .taken)
+    (c .same-verdict .ensures)
+
+returns-3 : tie.Need-returns-3
+returns-3 c =
+    let f = c .before .before .before in let r = f .before in let built = r .before in let put = built .before in
     keeps-built _ (built .build-rows .ensures) (put .with-row .ensures) (put .before .before .before .pre .1) (c .same-answer .ensures)
 
 pub keeps-answer-spec : {M : Type 1} → statement M
@@ -30,4 +36,7 @@ keeps-answer-spec =
     (λ c κs. search needs)
     (λ c κs. search needs)
     (λ c κs. search needs)
-    returns-2)
+    (λ c κs. search needs)
+    returns-2
+    (λ c κs. search needs)
+    returns-3)
