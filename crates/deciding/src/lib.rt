@@ -28,7 +28,14 @@ pub enum Deciding {
 }
 
 // The first of an entry's bits that decides at its row; none is tried where no row there would change the answer.
-pub fn first_bit(t: CpuidResults, edition: u32, base: Built, kept: KeptLeaf, place: usize, x: CpuidResult) -> Deciding
+pub fn first_bit(
+    t: CpuidResults,
+    edition: u32,
+    base: Built,
+    kept: KeptLeaf,
+    place: usize,
+    x: CpuidResult,
+) -> Deciding
     requires { ⌜ (place < places) × AnswerTo edition (rowsIn t) base ⌝ }
     ensures { λ r. ⌜ r ≡ firstBit edition (rowsIn t) kept place x ⌝ }
 {

@@ -1,17 +1,13 @@
 -- What a flip changes, at the 88 rows: nothing where they stay, and else what building from the changed rows changes.
-use mathlib.Core.Path.{_≡_, refl, sym, ap, ap₂, _∙_, subst}
+use mathlib.Core.Path.{_≡_, refl, sym, ap, _∙_}
 use mathlib.Core.Bool.{Bool, true, false, not}
 use mathlib.Core.List.{List, _∷_, _++_}
 use Prim.Native.Nat.{ℕ, _<_}
-use Rattle.x86defs.specs.declared.CpuidResult.{CpuidResult}
 use Rattle.pages.specs.Layout.{Entry, entryAt, badLength, countsFit}
 use Rattle.pages.specs.Entries.{entries}
-use Rattle.reserved.specs.Reserved.{allClean}
 use Rattle.masking.specs.Kept.{places}
 use Rattle.table.specs.declared.Choices.{Choices}
-use Rattle.table.specs.declared.CpuidResults.{CpuidResults}
 use Rattle.table.specs.declared.Refusal.the-variants.{PagesLength}
-use Rattle.table.specs.declared.Verdict.{Verdict}
 use Rattle.table.specs.declared.Verdict.the-variants.{Accepted}
 use Rattle.table.specs.Edition.{knownEdition}
 use Rattle.table.specs.Rows.{Rows, row}
@@ -83,7 +79,8 @@ module _ (c : Choices) (s : List ℕ) (p q r k : ℕ) (h : Inside s p q r k) (kn
       (lawful-table c s known lawful j))
 
   -- in an entry that is not the first counted entry of its place
-  pub changes-nothing : ((i : ℕ) → i < places → firstOf i done .present ≡ false → storedAt (entryAt s p q) ≡ i → ⊥) → changes c s (flip p q r k) ≡ false
+  pub changes-nothing : ((i : ℕ) → i < places → firstOf i done .present ≡ false → storedAt (entryAt s p q) ≡ i → ⊥)
+      → changes c s (flip p q r k) ≡ false
   changes-nothing n =
       changed-by (flip-passed (c .«secure_avic») s p q r k h fit done es here n) ∙ ap not (from-equal (c .edition) refl)
 

@@ -1,6 +1,6 @@
 -- What a flip does to the 88 rows. One in an entry that is not the first counted entry of its place leaves them as they are; one in a first entry
 -- gives its row the masked flipped registers, and leaves all others.
-use mathlib.Core.Path.{_≡_, refl, sym, ap, ap₂, _∙_, fun-ext}
+use mathlib.Core.Path.{_≡_, refl, sym, ap, _∙_, fun-ext}
 use mathlib.Core.Bool.{Bool, true, false}
 use mathlib.Core.List.{List, [], _∷_, _++_}
 use Prim.Native.Nat.{ℕ, _≤_, _<_}
@@ -8,13 +8,12 @@ use native.Mathlib.Omega.{arith}
 use lib.Dec.{eqb, ltb}
 use borrow.Author.Tests.{eqb-true, eqb-false, ne-eqb, eq-eqb, ltb-true, ltb-false}
 use Rattle.bits.specs.Choice.{pick}
-use Rattle.bits.specs.ChoiceLaws.{never-both, pick-true, pick-false}
+use Rattle.bits.specs.ChoiceLaws.{pick-true, pick-false}
 use Rattle.bits.specs.Lists.{keepIf}
-use Rattle.x86defs.specs.declared.CpuidResult.{CpuidResult}
 use Rattle.pages.specs.Layout.{Entry, entryAt, countsFit}
 use Rattle.pages.specs.Entries.{entries, counts, counted}
 use Rattle.masking.specs.Kept.{places}
-use Rattle.table.specs.Rows.{Row, Rows, row, vacant}
+use Rattle.table.specs.Rows.{Row, row, vacant}
 use Rattle.collect.specs.FirstEntries.{placeOfEntry, firstAt, maskedAt, maskRow, rowsOf}
 use Rattle.collect.specs.FirstEntriesLaws.{row-of-place, row-beyond}
 use Rattle.collect.specs.Collect.{storedAt}
@@ -32,11 +31,13 @@ pub first-none : (i : ℕ) → firstOf i [] ≡ vacant
 unfolding firstOf keepIf firstAt
 first-none i = refl
 
-pub first-cons : (i : ℕ) → i < places → (e : Entry) (es : List Entry) → firstOf i (e ∷ es) ≡ pick (eqb (storedAt e) i) (row (e .registers)) (firstOf i es)
+pub first-cons : (i : ℕ) → i < places → (e : Entry) (es : List Entry)
+    → firstOf i (e ∷ es) ≡ pick (eqb (storedAt e) i) (row (e .registers)) (firstOf i es)
 unfolding firstOf keepIf firstAt storedAt
 first-cons i l e es = go (counts e)
   where
-    go : (c : Bool) → firstAt i (pick c (e ∷ keepIf counts es) (keepIf counts es)) ≡ pick (eqb (pick c (placeOfEntry e) places) i) (row (e .registers)) (firstAt i (keepIf counts es))
+    go : (c : Bool) → firstAt i (pick c (e ∷ keepIf counts es) (keepIf counts es))
+        ≡ pick (eqb (pick c (placeOfEntry e) places) i) (row (e .registers)) (firstAt i (keepIf counts es))
     go true = refl
     go false = sym (pick-false _ _ (ne-eqb places i (λ q. omega arith)))
 
@@ -78,7 +79,8 @@ module _ (avic : Bool) (s : List ℕ) (p q r k : ℕ) (h : Inside s p q r k) (c 
   unfolding flipEntry
   after i l =
       ap (firstOf i) (flip-among s p q r k h c done es here) ∙ among i l done (flipEntry r k (entryAt s p q)) es
-      ∙ ap (λ (n : ℕ). pick (firstOf i done .present) (firstOf i done) (pick (eqb n i) (row (xorResult (entryAt s p q .registers) (oneBit r k))) (firstOf i es))) same-place
+      ∙ ap (λ (n : ℕ). pick (firstOf i done .present) (firstOf i done)
+      (pick (eqb n i) (row (xorResult (entryAt s p q .registers) (oneBit r k))) (firstOf i es))) same-place
 
   before : (i : ℕ) → i < places → firstOf i (entries s)
       ≡ pick (firstOf i done .present) (firstOf i done) (pick (eqb (storedAt (entryAt s p q)) i) (row (entryAt s p q .registers)) (firstOf i es))
@@ -91,7 +93,8 @@ module _ (avic : Bool) (s : List ℕ) (p q r k : ℕ) (h : Inside s p q r k) (c 
   elsewhere : (i : ℕ) → i < places → (firstOf i done .present ≡ false → storedAt (entryAt s p q) ≡ i → ⊥)
       → rowsOf avic (flipped s (flip p q r k)) i ≡ rowsOf avic s i
   elsewhere i l n =
-      rows-first avic _ i l ∙ ap (maskRow avic i) (after i l ∙ go (firstOf i done .present) (eqb (storedAt (entryAt s p q)) i) refl refl ∙ sym (before i l)) ∙ sym (rows-first avic s i l)
+      rows-first avic _ i l
+      ∙ ap (maskRow avic i) (after i l ∙ go (firstOf i done .present) (eqb (storedAt (entryAt s p q)) i) refl refl ∙ sym (before i l)) ∙ sym (rows-first avic s i l)
     where
       go : (a b : Bool) → firstOf i done .present ≡ a → eqb (storedAt (entryAt s p q)) i ≡ b
           → pick a (firstOf i done) (pick b (row (xorResult (entryAt s p q .registers) (oneBit r k))) (firstOf i es))

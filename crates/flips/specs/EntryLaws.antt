@@ -1,20 +1,20 @@
 -- A flip below its page's count changes one entry, in one bit of its registers, and nothing else that is read.
-use mathlib.Core.Path.{_≡_, refl, sym, ap, ap₂, _∙_}
+use mathlib.Core.Path.{_≡_, refl, sym, ap, _∙_}
 use mathlib.Core.Bool.{Bool, true, false}
-use mathlib.Core.List.{List, [], _∷_, _++_}
-use Prim.Native.Nat.{ℕ, zero, suc, _+_, _*_, _/_, _%_, _^_, _≤_, _<_}
+use mathlib.Core.List.{List}
+use Prim.Native.Nat.{ℕ, _+_, _*_, _/_, _%_, _^_, _≤_, _<_}
 use native.Mathlib.Omega.{arith}
 use lib.Arith.{digits-div}
 use lib.Bits.{bitXor, xor-zero-r}
 use lib.Dec.{eqb}
-use lib.ListN.{length, getD, set, length-set}
+use lib.ListN.{length, getD, length-set}
 use borrow.Author.Tests.{eqb-true, eqb-false}
 use Rattle.bits.specs.Choice.{pick}
 use Rattle.x86defs.specs.Functions.{function, result}
 use Rattle.pages.specs.Layout.{entryAt, entryStart, wordAt, pageSize, firstEntry, entrySize, mostEntries, pagesIn, countOf}
 use Rattle.flips.specs.declared.Flip.{Flip}
 use Rattle.flips.specs.Flips.{flip, flippedByte, flipped}
-use Rattle.flips.specs.OneBit.{bitIn, oneBit, xorResult, flipEntry}
+use Rattle.flips.specs.OneBit.{bitIn, flipEntry}
 use Rattle.flips.specs.WordLaws.{word-other, word-at}
 
 -- which part of d bytes a byte is in
@@ -24,7 +24,8 @@ part-known d a b x y u v e = sym (digits-div a u) ∙ ap (λ (n : ℕ). n / d) e
 -- a page, and an entry of it, are known by a byte of theirs
 pub known : (a b i j x y : ℕ) → x < 48 → y < 48 → i < mostEntries → j < mostEntries → entryStart a i + x ≡ entryStart b j + y → (a ≡ b) × (i ≡ j)
 known a b i j x y u v l m e =
-    let p : a ≡ b = part-known pageSize a b (firstEntry + entrySize * i + x) (firstEntry + entrySize * j + y) (omega arith) (omega arith) (omega arith) in
+    let p : a ≡ b = part-known pageSize a b (firstEntry + entrySize * i + x)
+    (firstEntry + entrySize * j + y) (omega arith) (omega arith) (omega arith) in
     (p, part-known entrySize i j x y u v (omega (arith, p)))
 
 -- a result bit of an entry of some page
@@ -101,7 +102,8 @@ module _ (s : List ℕ) (p q r k : ℕ) (h : Inside s p q r k) where
         position = q′;
         leaf = function (same o 0 (omega arith) (omega arith) x);
         subleaf = same (o + 4) 4 (omega arith) (omega arith) x;
-        registers = result (same (o + 24) 24 (omega arith) (omega arith) x) (same (o + 28) 28 (omega arith) (omega arith) x) (same (o + 32) 32 (omega arith) (omega arith) x) (same (o + 36) 36 (omega arith) (omega arith) x);
+        registers = result (same (o + 24) 24 (omega arith) (omega arith) x) (same (o + 28) 28 (omega arith) (omega arith) x)
+            (same (o + 32) 32 (omega arith) (omega arith) x) (same (o + 36) 36 (omega arith) (omega arith) x);
       }
     where
       same : (w d : ℕ) → d ≤ 36 → w ≡ entryStart p′ q′ + d → wordAt (flipped s f) w ≡ wordAt s w

@@ -4,10 +4,9 @@ use mathlib.Core.Bool.{Bool, true, false, _&&_}
 use mathlib.Core.List.{List, [], _∷_, _++_, map, map-append}
 use Prim.Native.Nat.{ℕ, zero, suc, _+_, _*_, _≤_, _<_}
 use native.Mathlib.Omega.{arith}
-use lib.Dec.{eqb, leb}
-use borrow.Author.Tests.{eqb-true, eqb-false, ne-eqb, eq-eqb}
+use lib.Dec.{eqb}
+use borrow.Author.Tests.{eqb-true, eqb-false, eq-eqb}
 use Rattle.bits.specs.Choice.{pick}
-use Rattle.bits.specs.ChoiceLaws.{pick-true, pick-false, and-left, and-right}
 use Rattle.pages.specs.Layout.{Entry, entryAt, mostEntries, pagesIn, countOf, countsFit}
 use Rattle.pages.specs.LayoutLaws.{counts-fit-at}
 use Rattle.pages.specs.Entries.{onPage, onPages, entries}
@@ -78,7 +77,8 @@ module _ (s : List ℕ) (p q r k : ℕ) (h : Inside s p q r k) where
   on-pages-flip p′ zero g = refl
   on-pages-flip p′ (suc n) g =
       ap₂ _++_
-      (ap (onPage (flipped s (flip p q r k)) p′ 0) (same-count s p q r k h p′) ∙ on-page-flip p′ 0 (countOf s p′) (omega (arith, g p′ (omega arith) (omega arith))))
+      (ap (onPage (flipped s (flip p q r k)) p′ 0) (same-count s p q r k h p′)
+      ∙ on-page-flip p′ 0 (countOf s p′) (omega (arith, g p′ (omega arith) (omega arith))))
       (on-pages-flip (suc p′) n (λ j l u. g j (omega arith) (omega arith)))
       ∙ sym (map-append _ (onPage s p′ 0 (countOf s p′)) (onPages s (suc p′) n))
 

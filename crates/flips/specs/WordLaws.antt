@@ -1,12 +1,12 @@
 -- A flipped bit of a byte is a flipped bit of the word that holds it.
-use mathlib.Core.Path.{_≡_, refl, sym, ap, ap₂, _∙_}
+use mathlib.Core.Path.{_≡_, sym, ap, _∙_}
 use mathlib.Core.List.{List}
-use Prim.Native.Nat.{ℕ, zero, suc, _+_, _*_, _^_, _≤_, _<_}
+use Prim.Native.Nat.{ℕ, zero, suc, _+_, _*_, _^_, _<_}
 use native.Mathlib.Omega.{arith}
 use lib.Arith.{digits-lt}
 use lib.Bits.{bitXor, xor-block, xor-zero-r}
 use lib.ListN.{length, getD, set}
-use lib.Pow.{pow-pos, pow-add, pow-mono, pow-lt}
+use lib.Pow.{pow-pos, pow-add, pow-lt}
 use lib.Seq.{getD-set-same, getD-set-other}
 use Rattle.pages.specs.Layout.{wordAt}
 

@@ -76,7 +76,8 @@ first-run test g f k (suc m) fs h =
 search-entry : (test : Flip → Bool) (e : Entry) (es : List Entry)
     → firstThat test (flipsIn (e ∷ es)) ≡ whenFound (flipNumber e) (lowest (λ n. not (test (flipNumber e n))) 0 128) (firstThat test (flipsIn es))
 unfolding flipsIn flipsOf
-search-entry test e es = first-run test (flipNumber e) (flipNumber e) 0 128 (flipsIn es) (λ j. ap (flipNumber e) (let z : j ≡ 0 + j = omega arith in z))
+search-entry test e es =
+    first-run test (flipNumber e) (flipNumber e) 0 128 (flipsIn es) (λ j. ap (flipNumber e) (let z : j ≡ 0 + j = omega arith in z))
 
 lowest-ext : (f g : ℕ → Bool) (k m : ℕ) → ((n : ℕ) → k ≤ n → n < k + m → f n ≡ g n) → lowest f k m ≡ lowest g k m
 unfolding lowest
@@ -121,7 +122,8 @@ position-fits s i l v h = omega (arith, turn s i v h .below, counts-fit-at s (la
 
 -- ---- one turn
 
-module _ (c : Choices) (s : List ℕ) (bytes : (n : ℕ) → getD s n 0 < 256) (known : knownEdition (c .edition) ≡ true) (lawful : lawfulVerdict s ≡ Accepted) (seen : List Bool)
+module _ (c : Choices) (s : List ℕ) (bytes : (n : ℕ) → getD s n 0 < 256) (known : knownEdition (c .edition) ≡ true)
+    (lawful : lawfulVerdict s ≡ Accepted) (seen : List Bool)
     (i : CpuidPageIndex) (w : Searching c s seen i) (h : i .«page_index» < pagesIn s) where
   abbrev p : ℕ
   p = i .«page_index»
@@ -166,7 +168,8 @@ module _ (c : Choices) (s : List ℕ) (bytes : (n : ℕ) → getD s n 0 < 256) (
           side false false f = refl
 
   -- nothing is found among the entry's flips, and the marks take it in
-  onward : {seen′ : List Bool} → length seen′ ≡ places → ((j : ℕ) → j < places → getD seen′ j false ≡ pick (getD seen j false) true (eqb (storedAt e) j))
+  onward : {seen′ : List Bool} → length seen′ ≡ places
+      → ((j : ℕ) → j < places → getD seen′ j false ≡ pick (getD seen j false) true (eqb (storedAt e) j))
       → lowest (λ n. not (test n)) 0 128 ≡ none → Searching c s seen′ (incremented s i)
   onward whole marks f = record {
     valid = step .valid;
@@ -174,7 +177,8 @@ module _ (c : Choices) (s : List ℕ) (bytes : (n : ℕ) → getD s n 0 < 256) (
     split = one-more;
     whole = whole;
     marks = λ j l. marks j l ∙ sym (marked j l);
-    left = from-here ∙ ap (λ (x : Failing). whenFound (λ n. flip p q (n / 32) (n % 32)) x (firstThat (changes c s) (flipsIn (rest s (incremented s i))))) f;
+    left = from-here
+        ∙ ap (λ (x : Failing). whenFound (λ n. flip p q (n / 32) (n % 32)) x (firstThat (changes c s) (flipsIn (rest s (incremented s i))))) f;
   }
 
   -- an entry that is not kept, or whose place is seen
@@ -197,7 +201,8 @@ module _ (c : Choices) (s : List ℕ) (bytes : (n : ℕ) → getD s n 0 < 256) (
     unfolding keeps
     agrees =
         lowest-ext _ _ 0 128 (λ n l u.
-        ap not (changes-row c s p q (n / 32) (n % 32) (inside n (omega arith)) known lawful (w .done) (rest s (incremented s i)) here place small at-place
+        ap not (changes-row c s p q (n / 32) (n % 32) (inside n (omega arith)) known lawful (w .done)
+        (rest s (incremented s i)) here place small at-place
         (sym (w .marks place small) ∙ new))
         ∙ not-not _
         ∙ ap (λ (x : CpuidResult). sameFrom (c .edition) (putRow place x (rowsFor c s)) (rowsFor c s))

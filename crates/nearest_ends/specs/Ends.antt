@@ -9,8 +9,8 @@ use lib.Dec.{eqb, ltb}
 use lib.ListN.{length, getD, set, replicate, getD-replicate, length-set}
 use lib.Seq.{getD-set-other}
 use borrow.Author.Tests.{eqb-true, eqb-false, ltb-true, ltb-false}
-use Rattle.bits.specs.ChoiceLaws.{never-both, pick-true}
-use Rattle.bits.specs.Search.{Failing, lowest}
+use Rattle.bits.specs.ChoiceLaws.{never-both}
+use Rattle.bits.specs.Search.{Failing}
 use Rattle.bits.specs.Search.Failing.{at, none}
 use Rattle.bits.specs.SearchLaws.{lowest-none}
 use Rattle.x86defs.specs.declared.CpuidResult.{CpuidResult}
@@ -48,7 +48,7 @@ use Rattle.deciding.specs.declared.Deciding.{Deciding}
 use Rattle.deciding.specs.declared.Deciding.the-variants.{Number, NoNumber}
 use Rattle.deciding.specs.BitLaws.{keeps, bitFound, firstBit, bit-quiet}
 use Rattle.nearest.specs.declared.Nearest.{Nearest}
-use Rattle.nearest.specs.declared.Nearest.the-variants.{Bit, NoBit}
+use Rattle.nearest.specs.declared.Nearest.the-variants.{NoBit}
 use Rattle.nearest.specs.Nearest.{firstThat}
 use Rattle.nearest.specs.SearchLaws.{Searching, searching-first, searching-last, search-passes, search-none, search-found, seen-taken, not-kept, here, inside}
 use Rattle.nearest_ends.specs.Invlpgb.{invlpgb-flip}
@@ -84,7 +84,8 @@ module _ (c : Choices) (s : List ℕ) (bytes : (n : ℕ) → getD s n 0 < 256) (
   fresh-row : (seen : List Bool) (i : CpuidPageIndex) (place : ℕ) → Fresh seen i place → m place ≡ row (maskedAt avic place (entry i .registers))
   fresh-row seen i place f =
       let w = f .searching in
-      taken-row avic s (i .«page_index») (i .«function_index») 0 0 (inside c s bytes known lawful seen i w (f .on) 0 (omega arith)) (lawful-counts s lawful) (w .done)
+      taken-row avic s (i .«page_index») (i .«function_index») 0 0 (inside c s bytes known lawful seen i w (f .on) 0 (omega arith))
+      (lawful-counts s lawful) (w .done)
       (rest s (incremented s i)) (here c s bytes known lawful seen i w (f .on)) place (f .small) (f .at) (sym (w .marks place (f .small)) ∙ f .new)
 
   masks : (place : ℕ) (x : CpuidResult) → setLegacy place (applyMask (masksOf (kept place)) x) ≡ maskedAt avic place x
@@ -93,7 +94,8 @@ module _ (c : Choices) (s : List ℕ) (bytes : (n : ℕ) → getD s n 0 < 256) (
   -- a walk to the end: what holds of the places seen is kept by each entry that is passed, or the walk is left
   module _ (P : Type 0) (Q : List Bool → Type 0)
       (last : (seen : List Bool) (i : CpuidPageIndex) → Searching c s seen i → pagesIn s ≤ i .«page_index» → Q seen → P)
-      (fresh : (seen : List Bool) (i : CpuidPageIndex) (place : ℕ) → Fresh seen i place → Q seen → ((bitAt place i ≡ NoNumber) × Q (set seen place true)) ⊎ P) where
+      (fresh : (seen : List Bool) (i : CpuidPageIndex) (place : ℕ) → Fresh seen i place → Q seen
+      → ((bitAt place i ≡ NoNumber) × Q (set seen place true)) ⊎ P) where
     one-turn : (n : ℕ) → ((seen : List Bool) (i : CpuidPageIndex) → Searching c s seen i → length (rest s i) ≤ n → Q seen → P)
         → (seen : List Bool) (i : CpuidPageIndex) → Searching c s seen i → length (rest s i) ≤ suc n → i .«page_index» < pagesIn s → Q seen → P
     one-turn n ih seen i w l h q = go (ltb place places) (getD seen place false) refl refl
@@ -155,7 +157,8 @@ module _ (c : Choices) (s : List ℕ) (bytes : (n : ℕ) → getD s n 0 < 256) (
   all-seen : (seen : List Bool) (i : CpuidPageIndex) → Searching c s seen i → pagesIn s ≤ i .«page_index» → getD seen sizes false ≡ m sizes .present
   all-seen seen i w l =
       w .marks sizes (omega arith)
-      ∙ ap (λ (x : List Entry). firstOf sizes x .present) (sym (w .split ∙ ap (λ (x : List Entry). w .done ++ x) (rest-end s i l) ∙ append-nil (w .done)))
+      ∙ ap (λ (x : List Entry). firstOf sizes x .present)
+      (sym (w .split ∙ ap (λ (x : List Entry). w .done ++ x) (rest-end s i l) ∙ append-nil (w .done)))
       ∙ sym (rows-present avic s sizes (omega arith))
 
   pub some-decides : requiredVerdict m ≡ Accepted → found ≡ NoBit NothingDecides → ⊥
@@ -183,7 +186,8 @@ module _ (c : Choices) (s : List ℕ) (bytes : (n : ℕ) → getD s n 0 < 256) (
           go : (b : Deciding) → bitAt place i ≡ b → (d : Bool) → eqb sizes place ≡ d
               → ((bitAt place i ≡ NoNumber) × (getD (set seen place true) sizes false ≡ false)) ⊎ ⊥
           go (Number n) g d h =
-              let z = search-found c s bytes known lawful seen i (f .searching) (f .on) place (f .small) (f .at) (f .new) (kept place) (masks place) n g in
+              let z = search-found c s bytes known lawful seen i (f .searching) (f .on) place (f .small)
+              (f .at) (f .new) (kept place) (masks place) n g in
               let y : _≡_ {A = ℕ} 0 1 = cc in absurd (omega arith)
           go NoNumber g true h = let p : sizes ≡ place = eqb-true sizes place h in inr (keeps-35 seen i (rw p f) (rw p g))
           go NoNumber g false h = inl (g, getD-set-other seen place sizes true false (eqb-false sizes place h) ∙ q)

@@ -2,9 +2,7 @@
 use mathlib.Core.Path.{_≡_, refl, sym, ap, _∙_, subst}
 use mathlib.Core.List.{List}
 use Prim.Native.Nat.{ℕ}
-use Rattle.x86defs.specs.declared.CpuidFunction.{CpuidFunction}
 use Rattle.pages.specs.Layout.{entryAt}
-use Rattle.topology.specs.declared.TopologyError.{TopologyError}
 use Rattle.table.specs.declared.Choices.{Choices}
 use Rattle.table.specs.declared.Refusal.{Refusal}
 use Rattle.table.specs.declared.Refusal.the-variants.{PagesLength, PageCount, MissingRequiredResult, InvlpgbUnavailable, SaveAreaOverflow, TopologyInconsistent, BufferTooShort, ListLength, ListRows, ListFields, StateBeyondTable, CompactSizeTooLarge, UnknownEdition, EditionBack, ReservedBytes, PoolSets, PoolDiffers, NothingDecides}
@@ -17,13 +15,12 @@ use Rattle.refusals.specs.Settles.{Settles}
 use Rattle.refusals.specs.Settles.Settles.{passes, refuses}
 use Rattle.refusals.specs.PagesSettled.{edition-decides, length-decides, counts-decide}
 use Rattle.refusals.specs.ReservedSettled.{reserved-decides}
-use Rattle.flips.specs.declared.Flip.{Flip}
 use Rattle.flips.specs.Flips.{flips}
 use Rattle.flip_rows.specs.Changes.{changes}
 use Rattle.nearest.specs.declared.Nearest.{Nearest}
 use Rattle.nearest.specs.declared.Nearest.the-variants.{Bit, NoBit}
 use Rattle.nearest.specs.Nearest.{firstThat, frontVerdict, unlessRefused, nearest}
-use Rattle.nearest_ends.specs.NearestExactly.{Lawful, FirstOf, GivenFor, Answers, NearestExactly}
+use Rattle.nearest_ends.specs.NearestExactly.{Lawful, GivenFor, Answers, NearestExactly}
 use Rattle.nearest_ends.specs.FirstLaws.{Searched, searched, none-found, first-found}
 use Rattle.nearest_ends.specs.FirstLaws.Searched.{found, none}
 
@@ -63,14 +60,16 @@ module _ (c : Choices) (s : List ℕ) where
           subst (Answers c s) (sym (by-verdicts e l n (f ∙ ap Refused h))) (a, b, d, p, q, g, refl)
       reserved e l n a b d (passes f g) =
           subst (Answers c s) (sym (by-verdicts e l n f))
-          (searched-answers (record { edition = a; length = b; counts = d; reserved = λ p q h. g _ (p, q, h, refl) }) (searched (changes c s) (flips s)))
+          (searched-answers (record { edition = a; length = b; counts = d; reserved = λ p q h. g _ (p, q, h, refl) })
+          (searched (changes c s) (flips s)))
 
       counts : editionVerdict (c .edition) ≡ Accepted → lengthVerdict s ≡ Accepted → (EditionFault (c .edition) → ⊥) → (LengthFault s → ⊥)
           → Settles (λ r. CountFault s × (r ≡ PageCount)) (countsVerdict s) → Answers c s (nearest c s)
       counts e l a b (refuses r f (g, h) one) = subst (Answers c s) (sym (by-verdicts e l (f ∙ ap Refused h) refl)) (a, b, g)
       counts e l a b (passes f g) = reserved e l f a b (λ h. g PageCount (h, refl)) (reserved-decides s)
 
-      length : editionVerdict (c .edition) ≡ Accepted → (EditionFault (c .edition) → ⊥) → Settles (λ r. LengthFault s × (r ≡ PagesLength)) (lengthVerdict s)
+      length : editionVerdict (c .edition) ≡ Accepted → (EditionFault (c .edition) → ⊥)
+          → Settles (λ r. LengthFault s × (r ≡ PagesLength)) (lengthVerdict s)
           → Answers c s (nearest c s)
       length e a (refuses r f (g, h) one) = subst (Answers c s) (sym (by-verdicts e (f ∙ ap Refused h) refl refl)) (a, g)
       length e a (passes f g) = counts e f a (λ h. g PagesLength (h, refl)) (counts-decide s)

@@ -1,5 +1,5 @@
 -- The first flip that passes a test: found exactly where it stands behind none that does, and none is found exactly where none passes.
-use mathlib.Core.Path.{_≡_, refl, sym, ap, _∙_}
+use mathlib.Core.Path.{_≡_, refl, ap, _∙_}
 use mathlib.Core.Bool.{Bool, true, false}
 use mathlib.Core.List.{List, [], _∷_, _++_}
 use Prim.Native.Nat.{ℕ}
@@ -9,7 +9,6 @@ use Rattle.bits.specs.ChoiceLaws.{pick-true, pick-false}
 use Rattle.bits.specs.Lists.{keepIf}
 use Rattle.table.specs.declared.Refusal.the-variants.{NothingDecides}
 use Rattle.flips.specs.declared.Flip.{Flip}
-use Rattle.nearest.specs.declared.Nearest.{Nearest}
 use Rattle.nearest.specs.declared.Nearest.the-variants.{Bit, NoBit}
 use Rattle.nearest.specs.Nearest.{firstThat}
 use Rattle.nearest_ends.specs.NearestExactly.{FirstOf}

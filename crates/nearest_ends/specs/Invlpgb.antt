@@ -3,8 +3,7 @@ use mathlib.Core.Path.{_≡_, refl, sym, ap, ap₂, _∙_}
 use mathlib.Core.Bool.{Bool, true, false, not, _&&_}
 use Prim.Native.Nat.{ℕ, _^_}
 use native.Mathlib.Omega.{arith}
-use lib.Bits.{bitAnd, bitXor}
-use lib.Dec.{eqb}
+use lib.Bits.{bitXor}
 use borrow.Author.Tests.{eqb-true}
 use Rattle.bits.specs.ChoiceLaws.{and-left}
 use Rattle.bits.specs.Search.{Failing, lowest}
@@ -21,7 +20,7 @@ use Rattle.masking.specs.Masks.{extendedAddressSpaceSizes}
 use Rattle.masking.specs.Kept.{keptLeaves, slot, masksAt}
 use Rattle.masking.specs.Place
 use Rattle.table.specs.declared.Verdict.{Verdict}
-use Rattle.table.specs.declared.Verdict.the-variants.{Accepted, Refused}
+use Rattle.table.specs.declared.Verdict.the-variants.{Accepted}
 use Rattle.table.specs.Refusal.{andThen}
 use Rattle.table.specs.Rows.{Row, Rows, row}
 use Rattle.checks.specs.declared.Size.{Size}
@@ -52,7 +51,8 @@ from-components : (m : Rows) → number (andThen (componentsVerdict m) (andThen 
 unfolding componentsVerdict componentsOf areaVerdict topologyVerdict
 from-components m = go (lowest (supplied m (combinedMask m)) 2 62) (sizeOf (saveArea m (xfem m)))
   where
-    go : (f : Failing) (z : Size) → number (andThen (refuseAt f missingComponent) (andThen (sizeVerdict z) (topologyRefusal (topologyOf (inputsOf m))))) ≡ 4 → ⊥
+    go : (f : Failing) (z : Size)
+        → number (andThen (refuseAt f missingComponent) (andThen (sizeVerdict z) (topologyRefusal (topologyOf (inputsOf m))))) ≡ 4 → ⊥
     go (at j) z e = omega arith
     go none TooLarge e = omega arith
     go none (Bytes n) e = from-topology (topologyOf (inputsOf m)) e
@@ -101,7 +101,8 @@ xor-has x = go (has 3 x) refl
 
 -- flip 35 of 80000008h: EBX bit 3
 flip-35 : (avic : Bool) (x : CpuidResult)
-    → has 3 (maskedAt avic Place.extendedAddressSpaceSizes (xorResult x (oneBit 1 3)) .ebx) ≡ not (has 3 (maskedAt avic Place.extendedAddressSpaceSizes x .ebx))
+    → has 3 (maskedAt avic Place.extendedAddressSpaceSizes (xorResult x (oneBit 1 3)) .ebx)
+    ≡ not (has 3 (maskedAt avic Place.extendedAddressSpaceSizes x .ebx))
 unfolding bitIn
 flip-35 avic x =
     has-and 3 (bitXor (x .ebx) (2 ^ 3)) _ ∙ ap₂ _&&_ (xor-has (x .ebx)) (mask-has avic) ∙ go (has 3 (x .ebx))

@@ -7,9 +7,7 @@ use mathlib.Core.Logic.{_↔_}
 use Prim.Native.Nat.{ℕ, _<_}
 use lib.ListN.{getD}
 use Rattle.bits.specs.Lists.{keepIf}
-use Rattle.x86defs.specs.declared.CpuidFunction.{CpuidFunction}
 use Rattle.pages.specs.Layout.{entryAt}
-use Rattle.topology.specs.declared.TopologyError.{TopologyError}
 use Rattle.table.specs.declared.Choices.{Choices}
 use Rattle.table.specs.declared.Refusal.{Refusal}
 use Rattle.table.specs.declared.Refusal.the-variants.{PagesLength, PageCount, MissingRequiredResult, InvlpgbUnavailable, SaveAreaOverflow, TopologyInconsistent, BufferTooShort, ListLength, ListRows, ListFields, StateBeyondTable, CompactSizeTooLarge, UnknownEdition, EditionBack, ReservedBytes, PoolSets, PoolDiffers, NothingDecides}
@@ -45,7 +43,8 @@ GivenFor c s UnknownEdition = EditionFault (c .edition)
 GivenFor c s PagesLength = (EditionFault (c .edition) → ⊥) × LengthFault s
 GivenFor c s PageCount = (EditionFault (c .edition) → ⊥) × (LengthFault s → ⊥) × CountFault s
 GivenFor c s (ReservedBytes leaf) =
-    (EditionFault (c .edition) → ⊥) × (LengthFault s → ⊥) × (CountFault s → ⊥) × (p : ℕ) × (q : ℕ) × ReservedFault s p q × (leaf ≡ entryAt s p q .leaf)
+    (EditionFault (c .edition) → ⊥) × (LengthFault s → ⊥) × (CountFault s → ⊥)
+    × (p : ℕ) × (q : ℕ) × ReservedFault s p q × (leaf ≡ entryAt s p q .leaf)
 GivenFor c s NothingDecides = Lawful c s × (keepIf (changes c s) (flips s) ≡ [])
 GivenFor c s (MissingRequiredResult leaf subleaf) = ⊥
 GivenFor c s InvlpgbUnavailable = ⊥

@@ -1,5 +1,5 @@
 -- 20 is given exactly where building gives 3 for a leaf of the two required lists.
-use mathlib.Core.Path.{_≡_, refl, sym, ap, _∙_, subst}
+use mathlib.Core.Path.{_≡_, refl, sym, ap, _∙_}
 use mathlib.Core.Bool.{true}
 use mathlib.Core.List.{List}
 use Prim.Native.Nat.{ℕ, _<_}
@@ -22,7 +22,6 @@ use Rattle.refusals.specs.Settles.Settles.{passes, refuses}
 use Rattle.refusals.specs.RequiredSettled.{required-decides}
 use Rattle.flips.specs.Flips.{flips}
 use Rattle.flip_rows.specs.Changes.{changes}
-use Rattle.nearest.specs.declared.Nearest.{Nearest}
 use Rattle.nearest.specs.declared.Nearest.the-variants.{NoBit}
 use Rattle.nearest.specs.Nearest.{firstThat, frontVerdict, unlessRefused, nearest}
 use Rattle.nearest_ends.specs.NearestExactly.{MissesRequired, TwentyExactly}
@@ -62,7 +61,8 @@ module _ (c : Choices) (s : List ℕ) (bytes : (k : ℕ) → getD s k 0 < 256) w
 
     nothing : (j : ℕ) → RequiredFault m j → nearest c s ≡ NoBit NothingDecides
     nothing j fault =
-        searched ∙ nothing-decides c s bytes known lawful (missingRequired j) (settled-refuses (missingRequired j) (required-decides m) (j, fault, refl))
+        searched
+        ∙ nothing-decides c s bytes known lawful (missingRequired j) (settled-refuses (missingRequired j) (required-decides m) (j, fault, refl))
 
   -- a front that refuses names no leaf of the lists, and not 20
   front-refuses : (r : Refusal) → frontVerdict c s ≡ Refused r → nearest c s ≡ NoBit r

@@ -127,7 +127,13 @@ among : (q r k : ℕ) → q < 2 → r < 4 → k < 32 → (before after : List En
     → Among first leaf1Twice 0 q r k
 unfolding knownEdition
 among q r k h l u before after e = record {
-  inside = record { bytes = bytes-at leaf1Twice leaf1Twice-bytes; page = omega (arith, leaf1Twice-pages); entry = omega arith; register = l; bit = u };
+  inside = record {
+    bytes = bytes-at leaf1Twice leaf1Twice-bytes;
+    page = omega (arith, leaf1Twice-pages);
+    entry = omega arith;
+    register = l;
+    bit = u;
+  };
   known = refl;
   lawful = leaf1Twice-lawful;
   before = before;

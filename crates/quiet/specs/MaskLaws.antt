@@ -30,7 +30,17 @@ bit-xor k a b = rw xor-shr (rw (xor-step (a / 2 ^ k) (b / 2 ^ k)) (digit (a / 2 
 xor-and : (x d m : ℕ) → bitAnd (bitXor x d) m ≡ bitXor (bitAnd x m) (bitAnd d m)
 xor-and x d m =
     bits-ext _ _ (λ k.
-    omega (arith, bit-and k (bitXor x d) m, bit-xor k x d, bit-xor k (bitAnd x m) (bitAnd d m), bit-and k x m, bit-and k d m, bit-lt k x, bit-lt k d, bit-lt k m))
+    omega (
+      arith,
+      bit-and k (bitXor x d) m,
+      bit-xor k x d,
+      bit-xor k (bitAnd x m) (bitAnd d m),
+      bit-and k x m,
+      bit-and k d m,
+      bit-lt k x,
+      bit-lt k d,
+      bit-lt k m,
+    ))
 
 outside : (x d m : ℕ) → bitAnd d m ≡ 0 → bitAnd (bitXor x d) m ≡ bitAnd x m
 outside x d m e = xor-and x d m ∙ ap (bitXor (bitAnd x m)) e ∙ xor-zero-r (bitAnd x m)

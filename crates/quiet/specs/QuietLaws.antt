@@ -1,35 +1,31 @@
 -- At a quiet place no row changes the answer.
-use mathlib.Core.Path.{_≡_, refl, sym, ap, ap₂, _∙_, subst, fun-ext}
-use mathlib.Core.Bool.{Bool, true, false, not, _&&_, _||_}
+use mathlib.Core.Path.{_≡_, refl, sym, ap, _∙_, subst, fun-ext}
+use mathlib.Core.Bool.{Bool, true, false, not, _||_}
 use mathlib.Core.Logic.{_≢_}
-use Prim.Native.Nat.{ℕ, _+_, _-_, _≤_, _<_}
+use Prim.Native.Nat.{ℕ, _-_, _≤_, _<_}
 use native.Mathlib.Omega.{arith}
-use lib.Bits.{bitOr}
-use lib.Dec.{eqb, ltb, leb}
+use lib.Dec.{eqb, leb}
 use borrow.Author.Tests.{eqb-true, eqb-false, ltb-true, leb-true, le-leb, lt-ltb}
 use Rattle.bits.specs.Choice.{pick}
 use Rattle.bits.specs.ChoiceLaws.{never-both, pick-true, and-left, and-right, and-both}
 use Rattle.bits.specs.Bits.{has}
 use Rattle.x86defs.specs.declared.CpuidResult.{CpuidResult}
 use Rattle.masking.specs.Place
-use Rattle.table.specs.declared.CpuidResults.{CpuidResults}
 use Rattle.table.specs.declared.Refusal.{Refusal}
 use Rattle.table.specs.declared.Verdict.{Verdict}
 use Rattle.table.specs.declared.Verdict.the-variants.{Accepted, Refused}
-use Rattle.table.specs.Refusal.{andThen}
 use Rattle.table.specs.Rows.{Row, Rows, row, vacant}
-use Rattle.table.specs.Table.{tableOf, emptyTable}
+use Rattle.table.specs.Table.{tableOf}
 use Rattle.checks.specs.ExtendedState.{combinedMask}
 use Rattle.checks.specs.Checks.{invlpgbOf, requiredVerdict, invlpgbVerdict, rowsVerdict}
 use Rattle.update.specs.Finish.{Rule, Settings, ruleAt, finishRow, enabledBy, settings, finished}
-use Rattle.update.specs.Finish.Needed.{threadLevelRow, coreLevelRow}
-use Rattle.update.specs.Finish.Rule.{needed, component}
+use Rattle.update.specs.Finish.Rule.{component}
 use Rattle.update.specs.PlaceLaws.{component-rule}
 use Rattle.build.specs.Built.{tableFor}
 use Rattle.flip_rows.specs.Same.{sameFrom}
 use Rattle.flip_rows.specs.SameLaws.{answer-same}
 use Rattle.flip_rows.specs.PutRow.{putRow}
-use Rattle.flip_rows.specs.PutRowLaws.{put-other, put-present, required-same}
+use Rattle.flip_rows.specs.PutRowLaws.{put-other, required-same}
 use Rattle.quiet.specs.Quiet.{refuses, isComponent, isLevel, isRead, quietAt, quiet}
 use Rattle.quiet.specs.ReadLaws.{Unread, mask-same, verdict-same, settings-same}
 
@@ -60,7 +56,8 @@ module _ (n i : ℕ) (x : CpuidResult) (m : Rows) (present : m i .present ≡ tr
 
   -- ---- INVLPGB is clear
 
-  invlpgb-quiet : (r : Refusal) → requiredVerdict m ≡ Accepted → invlpgbVerdict m ≡ Refused r → i ≢ Place.extendedAddressSpaceSizes → sameFrom n o m ≡ true
+  invlpgb-quiet : (r : Refusal) → requiredVerdict m ≡ Accepted → invlpgbVerdict m ≡ Refused r → i ≢ Place.extendedAddressSpaceSizes
+      → sameFrom n o m ≡ true
   invlpgb-quiet r e f d =
       refused-same n m o r (found m e f)
       (found o (required-same i x m present ∙ e)
@@ -135,18 +132,20 @@ module _ (n i : ℕ) (x : CpuidResult) (m : Rows) (present : m i .present ≡ tr
           states = λ k a b d. not-state k a b;
         }
 
-        made : (b : Bool) (r : CpuidResult) → m i .present ≡ true → row r ≡ pick (m i .present) (row r) vacant
-        made b r f = sym (pick-true _ _ f)
+        -- whatever stands there, a row of these registers is made of it
+        made : (r : CpuidResult) → {t : Rule} → ruleAt i ≡ t → ((x : Row) → finishRow (settings n m) t x ≡ pick (x .present) (row r) vacant)
+            → finishRow (settings n m) (ruleAt i) (row x) ≡ finishRow (settings n m) (ruleAt i) (m i)
+        made r e f = rw e (f (row x) ∙ sym (f (m i) ∙ pick-true _ _ present))
 
         go : (b : Bool) → eqb i Place.threadLevel ≡ b → (b || eqb i Place.coreLevel) ≡ true → sameFrom n o m ≡ true
         go true f g =
             let q : i ≡ Place.threadLevel = eqb-true i Place.threadLevel f in
             unread-finished (unread (omega arith) (omega arith)) (λ z. omega arith)
-            (subst (λ (t : Rule). finishRow (settings n m) t (row x) ≡ finishRow (settings n m) t (m i)) (sym (ap ruleAt q)) (made true (settings n m .threads) present))
+            (made (settings n m .threads) (ap ruleAt q) (λ y. refl))
         go false f g =
             let q : i ≡ Place.coreLevel = eqb-true i Place.coreLevel g in
             unread-finished (unread (omega arith) (omega arith)) (λ z. omega arith)
-            (subst (λ (t : Rule). finishRow (settings n m) t (row x) ≡ finishRow (settings n m) t (m i)) (sym (ap ruleAt q)) (made true (settings n m .cores) present))
+            (made (settings n m .cores) (ap ruleAt q) (λ y. refl))
 
     not-read : isRead i ≡ false → Unread m i
     not-read e =

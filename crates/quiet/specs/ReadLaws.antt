@@ -1,8 +1,8 @@
 -- What the checks read of the rows: a row at a place that none reads leaves the verdict; and what the rules read of each other.
-use mathlib.Core.Path.{_≡_, refl, sym, ap, _∙_, fun-ext}
-use mathlib.Core.Bool.{Bool, true, false, _&&_}
+use mathlib.Core.Path.{_≡_, sym, ap, _∙_, fun-ext}
+use mathlib.Core.Bool.{Bool, true}
 use mathlib.Core.Logic.{_≢_}
-use Prim.Native.Nat.{ℕ, _+_, _^_, _≤_, _<_}
+use Prim.Native.Nat.{ℕ, _+_, _≤_, _<_}
 use native.Mathlib.Omega.{arith}
 use lib.Bits.{bitOr}
 use Rattle.bits.specs.Choice.{pick}
@@ -11,15 +11,15 @@ use Rattle.bits.specs.BitsLaws.{within-refl}
 use Rattle.bits.specs.Search.{lowest}
 use Rattle.x86defs.specs.declared.CpuidResult.{CpuidResult}
 use Rattle.x86defs.specs.ExtendedSevFeaturesEax as Sev
-use Rattle.topology.specs.Topology.{Inputs, topologyOf, processors, threadLevel, coreLevel}
+use Rattle.topology.specs.Topology.{topologyOf, processors, threadLevel, coreLevel}
 use Rattle.masking.specs.Place
 use Rattle.table.specs.Refusal.{andThen}
 use Rattle.table.specs.Rows.{Row, Rows}
-use Rattle.checks.specs.ExtendedState.{xfem, xssOf, xss, combinedMask, supplied, sumAt, areaBelow, saveArea, sizeOf}
+use Rattle.checks.specs.ExtendedState.{xfem, xssOf, xss, combinedMask, sumAt, saveArea, sizeOf}
 use Rattle.checks.specs.ExtendedStateLaws.{area-mono, in-combined}
 use Rattle.checks.specs.TopologyInputs.{inputsOf}
-use Rattle.checks.specs.Checks.{refuseAt, missingComponent, sizeVerdict, topologyRefusal, invlpgbOf, requiredVerdict, invlpgbVerdict, componentsOf, componentsVerdict, areaVerdict, topologyVerdict, rowsVerdict}
-use Rattle.update.specs.Finish.{Settings, Enabled, enabledBy, ymmClears, settings}
+use Rattle.checks.specs.Checks.{refuseAt, missingComponent, sizeVerdict, topologyRefusal, invlpgbOf, invlpgbVerdict, componentsOf, componentsVerdict, areaVerdict, topologyVerdict, rowsVerdict}
+use Rattle.update.specs.Finish.{enabledBy, ymmClears, settings}
 use Rattle.flip_rows.specs.PutRow.{putRow}
 use Rattle.flip_rows.specs.PutRowLaws.{put-other, put-present, required-same}
 

@@ -1,8 +1,8 @@
 -- `quiet`, case by case, in the terms of the code's returns.
 use mathlib.Core.Path.{_≡_, sym, ap₂, _∙_}
-use mathlib.Core.Bool.{Bool, true, false, not, _&&_, _||_}
+use mathlib.Core.Bool.{Bool, true, false, not}
 use Prim.Native.Nat.{ℕ, _-_, _≤_, _<_}
-use lib.Dec.{eqb, leb, ltb}
+use lib.Dec.{eqb, leb}
 use borrow.Author.Tests.{ltb-true, leb-true}
 use Rattle.bits.specs.ChoiceLaws.{and-left, and-right}
 use Rattle.bits.specs.Bits.{has}
@@ -19,11 +19,13 @@ module _ (m : Rows) (i : ℕ) where
   unfolding quiet
   quiet-missing e = rw e
 
-  pub quiet-clear : {r : Refusal} → requiredVerdict m ≡ Accepted → invlpgbVerdict m ≡ Refused r → not (eqb i Place.extendedAddressSpaceSizes) ≡ quiet m i
+  pub quiet-clear : {r : Refusal} → requiredVerdict m ≡ Accepted → invlpgbVerdict m ≡ Refused r
+      → not (eqb i Place.extendedAddressSpaceSizes) ≡ quiet m i
   unfolding quiet
   quiet-clear e f = rw (e, f)
 
-  pub quiet-other : {b q : Bool} {x : ℕ} → requiredVerdict m ≡ Accepted → invlpgbVerdict m ≡ Accepted → b ≡ refuses (rowsVerdict m) → x ≡ combinedMask m
+  pub quiet-other : {b q : Bool} {x : ℕ} → requiredVerdict m ≡ Accepted → invlpgbVerdict m ≡ Accepted
+      → b ≡ refuses (rowsVerdict m) → x ≡ combinedMask m
       → q ≡ quietAt b x i → q ≡ quiet m i
   unfolding quiet
   quiet-other e f g h k = k ∙ ap₂ (λ (b : Bool) (x : ℕ). quietAt b x i) g h ∙ sym (rw (e, f))

@@ -28,7 +28,11 @@ pub fn is_quiet(t: CpuidResults, verdict: Verdict, place: usize) -> bool
     }
     let subleaf0 = t.results[place::EXTENDED_STATE_0];
     let subleaf1 = t.results[place::EXTENDED_STATE_1];
-    quiet_at(is_refused(verdict), max_extended_state(subleaf0.eax, max_xss(subleaf1)), place)
+    quiet_at(
+        is_refused(verdict),
+        max_extended_state(subleaf0.eax, max_xss(subleaf1)),
+        place,
+    )
 }
 
 // Whether a verdict refuses.

@@ -54,7 +54,11 @@ fn nearest_numbers(answer: Nearest) -> SnpCpuidNearest
 
 // The first result bit whose flip changes the answer of building.
 #[no_mangle]
-pub extern "C" fn snp_cpuid_nearest(pages: &[u8], secure_avic: bool, edition: u32) -> SnpCpuidNearest
+pub extern "C" fn snp_cpuid_nearest(
+    pages: &[u8],
+    secure_avic: bool,
+    edition: u32,
+) -> SnpCpuidNearest
     ensures { λ r. ⌜ r ≡ nearestNumbers (nearest (choicesOf «secure_avic» edition) (now (pages .entry))) ⌝ }
 {
     nearest_numbers(nearest::nearest_bit(pages, choices(secure_avic, edition)))

@@ -32,8 +32,8 @@ use Rattle.examples.specs.Evaluation.{first}
 use Rattle.nearest_examples.specs.NearestBits as Bits
 use Rattle.nearest_examples.specs.NearestBits.{onlyLeaf5, withoutD2, leaf1Twice}
 
--- each answer, 15, 1, 2, 17, 20 or a bit: given if and only if its condition holds; no other number is given. A bit is the first flip, in the order of
--- page, entry, register and bit, that changes the answer; 20 is given where none does. crates/nearest_ends/specs/NearestExactly.antt
+-- each answer, 15, 1, 2, 17, 20 or a bit: given if and only if its condition holds; no other number is given. A bit is the first flip, in the order
+-- of page, entry, register and bit, that changes the answer; 20 is given where none does. crates/nearest_ends/specs/NearestExactly.antt
 pub nearest-exactly : (chosen : Choices) (s : List ℕ) → NearestExactly chosen s
 nearest-exactly = Exactly.nearest-exactly
 

@@ -16,7 +16,8 @@ returns c =
 returns-2 : tie.Need-returns-2
 returns-2 c =
     let f = c .before in let r = f .before in let built = r .before in let put = built .before in
-    keeps-refused _ (built .build-rows .ensures) (put .with-row .ensures) (put .before .before .before .pre .1) (r .is-refused .ensures) (f .if3 .taken)
+    keeps-refused _ (built .build-rows .ensures) (put .with-row .ensures) (put .before .before .before .pre .1)
+    (r .is-refused .ensures) (f .if3 .taken)
     (c .same-verdict .ensures)
 
 returns-3 : tie.Need-returns-3

@@ -1,6 +1,6 @@
 -- `flip_rows::same_answer` meets its contract: the two verdicts, then the two tables.
 use borrow.Author.Needs.{needs}
-use mathlib.Core.Path.{_≡_, sym, _∙_}
+use mathlib.Core.Path.{sym, _∙_}
 use Rattle.flip_rows.specs.Same.{sameAnswer}
 use Rattle.flip_rows.proofs.same_answer.Statement.{statement}
 use Rattle.flip_rows.proofs.same_answer.Tie as tie

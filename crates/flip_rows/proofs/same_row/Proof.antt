@@ -1,6 +1,5 @@
 -- `flip_rows::same_row` meets its contract: by the two flags.
 use borrow.Author.Needs.{needs}
-use mathlib.Core.Path.{_∙_}
 use Rattle.flip_rows.proofs.same_row.Statement.{statement}
 use Rattle.flip_rows.proofs.same_row.Tie as tie
 

@@ -1,7 +1,7 @@
 -- `nearest::search_flips` meets its contract: before each turn the first flip of the entries left is the first of all.
 use borrow.Author.Needs.{needs}
 use native.Mathlib.Omega.{arith}
-use mathlib.Core.Path.{_≡_, sym, ap, _∙_}
+use mathlib.Core.Path.{sym, ap, _∙_}
 use mathlib.Core.Logic.{⊎-elim}
 use Prim.Native.Nat.{ℕ, _<_}
 use lib.ListN.{length, getD}
@@ -67,7 +67,8 @@ returns c =
     let start = kept .before .before in
     let h : l .loop .index .«page_index» < _ = rw (count .page-count .ensures) at (e .before .if1 .taken) in
     let at = k .counted-place .ensures ∙ ap (countedPlace) (e .entry-at .ensures) ∙ counted-place-stored _ in
-    search-found (chosen _ _) (start .args .pages .now) (λ i. omega (arith, kept .before .shared-slice-known .given i)) (start .pre .0) (start .pre .1) _ _ (l .loop .inv) h
+    search-found (chosen _ _) (start .args .pages .now) (λ i. omega (arith, kept .before .shared-slice-known .given i))
+    (start .pre .0) (start .pre .1) _ _ (l .loop .inv) h
     _ (f .if2 .taken) (sym at) (new .if3 .left) _
     (λ x. row-masks _ _ _ _ x (kept .kept-leaves .ensures) (row .mask-row .ensures .0)) _
     (bit-in _ _ _ (ap rowsIn (collect .collect .ensures) ∙ collected-rows _ _)
@@ -96,7 +97,8 @@ loop-again c =
     let at = k .counted-place .ensures ∙ ap (countedPlace) (e .entry-at .ensures) ∙ counted-place-stored _ in
     rw (c .increment .ensures)
     (⊎-elim
-    (λ w. rw (w .2) (search-passes (chosen _ _) s bytes (start .pre .0) (start .pre .1) _ _ (l .loop .inv) h (seen-taken (l .loop .seen) at (w .1 .taken))))
+    (λ w. rw (w .2) (search-passes (chosen _ _) s bytes (start .pre .0) (start .pre .1) _ _ (l .loop .inv) h
+    (seen-taken (l .loop .seen) at (w .1 .taken))))
     (⊎-elim
     (λ w.
     rw (w .8)
@@ -104,7 +106,8 @@ loop-again c =
     (λ x. row-masks _ _ _ _ x (kept .kept-leaves .ensures) (w .2 .ensures .0))
     (bit-in _ _ _ (ap rowsIn (collect .collect .ensures) ∙ collected-rows _ _)
     (ap (λ (p : ParsedCpuidEntry). p .result) (e .entry-at .ensures)) (w .5 .ensures) ∙ w .7 .given .1)))
-    (λ w. rw (w .1) (search-passes (chosen _ _) s bytes (start .pre .0) (start .pre .1) _ _ (l .loop .inv) h (not-kept (l .loop .seen) at (w .0 .left)))))
+    (λ w. rw (w .1) (search-passes (chosen _ _) s bytes (start .pre .0) (start .pre .1) _ _ (l .loop .inv) h
+    (not-kept (l .loop .seen) at (w .0 .left)))))
     (c .before .if2 .came))
 
 returns-2 : tie.Need-returns-2 Inv-loop μ-loop

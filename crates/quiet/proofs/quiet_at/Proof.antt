@@ -1,7 +1,7 @@
 -- `quiet::quiet_at` meets its contract: one return a case.
 use borrow.Author.Needs.{needs}
 use native.Mathlib.Omega.{arith}
-use mathlib.Core.Path.{_≡_, sym, _∙_}
+use mathlib.Core.Path.{sym, _∙_}
 use Rattle.quiet.specs.ReturnLaws.{component-from, component-below, at-component, at-level, at-read, at-unread}
 use Rattle.quiet.proofs.quiet_at.Statement.{statement}
 use Rattle.quiet.proofs.quiet_at.Tie as tie
@@ -13,7 +13,8 @@ cast-has-bit64 : tie.Need-cast-has-bit64
 cast-has-bit64 c = record { fits = omega (arith, component-below (c .before .args .place) (c .if1 .taken)) }
 
 has-bit64-requires : tie.Need-has-bit64-requires
-has-bit64-requires c κs = omega (arith, component-from (c .before .args .place) (c .if1 .taken), component-below (c .before .args .place) (c .if1 .taken))
+has-bit64-requires c κs =
+    omega (arith, component-from (c .before .args .place) (c .if1 .taken), component-below (c .before .args .place) (c .if1 .taken))
 
 returns : tie.Need-returns
 returns c = at-component _ _ _ (c .before .if1 .taken) (c .has-bit64 .ensures)

@@ -1,8 +1,5 @@
 -- `snp_cpuid_nearest` meets its contract: the numbers of the nearest bit.
 use borrow.Author.Needs.{needs}
-use mathlib.Core.Path.{ap, _∙_}
-use Rattle.nearest.specs.Nearest.{nearest}
-use Rattle.snp_cpuid.specs.NearestExports.{nearestNumbers}
 use Rattle.snp_cpuid.proofs.nearest_exports.snp_cpuid_nearest.Statement.{statement}
 use Rattle.snp_cpuid.proofs.nearest_exports.snp_cpuid_nearest.Tie as tie
 
