@@ -45,7 +45,7 @@ fn search_flips(pages: &[u8], secure_avic: bool, edition: u32) -> Nearest
     let n = pages::page_count(pages);
     let t = collect::collect(pages, secure_avic);
     let base = build::build_rows(t, edition);
-    let mut seen = [false; 88];
+    let mut seen = [false; PLACES];
     let mut index = pages::first_index(pages);
     while index.page_index < n {
         let entry = pages::entry_at(pages, index);

@@ -19,9 +19,10 @@ pub const COMMAND: Command = Command {
     about: "\
 Prints the first result bit of the pages whose flip alone changes the table, the refusal or its
 details: bits in entries below their page's count, ordered by page, entry, register (EAX, EBX, ECX,
-EDX) and bit, all from 0. The second line has the bit's leaf and name, and what is after it the
-answer as the pages stand and the answer to the pages with that bit flipped. The library finds the
-bit by a proved function and does not write the pages.
+EDX) and bit, all from 0. The second line has the bit's leaf and name and whether it is set. Then
+come the answer to the pages as they stand, the answer to a copy with that bit flipped and, where
+both are tables, what they differ in. The library finds the bit by a proved function and does not
+write the pages.
 ",
     status: "\
 Exit status: 0 where a bit decides, also where the pages as they stand are refused; 1 refused by 15,
