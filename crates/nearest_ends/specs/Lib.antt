@@ -5,3 +5,4 @@ pub mod FirstLaws
 pub mod ExactlyProof
 pub mod Twenty
 pub mod OutsideLaws
+pub mod Meaning

@@ -4,7 +4,7 @@
 use mathlib.Core.Path.{_≡_}
 use mathlib.Core.Bool.{false}
 use mathlib.Core.List.{List, [], _∷_, _++_}
-use mathlib.Core.Logic.{_≢_}
+use mathlib.Core.Logic.{_↔_, _≢_}
 use Prim.Native.Nat.{ℕ, _<_}
 use lib.ListN.{replicate}
 use Rattle.x86defs.specs.Functions.{function, result, ExtendedStateEnumeration}
@@ -17,6 +17,7 @@ use Rattle.table.specs.declared.Subleaf.the-variants.{Some}
 use Rattle.table.specs.declared.Refusal.the-variants.{PagesLength, PageCount, MissingRequiredResult, UnknownEdition, ReservedBytes, NothingDecides}
 use Rattle.table.specs.declared.Verdict.the-variants.{Refused}
 use Rattle.build.specs.Build.{underEdition, answer}
+use Rattle.flips.specs.declared.Flip.{Flip}
 use Rattle.flips.specs.Flips.{flip}
 use Rattle.flips.specs.OneBit.{oneBit}
 use Rattle.flip_rows.specs.Changes.{changes}
@@ -25,6 +26,8 @@ use Rattle.nearest.specs.Nearest.{nearest}
 use Rattle.nearest_ends.specs.NearestExactly.{NearestExactly, TwentyExactly}
 use Rattle.nearest_ends.specs.ExactlyProof as Exactly
 use Rattle.nearest_ends.specs.Twenty as Twenty
+use Rattle.nearest_ends.specs.Meaning as Meaning
+use Rattle.nearest_ends.specs.Meaning.{Unchanged}
 use Rattle.nearest_ends.specs.OutsideLaws as Outside
 use Rattle.nearest_ends.specs.OutsideLaws.{Among, FirstAt}
 use Rattle.examples.specs.PageSets.{word, page, serverA}
@@ -40,6 +43,10 @@ nearest-exactly = Exactly.nearest-exactly
 -- 20 exactly where building gives 3 for a leaf of the two required lists
 pub twenty-exactly : (chosen : Choices) (s : List ℕ) → TwentyExactly chosen s
 twenty-exactly = Twenty.twenty-exactly
+
+-- to change nothing is that verdict and table of the two answers are equal. crates/nearest_ends/specs/Meaning.antt
+pub unchanged-exactly : (chosen : Choices) (s : List ℕ) (f : Flip) → (changes chosen s f ≡ false) ↔ Unchanged chosen s f
+unchanged-exactly = Meaning.unchanged-exactly
 
 -- flips outside the counted first entries change nothing; nor do flips outside the masks. crates/nearest_ends/specs/OutsideLaws.antt
 pub only-first-entries : (chosen : Choices) (s : List ℕ) (p q r k : ℕ) (w : Among chosen s p q r k)
