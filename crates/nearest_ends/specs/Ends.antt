@@ -1,18 +1,19 @@
 -- Where the search ends: no flip changes anything exactly where a leaf of the two required lists is missing.
 use mathlib.Core.Path.{_≡_, refl, sym, ap, _∙_}
-use mathlib.Core.Bool.{Bool, true, false}
-use mathlib.Core.Logic.{_⊎_, inl, inr}
+use mathlib.Core.Bool.{Bool, true, false, not}
+use mathlib.Core.Logic.{_⊎_, inl, inr, _≢_}
 use mathlib.Core.List.{List, _++_, append-nil}
-use Prim.Native.Nat.{ℕ, zero, suc, _≤_, _<_}
+use Prim.Native.Nat.{ℕ, zero, suc, _/_, _%_, _≤_, _<_}
 use native.Mathlib.Omega.{arith}
 use lib.Dec.{eqb, ltb}
 use lib.ListN.{length, getD, set, replicate, getD-replicate, length-set}
 use lib.Seq.{getD-set-other}
-use borrow.Author.Tests.{eqb-true, eqb-false, ltb-true, ltb-false}
+use borrow.Author.Tests.{eqb-true, eqb-false, ne-eqb, ltb-true, ltb-false}
 use Rattle.bits.specs.ChoiceLaws.{never-both}
-use Rattle.bits.specs.Search.{Failing}
+use Rattle.bits.specs.Search.{Failing, lowest}
 use Rattle.bits.specs.Search.Failing.{at, none}
-use Rattle.bits.specs.SearchLaws.{lowest-none}
+use Rattle.bits.specs.SearchLaws.{Lowest, lowest-none, lowest-at, lowest-unique}
+use Rattle.bits.specs.Bits.{has}
 use Rattle.x86defs.specs.declared.CpuidResult.{CpuidResult}
 use Rattle.pages.specs.declared.CpuidPageIndex.{CpuidPageIndex}
 use Rattle.pages.specs.Layout.{Entry, entryAt, pagesIn}
@@ -25,33 +26,42 @@ use Rattle.masks.specs.declared.KeptLeaf.{KeptLeaf}
 use Rattle.masks.specs.KeptTable.{table, noRow, masksOf, rowOfPlace}
 use Rattle.table.specs.declared.Choices.{Choices}
 use Rattle.table.specs.declared.Refusal.{Refusal}
-use Rattle.table.specs.declared.Refusal.the-variants.{NothingDecides}
+use Rattle.table.specs.declared.Refusal.the-variants.{InvlpgbUnavailable, NothingDecides}
 use Rattle.table.specs.declared.Verdict.the-variants.{Accepted, Refused}
 use Rattle.table.specs.Edition.{knownEdition}
 use Rattle.table.specs.Rows.{Row, Rows, row}
 use Rattle.checks.specs.Required.{commonRequiredLeaves, snpRequiredLeaves, requiredAt, placeRequired}
-use Rattle.checks.specs.Checks.{requiredVerdict}
+use Rattle.checks.specs.Checks.{requiredVerdict, invlpgbVerdict}
 use Rattle.checks.specs.ChecksLaws.{required-present}
 use Rattle.collect.specs.FirstEntries.{setLegacy, maskedAt}
 use Rattle.collect.specs.Collect.{storedAt, row-masks}
 use Rattle.build.specs.Build.{lawfulVerdict, rowsFor}
 use Rattle.build.specs.LawfulLaws.{lawful-counts}
-use Rattle.flips.specs.Flips.{flips}
+use Rattle.flips.specs.Flips.{flip, flips}
 use Rattle.flips.specs.OneBit.{oneBit, xorResult}
 use Rattle.flip_rows.specs.Same.{sameFrom}
 use Rattle.flip_rows.specs.Changes.{changes}
 use Rattle.flip_rows.specs.PutRow.{putRow}
+use Rattle.flip_rows.specs.PutRowLaws.{required-same}
 use Rattle.flip_rows.specs.RowLaws.{firstOf, rows-present, taken-row}
 use Rattle.quiet.specs.Quiet.{quiet}
-use Rattle.quiet.specs.ReturnLaws.{quiet-missing}
+use Rattle.quiet.specs.ReturnLaws.{quiet-missing, quiet-clear}
 use Rattle.deciding.specs.declared.Deciding.{Deciding}
 use Rattle.deciding.specs.declared.Deciding.the-variants.{Number, NoNumber}
 use Rattle.deciding.specs.BitLaws.{keeps, bitFound, firstBit, bit-quiet}
 use Rattle.nearest.specs.declared.Nearest.{Nearest}
-use Rattle.nearest.specs.declared.Nearest.the-variants.{NoBit}
+use Rattle.nearest.specs.declared.Nearest.the-variants.{Bit, NoBit}
 use Rattle.nearest.specs.Nearest.{firstThat}
 use Rattle.nearest.specs.SearchLaws.{Searching, searching-first, searching-last, search-passes, search-none, search-found, seen-taken, not-kept, here, inside}
-use Rattle.nearest_ends.specs.Invlpgb.{invlpgb-flip}
+use Rattle.nearest_ends.specs.Invlpgb.{invlpgb, invlpgb-flip, flip-below, clear-same}
+
+-- the lowest number that fails a test is the one that is searched
+lowest-is : (test : ℕ → Bool) (k n j : ℕ) → Lowest test k n j → lowest test k n ≡ at j
+lowest-is test k n j w = go (lowest test k n) refl
+  where
+    go : (f : Failing) → lowest test k n ≡ f → f ≡ at j
+    go (at i) e = ap at (lowest-unique (lowest-at test k n i e) w)
+    go none e = absurd (never-both (lowest-none test k n e j (w .from) (w .below)) (w .fails))
 
 module _ (c : Choices) (s : List ℕ) (bytes : (n : ℕ) → getD s n 0 < 256) (known : knownEdition (c .edition) ≡ true)
     (lawful : lawfulVerdict s ≡ Accepted) where
@@ -191,3 +201,65 @@ module _ (c : Choices) (s : List ℕ) (bytes : (n : ℕ) → getD s n 0 < 256) (
               let y : _≡_ {A = ℕ} 0 1 = cc in absurd (omega arith)
           go NoNumber g true h = let p : sizes ≡ place = eqb-true sizes place h in inr (keeps-35 seen i (rw p f) (rw p g))
           go NoNumber g false h = inl (g, getD-set-other seen place sizes true false (eqb-false sizes place h) ∙ q)
+
+  -- ---- without INVLPGB its own bit is the first that decides
+
+  abbrev flippedRow : ℕ → CpuidPageIndex → CpuidResult
+  flippedRow j i = maskedAt avic sizes (xorResult (entry i .registers) (oneBit (j / 32) (j % 32)))
+
+  -- bit 35 of the entry's 128, EBX bit 3
+  first-35 : requiredVerdict m ≡ Accepted → invlpgb m ≡ false → (seen : List Bool) (i : CpuidPageIndex) → Fresh seen i sizes → bitAt sizes i ≡ Number 35
+  unfolding firstBit keeps putRow
+  first-35 e g seen i f =
+      ap bitFound (lowest-is (keeps (c .edition) m (kept sizes) sizes (entry i .registers)) 0 128 35 (record {
+        from = omega arith;
+        below = omega arith;
+        fails = at-row 35 ∙ invlpgb-flip avic (c .edition) m (entry i .registers) e there;
+        before = λ j a l.
+            at-row j ∙ clear-same (c .edition) m (putRow sizes (flippedRow j i) m) e
+            (required-same sizes (flippedRow j i) m (ap (λ (x : Row). x .present) there) ∙ e) g
+            (flip-below avic (entry i .registers) j l ∙ ap (λ (x : Row). has 3 (x .result .ebx)) (sym there) ∙ g);
+      }))
+    where
+      there : m sizes ≡ row (maskedAt avic sizes (entry i .registers))
+      there = fresh-row seen i sizes f
+
+      at-row : (j : ℕ) → keeps (c .edition) m (kept sizes) sizes (entry i .registers) j ≡ sameFrom (c .edition) (putRow sizes (flippedRow j i) m) m
+      at-row j =
+          ap (λ (y : CpuidResult). sameFrom (c .edition) (putRow sizes y m) m) (masks sizes (xorResult (entry i .registers) (oneBit (j / 32) (j % 32))))
+
+  pub without-invlpgb : requiredVerdict m ≡ Accepted → invlpgb m ≡ false
+      → (p : ℕ) × (q : ℕ) × (storedAt (entryAt s p q) ≡ sizes) × (found ≡ Bit (flip p q 1 3))
+  without-invlpgb e g =
+      walk Found (λ seen. getD seen sizes false ≡ false) (λ seen i w l q. absurd (never-both (all-seen seen i w l ∙ required-there e) q)) fresh
+      (length (rest s (firstIndex s))) (replicate places false) (firstIndex s) (searching-first c s) (omega arith)
+      (getD-replicate places sizes false false (omega arith))
+    where
+      Found : Type 0
+      Found = (p : ℕ) × (q : ℕ) × (storedAt (entryAt s p q) ≡ sizes) × (found ≡ Bit (flip p q 1 3))
+
+      clear : invlpgbVerdict m ≡ Refused InvlpgbUnavailable
+      clear = unfold invlpgbVerdict in rw g
+
+      decides : (seen : List Bool) (i : CpuidPageIndex) → Fresh seen i sizes → Found
+      decides seen i f = (
+        i .«page_index»,
+        i .«function_index»,
+        f .at,
+        sym (search-found c s bytes known lawful seen i (f .searching) (f .on) sizes (f .small) (f .at) (f .new) (kept sizes) (masks sizes) 35
+            (first-35 e g seen i f)),
+      )
+
+      fresh : (seen : List Bool) (i : CpuidPageIndex) (place : ℕ) → Fresh seen i place → getD seen sizes false ≡ false
+          → ((bitAt place i ≡ NoNumber) × (getD (set seen place true) sizes false ≡ false)) ⊎ Found
+      fresh seen i place f q = go (eqb sizes place) refl
+        where
+          go : (d : Bool) → eqb sizes place ≡ d → ((bitAt place i ≡ NoNumber) × (getD (set seen place true) sizes false ≡ false)) ⊎ Found
+          go true h = let p : sizes ≡ place = eqb-true sizes place h in inr (decides seen i (rw p f))
+          go false h =
+              let n : sizes ≢ place = eqb-false sizes place h in
+              inl (
+                sym (bit-quiet (c .edition) m (kept place) place _ (ap (λ (x : Row). x .present) (fresh-row seen i place f))
+                    (sym (quiet-clear m place e clear) ∙ ap not (ne-eqb place sizes (λ z. n (sym z))))),
+                getD-set-other seen place sizes true false n ∙ q,
+              )

@@ -6,3 +6,4 @@ pub mod ExactlyProof
 pub mod Twenty
 pub mod OutsideLaws
 pub mod Meaning
+pub mod WithoutInvlpgb

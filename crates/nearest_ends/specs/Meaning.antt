@@ -5,7 +5,7 @@ use mathlib.Core.List.{List}
 use mathlib.Core.Logic.{_↔_}
 use Prim.Native.Nat.{ℕ, _<_}
 use lib.Dec.{eqb}
-use lib.ListN.{length, getD, length-replicate}
+use lib.ListN.{getD, length-replicate}
 use borrow.Author.Tests.{eqb-true}
 use Rattle.bits.specs.Choice.{pick}
 use Rattle.bits.specs.ChoiceLaws.{never-both, and-left, and-right}
@@ -31,7 +31,7 @@ use Rattle.numbers.specs.declared.AnswerNumbers.{AnswerNumbers}
 use Rattle.numbers.specs.Numbers.{numbersOf}
 use Rattle.flips.specs.declared.Flip.{Flip}
 use Rattle.flips.specs.Flips.{flipped}
-use Rattle.flip_rows.specs.Same.{agree, sameRow, sameRows, sameTable, sameNumbers, sameVerdict, sameAnswer}
+use Rattle.flip_rows.specs.Same.{agree, sameRows, sameTable, sameNumbers, sameVerdict, sameAnswer}
 use Rattle.flip_rows.specs.SameLaws.{rowsAgree, result-equal, answer-same}
 use Rattle.flip_rows.specs.Changes.{changes}
 
@@ -108,7 +108,7 @@ unfolding sameTable sameRows
 table-equal t u w x e =
     let f = and-right (eqb (t .«row_count») (u .«row_count»)) _ e in
     let rows : (i : ℕ) → i < places → rowsAgree t u i ≡ true =
-        every-at (rowsAgree t u) places (and-right (eqb (t .«max_extended_state») (u .«max_extended_state»)) _ f) in λ k.
+    every-at (rowsAgree t u) places (and-right (eqb (t .«max_extended_state») (u .«max_extended_state»)) _ f) in λ k.
     record {
       present =
           (tabulated places (λ i. getD (u .present) i false) (t .present) false (w .present) (λ i l. agree-equal _ _ (and-left _ _ (rows i l)))

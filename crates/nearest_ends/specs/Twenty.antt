@@ -39,14 +39,14 @@ module _ (c : Choices) (s : List ℕ) (bytes : (k : ℕ) → getD s k 0 < 256) w
 
   -- by what 15, 1, 2 and 17 come to
   module _ (e : frontVerdict c s ≡ Accepted) where
-    known : knownEdition (c .edition) ≡ true
+    pub known : knownEdition (c .edition) ≡ true
     unfolding editionVerdict
     known = demanded (knownEdition (c .edition)) UnknownEdition (then-left (editionVerdict (c .edition)) _ e)
 
-    lawful : lawfulVerdict s ≡ Accepted
+    pub lawful : lawfulVerdict s ≡ Accepted
     lawful = then-right (editionVerdict (c .edition)) _ e
 
-    searched : nearest c s ≡ firstThat (changes c s) (flips s)
+    pub searched : nearest c s ≡ firstThat (changes c s) (flips s)
     unfolding nearest
     searched = ap (λ (v : Verdict). unlessRefused v (firstThat (changes c s) (flips s))) e
 
@@ -65,11 +65,11 @@ module _ (c : Choices) (s : List ℕ) (bytes : (k : ℕ) → getD s k 0 < 256) w
         ∙ nothing-decides c s bytes known lawful (missingRequired j) (settled-refuses (missingRequired j) (required-decides m) (j, fault, refl))
 
   -- a front that refuses names no leaf of the lists, and not 20
-  front-refuses : (r : Refusal) → frontVerdict c s ≡ Refused r → nearest c s ≡ NoBit r
+  pub front-refuses : (r : Refusal) → frontVerdict c s ≡ Refused r → nearest c s ≡ NoBit r
   unfolding nearest
   front-refuses r e = ap (λ (v : Verdict). unlessRefused v (firstThat (changes c s) (flips s))) e
 
-  front-answers : (r : Refusal) → frontVerdict c s ≡ Refused r → answer c s .verdict ≡ Refused r
+  pub front-answers : (r : Refusal) → frontVerdict c s ≡ Refused r → answer c s .verdict ≡ Refused r
   unfolding answer verdictOf
   front-answers r e = still-refused (editionVerdict (c .edition)) (lawfulVerdict s) (rowsVerdict m) r e
 

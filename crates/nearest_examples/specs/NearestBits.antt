@@ -15,7 +15,7 @@ use Rattle.masking.specs.Masks.{applyMask}
 use Rattle.masking.specs.Kept.{masksAt}
 use Rattle.masking.specs.Place
 use Rattle.table.specs.declared.Subleaf.the-variants.{Some}
-use Rattle.table.specs.declared.Refusal.the-variants.{PagesLength, PageCount, MissingRequiredResult, UnknownEdition, ReservedBytes, NothingDecides}
+use Rattle.table.specs.declared.Refusal.the-variants.{PagesLength, PageCount, MissingRequiredResult, InvlpgbUnavailable, UnknownEdition, ReservedBytes, NothingDecides}
 use Rattle.table.specs.declared.Verdict.{Verdict}
 use Rattle.table.specs.declared.Verdict.the-variants.{Accepted, Refused}
 use Rattle.table.specs.Edition.{knownEdition}
@@ -32,8 +32,9 @@ use Rattle.nearest.specs.Nearest.{firstThat, unlessRefused, nearest}
 use Rattle.nearest_ends.specs.NearestExactly.{MissesRequired}
 use Rattle.nearest_ends.specs.Twenty.{twenty-exactly}
 use Rattle.nearest_ends.specs.Ends.{some-decides}
+use Rattle.nearest_ends.specs.WithoutInvlpgb.{InvlpgbNearest, refused-by-4}
 use Rattle.nearest_ends.specs.OutsideLaws.{Among, FirstAt}
-use Rattle.examples.specs.PageSets.{word, entry, page, firstPage, serverA}
+use Rattle.examples.specs.PageSets.{word, entry, page, requiredEntries, firstPage, stateEntries, serverA}
 use Rattle.examples.specs.Evaluation.{first, evaluated}
 use Rattle.nearest_examples.specs.AreBytes.{areBytes, bytes-at}
 
@@ -100,6 +101,22 @@ unfolding knownEdition nearest editionVerdict
 withoutD2-nearest e =
     some-decides first withoutD2 (bytes-at withoutD2 withoutD2-bytes) refl withoutD2-lawful withoutD2-required
     (ap (λ (v : Verdict). unlessRefused v (firstThat (changes first withoutD2) (flips withoutD2))) (sym withoutD2-lawful) ∙ e)
+
+-- server A with a first entry of 80000008h that lacks INVLPGB: refused by 4, and its own bit is the nearest
+unfoldable pub noInvlpgb : List ℕ
+noInvlpgb =
+    page 23 (entry 0x80000008 0 0x3030 0x111ED217 0 0x10007 ++ requiredEntries 0x3ED83203 0x219C07A9 0x3F) ++ page 3 (stateEntries 0x7 0x7 0)
+
+pub noInvlpgb-refused : answer first noInvlpgb .verdict ≡ Refused InvlpgbUnavailable
+unfolding evaluated noInvlpgb
+noInvlpgb-refused = refl
+
+noInvlpgb-bytes : areBytes noInvlpgb ≡ true
+unfolding noInvlpgb areBytes
+noInvlpgb-bytes = refl
+
+pub noInvlpgb-nearest : InvlpgbNearest first noInvlpgb
+noInvlpgb-nearest = refused-by-4 first noInvlpgb (bytes-at noInvlpgb noInvlpgb-bytes) noInvlpgb-refused
 
 -- ---- flips that change nothing
 

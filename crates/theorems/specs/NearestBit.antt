@@ -6,7 +6,7 @@ use mathlib.Core.Bool.{false}
 use mathlib.Core.List.{List, [], _∷_, _++_}
 use mathlib.Core.Logic.{_↔_, _≢_}
 use Prim.Native.Nat.{ℕ, _<_}
-use lib.ListN.{replicate}
+use lib.ListN.{getD, replicate}
 use Rattle.x86defs.specs.Functions.{function, result, ExtendedStateEnumeration}
 use Rattle.pages.specs.Layout.{entryAt}
 use Rattle.masking.specs.Masks.{applyMask}
@@ -14,7 +14,7 @@ use Rattle.masking.specs.Kept.{masksAt}
 use Rattle.masking.specs.Place
 use Rattle.table.specs.declared.Choices.{Choices}
 use Rattle.table.specs.declared.Subleaf.the-variants.{Some}
-use Rattle.table.specs.declared.Refusal.the-variants.{PagesLength, PageCount, MissingRequiredResult, UnknownEdition, ReservedBytes, NothingDecides}
+use Rattle.table.specs.declared.Refusal.the-variants.{PagesLength, PageCount, MissingRequiredResult, InvlpgbUnavailable, UnknownEdition, ReservedBytes, NothingDecides}
 use Rattle.table.specs.declared.Verdict.the-variants.{Refused}
 use Rattle.build.specs.Build.{underEdition, answer}
 use Rattle.flips.specs.declared.Flip.{Flip}
@@ -28,12 +28,14 @@ use Rattle.nearest_ends.specs.ExactlyProof as Exactly
 use Rattle.nearest_ends.specs.Twenty as Twenty
 use Rattle.nearest_ends.specs.Meaning as Meaning
 use Rattle.nearest_ends.specs.Meaning.{Unchanged}
+use Rattle.nearest_ends.specs.WithoutInvlpgb as Invlpgb
+use Rattle.nearest_ends.specs.WithoutInvlpgb.{InvlpgbNearest}
 use Rattle.nearest_ends.specs.OutsideLaws as Outside
 use Rattle.nearest_ends.specs.OutsideLaws.{Among, FirstAt}
 use Rattle.examples.specs.PageSets.{word, page, serverA}
 use Rattle.examples.specs.Evaluation.{first}
 use Rattle.nearest_examples.specs.NearestBits as Bits
-use Rattle.nearest_examples.specs.NearestBits.{onlyLeaf5, withoutD2, leaf1Twice}
+use Rattle.nearest_examples.specs.NearestBits.{onlyLeaf5, withoutD2, noInvlpgb, leaf1Twice}
 
 -- each answer, 15, 1, 2, 17, 20 or a bit: given if and only if its condition holds; no other number is given. A bit is the first flip, in the order
 -- of page, entry, register and bit, that changes the answer; 20 is given where none does. crates/nearest_ends/specs/NearestExactly.antt
@@ -43,6 +45,11 @@ nearest-exactly = Exactly.nearest-exactly
 -- 20 exactly where building gives 3 for a leaf of the two required lists
 pub twenty-exactly : (chosen : Choices) (s : List ℕ) → TwentyExactly chosen s
 twenty-exactly = Twenty.twenty-exactly
+
+-- of pages that building refuses by 4 it is INVLPGB's own, 80000008h.EBX bit 3. crates/nearest_ends/specs/WithoutInvlpgb.antt
+pub refused-by-4 : (chosen : Choices) (s : List ℕ) → ((k : ℕ) → getD s k 0 < 256) → answer chosen s .verdict ≡ Refused InvlpgbUnavailable
+    → InvlpgbNearest chosen s
+refused-by-4 = Invlpgb.refused-by-4
 
 -- to change nothing is that verdict and table of the two answers are equal. crates/nearest_ends/specs/Meaning.antt
 pub unchanged-exactly : (chosen : Choices) (s : List ℕ) (f : Flip) → (changes chosen s f ≡ false) ↔ Unchanged chosen s f
@@ -84,6 +91,13 @@ without-d2-refused = Bits.withoutD2-refused
 
 pub without-d2-decided : nearest first withoutD2 ≢ NoBit NothingDecides
 without-d2-decided = Bits.withoutD2-nearest
+
+-- a server without INVLPGB
+pub no-invlpgb-refused : answer first noInvlpgb .verdict ≡ Refused InvlpgbUnavailable
+no-invlpgb-refused = Bits.noInvlpgb-refused
+
+pub no-invlpgb-nearest : InvlpgbNearest first noInvlpgb
+no-invlpgb-nearest = Bits.noInvlpgb-nearest
 
 -- leaf 1 twice: the second is not the first of its place, and of the first 1.ECX bit 2 is outside the mask
 pub second-changes-nothing : (r k : ℕ) → r < 4 → k < 32 → changes first leaf1Twice (flip 0 1 r k) ≡ false
