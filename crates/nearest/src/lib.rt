@@ -46,9 +46,10 @@ fn search_flips(pages: &[u8], secure_avic: bool, edition: u32) -> Nearest
     let t = collect::collect(pages, secure_avic);
     let base = build::build_rows(t, edition);
     let mut seen = [false; PLACES];
-    let mut index = pages::first_index(pages);
+    let mut index = reader::start(pages);
     while index.page_index < n {
-        let entry = pages::entry_at(pages, index);
+        let taken = reader::take(pages, index);
+        let entry = taken.found;
         let place = collect::counted_place(entry);
         if place < PLACES {
             if seen[place] {} else {
@@ -67,7 +68,7 @@ fn search_flips(pages: &[u8], secure_avic: bool, edition: u32) -> Nearest
                 seen[place] = true;
             }
         }
-        let next = pages::increment(pages, index);
+        let next = taken.index;
         index = next;
     }
     Nearest::NoBit(Refusal::NothingDecides)

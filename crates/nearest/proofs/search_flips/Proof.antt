@@ -24,26 +24,27 @@ abbrev μ-loop : tie.MeasureT-loop
 μ-loop pages secure-avic edition kept n t base seen₀ index₀ seen index = length (rest pages index)
 
 loop-holds : tie.Need-loop-holds Inv-loop μ-loop
-loop-holds c = rw (c .first-index .ensures) (searching-first _ _)
+loop-holds c = rw (c .start .ensures) (searching-first _ _)
 
-entry-at-requires : tie.Need-entry-at-requires Inv-loop μ-loop
-entry-at-requires c κs =
+take-requires : tie.Need-take-requires Inv-loop μ-loop
+take-requires c κs =
     let l = c .before .before in
     let count = l .before .before .before .before in
     let h : l .loop .index .«page_index» < _ = rw (count .page-count .ensures) at (c .if1 .taken) in
-    (h, position-fits _ _ (count .before .before .before .pre .1) (l .loop .inv .valid) h)
+    let lawful = count .before .before .before .pre .1 in
+    record { lawful = lawful-counts _ lawful; clean = lawful-clean _ lawful; page = h; position = turn _ _ (l .loop .inv .valid) h .below }
 
 first-bit-requires : tie.Need-first-bit-requires Inv-loop μ-loop
 first-bit-requires c κs =
     let f = c .before .before .before .before in
-    let l = f .before .before .before .before .before in
+    let l = f .before .before .before .before .before .before in
     (f .if2 .taken, answer-to _ (l .before .before .build-rows .ensures))
 
 -- an entry stands among the first 64
 cast-position : tie.Need-cast-position Inv-loop μ-loop
 cast-position c =
     let row = c .before .before .before .before .before .before .before in
-    let e = row .before .before .before .before in
+    let e = row .before .before .before .before .before in
     let l = e .before .before .before in
     let count = l .before .before .before .before in
     let start = count .before .before .before in
@@ -58,7 +59,7 @@ returns c =
     let new = row .before in
     let f = new .before in
     let k = f .before in
-    let e = k .before in
+    let e = k .before .before in
     let l = e .before .before .before in
     let update = l .before .before in
     let collect = update .before in
@@ -66,25 +67,25 @@ returns c =
     let kept = count .before in
     let start = kept .before .before in
     let h : l .loop .index .«page_index» < _ = rw (count .page-count .ensures) at (e .before .if1 .taken) in
-    let at = k .counted-place .ensures ∙ ap (countedPlace) (e .entry-at .ensures) ∙ counted-place-stored _ in
+    let at = k .counted-place .ensures ∙ ap (countedPlace) (e .take .ensures .found) ∙ counted-place-stored _ in
     search-found (chosen _ _) (start .args .pages .now) (λ i. omega (arith, kept .before .shared-slice-known .given i))
     (start .pre .0) (start .pre .1) _ _ (l .loop .inv) h
     _ (f .if2 .taken) (sym at) (new .if3 .left) _
     (λ x. row-masks _ _ _ _ x (kept .kept-leaves .ensures) (row .mask-row .ensures .0)) _
     (bit-in _ _ _ (ap rowsIn (collect .collect .ensures) ∙ collected-rows _ _)
-    (ap (λ (p : ParsedCpuidEntry). p .result) (e .entry-at .ensures)) (first .first-bit .ensures) ∙ b .bit .given .1)
+    (ap (λ (p : ParsedCpuidEntry). p .result) (e .take .ensures .found)) (first .first-bit .ensures) ∙ b .bit .given .1)
 
 loop-less : tie.Need-loop-less Inv-loop μ-loop
 loop-less c =
-    let e = c .before .before .before in
+    let e = c .before .before .before .before in
     let l = e .before .before .before in
     let h : l .loop .index .«page_index» < _ = rw (l .before .before .before .before .page-count .ensures) at (e .before .if1 .taken) in
-    rw (c .increment .ensures) (turn _ _ (l .loop .inv .valid) h .falls)
+    rw (e .take .ensures .next) (turn _ _ (l .loop .inv .valid) h .falls)
 
 loop-again : tie.Need-loop-again Inv-loop μ-loop
 loop-again c =
     let k = c .before .before in
-    let e = k .before in
+    let e = k .before .before in
     let l = e .before .before .before in
     let update = l .before .before in
     let collect = update .before in
@@ -94,8 +95,8 @@ loop-again c =
     let s = start .args .pages .now in
     let bytes : (i : ℕ) → getD s i 0 < 256 = λ i. omega (arith, kept .before .shared-slice-known .given i) in
     let h : l .loop .index .«page_index» < _ = rw (count .page-count .ensures) at (e .before .if1 .taken) in
-    let at = k .counted-place .ensures ∙ ap (countedPlace) (e .entry-at .ensures) ∙ counted-place-stored _ in
-    rw (c .increment .ensures)
+    let at = k .counted-place .ensures ∙ ap (countedPlace) (e .take .ensures .found) ∙ counted-place-stored _ in
+    rw (e .take .ensures .next)
     (⊎-elim
     (λ w. rw (w .2) (search-passes (chosen _ _) s bytes (start .pre .0) (start .pre .1) _ _ (l .loop .inv) h
     (seen-taken (l .loop .seen) at (w .1 .taken))))
@@ -105,7 +106,7 @@ loop-again c =
     (search-none (chosen _ _) s bytes (start .pre .0) (start .pre .1) _ _ (l .loop .inv) h _ (w .0 .taken) (sym at) (w .1 .left) _
     (λ x. row-masks _ _ _ _ x (kept .kept-leaves .ensures) (w .2 .ensures .0))
     (bit-in _ _ _ (ap rowsIn (collect .collect .ensures) ∙ collected-rows _ _)
-    (ap (λ (p : ParsedCpuidEntry). p .result) (e .entry-at .ensures)) (w .5 .ensures) ∙ w .7 .given .1)))
+    (ap (λ (p : ParsedCpuidEntry). p .result) (e .take .ensures .found)) (w .5 .ensures) ∙ w .7 .given .1)))
     (λ w. rw (w .1) (search-passes (chosen _ _) s bytes (start .pre .0) (start .pre .1) _ _ (l .loop .inv) h
     (not-kept (l .loop .seen) at (w .0 .left)))))
     (c .before .if2 .came))
@@ -127,7 +128,7 @@ search-flips-spec =
     (λ c κs. search needs)
     (λ c κs. search needs)
     loop-holds
-    entry-at-requires
+    take-requires
     (λ c κs. search needs)
     (λ c. search needs)
     (λ c κs. search needs)
@@ -139,7 +140,6 @@ search-flips-spec =
     returns
     (λ c. search needs)
     (λ c. search needs)
-    (λ c κs. search needs)
     loop-less
     loop-again
     returns-2)
