@@ -51,7 +51,7 @@ pub fn compare(a: &[u8], b: &[u8], choices: Choices) -> Compared
     ensures { λ r. ⌜ r ≡ compared choices (now (a .entry)) (now (b .entry)) ⌝ }
     ensures decides { λ r. ⌜ Decides choices (now (a .entry)) (now (b .entry)) r ⌝ }
 {
-    let built = build::build(a, choices);
+    let built = build::build_table(a, choices);
     let verdict = built.verdict;
     if let Verdict::Refused(refusal) = verdict {
         return Compared::RefusedA(refusal);

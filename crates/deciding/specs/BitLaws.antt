@@ -21,7 +21,7 @@ use Rattle.table.specs.Rows.{Rows, row}
 use Rattle.table.specs.Table.{emptyTable}
 use Rattle.collect.specs.FirstEntries.{setLegacy}
 use Rattle.checks.specs.Checks.{rowsVerdict}
-use Rattle.build.specs.declared.Built.{Built}
+use Rattle.build.specs.declared.RowsBuilt.{RowsBuilt}
 use Rattle.build.specs.Built.{tableFor, builtFrom}
 use Rattle.flips.specs.OneBit.{oneBit, xorResult}
 use Rattle.flip_rows.specs.Same.{sameResult, sameTable, sameNumbers, sameVerdict, sameAnswer, sameFrom}
@@ -35,7 +35,7 @@ use Rattle.deciding.specs.declared.Deciding.{Deciding}
 use Rattle.deciding.specs.declared.Deciding.the-variants.{Number, NoNumber}
 
 -- what building from the rows under edition n gives
-pub record AnswerTo (n : ℕ) (m : Rows) (b : Built) : Type 0 where
+pub record AnswerTo (n : ℕ) (m : Rows) (b : RowsBuilt) : Type 0 where
   pub verdict : b .verdict ≡ rowsVerdict m
   pub table : b .table ≡ tableFor n (rowsVerdict m) m
 
@@ -88,7 +88,7 @@ pub keeps-there : (n i : ℕ) (x y : CpuidResult) (m : Rows) → m i ≡ row y �
 keeps-there n i x y m f g = sym (from-equal n (put-same i x m (f ∙ ap row (result-equal y x g))))
 
 -- what building from the rows with another row gives, held to the answer before
-pub keeps-built : (n : ℕ) {o p m : Rows} {b base : Built} {q : Bool} → b ≡ builtFrom n o → o ≡ p → AnswerTo n m base
+pub keeps-built : (n : ℕ) {o p m : Rows} {b base : RowsBuilt} {q : Bool} → b ≡ builtFrom n o → o ≡ p → AnswerTo n m base
     → q ≡ sameAnswer (b .verdict) (b .table) (base .verdict) (base .table) → q ≡ sameFrom n p m
 unfolding builtFrom
 keeps-built n e f a g =
@@ -133,13 +133,13 @@ refused-same n o m e = go (rowsVerdict o) (rowsVerdict m) e
         and-true true g = g
         and-true false g = refl
 
-pub keeps-refused : (n : ℕ) {o p m : Rows} {b base : Built} {a q : Bool} → b ≡ builtFrom n o → o ≡ p → AnswerTo n m base
+pub keeps-refused : (n : ℕ) {o p m : Rows} {b base : RowsBuilt} {a q : Bool} → b ≡ builtFrom n o → o ≡ p → AnswerTo n m base
     → a ≡ refuses (base .verdict) → a ≡ true → q ≡ sameVerdict (b .verdict) (base .verdict) → q ≡ sameFrom n p m
 unfolding builtFrom
 keeps-refused n {o} {p} {m} e f w g h k =
-    let v : _ ≡ rowsVerdict p = ap (λ (b : Built). b .verdict) e ∙ ap rowsVerdict f in
+    let v : _ ≡ rowsVerdict p = ap (λ (b : RowsBuilt). b .verdict) e ∙ ap rowsVerdict f in
     k ∙ ap₂ sameVerdict v (w .verdict) ∙ refused-same n p m (sym (g ∙ ap refuses (w .verdict)) ∙ h)
 
-pub answer-to : (n : ℕ) {m : Rows} {b : Built} → b ≡ builtFrom n m → AnswerTo n m b
+pub answer-to : (n : ℕ) {m : Rows} {b : RowsBuilt} → b ≡ builtFrom n m → AnswerTo n m b
 unfolding builtFrom
-answer-to n e = record { verdict = ap (λ (b : Built). b .verdict) e; table = ap (λ (b : Built). b .table) e }
+answer-to n e = record { verdict = ap (λ (b : RowsBuilt). b .verdict) e; table = ap (λ (b : RowsBuilt). b .table) e }

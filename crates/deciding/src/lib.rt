@@ -1,6 +1,6 @@
 // The bits of one first entry. Collected rows, what building answers to them and an entry's registers come in; the first of the 128 bits whose flip
 // changes that answer goes out.
-use build::Built;
+use build::RowsBuilt;
 use flip_rows::same_answer;
 use flip_rows::same_result;
 use flip_rows::same_verdict;
@@ -31,7 +31,7 @@ pub enum Deciding {
 pub fn first_bit(
     t: CpuidResults,
     edition: u32,
-    base: Built,
+    base: RowsBuilt,
     kept: KeptLeaf,
     place: usize,
     x: CpuidResult,
@@ -58,7 +58,7 @@ pub fn first_bit(
 }
 
 // Whether another row at a place keeps the answer. A row that is there already does.
-fn keeps_answer(t: CpuidResults, edition: u32, base: Built, place: usize, x: CpuidResult) -> bool
+fn keeps_answer(t: CpuidResults, edition: u32, base: RowsBuilt, place: usize, x: CpuidResult) -> bool
     requires { ⌜ (place < places) × AnswerTo edition (rowsIn t) base ⌝ }
     ensures { λ r. ⌜ r ≡ sameFrom edition (putRow place x (rowsIn t)) (rowsIn t) ⌝ }
 {

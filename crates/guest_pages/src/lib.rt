@@ -4,20 +4,28 @@ use buffer::Written;
 use guest::GuestAnswer;
 use guest::Processor;
 use table::Choices;
+use table::CpuidResults;
 use table::Verdict;
 ghost use mathlib.Core.Path.{_≡_};
-ghost use Rattle.guest_pages.specs.GuestPages.{guestPages, writeGuest};
+ghost use Rattle.guest_pages.specs.GuestPages.{guestBy, guestPages, writeGuest};
 
 // Builds the table of the given pages, and shows it as the processor's guest sees it.
 pub fn guest_pages(pages: &[u8], choices: Choices, v: Processor) -> GuestAnswer
     ensures { λ r. ⌜ r ≡ guestPages choices (now (pages .entry)) v ⌝ }
 {
-    let built = build::build(pages, choices);
+    let built = build::build_table(pages, choices);
     let verdict = built.verdict;
+    let table = built.table;
+    guest_of(verdict, table, v)
+}
+
+// The same of what was built.
+pub fn guest_of(verdict: Verdict, table: CpuidResults, v: Processor) -> GuestAnswer
+    ensures { λ r. ⌜ r ≡ guestBy verdict table v ⌝ }
+{
     if let Verdict::Refused(r) = verdict {
         return guest::refused(r);
     }
-    let table = built.table;
     guest::guest_table(table, v)
 }
 

@@ -34,8 +34,8 @@ use Rattle.nearest_ends.specs.Twenty.{twenty-exactly}
 use Rattle.nearest_ends.specs.Ends.{some-decides}
 use Rattle.nearest_ends.specs.WithoutInvlpgb.{InvlpgbNearest, refused-by-4}
 use Rattle.nearest_ends.specs.OutsideLaws.{Among, FirstAt}
-use Rattle.examples.specs.PageSets.{word, entry, page, requiredEntries, firstPage, stateEntries, serverA}
-use Rattle.examples.specs.Evaluation.{first, evaluated}
+use Rattle.page_sets.specs.PageSets.{word, entry, page, requiredEntries, firstPage, stateEntries, serverA}
+use Rattle.page_sets.specs.Evaluation.{first, evaluated}
 use Rattle.nearest_examples.specs.AreBytes.{areBytes, bytes-at}
 
 -- 15, before 1

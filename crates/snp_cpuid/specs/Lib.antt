@@ -1,5 +1,3 @@
 pub mod Exports
 pub mod GuestExports
-pub mod LineExports
-pub mod CarryExports
 pub mod NearestExports

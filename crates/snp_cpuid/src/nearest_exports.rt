@@ -1,9 +1,9 @@
 // The nearest bit that matters, for C and Rust: document 02, P13.
-use super::choices;
+use answers::choices;
 use nearest::Nearest;
 ghost use mathlib.Core.Path.{_≡_};
 ghost use Rattle.nearest.specs.Nearest.{nearest};
-ghost use Rattle.snp_cpuid.specs.Exports.{choicesOf};
+ghost use Rattle.answers.specs.Answers.{choicesOf};
 ghost use Rattle.snp_cpuid.specs.NearestExports.{nearestNumbers};
 
 #[repr(C)]

@@ -32,8 +32,8 @@ use Rattle.nearest_ends.specs.WithoutInvlpgb as Invlpgb
 use Rattle.nearest_ends.specs.WithoutInvlpgb.{InvlpgbNearest}
 use Rattle.nearest_ends.specs.OutsideLaws as Outside
 use Rattle.nearest_ends.specs.OutsideLaws.{Among, FirstAt}
-use Rattle.examples.specs.PageSets.{word, page, serverA}
-use Rattle.examples.specs.Evaluation.{first}
+use Rattle.page_sets.specs.PageSets.{word, page, serverA}
+use Rattle.page_sets.specs.Evaluation.{first}
 use Rattle.nearest_examples.specs.NearestBits as Bits
 use Rattle.nearest_examples.specs.NearestBits.{onlyLeaf5, withoutD2, noInvlpgb, leaf1Twice}
 

@@ -12,6 +12,7 @@ mod kvm;
 mod lookup;
 mod names;
 mod nearest;
+mod origins;
 mod page_sets;
 mod refusals;
 mod run;

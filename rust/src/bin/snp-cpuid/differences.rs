@@ -2,18 +2,29 @@
 
 use crate::features::{self, REGISTERS};
 use crate::{print, words};
-use snp_cpuid::{Row, Table};
+use snp_cpuid::{Origin, Row, Table};
 
-/// One line for each difference, and an empty one after the last; nothing where the tables are equal. The lines call the tables by these names.
-pub fn differences(names: [&str; 2], a: &Table, b: &Table) -> String {
-    let [first, second] = names;
+/// The two tables that are held against each other.
+pub struct Tables<'a> {
+    /// what the lines call them
+    pub names: [&'a str; 2],
+    /// whether a line says where the rows that differ came from
+    pub origins: bool,
+}
+
+/// For each row that differs a line on where it came from, if asked, and one for each difference, and an empty line after the last; nothing where the
+/// tables are equal.
+pub fn differences(told: &Tables, a: &Table, b: &Table) -> String {
+    let [first, second] = told.names;
+    let alone = |name: &str, row: &Row| format!("a row of {name} alone{}", if told.origins { format!(", {}", row.origin) } else { String::new() });
     let mut lines = vec![];
     for (leaf, subleaf) in places(a, b) {
-        let row = |table: &Table| table.row(leaf, subleaf).map(|result| Row { leaf, subleaf, result });
         let place = format!("{:12}", print::place(leaf, subleaf));
-        match (row(a), row(b)) {
-            (Some(a), Some(b)) => lines.extend(of_rows(names, &a, &b).into_iter().map(|line| place.clone() + &line)),
-            (one, _) => lines.push(format!("{place}a row of {} alone", if one.is_some() { first } else { second })),
+        match (a.find(leaf, subleaf), b.find(leaf, subleaf)) {
+            (Some(a), Some(b)) => lines.extend(of_rows(told, &a, &b).into_iter().map(|line| place.clone() + &line)),
+            (Some(a), None) => lines.push(place + &alone(first, &a)),
+            (None, Some(b)) => lines.push(place + &alone(second, &b)),
+            (None, None) => {}
         }
     }
     if a.max_extended_state() != b.max_extended_state() {
@@ -30,8 +41,8 @@ fn places(a: &Table, b: &Table) -> Vec<(u32, Option<u32>)> {
     places
 }
 
-fn of_rows(names: [&str; 2], a: &Row, b: &Row) -> Vec<String> {
-    let [first, second] = names;
+fn of_rows(told: &Tables, a: &Row, b: &Row) -> Vec<String> {
+    let [first, second] = told.names;
     let mut lines = vec![];
     for (register, (in_a, in_b)) in words::registers(a).into_iter().zip(words::registers(b)).enumerate() {
         let name = REGISTERS[register];
@@ -46,5 +57,14 @@ fn of_rows(names: [&str; 2], a: &Row, b: &Row) -> Vec<String> {
             None => {}
         }
     }
+    if told.origins && !lines.is_empty() {
+        lines.insert(0, origins(told.names, a.origin, b.origin));
+    }
     lines
+}
+
+/// The entries of two rows; the rows of leaf Bh have none.
+fn origins(names: [&str; 2], a: Origin, b: Origin) -> String {
+    let [first, second] = names;
+    if a == Origin::MadeHere { a.to_string() } else { format!("{first} {a}, {second} {b}") }
 }
