@@ -1,8 +1,8 @@
--- How many there are: "1,019: 511 for s = 0 and 508 above", computed from how many each s and nc have.
+-- How many there are, computed from how many each s and nc have.
 use mathlib.Core.Path.{_≡_, refl, _∙_}
 use mathlib.Core.Bool.{Bool, true, false}
 use mathlib.Core.List.{[], _++_}
-use Prim.Native.Nat.{ℕ, suc, _+_, _^_, _≤_, _<_}
+use Prim.Native.Nat.{ℕ, _+_, _^_, _≤_, _<_}
 use native.Mathlib.Omega.{arith}
 use lib.Dec.{eqb, ltb}
 use lib.ListN.{length}
@@ -37,7 +37,7 @@ unfolding counted single
 zero-length nc e = (rw (e, at-zero), refl)
 
 -- three with s = 0 and nc = 0, else two or none
-abbrev many : ℕ → ℕ → ℕ
+abbrev pub many : ℕ → ℕ → ℕ
 many s nc = pick (eqb s 0) (pick (eqb nc 0) 3 (pick (ltb nc 255) 2 0)) (pick (ltb nc (2 ^ s)) 2 0)
 
 many-at : (s nc : ℕ) → s < 8 → length (acceptedAt s nc) ≡ many s nc
@@ -58,19 +58,9 @@ many-at s nc h = go (eqb s 0) (eqb nc 0) (ltb nc 255) (ltb nc (2 ^ s)) refl refl
     go false b c false p q r u =
         let n : s ≡ 0 → ⊥ = eqb-false s 0 p in rw (at-beyond s nc (2 ^ s) refl n h (ltb-false nc (2 ^ s) u))
 
-count-of : (s : ℕ) → s < 8 → length (acceptedOf s) ≡ sumTo (many s) 256
+pub count-of : (s : ℕ) → s < 8 → length (acceptedOf s) ≡ sumTo (many s) 256
 unfolding acceptedOf
 count-of s h = gather-length 256 (acceptedAt s) ∙ sum-ext _ _ 256 (λ nc l. many-at s nc h)
-
--- "511 for s = 0"
-pub count-zero : length (acceptedOf 0) ≡ 511
-unfolding sumTo
-count-zero = count-of 0 (omega arith)
-
--- "and 508 above"
-pub count-above : sumTo (λ k. length (acceptedOf (suc k))) 7 ≡ 508
-unfolding sumTo
-count-above = sum-ext _ (λ k. sumTo (many (suc k)) 256) 7 (λ k l. count-of (suc k) (omega arith))
 
 -- "There are 1,019"
 pub count-all : length acceptedInputs ≡ 1019

@@ -1,0 +1,5 @@
+pub mod Listed
+pub mod RankLaws
+pub mod ListedProof
+pub mod Builds
+pub mod BuildsProof
