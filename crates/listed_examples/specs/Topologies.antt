@@ -1,17 +1,20 @@
 -- Not empty words: whole page sets with five given inputs, by computation. Three processors with two threads a unit and 128 are listed; nc = 255 with
 -- s = 0, whose lps would be 256, is not.
-use mathlib.Core.Path.{_≡_, refl, sym, _∙_}
+use mathlib.Core.Path.{_≡_, refl, sym, ap, ap₂, _∙_}
 use mathlib.Core.Bool.{false, false≢true}
 use mathlib.Core.List.{List, [], _∷_, _++_}
-use Prim.Native.Nat.{ℕ, _+_, _*_, _^_}
+use Prim.Native.Nat.{ℕ, _+_, _*_, _^_, _<_}
 use lib.Dec.{lit<}
 use Rattle.x86defs.specs.declared.CpuidResult.{CpuidResult}
 use Rattle.x86defs.specs.Functions.{result}
+use Rattle.topology.specs.declared.Topology.{Topology}
+use Rattle.topology.specs.declared.Topology.the-variants.{Processors}
 use Rattle.topology.specs.declared.TopologyError.the-variants.{ProcessorCount}
-use Rattle.topology.specs.Topology.{Inputs, inputs, topologyOf}
+use Rattle.topology.specs.Topology.{Inputs, inputs, topologyOf, threadsIn, processors, leastPower, shiftOf, threadLevel, coreLevel}
 use Rattle.masking.specs.Place
 use Rattle.table.specs.declared.Refusal.the-variants.{TopologyInconsistent}
 use Rattle.table.specs.declared.Verdict.the-variants.{Accepted, Refused}
+use Rattle.table.specs.Rows.{Row}
 use Rattle.table.specs.Table.{rowIn}
 use Rattle.build.specs.Build.{answer}
 use Rattle.topologies.specs.Topologies.{accepts, acceptedInputs}
@@ -36,6 +39,20 @@ withInputs i =
 abbrev pub levelsOf : List ℕ → List CpuidResult
 levelsOf s = rowIn (answer first s .table) Place.threadLevel .result ∷ rowIn (answer first s .table) Place.coreLevel .result ∷ []
 
+-- an accepted set with s up to 7: its inputs are listed, and its B.0 and B.1 are those of its inputs
+module _ (s : List ℕ) (i : Inputs) (e : inputsFor first s ≡ i) where
+  listed : i .s < 8 → answer first s .verdict ≡ Accepted → In i acceptedInputs
+  listed h a = rw e at (builds-listed first s .accepted (rw e h) .0 a .1)
+
+  levels : {v : ℕ} → In i acceptedInputs → answer first s .verdict ≡ Accepted → topologyOf i ≡ Processors v
+      → levelsOf s ≡ threadLevel (i .t) ∷ coreLevel v ∷ []
+  levels p a o =
+      let l = builds-listed first s .levels a (rw e p) in
+      let same = ap processors (sym (l .processors) ∙ ap topologyOf e ∙ o) in
+      ap₂ (λ (x y : CpuidResult). x ∷ y ∷ [])
+      (ap (λ (r : Row). r .result) (l .threads) ∙ ap (λ (j : Inputs). threadLevel (j .t)) e)
+      (ap (λ (r : Row). r .result) (l .cores) ∙ ap coreLevel same)
+
 -- ---- three processors
 
 abbrev pub three : Inputs
@@ -52,12 +69,12 @@ pub three-accepted : answer first threeProcessors .verdict ≡ Accepted
 unfolding evaluated threeProcessors
 three-accepted = refl
 
-pub three-levels : levelsOf threeProcessors ≡ result 1 2 0x100 0 ∷ result 2 3 0x201 0 ∷ []
-unfolding evaluated threeProcessors
-three-levels = refl
-
 pub three-listed : In three acceptedInputs
-three-listed = rw three-inputs at (builds-listed first threeProcessors .accepted (rw three-inputs (lit< tt)) .0 three-accepted .1)
+three-listed = listed threeProcessors three three-inputs (lit< tt) three-accepted
+
+pub three-levels : levelsOf threeProcessors ≡ result 1 2 0x100 0 ∷ result 2 3 0x201 0 ∷ []
+unfolding topologyOf threadsIn shiftOf leastPower
+three-levels = levels threeProcessors three three-inputs three-listed three-accepted refl
 
 -- ---- the largest, 128
 
@@ -75,12 +92,12 @@ pub largest-accepted : answer first largestServer .verdict ≡ Accepted
 unfolding evaluated largestServer
 largest-accepted = refl
 
-pub largest-levels : levelsOf largestServer ≡ result 1 2 0x100 0 ∷ result 7 128 0x201 0 ∷ []
-unfolding evaluated largestServer
-largest-levels = refl
-
 pub largest-listed : In largest acceptedInputs
-largest-listed = rw largest-inputs at (builds-listed first largestServer .accepted (rw largest-inputs (lit< tt)) .0 largest-accepted .1)
+largest-listed = listed largestServer largest largest-inputs (lit< tt) largest-accepted
+
+pub largest-levels : levelsOf largestServer ≡ result 1 2 0x100 0 ∷ result 7 128 0x201 0 ∷ []
+unfolding topologyOf threadsIn shiftOf leastPower
+largest-levels = levels largestServer largest largest-inputs largest-listed largest-accepted refl
 
 -- ---- nc = 255 with s = 0 and an lps of 0, as nc + 1 in eight bits would have it
 
