@@ -20,6 +20,7 @@ mod carry_exports;
 mod guest_exports;
 mod kvm;
 mod line_exports;
+mod topology_exports;
 
 #[repr(C)]
 pub struct SnpCpuidBuilt {
