@@ -3,3 +3,4 @@ pub mod RankLaws
 pub mod ListedProof
 pub mod Builds
 pub mod BuildsProof
+pub mod Writes
