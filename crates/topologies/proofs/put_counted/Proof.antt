@@ -18,20 +18,20 @@ put-requires-2 c κs =
     let first = c .before .before .before .before in
     let start = first .before .before .before in
     let a = start .args in
-    (start .pre .0, start .pre .1, start .pre .2, omega arith, omega arith, omega (arith, first .put .ensures .index, first .put .kept .0, single-length (a .s) (a .nc) (a .v) 1 0, two-length (a .s) (a .nc) (a .v) (c .before .if1 .taken)))
+    (start .pre .0, start .pre .1, start .pre .2, omega arith, omega arith, omega (arith, first .put .ensures .index, first .put .kept .0, single-length (a .s) (a .nc) (a .v) 1 0, two-length (a .s) (a .nc) (a .v) (omega (arith, c .before .if1 .taken))))
 
 returns : tie.Need-returns
 returns c =
     let second = c .before .before in
     let first = second .before .before .before .before .before in
     let a = first .before .before .before .args in
-    wrote-as (counted-two (a .s) (a .nc) (a .v) (second .before .before .if1 .taken)) (wrote-join (first .put .ensures) (second .put2 .ensures))
+    wrote-as (counted-two (a .s) (a .nc) (a .v) (omega (arith, second .before .before .if1 .taken))) (wrote-join (first .put .ensures) (second .put2 .ensures))
 
 returns-2 : tie.Need-returns-2
 returns-2 c =
     let first = c .before .before .before in
     let a = first .before .before .before .args in
-    wrote-as (counted-one (a .s) (a .nc) (a .v) (c .if1 .left)) (first .put .ensures)
+    wrote-as (counted-one (a .s) (a .nc) (a .v) (omega (arith, c .if1 .left))) (first .put .ensures)
 
 pub put-counted-spec : {M : Type 1} → statement M
 put-counted-spec = tie.close (tie.spec put-requires put-requires-2 (λ c. search needs) returns (λ c. search needs) returns-2)
