@@ -129,4 +129,5 @@ unsafe extern "C" {
     pub fn snp_cpuid_carry(image: *mut u8, length: usize, from: u32, to: u32, xcr0: u64, xss: u64) -> Carried;
     pub fn snp_cpuid_write_line(number: u32, leaf: u32, has_subleaf: bool, subleaf: u32, s: u32, out: *mut u8, room: usize) -> LineWritten;
     pub fn snp_cpuid_read_line(line: *const u8, length: usize) -> LineRead;
+    pub fn snp_cpuid_write_topologies(out: *mut u8, room: usize) -> Written;
 }

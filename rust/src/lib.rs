@@ -25,6 +25,7 @@ mod line;
 mod options;
 mod refusal;
 mod table;
+mod topologies;
 
 use answer::Answer;
 
@@ -36,6 +37,7 @@ pub use line::NoSuchLine;
 pub use options::Options;
 pub use refusal::{Details, Refusal, TopologyError};
 pub use table::{CpuidResult, Row, Rows, Table};
+pub use topologies::{TOPOLOGIES_BYTES, Topology, topologies, write_topologies};
 
 /// The bytes of a CPUID page.
 pub const PAGE_BYTES: usize = 4096;

@@ -44,5 +44,7 @@ pub record BuildsListed (chosen : Choices) (s : List ℕ) : Type 0 where
   -- with s up to 7: accepted if and only if no check before refuses and the inputs are listed
   pub accepted : inputsFor chosen s .s < 8
       → (answer chosen s .verdict ≡ Accepted) ↔ ((beforeTopology chosen s ≡ Accepted) × In (inputsFor chosen s) acceptedInputs)
+  -- a listed input is refused by none of 6, 7 and 8: the answer is that of the checks before
+  pub passes : In (inputsFor chosen s) acceptedInputs → answer chosen s .verdict ≡ beforeTopology chosen s
   -- the table that a listed input gives
   pub levels : answer chosen s .verdict ≡ Accepted → In (inputsFor chosen s) acceptedInputs → Levels (inputsFor chosen s) (answer chosen s .table)

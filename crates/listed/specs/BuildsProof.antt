@@ -1,5 +1,5 @@
 -- Building accepts what is listed, and makes B.0 and B.1 of it.
-use mathlib.Core.Path.{_≡_, refl, sym, _∙_}
+use mathlib.Core.Path.{_≡_, refl, sym, ap, _∙_}
 use mathlib.Core.Bool.{true, false≢true}
 use mathlib.Core.List.{List}
 use Prim.Native.Nat.{ℕ, _<_}
@@ -18,7 +18,7 @@ use Rattle.table.specs.Refusal.{andThen}
 use Rattle.table.specs.Rows.{Rows, row}
 use Rattle.table.specs.Table.{rowIn}
 use Rattle.checks.specs.Checks.{topologyRefusal, topologyVerdict, rowsVerdict}
-use Rattle.checks.specs.ChecksLaws.{then-left, then-right, then-skips}
+use Rattle.checks.specs.ChecksLaws.{then-left, then-right, then-accepted}
 use Rattle.checks.specs.TopologyInputs.{inputsOf}
 use Rattle.update.specs.Finish.{ruleAt, settings, finish, finished}
 use Rattle.update.specs.PlaceLaws.{always}
@@ -84,11 +84,18 @@ module _ (chosen : Choices) (s : List ℕ) where
     cores = required-row e Place.coreLevel (lit< tt) refl;
   }
 
+  last : In (inputsFor chosen s) acceptedInputs → answer chosen s .verdict ≡ beforeTopology chosen s
+  last p =
+      in-order
+      ∙ ap (andThen (beforeTopology chosen s)) (passes (determined .has .no-other (inputsFor chosen s) p .1))
+      ∙ then-accepted (beforeTopology chosen s)
+
   pub builds-listed : BuildsListed chosen s
   builds-listed = record {
     accepted = λ h. (
       λ e. (then-left (beforeTopology chosen s) _ (sym in-order ∙ e), determined .has .each (inputsFor chosen s) (fits (rowsFor chosen s) h) (passed (then-right (beforeTopology chosen s) _ (sym in-order ∙ e)))),
-      λ p. in-order ∙ then-skips (p .0) ∙ passes (determined .has .no-other (inputsFor chosen s) (p .1) .1),
+      λ p. last (p .1) ∙ p .0,
     );
+    passes = last;
     levels = levels;
   }

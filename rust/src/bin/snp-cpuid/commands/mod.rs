@@ -11,6 +11,7 @@ mod lookup;
 mod table;
 mod to_dump;
 mod to_kvm;
+mod topologies;
 
 use crate::command::Command;
 
@@ -27,5 +28,6 @@ pub const ALL: &[Command] = &[
     from_kvm::COMMAND,
     to_kvm::COMMAND,
     compare::COMMAND,
+    topologies::COMMAND,
     explain::COMMAND,
 ];
