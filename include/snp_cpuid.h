@@ -202,10 +202,10 @@ struct snp_cpuid_line_written snp_cpuid_write_line(uint32_t number, uint32_t lea
 /* Reads the length bytes at line, the whole of them. They are a line exactly where snp_cpuid_write_line writes the same bytes for what they say. */
 struct snp_cpuid_line_read snp_cpuid_read_line(const uint8_t *line, size_t length);
 
-/* Writes every topology that building accepts with s from 0 to 7 at the front of out, five bytes each: s (80000008h.ECX bits 12-15), nc (its bits 0-7),
- * lps (1.EBX bits 16-23), mt (1.EDX bit 28) and t (8000001Eh.EBX bits 8-15). They ascend by s, nc, lps, mt and t in turn, none stands twice, and there
- * are 1,019. Pages whose inputs are on the list are refused by none of 6, 7 and 8; other pages with s up to 7 are never accepted. Number 9, where room
- * is below SNP_CPUID_TOPOLOGIES_BYTES, leaves out as it was; bytes beyond the list are as they were. */
+/* Writes every topology that building accepts with s from 0 to 7 at the front of out, five bytes each: s (80000008h.ECX bits 12-15), nc (its bits
+ * 0-7), lps (1.EBX bits 16-23), mt (1.EDX bit 28) and t (8000001Eh.EBX bits 8-15). They ascend by s, nc, lps, mt and t in turn, none stands twice,
+ * and there are 1,019. Pages whose inputs are on the list are refused by none of 6, 7 and 8; other pages with s up to 7 are never accepted. Number 9,
+ * where room is below SNP_CPUID_TOPOLOGIES_BYTES, leaves out as it was; bytes beyond the list are as they were. */
 struct snp_cpuid_written snp_cpuid_write_topologies(uint8_t *out, size_t room);
 
 #ifdef __cplusplus

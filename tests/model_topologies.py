@@ -41,8 +41,8 @@ def list_bytes():
 
 
 def write(buffer):
-    """(('written', length) or the refusal, the lent bytes afterwards). "Bytes beyond the list stay. Answers: 9 fewer than 5,095 lent bytes, which then
-    stay untouched." """
+    """(('written', length) or the refusal, the lent bytes afterwards). "Bytes beyond the list stay. Answers: 9 fewer than 5,095 lent bytes, which
+    then stay untouched." """
     data = list_bytes()
     if len(buffer) < len(data):
         return model.Refusal(9).answer, bytes(buffer)

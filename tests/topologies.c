@@ -4,9 +4,9 @@
  *   target/topologies tests/epyc-milan.pages [--all]
  *
  * Document 01's rule is written here once more. All 2^28 inputs with s from 0 to 7 are held against the library's list by it. Then pages with the
- * inputs, the file's with five fields changed, go through building: every s, nc, lps and mt, each with t = 0 to 2 and one further t, or with --all every
- * t, which takes minutes. Each must be accepted, with the B.0 and B.1 of the rule, or refused by its number and s. The last line has the number of inputs
- * that went through building. Exit status 1 where something is not as it must be.
+ * inputs, the file's with five fields changed, go through building: every s, nc, lps and mt, each with t = 0 to 2 and one further t, or with --all
+ * every t, which takes minutes. Each must be accepted, with the B.0 and B.1 of the rule, or refused by its number and s. The last line has the number
+ * of inputs that went through building. Exit status 1 where something is not as it must be.
  */
 #include "snp_cpuid.h"
 

@@ -43,8 +43,8 @@ pub fn topologies() -> Vec<Topology> {
     bytes[..length].chunks_exact(5).map(inputs).collect()
 }
 
-/// Writes the list to the front of `out`, the five numbers of each as bytes, and gives its length, [`TOPOLOGIES_BYTES`]. Where `out` is shorter it is as it
-/// was, and the answer is [`Refusal::BufferTooShort`]; bytes beyond the list are as they were.
+/// Writes the list to the front of `out`, the five numbers of each as bytes, and gives its length, [`TOPOLOGIES_BYTES`]. Where `out` is shorter it is
+/// as it was, and the answer is [`Refusal::BufferTooShort`]; bytes beyond the list are as they were.
 ///
 /// ```
 /// use snp_cpuid::{Refusal, TOPOLOGIES_BYTES, write_topologies};

@@ -93,7 +93,10 @@ module _ (chosen : Choices) (s : List ℕ) where
   pub builds-listed : BuildsListed chosen s
   builds-listed = record {
     accepted = λ h. (
-      λ e. (then-left (beforeTopology chosen s) _ (sym in-order ∙ e), determined .has .each (inputsFor chosen s) (fits (rowsFor chosen s) h) (passed (then-right (beforeTopology chosen s) _ (sym in-order ∙ e)))),
+      λ e.
+          let both = sym in-order ∙ e in
+          let listed = determined .has .each (inputsFor chosen s) (fits (rowsFor chosen s) h) in
+          (then-left (beforeTopology chosen s) _ both, listed (passed (then-right (beforeTopology chosen s) _ both))),
       λ p. last (p .1) ∙ p .0,
     );
     passes = last;

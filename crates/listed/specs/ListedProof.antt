@@ -173,7 +173,9 @@ unfolding acceptedInputs
 count-by test =
     ap length (keep-gather (λ i. test (i .s)) 8 acceptedOf)
     ∙ gather-length 8 (λ k. keepIf (λ i. test (i .s)) (acceptedOf k))
-    ∙ sum-ext _ _ 8 (λ k l. keep-same (λ i. test (i .s)) (test k) (acceptedOf k) (λ i p. ap test (size-of k l i p)) ∙ ap (λ (n : ℕ). pick (test k) n 0) (count-of k l))
+    ∙ sum-ext _ _ 8
+    (λ k l.
+    keep-same (λ i. test (i .s)) (test k) (acceptedOf k) (λ i p. ap test (size-of k l i p)) ∙ ap (λ (n : ℕ). pick (test k) n 0) (count-of k l))
 
 pub counted : Counted acceptedInputs
 unfolding sumTo

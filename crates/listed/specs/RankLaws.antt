@@ -56,7 +56,8 @@ pub rising-ascends : (l : List Inputs) → ((i : Inputs) → In i l → Fits i) 
 rising-ascends [] f a = tt
 rising-ascends (i ∷ is) f a = (all i is (f i (inl refl)) (λ x p. f x (inr p)) (a .0), rising-ascends is (λ x p. f x (inr p)) (a .1))
   where
-    all : (i : Inputs) (is : List Inputs) → Fits i → ((x : Inputs) → In x is → Fits x) → ((x : Inputs) → In x is → rank i < rank x) → BeforeAll i is
+    all : (i : Inputs) (is : List Inputs) → Fits i → ((x : Inputs) → In x is → Fits x) → ((x : Inputs) → In x is → rank i < rank x)
+        → BeforeAll i is
     all i [] f g h = tt
     all i (j ∷ js) f g h = (rank-before i j f (g j (inl refl)) (h j (inl refl)), all i js f (λ x p. g x (inr p)) (λ x p. h x (inr p)))
 

@@ -9,4 +9,5 @@ use Rattle.buffer.specs.WritesExactly.{FrontExactly, front-exactly}
 use Rattle.topologies.specs.Topologies.{acceptedInputs, inputsBytes, writeTopologies}
 
 pub writes-exactly : (buffer : List ℕ) → FrontExactly Accepted (inputsBytes acceptedInputs) buffer (writeTopologies buffer)
-writes-exactly buffer = front-exactly Accepted (inputsBytes acceptedInputs) buffer (writeTopologies buffer) refl (λ e. let z : _≡_ {A = ℕ} 0 1 = cc in omega arith)
+writes-exactly buffer =
+    front-exactly Accepted (inputsBytes acceptedInputs) buffer (writeTopologies buffer) refl (λ e. let z : _≡_ {A = ℕ} 0 1 = cc in omega arith)

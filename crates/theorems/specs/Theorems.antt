@@ -447,11 +447,11 @@ shift-changed-only-there = shift-changes
 pub three-need-two-bits : shiftOf 3 ∷ shiftOf 128 ∷ [] ≡ 2 ∷ 7 ∷ []
 three-need-two-bits = three-and-128
 
--- ---- P14: every lawful topology up to size seven. crates/topologies/specs/Topologies.antt has the list, from the topology's own definition, and what
--- writing it answers; crates/listed/specs/Listed.antt what P14 asks of a list.
+-- ---- P14: every lawful topology up to size seven. crates/topologies/specs/Topologies.antt has the list, from the topology's own definition, and
+-- what writing it answers; crates/listed/specs/Listed.antt what P14 asks of a list.
 
--- each accepted input with s up to 7 stands in the list, no other does, and they ascend by s, nc, lps, mt and t, so that none stands twice; any list of
--- which this is true is the list
+-- each accepted input with s up to 7 stands in the list, no other does, and they ascend by s, nc, lps, mt and t, so that none stands twice; any list
+-- of which this is true is the list
 pub topologies-determined : Determined
 topologies-determined = determined
 
@@ -462,17 +462,18 @@ topologies-1019 = topologies-counted
 pub topologies-5095-bytes : length (inputsBytes acceptedInputs) ≡ 5095
 topologies-5095-bytes = list-bytes
 
--- 9 exactly where the buffer is shorter, and then every lent byte is as it was; else the list is at its front, and the bytes beyond it are as they were
+-- 9 exactly where the buffer is shorter, and then every lent byte is as it was; else the list is at its front, and the bytes beyond it are as
+-- they were
 pub each-topologies-write-exactly : (buffer : List ℕ) → FrontExactly Accepted (inputsBytes acceptedInputs) buffer (writeTopologies buffer)
 each-topologies-write-exactly = topologies-write-exactly
 
--- a page set with s up to 7 is accepted if and only if no check before the topology's refuses it and its inputs are listed; its table's B.0 and B.1 are
--- then those of the listed input. crates/listed/specs/Builds.antt
+-- a page set with s up to 7 is accepted if and only if no check before the topology's refuses it and its inputs are listed; its table's B.0 and B.1
+-- are then those of the listed input. crates/listed/specs/Builds.antt
 pub building-accepts-the-listed : (chosen : Choices) (s : List ℕ) → BuildsListed chosen s
 building-accepts-the-listed = builds-listed
 
--- Not empty words: whole page sets with three processors and with 128, each with its inputs, which are listed, and its B.0 and B.1; nc = 255 with s = 0
--- is refused by 7 and not listed. crates/listed_examples/specs/Topologies.antt
+-- Not empty words: whole page sets with three processors and with 128, each with its inputs, which are listed, and its B.0 and B.1; nc = 255 with
+-- s = 0 is refused by 7 and not listed. crates/listed_examples/specs/Topologies.antt
 pub three-processors-listed : (inputsFor first Topologies.threeProcessors ≡ inputs 0 2 3 1 1)
     × (answer first Topologies.threeProcessors .verdict ≡ Accepted)
     × In (inputs 0 2 3 1 1) acceptedInputs

@@ -23,7 +23,7 @@ module _ {A : Type 0} where
   gather-short m (suc n) f l h = elim (eq-or-lt-of-le l) [
     | inl q ↦ ap (λ (k : ℕ). gather k f) (sym q)
     | inr q ↦
-      ap₂ _++_ (gather-short m n f (omega arith) (λ i u v. h i u (omega arith))) (h n (omega arith) (omega arith)) ∙ append-nil (gather m f)
+        ap₂ _++_ (gather-short m n f (omega arith) (λ i u v. h i u (omega arith))) (h n (omega arith) (omega arith)) ∙ append-nil (gather m f)
   ]
 
   -- something at k alone

@@ -95,7 +95,8 @@ pub at-zero : acceptedAt 0 0 ≡ (single 0 0 0 0 0 ++ single 0 0 1 0 0) ++ count
 unfolding acceptedAt gather single
 at-zero =
     gather-short 2 256 _ (omega arith)
-    (λ lps u v. gather-none 2 _ (λ mt w. gather-none 256 _ (λ t x. left-out 0 0 lps mt t (omega arith) (λ p. omega (arith, alone-only lps mt t p .0)))))
+    (λ lps u v.
+    gather-none 2 _ (λ mt w. gather-none 256 _ (λ t x. left-out 0 0 lps mt t (omega arith) (λ p. omega (arith, alone-only lps mt t p .0)))))
     ∙ ap₂ _++_
     (ap₂ _++_ (one 0 0 ∙ taken 0 0 0 0 0 (omega arith) (alone refl refl refl (omega arith) refl))
     (one 0 1 ∙ left-out 0 0 0 1 0 (omega arith) (λ p. omega (arith, alone-only 0 1 0 p .2 refl))))

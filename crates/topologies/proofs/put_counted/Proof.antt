@@ -18,14 +18,18 @@ put-requires-2 c κs =
     let first = c .before .before .before .before in
     let start = first .before .before .before in
     let a = start .args in
-    (start .pre .0, start .pre .1, start .pre .2, omega arith, omega arith, omega (arith, first .put .ensures .index, first .put .kept .0, single-length (a .s) (a .nc) (a .v) 1 0, two-length (a .s) (a .nc) (a .v) (omega (arith, c .before .if1 .taken))))
+    let one = single-length (a .s) (a .nc) (a .v) 1 0 in
+    let two = two-length (a .s) (a .nc) (a .v) (omega (arith, c .before .if1 .taken)) in
+    let at = first .put .ensures .index in
+    (start .pre .0, start .pre .1, start .pre .2, omega arith, omega arith, omega (arith, at, first .put .kept .0, one, two))
 
 returns : tie.Need-returns
 returns c =
     let second = c .before .before in
     let first = second .before .before .before .before .before in
     let a = first .before .before .before .args in
-    wrote-as (counted-two (a .s) (a .nc) (a .v) (omega (arith, second .before .before .if1 .taken))) (wrote-join (first .put .ensures) (second .put2 .ensures))
+    wrote-as (counted-two (a .s) (a .nc) (a .v) (omega (arith, second .before .before .if1 .taken)))
+    (wrote-join (first .put .ensures) (second .put2 .ensures))
 
 returns-2 : tie.Need-returns-2
 returns-2 c =

@@ -29,7 +29,8 @@ put-counted-requires c κs =
     let start = t .before .before .before in
     let a = start .args in
     let power = one-shifted (a .s) (omega arith) in
-    (omega arith, start .pre .1, omega (arith, power, pow-mono {i = a .s} {j = 7} (omega arith)), omega (arith, ap length (at-sized (a .s) (a .nc) _ power (t .before .if1 .left) (start .pre .0) (t .if2 .taken))))
+    let whole = at-sized (a .s) (a .nc) _ power (t .before .if1 .left) (start .pre .0) (t .if2 .taken) in
+    (omega arith, start .pre .1, omega (arith, power, pow-mono {i = a .s} {j = 7} (omega arith)), omega (arith, ap length whole))
 
 returns-2 : tie.Need-returns-2
 returns-2 c =
@@ -37,7 +38,8 @@ returns-2 c =
     let t = p .before .before in
     let start = t .before .before .before in
     let a = start .args in
-    wrote-as (at-sized (a .s) (a .nc) _ (one-shifted (a .s) (omega arith)) (t .before .if1 .left) (start .pre .0) (t .if2 .taken)) (p .put-counted .ensures)
+    wrote-as (at-sized (a .s) (a .nc) _ (one-shifted (a .s) (omega arith)) (t .before .if1 .left) (start .pre .0) (t .if2 .taken))
+    (p .put-counted .ensures)
 
 returns-3 : tie.Need-returns-3
 returns-3 c =

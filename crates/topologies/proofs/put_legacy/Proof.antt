@@ -18,14 +18,21 @@ put-requires-2 : tie.Need-put-requires-2
 put-requires-2 c κs =
     let first = c .before .before .before in
     let t = first .before .before in
-    (omega arith, omega arith, omega arith, omega arith, omega arith, omega (arith, first .put .ensures .index, first .put .kept .0, single-length 0 0 0 0 0, zero-length (t .before .before .args .nc) (t .if1 .taken)))
+    let at = first .put .ensures .index in
+    let three = zero-length (t .before .before .args .nc) (t .if1 .taken) in
+    (omega arith, omega arith, omega arith, omega arith, omega arith, omega (arith, at, first .put .kept .0, single-length 0 0 0 0 0, three))
 
 put-counted-requires : tie.Need-put-counted-requires
 put-counted-requires c κs =
     let second = c .before .before .before in
     let first = second .before .before .before .before in
     let t = first .before .before in
-    (omega arith, omega arith, omega arith, omega (arith, second .put2 .ensures .index, second .put2 .kept .0, first .put .ensures .index, first .put .kept .0, single-length 0 0 0 0 0, single-length 0 0 1 0 0, zero-length (t .before .before .args .nc) (t .if1 .taken)))
+    let at = first .put .ensures .index in
+    let then = second .put2 .ensures .index in
+    let one = single-length 0 0 0 0 0 in
+    let two = single-length 0 0 1 0 0 in
+    let three = zero-length (t .before .before .args .nc) (t .if1 .taken) in
+    (omega arith, omega arith, omega arith, omega (arith, then, second .put2 .kept .0, at, first .put .kept .0, one, two, three))
 
 returns : tie.Need-returns
 returns c =
@@ -40,7 +47,8 @@ put-counted-requires-2 : tie.Need-put-counted-requires-2
 put-counted-requires-2 c κs =
     let t = c .before in
     let start = t .before .before .before in
-    (omega arith, start .pre .0, omega (arith, t .if2 .taken), omega (arith, ap length (at-legacy (start .args .nc) (t .before .if1 .left) (t .if2 .taken))))
+    let whole = at-legacy (start .args .nc) (t .before .if1 .left) (t .if2 .taken) in
+    (omega arith, start .pre .0, omega (arith, t .if2 .taken), omega (arith, ap length whole))
 
 returns-2 : tie.Need-returns-2
 returns-2 c =

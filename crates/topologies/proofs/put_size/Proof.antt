@@ -19,7 +19,8 @@ unfolding acceptedOf
 put-inputs-requires c κs =
     let l = c .before .before in
     let start = l .before .before in
-    (start .pre .0, c .before .loop-test .taken, wrote-room (acceptedAt (start .args .s)) _ _ (l .loop .nc) 256 (omega arith) (start .pre .1) (l .loop .inv .1))
+    let room = wrote-room (acceptedAt (start .args .s)) _ _ (l .loop .nc) 256 (omega arith) (start .pre .1) (l .loop .inv .1) in
+    (start .pre .0, c .before .loop-test .taken, room)
 
 loop-again : tie.Need-loop-again Inv-loop μ-loop
 loop-again c =

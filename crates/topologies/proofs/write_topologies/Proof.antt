@@ -22,7 +22,8 @@ returns-2 c =
     let put = c .before .before in
     let w = put .put-all .ensures in
     let n : put .put-all .result ≡ length (inputsBytes acceptedInputs) = omega (arith, w .index, count-all, list-bytes) in
-    rw (front-whole (inputsBytes acceptedInputs) (put .before .before .before .before .args .out .now) (omega (arith, list-bytes))) (ap Bytes n, w .bytes)
+    let buffer = put .before .before .before .before .args .out .now in
+    rw (front-whole (inputsBytes acceptedInputs) buffer (omega (arith, list-bytes))) (ap Bytes n, w .bytes)
 
 pub write-topologies-spec : {M : Type 1} → statement M
 write-topologies-spec = tie.close (tie.spec returns put-all-requires (λ c. search needs) returns-2)
