@@ -47,14 +47,14 @@ put-counted-requires-2 : tie.Need-put-counted-requires-2
 put-counted-requires-2 c κs =
     let t = c .before in
     let start = t .before .before .before in
-    let whole = at-legacy (start .args .nc) (t .before .if1 .left) (t .if2 .taken) in
+    let whole = at-legacy (start .args .nc) (t .before .if1 .left) (omega (arith, t .if2 .taken)) in
     (omega arith, start .pre .0, omega (arith, t .if2 .taken), omega (arith, ap length whole))
 
 returns-2 : tie.Need-returns-2
 returns-2 c =
     let p = c .before .before in
     let t = p .before .before in
-    wrote-as (at-legacy (t .before .before .before .args .nc) (t .before .if1 .left) (t .if2 .taken)) (p .put-counted2 .ensures)
+    wrote-as (at-legacy (t .before .before .before .args .nc) (t .before .if1 .left) (omega (arith, t .if2 .taken))) (p .put-counted2 .ensures)
 
 returns-3 : tie.Need-returns-3
 returns-3 c = wrote-as (at-last (c .before .before .before .args .nc) (c .if2 .left)) (wrote-none _ _)
