@@ -3,6 +3,7 @@ use mathlib.Core.Path.{_≡_, refl, sym, ap, _∙_}
 use mathlib.Core.Bool.{true, false≢true}
 use mathlib.Core.List.{List}
 use Prim.Native.Nat.{ℕ, _<_}
+use native.Mathlib.Omega.{arith}
 use lib.Dec.{lit<}
 use Rattle.bits.specs.ChoiceLaws.{pick-true}
 use Rattle.bits.specs.BitsLaws.{field-lt, bit-lt}
@@ -35,7 +36,7 @@ use Rattle.listed.specs.Builds.{inputsFor, beforeTopology, Levels, Build
 
 fits : (m : Rows) → inputsOf m .s < 8 → Fits (inputsOf m)
 unfolding inputsOf
-fits m h = record { s = h; nc = field-lt 0 8 _; lps = field-lt 16 8 _; mt = bit-lt _ _; t = field-lt 8 8 _ }
+fits m h = record { s = omega arith; nc = field-lt 0 8 _; lps = field-lt 16 8 _; mt = bit-lt _ _; t = field-lt 8 8 _ }
 
 verdict-accepts : (o : Topology) → topologyRefusal o ≡ Accepted → consistent o ≡ true
 verdict-accepts (Processors v) e = refl

@@ -1,13 +1,13 @@
 -- The list has what P14 asks, no other list has it, and its counts.
-use mathlib.Core.Path.{_≡_, refl, sym, ap, ap₂, _∙_}
+use mathlib.Core.Path.{_≡_, refl, ap, _∙_}
 use mathlib.Core.Bool.{Bool, true, false}
-use mathlib.Core.Logic.{inl, inr, _⊎_}
+use mathlib.Core.Logic.{inl, inr}
 use mathlib.Core.List.{List, [], _∷_, _++_}
 use Prim.Native.Nat.{ℕ, zero, suc, _+_, _*_, _^_, _≤_, _<_}
 use native.Mathlib.Nat.{eq-or-lt-of-le}
 use native.Mathlib.Omega.{arith}
 use lib.Dec.{eqb, ltb}
-use lib.ListN.{length, length-append}
+use lib.ListN.{length}
 use Rattle.bits.specs.Choice.{pick}
 use Rattle.bits.specs.Lists.{keepIf, sumTo}
 use Rattle.bits.specs.ListsLaws.{sum-ext}
@@ -77,7 +77,7 @@ size-ranked s a =
     ranked-as (omega arith) (omega arith) (ranked-gather (2 ^ 25 * s + 2 ^ 17 * nc) (2 ^ 9) 256 _ (λ lps c.
     ranked-as (omega arith) (omega arith) (ranked-gather (2 ^ 25 * s + 2 ^ 17 * nc + 2 ^ 9 * lps) (2 ^ 8) 2 _ (λ mt d.
     ranked-as (omega arith) (omega arith) (ranked-gather (2 ^ 25 * s + 2 ^ 17 * nc + 2 ^ 9 * lps + 2 ^ 8 * mt) 1 256 _ (λ t e.
-    ranked-as (omega arith) (omega arith) (one-ranked (inputs s nc lps mt t) (record { s = a; nc = b; lps = c; mt = d; t = e })))))))))
+    ranked-as (omega arith) (omega arith) (one-ranked (inputs s nc lps mt t) (record { s = omega arith; nc = b; lps = c; mt = d; t = e })))))))))
 
 all-ranked : Ranked (2 ^ 28) 0 acceptedInputs
 unfolding acceptedInputs
@@ -111,7 +111,7 @@ ranked-rises (j ∷ js) (next f e h r) = (λ x p. ranked-above js r x p, ranked-
 lists-each : (i : Inputs) → Fits i → accepts i ≡ true → In i acceptedInputs
 unfolding acceptedInputs acceptedOf acceptedAt ifAccepted
 lists-each i f e =
-    in-gather i 8 _ (i .s) (f .s)
+    in-gather i 8 _ (i .s) (omega (arith, f .s))
     (in-gather i 256 _ (i .nc) (f .nc)
     (in-gather i 256 _ (i .lps) (f .lps)
     (in-gather i 2 _ (i .mt) (f .mt)

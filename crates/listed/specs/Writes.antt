@@ -3,8 +3,7 @@ use mathlib.Core.Path.{_≡_, refl}
 use mathlib.Core.List.{List}
 use Prim.Native.Nat.{ℕ}
 use native.Mathlib.Omega.{arith}
-use Rattle.table.specs.declared.Refusal.the-variants.{BufferTooShort}
-use Rattle.table.specs.declared.Verdict.the-variants.{Accepted, Refused}
+use Rattle.table.specs.declared.Verdict.the-variants.{Accepted}
 use Rattle.buffer.specs.WritesExactly.{FrontExactly, front-exactly}
 use Rattle.topologies.specs.Topologies.{acceptedInputs, inputsBytes, writeTopologies}
 

@@ -7,7 +7,6 @@ use Prim.Native.Nat.{ℕ, _+_, _*_, _^_, _<_}
 use lib.Dec.{lit<}
 use Rattle.x86defs.specs.declared.CpuidResult.{CpuidResult}
 use Rattle.x86defs.specs.Functions.{result}
-use Rattle.topology.specs.declared.Topology.{Topology}
 use Rattle.topology.specs.declared.Topology.the-variants.{Processors}
 use Rattle.topology.specs.declared.TopologyError.the-variants.{ProcessorCount}
 use Rattle.topology.specs.Topology.{Inputs, inputs, topologyOf, threadsIn, processors, leastPower, shiftOf, threadLevel, coreLevel}

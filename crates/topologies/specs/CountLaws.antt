@@ -11,7 +11,6 @@ use borrow.Author.Tests.{eqb-true, eqb-false, ltb-true, ltb-false}
 use Rattle.bits.specs.Choice.{pick}
 use Rattle.bits.specs.Lists.{sumTo}
 use Rattle.bits.specs.ListsLaws.{sum-ext}
-use Rattle.topologies.specs.Gather.{gather}
 use Rattle.topologies.specs.GatherLaws.{gather-length}
 use Rattle.topologies.specs.Topologies.{acceptedAt, acceptedOf, acceptedInputs}
 use Rattle.topologies.specs.ShortLaws.{single, counted, counted-two, at-zero, at-legacy, at-last, at-sized, at-beyond}
