@@ -17,18 +17,24 @@ enum { EDITION = 1 };
 
 /* plain.c by each compiler, under the name that bench/run gives it */
 typedef struct plain_answer plain(const uint8_t *pages, size_t length, int avic, uint8_t *out, size_t room, size_t *written);
-plain plain_gcc;
+typedef struct plain_answer origins(const uint8_t *pages, size_t length, int avic, uint64_t *origins);
+typedef uint32_t place(unsigned place, int *has_subleaf, uint32_t *subleaf);
+plain gcc_write_image;
+origins gcc_origins;
+place gcc_place;
 #ifdef WITH_CLANG
-plain plain_clang;
+plain clang_write_image;
+origins clang_origins;
 #endif
 
 static const struct {
     const char *name;
     plain *write_image;
+    origins *origins;
 } C[] = {
-    {"gcc", plain_gcc},
+    {"gcc", gcc_write_image, gcc_origins},
 #ifdef WITH_CLANG
-    {"clang", plain_clang},
+    {"clang", clang_write_image, clang_origins},
 #endif
 };
 
@@ -85,7 +91,22 @@ static double rust_ns(const uint8_t *pages, size_t n, int calls)
 }
 #endif
 
-/* all give the same answer and bytes, or nothing here means anything */
+static void differ(const char *name, const char *what)
+{
+    fprintf(stderr, "%s: the %s differ\n", name, what);
+    exit(1);
+}
+
+/* the origin that the port gives with a row, as the number that plain C has for it */
+static uint64_t port_origin(const uint8_t *pages, size_t n, unsigned k)
+{
+    int has_subleaf;
+    uint32_t subleaf = 0, leaf = gcc_place(k, &has_subleaf, &subleaf);
+    struct snp_cpuid_found f = snp_cpuid_lookup(pages, n, false, EDITION, leaf, has_subleaf, subleaf, true);
+    return f.origin == 2 ? 2 + 64 * f.page + f.entry : f.origin;
+}
+
+/* all give the same answer, bytes and origins, or nothing here means anything */
 static void compare(const char *name, const uint8_t *pages, size_t n)
 {
     for (int c = 0; c < COMPILERS; c++) {
@@ -93,10 +114,13 @@ static void compare(const char *name, const uint8_t *pages, size_t n)
         size_t written;
         struct snp_cpuid_written w = snp_cpuid_write_image(pages, n, false, EDITION, a, ROOM);
         struct plain_answer p = C[c].write_image(pages, n, 0, b, ROOM, &written);
-        if (w.number != p.number || w.leaf != p.leaf || w.length != written || memcmp(a, b, ROOM)) {
-            fprintf(stderr, "%s: the answers differ\n", name);
-            exit(1);
-        }
+        if (w.number != p.number || w.leaf != p.leaf || w.length != written || memcmp(a, b, ROOM))
+            differ(name, "answers");
+        uint64_t origins[PLAIN_PLACES];
+        C[c].origins(pages, n, 0, origins);
+        for (unsigned k = 0; k < PLAIN_PLACES; k++)
+            if (origins[k] != port_origin(pages, n, k))
+                differ(name, "origins");
     }
 }
 

@@ -1,10 +1,10 @@
-/* Document 01's table in plain C, with document 02's refusal 17, as a C programmer would write it: the yardstick of docs/PERFORMANCE.md, and nothing
- * that the port uses. */
+/* Document 01's table in plain C, with document 02's refusal 17 and origins, as a C programmer would write it: the yardstick of docs/PERFORMANCE.md, and
+ * nothing that the port uses. */
 #include "plain.h"
 
 #include <string.h>
 
-enum { PLACES = 88, PAGE = 4096, NONE = 88 };
+enum { PLACES = PLAIN_PLACES, PAGE = 4096, NONE = PLACES };
 
 struct row {
     uint32_t r[4];
@@ -13,6 +13,7 @@ struct row {
 struct table {
     uint8_t present[PLACES];
     struct row rows[PLACES];
+    uint64_t origins[PLACES];
 };
 
 static const struct row ONES = {{0xffffffff, 0xffffffff, 0xffffffff, 0xffffffff}};
@@ -106,6 +107,7 @@ static void collect(struct table *t, const uint8_t *pages, size_t count, int avi
                 continue;
             const struct row *m = mask_of(k, avic);
             t->present[k] = 1;
+            t->origins[k] = 2 + 64 * (uint64_t)p + q;
             for (int i = 0; i < 4; i++)
                 t->rows[k].r[i] = word(e + 24 + 4 * i) & m->r[i];
             if (k == 6)
@@ -195,6 +197,7 @@ static struct plain_answer finish(struct table *t)
 
     static const struct row VENDOR = {{0xd, 0x68747541, 0x444d4163, 0x69746e65}};
     t->present[0] = t->present[70] = 1;
+    t->origins[0] = t->origins[70] = t->origins[4] = t->origins[5] = 1;
     t->rows[0] = t->rows[70] = VENDOR;
     t->rows[70].r[0] = 0x8000001f;
     t->rows[4] = (struct row){{th, th + 1, 0x100, 0}};
@@ -227,6 +230,7 @@ static struct plain_answer finish(struct table *t)
     for (unsigned k = 2; k < 64; k++)
         if (t->present[6 + k] && !(mask >> k & 1)) {
             t->present[6 + k] = 0;
+            t->origins[6 + k] = 0;
             memset(&t->rows[6 + k], 0, sizeof t->rows[0]);
         }
     for (unsigned k = 0; k < PLACES; k++)
@@ -244,10 +248,8 @@ static uint8_t *put(uint8_t *o, uint32_t x)
     return o + 4;
 }
 
-struct plain_answer plain_write_image(const uint8_t *pages, size_t length, int avic, uint8_t *out, size_t room, size_t *written)
+static struct plain_answer build(struct table *t, const uint8_t *pages, size_t length, int avic)
 {
-    struct table t;
-    *written = 0;
     if (length == 0 || length % PAGE)
         return refuse(1, 0, 0xffffffff, 0);
     for (size_t p = 0; p < length / PAGE; p++)
@@ -256,8 +258,31 @@ struct plain_answer plain_write_image(const uint8_t *pages, size_t length, int a
     const uint8_t *e = unclean(pages, length / PAGE);
     if (e)
         return refuse(17, word(e), 0xffffffff, 0);
-    collect(&t, pages, length / PAGE, avic);
-    struct plain_answer a = finish(&t);
+    collect(t, pages, length / PAGE, avic);
+    return finish(t);
+}
+
+struct plain_answer plain_origins(const uint8_t *pages, size_t length, int avic, uint64_t *origins)
+{
+    struct table t;
+    struct plain_answer a = build(&t, pages, length, avic);
+    memset(origins, 0, PLACES * sizeof *origins);
+    if (!a.number)
+        memcpy(origins, t.origins, sizeof t.origins);
+    return a;
+}
+
+uint32_t plain_place(unsigned place, int *has_subleaf, uint32_t *subleaf)
+{
+    *has_subleaf = indexed(place, subleaf);
+    return leaf_at(place);
+}
+
+struct plain_answer plain_write_image(const uint8_t *pages, size_t length, int avic, uint8_t *out, size_t room, size_t *written)
+{
+    struct table t;
+    *written = 0;
+    struct plain_answer a = build(&t, pages, length, avic);
     if (a.number)
         return a;
     size_t n = 582 + 25 * (size_t)(a.rows - 26);

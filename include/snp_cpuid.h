@@ -52,13 +52,20 @@ struct snp_cpuid_built {
     uint64_t max_extended_state; /* the combined mask, XFEM or XSS */
 };
 
-/* What a lookup gives: found is 1 and the four registers, or all zeros. */
+/* What a lookup gives: found is 1, the four registers and where the row came from, or all zeros. origin:
+ *   0 nothing was found
+ *   1 the row is made here: leaves 0 and 80000000h, and B.0 and B.1, whether or not the pages have entries for them
+ *   2 it is an entry's, which page and entry tell
+ * Where origin is not 2, page and entry are 0. */
 struct snp_cpuid_found {
     uint32_t found;
     uint32_t eax;
     uint32_t ebx;
     uint32_t ecx;
     uint32_t edx;
+    uint32_t origin;
+    uint64_t page;  /* pages are counted from 0 */
+    uint32_t entry; /* the entry's position on its page, from 0 */
 };
 
 /* What a write gives: number 0 and how many bytes were written, or a refusal and length 0. */
@@ -114,6 +121,19 @@ struct snp_cpuid_carried {
     uint32_t number;
 };
 
+/* Where the first entry for a leaf stands: number 0 with found 1, its page and its position on the page, both counted from 0, or with found 0 and
+ * zeros where there is none; or number 1, 2 or 17 where the pages are not lawful, and 17 names its leaf. */
+struct snp_cpuid_first {
+    uint32_t number;
+    uint32_t leaf;
+    uint32_t has_subleaf;
+    uint32_t subleaf;
+    uint32_t s;
+    uint32_t found;
+    uint64_t page;
+    uint32_t entry;
+};
+
 /* The most bytes that an image can have, and a list for KVM; and the two pages that a list is read into. */
 #define SNP_CPUID_MOST_IMAGE_BYTES 732
 #define SNP_CPUID_MOST_KVM_BYTES 1288
@@ -130,7 +150,7 @@ struct snp_cpuid_built snp_cpuid_build(const uint8_t *pages, size_t length, bool
 
 /* Builds, and looks a row up as leaf_result_ref does. subleaf is read only where has_subleaf is true. A leaf without subleaves is found
  * where no subleaf is given or enforce_subleaf is false; one with subleaves only under a subleaf that the table has. Nothing is found
- * where building refuses. */
+ * where building refuses. With the row comes where on the pages it stands. */
 struct snp_cpuid_found snp_cpuid_lookup(const uint8_t *pages, size_t length, bool secure_avic, uint32_t edition, uint32_t leaf,
                                         bool has_subleaf, uint32_t subleaf, bool enforce_subleaf);
 
@@ -161,7 +181,8 @@ struct snp_cpuid_written snp_cpuid_read_kvm(const uint8_t *list, size_t length, 
 struct snp_cpuid_built snp_cpuid_guest_build(const uint8_t *pages, size_t length, bool secure_avic, uint32_t edition, uint32_t x2apic,
                                              uint64_t xcr0, uint64_t xss, bool osxsave);
 
-/* Builds, and looks a row up in the guest's table as snp_cpuid_lookup does. Nothing is found where the answer is a refusal. */
+/* Builds, and looks a row up in the guest's table as snp_cpuid_lookup does. Nothing is found where the answer is a refusal. A guest's row came from
+ * where the paravisor's did. */
 struct snp_cpuid_found snp_cpuid_guest_lookup(const uint8_t *pages, size_t length, bool secure_avic, uint32_t edition, uint32_t x2apic,
                                               uint64_t xcr0, uint64_t xss, bool osxsave, uint32_t leaf, bool has_subleaf,
                                               uint32_t subleaf, bool enforce_subleaf);
@@ -178,13 +199,20 @@ struct snp_cpuid_written snp_cpuid_write_guest_image(const uint8_t *pages, size_
 struct snp_cpuid_compared snp_cpuid_compare(const uint8_t *a, size_t a_length, const uint8_t *b, size_t b_length, bool secure_avic,
                                             uint32_t edition);
 
+/* Finds the first entry for a leaf that a table keeps, and for the subleaf where the leaf has them; for other leaves subleaf is not looked at. The
+ * entries are those below their page's count, pages in order; one of leaf Dh counts on page 1 alone. Whether a table is given does not matter: where
+ * it is, and has the row, the entry is the row's origin, but for B.0 and B.1, which are made here. After a comparison that names a leaf, this tells
+ * which entries of A and B differ. Nothing is found for a leaf or subleaf that no table keeps, 0 and 80000000h among them. */
+struct snp_cpuid_first snp_cpuid_first_entry(const uint8_t *pages, size_t length, uint32_t leaf, uint32_t subleaf);
+
 /* Takes a running table from one edition to another, on a processor with this XCR0 and XSS. The table is handed over as its image, the length bytes
  * at image, and rewritten in place. From 1 to 2, F16C, XOP and FMA4 are cleared where the table's own D.0.EAX lacks bit 2, rows that it lacks reading
  * as zeros, and nothing else changes; within one edition nothing does. So the image that snp_cpuid_write_image wrote of pages under edition 1 becomes
  * the one that edition 2 makes of them, and both save sizes of the processor's guest stay. The image may be any table's: bytes are one where they are
  * rows as snp_cpuid_write_image lays them out, of leaves and subleaves that a table can have, ascending, each at most once, and none is left over. No
- * bytes are the image of a table without rows. Refusals in this order: 15 where either edition is neither 1 nor 2; 16 from 2 to 1; then 13 and 14,
- * as a guest has them, by the table's own rows, also within one edition. Where it refuses, or the bytes are no image, they are as they were. */
+ * bytes are the image of a table without rows. An image is free of origins, and carrying changes none. Refusals in this order: 15 where either
+ * edition is neither 1 nor 2; 16 from 2 to 1; then 13 and 14, as a guest has them, by the table's own rows, also within one edition. Where it
+ * refuses, or the bytes are no image, they are as they were. */
 struct snp_cpuid_carried snp_cpuid_carry(uint8_t *image, size_t length, uint32_t from, uint32_t to, uint64_t xcr0, uint64_t xss);
 
 /* A refusal as one line of ASCII: the number in decimal, then, each after one space, the details that it names, leaf in eight hexadecimal capitals,

@@ -1,13 +1,15 @@
 """Makes rust/tests/comparisons.txt: pairs of page sets, each with the answer of model.py to whether a guest of A may move to B.
 
 A line is the secure-AVIC choice (0 or 1), the edition in decimal, the edits that make A and those that make B of tests/epyc-milan.pages, and the
-answer. Leaves are hexadecimal; a subleaf of - is none.
+answer. Leaves are hexadecimal; a subleaf of - is none. Where the answer names a leaf, PAGE:ENTRY of A's first entry for it and of B's follow, and -
+where B has none (document 02, P11).
 """
 from itertools import product
 import struct
 import sys
 
 import model
+import model_origins
 from pagesets import PAGE_ENTRIES, PAGE_SIZE, STATE, with_byte
 import replayed
 from replayed import MILAN, edits
@@ -231,6 +233,15 @@ def told(answer):
     return [*words, f'{leaf:x}', '-' if subleaf is None else str(subleaf), *('eax ebx ecx edx'.split()[number] for number in rest)]
 
 
+def entries_named(a, b, answer):
+    """Where the first entries stand of a leaf that the answer names."""
+    if answer[0] not in ('no entry', 'differs'):
+        return []
+    _, leaf, subleaf, *_ = answer
+    found = [model_origins.first_entry(data, leaf, subleaf or 0)[1] for data in (a, b)]
+    return ['-' if place is None else f'{place[0]}:{place[1]}' for place in found]
+
+
 GROUPS = (single_bits, secure_avic, missing, damaged, refused, others, bit_28, by_entries, unknown_editions, reserved, reserved_order)
 # asked again under edition 2
 AGAIN = (missing, damaged, refused, others, bit_28, reserved, reserved_order)
@@ -244,7 +255,7 @@ def pairs_of(*groups, edition=1):
 def main(words):
     pairs = pairs_of(*GROUPS) + pairs_of(*AGAIN, edition=2)
     answers = [model.compare(*pair) for pair in pairs]
-    lines = [' '.join([str(int(choice)), str(edition), edits(MILAN, a), edits(MILAN, b), *told(answer)])
+    lines = [' '.join([str(int(choice)), str(edition), edits(MILAN, a), edits(MILAN, b), *told(answer), *entries_named(a, b, answer)])
              for (a, b, choice, edition), answer in zip(pairs, answers)]
     every = 'rises', 'refused A', 'unlawful B 1', 'unlawful B 2', 'unlawful B 17', 'no entry', 'differs'
     kinds = (f'unlawful B {answer[1]}' if answer[0] == 'unlawful B' else answer[0] for answer in answers)

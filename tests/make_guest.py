@@ -3,7 +3,7 @@
 A line `p EDITS` makes a page set of the one before, the first of tests/epyc-milan.pages. The other lines ask of the set made last, for a secure-AVIC
 choice, an edition, an x2APIC number, XCR0, XSS and OSXSAVE, which follow their letter; the answer stands after a bar:
 b                        the row count, the mask, 1.EBX, 1.ECX, B.0.EDX, B.1.EDX, D.0.EBX and D.1.EBX
-l LEAF SUBLEAF ENFORCE   the four registers, or - where nothing is found
+l LEAF SUBLEAF ENFORCE   the four registers and where the row came from, `made` or PAGE:ENTRY; or - where nothing is found
 w ROOM                   the image's length and its bytes
 or r with a refusal's number, leaf, subleaf and s. Choices are 0 or 1, lengths and counts decimal, all else is hexadecimal; a subleaf of - is none.
 """
@@ -12,6 +12,7 @@ import sys
 
 import model
 from model_guest import guest
+import model_origins
 from pagesets import STATE, changed, minimal, page, rich, spread, with_byte, with_topology, without
 import replayed
 from replayed import MILAN, edits
@@ -164,12 +165,17 @@ def asked(question):
     return words + [str(room) for room in rest] if letter == 'w' else words
 
 
+def came_from(origin):
+    """Document 02, P11: a guest's row has the origin of the paravisor's."""
+    return 'made' if origin == model_origins.MADE_HERE else f'{origin[0]:x}:{origin[1]:x}'
+
+
 def told(data, question):
     letter, one, *rest = question
     answer = guest(data, *one)
     if letter == 'l':
-        found = model.lookup(answer, *rest)
-        return ['-'] if found is None else [f'{number:x}' for number in found]
+        found, origin = model.lookup(answer, *rest), model_origins.lookup(data, answer, *rest)
+        return ['-'] if found is None else [*(f'{number:x}' for number in found), came_from(origin)]
     if letter == 'w' and answer[0] == 'table' and rest[0] < len(model.image(answer)):
         answer = 'refusal', 9, 0, None, 0
     if answer[0] == 'refusal':

@@ -18,7 +18,7 @@ class Gate(unittest.TestCase):
             'python3': f'echo "{said}"; exit {status}',
             # what it makes is named after -o
             'gcc': 'while [ "$1" != -o ]; do shift; done; mkdir -p target && printf "#!/bin/sh\\necho 99999999 parts\\n" >"$2" && chmod +x "$2"',
-            'nm': 'for i in 1 2 3 4 5 6 7 8 9 10 11 12 13; do echo "0 T snp_cpuid_$i"; done',
+            'nm': 'for i in 1 2 3 4 5 6 7 8 9 10 11 12 13 14; do echo "0 T snp_cpuid_$i"; done',
             'cpuid': 'echo "cpuid: no such device" >&2; exit 1',
         }
         with tempfile.TemporaryDirectory() as folder:

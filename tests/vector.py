@@ -7,6 +7,7 @@ from collections import namedtuple
 import struct
 
 import model
+import model_origins
 
 COMMAND_SIZE = 16
 FILL = 0xA5
@@ -32,6 +33,19 @@ def refusal_words(answer):
     return [word(number), word(leaf), word(subleaf is not None), word(subleaf or 0), word(s)]
 
 
+def place_words(place):
+    """A page, of 64 bits, and the entry's position on it; zeros where there is none."""
+    page, entry = place or (0, 0)
+    return [f'{page:016x}', word(entry)]
+
+
+def origin_words(origin):
+    """Document 02, P11: 0 for no row, 1 made here, 2 an entry, and which."""
+    if origin is None or origin == model_origins.MADE_HERE:
+        return [word(0 if origin is None else 1), *place_words(None)]
+    return [word(2), *place_words(origin)]
+
+
 def summed(kind, answer):
     return f'{kind} refused by {answer[1]}' if answer[0] == 'refusal' else f'{kind} accepted'
 
@@ -47,9 +61,19 @@ def build(name, data, secure_avic=False, edition=1):
 def lookup(name, data, leaf, subleaf=None, enforce=True, secure_avic=False, edition=1):
     row = f'{leaf:X}h' if subleaf is None else f'{leaf:X}h.{subleaf:X}h'
     asked = command('l', leaf, NO_SUBLEAF if subleaf is None else subleaf, secure_avic, subleaf is not None, enforce, edition)
-    found = model.lookup(model.build(data, secure_avic, edition), leaf, subleaf, enforce)
-    words = ['l', word(found is not None), *map(word, found or (0, 0, 0, 0))]
+    answer = model.build(data, secure_avic, edition)
+    found = model.lookup(answer, leaf, subleaf, enforce)
+    origin = model_origins.lookup(data, answer, leaf, subleaf, enforce)
+    words = ['l', word(found is not None), *map(word, found or (0, 0, 0, 0)), *origin_words(origin)]
     return Vector(f'{name}, {row}', data, asked, 'lookup found' if found else 'lookup not found', ' '.join(words))
+
+
+def first_entry(name, data, leaf, subleaf=0):
+    answer = model_origins.first_entry(data, leaf, subleaf)
+    place = answer[1] if answer[0] == 'found' else None
+    words = ['f', *refusal_words(answer), word(place is not None), *place_words(place)]
+    summary = summed('first entry', answer) if answer[0] == 'refusal' else f'first entry {"" if place else "not "}found'
+    return Vector(f'{name}, {leaf:X}h.{subleaf:X}h', data, command('f', leaf, subleaf), summary, ' '.join(words))
 
 
 def write(name, data, room, secure_avic=False, edition=1):

@@ -8,6 +8,7 @@ FILES = (
     'vectors_document_01',
     'vectors_editions',
     'vectors_reserved',
+    'vectors_origins',
     'rust_list',
 )
 

@@ -1,7 +1,7 @@
 //! The plain numbers by which every exported function tells a refusal, read in one place.
 
-use crate::exports::{Built, Compared, Found, LineRead, Written};
-use crate::{CpuidResult, Details, Refusal};
+use crate::exports::{Built, Compared, First, LineRead, Written};
+use crate::{Details, Refusal};
 
 /// An answer of an exported function that may be a refusal.
 pub(crate) trait Answer: Copy {
@@ -36,11 +36,4 @@ macro_rules! answers {
     };
 }
 
-answers!(Built, Written, Compared, LineRead);
-
-impl Found {
-    /// The registers that a lookup found.
-    pub(crate) fn result(self) -> Option<CpuidResult> {
-        (self.found != 0).then_some(CpuidResult { eax: self.eax, ebx: self.ebx, ecx: self.ecx, edx: self.edx })
-    }
-}
+answers!(Built, Written, Compared, LineRead, First);

@@ -17,8 +17,9 @@ impl Table {
     /// The table taken from edition `from` of the AVX rule, under which it was built, to edition `to`, on a processor with this XCR0 and XSS.
     ///
     /// From 1 to 2 it is the table that edition 2 makes of the same pages, and the save sizes of the processor's guest stay what they were. Within
-    /// one edition it is the same table. [`Refusal::UnknownEdition`] comes first, then [`Refusal::EditionBack`] from 2 to 1, then
-    /// [`Refusal::StateBeyondTable`] and [`Refusal::CompactSizeTooLarge`], which a guest of this processor would have too.
+    /// one edition it is the same table. Where its rows came from stays unchanged. [`Refusal::UnknownEdition`] comes first, then
+    /// [`Refusal::EditionBack`] from 2 to 1, then [`Refusal::StateBeyondTable`] and [`Refusal::CompactSizeTooLarge`], which a guest of this processor
+    /// would have too.
     ///
     /// ```
     /// use snp_cpuid::{Options, Refusal, build};

@@ -23,6 +23,9 @@ pub struct Found {
     pub ebx: u32,
     pub ecx: u32,
     pub edx: u32,
+    pub origin: u32,
+    pub page: u64,
+    pub entry: u32,
 }
 
 #[repr(C)]
@@ -72,6 +75,19 @@ pub struct LineRead {
 pub struct Carried {
     pub is_image: u32,
     pub number: u32,
+}
+
+#[repr(C)]
+#[derive(Clone, Copy, Debug, Default, PartialEq, Eq)]
+pub struct First {
+    pub number: u32,
+    pub leaf: u32,
+    pub has_subleaf: u32,
+    pub subleaf: u32,
+    pub s: u32,
+    pub found: u32,
+    pub page: u64,
+    pub entry: u32,
 }
 
 unsafe extern "C" {
@@ -126,6 +142,7 @@ unsafe extern "C" {
         room: usize,
     ) -> Written;
     pub fn snp_cpuid_compare(a: *const u8, a_length: usize, b: *const u8, b_length: usize, secure_avic: bool, edition: u32) -> Compared;
+    pub fn snp_cpuid_first_entry(pages: *const u8, length: usize, leaf: u32, subleaf: u32) -> First;
     pub fn snp_cpuid_carry(image: *mut u8, length: usize, from: u32, to: u32, xcr0: u64, xss: u64) -> Carried;
     pub fn snp_cpuid_write_line(number: u32, leaf: u32, has_subleaf: bool, subleaf: u32, s: u32, out: *mut u8, room: usize) -> LineWritten;
     pub fn snp_cpuid_read_line(line: *const u8, length: usize) -> LineRead;

@@ -2,7 +2,7 @@
 
 use crate::answer::Answer;
 use crate::exports;
-use crate::{CpuidResult, MOST_IMAGE_BYTES, Options, Refusal, Table};
+use crate::{Found, MOST_IMAGE_BYTES, Options, Refusal, Table};
 
 /// A processor, as far as a guest's CPUID shows it.
 #[derive(Clone, Copy, Debug, Default, PartialEq, Eq, Hash)]
@@ -17,7 +17,7 @@ pub struct Processor {
     pub osxsave: bool,
 }
 
-/// The table of CPUID pages as the guest of one processor sees it.
+/// The table of CPUID pages as the guest of one processor sees it. Its rows came from where the paravisor's did.
 ///
 /// ```
 /// use snp_cpuid::{Options, Processor, Refusal, guest};
@@ -42,7 +42,7 @@ pub fn guest(pages: &[u8], options: Options, processor: Processor) -> Result<Tab
         unsafe { exports::snp_cpuid_guest_build(pages.as_ptr(), pages.len(), secure_avic, edition, x2apic, xcr0, xss, osxsave) }.accepted()?;
     let mut image = [0; MOST_IMAGE_BYTES];
     let length = write_guest_image(pages, options, processor, &mut image)?;
-    Ok(Table::new(image, length, built.max_extended_state))
+    Ok(Table::new(image, length, built.max_extended_state, |leaf, subleaf| guest_lookup(pages, options, processor, leaf, subleaf, true)))
 }
 
 /// Writes the image of the guest's table to the front of `out` and gives its length. Where it refuses, `out` is as it was; bytes beyond the image are
@@ -64,16 +64,9 @@ pub fn write_guest_image(pages: &[u8], options: Options, processor: Processor, o
 /// let pages = std::fs::read("../tests/epyc-milan.pages").unwrap();
 /// let processor = Processor { x2apic: 5, xcr0: 1, ..Processor::default() };
 /// // with x87 state alone the save area is its smallest, 512 bytes and the header's 64
-/// assert_eq!(guest_lookup(&pages, Options::new(), processor, 0xD, Some(0), true).unwrap().ebx, 576);
+/// assert_eq!(guest_lookup(&pages, Options::new(), processor, 0xD, Some(0), true).unwrap().result.ebx, 576);
 /// ```
-pub fn guest_lookup(
-    pages: &[u8],
-    options: Options,
-    processor: Processor,
-    leaf: u32,
-    subleaf: Option<u32>,
-    enforce_subleaf: bool,
-) -> Option<CpuidResult> {
+pub fn guest_lookup(pages: &[u8], options: Options, processor: Processor, leaf: u32, subleaf: Option<u32>, enforce_subleaf: bool) -> Option<Found> {
     let Options { secure_avic, edition } = options;
     let Processor { x2apic, xcr0, xss, osxsave } = processor;
     let (named, subleaf) = (subleaf.is_some(), subleaf.unwrap_or(0));
@@ -82,5 +75,5 @@ pub fn guest_lookup(
         let (pages, length) = (pages.as_ptr(), pages.len());
         exports::snp_cpuid_guest_lookup(pages, length, secure_avic, edition, x2apic, xcr0, xss, osxsave, leaf, named, subleaf, enforce_subleaf)
     };
-    found.result()
+    found.row()
 }

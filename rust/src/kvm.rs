@@ -1,10 +1,10 @@
 //! Lists for and from KVM: a table as `struct kvm_cpuid2`, and such a list as pages (document 02, P2).
 
 use crate::answer::Answer;
-use crate::{Options, PAGE_BYTES, Refusal, exports};
+use crate::{MOST_ROWS, Options, PAGE_BYTES, Refusal, exports};
 
 /// The most bytes that a table's list can have: a count and a zero word, and 40 bytes a row.
-pub const MOST_KVM_BYTES: usize = 8 + 40 * 32;
+pub const MOST_KVM_BYTES: usize = 8 + 40 * MOST_ROWS;
 
 /// The bytes that reading a list writes: two pages.
 pub const KVM_PAGES_BYTES: usize = 2 * PAGE_BYTES;
@@ -40,6 +40,9 @@ pub fn write_kvm(pages: &[u8], options: Options, out: &mut [u8]) -> Result<usize
 /// let mut again = [0; snp_cpuid::KVM_PAGES_BYTES];
 /// snp_cpuid::read_kvm(&list[..length], &mut again).unwrap();
 /// assert_eq!(snp_cpuid::build(&again, options), snp_cpuid::build(&pages, options));
+/// // its rows came from the pages that were read: leaf 80000001h is the eighth row of the list, leaf Dh left out
+/// let origin = snp_cpuid::build(&again, options).unwrap().find(0x8000_0001, None).unwrap().origin;
+/// assert_eq!(origin, snp_cpuid::Origin::Entry { page: 0, entry: 7 });
 ///
 /// // a byte too many
 /// assert_eq!(snp_cpuid::read_kvm(&list[..length + 1], &mut again), Err(snp_cpuid::Refusal::ListLength));

@@ -23,6 +23,7 @@ mod guest;
 mod kvm;
 mod line;
 mod options;
+mod origin;
 mod refusal;
 mod table;
 mod topologies;
@@ -35,6 +36,7 @@ pub use guest::{Processor, guest, guest_lookup, write_guest_image};
 pub use kvm::{KVM_PAGES_BYTES, MOST_KVM_BYTES, read_kvm, write_kvm};
 pub use line::NoSuchLine;
 pub use options::Options;
+pub use origin::{Found, Origin, first_entry};
 pub use refusal::{Details, Refusal, TopologyError};
 pub use table::{CpuidResult, Row, Rows, Table};
 pub use topologies::{TOPOLOGIES_BYTES, Topology, topologies, write_topologies};
@@ -45,17 +47,21 @@ pub const PAGE_BYTES: usize = 4096;
 /// The most bytes that an image can have.
 pub const MOST_IMAGE_BYTES: usize = 732;
 
+/// The most rows that a table can have.
+pub const MOST_ROWS: usize = 32;
+
 /// The most bytes that a refusal's line can have.
 pub const MOST_LINE_BYTES: usize = 22;
 
-/// Builds the table of CPUID pages that stand end to end.
+/// Builds the table of CPUID pages that stand end to end. Where its rows came from is asked of the library row by row; [`write_image`], which does
+/// not ask, takes a thirtieth of the time.
 pub fn build(pages: &[u8], options: Options) -> Result<Table, Refusal> {
     let Options { secure_avic, edition } = options;
     // SAFETY: the pointer and length are those of a slice, which the function only reads
     let built = unsafe { exports::snp_cpuid_build(pages.as_ptr(), pages.len(), secure_avic, edition) }.accepted()?;
     let mut image = [0; MOST_IMAGE_BYTES];
     let length = write_image(pages, options, &mut image)?;
-    Ok(Table::new(image, length, built.max_extended_state))
+    Ok(Table::new(image, length, built.max_extended_state, |leaf, subleaf| lookup(pages, options, leaf, subleaf, true)))
 }
 
 /// Writes the image of CPUID pages to the front of `out` and gives its length. Where it refuses, `out` is as it was; bytes beyond the image are as
@@ -68,12 +74,12 @@ pub fn write_image(pages: &[u8], options: Options, out: &mut [u8]) -> Result<usi
 }
 
 /// Builds and looks one row up, both in the library. [`Table::lookup`] gives the same and builds once.
-pub fn lookup(pages: &[u8], options: Options, leaf: u32, subleaf: Option<u32>, enforce_subleaf: bool) -> Option<CpuidResult> {
+pub fn lookup(pages: &[u8], options: Options, leaf: u32, subleaf: Option<u32>, enforce_subleaf: bool) -> Option<Found> {
     let Options { secure_avic, edition } = options;
     let (named, subleaf) = (subleaf.is_some(), subleaf.unwrap_or(0));
     // SAFETY: the pointer and length are those of a slice, which the function only reads
     let found = unsafe { exports::snp_cpuid_lookup(pages.as_ptr(), pages.len(), secure_avic, edition, leaf, named, subleaf, enforce_subleaf) };
-    found.result()
+    found.row()
 }
 
 /// Compares two servers by their pages, under the same options: may a guest of `a` move to `b`? What is said of a pair holds under either edition.

@@ -1,6 +1,7 @@
 //! An accepted table.
 
-use crate::MOST_IMAGE_BYTES;
+use crate::{Found, MOST_IMAGE_BYTES, MOST_ROWS, Origin};
+use std::slice::Iter;
 
 /// The four registers of a CPUID result.
 #[derive(Clone, Copy, Debug, Default, PartialEq, Eq, Hash)]
@@ -15,7 +16,7 @@ pub struct CpuidResult {
     pub edx: u32,
 }
 
-/// One row: a leaf, its subleaf where the leaf has them, and its registers in the table.
+/// One row: a leaf, its subleaf where the leaf has them, its registers in the table, and where it came from.
 #[derive(Clone, Copy, Debug, PartialEq, Eq, Hash)]
 pub struct Row {
     /// the leaf
@@ -24,19 +25,45 @@ pub struct Row {
     pub subleaf: Option<u32>,
     /// the four registers
     pub result: CpuidResult,
+    /// where it came from
+    pub origin: Origin,
 }
 
-/// An accepted table: its image as the library wrote it, and the combined mask.
-#[derive(Clone, PartialEq, Eq)]
+/// An accepted table: its image as the library wrote it, the combined mask, and where each row came from.
+///
+/// Two tables are equal where rows, registers and combined mask are; where the rows came from does not count (document 02, P11: sameness "means
+/// everything but origins"). Two [`Row`]s are equal where that is the same too.
+#[derive(Clone)]
 pub struct Table {
     image: [u8; MOST_IMAGE_BYTES],
     length: usize,
     max_extended_state: u64,
+    origins: [Origin; MOST_ROWS],
 }
 
+impl PartialEq for Table {
+    fn eq(&self, other: &Table) -> bool {
+        (self.image(), self.max_extended_state) == (other.image(), other.max_extended_state)
+    }
+}
+
+impl Eq for Table {}
+
 impl Table {
-    pub(crate) fn new(image: [u8; MOST_IMAGE_BYTES], length: usize, max_extended_state: u64) -> Table {
-        Table { image, length, max_extended_state }
+    /// The table of an image; `found` is the library's own lookup of a row that the table has.
+    pub(crate) fn new(
+        image: [u8; MOST_IMAGE_BYTES],
+        length: usize,
+        max_extended_state: u64,
+        found: impl Fn(u32, Option<u32>) -> Option<Found>,
+    ) -> Table {
+        let mut table = Table { image, length, max_extended_state, origins: [Origin::MadeHere; MOST_ROWS] };
+        let mut origins = table.origins;
+        for (origin, row) in origins.iter_mut().zip(table.rows()) {
+            *origin = found(row.leaf, row.subleaf).expect("the library finds each row of its image").origin;
+        }
+        table.origins = origins;
+        table
     }
 
     /// The image: for each row byte 1, leaf, EAX, EBX, ECX, EDX, or byte 2, leaf, subleaf and the four, each number 4 bytes little-endian.
@@ -50,7 +77,7 @@ impl Table {
 
     /// The rows, leaves rising and subleaves rising within a leaf.
     pub fn rows(&self) -> Rows<'_> {
-        Rows { rest: self.image() }
+        Rows { rest: self.image(), origins: self.origins.iter() }
     }
 
     /// The combined mask, XFEM or XSS: one bit for each extended state that a guest may use.
@@ -59,15 +86,21 @@ impl Table {
     }
 
     /// The row of a leaf and subleaf exactly as the table has it: none finds a leaf without subleaves.
+    pub fn find(&self, leaf: u32, subleaf: Option<u32>) -> Option<Row> {
+        self.rows().find(|row| row.leaf == leaf && row.subleaf == subleaf)
+    }
+
+    /// The registers of that row.
     pub fn row(&self, leaf: u32, subleaf: Option<u32>) -> Option<CpuidResult> {
-        self.rows().find(|row| row.leaf == leaf && row.subleaf == subleaf).map(|row| row.result)
+        self.find(leaf, subleaf).map(|row| row.result)
     }
 
     /// What `leaf_result_ref` finds. A leaf with subleaves is found only under a subleaf that the table has; one without is found where no subleaf
     /// is given or `enforce_subleaf` is false.
-    pub fn lookup(&self, leaf: u32, subleaf: Option<u32>, enforce_subleaf: bool) -> Option<CpuidResult> {
-        let exact = self.row(leaf, subleaf);
-        if enforce_subleaf { exact } else { exact.or_else(|| self.row(leaf, None)) }
+    pub fn lookup(&self, leaf: u32, subleaf: Option<u32>, enforce_subleaf: bool) -> Option<Found> {
+        let exact = self.find(leaf, subleaf);
+        let row = if enforce_subleaf { exact } else { exact.or_else(|| self.find(leaf, None)) };
+        row.map(|row| Found { result: row.result, origin: row.origin })
     }
 }
 
@@ -81,6 +114,7 @@ impl std::fmt::Debug for Table {
 #[derive(Clone, Debug)]
 pub struct Rows<'a> {
     rest: &'a [u8],
+    origins: Iter<'a, Origin>,
 }
 
 impl Rows<'_> {
@@ -100,6 +134,7 @@ impl Iterator for Rows<'_> {
         let leaf = self.number();
         let subleaf = (kind == 2).then(|| self.number());
         let result = CpuidResult { eax: self.number(), ebx: self.number(), ecx: self.number(), edx: self.number() };
-        Some(Row { leaf, subleaf, result })
+        let origin = *self.origins.next().expect("as many origins as rows");
+        Some(Row { leaf, subleaf, result, origin })
     }
 }

@@ -2,7 +2,7 @@
 
 mod replay;
 
-use snp_cpuid::{Comparison, Options, Refusal, compare};
+use snp_cpuid::{Comparison, Options, Origin, Refusal, compare, first_entry};
 use std::collections::{BTreeMap, BTreeSet};
 
 /// The shipped set with the edits of one word.
@@ -38,6 +38,17 @@ fn told(answer: Comparison) -> (&'static str, String) {
     }
 }
 
+/// Where the first entries stand of a leaf that the answer names.
+fn entries(a: &[u8], b: &[u8], answer: Comparison) -> String {
+    let (Comparison::NoEntry { leaf, subleaf } | Comparison::Differs { leaf, subleaf, .. }) = answer else { return String::new() };
+    let [a, b] = [a, b].map(|pages| match first_entry(pages, leaf, subleaf.unwrap_or(0)).expect("compared pages are lawful") {
+        Some(Origin::Entry { page, entry }) => format!("{page}:{entry}"),
+        Some(Origin::MadeHere) => panic!("an entry is made by none"),
+        None => "-".into(),
+    });
+    format!("{a} {b}")
+}
+
 #[test]
 fn answers_are_the_models() {
     let text = std::fs::read_to_string("tests/comparisons.txt").expect("the list");
@@ -52,7 +63,7 @@ fn answers_are_the_models() {
             unlawful.insert(refusal.number());
         }
         let (kind, details) = told(answer);
-        assert_eq!(format!("{kind} {details}").trim(), wanted, "line {}: {line}", number + 1);
+        assert_eq!(format!("{kind} {details} {}", entries(&a, &b, answer)).trim(), wanted, "line {}: {line}", number + 1);
         *seen.entry(kind).or_insert(0) += 1;
     }
     assert_eq!(seen.len(), 5, "every answer occurs: {seen:?}");

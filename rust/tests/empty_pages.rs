@@ -1,7 +1,7 @@
 //! Empty pages are passed over by a loop: a million in a row, in a thread with a small stack. The memory is zeros that nothing writes, so it is never
 //! there.
 
-use snp_cpuid::{Options, PAGE_BYTES, Refusal, build, compare, write_image};
+use snp_cpuid::{Options, Origin, PAGE_BYTES, Refusal, build, compare, first_entry, write_image};
 use std::thread::Builder;
 
 const MANY: usize = 1_000_000;
@@ -40,5 +40,6 @@ fn an_entry_after_a_million_empty_pages_is_read() {
         pages[last] = 1;
         pages[last + 16] = 1;
         assert_eq!(build(&pages, Options::new()).unwrap_err(), Refusal::MissingRequiredResult(5, None));
+        assert_eq!(first_entry(&pages, 1, 0), Ok(Some(Origin::Entry { page: MANY, entry: 0 })));
     });
 }

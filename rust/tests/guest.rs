@@ -4,7 +4,7 @@ mod replay;
 
 use replay::{edited, shipped};
 use snp_cpuid::exports::snp_cpuid_guest_build;
-use snp_cpuid::{CpuidResult, Options, Processor, Refusal, Table, build, guest, guest_lookup, write_guest_image};
+use snp_cpuid::{Found, Options, Origin, Processor, Refusal, Table, build, guest, guest_lookup, write_guest_image};
 use std::collections::BTreeMap;
 
 fn number(text: &str) -> u64 {
@@ -28,8 +28,13 @@ fn figures(table: &Table) -> String {
     format!("{} {:x} {}", table.rows().count(), table.max_extended_state(), registers.join(" "))
 }
 
-fn registers(found: Option<CpuidResult>) -> String {
-    found.map_or("-".into(), |r| format!("{:x} {:x} {:x} {:x}", r.eax, r.ebx, r.ecx, r.edx))
+fn row(found: Option<Found>) -> String {
+    let Some(Found { result: r, origin }) = found else { return "-".into() };
+    let origin = match origin {
+        Origin::MadeHere => "made".into(),
+        Origin::Entry { page, entry } => format!("{page:x}:{entry:x}"),
+    };
+    format!("{:x} {:x} {:x} {:x} {origin}", r.eax, r.ebx, r.ecx, r.edx)
 }
 
 /// What the library writes into a buffer of this room; bytes that it does not write stay.
@@ -50,8 +55,9 @@ fn answered(pages: &[u8], words: &[&str]) -> String {
         "b" => {
             let table = guest(pages, options, processor);
             if let (Ok(table), Ok(plain)) = (&table, build(pages, options)) {
-                // the same rows, and the count that the library itself gives
-                assert!(table.rows().map(|row| (row.leaf, row.subleaf)).eq(plain.rows().map(|row| (row.leaf, row.subleaf))));
+                // the same rows from the same entries, and the count that the library itself gives
+                let places = |table: &Table| table.rows().map(|row| (row.leaf, row.subleaf, row.origin)).collect::<Vec<_>>();
+                assert_eq!(places(table), places(&plain));
                 let Processor { x2apic, xcr0, xss, osxsave } = processor;
                 // SAFETY: the pointer and length are those of a slice
                 let built =
@@ -65,7 +71,7 @@ fn answered(pages: &[u8], words: &[&str]) -> String {
             let found = guest_lookup(pages, options, processor, leaf, subleaf, enforce);
             // the table that the crate reads from the image gives the same
             assert_eq!(guest(pages, options, processor).ok().and_then(|table| table.lookup(leaf, subleaf, enforce)), found);
-            registers(found)
+            row(found)
         }
         "w" => written(pages, options, processor, words[7].parse().unwrap()),
         other => panic!("a line that begins with {other}"),

@@ -1,11 +1,18 @@
 -- The proof that added entries change no answer: the entries before are a beginning, so every row is kept, and the rows decide.
-use mathlib.Core.Path.{_≡_, sym, ap, _∙_, subst}
-use mathlib.Core.Bool.{true}
+use mathlib.Core.Path.{_≡_, refl, sym, ap, _∙_, subst}
+use mathlib.Core.Bool.{Bool, true, false}
 use mathlib.Core.List.{List}
 use Prim.Native.Nat.{ℕ, _<_}
+use Rattle.bits.specs.Choice.{pick}
+use Rattle.bits.specs.ListsLaws.{tabulate-ext}
+use Rattle.pages.specs.Entries.{counted}
 use Rattle.masking.specs.Kept.{places}
+use Rattle.origins.specs.Origin.{isMadeHere, originOf, originNumber}
+use Rattle.origins.specs.Origin.Origin.{neither, madeHere}
+use Rattle.collect.specs.FirstEntries.{standsAt}
 use Rattle.table.specs.declared.Choices.{Choices}
-use Rattle.table.specs.declared.Verdict.the-variants.{Accepted}
+use Rattle.table.specs.declared.Verdict.{Verdict}
+use Rattle.table.specs.declared.Verdict.the-variants.{Accepted, Refused}
 use Rattle.table.specs.Refusal.{andThen}
 use Rattle.table.specs.Rows.{Row}
 use Rattle.table.specs.Table.{rowIn}
@@ -13,8 +20,12 @@ use Rattle.checks.specs.Checks.{rowsVerdict}
 use Rattle.update.specs.Finish.{ruleAt}
 use Rattle.update.specs.Kinds.{fromEntry}
 use Rattle.build.specs.declared.Built.{Built}
-use Rattle.build.specs.Built.{builtFrom}
-use Rattle.build.specs.Build.{editionVerdict, lawfulVerdict, rowsFor, verdictOf, answer}
+use Rattle.build.specs.declared.RowsBuilt.{RowsBuilt}
+use Rattle.build.specs.Built.{SameButOrigins}
+use Rattle.build.specs.Build.{editionVerdict, lawfulVerdict, rowsFor, verdictOf, originsIn, answer, originAt}
+use Rattle.build.specs.BuildLaws.{answer-of-rows}
+use Rattle.located.specs.StandsLaws.{stands-begins}
+use Rattle.located.specs.LocatedProof.{entry-there, refused-has-none}
 use Rattle.rise.specs.Rise.{EntryRises, RiseHypothesis}
 use Rattle.rise.specs.Same.{rises-itself}
 use Rattle.added.specs.Added.{Added, Covered, AddedChangesNothing, AddedRisesBothWays}
@@ -22,12 +33,6 @@ use Rattle.added.specs.BeginningLaws.{counted-begin}
 use Rattle.added.specs.KeepsLaws.{Keeps, rows-kept}
 use Rattle.added.specs.CoveredLaws.{edition-found, lawful-found}
 use Rattle.added.specs.KeptRowsLaws.{built-same}
-
--- the answer of lawful edition, length and counts is that of the rows
-answer-of-rows : (chosen : Choices) (s : List ℕ) → editionVerdict (chosen .edition) ≡ Accepted → lawfulVerdict s ≡ Accepted
-    → answer chosen s ≡ builtFrom (chosen .edition) (rowsFor chosen s)
-unfolding answer verdictOf builtFrom
-answer-of-rows chosen s e f = rw (e, f)
 
 module _ (chosen : Choices) (s u : List ℕ) (added : Added s u) (covered : Covered (answer chosen s .verdict)) where
   known-edition : editionVerdict (chosen .edition) ≡ Accepted
@@ -44,11 +49,45 @@ module _ (chosen : Choices) (s u : List ℕ) (added : Added s u) (covered : Cove
   pub rows-stay : Keeps (rowsFor chosen s) (rowsFor chosen u)
   rows-stay = rows-kept (chosen .«secure_avic») s u (counted-begin s u added)
 
-  answer-same : answer chosen u ≡ answer chosen s
-  answer-same =
+  -- verdict and table
+  rows-same : SameButOrigins (answer chosen u) (answer chosen s)
+  rows-same =
       answer-of-rows chosen u known-edition (added .lawful)
       ∙ built-same (rowsFor chosen s) (rowsFor chosen u) rows-stay (rw lawful-before at pages-covered) (chosen .edition)
       ∙ sym (answer-of-rows chosen s known-edition lawful-before)
+
+  verdict-same : answer chosen u .verdict ≡ answer chosen s .verdict
+  verdict-same = ap (λ (b : RowsBuilt). b .verdict) rows-same
+
+  -- a row of an accepted table had its entry before, and that is still the first
+  origin-same : answer chosen s .verdict ≡ Accepted → (i : ℕ) → i < places
+      → originOf (rowIn (answer chosen s .table) i .present) i (standsAt i (counted u)) ≡ originAt chosen s i
+  unfolding originOf
+  origin-same e i l = go (rowIn (answer chosen s .table) i .present) refl (isMadeHere i) refl
+    where
+      go : (p : Bool) → rowIn (answer chosen s .table) i .present ≡ p → (h : Bool) → isMadeHere i ≡ h
+          → pick p (pick h madeHere (standsAt i (counted u))) neither ≡ pick p (pick h madeHere (standsAt i (counted s))) neither
+      go false p h q = refl
+      go true p true q = refl
+      go true p false q =
+          let b = counted-begin s u added in
+          ap (standsAt i) (b .whole) ∙ stands-begins i (counted s) (b .more) (entry-there chosen s e i l p q)
+
+  accepted-origins : answer chosen s .verdict ≡ Accepted → answer chosen u .origins ≡ answer chosen s .origins
+  unfolding answer originsIn
+  accepted-origins e =
+      ap (λ (b : RowsBuilt). originsIn (b .table) u) rows-same ∙ tabulate-ext places _ _ (λ i l. ap originNumber (origin-same e i l))
+
+  origins-same : (v : Verdict) → answer chosen s .verdict ≡ v → answer chosen u .origins ≡ answer chosen s .origins
+  origins-same Accepted e = accepted-origins e
+  origins-same (Refused r) e = refused-has-none chosen u r (verdict-same ∙ e) ∙ sym (refused-has-none chosen s r e)
+
+  answer-same : answer chosen u ≡ answer chosen s
+  answer-same = λ k. record {
+    verdict = verdict-same k;
+    table = ap (λ (b : RowsBuilt). b .table) rows-same k;
+    origins = origins-same (answer chosen s .verdict) refl k;
+  }
 
 pub added-same : AddedChangesNothing
 added-same = answer-same

@@ -1,11 +1,12 @@
 -- The entries of a page set are a beginning of its entries with others added.
 use mathlib.Core.Path.{_≡_, refl, sym, ap, ap₂, _∙_}
-use mathlib.Core.Bool.{Bool, true, false}
+use mathlib.Core.Bool.{Bool}
 use mathlib.Core.List.{List, [], _∷_, _++_, append-assoc, append-nil}
 use Prim.Native.Nat.{ℕ, zero, suc, _+_, _-_, _≤_, _<_}
 use native.Mathlib.Omega.{arith}
 use Rattle.bits.specs.Choice.{pick}
 use Rattle.bits.specs.Lists.{keepIf}
+use Rattle.bits.specs.ListsLaws.{keep-append}
 use Rattle.pages.specs.Layout.{Entry, pagesIn, countOf, entryAt}
 use Rattle.pages.specs.Entries.{onPage, onPages, entries, counts, counted}
 use Rattle.added.specs.Added.{CountAfter, Added}
@@ -15,16 +16,6 @@ use Rattle.added.specs.Added.CountAfter.{same, raised}
 pub record Begins {ℓ} {A : Type ℓ} (xs ys : List A) : Type ℓ where
   pub more : List A
   pub whole : ys ≡ xs ++ more
-
-keep-append {ℓ} : {A : Type ℓ} (test : A → Bool) (xs ys : List A) → keepIf test (xs ++ ys) ≡ keepIf test xs ++ keepIf test ys
-unfolding keepIf
-keep-append test [] ys = refl
-keep-append test (x ∷ xs) ys = go (test x) (keep-append test xs ys)
-  where
-    go : (b : Bool) → keepIf test (xs ++ ys) ≡ keepIf test xs ++ keepIf test ys
-        → pick b (x ∷ keepIf test (xs ++ ys)) (keepIf test (xs ++ ys)) ≡ pick b (x ∷ keepIf test xs) (keepIf test xs) ++ keepIf test ys
-    go true e = rw e
-    go false e = e
 
 keep-begins {ℓ} : {A : Type ℓ} (test : A → Bool) {xs ys : List A} → Begins xs ys → Begins (keepIf test xs) (keepIf test ys)
 keep-begins test {xs} b = record { more = keepIf test (b .more); whole = ap (keepIf test) (b .whole) ∙ keep-append test xs (b .more) }

@@ -13,8 +13,8 @@ use Rattle.build.specs.Build.{answer}
 use Rattle.added.specs.Added.{Added}
 use Rattle.added.specs.AddedProof.{added-same}
 use Rattle.added.specs.Decide.{figuresOf, figuresWanted, added-by-figures}
-use Rattle.examples.specs.PageSets.{entry, page, firstPage, serverA}
-use Rattle.examples.specs.Evaluation.{first, evaluated}
+use Rattle.page_sets.specs.PageSets.{entry, page, firstPage, serverA}
+use Rattle.page_sets.specs.Evaluation.{first, evaluated}
 use Rattle.examples.specs.Computed.{serverA-accepted}
 
 -- server A's page 0, and its D.0 and D.1, then D.2

@@ -6,4 +6,5 @@ pub mod BitsLaws
 pub mod ChoiceLaws
 pub mod SearchLaws
 pub mod ListsLaws
+pub mod InPlace
 pub mod WidthLaws

@@ -2,7 +2,9 @@
 use mathlib.Core.Bool.{false, not}
 use mathlib.Core.List.{List}
 use Prim.Native.Nat.{ℕ}
+use Rattle.bits.specs.Lists.{tabulate}
 use Rattle.pages.specs.Layout.{badLength, countsFit}
+use Rattle.pages.specs.Entries.{counted}
 use Rattle.reserved.specs.declared.Reserved.{Reserved}
 use Rattle.reserved.specs.declared.Reserved.the-variants.{Zero, Nonzero}
 use Rattle.reserved.specs.Reserved.{reservedOf}
@@ -13,10 +15,14 @@ use Rattle.table.specs.declared.Verdict.the-variants.{Accepted, Refused}
 use Rattle.table.specs.Refusal.{andThen}
 use Rattle.table.specs.Edition.{knownEdition}
 use Rattle.table.specs.Rows.{Rows}
+use Rattle.table.specs.declared.CpuidResults.{CpuidResults}
+use Rattle.table.specs.Table.{rowIn}
+use Rattle.masking.specs.Kept.{places}
+use Rattle.origins.specs.Origin.{Origin, originOf, originNumber}
 use Rattle.checks.specs.Checks.{refuseUnless, rowsVerdict}
 use Rattle.build.specs.Built.{tableFor}
 use Rattle.build.specs.declared.Built.{Built}
-use Rattle.collect.specs.FirstEntries.{rowsOf}
+use Rattle.collect.specs.FirstEntries.{rowsOf, standsAt}
 
 -- document 02, P7: "15 an edition other than 1 or 2, before 1"
 unfoldable pub editionVerdict : ℕ → Verdict
@@ -53,5 +59,17 @@ rowsFor c s = rowsOf (c .«secure_avic») s
 unfoldable pub verdictOf : Choices → List ℕ → Verdict
 verdictOf c s = andThen (editionVerdict (c .edition)) (andThen (lawfulVerdict s) (rowsVerdict (rowsFor c s)))
 
+-- Document 02, P11: where the rows of a table came from, as numbers, from whether each is there and where the first entry of its place stands; a refused
+-- table has no rows, and so no origins
+unfoldable pub originsIn : CpuidResults → List ℕ → List ℕ
+originsIn t s = tabulate places (λ i. originNumber (originOf (rowIn t i .present) i (standsAt i (counted s))))
+
+abbrev pub tableOfPages : Choices → List ℕ → CpuidResults
+tableOfPages c s = tableFor (c .edition) (verdictOf c s) (rowsFor c s)
+
 unfoldable pub answer : Choices → List ℕ → Built
-answer c s = record { verdict = verdictOf c s; table = tableFor (c .edition) (verdictOf c s) (rowsFor c s) }
+answer c s = record { verdict = verdictOf c s; table = tableOfPages c s; origins = originsIn (tableOfPages c s) s }
+
+-- the origin of the row at place i of the table that an answer holds
+abbrev pub originAt : Choices → List ℕ → ℕ → Origin
+originAt c s i = originOf (rowIn (answer c s .table) i .present) i (standsAt i (counted s))

@@ -1,8 +1,19 @@
 -- The answer, case by case, in the terms of the code's returns.
 use mathlib.Core.Path.{_≡_, sym, ap, _∙_}
-use mathlib.Core.Bool.{true, false}
+use mathlib.Core.Bool.{Bool, true, false}
 use mathlib.Core.List.{List}
 use Prim.Native.Nat.{ℕ}
+use lib.ListN.{replicate, length-replicate, getD-replicate}
+use Rattle.bits.specs.Choice.{pick}
+use Rattle.bits.specs.ListsLaws.{tabulated}
+use Rattle.pages.specs.Entries.{counted}
+use Rattle.masking.specs.Kept.{places}
+use Rattle.origins.specs.Origin.{isMadeHere, originOf, originNumber, finishedOrigins}
+use Rattle.origins.specs.Origin.Origin.{neither, madeHere}
+use Rattle.origins.specs.OriginLaws.{finished-origins}
+use Rattle.collect.specs.FirstEntries.{standsAt, foundOrigins}
+use Rattle.checks.specs.Checks.{rowsVerdict}
+use Rattle.build.specs.declared.RowsBuilt.{RowsBuilt}
 use Rattle.build.specs.declared.Built.{Built}
 use Rattle.table.specs.declared.Refusal.{Refusal}
 use Rattle.table.specs.declared.Refusal.the-variants.{UnknownEdition}
@@ -10,35 +21,77 @@ use Rattle.table.specs.declared.Choices.{Choices}
 use Rattle.table.specs.declared.Verdict.{Verdict}
 use Rattle.table.specs.declared.Verdict.the-variants.{Accepted, Refused}
 use Rattle.table.specs.declared.CpuidResults.{CpuidResults}
-use Rattle.build.specs.Built.{tableFor, builtFrom}
-use Rattle.table.specs.Table.{rowsIn}
+use Rattle.build.specs.Built.{builtFrom, withoutOrigins}
+use Rattle.table.specs.Table.{emptyTable, rowsIn}
 use Rattle.table.specs.Rows.{Rows}
 use Rattle.table.specs.Edition.{knownEdition}
-use Rattle.build.specs.Stages.{refusedBuilt}
+use Rattle.build.specs.Stages.{refusedBuilt, notBuilt, locatedBuilt, builtBy}
 use Rattle.collect.specs.Collect.{collected, collected-rows}
-use Rattle.build.specs.Build.{editionVerdict, lawfulVerdict, rowsFor, verdictOf, answer}
+use Rattle.build.specs.Build.{editionVerdict, lawfulVerdict, rowsFor, verdictOf, originsIn, answer}
+
+-- a table without rows has no origins, whatever stands in the pages
+pub no-origins : (s : List ℕ) → replicate places 0 ≡ originsIn emptyTable s
+unfolding originsIn originOf
+no-origins s =
+    tabulated places _ (replicate places 0) 0 (length-replicate {A = ℕ} places 0) (λ i l.
+    getD-replicate places i 0 0 l
+    ∙ sym (ap (λ (b : Bool). originNumber (pick b (pick (isMadeHere i) madeHere (standsAt i (counted s))) neither)) (getD-replicate places i false false l)))
+
+-- the origins of a table, from where the first entries stand
+located-origins : (t : CpuidResults) (s : List ℕ) → finishedOrigins (t .present) (foundOrigins s) ≡ originsIn t s
+unfolding originsIn foundOrigins
+located-origins t s = finished-origins (t .present) (λ i. standsAt i (counted s))
 
 module _ (c : Choices) (s : List ℕ) where
   abbrev m : Rows
   m = rowsFor c s
 
-  built-with : {v : Verdict} → verdictOf c s ≡ v → answer c s ≡ record { verdict = v; table = tableFor (c .edition) v m }
-  unfolding answer
-  built-with e = ap (λ (x : Verdict). record { verdict = x; table = tableFor (c .edition) x m }) e
+  -- an answer to rows, with the origins of its table
+  abbrev with-origins : RowsBuilt → Built
+  with-origins b = record { verdict = b .verdict; table = b .table; origins = originsIn (b .table) s }
 
-  pub answer-unknown : knownEdition (c .edition) ≡ false → refusedBuilt UnknownEdition ≡ answer c s
-  answer-unknown k = sym (built-with (unfold verdictOf editionVerdict in rw k))
+  built-with : {v : Verdict} → verdictOf c s ≡ v → answer c s ≡ with-origins (builtBy (c .edition) v m)
+  unfolding answer
+  built-with e = ap (λ (x : Verdict). with-origins (builtBy (c .edition) x m)) e
+
+  refused-with : {r : Refusal} {q : Built} → q ≡ notBuilt r → verdictOf c s ≡ Refused r → q ≡ answer c s
+  refused-with {r} e f =
+      e ∙ ap (λ (o : List ℕ). record { verdict = Refused r; table = emptyTable; origins = o }) (no-origins s) ∙ sym (built-with f)
+
+  -- the answer of lawful edition and pages, origins aside, is that of the rows
+  pub answer-of-rows : editionVerdict (c .edition) ≡ Accepted → lawfulVerdict s ≡ Accepted → withoutOrigins (answer c s) ≡ builtFrom (c .edition) m
+  unfolding answer verdictOf builtFrom
+  answer-of-rows e f = rw (e, f)
+
+  pub answer-unknown : {q : Built} → knownEdition (c .edition) ≡ false → q ≡ notBuilt UnknownEdition → q ≡ answer c s
+  answer-unknown k g = refused-with g (unfold verdictOf editionVerdict in rw k)
 
   -- v is what is found of the pages
   module _ (k : knownEdition (c .edition) ≡ true) {v : Verdict} (e : v ≡ lawfulVerdict s) where
-    pub answer-unlawful : {r : Refusal} {q : Built} → v ≡ Refused r → q ≡ refusedBuilt r → q ≡ answer c s
-    answer-unlawful f g = g ∙ sym (built-with (unfold verdictOf editionVerdict in rw (k, ← e, f)))
+    pub answer-unlawful : {r : Refusal} {q : Built} → v ≡ Refused r → q ≡ notBuilt r → q ≡ answer c s
+    answer-unlawful f g = refused-with g (unfold verdictOf editionVerdict in rw (k, ← e, f))
 
-    answer-lawful : v ≡ Accepted → builtFrom (c .edition) m ≡ answer c s
-    unfolding builtFrom
-    answer-lawful f = sym (built-with (unfold verdictOf editionVerdict in rw (k, ← e, f)))
+    rows-verdict : v ≡ Accepted → verdictOf c s ≡ rowsVerdict m
+    unfolding verdictOf editionVerdict
+    rows-verdict f = rw (k, ← e, f)
 
     -- what the collected rows are answered, once edition and pages are lawful
-    pub answer-collected : {t : CpuidResults} {q : Built} → v ≡ Accepted → t ≡ collected (c .«secure_avic») s
-        → q ≡ builtFrom (c .edition) (rowsIn t) → q ≡ answer c s
-    answer-collected f g h = h ∙ ap (builtFrom (c .edition)) (ap rowsIn g ∙ collected-rows (c .«secure_avic») s) ∙ answer-lawful f
+    module _ {t : CpuidResults} (f : v ≡ Accepted) (g : t ≡ collected (c .«secure_avic») s) where
+      rows : rowsIn t ≡ m
+      rows = ap rowsIn g ∙ collected-rows (c .«secure_avic») s
+
+      pub answer-refused : {r : Refusal} {b : RowsBuilt} {q : Built} → b ≡ refusedBuilt r → b ≡ builtFrom (c .edition) (rowsIn t) → q ≡ notBuilt r
+          → q ≡ answer c s
+      unfolding builtFrom
+      answer-refused h i j =
+          refused-with j (rows-verdict f ∙ ap rowsVerdict (sym rows) ∙ ap (λ (x : RowsBuilt). x .verdict) (sym i ∙ h))
+
+      pub answer-collected : {b : RowsBuilt} {o : List ℕ} {q : Built} → o ≡ foundOrigins s → b ≡ builtFrom (c .edition) (rowsIn t)
+          → q ≡ locatedBuilt b o → q ≡ answer c s
+      unfolding builtFrom
+      answer-collected {b} h i j =
+          j
+          ∙ ap (locatedBuilt b) h
+          ∙ ap (λ (o : List ℕ). record { verdict = b .verdict; table = b .table; origins = o }) (located-origins (b .table) s)
+          ∙ ap with-origins (i ∙ ap (builtFrom (c .edition)) rows)
+          ∙ sym (built-with (rows-verdict f))

@@ -10,7 +10,7 @@ use Rattle.topology.specs.declared.Topology.the-variants.{Processors, Inconsist
 use Rattle.topology.specs.declared.TopologyError.{TopologyError}
 use Rattle.topology.specs.Topology.{inputs, topologyOf, processors}
 use Rattle.masking.specs.Place
-use Rattle.build.specs.declared.Built.{Built}
+use Rattle.build.specs.declared.RowsBuilt.{RowsBuilt}
 use Rattle.table.specs.declared.CpuidResults.{CpuidResults}
 use Rattle.table.specs.declared.Refusal.{Refusal}
 use Rattle.table.specs.declared.Refusal.the-variants.{TopologyInconsistent}
@@ -33,7 +33,7 @@ use Rattle.checks.specs.SaveAreaLaws.{size-bytes}
 
 -- ---- a check with verdict u, of which the code found v, before those with verdict w
 
-module _ (n : ℕ) (m : Rows) (u w : Verdict) {v : Verdict} (e : v ≡ u) {q : Built} where
+module _ (n : ℕ) (m : Rows) (u w : Verdict) {v : Verdict} (e : v ≡ u) {q : RowsBuilt} where
   pub stage-refuses : {r : Refusal} → v ≡ Refused r → q ≡ refusedBuilt r → q ≡ builtBy n (andThen u w) m
   stage-refuses f g = g ∙ rw (← e, f)
 
@@ -47,11 +47,11 @@ module _ (t : CpuidResults) {v : Verdict} (e : v ≡ requiredVerdict (presentIn 
   unfolding requiredVerdict
   required-found = e
 
-  pub required-refuses : (n : ℕ) {q : Built} {r : Refusal} → v ≡ Refused r → q ≡ refusedBuilt r → q ≡ builtFrom n (rowsIn t)
+  pub required-refuses : (n : ℕ) {q : RowsBuilt} {r : Refusal} → v ≡ Refused r → q ≡ refusedBuilt r → q ≡ builtFrom n (rowsIn t)
   unfolding builtFrom rowsVerdict
   required-refuses n = stage-refuses n (rowsIn t) (requiredVerdict (rowsIn t)) (fromInvlpgb (rowsIn t)) required-found
 
-  pub required-passes : (n : ℕ) {q : Built} → v ≡ Accepted → q ≡ builtBy n (fromInvlpgb (rowsIn t)) (rowsIn t) → q ≡ builtFrom n (rowsIn t)
+  pub required-passes : (n : ℕ) {q : RowsBuilt} → v ≡ Accepted → q ≡ builtBy n (fromInvlpgb (rowsIn t)) (rowsIn t) → q ≡ builtFrom n (rowsIn t)
   unfolding builtFrom rowsVerdict
   required-passes n = stage-passes n (rowsIn t) (requiredVerdict (rowsIn t)) (fromInvlpgb (rowsIn t)) required-found
 
@@ -84,7 +84,7 @@ unfolding inputsOf
 topology-inputs m a b c d e f = f ∙ ap topologyOf (rw (a, b, c, d, e))
 
 module _ (m : Rows) {p : Topology} (e : p ≡ topologyOf (inputsOf m)) where
-  pub topology-refuses : (n : ℕ) {r : TopologyError} {q : Built} → p ≡ Inconsistent r → q ≡ refusedBuilt (TopologyInconsistent r)
+  pub topology-refuses : (n : ℕ) {r : TopologyError} {q : RowsBuilt} → p ≡ Inconsistent r → q ≡ refusedBuilt (TopologyInconsistent r)
       → q ≡ builtBy n (topologyVerdict m) m
   unfolding topologyVerdict
   topology-refuses n f g = g ∙ rw (← e, f)
@@ -93,6 +93,6 @@ module _ (m : Rows) {p : Topology} (e : p ≡ topologyOf (inputsOf m)) where
   topology-found f = rw (← e, f)
 
   pub topology-passes : (n : ℕ) {v : ℕ} {t : CpuidResults} → p ≡ Processors v → t ≡ tableOf (finished n m) (combinedMask m)
-      → _≡_ {A = Built} (record { verdict = Accepted; table = t }) (builtBy n (topologyVerdict m) m)
+      → _≡_ {A = RowsBuilt} (record { verdict = Accepted; table = t }) (builtBy n (topologyVerdict m) m)
   unfolding topologyVerdict
   topology-passes n f g = rw (← e, f, g)

@@ -6,6 +6,7 @@ use checks::process_extended_state_subleaves;
 use checks::validate_invlpgb;
 use checks::validate_required;
 use checks::xsave_size;
+use masking::PLACES;
 use masking::place;
 use reserved::Reserved;
 use reserved::reserved_bytes;
@@ -28,17 +29,24 @@ ghost use Rattle.checks.specs.ExtendedState.{xfem, saveArea};
 ghost use Rattle.checks.specs.Checks.{requiredVerdict, topologyVerdict};
 ghost use Rattle.build.specs.Built.{builtFrom};
 ghost use Rattle.build.specs.Build.{lawfulVerdict, answer};
-ghost use Rattle.build.specs.Stages.{refusedBuilt, builtBy, fromInvlpgb, fromComponents, fromArea};
+ghost use Rattle.build.specs.Stages.{refusedBuilt, notBuilt, locatedBuilt, builtBy, fromInvlpgb, fromComponents, fromArea};
 
-// What building gives: accepted with its table, or refused with an empty one.
-pub struct Built {
+// What the masked first entries are answered: accepted with their table, or refused with an empty one.
+pub struct RowsBuilt {
     pub verdict: Verdict,
     pub table: CpuidResults,
 }
 
+// What building gives: the same, and where each row came from (document 02, P11), as `origins` numbers it.
+pub struct Built {
+    pub verdict: Verdict,
+    pub table: CpuidResults,
+    pub origins: [u64; PLACES],
+}
+
 // The answer to the masked first entries of the 88 places, under an edition of the AVX rule: the checks of required leaves, and those below, one
 // function a check.
-pub fn build_rows(t: CpuidResults, edition: u32) -> Built
+pub fn build_rows(t: CpuidResults, edition: u32) -> RowsBuilt
     ensures { λ r. ⌜ r ≡ builtFrom edition (rowsIn t) ⌝ }
 {
     let present = t.present;
@@ -50,18 +58,18 @@ pub fn build_rows(t: CpuidResults, edition: u32) -> Built
 }
 
 // A refused answer holds an empty table.
-pub fn refused(r: Refusal) -> Built
+pub fn refused(r: Refusal) -> RowsBuilt
     ensures { λ q. ⌜ q ≡ refusedBuilt r ⌝ }
 {
     let table = empty_table();
-    Built {
+    RowsBuilt {
         verdict: Verdict::Refused(r),
         table,
     }
 }
 
 // The same for rows of which `validate_required` has refused none: from the check of INVLPGB on.
-pub fn from_invlpgb(t: CpuidResults, edition: u32) -> Built
+pub fn from_invlpgb(t: CpuidResults, edition: u32) -> RowsBuilt
     requires { ⌜ requiredVerdict (rowsIn t) ≡ Verdict.Accepted ⌝ }
     ensures { λ r. ⌜ r ≡ builtBy edition (fromInvlpgb (rowsIn t)) (rowsIn t) ⌝ }
 {
@@ -74,7 +82,7 @@ pub fn from_invlpgb(t: CpuidResults, edition: u32) -> Built
 }
 
 // From the check of D subleaves on.
-fn from_components(t: CpuidResults, edition: u32) -> Built
+fn from_components(t: CpuidResults, edition: u32) -> RowsBuilt
     requires { ⌜ requiredVerdict (rowsIn t) ≡ Verdict.Accepted ⌝ }
     ensures { λ r. ⌜ r ≡ builtBy edition (fromComponents (rowsIn t)) (rowsIn t) ⌝ }
 {
@@ -90,7 +98,7 @@ fn from_components(t: CpuidResults, edition: u32) -> Built
 }
 
 // From the size of the save area on, which is over XFEM alone.
-fn from_area(t: CpuidResults, edition: u32) -> Built
+fn from_area(t: CpuidResults, edition: u32) -> RowsBuilt
     requires { ⌜ requiredVerdict (rowsIn t) ≡ Verdict.Accepted ⌝ }
     ensures { λ r. ⌜ r ≡ builtBy edition (fromArea (rowsIn t)) (rowsIn t) ⌝ }
 {
@@ -104,7 +112,7 @@ fn from_area(t: CpuidResults, edition: u32) -> Built
 }
 
 // From the topology on, to the table.
-fn from_topology(t: CpuidResults, edition: u32, size: u32) -> Built
+fn from_topology(t: CpuidResults, edition: u32, size: u32) -> RowsBuilt
     requires { ⌜ (requiredVerdict (rowsIn t) ≡ Verdict.Accepted) × (size ≡ saveArea (rowsIn t) (xfem (rowsIn t))) ⌝ }
     ensures { λ r. ⌜ r ≡ builtBy edition (topologyVerdict (rowsIn t)) (rowsIn t) ⌝ }
 {
@@ -121,7 +129,7 @@ fn from_topology(t: CpuidResults, edition: u32, size: u32) -> Built
     match topology {
         Topology::Processors(processors) => {
             let table = update::finish(t, edition, size, processors);
-            Built {
+            RowsBuilt {
                 verdict: Verdict::Accepted,
                 table,
             }
@@ -153,17 +161,45 @@ pub fn build(pages: &[u8], choices: Choices) -> Built
     ensures { λ r. ⌜ r ≡ answer choices (now (pages .entry)) ⌝ }
 {
     if known_edition(choices.edition) {} else {
-        return refused(Refusal::UnknownEdition);
+        return not_built(Refusal::UnknownEdition);
     }
     let lawful = validate_pages(pages);
     if let Verdict::Refused(r) = lawful {
-        return refused(r);
+        return not_built(r);
     }
-    let t = collect::collect(pages, choices.secure_avic);
-    let present = t.present;
+    let collected = collect::collect(pages, choices.secure_avic);
+    let present = collected.table.present;
     let verdict = validate_required(present);
     if let Verdict::Refused(r) = verdict {
-        return refused(r);
+        return not_built(r);
     }
-    from_invlpgb(t, choices.edition)
+    let origins = collected.origins;
+    located(from_invlpgb(collected.table, choices.edition), origins)
+}
+
+// A refused answer: an empty table, and no origins.
+fn not_built(r: Refusal) -> Built
+    ensures { λ q. ⌜ q ≡ notBuilt r ⌝ }
+{
+    let table = empty_table();
+    Built {
+        verdict: Verdict::Refused(r),
+        table,
+        origins: [0; PLACES],
+    }
+}
+
+// An answer to rows, with the origins of its table from where the first entries stand.
+pub fn located(rows: RowsBuilt, found: [u64; PLACES]) -> Built
+    ensures { λ r. ⌜ r ≡ locatedBuilt rows found ⌝ }
+{
+    let verdict = rows.verdict;
+    let table = rows.table;
+    let present = table.present;
+    let origins = origins::finish_origins(present, found);
+    Built {
+        verdict,
+        table,
+        origins,
+    }
 }

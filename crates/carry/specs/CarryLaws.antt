@@ -7,6 +7,7 @@ use native.Mathlib.Omega.{arith}
 use lib.Dec.{eqb, lit<}
 use lib.ListN.{length, getD, set}
 use borrow.Author.Tests.{le-leb, lt-leb}
+use Rattle.bits.specs.InPlace.{UpTo, up-to-next}
 use Rattle.bits.specs.Choice.{pick}
 use Rattle.bits.specs.Bits.{has, maskOf, clear}
 use Rattle.bits.specs.Lists.{tabulate}
@@ -26,7 +27,6 @@ use Rattle.checks.specs.Parts.{resultsIn}
 use Rattle.guest_state.specs.State.{stateVerdict}
 use Rattle.guest_state.specs.StateLaws.{verdict-of-state}
 use Rattle.update.specs.Finish.{edition1, edition2}
-use Rattle.update.specs.DropLaws.{UpTo, up-to-next}
 use Rattle.table.specs.declared.Refusal.the-variants.{UnknownEdition, EditionBack}
 use Rattle.table.specs.declared.Verdict.the-variants.{Accepted, Refused}
 use Rattle.carry.specs.Carry.{ownRows, f16c, xopAndFma4, withoutBits, carriedAt, carriedTable, keeps, carryVerdict, refusedCarry, carry}

@@ -12,7 +12,7 @@ use Rattle.table.specs.Table.{emptyTable, rowIn, rowsIn}
 use Rattle.build.specs.Build.{answer}
 use Rattle.guest_state.specs.State.{stateVerdict}
 use Rattle.rise.specs.RiseProof.{answer-table}
-use Rattle.examples.specs.Evaluation.{first}
+use Rattle.page_sets.specs.Evaluation.{first}
 use Rattle.edition_examples.specs.WithoutYmm.{withoutYmm, first-accepted, second-figures}
 use Rattle.guest_examples.specs.Seen.{computed, built}
 use Rattle.table.specs.declared.Refusal.the-variants.{UnknownEdition, EditionBack}

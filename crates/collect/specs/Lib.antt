@@ -2,3 +2,4 @@ pub mod FirstEntries
 pub mod FirstEntriesLaws
 pub mod Collect
 pub mod RowsFit
+pub mod OriginsLaws

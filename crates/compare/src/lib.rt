@@ -61,11 +61,9 @@ pub fn compare(a: &[u8], b: &[u8], choices: Choices) -> Compared
         return Compared::UnlawfulB(refusal);
     }
     let table = built.table;
-    first_failing(
-        table,
-        collect::collect(a, choices.secure_avic),
-        collect::collect(b, choices.secure_avic),
-    )
+    let collected_a = collect::collect(a, choices.secure_avic);
+    let collected_b = collect::collect(b, choices.secure_avic);
+    first_failing(table, collected_a.table, collected_b.table)
 }
 
 // The first place at which B's masked first entry fails beside A's, among the places that A's table has.

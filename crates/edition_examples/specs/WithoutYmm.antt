@@ -15,8 +15,8 @@ use Rattle.build.specs.Build.{editionVerdict, underEdition, verdictOf, answer}
 use Rattle.rise.specs.Rise.{RiseTo, TableRises}
 use Rattle.rise.specs.RiseProof.{second-to-first-rises}
 use Rattle.rise.specs.Same.{rises-itself}
-use Rattle.examples.specs.Evaluation.{first, evaluated}
-use Rattle.examples.specs.PageSets.{entry, page, requiredEntries, stateEntries}
+use Rattle.page_sets.specs.Evaluation.{first, evaluated}
+use Rattle.page_sets.specs.PageSets.{entry, page, requiredEntries, stateEntries}
 
 abbrev pub second : Choices
 second = underEdition 2

@@ -55,6 +55,8 @@ pub record SecondEdition (chosen : Choices) (s : List ℕ) : Type 0 where
   pub verdict : answer (withEdition chosen 2) s .verdict ≡ answer (withEdition chosen 1) s .verdict
   pub table : answer (withEdition chosen 1) s .verdict ≡ Accepted
       → SecondTable (answer (withEdition chosen 1) s .table) (answer (withEdition chosen 2) s .table)
+  -- document 02, P11: after P8 the origin is "carried over unchanged"
+  pub origins : answer (withEdition chosen 2) s .origins ≡ answer (withEdition chosen 1) s .origins
 
 -- Edition 1 is document 01's rule: it clears nothing in 80000001h.ECX, whose masked first entry stands.
 abbrev pub FirstEdition : Type 0

@@ -7,23 +7,28 @@ use lib.Dec.{eqb, lit<}
 use Rattle.bits.specs.Choice.{pick}
 use Rattle.bits.specs.Bits.{has}
 use Rattle.bits.specs.Lists.{one}
-use Rattle.bits.specs.ListsLaws.{sum-ext}
+use Rattle.bits.specs.ListsLaws.{tabulate-ext, sum-ext}
 use Rattle.x86defs.specs.declared.CpuidResult.{CpuidResult}
+use Rattle.pages.specs.Entries.{counted}
 use Rattle.masking.specs.Kept.{places}
 use Rattle.masking.specs.Place
 use Rattle.table.specs.declared.Choices.{Choices}
 use Rattle.table.specs.declared.CpuidResults.{CpuidResults}
-use Rattle.table.specs.declared.Verdict.the-variants.{Accepted}
+use Rattle.table.specs.declared.Verdict.{Verdict}
+use Rattle.table.specs.declared.Verdict.the-variants.{Accepted, Refused}
 use Rattle.table.specs.Rows.{Row, Rows}
 use Rattle.table.specs.Table.{rowIn, countRows}
 use Rattle.table.specs.Edition.{knownEdition}
 use Rattle.checks.specs.ExtendedState.{xfem}
+use Rattle.origins.specs.Origin.{originOf, originNumber}
+use Rattle.collect.specs.FirstEntries.{standsAt}
 use Rattle.collect.specs.RowsFit.{rows-fit}
 use Rattle.update.specs.Finish.{ymmClears, enabledBy, settings, finished}
-use Rattle.build.specs.Build.{editionVerdict, rowsFor, verdictOf, answer}
+use Rattle.build.specs.Build.{editionVerdict, rowsFor, verdictOf, originsIn, answer, originAt}
 use Rattle.rise.specs.Rise.{withEdition}
 use Rattle.rise.specs.RiseProof.{answer-table, answer-row, answer-mask}
 use Rattle.rise.specs.BuiltLaws.{always-finished, result-at, built-xfem}
+use Rattle.located.specs.LocatedProof.{refused-has-none}
 use Rattle.editions.specs.Second.{f16c, xopAndFma4, clearEcx, secondRow, hasYmmState, SecondTable, SecondEdition, FirstEdition}
 use Rattle.editions.specs.SecondLaws.{extended-first, finished-second}
 
@@ -80,8 +85,22 @@ module _ (chosen : Choices) (s : List ℕ) where
       mask = answer-mask two-of s accepted ∙ sym (answer-mask one-of s e);
     }
 
+    -- the same rows are there, so each has the origin that it had
+    origins-at : (i : ℕ) → i < places → originAt two-of s i ≡ originAt one-of s i
+    origins-at i l =
+        ap (λ (b : Bool). originOf b i (standsAt i (counted s)))
+        (ap (λ (r : Row). r .present) (row-at i l) ∙ second-present (hasYmmState (answer one-of s .table)) i (rowIn (answer one-of s .table) i))
+
+    accepted-origins : answer two-of s .origins ≡ answer one-of s .origins
+    unfolding answer originsIn
+    accepted-origins = tabulate-ext places _ _ (λ i l. ap originNumber (origins-at i l))
+
+  origins : (v : Verdict) → answer one-of s .verdict ≡ v → answer two-of s .origins ≡ answer one-of s .origins
+  origins Accepted e = accepted-origins e
+  origins (Refused r) e = refused-has-none two-of s r (verdicts ∙ e) ∙ sym (refused-has-none one-of s r e)
+
   pub second-edition : SecondEdition chosen s
-  second-edition = record { verdict = verdicts; table = tables }
+  second-edition = record { verdict = verdicts; table = tables; origins = origins (answer one-of s .verdict) refl }
 
 pub first-edition : FirstEdition
 unfolding settings ymmClears

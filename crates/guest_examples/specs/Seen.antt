@@ -15,7 +15,7 @@ use Rattle.update.specs.Finish.{finished}
 use Rattle.build.specs.declared.Built.{Built}
 use Rattle.build.specs.Build.{rowsFor, answer}
 use Rattle.rise.specs.RiseProof.{answer-table}
-use Rattle.examples.specs.Evaluation.{evaluated}
+use Rattle.page_sets.specs.Evaluation.{evaluated}
 use Rattle.guest_state.specs.Compact.{startOf, placed, compactBelow}
 use Rattle.guest_state.specs.State.{saveRegister, compacts, compactRegister, allowed, allowedVerdict, compactVerdict, stateVerdict}
 use Rattle.guest.specs.declared.Processor.{Processor}

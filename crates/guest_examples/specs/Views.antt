@@ -5,7 +5,7 @@ use mathlib.Core.List.{[], _∷_}
 use Rattle.table.specs.declared.Refusal.the-variants.{SaveAreaOverflow, StateBeyondTable}
 use Rattle.table.specs.declared.Verdict.the-variants.{Accepted, Refused}
 use Rattle.table.specs.Table.{rowsIn}
-use Rattle.examples.specs.PageSets.{serverA, serverB, serverWithLargeD6}
+use Rattle.page_sets.specs.PageSets.{serverA, serverB, serverWithLargeD6}
 use Rattle.examples.specs.Computed.{serverA-accepted, serverB-rises, serverB-accepted, large-refused}
 use Rattle.guest_state.specs.State.{stateVerdict}
 use Rattle.guest.specs.declared.Processor.{Processor}
@@ -14,7 +14,7 @@ use Rattle.guest_pages.specs.GuestPages.{guestPages}
 use Rattle.guest_pages.specs.GuestPagesLaws.{building-first}
 use Rattle.guest_rise.specs.GuestRise.{GuestOutcome}
 use Rattle.guest_rise.specs.GuestRiseProof.{guest-rise}
-use Rattle.examples.specs.Evaluation.{first}
+use Rattle.page_sets.specs.Evaluation.{first}
 use Rattle.guest_examples.specs.Seen.{computed, processor, built, figures, seen-verdict, seen-figures}
 
 -- ---- server A, all of its state, OSXSAVE on: bit 27 of 1.ECX is set

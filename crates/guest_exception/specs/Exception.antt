@@ -10,13 +10,13 @@ use Rattle.table.specs.Table.{rowsIn}
 use Rattle.build.specs.Build.{lawfulVerdict, answer}
 use Rattle.rise.specs.Rise.{RiseHypothesis}
 use Rattle.rise.specs.Decide.{pagesTest, rises-by-test}
-use Rattle.examples.specs.PageSets.{entry, page, firstPage}
+use Rattle.page_sets.specs.PageSets.{entry, page, firstPage}
 use Rattle.guest_state.specs.State.{stateVerdict}
 use Rattle.guest.specs.Guest.{guestTable}
 use Rattle.guest_pages.specs.GuestPages.{guestPages}
 use Rattle.guest_rise.specs.GuestRise.{GuestOutcome}
 use Rattle.guest_rise.specs.GuestRiseProof.{guest-rise}
-use Rattle.examples.specs.Evaluation.{first}
+use Rattle.page_sets.specs.Evaluation.{first}
 use Rattle.guest_examples.specs.Seen.{computed, processor, built, figures, seen-verdict, seen-figures}
 use Rattle.guest_examples.specs.Views.{viewA}
 

@@ -26,10 +26,10 @@ module _ (b : Built) (v : Processor) where
       → guestOf b v ≡ answerFor (andThen w (stateVerdict (rowsIn (b .table)) (v .xcr0) (v .xss))) (b .table) v
   with-verdict e = ap (λ (w : Verdict). answerFor (andThen w (stateVerdict (rowsIn (b .table)) (v .xcr0) (v .xss))) (b .table) v) e
 
-  of-refused : {r : Refusal} → b .verdict ≡ Refused r → guestOf b v ≡ refusedAnswer r
+  pub of-refused : {r : Refusal} → b .verdict ≡ Refused r → guestOf b v ≡ refusedAnswer r
   of-refused e = with-verdict e
 
-  of-accepted : b .verdict ≡ Accepted → guestOf b v ≡ guestAnswer (b .table) v
+  pub of-accepted : b .verdict ≡ Accepted → guestOf b v ≡ guestAnswer (b .table) v
   unfolding guestAnswer
   of-accepted e = with-verdict e
 
@@ -57,18 +57,6 @@ module _ (chosen : Choices) (s : List ℕ) (v : Processor) where
   pub refused-guest : (r : Refusal) → guestPages chosen s v .verdict ≡ Refused r → guestPages chosen s v ≡ refusedAnswer r
   unfolding guestPages
   refused-guest r f = ap (λ (w : Verdict). answerFor w (answer chosen s .table) v) f
-
-  -- in the terms of the code's returns
-  module _ {b : Built} (e : b ≡ answer chosen s) where
-    same : guestOf b v ≡ guestPages chosen s v
-    unfolding guestPages
-    same = ap (λ (w : Built). guestOf w v) e
-
-    pub building-refuses : {r : Refusal} {q : GuestAnswer} → b .verdict ≡ Refused r → q ≡ refusedAnswer r → q ≡ guestPages chosen s v
-    building-refuses f g = g ∙ sym (of-refused b v f) ∙ same
-
-    pub building-passes : {q : GuestAnswer} → b .verdict ≡ Accepted → q ≡ guestAnswer (b .table) v → q ≡ guestPages chosen s v
-    building-passes f g = g ∙ sym (of-accepted b v f) ∙ same
 
 -- ---- a write
 

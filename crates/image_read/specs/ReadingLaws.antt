@@ -11,6 +11,7 @@ use lib.Bits.{bitOr}
 use lib.ListN.{length, getD, drop, set, replicate, length-drop}
 use lib.Seq.{drop-drop, set-getD}
 use borrow.Author.Tests.{eq-eqb, ne-eqb}
+use Rattle.bits.specs.InPlace.{UpTo, up-to-next}
 use Rattle.bits.specs.Lists.{sumTo, one}
 use Rattle.bits.specs.ListsLaws.{getD-tabulate, tabulated}
 use Rattle.x86defs.specs.declared.CpuidResult.{CpuidResult}
@@ -22,7 +23,6 @@ use Rattle.table.specs.Rows.{Row, row, vacant}
 use Rattle.table.specs.Table.{countRows, emptyTable, rowIn}
 use Rattle.checks.specs.ExtendedState.{xssOf, xfem, xss, combinedMask}
 use Rattle.update.specs.Stores.{table}
-use Rattle.update.specs.DropLaws.{UpTo, up-to-next}
 use Rattle.image_read.specs.ReadImage.{registersAt, begins, rowRead, afterRow, left, rowsRead, isImage, readImage}
 use Rattle.image_read.specs.Runs.{Found}
 use Rattle.image_read.specs.BeginsLaws.{registers-end, RowThere}

@@ -21,8 +21,8 @@ use Rattle.listed.specs.Listed.{In}
 use Rattle.listed.specs.ListedProof.{determined}
 use Rattle.listed.specs.Builds.{inputsFor}
 use Rattle.listed.specs.BuildsProof.{builds-listed}
-use Rattle.examples.specs.PageSets.{entry, page, requiredEntries, stateEntries}
-use Rattle.examples.specs.Evaluation.{first, evaluated}
+use Rattle.page_sets.specs.PageSets.{entry, page, requiredEntries, stateEntries}
+use Rattle.page_sets.specs.Evaluation.{first, evaluated}
 
 -- server A with entries of leaves 1, 80000008h and 8000001Eh before all others, in which the five inputs stand
 abbrev withInputs : Inputs → List ℕ

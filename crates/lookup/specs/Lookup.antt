@@ -1,11 +1,13 @@
 -- Document 01, "Image and lookup": lookup answers as `leaf_result_ref`, enforcing or not. A leaf without subleaves is found where the
 -- caller names no subleaf or does not enforce; a leaf with subleaves is found only under a subleaf that the table has.
 use mathlib.Core.Bool.{Bool, _||_}
+use mathlib.Core.List.{List}
 use Prim.Native.Nat.{ℕ}
+use lib.ListN.{getD}
 use Rattle.bits.specs.Choice.{pick}
 use Rattle.x86defs.specs.declared.CpuidFunction.{CpuidFunction}
 use Rattle.x86defs.specs.Functions.{sameFunction, VendorAndMaxFunction, ExtendedMaxFunction, ExtendedFeatures, ExtendedTopologyEnumeration, ExtendedStateEnumeration, CacheTopologyDefinition}
-use Rattle.masking.specs.Kept.{placeOf}
+use Rattle.masking.specs.Kept.{places, placeOf}
 use Rattle.masking.specs.Place
 use Rattle.table.specs.declared.CpuidResults.{CpuidResults}
 use Rattle.table.specs.declared.Subleaf.{Subleaf}
@@ -40,3 +42,14 @@ wholeResult t l (Some k) enforce = pick enforce Nothing (rowResult (rowIn t (pla
 
 unfoldable pub lookup : CpuidResults → CpuidFunction → Subleaf → Bool → LeafResult
 lookup t l sub enforce = pick (withSubleaves l) (indexedResult t l sub) (wholeResult t l sub enforce)
+
+-- ---- where the row came from: document 02, P11
+
+-- the place that is asked for; 88 where the question has no answer
+unfoldable pub placeAsked : CpuidFunction → Subleaf → Bool → ℕ
+placeAsked l None enforce = pick (withSubleaves l) places (placeWhole l)
+placeAsked l (Some k) enforce = pick (withSubleaves l) (placeOf l k) (pick enforce places (placeWhole l))
+
+-- the origin of the row that is found, by its number in a column of origins; 0 past the last place
+abbrev pub lookupOrigin : List ℕ → CpuidFunction → Subleaf → Bool → ℕ
+lookupOrigin origins l sub enforce = getD origins (placeAsked l sub enforce) 0

@@ -20,7 +20,7 @@ use Rattle.table.specs.declared.Subleaf.{Subleaf}
 use Rattle.table.specs.declared.Subleaf.the-variants.{None, Some}
 use Rattle.table.specs.Table.{rowIn, emptyTable}
 use Rattle.lookup.specs.declared.LeafResult.the-variants.{None as Nothing}
-use Rattle.lookup.specs.Lookup.{withSubleaves, placeWhole, rowResult, lookup}
+use Rattle.lookup.specs.Lookup.{withSubleaves, placeWhole, placeAsked, rowResult, lookup}
 
 -- ---- the leaves with subleaves, by the place of their subleaf 0
 
@@ -54,10 +54,6 @@ module _ (l : CpuidFunction) (p : ℕ) (at : p ≡ placeOf l 0) where
 
 -- ---- the place that is asked for
 
--- 88 where the question has no answer
-unfoldable pub placeAsked : CpuidFunction → Subleaf → Bool → ℕ
-placeAsked l None enforce = pick (withSubleaves l) places (placeWhole l)
-placeAsked l (Some k) enforce = pick (withSubleaves l) (placeOf l k) (pick enforce places (placeWhole l))
 
 -- past the last place there is no row, since a table has 88
 module _ (t : CpuidResults) (whole : length (t .present) ≤ places) where

@@ -2,8 +2,7 @@
 ghost use mathlib.Core.Path.{_≡_};
 ghost use Prim.Native.Nat.{_≤_};
 ghost use Rattle.masking.specs.Kept.{places};
-ghost use Rattle.lookup.specs.Lookup.{withSubleaves, placeWhole, lookup};
-ghost use Rattle.lookup.specs.LookupLaws.{placeAsked};
+ghost use Rattle.lookup.specs.Lookup.{withSubleaves, placeWhole, placeAsked, lookup, lookupOrigin};
 use masking::PLACES;
 use masking::place;
 use table::CpuidResults;
@@ -34,6 +33,22 @@ pub fn leaf_result(
         }
     }
     LeafResult::None
+}
+
+// Where the row that `leaf_result` finds came from, by its number in the table's column of origins; 0 where there is no such place.
+pub fn leaf_origin(
+    origins: [u64; PLACES],
+    leaf: CpuidFunction,
+    subleaf: Subleaf,
+    enforce_subleaf: bool,
+) -> u64
+    ensures { λ r. ⌜ r ≡ lookupOrigin origins leaf subleaf «enforce_subleaf» ⌝ }
+{
+    let i = place_asked(leaf, subleaf, enforce_subleaf);
+    if i < PLACES {
+        return origins[i];
+    }
+    0
 }
 
 // The place that is asked for, or 88 where the question has no answer.

@@ -14,6 +14,7 @@ use Rattle.bits.specs.ListsLaws.{length-tabulate, getD-tabulate, tabulated, sum
 use Rattle.x86defs.specs.declared.CpuidResult.{CpuidResult}
 use Rattle.masking.specs.Kept.{places, indexedAt}
 use Rattle.masking.specs.Place
+use Rattle.table.specs.TableLaws.{table-ext}
 use Rattle.table.specs.declared.CpuidResults.{CpuidResults}
 use Rattle.table.specs.Rows.{Row, Rows, row, vacant}
 use Rattle.table.specs.Table.{countRows, tableOf, rowIn, rowsIn}
@@ -31,21 +32,6 @@ use Rattle.read_back.specs.ReadBack.{ReadsBack, ImageReadsBack, BuiltRea
 use Rattle.read_back.specs.RowsBack.{rows-back, none-left}
 
 -- ---- tables with the same rows
-
-column-ext {ℓ} : {X : Type ℓ} (f : Row → X) {a b : Rows} → ((i : ℕ) → i < places → a i ≡ b i)
-    → tabulate places (λ i. f (a i)) ≡ tabulate places (λ i. f (b i))
-column-ext f {a} {b} e =
-    tabulated places (λ i. f (b i)) (tabulate places (λ i. f (a i))) (f vacant) (length-tabulate places _)
-    (λ i l. getD-tabulate places (λ j. f (a j)) i (f vacant) l ∙ ap f (e i l))
-
-table-ext : {a b : Rows} {x y : ℕ} → ((i : ℕ) → i < places → a i ≡ b i) → x ≡ y → tableOf a x ≡ tableOf b y
-unfolding countRows
-table-ext {a} {b} e q = λ k. record {
-  present = column-ext (λ (r : Row). r .present) e k;
-  results = column-ext (λ (r : Row). r .result) e k;
-  «row_count» = sum-ext (λ i. one (a i .present)) (λ i. one (b i .present)) places (λ i l. ap (λ (r : Row). one (r .present)) (e i l)) k;
-  «max_extended_state» = q k;
-}
 
 mask-ext : {a b : Rows} → ((i : ℕ) → i < places → a i ≡ b i) → combinedMask a ≡ combinedMask b
 unfolding combinedMask xfem xss

@@ -17,8 +17,8 @@ use Rattle.rise.specs.RiseProof.{accepted-lawful}
 use Rattle.compare.specs.declared.Compared.the-variants.{UnlawfulB}
 use Rattle.compare.specs.Compare.{compared}
 use Rattle.compare.specs.ReturnLaws.{unlawful-b}
-use Rattle.examples.specs.Evaluation.{first, evaluated}
-use Rattle.examples.specs.PageSets.{word, page, requiredEntries, stateEntries, serverA}
+use Rattle.page_sets.specs.Evaluation.{first, evaluated}
+use Rattle.page_sets.specs.PageSets.{word, page, requiredEntries, stateEntries, serverA}
 use Rattle.examples.specs.Computed.{serverA-accepted}
 
 -- an entry of zeros but for its leaf and the last of its reserved bytes

@@ -1,14 +1,11 @@
--- Two servers of which each rises to the other give the same answer: the same table, and with it the same image and lookups.
+-- Two servers of which each rises to the other give the same answer but origins: the same table, and with it the same image and lookups.
 use mathlib.Core.Path.{_≡_, refl, sym, ap, _∙_}
 use mathlib.Core.Bool.{Bool, true, false}
 use mathlib.Core.List.{List}
 use Prim.Native.Nat.{ℕ, _<_}
 use native.Mathlib.Omega.{arith}
-use lib.ListN.{getD}
 use Rattle.bits.specs.Choice.{pick}
 use Rattle.bits.specs.ChoiceLaws.{never-both}
-use Rattle.bits.specs.Lists.{tabulate, one}
-use Rattle.bits.specs.ListsLaws.{length-tabulate, tabulated, getD-tabulate, sum-ext}
 use Rattle.bits.specs.BitsLaws.{within-refl, within-antisym}
 use Rattle.x86defs.specs.declared.CpuidResult.{CpuidResult}
 use Rattle.masking.specs.Kept.{places}
@@ -21,13 +18,15 @@ use Rattle.update.specs.Kinds.{Kind, Kinds, EntryAtLeast, TableAtLeast, Registe
 use Rattle.update.specs.Kinds.Kind.{feature, featureBut28, area, freed, other}
 use Rattle.update.specs.RemainsLaws.{finished-entry}
 use Rattle.checks.specs.ChecksLaws.{then-left}
-use Rattle.table.specs.Table.{rowIn, countRows}
+use Rattle.table.specs.Table.{rowIn}
+use Rattle.table.specs.TableLaws.{table-ext}
+use Rattle.build.specs.Built.{SameButOrigins}
 use Rattle.build.specs.Build.{rowsFor, lawfulVerdict, verdictOf, answer}
 use Rattle.rise.specs.Rise.{RiseHypothesis, TableRises}
 use Rattle.rise.specs.RiseProof.{answer-table, answer-row, answer-mask, accepted-lawful, demand-3}
 
 abbrev pub SameFigures : Type 0
-SameFigures = (chosen : Choices) (a b : List ℕ) → RiseHypothesis chosen a b → RiseHypothesis chosen b a → answer chosen a ≡ answer chosen b
+SameFigures = (chosen : Choices) (a b : List ℕ) → RiseHypothesis chosen a b → RiseHypothesis chosen b a → SameButOrigins (answer chosen a) (answer chosen b)
 
 -- ---- every accepted server rises to itself
 
@@ -124,25 +123,8 @@ module _ (chosen : Choices) (a b : List ℕ) (rises : RiseHypothesis chosen a b)
   mask-same =
       sym (answer-mask chosen a (rises .accepted)) ∙ within-antisym (forth .mask) (return .mask) ∙ answer-mask chosen b (back .accepted)
 
-  column-same {ℓ} : {X : Type ℓ} (f : Row → X) → tabulate places (λ i. f (A i)) ≡ tabulate places (λ i. f (B i))
-  column-same f =
-      tabulated places (λ i. f (B i)) (tabulate places (λ i. f (A i))) (f vacant) (length-tabulate places _)
-      (λ i l. getD-tabulate places (λ j. f (A j)) i (f vacant) l ∙ ap f (row-same i l))
-
-  count-same : countRows A ≡ countRows B
-  unfolding countRows
-  count-same = sum-ext (λ i. one (A i .present)) (λ i. one (B i .present)) places (λ i l. ap (λ (r : Row). one (r .present)) (row-same i l))
-
   table-same : answer chosen a .table ≡ answer chosen b .table
-  table-same =
-      answer-table chosen a (rises .accepted)
-      ∙ (λ k. record {
-        present = column-same (λ (r : Row). r .present) k;
-        results = column-same (λ (r : Row). r .result) k;
-        «row_count» = count-same k;
-        «max_extended_state» = mask-same k;
-      })
-      ∙ sym (answer-table chosen b (back .accepted))
+  table-same = answer-table chosen a (rises .accepted) ∙ table-ext row-same mask-same ∙ sym (answer-table chosen b (back .accepted))
 
 pub same-figures : SameFigures
 same-figures chosen a b rises back = λ k. record {

@@ -12,6 +12,7 @@ use borrow.Author.Tests.{le-leb, eqb-true}
 use Rattle.bits.specs.Choice.{pick}
 use Rattle.bits.specs.ChoiceLaws.{pick-true, and-both, never-both}
 use Rattle.bits.specs.Lists.{tabulate, keepIf}
+use Rattle.bits.specs.ListsLaws.{keep-append}
 use Rattle.x86defs.specs.declared.CpuidFunction.{CpuidFunction}
 use Rattle.x86defs.specs.declared.CpuidResult.{CpuidResult}
 use Rattle.x86defs.specs.Functions.{function, result, sameFunction, ExtendedStateEnumeration}
@@ -64,16 +65,6 @@ fit-kept f (r ∷ rs) h = go (f r) (fit-kept f rs (h .1))
 map-append : {A B : Type 0} (f : A → B) (xs ys : List A) → map f (xs ++ ys) ≡ map f xs ++ map f ys
 map-append f [] ys = refl
 map-append f (x ∷ xs) ys = ap (f x ∷_) (map-append f xs ys)
-
-keep-append : {A : Type 0} (f : A → Bool) (xs ys : List A) → keepIf f (xs ++ ys) ≡ keepIf f xs ++ keepIf f ys
-unfolding keepIf
-keep-append f [] ys = refl
-keep-append f (x ∷ xs) ys = go (f x) (keep-append f xs ys)
-  where
-    go : (b : Bool) → keepIf f (xs ++ ys) ≡ keepIf f xs ++ keepIf f ys
-        → pick b (x ∷ keepIf f (xs ++ ys)) (keepIf f (xs ++ ys)) ≡ pick b (x ∷ keepIf f xs) (keepIf f xs) ++ keepIf f ys
-    go true e = ap (x ∷_) e
-    go false e = e
 
 -- ---- the entries of one page
 

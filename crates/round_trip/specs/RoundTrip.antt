@@ -5,6 +5,7 @@ use Prim.Native.Nat.{ℕ, _+_, _*_, _≤_}
 use lib.ListN.{length, take}
 use Rattle.table.specs.declared.Choices.{Choices}
 use Rattle.table.specs.declared.Verdict.the-variants.{Accepted}
+use Rattle.build.specs.Built.{SameButOrigins}
 use Rattle.build.specs.Build.{answer}
 use Rattle.buffer.specs.declared.Written.the-variants.{Bytes}
 use Rattle.buffer.specs.WritesExactly.{FrontExactly}
@@ -22,11 +23,11 @@ exported chosen s buffer = take (listLength chosen s) (writeList chosen s buffer
 abbrev pub imported : Choices → List ℕ → List ℕ → List ℕ → List ℕ
 imported chosen s buffer pages = take 8192 (readList (exported chosen s buffer) pages .buffer)
 
--- both succeed, and what is built of the pages is the same: verdict, rows, count and combined mask
+-- both succeed, and what is built of the pages is the same but origins, which are those of the pages last read: verdict, rows, count and combined mask
 pub record Returns (chosen : Choices) (s buffer pages : List ℕ) : Type 0 where
   pub written : writeList chosen s buffer .answer ≡ Bytes (listLength chosen s)
   pub read : readList (exported chosen s buffer) pages .answer ≡ Bytes 8192
-  pub same : answer chosen (imported chosen s buffer pages) ≡ answer chosen s
+  pub same : SameButOrigins (answer chosen (imported chosen s buffer pages)) (answer chosen s)
 
 abbrev pub RoundTrip : Type 0
 RoundTrip = (chosen : Choices) (s : List ℕ) → answer chosen s .verdict ≡ Accepted → (buffer pages : List ℕ) → listLength chosen s ≤ length buffer

@@ -20,11 +20,11 @@ use Rattle.table.specs.declared.Verdict.the-variants.{Accepted}
 use Rattle.table.specs.Rows.{Row, Rows, vacant}
 use Rattle.table.specs.Table.{tableOf, countRows, rowIn, rowsIn as tableRows}
 use Rattle.checks.specs.Checks.{rowsVerdict}
-use Rattle.checks.specs.ChecksLaws.{then-skips}
 use Rattle.update.specs.Finish.{finished}
 use Rattle.collect.specs.FirstEntries.{firstAt, maskRow, rowsOf}
-use Rattle.build.specs.Built.{tableFor, builtFrom}
-use Rattle.build.specs.Build.{editionVerdict, lawfulVerdict, rowsFor, verdictOf, answer}
+use Rattle.build.specs.Built.{builtFrom, withoutOrigins, SameButOrigins}
+use Rattle.build.specs.Build.{rowsFor, answer}
+use Rattle.build.specs.BuildLaws.{answer-of-rows}
 use Rattle.buffer.specs.declared.Written.the-variants.{Bytes}
 use Rattle.buffer.specs.Front.{AfterWrite, writeFront}
 use Rattle.buffer.specs.WritesExactly.{front-exactly}
@@ -45,14 +45,6 @@ use Rattle.round_trip.specs.PagesRead.{AllFit, pages-first}
 use Rattle.round_trip.specs.PagesLawful.{pages-lawful}
 use Rattle.round_trip.specs.TableRows.{fit-cut, first-in-table, masked-stands}
 use Rattle.round_trip.specs.RoundTrip.{listLength, exported, imported as importedOf, Returns, RoundTrip, ListWritesExactly}
-
--- ---- the answer, of lawful pages
-
-lawful-answer : (chosen : Choices) (s : List ℕ) → editionVerdict (chosen .edition) ≡ Accepted → lawfulVerdict s ≡ Accepted
-    → answer chosen s ≡ builtFrom (chosen .edition) (rowsFor chosen s)
-unfolding answer verdictOf builtFrom
-lawful-answer chosen s k l =
-    ap (λ (v : Verdict). record { verdict = v; table = tableFor (chosen .edition) v (rowsFor chosen s) }) (then-skips k ∙ then-skips l)
 
 -- ---- the pages of any table's list
 
@@ -119,13 +111,13 @@ list-writes-exactly chosen s buffer = record {
 
 -- ---- the theorem
 
-same-answer : (chosen : Choices) (s : List ℕ) → answer chosen s .verdict ≡ Accepted → answer chosen (imported (answer chosen s .table)) ≡ answer chosen s
+same-answer : (chosen : Choices) (s : List ℕ) → answer chosen s .verdict ≡ Accepted → SameButOrigins (answer chosen (imported (answer chosen s .table))) (answer chosen s)
 same-answer chosen s e =
     let t : CpuidResults = answer chosen s .table in
-    lawful-answer chosen (imported t) (accepted-edition chosen s e) (pages-lawful (rowsRead t) (fit t) (fit-0 t) (fit-1 t))
+    answer-of-rows chosen (imported t) (accepted-edition chosen s e) (pages-lawful (rowsRead t) (fit t) (fit-0 t) (fit-1 t))
     ∙ ap (builtFrom (chosen .edition)) (imported-rows t (chosen .«secure_avic») ∙ again-ext (chosen .«secure_avic») (tableRows t) (finished (chosen .edition) (rowsFor chosen s)) (answer-row chosen s e))
     ∙ built-again (chosen .edition) (chosen .«secure_avic») (rowsFor chosen s) (rows-masked (chosen .«secure_avic») s) (accepted-rows chosen s e)
-    ∙ sym (lawful-answer chosen s (accepted-edition chosen s e) (accepted-lawful chosen s e))
+    ∙ sym (answer-of-rows chosen s (accepted-edition chosen s e) (accepted-lawful chosen s e))
 
 pub round-trip : RoundTrip
 round-trip chosen s e buffer pages h k =
@@ -143,5 +135,5 @@ round-trip chosen s e buffer pages h k =
     record {
       written = w;
       read = ap (λ (o : AfterWrite). o .answer) r;
-      same = ap (answer chosen) g ∙ same-answer chosen s e;
+      same = ap (λ (u : List ℕ). withoutOrigins (answer chosen u)) g ∙ same-answer chosen s e;
     }

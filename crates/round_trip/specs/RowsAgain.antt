@@ -22,6 +22,7 @@ use Rattle.topology.specs.Topology.{Inputs, topologyOf, processors, threadLevel
 use Rattle.masking.specs.Masks.{extendedAddressSpaceSizes}
 use Rattle.masking.specs.Kept.{places, keptLeaves, slot, masksAt}
 use Rattle.masking.specs.Place
+use Rattle.table.specs.TableLaws.{table-ext}
 use Rattle.table.specs.declared.Refusal.the-variants.{InvlpgbUnavailable, SaveAreaOverflow}
 use Rattle.table.specs.declared.Verdict.{Verdict}
 use Rattle.table.specs.declared.Verdict.the-variants.{Accepted, Refused}
@@ -42,23 +43,6 @@ use Rattle.build.specs.Built.{tableFor, builtFrom}
 use Rattle.collect.specs.FirstEntries.{maskedAt, maskRow}
 use Rattle.round_trip.specs.Again.{readAgain, again, Masked}
 use Rattle.round_trip.specs.RuleAgain.{isSizes, sizes-bit-3, has-of-bit, finish-again, remains-again}
-
--- ---- tables with the same rows
-
-column-ext {ℓ} : {X : Type ℓ} (f : Row → X) {a b : Rows} → ((i : ℕ) → i < places → a i ≡ b i)
-    → tabulate places (λ i. f (a i)) ≡ tabulate places (λ i. f (b i))
-column-ext f {a} {b} e =
-    tabulated places (λ i. f (b i)) (tabulate places (λ i. f (a i))) (f vacant) (length-tabulate places _)
-    (λ i l. getD-tabulate places (λ j. f (a j)) i (f vacant) l ∙ ap f (e i l))
-
-table-ext : {a b : Rows} {x y : ℕ} → ((i : ℕ) → i < places → a i ≡ b i) → x ≡ y → tableOf a x ≡ tableOf b y
-unfolding countRows
-table-ext {a} {b} e q = λ k. record {
-  present = column-ext (λ (r : Row). r .present) e k;
-  results = column-ext (λ (r : Row). r .result) e k;
-  «row_count» = sum-ext (λ i. one (a i .present)) (λ i. one (b i .present)) places (λ i l. ap (λ (r : Row). one (r .present)) (e i l)) k;
-  «max_extended_state» = q k;
-}
 
 -- ---- a row, whatever the settings
 

@@ -4,21 +4,23 @@ use mathlib.Core.List.{List}
 use Prim.Native.Nat.{ℕ}
 use Rattle.table.specs.declared.Choices.{Choices}
 use Rattle.table.specs.declared.Subleaf.{Subleaf}
-use Rattle.lookup.specs.Lookup.{lookup}
-use Rattle.numbers.specs.Numbers.{numbersOf}
+use Rattle.lookup.specs.Lookup.{lookup, lookupOrigin}
+use Rattle.build.specs.Build.{answer}
 use Rattle.guest.specs.declared.Processor.{Processor}
 use Rattle.guest.specs.declared.GuestAnswer.{GuestAnswer}
 use Rattle.guest_pages.specs.GuestPages.{guestPages}
-use Rattle.snp_cpuid.specs.declared.SnpCpuidBuilt.{SnpCpuidBuilt}
-use Rattle.snp_cpuid.specs.declared.SnpCpuidFound.{SnpCpuidFound}
-use Rattle.snp_cpuid.specs.Exports.{builtWith, foundNumbers}
+use Rattle.answers.specs.declared.SnpCpuidBuilt.{SnpCpuidBuilt}
+use Rattle.answers.specs.declared.SnpCpuidFound.{SnpCpuidFound}
+use Rattle.answers.specs.Answers.{builtGiven, foundGiven}
 
 abbrev pub processorOf : ℕ → ℕ → ℕ → Bool → Processor
 processorOf n x s on = record { x2apic = n; xcr0 = x; xss = s; osxsave = on }
 
 abbrev pub guestNumbers : GuestAnswer → SnpCpuidBuilt
-guestNumbers g = builtWith (numbersOf (g .verdict)) (g .table .«row_count») (g .table .«max_extended_state»)
+guestNumbers g = builtGiven (g .verdict) (g .table .«row_count») (g .table .«max_extended_state»)
 
--- the lookup in the guest's table
+-- the lookup in the guest's table, with the origin of the paravisor's row
 abbrev pub guestFound : Choices → List ℕ → Processor → ℕ → Subleaf → Bool → SnpCpuidFound
-guestFound chosen s v leaf subleaf enforce = foundNumbers (lookup (guestPages chosen s v .table) (record { 0 = leaf }) subleaf enforce)
+guestFound chosen s v leaf subleaf enforce =
+    foundGiven (lookup (guestPages chosen s v .table) (record { 0 = leaf }) subleaf enforce)
+    (lookupOrigin (answer chosen s .origins) (record { 0 = leaf }) subleaf enforce)

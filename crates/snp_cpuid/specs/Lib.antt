@@ -1,4 +1,2 @@
 pub mod Exports
 pub mod GuestExports
-pub mod LineExports
-pub mod CarryExports

@@ -1,33 +1,9 @@
 // A running table carried from one edition of the AVX rule to another, for C and Rust: document 02, P8.
-use carry::CarriedImage;
+use answers::carried::SnpCpuidCarried;
+use answers::carried::carried_numbers;
 ghost use mathlib.Core.Path.{_≡_};
 ghost use Rattle.carry.specs.CarryImage.{carryImage};
-ghost use Rattle.snp_cpuid.specs.CarryExports.{carriedNumbers};
-
-#[repr(C)]
-pub struct SnpCpuidCarried {
-    pub is_image: u32,
-    pub number: u32,
-}
-
-// What carrying an image answers, as numbers.
-fn carried_numbers(answer: CarriedImage) -> SnpCpuidCarried
-    ensures { λ r. ⌜ r ≡ carriedNumbers answer ⌝ }
-{
-    match answer {
-        CarriedImage::NotAnImage => SnpCpuidCarried {
-            is_image: 0,
-            number: 0,
-        },
-        CarriedImage::Image(verdict) => {
-            let numbers = numbers::answer_numbers(verdict);
-            SnpCpuidCarried {
-                is_image: 1,
-                number: numbers.number as u32,
-            }
-        }
-    }
-}
+ghost use Rattle.answers.specs.CarriedAnswers.{carriedNumbers};
 
 // Carries the table whose image the bytes are, in place.
 #[no_mangle]

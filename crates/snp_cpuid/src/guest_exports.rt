@@ -1,16 +1,17 @@
 // What one processor's guest sees, for C and Rust: pages and the processor's numbers in, plain numbers or an image out.
-use super::SnpCpuidBuilt;
-use super::SnpCpuidFound;
-use super::SnpCpuidWritten;
-use super::choices;
-use super::found_numbers;
-use super::subleaf_of;
-use super::written_numbers;
+use answers::SnpCpuidBuilt;
+use answers::SnpCpuidFound;
+use answers::SnpCpuidWritten;
+use answers::built_numbers;
+use answers::choices;
+use answers::found_numbers;
+use answers::subleaf_of;
+use answers::written_numbers;
 use guest::Processor;
 use x86defs::CpuidFunction;
 ghost use mathlib.Core.Path.{_≡_};
 ghost use Rattle.guest_pages.specs.GuestPages.{guestPages, writeGuest};
-ghost use Rattle.snp_cpuid.specs.Exports.{choicesOf, writtenNumbers, subleafOf};
+ghost use Rattle.answers.specs.Answers.{choicesOf, writtenNumbers, subleafOf};
 ghost use Rattle.snp_cpuid.specs.GuestExports.{processorOf, guestNumbers, guestFound};
 
 // The processor that a caller describes.
@@ -41,20 +42,10 @@ pub extern "C" fn snp_cpuid_guest_build(
     let v = processor(x2apic, xcr0, xss, osxsave);
     let seen = guest_pages::guest_pages(pages, choices(secure_avic, edition), v);
     let verdict = seen.verdict;
-    let table = seen.table;
-    let numbers = numbers::answer_numbers(verdict);
-    SnpCpuidBuilt {
-        number: numbers.number as u32,
-        leaf: numbers.leaf,
-        has_subleaf: numbers.has_subleaf,
-        subleaf: numbers.subleaf,
-        s: numbers.s as u32,
-        row_count: table.row_count as u64,
-        max_extended_state: table.max_extended_state,
-    }
+    built_numbers(verdict, seen.table.row_count, seen.table.max_extended_state)
 }
 
-// Builds, and looks a row up in the guest's table as leaf_result_ref does in the paravisor's.
+// Builds, and looks a row up in the guest's table as leaf_result_ref does in the paravisor's, whose row's origin it has.
 #[no_mangle]
 pub extern "C" fn snp_cpuid_guest_lookup(
     pages: &[u8],
@@ -72,11 +63,14 @@ pub extern "C" fn snp_cpuid_guest_lookup(
     ensures { λ r. ⌜ r ≡ guestFound (choicesOf «secure_avic» edition) (now (pages .entry)) (processorOf x2apic xcr0 xss osxsave) leaf (subleafOf «has_subleaf» subleaf) «enforce_subleaf» ⌝ }
 {
     let v = processor(x2apic, xcr0, xss, osxsave);
-    let seen = guest_pages::guest_pages(pages, choices(secure_avic, edition), v);
+    let built = build::build(pages, choices(secure_avic, edition));
+    let origins = built.origins;
+    let seen = guest_pages::guest_of(built, v);
     let table = seen.table;
     let named = subleaf_of(has_subleaf, subleaf);
     let result = lookup::leaf_result(table, CpuidFunction(leaf), named, enforce_subleaf);
-    found_numbers(result)
+    let origin = lookup::leaf_origin(origins, CpuidFunction(leaf), named, enforce_subleaf);
+    found_numbers(result, origin)
 }
 
 // Builds, and writes the image of the guest's table at the front of `out`.

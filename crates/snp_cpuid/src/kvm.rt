@@ -1,11 +1,11 @@
 // Lists for and from KVM, for C and Rust: document 02, P2.
-use crate::SnpCpuidWritten;
-use crate::choices;
-use crate::written_numbers;
+use answers::SnpCpuidWritten;
+use answers::choices;
+use answers::written_numbers;
 ghost use mathlib.Core.Path.{_≡_};
 ghost use Rattle.kvm_import.specs.Import.{readList};
 ghost use Rattle.kvm_export.specs.Export.{writeList};
-ghost use Rattle.snp_cpuid.specs.Exports.{choicesOf, writtenNumbers};
+ghost use Rattle.answers.specs.Answers.{choicesOf, writtenNumbers};
 
 // Builds, and writes the table's struct kvm_cpuid2 at the front of `out`.
 #[no_mangle]

@@ -1,9 +1,9 @@
 // Every topology that building accepts up to size seven, for C and Rust: document 02, P14.
-use crate::SnpCpuidWritten;
-use crate::written_numbers;
+use answers::SnpCpuidWritten;
+use answers::written_numbers;
 ghost use mathlib.Core.Path.{_≡_};
 ghost use Rattle.topologies.specs.Topologies.{writeTopologies};
-ghost use Rattle.snp_cpuid.specs.Exports.{writtenNumbers};
+ghost use Rattle.answers.specs.Answers.{writtenNumbers};
 
 // Writes all accepted inputs at the front of `out`, five bytes each.
 #[no_mangle]

@@ -1,4 +1,4 @@
--- Demand 3 of what the exported functions return: snp_cpuid_build and snp_cpuid_lookup give `builtNumbers` and `foundNumbers` of the
+-- Demand 3 of what the exported functions return: snp_cpuid_build and snp_cpuid_lookup give `builtNumbers` and `foundIn` of the
 -- definition's answers (crates/snp_cpuid/src/lib.rt), and these rise from A to B. Left out is snp_cpuid_write_image: what it returns and
 -- writes is the image of the same table, by its contract and `each-write-exactly`.
 use mathlib.Core.Path.{_≡_, refl, sym, ap, _∙_, subst, subst₂}
@@ -32,10 +32,11 @@ use Rattle.table.specs.Rows.{Row, Rows}
 use Rattle.update.specs.Kinds.{TableAtLeast, Registers, kindsAt}
 use Rattle.table.specs.Table.{rowIn}
 use Rattle.build.specs.Built.{tableFor}
-use Rattle.build.specs.Build.{rowsFor, answer}
+use Rattle.build.specs.Build.{rowsFor, answer, originAt}
+use Rattle.lookup.specs.declared.LeafResult.{LeafResult}
 use Rattle.lookup.specs.declared.LeafResult.the-variants.{Some as Found, None as Nothing}
-use Rattle.lookup.specs.Lookup.{lookup, rowResult}
-use Rattle.lookup.specs.LookupLaws.{placeAsked, lookup-at}
+use Rattle.lookup.specs.Lookup.{placeAsked, rowResult, lookupOrigin}
+use Rattle.lookup.specs.LookupLaws.{lookup-at}
 use Rattle.refusals.specs.Conditions.{Lacking, ComponentFault, AreaFault}
 use Rattle.refusals.specs.ExactlyProof.{builds-exactly}
 use Rattle.rise.specs.Rise.{RiseHypothesis, Outcome, RiseConclusion, Further, TableRises}
@@ -47,16 +48,24 @@ use Rattle.compare.specs.Compare.{compared}
 use Rattle.compare.specs.Means.{Means, Decides}
 use Rattle.compare.specs.DecidesProof.{decides}
 use Rattle.numbers.specs.Numbers.{numbersOf}
-use Rattle.snp_cpuid.specs.declared.SnpCpuidBuilt.{SnpCpuidBuilt}
-use Rattle.snp_cpuid.specs.declared.SnpCpuidFound.{SnpCpuidFound}
-use Rattle.snp_cpuid.specs.Exports.{builtNumbers, foundNumbers, comparedNumbers}
+use Rattle.answers.specs.declared.SnpCpuidBuilt.{SnpCpuidBuilt}
+use Rattle.answers.specs.declared.SnpCpuidFound.{SnpCpuidFound}
+use Rattle.answers.specs.Answers.{builtNumbers, foundWith, foundGiven, comparedNumbers}
+use Rattle.snp_cpuid.specs.Exports.{foundIn}
+use Rattle.origins.specs.declared.OriginRead.{OriginRead}
+use Rattle.origins.specs.Origin.{originRead, originTold}
+use Rattle.located.specs.LocatedProof.{rows-have-origins}
 
 -- what snp_cpuid_build gives a page set, and snp_cpuid_lookup
 abbrev pub built : Choices → List ℕ → SnpCpuidBuilt
 built chosen s = builtNumbers (answer chosen s)
 
 abbrev pub found : Choices → List ℕ → CpuidFunction → Subleaf → Bool → SnpCpuidFound
-found chosen s leaf subleaf enforce = foundNumbers (lookup (answer chosen s .table) leaf subleaf enforce)
+found chosen s leaf subleaf enforce = foundIn (answer chosen s) (leaf .0) subleaf enforce
+
+-- a lookup's answer as numbers, with the origin at the place that is asked for
+abbrev from : Choices → List ℕ → CpuidFunction → Subleaf → Bool → LeafResult → SnpCpuidFound
+from chosen s leaf subleaf enforce x = foundGiven x (lookupOrigin (answer chosen s .origins) leaf subleaf enforce)
 
 abbrev pub registersOf : SnpCpuidFound → CpuidResult
 registersOf f = result (f .eax) (f .ebx) (f .ecx) (f .edx)
@@ -138,14 +147,13 @@ rise-answers chosen b (overflow n f e) = refused-5 n f (rw (builds-exactly chose
 rise-answers chosen b (accepted n f e) = accepted-0 n f (rw e)
 
 -- what is found is the row of the place that is asked for
-found-numbers : (r : Row) → r .present ≡ true
-    → foundNumbers (rowResult r) ≡ record { found = 1; eax = r .result .eax; ebx = r .result .ebx; ecx = r .result .ecx; edx = r .result .edx }
-found-numbers r e = ap foundNumbers (pick-true _ _ e)
+found-numbers : (n : ℕ) (r : Row) → r .present ≡ true → foundGiven (rowResult r) n ≡ foundWith (r .result) (originRead n)
+found-numbers n r e = ap (λ (x : LeafResult). foundGiven x n) (pick-true _ _ e)
 
-found-present : (r : Row) → foundNumbers (rowResult r) .found ≡ 1 → r .present ≡ true
-found-present r e = go (r .present) e
+found-present : (n : ℕ) (r : Row) → foundGiven (rowResult r) n .found ≡ 1 → r .present ≡ true
+found-present n r e = go (r .present) e
   where
-    go : (b : Bool) → foundNumbers (pick b (Found (r .result)) Nothing) .found ≡ 1 → b ≡ true
+    go : (b : Bool) → foundGiven (pick b (Found (r .result)) Nothing) n .found ≡ 1 → b ≡ true
     go true e = refl
     go false e = absurd (omega arith)
 
@@ -172,15 +180,15 @@ module _ (chosen : Choices) (a b : List ℕ) (rises : RiseHypothesis chosen a b)
       let i : ℕ = placeAsked leaf subleaf enforce in
       let ra : Row = rowIn (answer chosen a .table) i in
       let rb : Row = rowIn (answer chosen b .table) i in
-      let fa : foundNumbers (rowResult ra) ≡ found chosen a leaf subleaf enforce =
-      ap foundNumbers (lookup-at (answer chosen a .table) (table-whole chosen a) leaf subleaf enforce i refl) in
-      let fb : foundNumbers (rowResult rb) ≡ found chosen b leaf subleaf enforce =
-      ap foundNumbers (lookup-at (answer chosen b .table) (table-whole chosen b) leaf subleaf enforce i refl) in
-      let pa : ra .present ≡ true = found-present ra (ap (λ (f : SnpCpuidFound). f .found) fa ∙ e) in
+      let fa : from chosen a leaf subleaf enforce (rowResult ra) ≡ found chosen a leaf subleaf enforce =
+      ap (from chosen a leaf subleaf enforce) (lookup-at (answer chosen a .table) (table-whole chosen a) leaf subleaf enforce i refl) in
+      let fb : from chosen b leaf subleaf enforce (rowResult rb) ≡ found chosen b leaf subleaf enforce =
+      ap (from chosen b leaf subleaf enforce) (lookup-at (answer chosen b .table) (table-whole chosen b) leaf subleaf enforce i refl) in
+      let pa : ra .present ≡ true = found-present _ ra (ap (λ (f : SnpCpuidFound). f .found) fa ∙ e) in
       let l : i < places = present-inside chosen a i pa in
       let pb : rb .present ≡ true = t .rows i l pa in
-      let na = found-numbers ra pa in
-      let nb = found-numbers rb pb in (
+      let na = found-numbers _ ra pa in
+      let nb = found-numbers _ rb pb in (
         sym (ap (λ (f : SnpCpuidFound). f .found) fb) ∙ ap (λ (f : SnpCpuidFound). f .found) nb,
         subst₂ (λ (x y : SnpCpuidFound). Registers TableAtLeast (kindsAt i) (registersOf x) (registersOf y)) (sym na ∙ fa) (sym nb ∙ fb)
             (t .registers i l pa),
@@ -191,8 +199,8 @@ module _ (chosen : Choices) (a b : List ℕ) (rises : RiseHypothesis chosen a b)
       → rowIn (answer chosen s .table) (placeAsked leaf subleaf enforce) .present ≡ true → found chosen s leaf subleaf enforce .found ≡ 1
   found-there s leaf subleaf enforce p =
       let i : ℕ = placeAsked leaf subleaf enforce in
-      sym (ap (λ (f : SnpCpuidFound). f .found) (ap foundNumbers (lookup-at (answer chosen s .table) (table-whole chosen s) leaf subleaf enforce i refl)))
-      ∙ ap (λ (f : SnpCpuidFound). f .found) (found-numbers (rowIn (answer chosen s .table) i) p)
+      sym (ap (λ (f : SnpCpuidFound). f .found) (ap (from chosen s leaf subleaf enforce) (lookup-at (answer chosen s .table) (table-whole chosen s) leaf subleaf enforce i refl)))
+      ∙ ap (λ (f : SnpCpuidFound). f .found) (found-numbers _ (rowIn (answer chosen s .table) i) p)
 
   othersFound : TableRises (answer chosen a .table) (answer chosen b .table) → (leaf : CpuidFunction) (subleaf : Subleaf) (enforce : Bool)
       → found chosen b leaf subleaf enforce .found ≡ 1
@@ -200,9 +208,9 @@ module _ (chosen : Choices) (a b : List ℕ) (rises : RiseHypothesis chosen a b)
   othersFound t leaf subleaf enforce e =
       let i : ℕ = placeAsked leaf subleaf enforce in
       let rb : Row = rowIn (answer chosen b .table) i in
-      let fb : foundNumbers (rowResult rb) ≡ found chosen b leaf subleaf enforce =
-      ap foundNumbers (lookup-at (answer chosen b .table) (table-whole chosen b) leaf subleaf enforce i refl) in
-      let pb : rb .present ≡ true = found-present rb (ap (λ (f : SnpCpuidFound). f .found) fb ∙ e) in
+      let fb : from chosen b leaf subleaf enforce (rowResult rb) ≡ found chosen b leaf subleaf enforce =
+      ap (from chosen b leaf subleaf enforce) (lookup-at (answer chosen b .table) (table-whole chosen b) leaf subleaf enforce i refl) in
+      let pb : rb .present ≡ true = found-present _ rb (ap (λ (f : SnpCpuidFound). f .found) fb ∙ e) in
       elim (t .others i (present-inside chosen b i pb) pb) [
         | inl p ↦ inl (found-there a leaf subleaf enforce p)
         | inr f ↦ inr f
@@ -241,3 +249,22 @@ exports-compare chosen a b =
           (rises, exports-rise chosen a b rises);
       complete = λ h. ap (λ (c : Compared). comparedNumbers c .answer) (d .complete h);
     }
+
+-- ---- document 02, P11: with a row that is found, the exported functions tell where it came from
+
+abbrev pub originFound : SnpCpuidFound → OriginRead
+originFound f = record { origin = f .origin; page = f .page; position = f .entry }
+
+abbrev pub FoundOrigins : Type 0
+FoundOrigins = (chosen : Choices) (s : List ℕ) (leaf : CpuidFunction) (subleaf : Subleaf) (enforce : Bool) → answer chosen s .verdict ≡ Accepted
+    → found chosen s leaf subleaf enforce .found ≡ 1
+    → originFound (found chosen s leaf subleaf enforce) ≡ originTold (originAt chosen s (placeAsked leaf subleaf enforce))
+
+pub found-origins : FoundOrigins
+found-origins chosen s leaf subleaf enforce built-of e =
+    let i : ℕ = placeAsked leaf subleaf enforce in
+    let r : Row = rowIn (answer chosen s .table) i in
+    let f : from chosen s leaf subleaf enforce (rowResult r) ≡ found chosen s leaf subleaf enforce =
+    ap (from chosen s leaf subleaf enforce) (lookup-at (answer chosen s .table) (table-whole chosen s) leaf subleaf enforce i refl) in
+    let p : r .present ≡ true = found-present _ r (ap (λ (x : SnpCpuidFound). x .found) f ∙ e) in
+    ap originFound (sym f ∙ found-numbers _ r p) ∙ rows-have-origins chosen s built-of i (present-inside chosen s i p) .told

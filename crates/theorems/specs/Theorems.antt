@@ -36,7 +36,8 @@ use Rattle.pages.specs.Entries.{entries, counted}
 use Rattle.masking.specs.Kept.{places}
 use Rattle.masking.specs.Place
 use Rattle.pages.specs.Walk.{firstIndex, parsed, countsRead}
-use Rattle.build.specs.Build.{answer}
+use Rattle.build.specs.Built.{SameButOrigins}
+use Rattle.build.specs.Build.{answer, originAt}
 use Rattle.reader.specs.Read.{given}
 use Rattle.reader.specs.ReadLaws.{reader-gives, reader-gives-counted, reader-gives-clean}
 use Rattle.lookup.specs.declared.LeafResult.the-variants.{None as Nothing}
@@ -87,7 +88,7 @@ use Rattle.lines.specs.LinePromises as Lines
 use Rattle.lines.specs.LinePromises.{LineOf, lineDetails}
 use Rattle.lines.specs.ComputedLines as ComputedLines
 use Rattle.lines.specs.ComputedLines.{told, longest}
-use Rattle.theorems.specs.Exported.{ExportsRise, ExportsCompare, exports-rise, exports-compare}
+use Rattle.theorems.specs.Exported.{ExportsRise, ExportsCompare, FoundOrigins, exports-rise, exports-compare, found-origins}
 use Rattle.kvm_list.specs.Words.{bytesOfWords}
 use Rattle.kvm_list.specs.Format.{listBytes}
 use Rattle.kvm_import.specs.Import.{readList}
@@ -121,13 +122,18 @@ use Rattle.added.specs.AddedProof.{added-same, added-rises}
 use Rattle.added_examples.specs.Spare as Spare
 use Rattle.reserved.specs.Reserved.{clean, allClean}
 use Rattle.reserved_examples.specs.Unclean as Unclean
-use Rattle.examples.specs.KvmLists as KvmLists
-use Rattle.examples.specs.Evaluation.{first}
-use Rattle.examples.specs.PageSets.{serverA, serverB, serverWithoutD12, serverWithLargeD6}
+use Rattle.origins.specs.Origin.Origin.{madeHere, entry}
+use Rattle.collect.specs.FirstEntries.{standsAt}
+use Rattle.located.specs.Located.{ComesFrom, Origins}
+use Rattle.located.specs.LocatedProof.{rows-come-from, rows-have-origins, refused-has-none}
+use Rattle.located_examples.specs.Origins as Origin
+use Rattle.kvm_examples.specs.KvmLists as KvmLists
+use Rattle.page_sets.specs.Evaluation.{first}
+use Rattle.page_sets.specs.PageSets.{serverA, serverB, serverWithoutD12, serverWithLargeD6}
 use Rattle.examples.specs.Computed as Computed
-use Rattle.examples.specs.Compared as Pairs
-use Rattle.examples.specs.MarkedRows.{marked, marked-rows}
-use Rattle.examples.specs.MarkedRows.Shown.{core, refusal, area, supervisor}
+use Rattle.compared_examples.specs.Compared as Pairs
+use Rattle.marked_examples.specs.MarkedRows.{marked, marked-rows}
+use Rattle.marked_examples.specs.MarkedRows.Shown.{core, refusal, area, supervisor}
 
 -- ---- Demand 1. crates/refusals/specs/Conditions.antt has each condition by itself, Exactly.antt the two records.
 
@@ -159,8 +165,10 @@ rise-by-the-letter = demand-3-by-the-letter
 pub rise-of-exports : (chosen : Choices) (a b : List ℕ) → RiseHypothesis chosen a b → ExportsRise chosen a b
 rise-of-exports = exports-rise
 
--- two servers that rise to each other give one answer: the same table, so the same image and lookups. crates/rise/specs/Same.antt
-pub same-figures-both-ways : (chosen : Choices) (a b : List ℕ) → RiseHypothesis chosen a b → RiseHypothesis chosen b a → answer chosen a ≡ answer chosen b
+-- two servers that rise to each other give one answer but origins: the same table, so the same image and lookups. crates/rise/specs/Same.antt;
+-- `SameButOrigins` is in crates/build/specs/Built.antt
+pub same-figures-both-ways : (chosen : Choices) (a b : List ℕ) → RiseHypothesis chosen a b → RiseHypothesis chosen b a
+    → SameButOrigins (answer chosen a) (answer chosen b)
 same-figures-both-ways = same-figures
 
 -- and each accepted server rises to itself
@@ -411,7 +419,40 @@ unclean-unused = Unclean.unused-accepted
 pub unclean-before-missing : answer first Unclean.twoUnclean .verdict ≡ Refused (ReservedBytes (function 0xD))
 unclean-before-missing = Unclean.two-refused
 
--- ---- The fourteen marked rows of document 01, T1 to T10, X1 to X3 (two figures) and C1. crates/examples/specs/MarkedRows.antt.
+-- ---- P11, where a row came from. crates/origins/specs/Origin.antt has the three cases and their numbers, crates/build/specs/Build.antt `originAt`, the
+-- origin of a row of the table that an answer holds, crates/located/specs/Located.antt these statements. Sameness in demand 3 and P2 is `SameButOrigins`;
+-- P9's answers are the same with origins, and those of P7's two editions have the same origins, so that carrying (P8) leaves them.
+
+-- a row with an origin on a page: the entry there is the first counted one of its leaf and subleaf, and masking and finishing it gives the row
+pub each-row-comes-from-its-entry : (chosen : Choices) (s : List ℕ) → answer chosen s .verdict ≡ Accepted → (i p q : ℕ) → i < places
+    → originAt chosen s i ≡ entry p q → ComesFrom chosen s i p q
+each-row-comes-from-its-entry = rows-come-from
+
+-- 0, 80000000h, B.0 and B.1 are made here, a row that is not there has no origin, every other has an entry; and the numbers that an answer holds say it
+pub each-row-has-its-origin : (chosen : Choices) (s : List ℕ) → answer chosen s .verdict ≡ Accepted → (i : ℕ) → i < places → Origins chosen s i
+each-row-has-its-origin = rows-have-origins
+
+-- a refused table has none
+pub refused-has-no-origins : (chosen : Choices) (s : List ℕ) (r : Refusal) → answer chosen s .verdict ≡ Refused r
+    → answer chosen s .origins ≡ replicate places 0
+refused-has-no-origins = refused-has-none
+
+-- the same of what the exported lookup returns. crates/theorems/specs/Exported.antt
+pub exports-tell-origins : FoundOrigins
+exports-tell-origins = found-origins
+
+-- Not empty words: of two entries for leaf 1 the first is told; of two for D.0 that of page 1, counted from that page's beginning; B.0 is made here although
+-- it has an entry. crates/located_examples/specs/Origins.antt
+pub leaf-1-of-the-first : originAt first Origin.repeated Place.versionAndFeatures ≡ entry 0 1
+leaf-1-of-the-first = Origin.first-leaf-1
+
+pub d0-of-page-1 : originAt first Origin.repeated (Place.extendedState 0) ≡ entry 1 0
+d0-of-page-1 = Origin.d0-on-page-1
+
+pub b0-made-here : (standsAt Place.threadLevel (counted Origin.repeated) ≡ entry 0 4) × (originAt first Origin.repeated Place.threadLevel ≡ madeHere)
+b0-made-here = Origin.b0-made-here
+
+-- ---- The fourteen marked rows of document 01, T1 to T10, X1 to X3 (two figures) and C1. crates/marked_examples/specs/MarkedRows.antt.
 
 pub fourteen-rows : marked
     ≡ core 0 1
@@ -571,7 +612,7 @@ pub reader-in-order : (s : List ℕ) (n : ℕ) → length (entries s) ≤ n
     → (given s n (firstIndex s) ≡ map parsed (entries s)) × (keepIf countsRead (given s n (firstIndex s)) ≡ map parsed (counted s))
 reader-in-order s n l = (reader-gives s n l, reader-gives-counted s n l)
 
--- ---- Not empty words. crates/examples/specs/PageSets.antt has four page sets, byte by byte.
+-- ---- Not empty words. crates/page_sets/specs/PageSets.antt has four page sets, byte by byte.
 
 -- two whole pages
 pub a-whole-set : length serverA ≡ 8192

@@ -8,7 +8,7 @@ use lib.Bits.{bitOr}
 use lib.ListN.{set}
 use Rattle.bits.specs.Choice.{pick}
 use Rattle.bits.specs.Lists.{tabulate, one}
-use Rattle.bits.specs.ListsLaws.{length-tabulate, getD-tabulate, tabulated, sum-ext}
+use Rattle.bits.specs.ListsLaws.{getD-tabulate, tabulate-ext, sum-ext}
 use Rattle.x86defs.specs.declared.CpuidResult.{CpuidResult}
 use Rattle.topology.specs.Topology.{threadLevel, coreLevel}
 use Rattle.masking.specs.Kept.{places}
@@ -24,9 +24,6 @@ use Rattle.table.specs.Table.{countRows, tableOf, rowsIn}
 use Rattle.update.specs.PlaceLaws.{always, position, always-required}
 use Rattle.checks.specs.ChecksLaws.{required-present}
 use Rattle.update.specs.Stores.{enabledFrom, table, presentCount, droppedRow, dropped, droppedTable, Ready}
-
-tabulate-ext : {A : Type 0} (n : ℕ) (f g : ℕ → A) → ((i : ℕ) → i < n → f i ≡ g i) → tabulate n f ≡ tabulate n g
-tabulate-ext n f g h = tabulated n g (tabulate n f) (f 0) (length-tabulate n f) (λ i l. getD-tabulate n f i (f 0) l ∙ h i l)
 
 -- the stores, in the code's order
 abbrev pub markPresent : List Bool → List Bool

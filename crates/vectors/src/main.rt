@@ -1,4 +1,4 @@
-// Runs test vectors: commands come in on standard input, and a line of text goes out for each build, lookup and write.
+// Runs test vectors: commands come in on standard input, and a line of text goes out for each build, lookup, first entry and write.
 //
 // A command is 16 bytes: its kind, three flags (0 or 1: secure AVIC, a subleaf is given, the subleaf is enforced), and the
 // numbers a, b and edition of 4 bytes, the lowest first. The page set is all zeros at the start and changes by commands alone.
@@ -6,13 +6,15 @@
 //   d  b bytes follow, which go into the page set at a
 //   b  build
 //   l  look leaf a up, with subleaf b
+//   f  find the first entry of leaf a, with subleaf b
 //   w  write the image into a bytes that hold A5h
 // tests/make_vectors.py makes the commands, and the lines that are to come out.
+use answers::SnpCpuidBuilt;
+use answers::SnpCpuidFirst;
+use answers::SnpCpuidFound;
+use answers::SnpCpuidWritten;
 use libc::STDIN_FILENO;
 use libc::STDOUT_FILENO;
-use snp_cpuid::SnpCpuidBuilt;
-use snp_cpuid::SnpCpuidFound;
-use snp_cpuid::SnpCpuidWritten;
 
 const LONGEST_SET: usize = 65537;
 
@@ -140,6 +142,10 @@ fn answer(command: Command, set: &[u8], line: &mut [u8]) -> bool {
     match kind {
         b'b' => print_built(snp_cpuid::snp_cpuid_build(set, avic, edition), line),
         b'l' => print_found(look_up(command, set), line),
+        b'f' => print_first(
+            snp_cpuid::snp_cpuid_first_entry(set, command.a, command.b),
+            line,
+        ),
         b'w' => write(set, avic, edition, command.a as usize, line),
         _ => false,
     }
@@ -190,14 +196,30 @@ fn print_built(built: SnpCpuidBuilt, line: &mut [u8]) -> bool {
     print(line, at)
 }
 
-// l found EAX EBX ECX EDX
+// l found EAX EBX ECX EDX origin page entry
 fn print_found(found: SnpCpuidFound, line: &mut [u8]) -> bool {
     let mut at = put(line, 0, b'l');
     at = put_word(line, at, found.found);
-    at = put_word(line, at, found.eax);
-    at = put_word(line, at, found.ebx);
-    at = put_word(line, at, found.ecx);
-    at = put_word(line, at, found.edx);
+    at = put_registers(line, at, found.eax, found.ebx, found.ecx, found.edx);
+    at = put_word(line, at, found.origin);
+    at = put_place(line, at, found.page, found.entry);
+    print(line, at)
+}
+
+// f number leaf has_subleaf subleaf s found page entry
+fn print_first(first: SnpCpuidFirst, line: &mut [u8]) -> bool {
+    let start = put(line, 0, b'f');
+    let mut at = put_refusal(
+        line,
+        start,
+        first.number,
+        first.leaf,
+        first.has_subleaf,
+        first.subleaf,
+        first.s,
+    );
+    at = put_word(line, at, first.found);
+    at = put_place(line, at, first.page, first.entry);
     print(line, at)
 }
 
@@ -248,6 +270,20 @@ fn put_refusal(
     next = put_word(line, next, has_subleaf);
     next = put_word(line, next, subleaf);
     put_word(line, next, s)
+}
+
+// EAX to EDX.
+fn put_registers(line: &mut [u8], at: usize, eax: u32, ebx: u32, ecx: u32, edx: u32) -> usize {
+    let mut next = put_word(line, at, eax);
+    next = put_word(line, next, ebx);
+    next = put_word(line, next, ecx);
+    put_word(line, next, edx)
+}
+
+// A page, and an entry's position on it.
+fn put_place(line: &mut [u8], at: usize, page: u64, entry: u32) -> usize {
+    let next = put_long(line, at, page);
+    put_word(line, next, entry)
 }
 
 // Two digits for each byte.

@@ -1,7 +1,7 @@
 //! `compare`: pairs of page sets whose answer demand 3 and document 01 ("Feature registers of demand 3") give.
 
 use crate::features::{FEATURES, REGISTERS};
-use crate::page_sets::{epyc, rich, set, topology, unclean, with, without};
+use crate::page_sets::{epyc, page, position, rich, set, topology, unclean, with, without};
 use crate::run::{EPYC, Folder, Ran, run, run_on};
 use std::fs;
 
@@ -36,6 +36,11 @@ fn no(from: &str, to: &str, why: &str) -> String {
     format!("{from} to {to}  no: {why}, so nothing is promised.")
 }
 
+/// The first place where the hypothesis fails, of two sets that have their entries in the same places.
+fn fails_at(from: &str, to: &str, place: &str, register: &str, at: &str) -> String {
+    format!("the hypothesis fails first at leaf {place} {register}, in {from}'s {at} and {to}'s {at}")
+}
+
 const ACCEPTED: &str = "it is accepted here";
 const BOTH_WAYS: &str = "The tables are equal, as they must be where each server is at least the other.";
 
@@ -61,12 +66,14 @@ fn one_bit_fewer() {
     let (full, less) = (set(&epyc()), set(&with(0x1, 0, 2, |ecx| ecx & !(1 << 12))));
     let falls = compare(&folder, &full, &less, &[]);
     assert_eq!((falls.status, falls.err.as_str()), (1, ""));
-    let (here, first) = ("00000001    ECX  FMA (bit 12): A has it, B has not", "the hypothesis fails first at leaf 00000001 ECX");
-    assert_eq!(parts(&falls), ("A is at least B.".into(), texts(&[here]), no("A", "B", first), yes("B", "A", ACCEPTED)));
+    let at = position(&full, 1, 0);
+    let (entries, here) = (format!("00000001    A {at}, B {at}"), "00000001    ECX  FMA (bit 12): A has it, B has not");
+    let first = |from, to| fails_at(from, to, "00000001", "ECX", &at);
+    assert_eq!(parts(&falls), ("A is at least B.".into(), texts(&[&entries, here]), no("A", "B", &first("A", "B")), yes("B", "A", ACCEPTED)));
     let rises = compare(&folder, &less, &full, &[]);
     assert_eq!((rises.status, rises.err.as_str()), (0, ""));
     let here = "00000001    ECX  FMA (bit 12): B has it, A has not";
-    assert_eq!(parts(&rises), ("B is at least A.".into(), texts(&[here]), yes("A", "B", ACCEPTED), no("B", "A", first)));
+    assert_eq!(parts(&rises), ("B is at least A.".into(), texts(&[&entries, here]), yes("A", "B", ACCEPTED), no("B", "A", &first("B", "A"))));
 }
 
 /// Every feature bit that a server may lack: fewer in a register of demand 3 is "A is at least B", and the bit is named.
@@ -86,8 +93,16 @@ fn every_feature_bit_by_name() {
             let place = f.subleaf.map_or(format!("{:08X}", f.leaf), |k| format!("{:08X}.{k:X}", f.leaf));
             let line = format!("{place:12}{}  {name} (bit {bit}): A has it, B has not", REGISTERS[f.register]);
             assert!(lines.contains(&line), "{line}: {lines:?}");
-            // with it go the features that hang on it: IBRS and STIBP on IBPB, RDTSCP and RDPID on the TSC_AUX bit
-            assert_eq!(lines.len(), if ["IBPB", "TscAuxVirtualization"].contains(name) { 3 } else { 1 }, "{lines:?}");
+            // with it go the features that hang on it: IBRS and STIBP on IBPB, in the same row, RDTSCP and RDPID on the TSC_AUX bit, in two others; a
+            // row that differs has one line more, its entries
+            let differ = match *name {
+                "IBPB" => 3 + 1,
+                "TscAuxVirtualization" => 3 + 3,
+                _ => 1 + 1,
+            };
+            assert_eq!(lines.len(), differ, "{lines:?}");
+            let at = position(&set(&rich()), f.leaf, f.subleaf.unwrap_or(0));
+            assert!(lines.contains(&format!("{place:12}A {at}, B {at}")), "{lines:?}");
             tried += 1;
         }
     }
@@ -113,16 +128,19 @@ fn bits_of_states() {
         "0000000D.0  EAX  ZMM_Hi256 (bit 6): B has it, A has not",
         "0000000D.0  EAX  Hi16_ZMM (bit 7): B has it, A has not",
         "0000000D.0  ECX  A 00000340, B 00000980",
-        "0000000D.5  a row of B alone",
-        "0000000D.6  a row of B alone",
-        "0000000D.7  a row of B alone",
+        // page 1 has D.0, D.1, D.2, D.5 and so on
+        "0000000D.0  A page 1 entry 0, B page 1 entry 0",
+        "0000000D.5  a row of B alone, page 1 entry 3",
+        "0000000D.6  a row of B alone, page 1 entry 4",
+        "0000000D.7  a row of B alone, page 1 entry 5",
         "combined mask    A 00001807, B 000018E7",
     ] {
         assert!(lines.contains(&line.to_string()), "{line}: {lines:?}");
     }
     // document 01: 7.0.EBX D0230000h, 7.0.ECX 5842h, 7.0.EDX 800100h
     let cleared = [0xD023_0000u32, 0x5842, 0x80_0100].map(u32::count_ones).iter().sum::<u32>() as usize;
-    assert_eq!(lines.len(), cleared + 8);
+    // and the entries of 7.0 and D.0
+    assert_eq!(lines.len(), cleared + 8 + 2);
 }
 
 /// Every register that is no feature register must be equal; D.0.ECX and the rows of leaf Bh are free.
@@ -137,10 +155,11 @@ fn other_registers_by_value() {
         (0x8000_001D, 3, 2, "8000001D.3  ECX  A 00007FFF, B 00007FFE"),
     ] {
         let ran = compare(&folder, &set(&epyc()), &set(&with(leaf, subleaf, register, |value| value ^ 1)), &[]);
-        let first = format!("the hypothesis fails first at leaf {} {}", line.split(' ').next().unwrap(), REGISTERS[register]);
+        let (place, at) = (line.split(' ').next().unwrap(), position(&set(&epyc()), leaf, subleaf));
+        let first = |from, to| no(from, to, &fails_at(from, to, place, REGISTERS[register], &at));
         let verdict = "Neither is at least the other by its entries.".to_string();
         assert_eq!((ran.status, ran.err.as_str()), (1, ""));
-        assert_eq!(parts(&ran), (verdict, texts(&[line]), no("A", "B", &first), no("B", "A", &first)));
+        assert_eq!(parts(&ran), (verdict, texts(&[&format!("{place:12}A {at}, B {at}"), line]), first("A", "B"), first("B", "A")));
     }
     for (leaf, subleaf, register) in [(0xB, 0, 0), (0xB, 1, 3), (0xD, 0, 2)] {
         let ran = compare(&folder, &set(&epyc()), &set(&with(leaf, subleaf, register, |value| value ^ 1)), &[]);
@@ -160,9 +179,10 @@ fn hyperthreading_must_be_equal() {
     let ran = compare(&folder, &sets[0], &sets[1], &[]);
     let (verdict, lines, there, back) = parts(&ran);
     assert_eq!((ran.status, verdict.as_str()), (1, "Neither is at least the other by its entries."));
-    assert_eq!(lines, ["00000001    EDX  HTT (bit 28): A has it, B has not"]);
-    let first = "the hypothesis fails first at leaf 00000001 EDX";
-    assert_eq!((there, back), (no("A", "B", first), no("B", "A", first)));
+    let at = position(&sets[0], 1, 0);
+    assert_eq!(lines, [&format!("00000001    A {at}, B {at}"), "00000001    EDX  HTT (bit 28): A has it, B has not"]);
+    let first = |from, to| no(from, to, &fails_at(from, to, "00000001", "EDX", &at));
+    assert_eq!((there, back), (first("A", "B"), first("B", "A")));
 }
 
 #[test]
@@ -171,13 +191,15 @@ fn secure_avic_is_compared_where_it_is_kept() {
     let mut less = rich();
     less.get_mut(&(0x8000_001F, 0)).unwrap()[0] &= !(1 << 26);
     assert_eq!(parts(&compare(&folder, &set(&rich()), &set(&less), &[])).0, BOTH_WAYS);
-    let first = "the hypothesis fails first at leaf 8000001F EAX";
+    let at = position(&set(&rich()), 0x8000_001F, 0);
+    let first = |from, to| no(from, to, &fails_at(from, to, "8000001F", "EAX", &at));
+    let entries = format!("8000001F    A {at}, B {at}");
     let falls = parts(&compare(&folder, &set(&rich()), &set(&less), &["--secure-avic"]));
     let line = "8000001F    EAX  SecureAvic (bit 26): A has it, B has not";
-    assert_eq!(falls, ("A is at least B.".into(), texts(&[line]), no("A", "B", first), yes("B", "A", ACCEPTED)));
+    assert_eq!(falls, ("A is at least B.".into(), texts(&[&entries, line]), first("A", "B"), yes("B", "A", ACCEPTED)));
     let rises = parts(&compare(&folder, &set(&less), &set(&rich()), &["--secure-avic"]));
     let line = "8000001F    EAX  SecureAvic (bit 26): B has it, A has not";
-    assert_eq!(rises, ("B is at least A.".into(), texts(&[line]), yes("A", "B", ACCEPTED), no("B", "A", first)));
+    assert_eq!(rises, ("B is at least A.".into(), texts(&[&entries, line]), yes("A", "B", ACCEPTED), first("B", "A")));
 }
 
 /// Tables that agree where the entries do not: AVX512F without its states is cleared. Equal tables are status 0, and nothing is promised.
@@ -186,9 +208,35 @@ fn equal_tables_of_different_entries() {
     let folder = Folder::new("compare_entries");
     let more = set(&with(0x7, 0, 1, |ebx| ebx | 1 << 16));
     let ran = compare(&folder, &more, &set(&epyc()), &[]);
-    let first = "the hypothesis fails first at leaf 00000007.0 EBX, in the entries, which the tables do not show";
+    let first = fails_at("A", "B", "00000007.0", "EBX", &position(&more, 7, 0)) + ", which the tables do not show";
     assert_eq!(ran.status, 0);
-    assert_eq!(parts(&ran), ("The tables are equal.".into(), vec![], no("A", "B", first), yes("B", "A", ACCEPTED)));
+    assert_eq!(parts(&ran), ("The tables are equal.".into(), vec![], no("A", "B", &first), yes("B", "A", ACCEPTED)));
+}
+
+/// Document 02, P11: the two entries are named by their own places, and it is the first of B's that counts. Rows that are made here have none.
+#[test]
+fn entries_in_other_places() {
+    let folder = Folder::new("compare_places");
+    let (one, two) = (epyc(), with(0x5, 0, 0, |eax| eax + 1));
+    let (state, others): (Vec<_>, Vec<_>) = two.iter().partition(|((leaf, _), _)| *leaf == 0xD);
+    let (state_count, fifth) = (state.len(), [(&(0x5, 7), &two[&(0x5, 0)])]);
+    // an empty page, then leaf Dh and an entry of leaf 5 on page 1, the others in falling order on page 2
+    let moved = [page([]), page(state.into_iter().chain(fifth)), page(others.into_iter().rev())].concat();
+    let ran = compare(&folder, &set(&one), &moved, &[]);
+    let entries = format!("A {}, B page 1 entry {state_count}", position(&set(&one), 5, 0));
+    let (_, lines, there, back) = parts(&ran);
+    assert_eq!(lines, [&format!("00000005    {entries}"), "00000005    EAX  A 00000040, B 00000041"]);
+    let first = "the hypothesis fails first at leaf 00000005 EAX, in ";
+    let (a, b) = (format!("A's {}", position(&set(&one), 5, 0)), format!("B's page 1 entry {state_count}"));
+    assert_eq!((there, back), (no("A", "B", &format!("{first}{a} and {b}")), no("B", "A", &format!("{first}{b} and {a}"))));
+
+    let three = |t| {
+        let mut entries = epyc();
+        topology(&mut entries, 7, 127, 128, 1, t);
+        set(&entries)
+    };
+    let (_, lines, ..) = parts(&compare(&folder, &three(0), &three(1), &[]));
+    assert_eq!(lines[..3], ["0000000B.0  made here", "0000000B.0  EAX  A 00000000, B 00000001", "0000000B.0  EBX  A 00000001, B 00000002"]);
 }
 
 /// Where the hypothesis holds B may be refused by 3 or 5 alone; elsewhere, and for A, by any.
@@ -214,18 +262,21 @@ fn refused_sets_are_status_1_with_the_refusal() {
         (vec![], "{to}'s length or counts are not lawful, refusal 1"),
         (counted, "{to}'s length or counts are not lawful, refusal 2"),
         (unclean(&without(0x5, 0), 1, 0, 3), "{to}'s entry for leaf 0000000D has a reserved byte that is not zero, refusal 17"),
-        (set(&without(0x5, 0)), "{to} has no entry for leaf 00000005"),
-        (set(&without(0x8000_001D, 2)), "{to} has no entry for leaf 8000001D.2"),
-        (set(&with(0x8000_0008, 0, 1, |ebx| ebx & !8)), "the hypothesis fails first at leaf 80000008 EBX"),
+        (set(&without(0x5, 0)), "{to} has no entry for leaf 00000005, which {from} has at {5}"),
+        (set(&without(0x8000_001D, 2)), "{to} has no entry for leaf 8000001D.2, which {from} has at {1D}"),
+        (set(&with(0x8000_0008, 0, 1, |ebx| ebx & !8)), "the hypothesis fails first at leaf 80000008 EBX, in {from}'s {8} and {to}'s {8}"),
     ] {
+        let places = [("{5}", 0x5, 0), ("{1D}", 0x8000_001D, 2), ("{8}", 0x8000_0008, 0)];
+        let at = |text: &str, (name, leaf, subleaf): (&str, u32, u32)| text.replace(name, &position(&set(&epyc()), leaf, subleaf));
+        let why = places.into_iter().fold(why.to_string(), |text, place| at(&text, place));
         let ran = compare(&folder, &set(&epyc()), &b, &[]);
         assert_eq!((ran.status, parts(&ran).0.as_str()), (1, "B is refused."));
-        assert_eq!(parts(&ran).2, no("A", "B", &why.replace("{to}", "B")));
+        assert_eq!(parts(&ran).2, no("A", "B", &why.replace("{from}", "A").replace("{to}", "B")));
         // the other way round A is refused, and its line comes
         let turned = compare(&folder, &b, &set(&epyc()), &[]);
         assert_eq!((turned.status, parts(&turned).0.as_str()), (1, "A is refused."));
         assert!(turned.err.starts_with(&format!("snp-cpuid: {}: refusal ", folder.path("a"))) && turned.err.lines().count() == 1);
-        assert_eq!(parts(&turned).3, no("B", "A", &why.replace("{to}", "A")));
+        assert_eq!(parts(&turned).3, no("B", "A", &why.replace("{from}", "B").replace("{to}", "A")));
     }
     let both = compare(&folder, &[], &[], &[]);
     assert_eq!((both.status, parts(&both).0.as_str(), both.err.lines().count()), (1, "A and B are refused.", 1));

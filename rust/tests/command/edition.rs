@@ -110,7 +110,7 @@ fn compare_says_under_which() {
         assert!(ran.text().starts_with(&format!("A  {a}\nB  {b}\nunder edition {edition} of the AVX rule\n\n{verdict}\n")), "{}", ran.text());
     }
     assert!(compared("1").text().contains("00000001    ECX  F16C (bit 29): A has it, B has not\n"));
-    let entries = "at leaf 00000001 ECX, in the entries, which the tables do not show";
+    let entries = "at leaf 00000001 ECX, in A's page 0 entry 0 and B's page 0 entry 0, which the tables do not show";
     assert!(compared("2").text().replace("\n        ", " ").contains(entries));
     let unknown = compared("3");
     assert!(unknown.text().contains("\nunder edition 3 of the AVX rule\n\nA and B are refused.\n\n"), "{}", unknown.text());

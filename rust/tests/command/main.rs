@@ -11,6 +11,7 @@ mod guest;
 mod kvm;
 mod lookup;
 mod names;
+mod origins;
 mod page_sets;
 mod refusals;
 mod run;

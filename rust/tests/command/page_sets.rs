@@ -42,6 +42,16 @@ pub fn set(entries: &Entries) -> Vec<u8> {
     [page(others), page(state)].concat()
 }
 
+/// Where the first entry of a leaf and subleaf stands in a set, in the command's words.
+pub fn position(pages: &[u8], leaf: u32, subleaf: u32) -> String {
+    let first = pages.chunks(PAGE_BYTES).enumerate().find_map(|(page, bytes)| {
+        let at = |entry: &u32| 16 + 48 * *entry as usize;
+        let entry = (0..number(bytes, 0)).find(|entry| (number(bytes, at(entry)), number(bytes, at(entry) + 4)) == (leaf, subleaf))?;
+        Some(format!("page {page} entry {entry}"))
+    });
+    first.expect("the set has this entry")
+}
+
 /// The shipped entries with one register changed; 0 is EAX.
 pub fn with(leaf: u32, subleaf: u32, register: usize, change: impl Fn(u32) -> u32) -> Entries {
     let mut entries = epyc();

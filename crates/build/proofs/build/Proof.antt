@@ -1,20 +1,20 @@
 -- `build::build` meets its contract: one return a case of the answer.
-use mathlib.Core.Path.{sym, _∙_}
+use mathlib.Core.Path.{refl, sym, _∙_}
 use Rattle.build.specs.StageLaws.{required-found, required-refuses, required-passes}
 use Rattle.build.specs.LawfulLaws.{lawful-counts, lawful-clean}
-use Rattle.build.specs.BuildLaws.{answer-unknown, answer-unlawful, answer-collected}
+use Rattle.build.specs.BuildLaws.{answer-unknown, answer-unlawful, answer-refused, answer-collected}
 use borrow.Author.Needs.{needs}
 use Rattle.build.proofs.build.Statement.{statement}
 use Rattle.build.proofs.build.Tie as tie
 
 returns : tie.Need-returns
-returns c = c .refused .ensures ∙ answer-unknown _ _ (sym (c .before .before .known-edition .ensures) ∙ c .before .if1 .left)
+returns c = answer-unknown _ _ (sym (c .before .before .known-edition .ensures) ∙ c .before .if1 .left) (c .not-built .ensures)
 
 returns-2 : tie.Need-returns-2
 returns-2 c =
     let v = c .before .before in let l = v .before .before in let known = l .before in
     answer-unlawful _ _ (sym (known .before .known-edition .ensures) ∙ known .if1 .taken) (l .validate-pages .ensures) (v .lawful .given .1)
-    (c .refused2 .ensures)
+    (c .not-built2 .ensures)
 
 collect-requires : tie.Need-collect-requires
 collect-requires c κs =
@@ -25,22 +25,23 @@ returns-3 : tie.Need-returns-3
 returns-3 c =
     let v = c .before .before in let s = v .before .before in let k = s .before .before in
     let e = k .before in let l = e .before .before in let known = l .before in
-    answer-collected _ _ (sym (known .before .known-edition .ensures) ∙ known .if1 .taken) (l .validate-pages .ensures) (e .enum-told .given .1)
-    (k .collect .ensures)
-    (required-refuses (k .collect .result) (s .validate-required .ensures) _ (v .verdict .given .1) (c .refused3 .ensures))
+    answer-refused _ _ (sym (known .before .known-edition .ensures) ∙ known .if1 .taken) (l .validate-pages .ensures) (e .enum-told .given .1)
+    (k .collect .ensures .0) refl
+    (required-refuses (k .collect .result .table) (s .validate-required .ensures) _ (v .verdict .given .1) refl) (c .not-built3 .ensures)
 
 from-invlpgb-requires : tie.Need-from-invlpgb-requires
 from-invlpgb-requires c κs =
-    let s = c .before .before in
-    sym (required-found (s .before .before .collect .result) (s .validate-required .ensures)) ∙ c .enum-told2 .given .1
+    let v = c .before in let s = v .before .before in
+    sym (required-found (s .before .before .collect .result .table) (s .validate-required .ensures)) ∙ v .enum-told2 .given .1
 
 returns-4 : tie.Need-returns-4
 returns-4 c =
-    let v = c .before in let s = v .before .before in let k = s .before .before in
+    let i = c .before in let v = i .before .before in let s = v .before .before in let k = s .before .before in
     let e = k .before in let l = e .before .before in let known = l .before in
     answer-collected _ _ (sym (known .before .known-edition .ensures) ∙ known .if1 .taken) (l .validate-pages .ensures) (e .enum-told .given .1)
-    (k .collect .ensures)
-    (required-passes (k .collect .result) (s .validate-required .ensures) _ (v .enum-told2 .given .1) (c .from-invlpgb .ensures))
+    (k .collect .ensures .0) (k .collect .ensures .1)
+    (required-passes (k .collect .result .table) (s .validate-required .ensures) _ (v .enum-told2 .given .1) (i .from-invlpgb .ensures))
+    (c .located .ensures)
 
 pub build-spec : {M : Type 1} → statement M
 build-spec =
@@ -61,4 +62,5 @@ build-spec =
     returns-3
     (λ c. search needs)
     from-invlpgb-requires
+    (λ c κs. search needs)
     returns-4)

@@ -44,8 +44,8 @@ returns-3 : tie.Need-returns-3
 returns-3 c =
     let l = c .before .before .before .before in let e = l .before .before .before in
     decided _ _ _
-    (rows-compared _ _ _ (accepted e) (lawful l) (e .before .before .build .ensures) (c .before .before .collect .ensures)
-    (c .before .collect2 .ensures) (c .first-failing .ensures))
+    (rows-compared _ _ _ (accepted e) (lawful l) (e .before .before .build .ensures) (c .before .before .collect .ensures .0)
+    (c .before .collect2 .ensures .0) (c .first-failing .ensures))
 
 pub compare-spec : {M : Type 1} → statement M
 compare-spec =

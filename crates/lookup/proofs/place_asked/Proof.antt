@@ -1,6 +1,6 @@
 -- `lookup::place_asked` meets its contract: each way through it is one case of `placeAsked`.
 use borrow.Author.Needs.{needs}
-use Rattle.lookup.specs.LookupLaws.{placeAsked}
+use Rattle.lookup.specs.Lookup.{placeAsked}
 use Rattle.lookup.proofs.place_asked.Statement.{statement}
 use Rattle.lookup.proofs.place_asked.Tie as tie
 

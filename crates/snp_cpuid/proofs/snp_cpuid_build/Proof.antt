@@ -5,9 +5,14 @@ use Rattle.snp_cpuid.proofs.snp_cpuid_build.Tie as tie
 
 returns : tie.Need-returns
 returns c =
-    let b = c .before .before .before .before in
-    rw (← b .before .choices .ensures, ← b .build .ensures, c .before .before .answer-numbers .ensures)
+    let b = c .before in
+    rw (← b .before .choices .ensures, ← b .build .ensures) (c .built-numbers .ensures)
 
 pub snp-cpuid-build-spec : {M : Type 1} → statement M
 snp-cpuid-build-spec =
-    tie.close (tie.spec (λ c κs. search needs) (λ c κs. search needs) (λ c κs. search needs) (λ c. search needs) (λ c. search needs) returns)
+    tie.close
+    (tie.spec
+    (λ c κs. search needs)
+    (λ c κs. search needs)
+    (λ c κs. search needs)
+    returns)

@@ -1,18 +1,19 @@
--- `snp_cpuid_lookup` meets its contract: the lookup in the built table.
+-- `snp_cpuid_lookup` meets its contract: the lookup in the built table, with the row's origin.
 use borrow.Author.Needs.{needs}
 use Rattle.snp_cpuid.proofs.snp_cpuid_lookup.Statement.{statement}
 use Rattle.snp_cpuid.proofs.snp_cpuid_lookup.Tie as tie
 
 returns : tie.Need-returns
 returns c =
-    let b = c .before .before .before .before in
-    rw (← b .before .choices .ensures, ← b .build .ensures, ← c .before .before .subleaf-of .ensures, ← c .before .leaf-result .ensures)
+    let o = c .before in let l = o .before in let n = l .before in let b = n .before .before .before in
+    rw (← b .before .choices .ensures, ← b .build .ensures, ← n .subleaf-of .ensures, ← l .leaf-result .ensures, ← o .leaf-origin .ensures)
     (c .found-numbers .ensures)
 
 pub snp-cpuid-lookup-spec : {M : Type 1} → statement M
 snp-cpuid-lookup-spec =
     tie.close
     (tie.spec
+    (λ c κs. search needs)
     (λ c κs. search needs)
     (λ c κs. search needs)
     (λ c κs. search needs)

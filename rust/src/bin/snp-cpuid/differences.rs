@@ -2,17 +2,19 @@
 
 use crate::features::{self, REGISTERS};
 use crate::{print, words};
-use snp_cpuid::{Row, Table};
+use snp_cpuid::{Origin, Row, Table};
 
-/// One line for each difference, and an empty one after the last; nothing where the tables are equal.
+/// For each row that differs a line on where it came from and one for each difference, and an empty line after the last; nothing where the tables are
+/// equal.
 pub fn differences(a: &Table, b: &Table) -> String {
     let mut lines = vec![];
     for (leaf, subleaf) in places(a, b) {
-        let row = |table: &Table| table.row(leaf, subleaf).map(|result| Row { leaf, subleaf, result });
         let place = format!("{:12}", print::place(leaf, subleaf));
-        match (row(a), row(b)) {
+        match (a.find(leaf, subleaf), b.find(leaf, subleaf)) {
             (Some(a), Some(b)) => lines.extend(of_rows(&a, &b).into_iter().map(|line| place.clone() + &line)),
-            (one, _) => lines.push(format!("{place}a row of {} alone", if one.is_some() { "A" } else { "B" })),
+            (Some(a), None) => lines.push(format!("{place}a row of A alone, {}", a.origin)),
+            (None, Some(b)) => lines.push(format!("{place}a row of B alone, {}", b.origin)),
+            (None, None) => {}
         }
     }
     if a.max_extended_state() != b.max_extended_state() {
@@ -44,5 +46,13 @@ fn of_rows(a: &Row, b: &Row) -> Vec<String> {
             None => {}
         }
     }
+    if !lines.is_empty() {
+        lines.insert(0, origins(a.origin, b.origin));
+    }
     lines
+}
+
+/// The entries of two rows; the rows of leaf Bh have none.
+fn origins(a: Origin, b: Origin) -> String {
+    if a == Origin::MadeHere { a.to_string() } else { format!("A {a}, B {b}") }
 }

@@ -1,12 +1,12 @@
--- `snp_cpuid_guest_build` meets its contract: the numbers of the guest's answer.
+-- `snp_cpuid_guest_build` meets its contract: the guest's answer as numbers.
 use borrow.Author.Needs.{needs}
 use Rattle.snp_cpuid.proofs.guest_exports.snp_cpuid_guest_build.Statement.{statement}
 use Rattle.snp_cpuid.proofs.guest_exports.snp_cpuid_guest_build.Tie as tie
 
 returns : tie.Need-returns
 returns c =
-    let g = c .before .before .before .before in
-    rw (← g .before .choices .ensures, ← g .before .before .processor .ensures, ← g .guest-pages .ensures, c .before .before .answer-numbers .ensures)
+    let g = c .before in
+    rw (← g .before .choices .ensures, ← g .before .before .processor .ensures, ← g .guest-pages .ensures) (c .built-numbers .ensures)
 
 pub snp-cpuid-guest-build-spec : {M : Type 1} → statement M
 snp-cpuid-guest-build-spec =
@@ -16,6 +16,4 @@ snp-cpuid-guest-build-spec =
     (λ c κs. search needs)
     (λ c κs. search needs)
     (λ c κs. search needs)
-    (λ c. search needs)
-    (λ c. search needs)
     returns)

@@ -9,7 +9,7 @@ use crate::features::REGISTERS;
 use crate::input::{read, shown};
 use crate::wrap::wrapped;
 use crate::{output, print, words};
-use snp_cpuid::{Comparison, Refusal, Register, Row, Table};
+use snp_cpuid::{Comparison, Refusal, Register, Table, first_entry};
 
 /// One of the two, under the name that the report gives it.
 struct Server {
@@ -19,6 +19,14 @@ struct Server {
     table: Result<Table, Refusal>,
 }
 
+impl Server {
+    /// Where its entry for a leaf and subleaf stands.
+    fn entry(&self, leaf: u32, subleaf: Option<u32>) -> String {
+        let first = first_entry(&self.pages, leaf, subleaf.unwrap_or(0));
+        first.ok().flatten().expect("the library has compared this entry").to_string()
+    }
+}
+
 pub const COMMAND: Command = Command {
     name: "compare",
     operands: &["A", "B"],
@@ -26,13 +34,15 @@ pub const COMMAND: Command = Command {
     summary: "print how the tables of two servers differ, and what is promised",
     about: "\
 Compares the page sets of two servers: whether their tables are equal, B is at least A, A is at
-least B, or neither. Then every feature bit that one table has and the other has not, by name, and
-every other register that differs, by value; and for a guest that moves from A to B, and from B to
-A, what the theorem promises of this pair. B is at least A where it is accepted and meets the
-theorem's hypothesis: for every row of A's table but 0 and 80000000 B has a first entry with at
-least the bits of A's in feature registers, and equal in all others but D.0.ECX and the rows of leaf
-B, which are free. The library decides that by a proved function. Both tables are made under the
-same edition of the AVX rule, which the report names; what is promised holds under either.
+least B, or neither. Then, for each row that differs, the page and entry of A's and of B's, both
+counted from 0, every feature bit that one table has and the other has not, by name, and every other
+register that differs, by value; and for a guest that moves from A to B, and from B to A, what the
+theorem promises of this pair, or which entries stand in the way. B is at least A where it is
+accepted and meets the theorem's hypothesis: for every row of A's table but 0 and 80000000 B has a
+first entry with at least the bits of A's in feature registers, and equal in all others but D.0.ECX
+and the rows of leaf B, which are free. The library decides that by a proved function. Both tables
+are made under the same edition of the AVX rule, which the report names; what is promised holds
+under either.
 
 Give the pages that the servers have, or both from dumps of the same kind: pages made from the text
 of to-dump hold what the table's rules have set and cleared, such as BTC_NO.
@@ -114,7 +124,9 @@ impl Direction<'_> {
                 format!("{to}'s entry for leaf {} has a reserved byte that is not zero, refusal 17", print::place(leaf, None))
             }
             Comparison::UnlawfulB(refusal) => format!("{to}'s length or counts are not lawful, refusal {}", refusal.number()),
-            Comparison::NoEntry { leaf, subleaf } => format!("{to} has no entry for leaf {}", print::place(leaf, subleaf)),
+            Comparison::NoEntry { leaf, subleaf } => {
+                format!("{to} has no entry for leaf {}, which {from} has at {}", print::place(leaf, subleaf), self.from.entry(leaf, subleaf))
+            }
             Comparison::Differs { leaf, subleaf, register } => self.differs(leaf, subleaf, register),
         };
         wrapped(&self.label(), &format!("no: {why}, so nothing is promised."))
@@ -149,11 +161,12 @@ impl Direction<'_> {
             Register::Edx => 3,
         };
         let value = |server: &Server| {
-            let result = server.table.as_ref().ok()?.row(leaf, subleaf)?;
-            Some(words::registers(&Row { leaf, subleaf, result })[index])
+            let row = server.table.as_ref().ok()?.find(leaf, subleaf)?;
+            Some(words::registers(&row)[index])
         };
         let (from, to) = (value(self.from), value(self.to));
-        let entries = if from.is_some() && from == to { ", in the entries, which the tables do not show" } else { "" };
-        format!("the hypothesis fails first at leaf {} {}{entries}", print::place(leaf, subleaf), REGISTERS[index])
+        let hidden = if from.is_some() && from == to { ", which the tables do not show" } else { "" };
+        let entries = [self.from, self.to].map(|server| format!("{}'s {}", server.name, server.entry(leaf, subleaf))).join(" and ");
+        format!("the hypothesis fails first at leaf {} {}, in {entries}{hidden}", print::place(leaf, subleaf), REGISTERS[index])
     }
 }

@@ -7,8 +7,9 @@ use crate::failure::Failure;
 use crate::input::shown;
 use crate::numbers::{digits, prefixed};
 use crate::option::Opt;
-use crate::{output, print, processor};
-use snp_cpuid::{Row, Table};
+use crate::print::{self, Form};
+use crate::{output, processor};
+use snp_cpuid::Table;
 use std::ffi::OsStr;
 
 const ENFORCE: Opt = Opt::flag(&["--enforce"], "take the subleaf by the letter");
@@ -16,14 +17,15 @@ const ENFORCE: Opt = Opt::flag(&["--enforce"], "take the subleaf by the letter")
 pub const COMMAND: Command = Command {
     name: "lookup",
     operands: &["PAGES", "LEAF[.SUB]"],
-    options: &[&[ENFORCE], processor::SOMETIMES, building::OPTIONS],
+    options: &[&[ENFORCE, print::ORIGINS], processor::SOMETIMES, building::OPTIONS],
     summary: "print the row of one leaf",
     about: "\
 Prints the row of one leaf, and subleaf where one is given, as leaf_result_ref of OpenHCL finds it.
 Both numbers are hexadecimal, with or without 0x: 80000008 and 0x80000008 are the same leaf, D.B is
 leaf Dh subleaf 11. A leaf with subleaves is found only under a subleaf that the table has; one
 without is found under any subleaf, and with --enforce only where none is given. With --apic, --xcr0
-and --xss it is the row that the guest of that processor sees, as 'guest' prints it.
+and --xss it is the row that the guest of that processor sees, as 'guest' prints it. With --origins
+the row's line ends in the page and entry that it is of, as 'table' has it.
 ",
     status: "\
 Exit status: 0 found, 1 not found or the pages are refused, 2 bad usage or a file that cannot be
@@ -36,11 +38,12 @@ fn run(arguments: &Arguments) -> Result<(), Failure> {
     let (leaf, subleaf) = asked(&arguments.operands[1])?;
     let seen = processor::of(arguments, COMMAND.name)?;
     let table = Building::of(arguments, COMMAND.name)?.seen(&arguments.operands[0], seen)?;
-    match table.lookup(leaf, subleaf, arguments.has(&ENFORCE)) {
-        Some(result) => {
-            // the row that was found: a leaf without subleaves answers under any
-            let subleaf = subleaf.filter(|_| table.row(leaf, subleaf).is_some());
-            output::print(print::HEADING.to_string() + &print::row(&Row { leaf, subleaf, result }))
+    let found = table.lookup(leaf, subleaf, arguments.has(&ENFORCE));
+    // the row that was found: a leaf without subleaves answers under any
+    match found.and_then(|_| table.find(leaf, subleaf).or_else(|| table.find(leaf, None))) {
+        Some(row) => {
+            let form = Form::of(arguments);
+            output::print(form.heading().to_string() + &form.row(&row))
         }
         None => Err(Failure::No(absent(&table, leaf, subleaf))),
     }

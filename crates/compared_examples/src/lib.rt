@@ -1,0 +1,1 @@
+// Comparisons of page sets, computed from their bytes: no code.

@@ -1,0 +1,2 @@
+pub mod FirstEntry
+pub mod FirstEntryLaws

@@ -1,0 +1,1 @@
+// Lists for KVM, computed from their bytes: no code.

@@ -1,0 +1,3 @@
+pub mod Located
+pub mod StandsLaws
+pub mod LocatedProof

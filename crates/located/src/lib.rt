@@ -1,0 +1,1 @@
+// What a row's origin says of the pages: statements and their proofs, no code.

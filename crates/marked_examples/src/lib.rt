@@ -1,0 +1,1 @@
+// Registers that differ from those of the source, row by row of document 01's list, computed: no code.

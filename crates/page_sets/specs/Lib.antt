@@ -1,0 +1,2 @@
+pub mod PageSets
+pub mod Evaluation
