@@ -54,7 +54,7 @@ pub const MOST_ROWS: usize = 32;
 pub const MOST_LINE_BYTES: usize = 22;
 
 /// Builds the table of CPUID pages that stand end to end. Where its rows came from is asked of the library row by row; [`write_image`], which does
-/// not ask, takes a thirtieth of the time.
+/// not ask, takes about a thirtieth of the time.
 pub fn build(pages: &[u8], options: Options) -> Result<Table, Refusal> {
     let Options { secure_avic, edition } = options;
     // SAFETY: the pointer and length are those of a slice, which the function only reads
