@@ -55,7 +55,7 @@ fn every_listed_one_and_many_others_through_building() {
             refused += 1;
         } else {
             let table = answer.expect(line);
-            let levels = [0, 1].map(|subleaf| table.lookup(0xB, Some(subleaf), true).expect("leaf Bh"));
+            let levels = [0, 1].map(|subleaf| table.lookup(0xB, Some(subleaf), true).expect("leaf Bh").result);
             assert_eq!(levels, [registers(&words), registers(&words[4..])], "{line}");
             listed.push(inputs);
         }
