@@ -22,7 +22,8 @@ use Rattle.origins.specs.Origin.{Origin, originOf, originNumber}
 use Rattle.checks.specs.Checks.{refuseUnless, rowsVerdict}
 use Rattle.build.specs.Built.{tableFor}
 use Rattle.build.specs.declared.Built.{Built}
-use Rattle.collect.specs.FirstEntries.{rowsOf, standsAt}
+use Rattle.collect.specs.FirstEntries.{rowsOf}
+use Rattle.locate.specs.Stands.{standsAt}
 
 -- document 02, P7: "15 an edition other than 1 or 2, before 1"
 unfoldable pub editionVerdict : ℕ → Verdict

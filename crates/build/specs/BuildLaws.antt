@@ -11,7 +11,7 @@ use Rattle.masking.specs.Kept.{places}
 use Rattle.origins.specs.Origin.{isMadeHere, originOf, originNumber, finishedOrigins}
 use Rattle.origins.specs.Origin.Origin.{neither, madeHere}
 use Rattle.origins.specs.OriginLaws.{finished-origins}
-use Rattle.collect.specs.FirstEntries.{standsAt, foundOrigins}
+use Rattle.locate.specs.Stands.{standsAt, foundOrigins}
 use Rattle.checks.specs.Checks.{rowsVerdict}
 use Rattle.build.specs.declared.RowsBuilt.{RowsBuilt}
 use Rattle.build.specs.declared.Built.{Built}
@@ -63,6 +63,11 @@ module _ (c : Choices) (s : List ℕ) where
   unfolding answer verdictOf builtFrom
   answer-of-rows e f = rw (e, f)
 
+  -- what was built without origins, as the answer
+  pub as-answer : {b : RowsBuilt} → b ≡ withoutOrigins (answer c s)
+      → _≡_ {A = Built} (record { verdict = b .verdict; table = b .table; origins = answer c s .origins }) (answer c s)
+  as-answer e = λ k. record { verdict = e k .verdict; table = e k .table; origins = answer c s .origins }
+
   pub answer-unknown : {q : Built} → knownEdition (c .edition) ≡ false → q ≡ notBuilt UnknownEdition → q ≡ answer c s
   answer-unknown k g = refused-with g (unfold verdictOf editionVerdict in rw k)
 
@@ -95,3 +100,8 @@ module _ (c : Choices) (s : List ℕ) where
           ∙ ap (λ (o : List ℕ). record { verdict = b .verdict; table = b .table; origins = o }) (located-origins (b .table) s)
           ∙ ap with-origins (i ∙ ap (builtFrom (c .edition)) rows)
           ∙ sym (built-with (rows-verdict f))
+
+      pub table-collected : {b : RowsBuilt} → b ≡ builtFrom (c .edition) (rowsIn t) → b ≡ withoutOrigins (answer c s)
+      unfolding builtFrom
+      table-collected i =
+          i ∙ ap (builtFrom (c .edition)) rows ∙ sym (ap withoutOrigins (built-with (rows-verdict f)))

@@ -27,7 +27,7 @@ ghost use mathlib.Core.Path.{_≡_};
 ghost use Rattle.table.specs.Table.{rowsIn};
 ghost use Rattle.checks.specs.ExtendedState.{xfem, saveArea};
 ghost use Rattle.checks.specs.Checks.{requiredVerdict, topologyVerdict};
-ghost use Rattle.build.specs.Built.{builtFrom};
+ghost use Rattle.build.specs.Built.{builtFrom, withoutOrigins};
 ghost use Rattle.build.specs.Build.{lawfulVerdict, answer};
 ghost use Rattle.build.specs.Stages.{refusedBuilt, notBuilt, locatedBuilt, builtBy, fromInvlpgb, fromComponents, fromArea};
 
@@ -167,7 +167,7 @@ pub fn build(pages: &[u8], choices: Choices) -> Built
     if let Verdict::Refused(r) = lawful {
         return not_built(r);
     }
-    let collected = collect::collect(pages, choices.secure_avic);
+    let collected = locate::collect_located(pages, choices.secure_avic);
     let present = collected.table.present;
     let verdict = validate_required(present);
     if let Verdict::Refused(r) = verdict {
@@ -175,6 +175,26 @@ pub fn build(pages: &[u8], choices: Choices) -> Built
     }
     let origins = collected.origins;
     located(from_invlpgb(collected.table, choices.edition), origins)
+}
+
+// The same but origins, for what has no use for them: the image, the list for KVM, a comparison.
+pub fn build_table(pages: &[u8], choices: Choices) -> RowsBuilt
+    ensures { λ r. ⌜ r ≡ withoutOrigins (answer choices (now (pages .entry))) ⌝ }
+{
+    if known_edition(choices.edition) {} else {
+        return refused(Refusal::UnknownEdition);
+    }
+    let lawful = validate_pages(pages);
+    if let Verdict::Refused(r) = lawful {
+        return refused(r);
+    }
+    let t = collect::collect(pages, choices.secure_avic);
+    let present = t.present;
+    let verdict = validate_required(present);
+    if let Verdict::Refused(r) = verdict {
+        return refused(r);
+    }
+    from_invlpgb(t, choices.edition)
 }
 
 // A refused answer: an empty table, and no origins.

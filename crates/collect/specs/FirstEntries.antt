@@ -7,7 +7,6 @@ use lib.Dec.{eqb, ltb}
 use lib.Bits.{bitOr}
 use Rattle.bits.specs.Choice.{pick}
 use Rattle.bits.specs.Bits.{maskOf}
-use Rattle.bits.specs.Lists.{tabulate}
 use Rattle.x86defs.specs.declared.CpuidResult.{CpuidResult}
 use Rattle.x86defs.specs.Functions.{result}
 use Rattle.x86defs.specs.ExtendedStateEnumerationSubleaf0Eax as Subleaf0Eax
@@ -17,8 +16,6 @@ use Rattle.masking.specs.Masks.{applyMask}
 use Rattle.masking.specs.Kept.{placeOf, masksAt, places}
 use Rattle.masking.specs.Place
 use Rattle.table.specs.Rows.{Row, Rows, row, vacant}
-use Rattle.origins.specs.Origin.{Origin, originNumber}
-use Rattle.origins.specs.Origin.Origin.{neither, entry}
 
 -- where an entry goes; 88 where its leaf is filtered
 abbrev pub placeOfEntry : Entry → ℕ
@@ -28,15 +25,6 @@ placeOfEntry e = placeOf (e .leaf) (e .subleaf)
 unfoldable pub firstAt : ℕ → List Entry → Row
 firstAt i [] = vacant
 firstAt i (e ∷ es) = pick (eqb (placeOfEntry e) i) (row (e .registers)) (firstAt i es)
-
--- where it stands; nowhere, where there is none
-unfoldable pub standsAt : ℕ → List Entry → Origin
-standsAt i [] = neither
-standsAt i (e ∷ es) = pick (eqb (placeOfEntry e) i) (entry (e .page) (e .position)) (standsAt i es)
-
--- the number of where the first entry of each place stands
-unfoldable pub foundOrigins : List ℕ → List ℕ
-foundOrigins s = tabulate places (λ i. originNumber (standsAt i (counted s)))
 
 -- x87 and SSE state: XCR0 bits 0 and 1
 unfoldable pub legacyFeatures : ℕ

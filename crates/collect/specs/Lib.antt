@@ -2,4 +2,3 @@ pub mod FirstEntries
 pub mod FirstEntriesLaws
 pub mod Collect
 pub mod RowsFit
-pub mod OriginsLaws

@@ -12,19 +12,13 @@ ghost use Rattle.pages.specs.Layout.{countsFit};
 ghost use Rattle.reserved.specs.Reserved.{allClean};
 ghost use Rattle.masking.specs.Masks.{applyMask};
 ghost use Rattle.masks.specs.KeptTable.{masksOf};
-ghost use Rattle.collect.specs.FirstEntries.{setLegacy, foundOrigins};
+ghost use Rattle.collect.specs.FirstEntries.{setLegacy};
 ghost use Rattle.collect.specs.Collect.{collected, countedPlace};
 
 const LEGACY_FEATURES: u32 = 3;
 
-// The masked first entries, and where each stands (document 02, P11).
-pub struct Collected {
-    pub table: CpuidResults,
-    pub origins: [u64; PLACES],
-}
-
 // The place of an entry, or 88 where its leaf is filtered or it does not count: leaf Dh counts on page 1 alone.
-fn counted_place(entry: ParsedCpuidEntry) -> usize
+pub fn counted_place(entry: ParsedCpuidEntry) -> usize
     ensures { λ r. ⌜ r ≡ countedPlace entry ⌝ }
 {
     let leaf = entry.leaf;
@@ -53,15 +47,14 @@ pub fn masked_at(kept: KeptLeaf, place: usize, r: CpuidResult) -> CpuidResult
     masked
 }
 
-// The masked first entry of every place and where it stands, from clean pages whose counts are lawful: what the reader gives, page by page.
-pub fn collect(pages: &[u8], secure_avic: bool) -> Collected
+// The masked first entry of every place, from clean pages whose counts are lawful: what the reader gives, page by page.
+pub fn collect(pages: &[u8], secure_avic: bool) -> CpuidResults
     requires { ⌜ (countsFit (now pages) ≡ true) × (allClean (now pages) ≡ true) ⌝ }
-    ensures { λ r. ⌜ (r .table ≡ collected «secure_avic» (now (pages .entry))) × (r .origins ≡ foundOrigins (now (pages .entry))) ⌝ }
+    ensures { λ r. ⌜ r ≡ collected «secure_avic» (now (pages .entry)) ⌝ }
 {
     let kept = masks::kept_leaves(secure_avic);
     let n = pages::page_count(pages);
     let mut t = table::empty_table();
-    let mut origins: [u64; PLACES] = [0; PLACES];
     let mut index = reader::start(pages);
     while index.page_index < n {
         let page = index.page_index;
@@ -76,15 +69,11 @@ pub fn collect(pages: &[u8], secure_avic: bool) -> Collected
                     let masked = masked_at(kept[row], place, r);
                     t.present[place] = true;
                     t.results[place] = masked;
-                    origins[place] = origins::entry_number(index.page_index, index.function_index);
                 }
             }
             let next = taken.index;
             index = next;
         }
     }
-    Collected {
-        table: t,
-        origins,
-    }
+    t
 }

@@ -51,7 +51,7 @@ pub fn compare(a: &[u8], b: &[u8], choices: Choices) -> Compared
     ensures { λ r. ⌜ r ≡ compared choices (now (a .entry)) (now (b .entry)) ⌝ }
     ensures decides { λ r. ⌜ Decides choices (now (a .entry)) (now (b .entry)) r ⌝ }
 {
-    let built = build::build(a, choices);
+    let built = build::build_table(a, choices);
     let verdict = built.verdict;
     if let Verdict::Refused(refusal) = verdict {
         return Compared::RefusedA(refusal);
@@ -61,9 +61,11 @@ pub fn compare(a: &[u8], b: &[u8], choices: Choices) -> Compared
         return Compared::UnlawfulB(refusal);
     }
     let table = built.table;
-    let collected_a = collect::collect(a, choices.secure_avic);
-    let collected_b = collect::collect(b, choices.secure_avic);
-    first_failing(table, collected_a.table, collected_b.table)
+    first_failing(
+        table,
+        collect::collect(a, choices.secure_avic),
+        collect::collect(b, choices.secure_avic),
+    )
 }
 
 // The first place at which B's masked first entry fails beside A's, among the places that A's table has.

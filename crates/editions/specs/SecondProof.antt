@@ -21,7 +21,7 @@ use Rattle.table.specs.Table.{rowIn, countRows}
 use Rattle.table.specs.Edition.{knownEdition}
 use Rattle.checks.specs.ExtendedState.{xfem}
 use Rattle.origins.specs.Origin.{originOf, originNumber}
-use Rattle.collect.specs.FirstEntries.{standsAt}
+use Rattle.locate.specs.Stands.{standsAt}
 use Rattle.collect.specs.RowsFit.{rows-fit}
 use Rattle.update.specs.Finish.{ymmClears, enabledBy, settings, finished}
 use Rattle.build.specs.Build.{editionVerdict, rowsFor, verdictOf, originsIn, answer, originAt}

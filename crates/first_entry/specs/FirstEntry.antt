@@ -11,7 +11,7 @@ use Rattle.table.specs.declared.Verdict.{Verdict}
 use Rattle.table.specs.declared.Verdict.the-variants.{Accepted, Refused}
 use Rattle.origins.specs.Origin.{Origin, originNumber}
 use Rattle.origins.specs.Origin.Origin.{neither}
-use Rattle.collect.specs.FirstEntries.{standsAt}
+use Rattle.locate.specs.Stands.{standsAt}
 use Rattle.build.specs.Build.{lawfulVerdict}
 use Rattle.first_entry.specs.declared.FirstEntry.{FirstEntry}
 

@@ -22,7 +22,7 @@ pub fn first_entry(pages: &[u8], leaf: CpuidFunction, subleaf: u32) -> FirstEntr
             origin: 0,
         };
     }
-    let collected = collect::collect(pages, false);
+    let collected = locate::collect_located(pages, false);
     let place = masking::place_of(leaf, subleaf);
     if place < PLACES {
         return FirstEntry {

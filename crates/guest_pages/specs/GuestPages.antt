@@ -2,6 +2,7 @@
 use mathlib.Core.List.{List}
 use Prim.Native.Nat.{ℕ}
 use Rattle.table.specs.declared.Choices.{Choices}
+use Rattle.table.specs.declared.CpuidResults.{CpuidResults}
 use Rattle.table.specs.declared.Verdict.{Verdict}
 use Rattle.table.specs.Refusal.{andThen}
 use Rattle.table.specs.Table.{rowsIn}
@@ -15,8 +16,11 @@ use Rattle.guest.specs.declared.GuestAnswer.{GuestAnswer}
 use Rattle.guest.specs.Guest.{answerFor}
 
 -- of what building gave
+abbrev pub guestBy : Verdict → CpuidResults → Processor → GuestAnswer
+guestBy w t v = answerFor (andThen w (stateVerdict (rowsIn t) (v .xcr0) (v .xss))) t v
+
 abbrev pub guestOf : Built → Processor → GuestAnswer
-guestOf b v = answerFor (andThen (b .verdict) (stateVerdict (rowsIn (b .table)) (v .xcr0) (v .xss))) (b .table) v
+guestOf b v = guestBy (b .verdict) (b .table) v
 
 unfoldable pub guestPages : Choices → List ℕ → Processor → GuestAnswer
 guestPages chosen s v = guestOf (answer chosen s) v

@@ -3,12 +3,12 @@ use mathlib.Core.Path.{_≡_, sym, ap, _∙_}
 use mathlib.Core.List.{List}
 use Prim.Native.Nat.{ℕ}
 use Rattle.table.specs.declared.Choices.{Choices}
+use Rattle.table.specs.declared.CpuidResults.{CpuidResults}
 use Rattle.table.specs.declared.Refusal.{Refusal}
 use Rattle.table.specs.declared.Verdict.{Verdict}
 use Rattle.table.specs.declared.Verdict.the-variants.{Accepted, Refused}
 use Rattle.table.specs.Refusal.{andThen}
 use Rattle.table.specs.Table.{rowsIn}
-use Rattle.build.specs.declared.Built.{Built}
 use Rattle.build.specs.Build.{answer}
 use Rattle.buffer.specs.declared.Written.the-variants.{Refused as NotWritten}
 use Rattle.buffer.specs.Front.{AfterWrite, writeFront}
@@ -17,31 +17,27 @@ use Rattle.guest_state.specs.State.{stateVerdict}
 use Rattle.guest.specs.declared.Processor.{Processor}
 use Rattle.guest.specs.declared.GuestAnswer.{GuestAnswer}
 use Rattle.guest.specs.Guest.{guestTable, tableGiven, answerFor, guestAnswer, refusedAnswer}
-use Rattle.guest_pages.specs.GuestPages.{guestOf, guestPages, writeGuest}
+use Rattle.guest_pages.specs.GuestPages.{guestBy, guestPages, writeGuest}
 
 -- ---- by building's verdict
 
-module _ (b : Built) (v : Processor) where
-  with-verdict : {w : Verdict} → b .verdict ≡ w
-      → guestOf b v ≡ answerFor (andThen w (stateVerdict (rowsIn (b .table)) (v .xcr0) (v .xss))) (b .table) v
-  with-verdict e = ap (λ (w : Verdict). answerFor (andThen w (stateVerdict (rowsIn (b .table)) (v .xcr0) (v .xss))) (b .table) v) e
+module _ (t : CpuidResults) (v : Processor) where
+  pub of-refused : {w : Verdict} {r : Refusal} → w ≡ Refused r → guestBy w t v ≡ refusedAnswer r
+  of-refused e = ap (λ (w : Verdict). guestBy w t v) e
 
-  pub of-refused : {r : Refusal} → b .verdict ≡ Refused r → guestOf b v ≡ refusedAnswer r
-  of-refused e = with-verdict e
-
-  pub of-accepted : b .verdict ≡ Accepted → guestOf b v ≡ guestAnswer (b .table) v
+  pub of-accepted : {w : Verdict} → w ≡ Accepted → guestBy w t v ≡ guestAnswer t v
   unfolding guestAnswer
-  of-accepted e = with-verdict e
+  of-accepted e = ap (λ (w : Verdict). guestBy w t v) e
 
 -- "Building's refusals come first."
 module _ (chosen : Choices) (s : List ℕ) (v : Processor) where
   pub building-first : (r : Refusal) → answer chosen s .verdict ≡ Refused r → guestPages chosen s v ≡ refusedAnswer r
   unfolding guestPages
-  building-first r = of-refused (answer chosen s) v
+  building-first r = of-refused (answer chosen s .table) v
 
   pub accepted-guest : answer chosen s .verdict ≡ Accepted → guestPages chosen s v ≡ guestAnswer (answer chosen s .table) v
   unfolding guestPages
-  accepted-guest = of-accepted (answer chosen s) v
+  accepted-guest = of-accepted (answer chosen s .table) v
 
   -- a view of an accepted page set is that of its table
   pub guest-verdict : answer chosen s .verdict ≡ Accepted

@@ -1,30 +1,31 @@
 // What one processor's guest sees of a page set. Pages and the processor come in; building's refusal, the guest's refusal or the guest's
 // table goes out, as a table or as an image.
 use buffer::Written;
-use build::Built;
 use guest::GuestAnswer;
 use guest::Processor;
 use table::Choices;
+use table::CpuidResults;
 use table::Verdict;
 ghost use mathlib.Core.Path.{_≡_};
-ghost use Rattle.guest_pages.specs.GuestPages.{guestOf, guestPages, writeGuest};
+ghost use Rattle.guest_pages.specs.GuestPages.{guestBy, guestPages, writeGuest};
 
 // Builds the table of the given pages, and shows it as the processor's guest sees it.
 pub fn guest_pages(pages: &[u8], choices: Choices, v: Processor) -> GuestAnswer
     ensures { λ r. ⌜ r ≡ guestPages choices (now (pages .entry)) v ⌝ }
 {
-    guest_of(build::build(pages, choices), v)
+    let built = build::build_table(pages, choices);
+    let verdict = built.verdict;
+    let table = built.table;
+    guest_of(verdict, table, v)
 }
 
 // The same of what was built.
-pub fn guest_of(built: Built, v: Processor) -> GuestAnswer
-    ensures { λ r. ⌜ r ≡ guestOf built v ⌝ }
+pub fn guest_of(verdict: Verdict, table: CpuidResults, v: Processor) -> GuestAnswer
+    ensures { λ r. ⌜ r ≡ guestBy verdict table v ⌝ }
 {
-    let verdict = built.verdict;
     if let Verdict::Refused(r) = verdict {
         return guest::refused(r);
     }
-    let table = built.table;
     guest::guest_table(table, v)
 }
 

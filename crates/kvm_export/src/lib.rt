@@ -25,7 +25,7 @@ pub fn write_list(pages: &[u8], choices: Choices, out: &mut [u8]) -> Written
     ensures { λ r. ⌜ r ≡ writeList choices (now (pages .entry)) (now (out .entry)) .answer ⌝ }
     ensures { λ _. ⌜ now (out .exit) ≡ writeList choices (now (pages .entry)) (now (out .entry)) .buffer ⌝ }
 {
-    let built = build::build(pages, choices);
+    let built = build::build_table(pages, choices);
     let verdict = built.verdict;
     if let Verdict::Refused(r) = verdict {
         return Written::Refused(r);

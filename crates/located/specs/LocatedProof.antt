@@ -22,7 +22,8 @@ use Rattle.table.specs.Table.{rowIn}
 use Rattle.origins.specs.Origin.{Origin, isMadeHere, originOf, originNumber, originRead, originTold}
 use Rattle.origins.specs.Origin.Origin.{neither, madeHere, entry}
 use Rattle.origins.specs.OriginLaws.{entry-read, neither-read, made-read}
-use Rattle.collect.specs.FirstEntries.{placeOfEntry, firstAt, standsAt, maskedAt, maskRow}
+use Rattle.collect.specs.FirstEntries.{placeOfEntry, firstAt, maskedAt, maskRow}
+use Rattle.locate.specs.Stands.{standsAt}
 use Rattle.collect.specs.FirstEntriesLaws.{row-of-place}
 use Rattle.update.specs.Finish.{ruleAt, settings, finish, finished}
 use Rattle.update.specs.Kinds.{fromEntry}

@@ -14,7 +14,8 @@ use Rattle.pages.specs.Entries.{onPage, onPages, entries, counts, counted}
 use Rattle.table.specs.Rows.{Row, row}
 use Rattle.origins.specs.Origin.{Origin}
 use Rattle.origins.specs.Origin.Origin.{neither, madeHere, entry}
-use Rattle.collect.specs.FirstEntries.{placeOfEntry, firstAt, standsAt}
+use Rattle.collect.specs.FirstEntries.{placeOfEntry, firstAt}
+use Rattle.locate.specs.Stands.{standsAt}
 use Rattle.located.specs.Located.{Elsewhere}
 
 -- the first entry of place i in a list, with those before and after it

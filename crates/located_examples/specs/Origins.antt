@@ -14,7 +14,7 @@ use Rattle.table.specs.declared.Verdict.the-variants.{Accepted}
 use Rattle.table.specs.Rows.{Row}
 use Rattle.origins.specs.Origin.{Origin, isMadeHere, originOf}
 use Rattle.origins.specs.Origin.Origin.{madeHere, entry}
-use Rattle.collect.specs.FirstEntries.{standsAt}
+use Rattle.locate.specs.Stands.{standsAt}
 use Rattle.update.specs.Finish.{ruleAt}
 use Rattle.update.specs.PlaceLaws.{always}
 use Rattle.build.specs.Build.{answer, originAt}

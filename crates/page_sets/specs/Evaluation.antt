@@ -23,7 +23,8 @@ use Rattle.table.specs.Edition.{knownEdition}
 use Rattle.table.specs.Table.{countRows}
 use Rattle.build.specs.declared.Built.{Built}
 use Rattle.origins.specs.Origin.{isMadeHere, originOf}
-use Rattle.collect.specs.FirstEntries.{firstAt, standsAt, legacyFeatures, rowsOf}
+use Rattle.collect.specs.FirstEntries.{firstAt, legacyFeatures, rowsOf}
+use Rattle.locate.specs.Stands.{standsAt}
 use Rattle.build.specs.Build.{editionVerdict, lengthVerdict, countsVerdict, reservedVerdict, lawfulVerdict, underEdition, verdictOf, originsIn, answer}
 
 -- what the examples choose: secure AVIC off, edition 1

@@ -45,7 +45,7 @@ pub fn write_output(input: &[u8], out: &mut [u8]) -> Written
     if input.len() > LONGEST_INPUT {
         return put_too_long(out);
     }
-    let built = build::build(input, CHOICES);
+    let built = build::build_table(input, CHOICES);
     let verdict = built.verdict;
     if let Verdict::Refused(refusal) = verdict {
         return put_refusal(numbers::refusal_numbers(refusal), out);

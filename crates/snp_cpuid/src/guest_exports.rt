@@ -65,7 +65,8 @@ pub extern "C" fn snp_cpuid_guest_lookup(
     let v = processor(x2apic, xcr0, xss, osxsave);
     let built = build::build(pages, choices(secure_avic, edition));
     let origins = built.origins;
-    let seen = guest_pages::guest_of(built, v);
+    let verdict = built.verdict;
+    let seen = guest_pages::guest_of(verdict, built.table, v);
     let table = seen.table;
     let named = subleaf_of(has_subleaf, subleaf);
     let result = lookup::leaf_result(table, CpuidFunction(leaf), named, enforce_subleaf);

@@ -31,7 +31,7 @@ mod topology_exports;
 pub extern "C" fn snp_cpuid_build(pages: &[u8], secure_avic: bool, edition: u32) -> SnpCpuidBuilt
     ensures { λ r. ⌜ r ≡ builtNumbers (answer (choicesOf «secure_avic» edition) (now (pages .entry))) ⌝ }
 {
-    let built = build::build(pages, choices(secure_avic, edition));
+    let built = build::build_table(pages, choices(secure_avic, edition));
     let verdict = built.verdict;
     built_numbers(verdict, built.table.row_count, built.table.max_extended_state)
 }

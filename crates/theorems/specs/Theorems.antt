@@ -123,7 +123,7 @@ use Rattle.added_examples.specs.Spare as Spare
 use Rattle.reserved.specs.Reserved.{clean, allClean}
 use Rattle.reserved_examples.specs.Unclean as Unclean
 use Rattle.origins.specs.Origin.Origin.{madeHere, entry}
-use Rattle.collect.specs.FirstEntries.{standsAt}
+use Rattle.locate.specs.Stands.{standsAt}
 use Rattle.located.specs.Located.{ComesFrom, Origins}
 use Rattle.located.specs.LocatedProof.{rows-come-from, rows-have-origins, refused-has-none}
 use Rattle.located_examples.specs.Origins as Origin

@@ -16,8 +16,8 @@ returns-2 c =
     answer-unlawful _ _ (sym (known .before .known-edition .ensures) ∙ known .if1 .taken) (l .validate-pages .ensures) (v .lawful .given .1)
     (c .not-built2 .ensures)
 
-collect-requires : tie.Need-collect-requires
-collect-requires c κs =
+collect-located-requires : tie.Need-collect-located-requires
+collect-located-requires c κs =
     let e = sym (c .before .before .validate-pages .ensures) ∙ c .enum-told .given .1 in
     (lawful-counts _ e, lawful-clean _ e)
 
@@ -26,21 +26,21 @@ returns-3 c =
     let v = c .before .before in let s = v .before .before in let k = s .before .before in
     let e = k .before in let l = e .before .before in let known = l .before in
     answer-refused _ _ (sym (known .before .known-edition .ensures) ∙ known .if1 .taken) (l .validate-pages .ensures) (e .enum-told .given .1)
-    (k .collect .ensures .0) refl
-    (required-refuses (k .collect .result .table) (s .validate-required .ensures) _ (v .verdict .given .1) refl) (c .not-built3 .ensures)
+    (k .collect-located .ensures .0) refl
+    (required-refuses (k .collect-located .result .table) (s .validate-required .ensures) _ (v .verdict .given .1) refl) (c .not-built3 .ensures)
 
 from-invlpgb-requires : tie.Need-from-invlpgb-requires
 from-invlpgb-requires c κs =
     let v = c .before in let s = v .before .before in
-    sym (required-found (s .before .before .collect .result .table) (s .validate-required .ensures)) ∙ v .enum-told2 .given .1
+    sym (required-found (s .before .before .collect-located .result .table) (s .validate-required .ensures)) ∙ v .enum-told2 .given .1
 
 returns-4 : tie.Need-returns-4
 returns-4 c =
     let i = c .before in let v = i .before .before in let s = v .before .before in let k = s .before .before in
     let e = k .before in let l = e .before .before in let known = l .before in
     answer-collected _ _ (sym (known .before .known-edition .ensures) ∙ known .if1 .taken) (l .validate-pages .ensures) (e .enum-told .given .1)
-    (k .collect .ensures .0) (k .collect .ensures .1)
-    (required-passes (k .collect .result .table) (s .validate-required .ensures) _ (v .enum-told2 .given .1) (i .from-invlpgb .ensures))
+    (k .collect-located .ensures .0) (k .collect-located .ensures .1)
+    (required-passes (k .collect-located .result .table) (s .validate-required .ensures) _ (v .enum-told2 .given .1) (i .from-invlpgb .ensures))
     (c .located .ensures)
 
 pub build-spec : {M : Type 1} → statement M
@@ -55,7 +55,7 @@ build-spec =
     (λ c κs. search needs)
     returns-2
     (λ c. search needs)
-    collect-requires
+    collect-located-requires
     (λ c κs. search needs)
     (λ c. search needs)
     (λ c κs. search needs)

@@ -1,6 +1,7 @@
 -- `compare::compare` meets its contract: one return a case of the comparison.
 use borrow.Author.Needs.{needs}
 use mathlib.Core.Path.{_≡_, sym, ap, _∙_}
+use Rattle.build.specs.BuildLaws.{as-answer}
 use Rattle.build.specs.declared.Built.{Built}
 use Rattle.table.specs.declared.Verdict.the-variants.{Accepted}
 use Rattle.build.specs.Build.{lawfulVerdict, answer}
@@ -14,14 +15,14 @@ use Rattle.compare.proofs.compare.Tie as tie
 returns : tie.Need-returns
 returns c =
     let v = c .before in
-    decided _ _ _ (refused-a _ _ _ (sym (ap (λ (x : Built). x .verdict) (v .before .before .build .ensures)) ∙ v .verdict .given .1))
+    decided _ _ _ (refused-a _ _ _ (sym (ap (λ (x : Built). x .verdict) (as-answer _ _ (v .before .before .build-table .ensures))) ∙ v .verdict .given .1))
 
 -- where A is accepted
 abbrev start : tie.After-enum-told → tie.Start
 start c = let built = c .before .before in built .before .before .before
 
 accepted : (c : tie.After-enum-told) → answer (start c .args .choices) (start c .args .a .now) .verdict ≡ Accepted
-accepted c = sym (ap (λ (x : Built). x .verdict) (c .before .before .build .ensures)) ∙ c .enum-told .given .1
+accepted c = sym (ap (λ (x : Built). x .verdict) (as-answer _ _ (c .before .before .build-table .ensures))) ∙ c .enum-told .given .1
 
 returns-2 : tie.Need-returns-2
 returns-2 c =
@@ -44,8 +45,8 @@ returns-3 : tie.Need-returns-3
 returns-3 c =
     let l = c .before .before .before .before in let e = l .before .before .before in
     decided _ _ _
-    (rows-compared _ _ _ (accepted e) (lawful l) (e .before .before .build .ensures) (c .before .before .collect .ensures .0)
-    (c .before .collect2 .ensures .0) (c .first-failing .ensures))
+    (rows-compared _ _ _ (accepted e) (lawful l) (as-answer _ _ (e .before .before .build-table .ensures)) (c .before .before .collect .ensures)
+    (c .before .collect2 .ensures) (c .first-failing .ensures))
 
 pub compare-spec : {M : Type 1} → statement M
 compare-spec =

@@ -11,15 +11,15 @@ returns c =
     let v = c .before in
     first-unlawful _ _ _ (v .before .before .validate-pages .ensures) (v .lawful .given .1)
 
-collect-requires : tie.Need-collect-requires
-collect-requires c κs =
+collect-located-requires : tie.Need-collect-located-requires
+collect-located-requires c κs =
     let e = sym (c .before .before .validate-pages .ensures) ∙ c .enum-told .given .1 in
     (lawful-counts _ e, lawful-clean _ e)
 
 returns-2 : tie.Need-returns-2
 returns-2 c =
     let p = c .before .before in let k = p .before in let e = k .before in
-    first-found _ _ _ (e .before .before .validate-pages .ensures) (e .enum-told .given .1) (p .place-of .ensures .0) (k .collect .ensures .1) (c .before .if1 .taken)
+    first-found _ _ _ (e .before .before .validate-pages .ensures) (e .enum-told .given .1) (p .place-of .ensures .0) (k .collect-located .ensures .1) (c .before .if1 .taken)
 
 returns-3 : tie.Need-returns-3
 returns-3 c =
@@ -34,7 +34,7 @@ first-entry-spec =
     (λ c. search needs)
     returns
     (λ c. search needs)
-    collect-requires
+    collect-located-requires
     (λ c κs. search needs)
     (λ c. search needs)
     (λ c. search needs)

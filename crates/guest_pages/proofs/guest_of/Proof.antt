@@ -8,12 +8,12 @@ use Rattle.guest_pages.proofs.guest_of.Tie as tie
 returns : tie.Need-returns
 returns c =
     let k = c .before .before in let s = k .before .before in
-    c .refused .ensures ∙ sym (of-refused (s .args .built) (s .args .v) (k .verdict .given .1))
+    c .refused .ensures ∙ sym (of-refused (s .args .table) (s .args .v) (k .verdict .given .1))
 
 returns-2 : tie.Need-returns-2
 returns-2 c =
-    let k = c .before .before in let s = k .before .before in
-    c .guest-table .ensures ∙ sym (of-accepted (s .args .built) (s .args .v) (k .enum-told .given .1))
+    let k = c .before in let s = k .before .before in
+    c .guest-table .ensures ∙ sym (of-accepted (s .args .table) (s .args .v) (k .enum-told .given .1))
 
 pub guest-of-spec : {M : Type 1} → statement M
 guest-of-spec =

@@ -23,8 +23,9 @@ use Rattle.masking.specs.Kept.{places}
 use Rattle.table.specs.declared.CpuidResults.{CpuidResults}
 use Rattle.origins.specs.Origin.{Origin, originNumber}
 use Rattle.origins.specs.Origin.Origin.{neither, entry}
-use Rattle.collect.specs.FirstEntries.{placeOfEntry, standsAt, foundOrigins}
+use Rattle.collect.specs.FirstEntries.{placeOfEntry}
 use Rattle.collect.specs.Collect.{storedAt, insert, Collecting, collecting-next}
+use Rattle.locate.specs.Stands.{standsAt, foundOrigins}
 
 -- where the first counted entry of place i stands, of a list of entries
 abbrev standsIn : ℕ → List Entry → ℕ
