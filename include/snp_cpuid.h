@@ -155,6 +155,9 @@ struct snp_cpuid_first {
 /* The most bytes that a line can have. */
 #define SNP_CPUID_MOST_LINE_BYTES 22
 
+/* The bytes of the list of topologies. */
+#define SNP_CPUID_TOPOLOGIES_BYTES 5095
+
 /* Builds the table of the given pages. */
 struct snp_cpuid_built snp_cpuid_build(const uint8_t *pages, size_t length, bool secure_avic, uint32_t edition);
 
@@ -245,6 +248,12 @@ struct snp_cpuid_line_read snp_cpuid_read_line(const uint8_t *line, size_t lengt
  * as building gives them; then 20 where no flip changes anything, which is so exactly where building gives 3 for a leaf of the two
  * required lists. Of pages that building refuses otherwise some bit always decides: INVLPGB's, at the latest. */
 struct snp_cpuid_nearest snp_cpuid_nearest(const uint8_t *pages, size_t length, bool secure_avic, uint32_t edition);
+
+/* Writes every topology that building accepts with s from 0 to 7 at the front of out, five bytes each: s (80000008h.ECX bits 12-15), nc (its bits
+ * 0-7), lps (1.EBX bits 16-23), mt (1.EDX bit 28) and t (8000001Eh.EBX bits 8-15). They ascend by s, nc, lps, mt and t in turn, none stands twice,
+ * and there are 1,019. Pages whose inputs are on the list are refused by none of 6, 7 and 8; other pages with s up to 7 are never accepted. Number 9,
+ * where room is below SNP_CPUID_TOPOLOGIES_BYTES, leaves out as it was; bytes beyond the list are as they were. */
+struct snp_cpuid_written snp_cpuid_write_topologies(uint8_t *out, size_t room);
 
 #ifdef __cplusplus
 }

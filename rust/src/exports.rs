@@ -161,4 +161,5 @@ unsafe extern "C" {
     pub fn snp_cpuid_write_line(number: u32, leaf: u32, has_subleaf: bool, subleaf: u32, s: u32, out: *mut u8, room: usize) -> LineWritten;
     pub fn snp_cpuid_read_line(line: *const u8, length: usize) -> LineRead;
     pub fn snp_cpuid_nearest(pages: *const u8, length: usize, secure_avic: bool, edition: u32) -> Nearest;
+    pub fn snp_cpuid_write_topologies(out: *mut u8, room: usize) -> Written;
 }

@@ -27,6 +27,7 @@ mod options;
 mod origin;
 mod refusal;
 mod table;
+mod topologies;
 
 use answer::Answer;
 
@@ -40,6 +41,7 @@ pub use options::Options;
 pub use origin::{Found, Origin, first_entry};
 pub use refusal::{Details, Refusal, TopologyError};
 pub use table::{CpuidResult, Row, Rows, Table};
+pub use topologies::{TOPOLOGIES_BYTES, Topology, topologies, write_topologies};
 
 /// The bytes of a CPUID page.
 pub const PAGE_BYTES: usize = 4096;

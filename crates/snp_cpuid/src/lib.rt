@@ -25,6 +25,7 @@ mod guest_exports;
 mod kvm;
 mod line_exports;
 mod nearest_exports;
+mod topology_exports;
 
 // Builds the table of the given pages.
 #[no_mangle]

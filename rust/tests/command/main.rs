@@ -17,6 +17,7 @@ mod page_sets;
 mod refusals;
 mod run;
 mod table;
+mod topologies;
 mod usage;
 
 // the command's own tables: names, and the rows that go into pages

@@ -12,6 +12,7 @@ mod nearest;
 mod table;
 mod to_dump;
 mod to_kvm;
+mod topologies;
 
 use crate::command::Command;
 
@@ -29,5 +30,6 @@ pub const ALL: &[Command] = &[
     to_kvm::COMMAND,
     compare::COMMAND,
     nearest::COMMAND,
+    topologies::COMMAND,
     explain::COMMAND,
 ];
