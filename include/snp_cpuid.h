@@ -133,6 +133,19 @@ struct snp_cpuid_pooled {
     uint64_t max_extended_state; /* the combined mask */
 };
 
+/* The nearest bit that matters: number 0 with the bit's page, entry, register and bit, all from 0; else 15, 1, 2, 17 or 20, and no bit. */
+struct snp_cpuid_nearest {
+    uint32_t number;
+    uint32_t leaf;
+    uint32_t has_subleaf; /* 1 where the refusal names a subleaf */
+    uint32_t subleaf;
+    uint32_t s;
+    uint32_t entry;
+    uint64_t page;
+    uint32_t register_index; /* 0 to 3: EAX, EBX, ECX, EDX */
+    uint32_t bit;
+};
+
 /* Where the first entry for a leaf stands: number 0 with found 1, its page and its position on the page, both counted from 0, or with found 0 and
  * zeros where there is none; or number 1, 2 or 17 where the pages are not lawful, and 17 names its leaf. */
 struct snp_cpuid_first {
@@ -153,6 +166,9 @@ struct snp_cpuid_first {
 
 /* The most bytes that a line can have. */
 #define SNP_CPUID_MOST_LINE_BYTES 22
+
+/* The bytes of the list of topologies. */
+#define SNP_CPUID_TOPOLOGIES_BYTES 5095
 
 /* Builds the table of the given pages. */
 struct snp_cpuid_built snp_cpuid_build(const uint8_t *pages, size_t length, bool secure_avic, uint32_t edition);
@@ -256,6 +272,18 @@ struct snp_cpuid_line_written snp_cpuid_write_line(uint32_t number, uint32_t lea
 
 /* Reads the length bytes at line, the whole of them. They are a line exactly where snp_cpuid_write_line writes the same bytes for what they say. */
 struct snp_cpuid_line_read snp_cpuid_read_line(const uint8_t *line, size_t length);
+
+/* The first result bit, in entries below their page's count and ordered by page, entry, register and bit from 0, whose flip alone makes
+ * snp_cpuid_build answer otherwise: another table, refusal or detail. The pages are not written. Refusals in this order: 15, 1, 2 and 17,
+ * as building gives them; then 20 where no flip changes anything, which is so exactly where building gives 3 for a leaf of the two
+ * required lists. Of pages that building refuses otherwise some bit always decides: INVLPGB's, at the latest. */
+struct snp_cpuid_nearest snp_cpuid_nearest(const uint8_t *pages, size_t length, bool secure_avic, uint32_t edition);
+
+/* Writes every topology that building accepts with s from 0 to 7 at the front of out, five bytes each: s (80000008h.ECX bits 12-15), nc (its bits
+ * 0-7), lps (1.EBX bits 16-23), mt (1.EDX bit 28) and t (8000001Eh.EBX bits 8-15). They ascend by s, nc, lps, mt and t in turn, none stands twice,
+ * and there are 1,019. Pages whose inputs are on the list are refused by none of 6, 7 and 8; other pages with s up to 7 are never accepted. Number 9,
+ * where room is below SNP_CPUID_TOPOLOGIES_BYTES, leaves out as it was; bytes beyond the list are as they were. */
+struct snp_cpuid_written snp_cpuid_write_topologies(uint8_t *out, size_t room);
 
 #ifdef __cplusplus
 }

@@ -1,6 +1,6 @@
 //! The plain numbers by which every exported function tells a refusal, read in one place.
 
-use crate::exports::{Built, Compared, First, LineRead, Pooled, Written};
+use crate::exports::{Built, Compared, First, LineRead, Nearest, Pooled, Written};
 use crate::{Details, Refusal};
 
 /// An answer of an exported function that may be a refusal.
@@ -36,4 +36,4 @@ macro_rules! answers {
     };
 }
 
-answers!(Built, Written, Compared, LineRead, First, Pooled);
+answers!(Built, Written, Compared, LineRead, First, Pooled, Nearest);

@@ -63,7 +63,8 @@ impl Comparison {
 }
 
 impl Register {
-    fn from_index(index: u32) -> Register {
+    /// The register of an index from 0 to 3.
+    pub(crate) fn from_index(index: u32) -> Register {
         match index {
             0 => Register::Eax,
             1 => Register::Ebx,

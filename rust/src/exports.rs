@@ -79,6 +79,20 @@ pub struct Carried {
 
 #[repr(C)]
 #[derive(Clone, Copy, Debug, Default, PartialEq, Eq)]
+pub struct Nearest {
+    pub number: u32,
+    pub leaf: u32,
+    pub has_subleaf: u32,
+    pub subleaf: u32,
+    pub s: u32,
+    pub entry: u32,
+    pub page: u64,
+    pub register_index: u32,
+    pub bit: u32,
+}
+
+#[repr(C)]
+#[derive(Clone, Copy, Debug, Default, PartialEq, Eq)]
 pub struct First {
     pub number: u32,
     pub leaf: u32,
@@ -182,4 +196,6 @@ unsafe extern "C" {
         out: *mut u8,
         room: usize,
     ) -> Written;
+    pub fn snp_cpuid_nearest(pages: *const u8, length: usize, secure_avic: bool, edition: u32) -> Nearest;
+    pub fn snp_cpuid_write_topologies(out: *mut u8, room: usize) -> Written;
 }

@@ -22,11 +22,13 @@ pub mod exports;
 mod guest;
 mod kvm;
 mod line;
+mod nearest;
 mod options;
 mod origin;
 mod pool;
 mod refusal;
 mod table;
+mod topologies;
 
 use answer::Answer;
 
@@ -35,11 +37,13 @@ pub use comparison::{Comparison, Register};
 pub use guest::{Processor, guest, guest_lookup, write_guest_image};
 pub use kvm::{KVM_PAGES_BYTES, MOST_KVM_BYTES, read_kvm, write_kvm};
 pub use line::NoSuchLine;
+pub use nearest::{Bit, nearest};
 pub use options::Options;
 pub use origin::{Found, Origin, first_entry};
 pub use pool::{NotPooled, pool, pool_lookup, write_pool_image};
 pub use refusal::{Details, Refusal, TopologyError};
 pub use table::{CpuidResult, Row, Rows, Table};
+pub use topologies::{TOPOLOGIES_BYTES, Topology, topologies, write_topologies};
 
 /// The bytes of a CPUID page.
 pub const PAGE_BYTES: usize = 4096;

@@ -93,8 +93,9 @@ fn declarations_are_the_headers() {
 #[test]
 fn the_constants_are_the_headers() {
     let text = read("../include/snp_cpuid.h");
-    for (name, value) in [("IMAGE", snp_cpuid::MOST_IMAGE_BYTES), ("LINE", snp_cpuid::MOST_LINE_BYTES)] {
-        let line = text.lines().find_map(|l| l.strip_prefix(&format!("#define SNP_CPUID_MOST_{name}_BYTES "))).expect("the constant");
+    let topologies = ("TOPOLOGIES", snp_cpuid::TOPOLOGIES_BYTES);
+    for (name, value) in [("MOST_IMAGE", snp_cpuid::MOST_IMAGE_BYTES), ("MOST_LINE", snp_cpuid::MOST_LINE_BYTES), topologies] {
+        let line = text.lines().find_map(|l| l.strip_prefix(&format!("#define SNP_CPUID_{name}_BYTES "))).expect("the constant");
         assert_eq!(line.trim().parse(), Ok(value));
     }
 }

@@ -25,6 +25,8 @@ mod guest_exports;
 mod kvm;
 mod line_exports;
 mod pool_exports;
+mod nearest_exports;
+mod topology_exports;
 
 // Builds the table of the given pages.
 #[no_mangle]

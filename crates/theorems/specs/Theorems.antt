@@ -21,9 +21,17 @@ use Rattle.checks.specs.ExtendedState.{saveArea}
 use Rattle.table.specs.declared.Verdict.the-variants.{Accepted, Refused}
 use Rattle.bits.specs.Lists.{keepIf}
 use Rattle.topology.specs.declared.Topology.the-variants.{Processors}
-use Rattle.topology.specs.Topology.{Inputs, topologyOf, shiftOf}
+use Rattle.topology.specs.Topology.{Inputs, inputs, topologyOf, shiftOf}
 use Rattle.topology.specs.TopologyLaws.{LeastShift, shift-least}
 use Rattle.topology.specs.ShiftChange.{HighestBit, ShiftChange, shift-changes, three-and-128}
+use Rattle.topologies.specs.Topologies.{acceptedInputs, inputsBytes, writeTopologies}
+use Rattle.topologies.specs.WriteLaws.{list-bytes}
+use Rattle.listed.specs.Listed.{In, Determined, Counted as TopologiesCounted}
+use Rattle.listed.specs.ListedProof.{determined, counted as topologies-counted}
+use Rattle.listed.specs.Builds.{BuildsListed, inputsFor}
+use Rattle.listed.specs.BuildsProof.{builds-listed}
+use Rattle.listed.specs.Writes.{writes-exactly as topologies-write-exactly}
+use Rattle.listed_examples.specs.Topologies as Topologies
 use Rattle.pages.specs.Entries.{entries, counted}
 use Rattle.masking.specs.Kept.{places}
 use Rattle.masking.specs.Place
@@ -106,7 +114,7 @@ use Rattle.carried.specs.Moves.{MovesToSecond}
 use Rattle.carried.specs.MovesProof.{moves-to-second}
 use Rattle.carried.specs.CarryExactly.{CarryExactly, carry-exactly}
 use Rattle.carry_examples.specs.WithoutYmmMoved as Moved
-use Rattle.topology.specs.declared.TopologyError.the-variants.{ThreadsPerUnit}
+use Rattle.topology.specs.declared.TopologyError.the-variants.{ProcessorCount, ThreadsPerUnit}
 use Rattle.pages.specs.Layout.{Entry}
 use Rattle.added.specs.Added.{Added, Covered}
 use Rattle.added.specs.BeginningLaws.{entries-begin}
@@ -492,6 +500,50 @@ shift-changed-only-there = shift-changes
 pub three-need-two-bits : shiftOf 3 ∷ shiftOf 128 ∷ [] ≡ 2 ∷ 7 ∷ []
 three-need-two-bits = three-and-128
 
+-- ---- P14: every lawful topology up to size seven. crates/topologies/specs/Topologies.antt has the list, from the topology's own definition, and
+-- what writing it answers; crates/listed/specs/Listed.antt what P14 asks of a list.
+
+-- each accepted input with s up to 7 stands in the list, no other does, and they ascend by s, nc, lps, mt and t, so that none stands twice; any list
+-- of which this is true is the list
+pub topologies-determined : Determined
+topologies-determined = determined
+
+-- there are 1,019: 511 for s = 0 and 508 above, five bytes each
+pub topologies-1019 : TopologiesCounted acceptedInputs
+topologies-1019 = topologies-counted
+
+pub topologies-5095-bytes : length (inputsBytes acceptedInputs) ≡ 5095
+topologies-5095-bytes = list-bytes
+
+-- 9 exactly where the buffer is shorter, and then every lent byte is as it was; else the list is at its front, and the bytes beyond it are as
+-- they were
+pub each-topologies-write-exactly : (buffer : List ℕ) → FrontExactly Accepted (inputsBytes acceptedInputs) buffer (writeTopologies buffer)
+each-topologies-write-exactly = topologies-write-exactly
+
+-- a page set with s up to 7 is accepted if and only if no check before the topology's refuses it and its inputs are listed; its table's B.0 and B.1
+-- are then those of the listed input. crates/listed/specs/Builds.antt
+pub building-accepts-the-listed : (chosen : Choices) (s : List ℕ) → BuildsListed chosen s
+building-accepts-the-listed = builds-listed
+
+-- Not empty words: whole page sets with three processors and with 128, each with its inputs, which are listed, and its B.0 and B.1; nc = 255 with
+-- s = 0 is refused by 7 and not listed. crates/listed_examples/specs/Topologies.antt
+pub three-processors-listed : (inputsFor first Topologies.threeProcessors ≡ inputs 0 2 3 1 1)
+    × (answer first Topologies.threeProcessors .verdict ≡ Accepted)
+    × In (inputs 0 2 3 1 1) acceptedInputs
+    × (Topologies.levelsOf Topologies.threeProcessors ≡ result 1 2 0x100 0 ∷ result 2 3 0x201 0 ∷ [])
+three-processors-listed = (Topologies.three-inputs, Topologies.three-accepted, Topologies.three-listed, Topologies.three-levels)
+
+pub largest-listed : (inputsFor first Topologies.largestServer ≡ inputs 7 127 128 1 1)
+    × (answer first Topologies.largestServer .verdict ≡ Accepted)
+    × In (inputs 7 127 128 1 1) acceptedInputs
+    × (Topologies.levelsOf Topologies.largestServer ≡ result 1 2 0x100 0 ∷ result 7 128 0x201 0 ∷ [])
+largest-listed = (Topologies.largest-inputs, Topologies.largest-accepted, Topologies.largest-listed, Topologies.largest-levels)
+
+pub nc-255-not-listed : (inputsFor first Topologies.wrappedServer ≡ inputs 0 255 0 1 0)
+    × (answer first Topologies.wrappedServer .verdict ≡ Refused (TopologyInconsistent (ProcessorCount 0)))
+    × (In (inputs 0 255 0 1 0) acceptedInputs → ⊥)
+nc-255-not-listed = (Topologies.wrapped-inputs, Topologies.wrapped-refused, Topologies.wrapped-unlisted)
+
 -- ---- Counts. crates/counts/specs/Counts.antt.
 
 -- 26 rows and one for each combined bit from 2 up, at most 32; an image of 582 bytes and 25 for each such bit
@@ -740,3 +792,5 @@ a-third-server-lifts-it = Differ.a-and-d-and-w
 pub a-server-more-adds-nothing :
     NothingMore (poolTable first (serverA ++ Pools.serverW) Pools.two) (poolTable first (serverA ++ Differ.serverD ++ Pools.serverW) Differ.three)
 a-server-more-adds-nothing = PoolInstances.of-one-more
+
+-- ---- P13: the nearest bit that matters. NearestBit.antt.

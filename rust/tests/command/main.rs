@@ -11,12 +11,14 @@ mod guest;
 mod kvm;
 mod lookup;
 mod names;
+mod nearest;
 mod origins;
 mod page_sets;
 mod pool;
 mod refusals;
 mod run;
 mod table;
+mod topologies;
 mod usage;
 
 // the command's own tables: names, and the rows that go into pages

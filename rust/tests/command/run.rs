@@ -31,8 +31,13 @@ pub fn under_one_edition() -> impl Iterator<Item = &'static &'static [&'static s
 }
 
 /// Runs of the other commands that read a file.
-pub const READING: &[&[&str]] =
-    &[&["from-dump", "PAGES", "-o", "OUT"], &["from-kvm", "PAGES", "-o", "OUT"], &["compare", "PAGES", EPYC], &["compare", EPYC, "PAGES"]];
+pub const READING: &[&[&str]] = &[
+    &["from-dump", "PAGES", "-o", "OUT"],
+    &["from-kvm", "PAGES", "-o", "OUT"],
+    &["compare", "PAGES", EPYC],
+    &["compare", EPYC, "PAGES"],
+    &["nearest", "PAGES"],
+];
 
 /// A run of these lists with its files.
 pub fn with_files(run: &[&str], pages: &str, out: &str) -> Vec<String> {

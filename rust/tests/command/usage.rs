@@ -56,7 +56,7 @@ const SHARED: [&str; 3] = [
 #[test]
 fn shared_options_are_told_alike() {
     for name in commands() {
-        let builds = name == "compare" || BUILDING.iter().any(|run| run[0] == name);
+        let builds = ["compare", "nearest"].contains(&name.as_str()) || BUILDING.iter().any(|run| run[0] == name);
         let ran = run(&[name.as_str(), "--help"]);
         for told in SHARED {
             let (option, _) = told.split_once(' ').unwrap();
@@ -70,7 +70,7 @@ fn shared_options_are_told_alike() {
 
 #[test]
 fn bad_usage_is_status_2_and_one_line() {
-    let cases: [(&[&str], &str); 18] = [
+    let cases: [(&[&str], &str); 19] = [
         (&[], "no command"),
         (&["tables"], "no command 'tables'"),
         (&["help", "nothing"], "no command 'nothing'"),
@@ -86,6 +86,7 @@ fn bad_usage_is_status_2_and_one_line() {
         (&["from-dump", EPYC], "-o FILE is missing"),
         (&["from-dump", EPYC, "-o", "x", "--secure-avic"], "no option '--secure-avic'"),
         (&["compare", EPYC], "B is missing"),
+        (&["nearest"], "PAGES is missing"),
         (&["explain"], "LINE is missing"),
         (&["explain", "3 0000000D", "12"], "one operand too many"),
         (&["compare", "-", "-"], "A and B cannot both be standard input"),

@@ -6,7 +6,7 @@ use crate::input::{read, shown};
 use crate::numbers::decimal;
 use crate::option::Opt;
 use crate::output;
-use snp_cpuid::{Comparison, MOST_KVM_BYTES, NotPooled, Options, Processor, Refusal, Table};
+use snp_cpuid::{Bit, Comparison, MOST_KVM_BYTES, NotPooled, Options, Processor, Refusal, Table};
 use std::ffi::OsStr;
 use std::fmt::Display;
 
@@ -60,6 +60,11 @@ impl Building {
     /// The table of a pool of servers.
     pub fn pool(&self, sets: &[Vec<u8>]) -> Result<Table, NotPooled> {
         snp_cpuid::pool(sets, self.options)
+    }
+
+    /// The nearest bit that matters.
+    pub fn nearest(&self, pages: &[u8]) -> Result<Bit, Refusal> {
+        snp_cpuid::nearest(pages, self.options)
     }
 
     /// The list for KVM of a file of pages.

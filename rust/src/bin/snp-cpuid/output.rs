@@ -24,6 +24,20 @@ pub const fn file_or_standard_output(name: &'static str) -> Opt {
     Opt { names: NAMES, value: Value::File(name), required: false, help }
 }
 
+/// The option of a command that prints text, and writes bytes instead where it is given.
+pub const fn bytes_to_file(name: &'static str) -> Opt {
+    let help = "write bytes to a file; it is replaced as a whole, and only where all went well";
+    Opt { names: NAMES, value: Value::File(name), required: false, help }
+}
+
+/// Bytes to the file that `-o` names; where it is not given, text to standard output.
+pub fn write_or_print(arguments: &Arguments, bytes: &[u8], text: &str) -> Result<(), Failure> {
+    match arguments.value(NAMES[0]) {
+        Some(name) => to_file(name, bytes),
+        None => print(text),
+    }
+}
+
 /// Bytes to the file that `-o` names, and to standard output where it is not given.
 pub fn write(arguments: &Arguments, bytes: &[u8]) -> Result<(), Failure> {
     match arguments.value(NAMES[0]) {

@@ -3,7 +3,7 @@
 use crate::arguments::Arguments;
 use crate::building::{self, Building};
 use crate::command::Command;
-use crate::differences::differences;
+use crate::differences::{Tables, differences};
 use crate::failure::Failure;
 use crate::features::REGISTERS;
 use crate::input::{read, shown};
@@ -71,7 +71,7 @@ fn run(arguments: &Arguments) -> Result<(), Failure> {
     let edition = building.edition();
     let mut report = format!("A  {}\nB  {}\nunder edition {edition} of the AVX rule\n\n{}\n\n", a.file, b.file, verdict(equal, &rises, &falls));
     if let (Ok(table_a), Ok(table_b)) = (&a.table, &b.table) {
-        report += &differences(table_a, table_b);
+        report += &differences(&Tables { names: ["A", "B"], origins: true }, table_a, table_b);
     }
     report += &(rises.told() + &falls.told());
     output::print(report)?;

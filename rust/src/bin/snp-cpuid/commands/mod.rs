@@ -9,9 +9,11 @@ mod guest;
 mod image;
 mod lookup;
 mod pool;
+mod nearest;
 mod table;
 mod to_dump;
 mod to_kvm;
+mod topologies;
 
 use crate::command::Command;
 
@@ -29,5 +31,7 @@ pub const ALL: &[Command] = &[
     to_kvm::COMMAND,
     compare::COMMAND,
     pool::COMMAND,
+    nearest::COMMAND,
+    topologies::COMMAND,
     explain::COMMAND,
 ];

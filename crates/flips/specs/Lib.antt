@@ -1,0 +1,7 @@
+pub mod Flips
+pub mod OneBit
+pub mod OneBitLaws
+pub mod WordLaws
+pub mod EntryLaws
+pub mod CleanLaws
+pub mod ListLaws

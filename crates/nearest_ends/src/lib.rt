@@ -1,0 +1,1 @@
+// What the nearest bit that matters comes to: theorems, and no code.

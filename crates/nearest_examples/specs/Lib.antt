@@ -1,0 +1,2 @@
+pub mod AreBytes
+pub mod NearestBits

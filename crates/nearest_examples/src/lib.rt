@@ -1,0 +1,1 @@
+// Page sets for each answer of the nearest bit that matters, computed: no code.
