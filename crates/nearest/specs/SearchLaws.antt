@@ -19,8 +19,8 @@ use Rattle.pages.specs.declared.CpuidPageIndex.{CpuidPageIndex}
 use Rattle.pages.specs.Layout.{Entry, entryAt, pagesIn, mostEntries}
 use Rattle.pages.specs.LayoutLaws.{counts-fit-at}
 use Rattle.pages.specs.Entries.{entries}
-use Rattle.pages.specs.Walk.{firstIndex, incremented, rest}
-use Rattle.pages.specs.WalkLaws.{Valid, Turn, turn, first-valid, rest-first, rest-end}
+use Rattle.walk.specs.Walk.{firstIndex, incremented, rest}
+use Rattle.walk.specs.WalkLaws.{Valid, Turn, turn, first-valid, rest-first, rest-end}
 use Rattle.masking.specs.Kept.{places}
 use Rattle.masking.specs.Masks.{applyMask}
 use Rattle.masks.specs.declared.KeptLeaf.{KeptLeaf}

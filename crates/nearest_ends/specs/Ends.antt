@@ -17,8 +17,8 @@ use Rattle.bits.specs.Bits.{has}
 use Rattle.x86defs.specs.declared.CpuidResult.{CpuidResult}
 use Rattle.pages.specs.declared.CpuidPageIndex.{CpuidPageIndex}
 use Rattle.pages.specs.Layout.{Entry, entryAt, pagesIn}
-use Rattle.pages.specs.Walk.{firstIndex, incremented, rest}
-use Rattle.pages.specs.WalkLaws.{turn, rest-end}
+use Rattle.walk.specs.Walk.{firstIndex, incremented, rest}
+use Rattle.walk.specs.WalkLaws.{turn, rest-end}
 use Rattle.masking.specs.Kept.{keptLeaves, placeOf, places}
 use Rattle.masking.specs.Masks.{applyMask}
 use Rattle.masking.specs.Place

@@ -2,5 +2,4 @@ pub mod Layout
 pub mod LayoutLaws
 pub mod Entries
 pub mod EntriesLaws
-pub mod Walk
-pub mod WalkLaws
+pub mod Parsed

@@ -1,11 +1,11 @@
-// The CPUID pages of the SEV-SNP firmware. Page bytes come in; the entries that count go out, in order.
+// The CPUID pages of the SEV-SNP firmware. Page bytes come in; their counts and the entry at an index go out.
 use x86defs::CpuidFunction;
 use x86defs::CpuidResult;
 ghost use mathlib.Core.Path.{_≡_};
 ghost use Prim.Native.Nat.{_+_, _≤_, _<_};
 ghost use lib.ListN.{length, getD};
 ghost use Rattle.pages.specs.Layout.{wordAt, pagesIn, countOf, badLength, countsFit, entryAt, mostEntries};
-ghost use Rattle.pages.specs.Walk.{firstIndex, nextValid, incremented, firstFrom, parsed};
+ghost use Rattle.pages.specs.Parsed.{parsed};
 
 pub const PAGE_SIZE: usize = 4096;
 
@@ -78,71 +78,6 @@ pub fn counts_fit(pages: &[u8]) -> bool
     true
 }
 
-// The index of the first entry, or the end. The source's `CpuidPageIndex::new`.
-pub fn first_index(pages: &[u8]) -> CpuidPageIndex
-    ensures { λ r. ⌜ r ≡ firstIndex (now (pages .entry)) ⌝ }
-{
-    let start = CpuidPageIndex {
-        page_index: 0,
-        function_index: 0,
-    };
-    next_valid_index(pages, start)
-}
-
-// The index as it is where it stands below its page's count; else the first entry of a later page, or the end.
-pub fn next_valid_index(pages: &[u8], index: CpuidPageIndex) -> CpuidPageIndex
-    ensures { λ r. ⌜ r ≡ nextValid (now (pages .entry)) index ⌝ }
-{
-    let n = page_count(pages);
-    let page = index.page_index;
-    if page < n {
-        let position = index.function_index;
-        if position < count_of(pages, page) as usize {
-            return index;
-        }
-        let later = page + 1;
-        return skip_empty(pages, later, n - later);
-    }
-    CpuidPageIndex {
-        page_index: n,
-        function_index: 0,
-    }
-}
-
-// The index of the entry after this one, or the end; past the last page the index stays as it is.
-// A position at or above its page's count goes to a later page, as the next position would. The count is read once, and what leads to a
-// later page stands in a function of its own, so that a loop over one page's entries stays short when this is compiled into it.
-pub fn increment(pages: &[u8], index: CpuidPageIndex) -> CpuidPageIndex
-    ensures { λ r. ⌜ r ≡ incremented (now (pages .entry)) index ⌝ }
-{
-    let page = index.page_index;
-    if page < page_count(pages) {
-        let position = index.function_index;
-        let count = count_of(pages, page) as usize;
-        if position < count {
-            let after = position + 1;
-            if after < count {
-                return CpuidPageIndex {
-                    page_index: page,
-                    function_index: after,
-                };
-            }
-            return later_page(pages, page);
-        }
-        return later_page(pages, page);
-    }
-    index
-}
-
-// The first entry of the pages after this one, or the end.
-fn later_page(pages: &[u8], page: usize) -> CpuidPageIndex
-    requires { ⌜ page < pagesIn (now pages) ⌝ }
-    ensures { λ r. ⌜ r ≡ firstFrom (now (pages .entry)) (page + 1) ⌝ }
-{
-    let later = page + 1;
-    skip_empty(pages, later, page_count(pages) - later)
-}
-
 // The entry at an index.
 pub fn entry_at(pages: &[u8], index: CpuidPageIndex) -> ParsedCpuidEntry
     requires { ⌜ (index .«page_index» < pagesIn (now pages)) × (index .«function_index» < mostEntries) ⌝ }
@@ -159,28 +94,6 @@ pub fn entry_at(pages: &[u8], index: CpuidPageIndex) -> ParsedCpuidEntry
             ecx: word_at(pages, o + 32),
             edx: word_at(pages, o + 36),
         },
-    }
-}
-
-// The first entry of the `left` pages from `page` on, or the end: empty pages are passed over, as in the source's `next_valid_index`.
-fn skip_empty(pages: &[u8], page: usize, left: usize) -> CpuidPageIndex
-    requires { ⌜ page + left ≡ pagesIn (now pages) ⌝ }
-    ensures { λ r. ⌜ r ≡ firstFrom (now (pages .entry)) page ⌝ }
-{
-    let end = page + left;
-    let mut at = page;
-    while at < end {
-        if count_of(pages, at) != 0 {
-            return CpuidPageIndex {
-                page_index: at,
-                function_index: 0,
-            };
-        }
-        at += 1;
-    }
-    CpuidPageIndex {
-        page_index: at,
-        function_index: 0,
     }
 }
 

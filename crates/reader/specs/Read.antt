@@ -9,7 +9,8 @@ use Rattle.bits.specs.Choice.{pick}
 use Rattle.pages.specs.declared.CpuidPageIndex.{CpuidPageIndex}
 use Rattle.pages.specs.declared.ParsedCpuidEntry.{ParsedCpuidEntry}
 use Rattle.pages.specs.Layout.{pagesIn, countOf, countsFit, entryAt}
-use Rattle.pages.specs.Walk.{incremented, parsed}
+use Rattle.pages.specs.Parsed.{parsed}
+use Rattle.walk.specs.Walk.{incremented}
 use Rattle.reserved.specs.Reserved.{cleanAt, allClean}
 use Rattle.reader.specs.declared.Taken.{Taken}
 

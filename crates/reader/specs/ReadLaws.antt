@@ -14,8 +14,9 @@ use Rattle.pages.specs.declared.ParsedCpuidEntry.{ParsedCpuidEntry}
 use Rattle.pages.specs.Layout.{Entry, pagesIn, mostEntries, entryAt}
 use Rattle.pages.specs.LayoutLaws.{counts-fit-at}
 use Rattle.pages.specs.Entries.{entries, counts, counted}
-use Rattle.pages.specs.Walk.{incremented, parsed, countsRead, rest, firstIndex}
-use Rattle.pages.specs.WalkLaws.{Valid, Turn, turn, first-valid, rest-first, rest-end}
+use Rattle.pages.specs.Parsed.{parsed, countsRead}
+use Rattle.walk.specs.Walk.{incremented, rest, firstIndex}
+use Rattle.walk.specs.WalkLaws.{Valid, Turn, turn, first-valid, rest-first, rest-end}
 use Rattle.reserved.specs.Reserved.{cleanAt, clean, allClean}
 use Rattle.reserved.specs.ReservedLaws.{clean-at, clean-kept}
 use Rattle.reader.specs.Read.{Readable, given}

@@ -3,7 +3,7 @@
 use pages::CpuidPageIndex;
 use pages::ParsedCpuidEntry;
 ghost use mathlib.Core.Path.{_≡_};
-ghost use Rattle.pages.specs.Walk.{firstIndex, incremented};
+ghost use Rattle.walk.specs.Walk.{firstIndex, incremented};
 ghost use Rattle.reader.specs.Read.{Readable, Step};
 
 // The caller's pages, and where the reader stands on them.
@@ -24,7 +24,7 @@ pub fn new<'a>(cpuid_pages: &'a [u8]) -> SnpCpuidIterator<'a>
 {
     SnpCpuidIterator {
         cpuid_pages,
-        index: pages::first_index(cpuid_pages),
+        index: walk::first_index(cpuid_pages),
     }
 }
 
@@ -32,7 +32,7 @@ pub fn new<'a>(cpuid_pages: &'a [u8]) -> SnpCpuidIterator<'a>
 pub fn increment(index: &mut CpuidPageIndex, pages: &[u8])
     ensures { λ _. ⌜ now (index .exit) ≡ incremented (now (pages .entry)) (now (index .entry)) ⌝ }
 {
-    *index = pages::increment(pages, *index);
+    *index = walk::increment(pages, *index);
 }
 
 // Where a new reader stands.

@@ -35,7 +35,8 @@ use Rattle.listed_examples.specs.Topologies as Topologies
 use Rattle.pages.specs.Entries.{entries, counted}
 use Rattle.masking.specs.Kept.{places}
 use Rattle.masking.specs.Place
-use Rattle.pages.specs.Walk.{firstIndex, parsed, countsRead}
+use Rattle.pages.specs.Parsed.{parsed, countsRead}
+use Rattle.walk.specs.Walk.{firstIndex}
 use Rattle.build.specs.Built.{SameButOrigins}
 use Rattle.build.specs.Build.{answer, originAt}
 use Rattle.reader.specs.Read.{given}

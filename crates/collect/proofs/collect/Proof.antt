@@ -6,8 +6,8 @@ use mathlib.Core.Logic.{⊎-elim}
 use Prim.Native.Nat.{_-_, _≤_, _<_}
 use lib.ListN.{length}
 use Rattle.pages.specs.Layout.{pagesIn}
-use Rattle.pages.specs.Walk.{rest}
-use Rattle.pages.specs.WalkLaws.{turn}
+use Rattle.walk.specs.Walk.{rest}
+use Rattle.walk.specs.WalkLaws.{turn}
 use Rattle.collect.specs.Collect.{countedPlace, counted-place-stored, turn-kept, turn-new, turn-none, Collecting, collecting-first, collecting-next, collecting-last}
 use Rattle.collect.proofs.collect.Statement.{statement}
 use Rattle.collect.proofs.collect.Tie as tie

@@ -7,8 +7,8 @@ use Prim.Native.Nat.{_-_, _^_, _≤_, _<_}
 use lib.ListN.{length}
 use denote.Ref.{now}
 use Rattle.pages.specs.Layout.{pagesIn}
-use Rattle.pages.specs.Walk.{rest}
-use Rattle.pages.specs.WalkLaws.{turn}
+use Rattle.walk.specs.Walk.{rest}
+use Rattle.walk.specs.WalkLaws.{turn}
 use Rattle.collect.specs.Collect.{countedPlace, counted-place-stored, turn-kept, turn-new, turn-none, Collecting, collecting-first, collecting-last}
 use Rattle.locate.specs.OriginsLaws.{number-fits, finding-next, Locating, locating-first, locating-kept, locating-none, locating-new, locating-last}
 use Rattle.locate.proofs.collect_located.Statement.{statement}

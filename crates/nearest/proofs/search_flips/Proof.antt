@@ -6,8 +6,8 @@ use mathlib.Core.Logic.{⊎-elim}
 use Prim.Native.Nat.{ℕ, _<_}
 use lib.ListN.{length, getD}
 use Rattle.pages.specs.declared.ParsedCpuidEntry.{ParsedCpuidEntry}
-use Rattle.pages.specs.Walk.{rest}
-use Rattle.pages.specs.WalkLaws.{turn}
+use Rattle.walk.specs.Walk.{rest}
+use Rattle.walk.specs.WalkLaws.{turn}
 use Rattle.table.specs.Table.{rowsIn}
 use Rattle.collect.specs.Collect.{countedPlace, counted-place-stored, collected-rows, row-masks}
 use Rattle.build.specs.LawfulLaws.{lawful-counts, lawful-clean}

@@ -44,7 +44,8 @@ use denote.Triple.Walked.{says, needs, Stays, stay-none, stay-none-slice, walkOf
 use denote.Triple.Clauses.{ensured, lasts}
 use denote.Exit.{yes}
 use Rattle.pages.specs.Layout.{entryAt}
-use Rattle.pages.specs.Walk.{incremented, parsed}
+use Rattle.pages.specs.Parsed.{parsed}
+use Rattle.walk.specs.Walk.{incremented}
 use Rattle.pages.specs.declared.CpuidPageIndex.{CpuidPageIndex}
 use Rattle.pages.specs.declared.ParsedCpuidEntry.{ParsedCpuidEntry}
 use Rattle.pages.proofs.CpuidPageIndex as P

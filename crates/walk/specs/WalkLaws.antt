@@ -13,10 +13,10 @@ use Rattle.bits.specs.ChoiceLaws.{and-right}
 use Rattle.bits.specs.Search.{Failing, lowest}
 use Rattle.bits.specs.Search.Failing.{at, none}
 use Rattle.bits.specs.SearchLaws.{lowest-at}
 use Rattle.pages.specs.declared.CpuidPageIndex.{CpuidPageIndex}
 use Rattle.pages.specs.Layout.{entryAt, pagesIn, countOf}
 use Rattle.pages.specs.Entries.{onPage, onPages, entries}
-use Rattle.pages.specs.Walk.{index, isEntry, isEmpty, startOf, firstFrom, nextValid, firstIndex, incremented, rest}
+use Rattle.walk.specs.Walk.{index, isEntry, isEmpty, startOf, firstFrom, nextValid, firstIndex, incremented, rest}
 
 -- ---- the first entry from page p on
 

@@ -2,9 +2,9 @@
 use mathlib.Core.Path.{sym, _∙_}
 use native.Mathlib.Omega.{arith}
 use borrow.Author.Needs.{needs}
-use Rattle.pages.specs.WalkLaws.{next-here, next-later, incremented-inside, incremented-end}
-use Rattle.pages.proofs.increment.Statement.{statement}
-use Rattle.pages.proofs.increment.Tie as tie
+use Rattle.walk.specs.WalkLaws.{next-here, next-later, incremented-inside, incremented-end}
+use Rattle.walk.proofs.increment.Statement.{statement}
+use Rattle.walk.proofs.increment.Tie as tie
 
 returns : tie.Need-returns
 returns c = sym (incremented-inside _ _ _ (omega arith) ∙ next-here _ _ _ (omega arith) (omega arith))

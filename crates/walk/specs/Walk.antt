@@ -54,11 +54,3 @@ rest s i =
     let p : ℕ = i .«page_index» in
     let q : ℕ = i .«function_index» in
     pick (ltb p (pagesIn s)) (onPage s p q (countOf s p - q) ++ onPages s (p + 1) (pagesIn s - (p + 1))) []
-
--- what the code takes of an entry
-abbrev pub parsed : Entry → ParsedCpuidEntry
-parsed e = record { page = e .page; leaf = e .leaf; subleaf = e .subleaf; result = e .registers }
-
--- whether what was taken is of an entry that counts
-abbrev pub countsRead : ParsedCpuidEntry → Bool
-countsRead e = countsOn (e .page) (e .leaf)

@@ -3,11 +3,11 @@
 use mathlib.Core.Path.{_≡_, refl, sym, ap, _∙_}
 use Prim.Native.Nat.{_-_, _≤_}
 use native.Mathlib.Omega.{arith}
 use Rattle.pages.specs.Layout.{pagesIn}
-use Rattle.pages.specs.Walk.{index, firstFrom}
-use Rattle.pages.specs.WalkLaws.{first-from-end, first-from-here, first-from-later}
-use Rattle.pages.proofs.skip_empty.Statement.{statement}
-use Rattle.pages.proofs.skip_empty.Tie as tie
+use Rattle.walk.specs.Walk.{index, firstFrom}
+use Rattle.walk.specs.WalkLaws.{first-from-end, first-from-here, first-from-later}
+use Rattle.walk.proofs.skip_empty.Statement.{statement}
+use Rattle.walk.proofs.skip_empty.Tie as tie
 
 abbrev Inv-loop : tie.InvT-loop
 Inv-loop pages page left end at₀ at = (at ≤ pagesIn pages) × (firstFrom pages page ≡ firstFrom pages at)

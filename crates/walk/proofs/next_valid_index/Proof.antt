@@ -2,10 +2,10 @@
 use mathlib.Core.Path.{sym, ap, _∙_}
 use native.Mathlib.Omega.{arith}
 use borrow.Author.Needs.{needs}
-use Rattle.pages.specs.Walk.{index}
-use Rattle.pages.specs.WalkLaws.{next-here, next-later, next-end}
-use Rattle.pages.proofs.next_valid_index.Statement.{statement}
-use Rattle.pages.proofs.next_valid_index.Tie as tie
+use Rattle.walk.specs.Walk.{index}
+use Rattle.walk.specs.WalkLaws.{next-here, next-later, next-end}
+use Rattle.walk.proofs.next_valid_index.Statement.{statement}
+use Rattle.walk.proofs.next_valid_index.Tie as tie
 
 returns : tie.Need-returns
 returns c = sym (next-here _ _ _ (omega arith) (omega arith))
