@@ -27,8 +27,8 @@ use Rattle.checks.specs.ExtendedStateLaws.{area-mono, in-combined}
 use Rattle.checks.specs.TopologyInputs.{inputsOf}
 use Rattle.checks.specs.Checks.{refuseAt, missingComponent, requiredVerdict, invlpgbVerdict, componentsOf, componentsVerdict, areaVerdict, topologyVerdict, rowsVerdict}
 use Rattle.checks.specs.ChecksLaws.{all-pass, required-present, present-required, component-present}
-use Rattle.update.specs.Finish.{Rule, Settings, ruleAt, enabledBy, ymmClears, settings, finishRow, finished}
-use Rattle.update.specs.Finish.Rule.{made as madeRule, needed, component}
+use Rattle.features.specs.Finish.{Rule, Settings, ruleAt, enabledBy, ymmClears, settings, finishRow, finished}
+use Rattle.features.specs.Finish.Rule.{made as madeRule, needed, component}
 use Rattle.update.specs.Kinds.{fromEntry}
 use Rattle.update.specs.PlaceLaws.{always, required-place, position, always-required, component-rule, Sort, sort}
 use Rattle.update.specs.PlaceLaws.Sort.{made, required, subleaf}

@@ -7,7 +7,7 @@ use Rattle.table.specs.Rows.{Rows}
 use Rattle.checks.specs.ExtendedState.{combinedMask}
 use Rattle.checks.specs.Checks.{rowsVerdict}
 use Rattle.table.specs.declared.CpuidResults.{CpuidResults}
-use Rattle.update.specs.Finish.{finished}
+use Rattle.features.specs.Finish.{finished}
 use Rattle.table.specs.Table.{tableOf, emptyTable}
 use Rattle.build.specs.declared.RowsBuilt.{RowsBuilt}
 use Rattle.build.specs.declared.Built.{Built}

@@ -23,7 +23,7 @@ use Rattle.table.specs.Rows.{Rows}
 use Rattle.checks.specs.ExtendedState.{xfem, combinedMask, saveArea, sizeOf}
 use Rattle.checks.specs.ExtendedStateLaws.{area-same}
 use Rattle.checks.specs.TopologyInputs.{inputsOf}
-use Rattle.update.specs.Finish.{finished}
+use Rattle.features.specs.Finish.{finished}
 use Rattle.checks.specs.Checks.{requiredVerdict, sizeVerdict, areaVerdict, topologyVerdict, rowsVerdict}
 use Rattle.table.specs.Table.{tableOf, rowsIn}
 use Rattle.build.specs.Built.{builtFrom}

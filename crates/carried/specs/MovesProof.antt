@@ -23,7 +23,7 @@ use Rattle.table.specs.Rows.{Row, vacant}
 use Rattle.table.specs.Edition.{knownEdition}
 use Rattle.table.specs.Table.{rowIn, rowsIn}
 use Rattle.checks.specs.ExtendedState.{xfem}
-use Rattle.update.specs.Finish.{edition1, edition2}
+use Rattle.features.specs.Finish.{edition1, edition2}
 use Rattle.build.specs.Build.{answer}
 use Rattle.guest_state.specs.State.{stateVerdict}
 use Rattle.guest_state.specs.StateLaws.{save-of-state, compact-of-state, verdict-of-state}

@@ -17,7 +17,7 @@ use Rattle.table.specs.Edition.{knownEdition}
 use Rattle.table.specs.Rows.{Row, Rows}
 use Rattle.table.specs.Table.{emptyTable, rowIn}
 use Rattle.checks.specs.ExtendedState.{xfem}
-use Rattle.update.specs.Finish.{edition1, edition2}
+use Rattle.features.specs.Finish.{edition1, edition2}
 use Rattle.guest_state.specs.State.{stateVerdict}
 use Rattle.table.specs.declared.Refusal.{Refusal}
 use Rattle.table.specs.declared.Refusal.the-variants.{UnknownEdition, EditionBack}

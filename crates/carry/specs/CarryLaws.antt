@@ -26,7 +26,7 @@ use Rattle.checks.specs.ExtendedState.{xfem}
 use Rattle.checks.specs.Parts.{resultsIn}
 use Rattle.guest_state.specs.State.{stateVerdict}
 use Rattle.guest_state.specs.StateLaws.{verdict-of-state}
-use Rattle.update.specs.Finish.{edition1, edition2}
+use Rattle.features.specs.Finish.{edition1, edition2}
 use Rattle.table.specs.declared.Refusal.the-variants.{UnknownEdition, EditionBack}
 use Rattle.table.specs.declared.Verdict.the-variants.{Accepted, Refused}
 use Rattle.carry.specs.Carry.{ownRows, f16c, xopAndFma4, withoutBits, carriedAt, carriedTable, keeps, carryVerdict, refusedCarry, carry}

@@ -17,7 +17,7 @@ use Rattle.table.specs.declared.Subleaf.{Subleaf}
 use Rattle.table.specs.declared.Verdict.{Verdict}
 use Rattle.table.specs.declared.Verdict.the-variants.{Accepted, Refused}
 use Rattle.table.specs.Rows.{Rows}
-use Rattle.update.specs.Finish.{ruleAt}
+use Rattle.features.specs.Finish.{ruleAt}
 use Rattle.update.specs.Kinds.{Kinds, EntryAtLeast, Registers, kindsAt, fromEntry}
 use Rattle.build.specs.Build.{rowsFor, lawfulVerdict, answer}
 use Rattle.rise.specs.Rise.{EntryRises, RiseHypothesis as Hypothesis}

@@ -1,4 +1,3 @@
-pub mod KindsInCode
 pub mod Compare
 pub mod Means
 pub mod CompareLaws

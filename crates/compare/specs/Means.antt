@@ -10,7 +10,7 @@ use Rattle.table.specs.declared.Choices.{Choices}
 use Rattle.table.specs.declared.Subleaf.{Subleaf}
 use Rattle.table.specs.declared.Verdict.the-variants.{Accepted, Refused}
 use Rattle.table.specs.Rows.{Row}
-use Rattle.update.specs.Finish.{ruleAt}
+use Rattle.features.specs.Finish.{ruleAt}
 use Rattle.update.specs.Kinds.{Kind, Kinds, EntryAtLeast, kindsAt, fromEntry}
 use Rattle.build.specs.Build.{rowsFor, lawfulVerdict, answer}
 use Rattle.rise.specs.Rise.{EntryRises, RiseConclusion, RiseHypothesis as Hypothesis}

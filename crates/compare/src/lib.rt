@@ -1,6 +1,6 @@
 // Two servers compared. The pages of A and B come in; whether a guest of A may move to B goes out, or the first thing in the way.
-use kinds::Kinds;
 use masking::PLACES;
+use register_kinds::Kinds;
 use table::Choices;
 use table::CpuidResults;
 use table::Refusal;
@@ -13,12 +13,10 @@ ghost use Prim.Native.Nat.{_<_};
 ghost use Rattle.masking.specs.Kept.{places};
 ghost use Rattle.table.specs.Table.{rowsIn};
 ghost use Rattle.rise.specs.Decide.{rowTest};
-ghost use Rattle.compare.specs.KindsInCode.{kindsIn};
+ghost use Rattle.register_kinds.specs.KindsInCode.{kindsIn};
 ghost use Rattle.compare.specs.Compare.{subleafNamed, failingOf, comparedRows, compared};
 ghost use Rattle.compare.specs.CompareLaws.{hasRow, rowWith, registersRise, firstOf};
 ghost use Rattle.compare.specs.Means.{Decides};
-
-mod kinds;
 
 pub enum Register {
     Eax,
@@ -92,10 +90,10 @@ fn place_rises(place: usize, in_table: bool, a: CpuidResult, present: bool, b: C
     requires { ⌜ place < places ⌝ }
     ensures { λ r. ⌜ r ≡ rowTest place «in_table» a (rowWith present b) ⌝ }
 {
-    if kinds::from_entry(place) {
+    if register_kinds::from_entry(place) {
         if in_table {
             if present {
-                let rise = registers_rise(kinds::kinds_at(place), a, b);
+                let rise = registers_rise(register_kinds::kinds_at(place), a, b);
                 return rise.eax & (rise.ebx & (rise.ecx & rise.edx));
             }
             return false;
@@ -113,10 +111,10 @@ fn registers_rise(kinds: Kinds, a: CpuidResult, b: CpuidResult) -> RegistersRise
     let ecx = kinds.ecx;
     let edx = kinds.edx;
     RegistersRise {
-        eax: kinds::register_rises(eax, a.eax, b.eax),
-        ebx: kinds::register_rises(ebx, a.ebx, b.ebx),
-        ecx: kinds::register_rises(ecx, a.ecx, b.ecx),
-        edx: kinds::register_rises(edx, a.edx, b.edx),
+        eax: register_kinds::register_rises(eax, a.eax, b.eax),
+        ebx: register_kinds::register_rises(ebx, a.ebx, b.ebx),
+        ecx: register_kinds::register_rises(ecx, a.ecx, b.ecx),
+        edx: register_kinds::register_rises(edx, a.edx, b.edx),
     }
 }
 
@@ -128,7 +126,7 @@ fn failing_at(place: usize, a: CpuidResult, present: bool, b: CpuidResult) -> Co
     let leaf = masking::leaf_at(place);
     let subleaf = subleaf_named(place);
     if present {
-        let rise = registers_rise(kinds::kinds_at(place), a, b);
+        let rise = registers_rise(register_kinds::kinds_at(place), a, b);
         return Compared::Differs(leaf, subleaf, first_register(rise));
     }
     Compared::NoEntry(leaf, subleaf)

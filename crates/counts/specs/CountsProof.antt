@@ -10,7 +10,7 @@ use Rattle.table.specs.declared.Verdict.{Verdict}
 use Rattle.table.specs.declared.Verdict.the-variants.{Accepted}
 use Rattle.table.specs.Rows.{Rows}
 use Rattle.checks.specs.ExtendedState.{combinedMask}
-use Rattle.update.specs.Finish.{finished}
+use Rattle.features.specs.Finish.{finished}
 use Rattle.checks.specs.ChecksLaws.{then-right, AllPass, all-pass}
 use Rattle.table.specs.Table.{tableOf}
 use Rattle.build.specs.Built.{tableFor}

@@ -17,8 +17,8 @@ use Rattle.masking.specs.KeptLaws.{madeHere}
 use Rattle.masking.specs.Place
 use Rattle.table.specs.Rows.{Rows}
 use Rattle.checks.specs.ExtendedState.{combinedMask}
-use Rattle.update.specs.Finish.{ruleAt, enabledBy, settings, remains, finished}
-use Rattle.update.specs.RemainsLaws.{finished-present}
+use Rattle.features.specs.Finish.{ruleAt, enabledBy, settings, remains, finished}
+use Rattle.finish_laws.specs.RemainsLaws.{finished-present}
 use Rattle.update.specs.PlaceLaws.{always, position, always-required}
 use Rattle.checks.specs.ChecksLaws.{AllPass, required-present, component-present}
 

@@ -23,7 +23,7 @@ use Rattle.checks.specs.ExtendedState.{xfem}
 use Rattle.origins.specs.Origin.{originOf, originNumber}
 use Rattle.locate.specs.Stands.{standsAt}
 use Rattle.collect.specs.RowsFit.{rows-fit}
-use Rattle.update.specs.Finish.{ymmClears, enabledBy, settings, finished}
+use Rattle.features.specs.Finish.{ymmClears, enabledBy, settings, finished}
 use Rattle.build.specs.Build.{editionVerdict, rowsFor, verdictOf, originsIn, answer, originAt}
 use Rattle.rise.specs.Rise.{withEdition}
 use Rattle.rise.specs.RiseProof.{answer-table, answer-row, answer-mask}

@@ -11,7 +11,7 @@ use Rattle.table.specs.declared.Verdict.{Verdict}
 use Rattle.table.specs.declared.Verdict.the-variants.{Accepted}
 use Rattle.table.specs.Table.{tableOf, rowIn, rowsIn}
 use Rattle.checks.specs.ExtendedState.{combinedMask}
-use Rattle.update.specs.Finish.{finished}
+use Rattle.features.specs.Finish.{finished}
 use Rattle.build.specs.declared.Built.{Built}
 use Rattle.build.specs.Build.{rowsFor, answer}
 use Rattle.rise.specs.RiseProof.{answer-table}

@@ -20,7 +20,7 @@ use Rattle.checks.specs.ExtendedState.{xfem, combinedMask, saveArea}
 use Rattle.checks.specs.ExtendedStateLaws.{area-mono, xss-mono}
 use Rattle.update.specs.Kinds.{Kinds, TableAtLeast, Registers, kinds}
 use Rattle.update.specs.Kinds.Kind.{other}
-use Rattle.update.specs.RuleKinds.{component-kinds}
+use Rattle.finish_laws.specs.RuleKinds.{component-kinds}
 use Rattle.rise.specs.Rise.{Further, TableRises}
 use Rattle.guest_state.specs.Compact.{compactSize}
 use Rattle.guest_state.specs.CompactLaws.{compact-same}

@@ -20,8 +20,8 @@ use Rattle.table.specs.Table.{rowIn, rowsIn}
 use Rattle.table.specs.Fits.{Fits}
 use Rattle.checks.specs.ExtendedState.{xssOf, xfem, xss, combinedMask}
 use Rattle.checks.specs.TopologyInputs.{inputsOf}
-use Rattle.update.specs.Finish.{settings, finished}
-use Rattle.update.specs.FitLaws.{SettingsFit, finished-fits}
+use Rattle.features.specs.Finish.{settings, finished}
+use Rattle.finish_laws.specs.FitLaws.{SettingsFit, finished-fits}
 use Rattle.collect.specs.RowsFit.{rows-fit}
 use Rattle.build.specs.Build.{rowsFor, answer}
 use Rattle.rise.specs.RiseProof.{answer-row, answer-mask}

@@ -21,9 +21,9 @@ use Rattle.table.specs.Table.{rowIn}
 use Rattle.checks.specs.Checks.{topologyRefusal, topologyVerdict, rowsVerdict}
 use Rattle.checks.specs.ChecksLaws.{then-left, then-right, then-accepted}
 use Rattle.checks.specs.TopologyInputs.{inputsOf}
-use Rattle.update.specs.Finish.{ruleAt, settings, finish, finished}
+use Rattle.features.specs.Finish.{ruleAt, settings, finish, finished}
 use Rattle.update.specs.PlaceLaws.{always}
-use Rattle.update.specs.RemainsLaws.{finished-present}
+use Rattle.finish_laws.specs.RemainsLaws.{finished-present}
 use Rattle.build.specs.Build.{rowsFor, verdictOf, answer}
 use Rattle.rise.specs.RiseProof.{answer-row}
 use Rattle.rise.specs.BuiltLaws.{always-finished}

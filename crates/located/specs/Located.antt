@@ -17,7 +17,7 @@ use Rattle.table.specs.Table.{rowIn}
 use Rattle.origins.specs.Origin.{isMadeHere, originRead, originTold}
 use Rattle.origins.specs.Origin.Origin.{neither, madeHere, entry}
 use Rattle.collect.specs.FirstEntries.{placeOfEntry, maskedAt}
-use Rattle.update.specs.Finish.{ruleAt, settings, finish}
+use Rattle.features.specs.Finish.{ruleAt, settings, finish}
 use Rattle.build.specs.Build.{rowsFor, answer, originAt}
 
 -- none of the entries goes to place i

@@ -25,10 +25,10 @@ use Rattle.origins.specs.OriginLaws.{entry-read, neither-read, made-read}
 use Rattle.collect.specs.FirstEntries.{placeOfEntry, firstAt, maskedAt, maskRow}
 use Rattle.locate.specs.Stands.{standsAt}
 use Rattle.collect.specs.FirstEntriesLaws.{row-of-place}
-use Rattle.update.specs.Finish.{ruleAt, settings, finish, finished}
+use Rattle.features.specs.Finish.{ruleAt, settings, finish, finished}
 use Rattle.update.specs.Kinds.{fromEntry}
 use Rattle.update.specs.PlaceLaws.{always}
-use Rattle.update.specs.RemainsLaws.{finished-present, finished-result, made-remains, finished-entry}
+use Rattle.finish_laws.specs.RemainsLaws.{finished-present, finished-result, made-remains, finished-entry}
 use Rattle.build.specs.Built.{tableFor}
 use Rattle.build.specs.Build.{rowsFor, verdictOf, originsIn, answer, originAt}
 use Rattle.build.specs.BuildLaws.{no-origins}

@@ -15,7 +15,7 @@ use Rattle.table.specs.Rows.{Row}
 use Rattle.origins.specs.Origin.{Origin, isMadeHere, originOf}
 use Rattle.origins.specs.Origin.Origin.{madeHere, entry}
 use Rattle.locate.specs.Stands.{standsAt}
-use Rattle.update.specs.Finish.{ruleAt}
+use Rattle.features.specs.Finish.{ruleAt}
 use Rattle.update.specs.PlaceLaws.{always}
 use Rattle.build.specs.Build.{answer, originAt}
 use Rattle.rise.specs.RiseProof.{answer-row}

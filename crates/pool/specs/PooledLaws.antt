@@ -32,8 +32,8 @@ use Rattle.table.specs.Table.{tableOf, emptyTable, rowIn, rowsIn}
 use Rattle.checks.specs.ExtendedState.{xss, combinedMask}
 use Rattle.checks.specs.Checks.{rowsVerdict}
 use Rattle.checks.specs.ChecksLaws.{then-left, then-right, demanded}
-use Rattle.update.specs.Finish.{finished}
-use Rattle.update.specs.JoinLaws.{MaskedState}
+use Rattle.features.specs.Finish.{finished}
+use Rattle.finish_laws.specs.JoinLaws.{MaskedState}
 use Rattle.origins.specs.Origin.{finishedOrigins}
 use Rattle.origins.specs.OriginLaws.{finished-origins}
 use Rattle.collect.specs.FirstEntries.{rowsOf}

@@ -15,7 +15,7 @@ use Rattle.x86defs.specs.declared.CpuidResult.{CpuidResult}
 use Rattle.checks.specs.MaskLaws.{none-from}
 use Rattle.update.specs.Kinds.{Kind, Kinds, Registers}
 use Rattle.update.specs.Kinds.Kind.{feature, featureBut28, area, freed, other}
-use Rattle.update.specs.JoinLaws.{joined, joinResults}
+use Rattle.finish_laws.specs.JoinLaws.{joined, joinResults}
 use Rattle.pool_join.specs.Join.{pooled, pooledResults}
 use Rattle.pool_join.specs.Alike.{Alike}
 

@@ -26,17 +26,17 @@ use Rattle.checks.specs.ExtendedStateLaws.{area-mono}
 use Rattle.checks.specs.TopologyInputs.{inputsOf}
 use Rattle.checks.specs.Checks.{refuseAt, missingComponent, sizeVerdict, requiredVerdict, invlpgbVerdict, componentsOf, componentsVerdict, areaVerdict, topologyVerdict, topologyRefusal, rowsVerdict}
 use Rattle.checks.specs.ChecksLaws.{AllPass, all-pass, required-present, present-required, component-present, demanded, then-skips}
-use Rattle.update.specs.Finish.{Needed, Rule, ruleAt, enabledBy, settings, finished, unlessNoXss}
-use Rattle.update.specs.Finish.Needed.{extendedState1}
-use Rattle.update.specs.Finish.Rule.{made, needed, component}
+use Rattle.features.specs.Finish.{Needed, Rule, ruleAt, enabledBy, settings, finished, unlessNoXss}
+use Rattle.features.specs.Finish.Needed.{extendedState1}
+use Rattle.features.specs.Finish.Rule.{made, needed, component}
 use Rattle.update.specs.Kinds.{Kinds, Registers, registerKinds, kindsAt, fromEntry}
-use Rattle.update.specs.RuleKinds.{featureEax, kindsOf, kinds-at, component-kinds}
-use Rattle.update.specs.FeatureLaws.{bothEnable}
-use Rattle.update.specs.JoinLaws.{joinRows, joinResults, MaskedState, FeaturesJoin, xfem-join, xss-join, enabled-join, mask-join, finish-join-at}
+use Rattle.finish_laws.specs.RuleKinds.{featureEax, kindsOf, kinds-at, component-kinds}
+use Rattle.finish_laws.specs.FeatureLaws.{bothEnable}
+use Rattle.finish_laws.specs.JoinLaws.{joinRows, joinResults, MaskedState, FeaturesJoin, xfem-join, xss-join, enabled-join, mask-join, finish-join-at}
 use Rattle.update.specs.PlaceLaws.{always, position, always-required, component-rule, Sort, sort}
 use Rattle.update.specs.PlaceLaws.Sort.{made as madeHere, required, subleaf}
-use Rattle.update.specs.RemainsLaws.{finished-present, finished-result, made-remains, always-remains, component-finished}
-use Rattle.update.specs.XsavesLaws.{only-xsaves}
+use Rattle.finish_laws.specs.RemainsLaws.{finished-present, finished-result, made-remains, always-remains, component-finished}
+use Rattle.finish_laws.specs.XsavesLaws.{only-xsaves}
 use Rattle.checks.specs.ExtendedStateLaws.{xsaves-ecx}
 use Rattle.pool_join.specs.Join.{pooledResults, withServer}
 use Rattle.pool_join.specs.Alike.{Alike}

@@ -15,12 +15,12 @@ use Rattle.table.specs.declared.Verdict.the-variants.{Accepted}
 use Rattle.table.specs.Rows.{Rows}
 use Rattle.checks.specs.ExtendedState.{combinedMask}
 use Rattle.checks.specs.Checks.{rowsVerdict}
-use Rattle.update.specs.Finish.{ruleAt, finished}
+use Rattle.features.specs.Finish.{ruleAt, finished}
 use Rattle.update.specs.Kinds.{Kind, Kinds, Registers, registerKinds, kindsAt}
 use Rattle.update.specs.Kinds.Kind.{feature, featureBut28, area, freed, other}
-use Rattle.update.specs.JoinLaws.{MaskedState, FeatureJoin}
+use Rattle.finish_laws.specs.JoinLaws.{MaskedState, FeatureJoin}
 use Rattle.update.specs.PlaceLaws.{always}
-use Rattle.update.specs.XsavesLaws.{XsavesEdx}
+use Rattle.finish_laws.specs.XsavesLaws.{XsavesEdx}
 use Rattle.pool_join.specs.Join.{withServer, pool, andTo, allTo}
 use Rattle.pool_join.specs.Alike.{Alike, AlikeAt, AllAlike, allHave}
 use Rattle.pool_join.specs.Features.{FeatureIs, FeaturesAre, FeatureWithin}

@@ -23,7 +23,7 @@ use Rattle.table.specs.declared.Verdict.the-variants.{Accepted, Refused}
 use Rattle.table.specs.Refusal.{andThen}
 use Rattle.table.specs.Rows.{Row, Rows}
 use Rattle.table.specs.Table.{emptyTable, rowIn}
-use Rattle.update.specs.Finish.{finished}
+use Rattle.features.specs.Finish.{finished}
 use Rattle.update.specs.Kinds.{Registers, kindsAt}
 use Rattle.build.specs.Built.{tableFor}
 use Rattle.build.specs.Build.{rowsFor, answer}

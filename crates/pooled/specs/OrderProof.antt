@@ -22,7 +22,7 @@ use Rattle.table.specs.declared.Refusal.the-variants.{PoolDiffers}
 use Rattle.table.specs.declared.Verdict.{Verdict}
 use Rattle.table.specs.declared.Verdict.the-variants.{Accepted, Refused}
 use Rattle.table.specs.Rows.{Row, Rows}
-use Rattle.update.specs.Finish.{finished}
+use Rattle.features.specs.Finish.{finished}
 use Rattle.update.specs.Kinds.{Kind, Kinds, Registers, kindsAt}
 use Rattle.update.specs.Kinds.Kind.{feature, featureBut28, area, freed, other}
 use Rattle.build.specs.Built.{tableFor}

@@ -15,9 +15,9 @@ use Rattle.table.specs.declared.Verdict.the-variants.{Accepted}
 use Rattle.table.specs.Rows.{Row, Rows}
 use Rattle.table.specs.Table.{tableOf, rowIn}
 use Rattle.checks.specs.ExtendedState.{combinedMask}
-use Rattle.update.specs.Finish.{finished}
+use Rattle.features.specs.Finish.{finished}
 use Rattle.update.specs.Kinds.{Registers, TableAtLeast, kindsAt}
-use Rattle.update.specs.XsavesLaws.{XsavesEdx}
+use Rattle.finish_laws.specs.XsavesLaws.{XsavesEdx}
 use Rattle.build.specs.Built.{tableFor}
 use Rattle.build.specs.Build.{rowsFor, answer}
 use Rattle.rise.specs.Rise.{Further, TableRises}

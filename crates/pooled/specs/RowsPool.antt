@@ -12,12 +12,12 @@ use Rattle.masking.specs.Kept.{places}
 use Rattle.masking.specs.Place
 use Rattle.table.specs.Rows.{Rows}
 use Rattle.checks.specs.ExtendedState.{combinedMask}
-use Rattle.update.specs.Finish.{ruleAt, finished}
+use Rattle.features.specs.Finish.{ruleAt, finished}
 use Rattle.update.specs.Kinds.{Kind, Kinds, Registers, EntryAtLeast, TableAtLeast, kindsAt, fromEntry}
 use Rattle.update.specs.Kinds.Kind.{feature, featureBut28, area, freed, other}
-use Rattle.update.specs.FeatureLaws.{clears-same}
-use Rattle.update.specs.RemainsLaws.{finished-entry}
-use Rattle.update.specs.XsavesLaws.{XsavesEdx}
+use Rattle.finish_laws.specs.FeatureLaws.{clears-same}
+use Rattle.finish_laws.specs.RemainsLaws.{finished-entry}
+use Rattle.finish_laws.specs.XsavesLaws.{XsavesEdx}
 use Rattle.rise.specs.Rise.{EntryRises}
 use Rattle.rise.specs.RowsRise.{registers-rise, others-further}
 use Rattle.pool_join.specs.Join.{pooled, pooledResults, withServer, pool}

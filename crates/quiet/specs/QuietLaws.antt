@@ -18,8 +18,8 @@ use Rattle.table.specs.Rows.{Row, Rows, row, vacant}
 use Rattle.table.specs.Table.{tableOf}
 use Rattle.checks.specs.ExtendedState.{combinedMask}
 use Rattle.checks.specs.Checks.{invlpgbOf, requiredVerdict, invlpgbVerdict, rowsVerdict}
-use Rattle.update.specs.Finish.{Rule, Settings, ruleAt, finishRow, enabledBy, settings, finished}
-use Rattle.update.specs.Finish.Rule.{component}
+use Rattle.features.specs.Finish.{Rule, Settings, ruleAt, finishRow, enabledBy, settings, finished}
+use Rattle.features.specs.Finish.Rule.{component}
 use Rattle.update.specs.PlaceLaws.{component-rule}
 use Rattle.build.specs.Built.{tableFor}
 use Rattle.flip_rows.specs.Same.{sameFrom}

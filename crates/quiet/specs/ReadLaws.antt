@@ -19,7 +19,7 @@ use Rattle.checks.specs.ExtendedState.{xfem, xssOf, xss, combinedMask, sumAt, s
 use Rattle.checks.specs.ExtendedStateLaws.{area-mono, in-combined}
 use Rattle.checks.specs.TopologyInputs.{inputsOf}
 use Rattle.checks.specs.Checks.{refuseAt, missingComponent, sizeVerdict, topologyRefusal, invlpgbOf, invlpgbVerdict, componentsOf, componentsVerdict, areaVerdict, topologyVerdict, rowsVerdict}
-use Rattle.update.specs.Finish.{enabledBy, ymmClears, settings}
+use Rattle.features.specs.Finish.{enabledBy, ymmClears, settings}
 use Rattle.flip_rows.specs.PutRow.{putRow}
 use Rattle.flip_rows.specs.PutRowLaws.{put-other, put-present, required-same}
 

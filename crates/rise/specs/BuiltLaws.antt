@@ -24,9 +24,9 @@ use Rattle.checks.specs.SaveAreaLaws.{size-bytes}
 use Rattle.checks.specs.Checks.{sizeVerdict, areaVerdict}
 use Rattle.checks.specs.ExtendedStateLaws.{xsaves-ecx}
 use Rattle.checks.specs.ChecksLaws.{AllPass, all-pass, required-present, then-right}
-use Rattle.update.specs.Finish.{ruleAt, settings, enabledBy, finish, finished, unlessNoXss}
+use Rattle.features.specs.Finish.{ruleAt, settings, enabledBy, finish, finished, unlessNoXss}
 use Rattle.update.specs.PlaceLaws.{always, position, always-required}
-use Rattle.update.specs.RemainsLaws.{finished-present, finished-result, always-remains}
+use Rattle.finish_laws.specs.RemainsLaws.{finished-present, finished-result, always-remains}
 use Rattle.build.specs.Build.{rowsFor, lawfulVerdict, verdictOf, answer}
 use Rattle.rise.specs.RiseProof.{answer-row, accepted-rows}
 

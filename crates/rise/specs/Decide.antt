@@ -17,7 +17,7 @@ use Rattle.masking.specs.Kept.{places}
 use Rattle.table.specs.declared.Choices.{Choices}
 use Rattle.table.specs.declared.Verdict.the-variants.{Accepted}
 use Rattle.table.specs.Rows.{Row, Rows}
-use Rattle.update.specs.Finish.{ruleAt}
+use Rattle.features.specs.Finish.{ruleAt}
 use Rattle.update.specs.Kinds.{Kind, Kinds, EntryAtLeast, Registers, kindsAt, fromEntry}
 use Rattle.update.specs.Kinds.Kind.{feature, featureBut28, area, freed, other}
 use Rattle.table.specs.Table.{rowIn}

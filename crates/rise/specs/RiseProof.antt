@@ -27,10 +27,10 @@ use Rattle.table.specs.Refusal.{andThen}
 use Rattle.table.specs.Edition.{knownEdition}
 use Rattle.table.specs.Rows.{Row, Rows, row, vacant}
 use Rattle.checks.specs.ExtendedState.{combinedMask}
-use Rattle.update.specs.Finish.{ymmClears, ruleAt, finished}
-use Rattle.update.specs.FeatureLaws.{ClearsFewer, clears-same, second-to-first}
-use Rattle.update.specs.RemainsLaws.{finished-entry}
-use Rattle.update.specs.XsavesLaws.{XsavesEdx}
+use Rattle.features.specs.Finish.{ymmClears, ruleAt, finished}
+use Rattle.finish_laws.specs.FeatureLaws.{ClearsFewer, clears-same, second-to-first}
+use Rattle.finish_laws.specs.RemainsLaws.{finished-entry}
+use Rattle.finish_laws.specs.XsavesLaws.{XsavesEdx}
 use Rattle.update.specs.Kinds.{EntryAtLeast, TableAtLeast, Registers, registerKinds, kindsAt, fromEntry}
 use Rattle.update.specs.Kinds.Kind.{area, other}
 use Rattle.checks.specs.Checks.{missingComponent, componentsVerdict, areaVerdict, rowsVerdict}

@@ -13,10 +13,10 @@ use Rattle.table.specs.declared.Choices.{Choices}
 use Rattle.table.specs.declared.Verdict.the-variants.{Accepted}
 use Rattle.table.specs.Rows.{Row, Rows, row, vacant}
 use Rattle.checks.specs.ExtendedState.{combinedMask}
-use Rattle.update.specs.Finish.{ruleAt, settings, finish, remains, finished}
+use Rattle.features.specs.Finish.{ruleAt, settings, finish, remains, finished}
 use Rattle.update.specs.Kinds.{Kind, Kinds, EntryAtLeast, TableAtLeast, Registers, kindsAt}
 use Rattle.update.specs.Kinds.Kind.{feature, featureBut28, area, freed, other}
-use Rattle.update.specs.RemainsLaws.{finished-entry}
+use Rattle.finish_laws.specs.RemainsLaws.{finished-entry}
 use Rattle.checks.specs.ChecksLaws.{then-left}
 use Rattle.table.specs.Table.{rowIn}
 use Rattle.table.specs.TableLaws.{table-ext}

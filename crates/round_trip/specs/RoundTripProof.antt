@@ -20,7 +20,7 @@ use Rattle.table.specs.declared.Verdict.the-variants.{Accepted}
 use Rattle.table.specs.Rows.{Row, Rows, vacant}
 use Rattle.table.specs.Table.{tableOf, countRows, rowIn, rowsIn as tableRows}
 use Rattle.checks.specs.Checks.{rowsVerdict}
-use Rattle.update.specs.Finish.{finished}
+use Rattle.features.specs.Finish.{finished}
 use Rattle.collect.specs.FirstEntries.{firstAt, maskRow, rowsOf}
 use Rattle.build.specs.Built.{builtFrom, withoutOrigins, SameButOrigins}
 use Rattle.build.specs.Build.{rowsFor, answer}

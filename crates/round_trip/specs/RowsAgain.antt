@@ -33,10 +33,10 @@ use Rattle.checks.specs.ExtendedStateLaws.{area-mono, xsaves-ecx, in-combined}
 use Rattle.checks.specs.TopologyInputs.{inputsOf}
 use Rattle.checks.specs.Checks.{refuseAt, missingComponent, invlpgbVerdict, componentsOf, componentsVerdict, areaVerdict, topologyVerdict, topologyRefusal, rowsVerdict}
 use Rattle.checks.specs.ChecksLaws.{AllPass, all-pass, required-present, present-required, component-present, demanded, then-skips}
-use Rattle.update.specs.Finish.{Rule, Settings, ymmClears, ruleAt, enabledBy, settings, finish, remains, finishRow, finished, unlessNoXss, addressSizesEbx}
+use Rattle.features.specs.Finish.{Rule, Settings, ymmClears, ruleAt, enabledBy, settings, finish, remains, finishRow, finished, unlessNoXss, addressSizesEbx}
 use Rattle.update.specs.Kinds.{fromEntry}
 use Rattle.update.specs.PlaceLaws.{always, always-from-entry, required-place, position, always-required, component-rule}
-use Rattle.update.specs.RemainsLaws.{finished-present, finished-result, finished-entry, always-remains, component-finished}
+use Rattle.finish_laws.specs.RemainsLaws.{finished-present, finished-result, finished-entry, always-remains, component-finished}
 use Rattle.table.specs.declared.CpuidResults.{CpuidResults}
 use Rattle.table.specs.Table.{tableOf, countRows}
 use Rattle.build.specs.Built.{tableFor, builtFrom}

@@ -100,8 +100,8 @@ use Rattle.round_trip.specs.Reads.{AreBytes, ReadMakes}
 use Rattle.round_trip.specs.ReadsExactly.{ReadsExactly}
 use Rattle.round_trip.specs.ReadsExactlyProof.{reads-exactly, read-makes}
 use Rattle.round_trip.specs.Ascends.{Ascend, rows-ascend as list-ascends}
-use Rattle.update.specs.Finish.{edition1, edition2}
-use Rattle.update.specs.FinishLaws.{figures as clears, ymm-figures, ymm-figures-2}
+use Rattle.features.specs.Finish.{edition1, edition2}
+use Rattle.finish_laws.specs.FinishLaws.{figures as clears, ymm-figures, ymm-figures-2}
 use Rattle.editions.specs.Second.{SecondEdition, FirstEdition}
 use Rattle.editions.specs.SecondProof as Editions
 use Rattle.edition_examples.specs.WithoutYmm as WithoutYmm

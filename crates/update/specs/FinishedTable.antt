@@ -18,12 +18,13 @@ use Rattle.table.specs.declared.Verdict.the-variants.{Accepted}
 use Rattle.table.specs.Rows.{Row, Rows}
 use Rattle.checks.specs.ExtendedState.{xfem, xss, combinedMask}
 use Rattle.checks.specs.TopologyInputs.{inputsOf}
-use Rattle.update.specs.Finish.{Enabled, YmmClears, Settings, ymmClears, ruleAt, enabledBy, settings, finish, finishRow, finished}
+use Rattle.features.specs.Finish.{Enabled, YmmClears, Settings, ymmClears, ruleAt, enabledBy, settings, finish, finishRow, finished}
 use Rattle.checks.specs.Checks.{requiredVerdict}
 use Rattle.table.specs.Table.{countRows, tableOf, rowsIn}
 use Rattle.update.specs.PlaceLaws.{always, position, always-required}
 use Rattle.checks.specs.ChecksLaws.{required-present}
-use Rattle.update.specs.Stores.{enabledFrom, table, presentCount, droppedRow, dropped, droppedTable, Ready}
+use Rattle.features.specs.FeaturesInCode.{enabledFrom}
+use Rattle.update.specs.Stores.{table, presentCount, droppedRow, dropped, droppedTable, Ready}
 
 -- the stores, in the code's order
 abbrev pub markPresent : List Bool → List Bool

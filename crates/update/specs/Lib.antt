@@ -1,15 +1,6 @@
-pub mod Finish
 pub mod Kinds
-pub mod RuleKinds
 pub mod Stores
 pub mod DropLaws
 pub mod CountLaws
 pub mod FinishedTable
-pub mod UpdateMisread
-pub mod FinishLaws
-pub mod FeatureLaws
-pub mod JoinLaws
 pub mod PlaceLaws
-pub mod XsavesLaws
-pub mod RemainsLaws
-pub mod FitLaws

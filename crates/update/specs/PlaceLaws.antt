@@ -13,8 +13,8 @@ use Rattle.bits.specs.SearchLaws.{every-at}
 use Rattle.masking.specs.Kept.{keptLeaves, placeOf, places}
 use Rattle.masking.specs.Place
 use Rattle.checks.specs.Required.{commonRequiredLeaves, snpRequiredLeaves, requiredAt, requiredCount, placeRequired}
-use Rattle.update.specs.Finish.{Rule, ruleAt}
-use Rattle.update.specs.Finish.Rule.{made as madeRule, needed, component}
+use Rattle.features.specs.Finish.{Rule, ruleAt}
+use Rattle.features.specs.Finish.Rule.{made as madeRule, needed, component}
 use Rattle.update.specs.Kinds.{fromEntry}
 
 -- the rules of rows that every accepted table has from an entry

@@ -1,4 +1,4 @@
--- The table while it is finished: what decides over feature bits, the rows that are dropped, the rows that are there.
+-- The table while it is finished: the rows that are dropped, the rows that are there.
 use mathlib.Core.Path.{_≡_}
 use mathlib.Core.Bool.{Bool, false, _&&_}
 use mathlib.Core.List.{List}
@@ -9,39 +9,16 @@ use Rattle.bits.specs.Choice.{pick}
 use Rattle.bits.specs.Lists.{tabulate, sumTo, one}
 use Rattle.bits.specs.Bits.{has}
 use Rattle.x86defs.specs.declared.CpuidResult.{CpuidResult}
-use Rattle.x86defs.specs.ExtendedSevFeaturesEax as Sev
 use Rattle.topology.specs.Topology.{topologyOf, processors as countOf}
 use Rattle.masking.specs.Kept.{places}
 use Rattle.masking.specs.Place
 use Rattle.table.specs.declared.Verdict.the-variants.{Accepted}
 use Rattle.table.specs.Rows.{Row, Rows, row, vacant}
-use Rattle.checks.specs.ExtendedState.{xssOf, xfem, saveArea}
+use Rattle.checks.specs.ExtendedState.{xfem, saveArea}
 use Rattle.checks.specs.TopologyInputs.{inputsOf}
 use Rattle.checks.specs.Checks.{requiredVerdict}
 use Rattle.table.specs.declared.CpuidResults.{CpuidResults}
-use Rattle.update.specs.declared.features.Enabled as Declared
-use Rattle.update.specs.declared.features.YmmClears as DeclaredClears
-use Rattle.update.specs.Finish.{Enabled, YmmClears}
 use Rattle.table.specs.Table.{rowsIn}
-
--- the code's settings, as the definition has them
-abbrev pub clearsWith : DeclaredClears.YmmClears → YmmClears
-clearsWith y = record {
-  versionEcx = y .«version_ecx»;
-  featuresEbx = y .«features_ebx»;
-  featuresEcx = y .«features_ecx»;
-  extendedVersionEcx = y .«extended_version_ecx»;
-}
-
-abbrev pub enabledWith : Declared.Enabled → Enabled
-enabledWith e = record { xfem = e .xfem; xss = e .xss; tscAux = e .«tsc_aux» }
-
-abbrev pub enabledFrom : CpuidResult → CpuidResult → CpuidResult → Enabled
-enabledFrom d0 d1 sev = record {
-  xfem = d0 .eax;
-  xss = xssOf d1;
-  tscAux = has (Sev.position Sev.ExtendedSevFeaturesEax.tsc-aux-virtualization) (sev .eax);
-}
 
 abbrev pub table : List Bool → List CpuidResult → ℕ → ℕ → CpuidResults
 table p l n x = record { present = p; results = l; «row_count» = n; «max_extended_state» = x }

@@ -18,11 +18,9 @@ ghost use mathlib.Core.Path.{_≡_};
 ghost use Rattle.masking.specs.Kept.{places};
 ghost use Rattle.x86defs.specs.Functions.{result, vendorEbx, vendorEcx, vendorEdx};
 ghost use Rattle.checks.specs.ExtendedState.{combinedMask};
-ghost use Rattle.update.specs.Finish.{finished};
+ghost use Rattle.features.specs.Finish.{finished};
 ghost use Rattle.table.specs.Table.{tableOf, rowsIn};
 ghost use Rattle.update.specs.Stores.{presentCount, droppedTable, Ready};
-
-mod features;
 
 // The registers of a place without a row.
 fn no_registers() -> CpuidResult

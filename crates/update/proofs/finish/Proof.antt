@@ -5,7 +5,7 @@ use Rattle.x86defs.specs.Functions.{AmdMaximum, ExtendedAmdMaximum}
 use Rattle.topology.specs.Topology.{threadLevel}
 use Rattle.checks.specs.TopologyInputs.{inputsOf}
 use Rattle.table.specs.Table.{rowsIn}
-use Rattle.update.specs.Stores.{clearsWith, enabledWith}
+use Rattle.features.specs.FeaturesInCode.{clearsWith, enabledWith}
 use Rattle.update.specs.FinishedTable.{settingsWith, stores, finished-table}
 use Rattle.update.proofs.finish.Statement.{statement}
 use Rattle.update.proofs.finish.Tie as tie

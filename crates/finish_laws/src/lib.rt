@@ -1,0 +1,1 @@
+// Laws of finished rows, for the theorems above: no code.
