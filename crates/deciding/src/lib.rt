@@ -58,7 +58,13 @@ pub fn first_bit(
 }
 
 // Whether another row at a place keeps the answer. A row that is there already does.
-fn keeps_answer(t: CpuidResults, edition: u32, base: RowsBuilt, place: usize, x: CpuidResult) -> bool
+fn keeps_answer(
+    t: CpuidResults,
+    edition: u32,
+    base: RowsBuilt,
+    place: usize,
+    x: CpuidResult,
+) -> bool
     requires { ⌜ (place < places) × AnswerTo edition (rowsIn t) base ⌝ }
     ensures { λ r. ⌜ r ≡ sameFrom edition (putRow place x (rowsIn t)) (rowsIn t) ⌝ }
 {

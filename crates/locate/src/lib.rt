@@ -46,8 +46,5 @@ pub fn collect_located(pages: &[u8], secure_avic: bool) -> Collected
             index = next;
         }
     }
-    Collected {
-        table: t,
-        origins,
-    }
+    Collected { table: t, origins }
 }

@@ -24,8 +24,8 @@ mod carry_exports;
 mod guest_exports;
 mod kvm;
 mod line_exports;
-mod pool_exports;
 mod nearest_exports;
+mod pool_exports;
 mod topology_exports;
 
 // Builds the table of the given pages.

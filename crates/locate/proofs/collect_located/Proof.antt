@@ -73,16 +73,17 @@ loop2-again c =
     let l = e .before .before in
     let h = take-requires e (k .take .lifetimes) .page in
     let at = c .before .before .counted-place .ensures ∙ ap countedPlace (k .take .ensures .found) ∙ counted-place-stored _ in
-    let d = l .loop2 .inv .0 in
-    (
+    let d = l .loop2 .inv .0 in (
       rw (k .take .ensures .next)
           (finding-next _ _ (l .loop2 .t) _ _ _ (d .0) h
           (⊎-elim
           (λ w. (turn-kept _ (l .loop2 .t) _ _ _ at (w .2 .taken) (w .3), rw (w .3, w .4) (locating-kept _ _ _ _ (d .1) (d .0 .valid) h _ at (w .2 .taken))))
           (⊎-elim
-          (λ w.
-          (turn-new _ (l .loop2 .t) _ _ _ at _ _ _ (w .6 .result) (l .before .before .before .before .before .before .before .kept-leaves .ensures) (w .3 .ensures .0)
-          (k .take .ensures .found) (w .2 .left) (w .6 .ensures) (w .8), rw (w .8, w .9, w .7 .ensures) (locating-new _ _ _ _ (d .1) (d .0 .valid) h _ at (d .0 .whole .present) (w .0 .taken) (w .2 .left))))
+          (λ w. (
+            turn-new _ (l .loop2 .t) _ _ _ at _ _ _ (w .6 .result) (l .before .before .before .before .before .before .before .kept-leaves .ensures) (w .3 .ensures .0)
+                (k .take .ensures .found) (w .2 .left) (w .6 .ensures) (w .8),
+            rw (w .8, w .9, w .7 .ensures) (locating-new _ _ _ _ (d .1) (d .0 .valid) h _ at (d .0 .whole .present) (w .0 .taken) (w .2 .left)),
+          ))
           (λ w. (turn-none _ (l .loop2 .t) _ _ _ at (d .0 .whole) (w .0 .left) (w .1), rw (w .1, w .2) (locating-none _ _ _ _ (d .1) (d .0 .valid) h _ at (w .0 .left)))))
           (c .before .if3 .came))),
       rw (k .take .ensures .next) (omega (arith, turn _ _ (d .0 .valid) h .rises, l .loop2 .inv .1)),

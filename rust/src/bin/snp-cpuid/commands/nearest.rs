@@ -71,7 +71,9 @@ fn name(leaf: u32, subleaf: Option<u32>, register: usize, bit: u32) -> String {
 fn changed(before: &Result<Table, Refusal>, after: &Result<Table, Refusal>) -> String {
     let answers = format!("as it stands  {}\nflipped       {}\n", said(before), said(after));
     match (before, after) {
-        (Ok(before), Ok(after)) => answers + "\n" + differences(&Tables { names: ["as it stands", "flipped"], origins: false }, before, after).trim_end_matches('\n') + "\n",
+        (Ok(before), Ok(after)) => {
+            answers + "\n" + differences(&Tables { names: ["as it stands", "flipped"], origins: false }, before, after).trim_end_matches('\n') + "\n"
+        }
         _ => answers,
     }
 }
