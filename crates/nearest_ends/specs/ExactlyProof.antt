@@ -60,7 +60,7 @@ module _ (c : Choices) (s : List ℕ) where
           subst (Answers c s) (sym (by-verdicts e l n (f ∙ ap Refused h))) (a, b, d, p, q, g, refl)
       reserved e l n a b d (passes f g) =
           subst (Answers c s) (sym (by-verdicts e l n f))
-          (searched-answers (record { edition = a; length = b; counts = d; reserved = λ p q h. g _ (p, q, h, refl) })
+          (searched-answers (record { edition = a; pages-length = b; counts = d; reserved = λ p q h. g _ (p, q, h, refl) })
           (searched (changes c s) (flips s)))
 
       counts : editionVerdict (c .edition) ≡ Accepted → lengthVerdict s ≡ Accepted → (EditionFault (c .edition) → ⊥) → (LengthFault s → ⊥)
@@ -68,15 +68,15 @@ module _ (c : Choices) (s : List ℕ) where
       counts e l a b (refuses r f (g, h) one) = subst (Answers c s) (sym (by-verdicts e l (f ∙ ap Refused h) refl)) (a, b, g)
       counts e l a b (passes f g) = reserved e l f a b (λ h. g PageCount (h, refl)) (reserved-decides s)
 
-      length : editionVerdict (c .edition) ≡ Accepted → (EditionFault (c .edition) → ⊥)
+      pages-length : editionVerdict (c .edition) ≡ Accepted → (EditionFault (c .edition) → ⊥)
           → Settles (λ r. LengthFault s × (r ≡ PagesLength)) (lengthVerdict s)
           → Answers c s (nearest c s)
-      length e a (refuses r f (g, h) one) = subst (Answers c s) (sym (by-verdicts e (f ∙ ap Refused h) refl refl)) (a, g)
-      length e a (passes f g) = counts e f a (λ h. g PagesLength (h, refl)) (counts-decide s)
+      pages-length e a (refuses r f (g, h) one) = subst (Answers c s) (sym (by-verdicts e (f ∙ ap Refused h) refl refl)) (a, g)
+      pages-length e a (passes f g) = counts e f a (λ h. g PagesLength (h, refl)) (counts-decide s)
 
       edition : Settles (λ r. EditionFault (c .edition) × (r ≡ UnknownEdition)) (editionVerdict (c .edition)) → Answers c s (nearest c s)
       edition (refuses r f (g, h) one) = subst (Answers c s) (sym (by-verdicts (f ∙ ap Refused h) refl refl refl)) g
-      edition (passes f g) = length f (λ h. g UnknownEdition (h, refl)) (length-decides s)
+      edition (passes f g) = pages-length f (λ h. g UnknownEdition (h, refl)) (length-decides s)
 
   -- ---- the answer whose condition holds is given
 
@@ -93,11 +93,11 @@ module _ (c : Choices) (s : List ℕ) where
   reserved-ok n = settled-accepts (reserved-decides s) (λ r f. n (f .0) (f .1) (f .2))
 
   lawful-searched : Lawful c s → nearest c s ≡ search
-  lawful-searched w = by-verdicts (edition-ok (w .edition)) (length-ok (w .length)) (counts-ok (w .counts)) (reserved-ok (w .reserved))
+  lawful-searched w = by-verdicts (edition-ok (w .edition)) (length-ok (w .pages-length)) (counts-ok (w .counts)) (reserved-ok (w .reserved))
 
   pub front-accepts : Lawful c s → frontVerdict c s ≡ Accepted
   unfolding lawfulVerdict
-  front-accepts w = rw (edition-ok (w .edition), length-ok (w .length), counts-ok (w .counts), reserved-ok (w .reserved))
+  front-accepts w = rw (edition-ok (w .edition), length-ok (w .pages-length), counts-ok (w .counts), reserved-ok (w .reserved))
 
   refusal-given : (r : Refusal) → GivenFor c s r → nearest c s ≡ NoBit r
   refusal-given UnknownEdition f = by-verdicts (settled-refuses UnknownEdition (edition-decides (c .edition)) (f, refl)) refl refl refl

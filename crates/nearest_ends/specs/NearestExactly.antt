@@ -25,7 +25,7 @@ use Rattle.nearest.specs.Nearest.{nearest}
 -- neither 15, 1, 2 nor 17 applies
 pub record Lawful (c : Choices) (s : List ℕ) : Type 0 where
   pub edition : EditionFault (c .edition) → ⊥
-  pub length : LengthFault s → ⊥
+  pub pages-length : LengthFault s → ⊥
   pub counts : CountFault s → ⊥
   pub reserved : (p q : ℕ) → ReservedFault s p q → ⊥
 
