@@ -8,12 +8,7 @@ ghost use mathlib.Core.Path.{_≡_};
 ghost use Rattle.pool_write.specs.WritePool.{writePool};
 
 // The pool's refusals come first, and leave the buffer as it was.
-pub fn write_pool_image(
-    pages: &[u8],
-    lengths: &[u64],
-    choices: Choices,
-    out: &mut [u8],
-) -> Written
+pub fn write_pool_image(pages: &[u8], lengths: &[u64], choices: Choices, out: &mut [u8]) -> Written
     ensures { λ r. ⌜ r ≡ writePool choices (now (pages .entry)) (now (lengths .entry)) (now (out .entry)) .answer ⌝ }
     ensures { λ _. ⌜ now (out .exit) ≡ writePool choices (now (pages .entry)) (now (lengths .entry)) (now (out .entry)) .buffer ⌝ }
 {
