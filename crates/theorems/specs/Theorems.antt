@@ -13,7 +13,7 @@ use Rattle.table.specs.declared.Choices.{Choices}
 use Rattle.table.specs.declared.Subleaf.{Subleaf}
 use Rattle.table.specs.declared.Subleaf.the-variants.{None, Some}
 use Rattle.table.specs.declared.Refusal.{Refusal}
-use Rattle.table.specs.declared.Refusal.the-variants.{UnknownEdition, EditionBack, ReservedBytes, PagesLength, MissingRequiredResult, SaveAreaOverflow, TopologyInconsistent, BufferTooShort, ListLength, ListRows, ListFields, StateBeyondTable, CompactSizeTooLarge}
+use Rattle.table.specs.declared.Refusal.the-variants.{PoolSets, PoolDiffers, UnknownEdition, EditionBack, ReservedBytes, PagesLength, MissingRequiredResult, SaveAreaOverflow, TopologyInconsistent, BufferTooShort, ListLength, ListRows, ListFields, StateBeyondTable, CompactSizeTooLarge}
 use Rattle.table.specs.declared.CpuidResults.{CpuidResults}
 use Rattle.table.specs.Rows.{Rows}
 use Rattle.table.specs.Table.{emptyTable, rowIn, rowsIn}
