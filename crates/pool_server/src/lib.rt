@@ -1,8 +1,8 @@
 // One server of a pool by itself. Its pages come in; building's verdict goes out and, where it accepts, the masked first entries and where each
 // stands.
-use build::build_rows;
 use build::validate_pages;
 use masking::PLACES;
+use rows_verdict::rows_verdict;
 use table::Choices;
 use table::CpuidResults;
 use table::Refusal;
@@ -44,8 +44,7 @@ pub fn server_rows(pages: &[u8], choices: Choices) -> Server
     }
     let collected = locate::collect_located(pages, choices.secure_avic);
     let table = collected.table;
-    let built = build_rows(table, choices.edition);
-    let verdict = built.verdict;
+    let verdict = rows_verdict(table);
     if let Verdict::Refused(r) = verdict {
         return refused_server(r);
     }

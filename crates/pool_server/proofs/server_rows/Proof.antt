@@ -1,8 +1,6 @@
 -- `pool_server::server_rows` meets its contract: one return a case of the server's answer.
 use borrow.Author.Needs.{needs}
-use mathlib.Core.Path.{sym, ap, _∙_}
-use Rattle.build.specs.declared.RowsBuilt.{RowsBuilt}
-use Rattle.build.specs.Built.{builtFrom}
+use mathlib.Core.Path.{sym, _∙_}
 use Rattle.build.specs.LawfulLaws.{lawful-counts, lawful-clean}
 use Rattle.pool_server.specs.ServerLaws.{server-unknown, server-unlawful, server-refused, server-accepted}
 use Rattle.pool_server.proofs.server_rows.Statement.{statement}
@@ -23,20 +21,18 @@ collect-located-requires c κs =
     (lawful-counts _ e, lawful-clean _ e)
 
 returns-3 : tie.Need-returns-3
-unfolding builtFrom
 returns-3 c =
     let v = c .before .before in let b = v .before .before in let k = b .before .before in
     let e = k .before in let l = e .before .before in let known = l .before in
     server-refused _ _ (sym (known .before .known-edition .ensures) ∙ known .if1 .taken) (l .validate-pages .ensures) (e .enum-told .given .1)
-    (k .collect-located .result .table) (k .collect-located .ensures .0) (ap (λ (x : RowsBuilt). x .verdict) (b .build-rows .ensures)) (v .verdict .given .1) (c .refused-server3 .ensures)
+    (k .collect-located .result .table) (k .collect-located .ensures .0) (b .rows-verdict .ensures) (v .verdict .given .1) (c .refused-server3 .ensures)
 
 returns-4 : tie.Need-returns-4
-unfolding builtFrom
 returns-4 c =
     let t = c .before in let b = t .before .before in let k = b .before .before in
     let e = k .before in let l = e .before .before in let known = l .before in
     server-accepted _ _ (sym (known .before .known-edition .ensures) ∙ known .if1 .taken) (l .validate-pages .ensures) (e .enum-told .given .1)
-    (k .collect-located .result .table) (k .collect-located .ensures .0) (ap (λ (x : RowsBuilt). x .verdict) (b .build-rows .ensures)) (t .enum-told2 .given .1) (k .collect-located .ensures .1)
+    (k .collect-located .result .table) (k .collect-located .ensures .0) (b .rows-verdict .ensures) (t .enum-told2 .given .1) (k .collect-located .ensures .1)
 
 pub server-rows-spec : {M : Type 1} → statement M
 server-rows-spec =
