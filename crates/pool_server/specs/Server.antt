@@ -12,6 +12,7 @@ use Rattle.locate.specs.Stands.{foundOrigins}
 use Rattle.collect.specs.Collect.{collected}
 use Rattle.build.specs.Build.{answer}
 use Rattle.pool_server.specs.declared.Server.{Server}
+use Rattle.pool_server.specs.declared.Judged.{Judged}
 
 abbrev pub refusedServer : Refusal → Server
 refusedServer r = record { verdict = Refused r; table = emptyTable; origins = replicate places 0 }
@@ -22,3 +23,14 @@ serverWith (Refused r) c s = refusedServer r
 
 unfoldable pub serverOf : Choices → List ℕ → Server
 serverOf c s = serverWith (answer c s .verdict) c s
+
+-- ---- a server after the first: the same without where its entries stand
+
+abbrev pub judged : Server → Judged
+judged x = record { verdict = x .verdict; table = x .table }
+
+abbrev pub refusedJudged : Refusal → Judged
+refusedJudged r = judged (refusedServer r)
+
+abbrev pub judgedOf : Choices → List ℕ → Judged
+judgedOf c s = judged (serverOf c s)

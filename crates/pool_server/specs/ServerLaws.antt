@@ -16,7 +16,8 @@ use Rattle.locate.specs.Stands.{foundOrigins}
 use Rattle.collect.specs.Collect.{collected, collected-rows}
 use Rattle.build.specs.Build.{editionVerdict, lawfulVerdict, rowsFor, verdictOf, answer}
 use Rattle.pool_server.specs.declared.Server.{Server}
-use Rattle.pool_server.specs.Server.{refusedServer, serverWith, serverOf}
+use Rattle.pool_server.specs.declared.Judged.{Judged}
+use Rattle.pool_server.specs.Server.{refusedServer, serverWith, serverOf, judgedOf}
 
 module _ (c : Choices) (s : List ℕ) where
   server-with : {v : Verdict} → verdictOf c s ≡ v → serverOf c s ≡ serverWith v c s
@@ -43,6 +44,11 @@ module _ (c : Choices) (s : List ℕ) where
       server-accepted p q = rw (g, q) (sym (server-with (rows-verdict ∙ p)))
 
   -- ---- what the answer says
+
+  -- a server that was judged alone, as one of which all is known
+  pub as-server : {y : Judged} → y ≡ judgedOf c s
+      → _≡_ {A = Server} (record { verdict = y .verdict; table = y .table; origins = serverOf c s .origins }) (serverOf c s)
+  as-server e = λ k. record { verdict = e k .verdict; table = e k .table; origins = serverOf c s .origins }
 
   with-verdict : (v : Verdict) → serverWith v c s .verdict ≡ v
   with-verdict Accepted = refl

@@ -10,7 +10,7 @@ use table::Verdict;
 use table::empty_table;
 use table::known_edition;
 ghost use mathlib.Core.Path.{_≡_};
-ghost use Rattle.pool_server.specs.Server.{refusedServer, serverOf};
+ghost use Rattle.pool_server.specs.Server.{refusedServer, serverOf, refusedJudged, judgedOf};
 
 // What building gives, and what it starts from where it accepts.
 pub struct Server {
@@ -53,5 +53,44 @@ pub fn server_rows(pages: &[u8], choices: Choices) -> Server
         verdict: Verdict::Accepted,
         table,
         origins,
+    }
+}
+
+// A server after the first: where its entries stand is not asked.
+pub struct Judged {
+    pub verdict: Verdict,
+    pub table: CpuidResults,
+}
+
+// A refused one gives no entries.
+fn refused_judged(r: Refusal) -> Judged
+    ensures { λ q. ⌜ q ≡ refusedJudged r ⌝ }
+{
+    let table = empty_table();
+    Judged {
+        verdict: Verdict::Refused(r),
+        table,
+    }
+}
+
+// The pages of a server after the first, walked once.
+pub fn judged_rows(pages: &[u8], choices: Choices) -> Judged
+    ensures { λ r. ⌜ r ≡ judgedOf choices (now (pages .entry)) ⌝ }
+{
+    if known_edition(choices.edition) {} else {
+        return refused_judged(Refusal::UnknownEdition);
+    }
+    let lawful = validate_pages(pages);
+    if let Verdict::Refused(r) = lawful {
+        return refused_judged(r);
+    }
+    let table = collect::collect(pages, choices.secure_avic);
+    let verdict = rows_verdict(table);
+    if let Verdict::Refused(r) = verdict {
+        return refused_judged(r);
+    }
+    Judged {
+        verdict: Verdict::Accepted,
+        table,
     }
 }

@@ -5,7 +5,7 @@ use pool_rows::all_places;
 use pool_rows::asked_bits;
 use pool_rows::still_alike;
 use pool_rows::with_server;
-use pool_server::server_rows;
+use pool_server::judged_rows;
 use table::Choices;
 use table::CpuidResults;
 use table::Refusal;
@@ -75,7 +75,7 @@ pub fn join_rest(pages: &[u8], lengths: &[u64], choices: Choices, first: CpuidRe
     let mut k: usize = 1;
     while k < n {
         let end = start + lengths[k] as usize;
-        let server = server_rows(&pages[start..end], choices);
+        let server = judged_rows(&pages[start..end], choices);
         let verdict = server.verdict;
         if let Verdict::Refused(r) = verdict {
             return refused_joined(r, k);

@@ -4,6 +4,7 @@ use mathlib.Core.Path.{_≡_}
 use Prim.Native.Nat.{_-_, _≤_}
 use native.Mathlib.Omega.{arith}
 use lib.ListN.{length}
+use Rattle.pool_server.specs.ServerLaws.{as-server}
 use Rattle.pool_sets.specs.Sets.{startOf}
 use Rattle.pool_sets.specs.SetsLaws.{start-first, start-next, set-of, at-least-two, set-ends}
 use Rattle.pool_sets.specs.ServersLaws.{Joining, part-verdict, part-rows, joining-starts, joining-next, joining-refuses, joining-ends}
@@ -34,8 +35,8 @@ add-end c =
     let l = c .before .before in let s = l .before .before .before .before .before .before in
     omega (arith, l .loop .inv .2, set-ends (s .args .pages .now) (s .args .lengths .now) (s .pre .0) (l .loop .k) (search needs))
 
-part-server-rows-end : tie.Need-part-server-rows-end Inv-loop μ-loop
-part-server-rows-end c =
+part-judged-rows-end : tie.Need-part-judged-rows-end Inv-loop μ-loop
+part-judged-rows-end c =
     let l = c .before .before in let s = l .before .before .before .before .before .before in
     omega (arith, l .loop .inv .2, set-ends (s .args .pages .now) (s .args .lengths .now) (s .pre .0) (l .loop .k) (search needs))
 
@@ -44,7 +45,7 @@ returns c =
     let r = c .before .before .before .before in let l = r .before .before .before .before in let a = l .before .before .before .before .before .before .args in
     joining-refuses (a .choices) (a .pages .now) (a .lengths .now) (l .loop .k) (l .loop .t) (l .loop .alike) (search needs)
     (part-verdict (a .choices) (a .pages .now) (a .lengths .now) (l .loop .k)
-    (set-of (a .pages .now) (a .lengths .now) (l .loop .k) (l .loop .start) (l .loop .inv .2)) (r .server-rows .ensures)
+    (set-of (a .pages .now) (a .lengths .now) (l .loop .k) (l .loop .start) (l .loop .inv .2)) (as-server _ _ (r .judged-rows .ensures))
     (c .before .before .verdict .given .1)) (c .refused-joined .ensures) (l .loop .inv .3)
 
 loop-again : tie.Need-loop-again Inv-loop μ-loop
@@ -53,13 +54,13 @@ loop-again c =
       search needs,
       search needs,
       omega (arith, l .loop .inv .2, start-next (a .lengths .now) (l .loop .k)),
-      joining-next (a .choices) (a .pages .now) (a .lengths .now) (l .loop .k) (l .loop .t) (r .server-rows .result .table) _ (l .loop .alike) _ (l .before .before .before .asked-bits .ensures)
+      joining-next (a .choices) (a .pages .now) (a .lengths .now) (l .loop .k) (l .loop .t) (r .judged-rows .result .table) _ (l .loop .alike) _ (l .before .before .before .asked-bits .ensures)
           (l .loop .inv .0) (search needs)
           (part-verdict (a .choices) (a .pages .now) (a .lengths .now) (l .loop .k)
-          (set-of (a .pages .now) (a .lengths .now) (l .loop .k) (l .loop .start) (l .loop .inv .2)) (r .server-rows .ensures)
+          (set-of (a .pages .now) (a .lengths .now) (l .loop .k) (l .loop .start) (l .loop .inv .2)) (as-server _ _ (r .judged-rows .ensures))
           (e .enum-told .given .1))
           (part-rows (a .choices) (a .pages .now) (a .lengths .now) (l .loop .k)
-          (set-of (a .pages .now) (a .lengths .now) (l .loop .k) (l .loop .start) (l .loop .inv .2)) (r .server-rows .ensures)
+          (set-of (a .pages .now) (a .lengths .now) (l .loop .k) (l .loop .start) (l .loop .inv .2)) (as-server _ _ (r .judged-rows .ensures))
           (e .enum-told .given .1))
           (found .still-alike .ensures) (c .with-server .ensures) (l .loop .inv .3),
     )
@@ -84,7 +85,7 @@ join-rest-spec =
     add-end
     (λ c. search needs)
     (λ c. search needs)
-    part-server-rows-end
+    part-judged-rows-end
     (λ c κs. search needs)
     (λ c. search needs)
     (λ c κs. search needs)
