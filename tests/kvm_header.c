@@ -1,6 +1,7 @@
 /* A table's list through the kernel's own header: sizes, offsets and the flag's value; every field of every row against lookups. Where
- * /dev/kvm can be opened, a new vCPU takes the list and gives the same functions, indices and flags back in the same order, and the list of
- * KVM_GET_SUPPORTED_CPUID is written to a file, for from-kvm.
+ * /dev/kvm can be opened, a new vCPU takes the list and gives the same functions, indices and flags back in the same order; the list of
+ * KVM_GET_SUPPORTED_CPUID is read into pages, or refused where document 02 says so, as some processors have more rows than pages hold; and
+ * the first rows of it that can be read are written to a file, for from-kvm.
  *
  *   kvm_header PAGES SUPPORTED     the last line says what was compared; status 0 where all is equal, 3 where /dev/kvm cannot be opened
  */
@@ -28,7 +29,7 @@ _Static_assert(offsetof(struct kvm_cpuid_entry2, edx) == 24, "EDX");
 _Static_assert(offsetof(struct kvm_cpuid_entry2, padding) == 28, "padding");
 _Static_assert(KVM_CPUID_FLAG_SIGNIFCANT_INDEX == 1, "the flag of a row with a subleaf");
 
-enum { ROOM = 256 };
+enum { ROOM = 256, PAGE_ROWS = 64 };
 
 static _Alignas(struct kvm_cpuid2) uint8_t list[8 + 40 * ROOM], given[8 + 40 * ROOM];
 
@@ -80,15 +81,59 @@ static void given_to_kvm(int kvm) {
     }
 }
 
-static uint32_t supported_to_file(int kvm, const char *name) {
+/* Whether a row goes onto page 1. */
+static int on_page_1(const struct kvm_cpuid_entry2 *row) { return row->function == 0xD; }
+
+/* What reading a list of lawful length must give, by document 02, P2: 12, then 11, or 0. */
+static uint32_t number_by_document_02(const struct kvm_cpuid2 *cpuid) {
+    uint32_t unlawful = cpuid->padding, rows[2] = {0, 0};
+    for (uint32_t i = 0; i < cpuid->nent; i++) {
+        const struct kvm_cpuid_entry2 *row = &cpuid->entries[i];
+        unlawful |= (row->flags > 1) | row->padding[0] | row->padding[1] | row->padding[2];
+        rows[on_page_1(row)]++;
+    }
+    return unlawful ? 12 : rows[0] > PAGE_ROWS || rows[1] > PAGE_ROWS ? 11 : 0;
+}
+
+static size_t bytes_of(const struct kvm_cpuid2 *cpuid) { return sizeof *cpuid + cpuid->nent * sizeof cpuid->entries[0]; }
+
+/* Reads the list, and holds the answer and the lent bytes against document 02; gives the answer's number. */
+static uint32_t read_into_pages(const struct kvm_cpuid2 *cpuid) {
+    static uint8_t pages[8192 + 1];
+    memset(pages, 0xA5, sizeof pages);
+    struct snp_cpuid_written read = snp_cpuid_read_kvm((const uint8_t *)cpuid, bytes_of(cpuid), pages, sizeof pages);
+    size_t written = read.number == 0 ? 8192 : 0;
+    check(read.number == number_by_document_02(cpuid) && read.length == written, "reading the list of KVM_GET_SUPPORTED_CPUID");
+    for (size_t i = written; i < sizeof pages; i++) check(pages[i] == 0xA5, "a byte beyond the pages");
+    return read.number;
+}
+
+/* The list without rows of other flags (older kernels have one) and those beyond a page's 64th, so that what is left can be read. */
+static void keep_what_is_read(struct kvm_cpuid2 *cpuid) {
+    uint32_t kept = 0, rows[2] = {0, 0};
+    for (uint32_t i = 0; i < cpuid->nent; i++) {
+        struct kvm_cpuid_entry2 row = cpuid->entries[i];
+        if (row.flags <= 1 && rows[on_page_1(&row)]++ < PAGE_ROWS) cpuid->entries[kept++] = row;
+    }
+    cpuid->nent = kept;
+}
+
+/* Says on the way how many rows the kernel gives and what reading them comes to. */
+static void supported_to_file(int kvm, const char *name) {
     struct kvm_cpuid2 *cpuid = (struct kvm_cpuid2 *)given;
     memset(given, 0, sizeof given);
     cpuid->nent = ROOM;
     check(ioctl(kvm, KVM_GET_SUPPORTED_CPUID, cpuid) == 0, "KVM_GET_SUPPORTED_CPUID");
+    uint32_t number = read_into_pages(cpuid);
+    printf(", KVM_GET_SUPPORTED_CPUID gives %u rows, ", cpuid->nent);
+    number ? printf("refused by %u\n", number) : printf("which are read\n");
+    if (number != 0) {
+        keep_what_is_read(cpuid);
+        check(read_into_pages(cpuid) == 0, "a list whose rows fit is refused");
+    }
     FILE *file = fopen(name, "wb");
-    size_t size = sizeof *cpuid + cpuid->nent * sizeof cpuid->entries[0];
+    size_t size = bytes_of(cpuid);
     check(file && fwrite(given, 1, size, file) == size && fclose(file) == 0, "the list of KVM_GET_SUPPORTED_CPUID cannot be written");
-    return cpuid->nent;
 }
 
 int main(int argc, char **argv) {
@@ -105,7 +150,7 @@ int main(int argc, char **argv) {
         return 3;
     }
     given_to_kvm(kvm);
-    uint32_t supported = supported_to_file(kvm, argv[2]);
-    printf("%u rows are as <linux/kvm.h> has them, KVM_SET_CPUID2 takes them, KVM_GET_SUPPORTED_CPUID gives %u rows\n", rows, supported);
+    printf("%u rows are as <linux/kvm.h> has them, KVM_SET_CPUID2 takes them", rows);
+    supported_to_file(kvm, argv[2]);
     return 0;
 }
