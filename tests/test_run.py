@@ -11,8 +11,8 @@ MANY = '99999999 tests ran'
 
 
 class Gate(unittest.TestCase):
-    def run_gate(self, said=MANY, status=0, proofs='7 passed, 0 failed', words=(), kvm=True):
-        """(exit status, lines): what every test says last, with which status, and what rt ci says."""
+    def run_gate(self, said=MANY, status=0, proofs='7 passed, 0 failed', words=(), kvm=True, **others):
+        """(exit status, lines): what every test says last, with which status, and what rt ci says; other commands by name."""
         commands = {
             'rt': f'[ "$1" != ci ] || echo "{proofs}"',
             'python3': f'echo "{said}"; exit {status}',
@@ -20,6 +20,7 @@ class Gate(unittest.TestCase):
             'gcc': 'while [ "$1" != -o ]; do shift; done; mkdir -p target && printf "#!/bin/sh\\necho 99999999 parts\\n" >"$2" && chmod +x "$2"',
             'nm': 'for i in 1 2 3 4 5 6 7 8 9 10 11 12 13 14 15 16 17 18; do echo "0 T snp_cpuid_$i"; done',
             'cpuid': 'echo "cpuid: no such device" >&2; exit 1',
+            **others,
         }
         with tempfile.TemporaryDirectory() as folder:
             bin_folder = Path(folder, 'bin')
@@ -68,6 +69,11 @@ class Gate(unittest.TestCase):
         status, lines = self.run_gate(words=['--no-proofs'])
         self.assertEqual((status, lines[-1]), (0, '19 passed, 0 failed'))
         self.assertTrue(lines[-2].startswith('5 passed over: the proofs, as asked; why the edits are refused'), lines[-2])
+
+    def test_tests_that_end_early_fail(self):
+        status, lines = self.run_gate(gcc='kill -9 $PPID')
+        self.assertEqual((status, lines[-1]), (1, '20 passed, 1 failed'))
+        self.assertIn('library: ended before its last test', lines)
 
 
 if __name__ == '__main__':
