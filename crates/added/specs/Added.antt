@@ -9,7 +9,8 @@ use Rattle.table.specs.declared.Choices.{Choices}
 use Rattle.table.specs.declared.Verdict.{Verdict}
 use Rattle.table.specs.declared.Verdict.the-variants.{Accepted, Refused}
 use Rattle.table.specs.Refusal.{details}
-use Rattle.build.specs.Build.{lawfulVerdict, answer}
+use Rattle.lawful.specs.Lawful.{lawfulVerdict}
+use Rattle.build.specs.Build.{answer}
 use Rattle.rise.specs.Rise.{RiseHypothesis}
 
 -- "the last page that had entries" is page p: entries stand on it, and on none of the pages after it

@@ -20,9 +20,10 @@ use Rattle.checks.specs.Checks.{rowsVerdict}
 use Rattle.features.specs.Finish.{ruleAt}
 use Rattle.update.specs.Kinds.{fromEntry}
 use Rattle.build.specs.declared.Built.{Built}
-use Rattle.build.specs.declared.RowsBuilt.{RowsBuilt}
+use Rattle.rows_built.specs.declared.RowsBuilt.{RowsBuilt}
 use Rattle.build.specs.Built.{SameButOrigins}
-use Rattle.build.specs.Build.{editionVerdict, lawfulVerdict, rowsFor, verdictOf, originsIn, answer, originAt}
+use Rattle.build.specs.Build.{editionVerdict, rowsFor, verdictOf, originsIn, answer, originAt}
+use Rattle.lawful.specs.Lawful.{lawfulVerdict}
 use Rattle.build.specs.BuildLaws.{answer-of-rows}
 use Rattle.located.specs.StandsLaws.{stands-begins}
 use Rattle.located.specs.LocatedProof.{entry-there, refused-has-none}

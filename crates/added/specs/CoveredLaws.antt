@@ -20,7 +20,8 @@ use Rattle.table.specs.Rows.{Rows}
 use Rattle.checks.specs.Checks.{refuseAt, missingRequired, missingComponent, requiredVerdict, componentsOf, componentsVerdict, refuseUnless}
 use Rattle.checks.specs.ExtendedState.{combinedMask, supplied}
 use Rattle.checks.specs.Required.{placeRequired, requiredCount}
-use Rattle.build.specs.Build.{editionVerdict, lengthVerdict, countsVerdict, cleanVerdict, reservedVerdict, lawfulVerdict}
+use Rattle.build.specs.Build.{editionVerdict}
+use Rattle.lawful.specs.Lawful.{lengthVerdict, countsVerdict, cleanVerdict, reservedVerdict, lawfulVerdict}
 use Rattle.added.specs.Added.{Covered}
 
 -- 15 is not covered

@@ -18,7 +18,7 @@ use Rattle.x86defs.specs.Functions.{function, result}
 use Rattle.pages.specs.Layout.{pageSize, entrySize, firstEntry, wordAt, pagesIn, countOf, entryAt}
 use Rattle.table.specs.declared.Verdict.{Verdict}
 use Rattle.table.specs.declared.Verdict.the-variants.{Accepted}
-use Rattle.build.specs.Build.{lawfulVerdict}
+use Rattle.lawful.specs.Lawful.{lawfulVerdict}
 use Rattle.added.specs.Added.{LastWithEntries, CountAfter, Added}
 use Rattle.added.specs.Added.CountAfter.{same, raised}
 

@@ -32,8 +32,8 @@ use Rattle.features.specs.Finish.Rule.{made as madeRule, needed, component}
 use Rattle.update.specs.Kinds.{fromEntry}
 use Rattle.update.specs.PlaceLaws.{always, required-place, position, always-required, component-rule, Sort, sort}
 use Rattle.update.specs.PlaceLaws.Sort.{made, required, subleaf}
-use Rattle.build.specs.Built.{tableFor, builtFrom}
-use Rattle.build.specs.Stages.{fromArea, fromComponents, fromInvlpgb}
+use Rattle.rows_built.specs.RowsBuilt.{tableFor, builtFrom}
+use Rattle.rows_built.specs.Stages.{fromArea, fromComponents, fromInvlpgb}
 use Rattle.added.specs.Added.{Covered}
 use Rattle.added.specs.KeepsLaws.{Keeps}
 use Rattle.added.specs.CoveredLaws.{required-found, components-found, then-same}

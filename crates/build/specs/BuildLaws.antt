@@ -13,7 +13,7 @@ use Rattle.origins.specs.Origin.Origin.{neither, madeHere}
 use Rattle.origins.specs.OriginLaws.{finished-origins}
 use Rattle.locate.specs.Stands.{standsAt, foundOrigins}
 use Rattle.checks.specs.Checks.{rowsVerdict}
-use Rattle.build.specs.declared.RowsBuilt.{RowsBuilt}
+use Rattle.rows_built.specs.declared.RowsBuilt.{RowsBuilt}
 use Rattle.build.specs.declared.Built.{Built}
 use Rattle.table.specs.declared.Refusal.{Refusal}
 use Rattle.table.specs.declared.Refusal.the-variants.{UnknownEdition}
@@ -21,13 +21,15 @@ use Rattle.table.specs.declared.Choices.{Choices}
 use Rattle.table.specs.declared.Verdict.{Verdict}
 use Rattle.table.specs.declared.Verdict.the-variants.{Accepted, Refused}
 use Rattle.table.specs.declared.CpuidResults.{CpuidResults}
-use Rattle.build.specs.Built.{builtFrom, withoutOrigins}
+use Rattle.rows_built.specs.RowsBuilt.{builtFrom}
+use Rattle.build.specs.Built.{withoutOrigins, notBuilt, locatedBuilt}
 use Rattle.table.specs.Table.{emptyTable, rowsIn}
 use Rattle.table.specs.Rows.{Rows}
 use Rattle.table.specs.Edition.{knownEdition}
-use Rattle.build.specs.Stages.{refusedBuilt, notBuilt, locatedBuilt, builtBy}
+use Rattle.rows_built.specs.Stages.{refusedBuilt, builtBy}
 use Rattle.collect.specs.Collect.{collected, collected-rows}
-use Rattle.build.specs.Build.{editionVerdict, lawfulVerdict, rowsFor, verdictOf, originsIn, answer}
+use Rattle.build.specs.Build.{editionVerdict, rowsFor, verdictOf, originsIn, answer}
+use Rattle.lawful.specs.Lawful.{lawfulVerdict}
 
 -- a table without rows has no origins, whatever stands in the pages
 pub no-origins : (s : List ℕ) → replicate places 0 ≡ originsIn emptyTable s

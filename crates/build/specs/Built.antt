@@ -1,25 +1,23 @@
--- The answer to masked first entries: document 01's checks in order, then the table. And what it is for two answers to be the same.
+-- What building gives beside the answer to rows, the origins; and what it is for two answers to be the same.
 use mathlib.Core.Path.{_≡_}
+use mathlib.Core.List.{List}
 use Prim.Native.Nat.{ℕ}
-use Rattle.table.specs.declared.Verdict.{Verdict}
-use Rattle.table.specs.declared.Verdict.the-variants.{Accepted, Refused}
-use Rattle.table.specs.Rows.{Rows}
-use Rattle.checks.specs.ExtendedState.{combinedMask}
-use Rattle.checks.specs.Checks.{rowsVerdict}
-use Rattle.table.specs.declared.CpuidResults.{CpuidResults}
-use Rattle.features.specs.Finish.{finished}
-use Rattle.table.specs.Table.{tableOf, emptyTable}
-use Rattle.build.specs.declared.RowsBuilt.{RowsBuilt}
+use lib.ListN.{replicate}
+use Rattle.masking.specs.Kept.{places}
+use Rattle.origins.specs.Origin.{finishedOrigins}
+use Rattle.table.specs.declared.Refusal.{Refusal}
+use Rattle.table.specs.declared.Verdict.the-variants.{Refused}
+use Rattle.table.specs.Table.{emptyTable}
+use Rattle.rows_built.specs.declared.RowsBuilt.{RowsBuilt}
 use Rattle.build.specs.declared.Built.{Built}
 
--- the table that goes with a verdict on masked first entries, under edition n
-abbrev pub tableFor : ℕ → Verdict → Rows → CpuidResults
-tableFor n Accepted m = tableOf (finished n m) (combinedMask m)
-tableFor n (Refused r) m = emptyTable
+-- a refused answer: an empty table, and no origins
+abbrev pub notBuilt : Refusal → Built
+notBuilt r = record { verdict = Refused r; table = emptyTable; origins = replicate places 0 }
 
--- the answer to masked first entries, once edition and pages are lawful
-unfoldable pub builtFrom : ℕ → Rows → RowsBuilt
-builtFrom n m = record { verdict = rowsVerdict m; table = tableFor n (rowsVerdict m) m }
+-- an answer to rows with origins, from the numbers of where the first entries stand
+abbrev pub locatedBuilt : RowsBuilt → List ℕ → Built
+locatedBuilt b found = record { verdict = b .verdict; table = b .table; origins = finishedOrigins (b .table .present) found }
 
 -- Document 02, P11: "sameness with the Rust, in P2, in P8 and between servers A and B means everything but origins": the verdict, with its refusal
 -- and details, and the table

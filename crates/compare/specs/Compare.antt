@@ -16,7 +16,8 @@ use Rattle.table.specs.declared.Verdict.{Verdict}
 use Rattle.table.specs.declared.Verdict.the-variants.{Accepted, Refused}
 use Rattle.table.specs.Rows.{Row, Rows}
 use Rattle.update.specs.Kinds.{Kinds, kindsAt}
-use Rattle.build.specs.Build.{rowsFor, lawfulVerdict, answer}
+use Rattle.build.specs.Build.{rowsFor, answer}
+use Rattle.lawful.specs.Lawful.{lawfulVerdict}
 use Rattle.rise.specs.Decide.{risesTest, placeTest, inTable}
 use Rattle.compare.specs.declared.Register.{Register}
 use Rattle.compare.specs.declared.Register.the-variants.{Eax, Ebx, Ecx, Edx}

@@ -19,7 +19,8 @@ use Rattle.table.specs.declared.Verdict.the-variants.{Accepted, Refused}
 use Rattle.table.specs.Rows.{Rows}
 use Rattle.features.specs.Finish.{ruleAt}
 use Rattle.update.specs.Kinds.{Kinds, EntryAtLeast, Registers, kindsAt, fromEntry}
-use Rattle.build.specs.Build.{rowsFor, lawfulVerdict, answer}
+use Rattle.build.specs.Build.{rowsFor, answer}
+use Rattle.lawful.specs.Lawful.{lawfulVerdict}
 use Rattle.rise.specs.Rise.{EntryRises, RiseHypothesis as Hypothesis}
 use Rattle.rise.specs.Decide.{risesTest, registersTest, placeTest, inTable, test-rises, rises-test, test-fails, place-rises, rises-place}
 use Rattle.rise.specs.RiseProof.{demand-3}

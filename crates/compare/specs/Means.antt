@@ -12,7 +12,8 @@ use Rattle.table.specs.declared.Verdict.the-variants.{Accepted, Refused}
 use Rattle.table.specs.Rows.{Row}
 use Rattle.features.specs.Finish.{ruleAt}
 use Rattle.update.specs.Kinds.{Kind, Kinds, EntryAtLeast, kindsAt, fromEntry}
-use Rattle.build.specs.Build.{rowsFor, lawfulVerdict, answer}
+use Rattle.build.specs.Build.{rowsFor, answer}
+use Rattle.lawful.specs.Lawful.{lawfulVerdict}
 use Rattle.rise.specs.Rise.{EntryRises, RiseConclusion, RiseHypothesis as Hypothesis}
 use Rattle.rise.specs.Decide.{inTable}
 use Rattle.compare.specs.declared.Register.{Register}

@@ -10,7 +10,8 @@ use Rattle.table.specs.declared.Verdict.{Verdict}
 use Rattle.table.specs.declared.Verdict.the-variants.{Accepted, Refused}
 use Rattle.table.specs.Rows.{Rows}
 use Rattle.table.specs.Table.{rowsIn}
-use Rattle.build.specs.Build.{rowsFor, lawfulVerdict, answer}
+use Rattle.build.specs.Build.{rowsFor, answer}
+use Rattle.lawful.specs.Lawful.{lawfulVerdict}
 use Rattle.collect.specs.Collect.{collected, collected-rows}
 use Rattle.compare.specs.declared.Compared.{Compared}
 use Rattle.compare.specs.declared.Compared.the-variants.{RefusedA, UnlawfulB}

@@ -54,7 +54,7 @@ pub fn compare(a: &[u8], b: &[u8], choices: Choices) -> Compared
     if let Verdict::Refused(refusal) = verdict {
         return Compared::RefusedA(refusal);
     }
-    let lawful = build::validate_pages(b);
+    let lawful = lawful::validate_pages(b);
     if let Verdict::Refused(refusal) = lawful {
         return Compared::UnlawfulB(refusal);
     }

@@ -5,7 +5,7 @@ use Rattle.x86defs.specs.Functions.{VersionAndFeatures, ExtendedStateEnumeratio
 use Rattle.pages.specs.Layout.{badLength}
 use Rattle.table.specs.declared.Subleaf.the-variants.{None, Some}
 use Rattle.table.specs.declared.Refusal.the-variants.{PagesLength, SaveAreaOverflow}
-use Rattle.build.specs.LawfulLaws.{lawful-bad-length}
+use Rattle.lawful.specs.LawfulLaws.{lawful-bad-length}
 use Rattle.compare.specs.declared.Register.the-variants.{Ecx}
 use Rattle.compare.specs.declared.Compared.the-variants.{Rises, RefusedA, UnlawfulB, NoEntry, Differs}
 use Rattle.compare.specs.Compare.{comparedRows, compared}

@@ -21,8 +21,8 @@ use Rattle.table.specs.Rows.{Rows, row}
 use Rattle.table.specs.Table.{emptyTable}
 use Rattle.collect.specs.FirstEntries.{setLegacy}
 use Rattle.checks.specs.Checks.{rowsVerdict}
-use Rattle.build.specs.declared.RowsBuilt.{RowsBuilt}
-use Rattle.build.specs.Built.{tableFor, builtFrom}
+use Rattle.rows_built.specs.declared.RowsBuilt.{RowsBuilt}
+use Rattle.rows_built.specs.RowsBuilt.{tableFor, builtFrom}
 use Rattle.flips.specs.OneBit.{oneBit, xorResult}
 use Rattle.flip_rows.specs.Same.{sameResult, sameTable, sameNumbers, sameVerdict, sameAnswer, sameFrom}
 use Rattle.flip_rows.specs.SameLaws.{table-same, result-equal}

@@ -1,6 +1,6 @@
 // The bits of one first entry. Collected rows, what building answers to them and an entry's registers come in; the first of the 128 bits whose flip
 // changes that answer goes out.
-use build::RowsBuilt;
+use rows_built::RowsBuilt;
 use flip_rows::same_answer;
 use flip_rows::same_result;
 use flip_rows::same_verdict;
@@ -74,7 +74,7 @@ fn keeps_answer(
             return true;
         }
     }
-    let built = build::build_rows(with_row(t, place, x), edition);
+    let built = rows_built::build_rows(with_row(t, place, x), edition);
     let verdict = built.verdict;
     let verdict_before = base.verdict;
     if is_refused(verdict_before) {

@@ -7,7 +7,8 @@ use Rattle.x86defs.specs.Functions.{ExtendedStateEnumeration}
 use Rattle.table.specs.declared.Subleaf.the-variants.{Some}
 use Rattle.table.specs.declared.Refusal.the-variants.{MissingRequiredResult, SaveAreaOverflow}
 use Rattle.table.specs.declared.Verdict.the-variants.{Accepted, Refused}
-use Rattle.build.specs.Build.{lawfulVerdict, answer}
+use Rattle.lawful.specs.Lawful.{lawfulVerdict}
+use Rattle.build.specs.Build.{answer}
 use Rattle.rise.specs.Rise.{RiseHypothesis}
 use Rattle.rise.specs.Decide.{pagesTest, rises-by-test}
 use Rattle.page_sets.specs.PageSets.{serverA, serverB, serverWithoutD12, serverWithLargeD6}

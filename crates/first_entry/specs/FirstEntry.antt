@@ -12,7 +12,7 @@ use Rattle.table.specs.declared.Verdict.the-variants.{Accepted, Refused}
 use Rattle.origins.specs.Origin.{Origin, originNumber}
 use Rattle.origins.specs.Origin.Origin.{neither}
 use Rattle.locate.specs.Stands.{standsAt}
-use Rattle.build.specs.Build.{lawfulVerdict}
+use Rattle.lawful.specs.Lawful.{lawfulVerdict}
 use Rattle.first_entry.specs.declared.FirstEntry.{FirstEntry}
 
 unfoldable pub firstOrigin : List ℕ → ℕ → Origin

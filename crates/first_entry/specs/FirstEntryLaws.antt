@@ -15,7 +15,7 @@ use Rattle.table.specs.declared.Verdict.{Verdict}
 use Rattle.table.specs.declared.Verdict.the-variants.{Accepted, Refused}
 use Rattle.origins.specs.Origin.{Origin, originNumber}
 use Rattle.locate.specs.Stands.{standsAt, foundOrigins}
-use Rattle.build.specs.Build.{lawfulVerdict}
+use Rattle.lawful.specs.Lawful.{lawfulVerdict}
 use Rattle.first_entry.specs.declared.FirstEntry.{FirstEntry}
 use Rattle.first_entry.specs.FirstEntry.{firstOrigin, originGiven, firstEntry}
 

@@ -15,7 +15,7 @@ pub struct FirstEntry {
 pub fn first_entry(pages: &[u8], leaf: CpuidFunction, subleaf: u32) -> FirstEntry
     ensures { λ r. ⌜ r ≡ firstEntry (now (pages .entry)) leaf subleaf ⌝ }
 {
-    let lawful = build::validate_pages(pages);
+    let lawful = lawful::validate_pages(pages);
     if let Verdict::Refused(r) = lawful {
         return FirstEntry {
             verdict: Verdict::Refused(r),

@@ -15,9 +15,10 @@ use Rattle.checks.specs.Checks.{rowsVerdict}
 use Rattle.checks.specs.ChecksLaws.{then-left, demanded}
 use Rattle.collect.specs.FirstEntries.{maskedAt}
 use Rattle.collect.specs.Collect.{storedAt}
-use Rattle.build.specs.Built.{tableFor}
-use Rattle.build.specs.Build.{editionVerdict, lengthVerdict, lawfulVerdict, rowsFor, verdictOf, answer}
-use Rattle.build.specs.LawfulLaws.{lawful-counts, lawful-clean, clean-lawful}
+use Rattle.rows_built.specs.RowsBuilt.{tableFor}
+use Rattle.build.specs.Build.{editionVerdict, rowsFor, verdictOf, answer}
+use Rattle.lawful.specs.Lawful.{lengthVerdict, lawfulVerdict}
+use Rattle.lawful.specs.LawfulLaws.{lawful-counts, lawful-clean, clean-lawful}
 use Rattle.flips.specs.Flips.{flip, flipped}
 use Rattle.flips.specs.OneBit.{oneBit, xorResult}
 use Rattle.flips.specs.EntryLaws.{Inside}

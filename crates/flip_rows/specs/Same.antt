@@ -11,7 +11,7 @@ use Rattle.table.specs.declared.Verdict.{Verdict}
 use Rattle.table.specs.Rows.{Row, Rows}
 use Rattle.table.specs.Table.{rowIn}
 use Rattle.checks.specs.Checks.{rowsVerdict}
-use Rattle.build.specs.Built.{tableFor}
+use Rattle.rows_built.specs.RowsBuilt.{tableFor}
 use Rattle.numbers.specs.declared.AnswerNumbers.{AnswerNumbers}
 use Rattle.numbers.specs.Numbers.{numbersOf}
 

@@ -7,7 +7,8 @@ use Prim.Native.Nat.{ℕ}
 use Rattle.table.specs.declared.Refusal.the-variants.{CompactSizeTooLarge}
 use Rattle.table.specs.declared.Verdict.the-variants.{Accepted, Refused}
 use Rattle.table.specs.Table.{rowsIn}
-use Rattle.build.specs.Build.{lawfulVerdict, answer}
+use Rattle.lawful.specs.Lawful.{lawfulVerdict}
+use Rattle.build.specs.Build.{answer}
 use Rattle.rise.specs.Rise.{RiseHypothesis}
 use Rattle.rise.specs.Decide.{pagesTest, rises-by-test}
 use Rattle.page_sets.specs.PageSets.{entry, page, firstPage}

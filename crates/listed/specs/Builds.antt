@@ -17,7 +17,8 @@ use Rattle.table.specs.Rows.{row}
 use Rattle.table.specs.Table.{rowIn}
 use Rattle.checks.specs.Checks.{requiredVerdict, invlpgbVerdict, componentsVerdict, areaVerdict}
 use Rattle.checks.specs.TopologyInputs.{inputsOf}
-use Rattle.build.specs.Build.{editionVerdict, lawfulVerdict, rowsFor, answer}
+use Rattle.build.specs.Build.{editionVerdict, rowsFor, answer}
+use Rattle.lawful.specs.Lawful.{lawfulVerdict}
 use Rattle.topologies.specs.Topologies.{acceptedInputs}
 use Rattle.listed.specs.Listed.{In}
 

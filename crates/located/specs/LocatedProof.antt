@@ -29,10 +29,10 @@ use Rattle.features.specs.Finish.{ruleAt, settings, finish, finished}
 use Rattle.update.specs.Kinds.{fromEntry}
 use Rattle.update.specs.PlaceLaws.{always}
 use Rattle.finish_laws.specs.RemainsLaws.{finished-present, finished-result, made-remains, finished-entry}
-use Rattle.build.specs.Built.{tableFor}
+use Rattle.rows_built.specs.RowsBuilt.{tableFor}
 use Rattle.build.specs.Build.{rowsFor, verdictOf, originsIn, answer, originAt}
 use Rattle.build.specs.BuildLaws.{no-origins}
-use Rattle.build.specs.LawfulLaws.{lawful-counts}
+use Rattle.lawful.specs.LawfulLaws.{lawful-counts}
 use Rattle.rise.specs.RiseProof.{answer-row, accepted-lawful}
 use Rattle.rise.specs.BuiltLaws.{always-finished}
 use Rattle.located.specs.Located.{FirstCounted, ComesFrom, RowsComeFrom, Origins, RowsHaveOrigins, RefusedHasNone}

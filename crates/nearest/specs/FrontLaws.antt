@@ -9,7 +9,8 @@ use Rattle.table.specs.declared.Refusal.the-variants.{UnknownEdition}
 use Rattle.table.specs.declared.Verdict.{Verdict}
 use Rattle.table.specs.declared.Verdict.the-variants.{Accepted, Refused}
 use Rattle.table.specs.Edition.{knownEdition}
-use Rattle.build.specs.Build.{editionVerdict, lawfulVerdict}
+use Rattle.build.specs.Build.{editionVerdict}
+use Rattle.lawful.specs.Lawful.{lawfulVerdict}
 use Rattle.flips.specs.Flips.{flips}
 use Rattle.flip_rows.specs.Changes.{changes}
 use Rattle.nearest.specs.declared.Nearest.{Nearest}

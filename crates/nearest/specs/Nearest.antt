@@ -10,7 +10,8 @@ use Rattle.table.specs.declared.Refusal.the-variants.{NothingDecides}
 use Rattle.table.specs.declared.Verdict.{Verdict}
 use Rattle.table.specs.declared.Verdict.the-variants.{Accepted, Refused}
 use Rattle.table.specs.Refusal.{andThen}
-use Rattle.build.specs.Build.{editionVerdict, lawfulVerdict}
+use Rattle.build.specs.Build.{editionVerdict}
+use Rattle.lawful.specs.Lawful.{lawfulVerdict}
 use Rattle.flips.specs.declared.Flip.{Flip}
 use Rattle.flips.specs.Flips.{flips}
 use Rattle.flip_rows.specs.Changes.{changes}

@@ -32,8 +32,9 @@ use Rattle.table.specs.Edition.{knownEdition}
 use Rattle.table.specs.Rows.{Row, Rows, row, vacant}
 use Rattle.collect.specs.FirstEntries.{setLegacy, maskedAt}
 use Rattle.collect.specs.Collect.{storedAt}
-use Rattle.build.specs.Build.{lawfulVerdict, rowsFor}
-use Rattle.build.specs.LawfulLaws.{lawful-counts}
+use Rattle.lawful.specs.Lawful.{lawfulVerdict}
+use Rattle.build.specs.Build.{rowsFor}
+use Rattle.lawful.specs.LawfulLaws.{lawful-counts}
 use Rattle.flips.specs.declared.Flip.{Flip}
 use Rattle.flips.specs.Flips.{flip, flipsOf, flipsIn, flips}
 use Rattle.flips.specs.OneBit.{oneBit, xorResult}

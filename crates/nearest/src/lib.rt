@@ -10,7 +10,7 @@ use table::known_edition;
 ghost use mathlib.Core.Path.{_≡_};
 ghost use mathlib.Core.Bool.{true};
 ghost use Rattle.table.specs.Edition.{knownEdition};
-ghost use Rattle.build.specs.Build.{lawfulVerdict};
+ghost use Rattle.lawful.specs.Lawful.{lawfulVerdict};
 ghost use Rattle.flips.specs.Flips.{flips};
 ghost use Rattle.flip_rows.specs.Changes.{changes};
 ghost use Rattle.nearest.specs.Nearest.{chosen, firstThat, nearest};
@@ -28,7 +28,7 @@ pub fn nearest_bit(pages: &[u8], choices: Choices) -> Nearest
     if known_edition(choices.edition) {} else {
         return Nearest::NoBit(Refusal::UnknownEdition);
     }
-    let lawful = build::validate_pages(pages);
+    let lawful = lawful::validate_pages(pages);
     if let Verdict::Refused(r) = lawful {
         return Nearest::NoBit(r);
     }
@@ -44,7 +44,7 @@ fn search_flips(pages: &[u8], secure_avic: bool, edition: u32) -> Nearest
     let kept = masks::kept_leaves(secure_avic);
     let n = pages::page_count(pages);
     let t = collect::collect(pages, secure_avic);
-    let base = build::build_rows(t, edition);
+    let base = rows_built::build_rows(t, edition);
     let mut seen = [false; PLACES];
     let mut index = reader::start(pages);
     while index.page_index < n {

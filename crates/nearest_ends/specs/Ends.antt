@@ -35,8 +35,9 @@ use Rattle.checks.specs.Checks.{requiredVerdict, invlpgbVerdict}
 use Rattle.checks.specs.ChecksLaws.{required-present}
 use Rattle.collect.specs.FirstEntries.{setLegacy, maskedAt}
 use Rattle.collect.specs.Collect.{storedAt, row-masks}
-use Rattle.build.specs.Build.{lawfulVerdict, rowsFor}
-use Rattle.build.specs.LawfulLaws.{lawful-counts}
+use Rattle.lawful.specs.Lawful.{lawfulVerdict}
+use Rattle.build.specs.Build.{rowsFor}
+use Rattle.lawful.specs.LawfulLaws.{lawful-counts}
 use Rattle.flips.specs.Flips.{flip, flips}
 use Rattle.flips.specs.OneBit.{oneBit, xorResult}
 use Rattle.flip_rows.specs.Same.{sameFrom}

@@ -9,7 +9,8 @@ use Rattle.table.specs.declared.Refusal.the-variants.{PagesLength, PageCount, M
 use Rattle.table.specs.declared.Verdict.{Verdict}
 use Rattle.table.specs.declared.Verdict.the-variants.{Accepted, Refused}
 use Rattle.table.specs.Refusal.{andThen}
-use Rattle.build.specs.Build.{editionVerdict, lengthVerdict, countsVerdict, reservedVerdict, lawfulVerdict}
+use Rattle.build.specs.Build.{editionVerdict}
+use Rattle.lawful.specs.Lawful.{lengthVerdict, countsVerdict, reservedVerdict, lawfulVerdict}
 use Rattle.refusals.specs.Conditions.{EditionFault, LengthFault, CountFault, ReservedFault}
 use Rattle.refusals.specs.Settles.{Settles}
 use Rattle.refusals.specs.Settles.Settles.{passes, refuses}

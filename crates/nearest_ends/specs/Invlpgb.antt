@@ -35,7 +35,7 @@ use Rattle.collect.specs.FirstEntries.{maskedAt}
 use Rattle.numbers.specs.Numbers.{numbersOf}
 use Rattle.flips.specs.OneBit.{bitIn, oneBit, xorResult}
 use Rattle.flip_rows.specs.Same.{sameNumbers, sameAnswer, sameFrom}
-use Rattle.build.specs.Built.{tableFor}
+use Rattle.rows_built.specs.RowsBuilt.{tableFor}
 use Rattle.flip_rows.specs.SameLaws.{answer-same}
 use Rattle.flip_rows.specs.PutRow.{putRow}
 use Rattle.flip_rows.specs.PutRowLaws.{required-same}

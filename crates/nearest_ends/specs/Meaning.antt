@@ -25,7 +25,7 @@ use Rattle.table.specs.declared.Verdict.the-variants.{Accepted, Refused}
 use Rattle.table.specs.Rows.{Rows}
 use Rattle.table.specs.Table.{rowIn}
 use Rattle.collect.specs.Collect.{Whole}
-use Rattle.build.specs.Built.{tableFor}
+use Rattle.rows_built.specs.RowsBuilt.{tableFor}
 use Rattle.build.specs.Build.{rowsFor, verdictOf, answer}
 use Rattle.numbers.specs.declared.AnswerNumbers.{AnswerNumbers}
 use Rattle.numbers.specs.Numbers.{numbersOf}

@@ -12,7 +12,7 @@ use Rattle.table.specs.declared.Choices.{Choices}
 use Rattle.table.specs.declared.Verdict.the-variants.{Accepted}
 use Rattle.table.specs.Edition.{knownEdition}
 use Rattle.collect.specs.Collect.{storedAt}
-use Rattle.build.specs.Build.{lawfulVerdict}
+use Rattle.lawful.specs.Lawful.{lawfulVerdict}
 use Rattle.flips.specs.Flips.{flip}
 use Rattle.flips.specs.OneBit.{oneBit}
 use Rattle.flips.specs.EntryLaws.{Inside}

@@ -15,7 +15,8 @@ use Rattle.table.specs.Refusal.{andThen}
 use Rattle.table.specs.Rows.{Rows}
 use Rattle.checks.specs.Checks.{missingRequired, requiredVerdict, rowsVerdict}
 use Rattle.checks.specs.ChecksLaws.{then-left, then-right, demanded}
-use Rattle.build.specs.Build.{editionVerdict, lawfulVerdict, rowsFor, verdictOf, answer}
+use Rattle.build.specs.Build.{editionVerdict, rowsFor, verdictOf, answer}
+use Rattle.lawful.specs.Lawful.{lawfulVerdict}
 use Rattle.refusals.specs.Conditions.{RequiredFault}
 use Rattle.refusals.specs.Settles.{Settles}
 use Rattle.refusals.specs.Settles.Settles.{passes, refuses}

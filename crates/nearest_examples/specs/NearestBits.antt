@@ -21,7 +21,8 @@ use Rattle.table.specs.declared.Verdict.the-variants.{Accepted, Refused}
 use Rattle.table.specs.Edition.{knownEdition}
 use Rattle.checks.specs.Checks.{requiredVerdict}
 use Rattle.collect.specs.Collect.{storedAt}
-use Rattle.build.specs.Build.{underEdition, editionVerdict, lawfulVerdict, rowsFor, answer}
+use Rattle.build.specs.Build.{underEdition, editionVerdict, rowsFor, answer}
+use Rattle.lawful.specs.Lawful.{lawfulVerdict}
 use Rattle.flips.specs.Flips.{flip, flipped, flipsOf, flipsIn, flips}
 use Rattle.flips.specs.OneBit.{bitIn, oneBit}
 use Rattle.flip_rows.specs.Same.{sameResult, sameRows, sameTable, sameNumbers, sameAnswer}

@@ -25,7 +25,8 @@ use Rattle.build.specs.declared.Built.{Built}
 use Rattle.origins.specs.Origin.{isMadeHere, originOf}
 use Rattle.collect.specs.FirstEntries.{firstAt, legacyFeatures, rowsOf}
 use Rattle.locate.specs.Stands.{standsAt}
-use Rattle.build.specs.Build.{editionVerdict, lengthVerdict, countsVerdict, reservedVerdict, lawfulVerdict, underEdition, verdictOf, originsIn, answer}
+use Rattle.build.specs.Build.{editionVerdict, underEdition, verdictOf, originsIn, answer}
+use Rattle.lawful.specs.Lawful.{lengthVerdict, countsVerdict, reservedVerdict, lawfulVerdict}
 
 -- what the examples choose: secure AVIC off, edition 1
 abbrev pub first : Choices

@@ -14,7 +14,7 @@ use Rattle.table.specs.declared.Verdict.the-variants.{Accepted, Refused}
 use Rattle.table.specs.Refusal.{andThen}
 use Rattle.table.specs.Table.{emptyTable}
 use Rattle.checks.specs.Checks.{refuseUnless}
-use Rattle.build.specs.Built.{tableFor}
+use Rattle.rows_built.specs.RowsBuilt.{tableFor}
 use Rattle.build.specs.Build.{originsIn}
 use Rattle.pool_join.specs.Alike.{allAlike}
 use Rattle.pool_sets.specs.Sets.{setAt, lastOf, setsVerdict}

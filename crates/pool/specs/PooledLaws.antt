@@ -38,9 +38,10 @@ use Rattle.origins.specs.Origin.{finishedOrigins}
 use Rattle.origins.specs.OriginLaws.{finished-origins}
 use Rattle.collect.specs.FirstEntries.{rowsOf}
 use Rattle.locate.specs.Stands.{standsAt, foundOrigins}
-use Rattle.build.specs.declared.RowsBuilt.{RowsBuilt}
-use Rattle.build.specs.Built.{tableFor, builtFrom}
-use Rattle.build.specs.Build.{editionVerdict, lawfulVerdict, verdictOf, originsIn, answer}
+use Rattle.rows_built.specs.declared.RowsBuilt.{RowsBuilt}
+use Rattle.rows_built.specs.RowsBuilt.{tableFor, builtFrom}
+use Rattle.build.specs.Build.{editionVerdict, verdictOf, originsIn, answer}
+use Rattle.lawful.specs.Lawful.{lawfulVerdict}
 use Rattle.build.specs.BuildLaws.{no-origins}
 use Rattle.counts.specs.Mask.{register-within, xfem-within, xss-within}
 use Rattle.pool_join.specs.Join.{pool}

@@ -1,6 +1,6 @@
 // One table for a pool of servers. Their page sets, end to end beside a list of lengths, come in; one table that any of them can keep goes out,
 // or one refusal and, where it is a server's own, which server it is.
-use build::build_rows;
+use rows_built::build_rows;
 use masking::PLACES;
 use origins::finish_origins;
 use pool_rows::all_alike;

@@ -14,7 +14,8 @@ use Rattle.table.specs.Table.{rowsIn}
 use Rattle.checks.specs.Checks.{rowsVerdict}
 use Rattle.locate.specs.Stands.{foundOrigins}
 use Rattle.collect.specs.Collect.{collected, collected-rows}
-use Rattle.build.specs.Build.{editionVerdict, lawfulVerdict, rowsFor, verdictOf, answer}
+use Rattle.build.specs.Build.{editionVerdict, rowsFor, verdictOf, answer}
+use Rattle.lawful.specs.Lawful.{lawfulVerdict}
 use Rattle.pool_server.specs.declared.Server.{Server}
 use Rattle.pool_server.specs.declared.Judged.{Judged}
 use Rattle.pool_server.specs.Server.{refusedServer, serverWith, serverOf, judgedOf}

@@ -1,6 +1,6 @@
 // One server of a pool by itself. Its pages come in; building's verdict goes out and, where it accepts, the masked first entries and where each
 // stands.
-use build::validate_pages;
+use lawful::validate_pages;
 use masking::PLACES;
 use rows_verdict::rows_verdict;
 use table::Choices;

@@ -25,7 +25,7 @@ use Rattle.table.specs.Rows.{Row, Rows}
 use Rattle.table.specs.Table.{emptyTable, rowIn}
 use Rattle.features.specs.Finish.{finished}
 use Rattle.update.specs.Kinds.{Registers, kindsAt}
-use Rattle.build.specs.Built.{tableFor}
+use Rattle.rows_built.specs.RowsBuilt.{tableFor}
 use Rattle.build.specs.Build.{rowsFor, answer}
 use Rattle.refusals.specs.Conditions.{Check, Fault, EditionFault}
 use Rattle.refusals.specs.Conditions.Check.{edition, pagesLength, pageCounts, reservedBytes, requiredLeaves, invlpgb, components, saveArea, processorCount, hyperthreading, threadsPerUnit}

@@ -25,7 +25,7 @@ use Rattle.table.specs.Rows.{Row, Rows}
 use Rattle.features.specs.Finish.{finished}
 use Rattle.update.specs.Kinds.{Kind, Kinds, Registers, kindsAt}
 use Rattle.update.specs.Kinds.Kind.{feature, featureBut28, area, freed, other}
-use Rattle.build.specs.Built.{tableFor}
+use Rattle.rows_built.specs.RowsBuilt.{tableFor}
 use Rattle.build.specs.Build.{rowsFor, originsIn, answer}
 use Rattle.pool_join.specs.Join.{pooled, withServer, pool, andTo, allTo}
 use Rattle.pool_join.specs.Alike.{registersAlike, allHave, alikeTo, allAlike, AlikeAt, AllAlike}

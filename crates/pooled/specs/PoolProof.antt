@@ -18,7 +18,7 @@ use Rattle.checks.specs.ExtendedState.{combinedMask}
 use Rattle.features.specs.Finish.{finished}
 use Rattle.update.specs.Kinds.{Registers, TableAtLeast, kindsAt}
 use Rattle.finish_laws.specs.XsavesLaws.{XsavesEdx}
-use Rattle.build.specs.Built.{tableFor}
+use Rattle.rows_built.specs.RowsBuilt.{tableFor}
 use Rattle.build.specs.Build.{rowsFor, answer}
 use Rattle.rise.specs.Rise.{Further, TableRises}
 use Rattle.rise.specs.RiseProof.{table-row, answer-row, answer-mask, xsaves-edx}

@@ -21,7 +21,7 @@ use Rattle.checks.specs.Checks.{invlpgbOf, requiredVerdict, invlpgbVerdict, row
 use Rattle.features.specs.Finish.{Rule, Settings, ruleAt, finishRow, enabledBy, settings, finished}
 use Rattle.features.specs.Finish.Rule.{component}
 use Rattle.update.specs.PlaceLaws.{component-rule}
-use Rattle.build.specs.Built.{tableFor}
+use Rattle.rows_built.specs.RowsBuilt.{tableFor}
 use Rattle.flip_rows.specs.Same.{sameFrom}
 use Rattle.flip_rows.specs.SameLaws.{answer-same}
 use Rattle.flip_rows.specs.PutRow.{putRow}

@@ -13,7 +13,7 @@ use Rattle.table.specs.declared.Verdict.{Verdict}
 use Rattle.table.specs.declared.Verdict.the-variants.{Accepted, Refused}
 use Rattle.table.specs.Refusal.{details}
 use Rattle.table.specs.Table.{emptyTable}
-use Rattle.build.specs.Built.{tableFor}
+use Rattle.rows_built.specs.RowsBuilt.{tableFor}
 use Rattle.build.specs.Build.{rowsFor, answer}
 use Rattle.buffer.specs.WritesExactly.{front-exactly}
 use Rattle.write.specs.Write.{write}

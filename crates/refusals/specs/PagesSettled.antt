@@ -14,7 +14,8 @@ use Rattle.pages.specs.Layout.{pageSize, mostEntries, pagesIn, countOf, badLeng
 use Rattle.table.specs.declared.Refusal.the-variants.{PagesLength, PageCount, UnknownEdition}
 use Rattle.table.specs.Edition.{knownEdition}
 use Rattle.checks.specs.Checks.{refuseUnless}
-use Rattle.build.specs.Build.{editionVerdict, lengthVerdict, countsVerdict}
+use Rattle.build.specs.Build.{editionVerdict}
+use Rattle.lawful.specs.Lawful.{lengthVerdict, countsVerdict}
 use Rattle.refusals.specs.Conditions.{EditionFault, LengthFault, CountFault}
 use Rattle.refusals.specs.Settles.{Settles, never, holds}
 

@@ -12,7 +12,7 @@ use Rattle.reserved.specs.ReservedLaws.{FirstUnclean, Cleanness, clean-at, clea
 use Rattle.reserved.specs.ReservedLaws.Cleanness.{clean-pages, unclean-entry}
 use Rattle.table.specs.declared.Refusal.{Refusal}
 use Rattle.table.specs.declared.Refusal.the-variants.{ReservedBytes}
-use Rattle.build.specs.Build.{cleanVerdict, reservedVerdict}
+use Rattle.lawful.specs.Lawful.{cleanVerdict, reservedVerdict}
 use Rattle.refusals.specs.Conditions.{ReservedFault}
 use Rattle.refusals.specs.Settles.{Settles}
 use Rattle.refusals.specs.Settles.Settles.{passes, refuses}

@@ -10,9 +10,10 @@ use Rattle.table.specs.declared.Refusal.the-variants.{PageCount, ReservedBytes}
 use Rattle.table.specs.declared.Verdict.the-variants.{Accepted, Refused}
 use Rattle.table.specs.Edition.{knownEdition}
 use Rattle.build.specs.declared.Built.{Built}
-use Rattle.build.specs.Build.{lawfulVerdict, answer}
+use Rattle.lawful.specs.Lawful.{lawfulVerdict}
+use Rattle.build.specs.Build.{answer}
 use Rattle.build.specs.BuildLaws.{answer-unlawful}
-use Rattle.build.specs.LawfulLaws.{lawful-clean}
+use Rattle.lawful.specs.LawfulLaws.{lawful-clean}
 use Rattle.rise.specs.RiseProof.{accepted-lawful}
 use Rattle.compare.specs.declared.Compared.the-variants.{UnlawfulB}
 use Rattle.compare.specs.Compare.{compared}

@@ -27,7 +27,8 @@ use Rattle.checks.specs.ChecksLaws.{AllPass, all-pass, required-present, then-r
 use Rattle.features.specs.Finish.{ruleAt, settings, enabledBy, finish, finished, unlessNoXss}
 use Rattle.update.specs.PlaceLaws.{always, position, always-required}
 use Rattle.finish_laws.specs.RemainsLaws.{finished-present, finished-result, always-remains}
-use Rattle.build.specs.Build.{rowsFor, lawfulVerdict, verdictOf, answer}
+use Rattle.build.specs.Build.{rowsFor, verdictOf, answer}
+use Rattle.lawful.specs.Lawful.{lawfulVerdict}
 use Rattle.rise.specs.RiseProof.{answer-row, accepted-rows}
 
 -- a size that passes the check fits 32 bits

@@ -21,7 +21,8 @@ use Rattle.features.specs.Finish.{ruleAt}
 use Rattle.update.specs.Kinds.{Kind, Kinds, EntryAtLeast, Registers, kindsAt, fromEntry}
 use Rattle.update.specs.Kinds.Kind.{feature, featureBut28, area, freed, other}
 use Rattle.table.specs.Table.{rowIn}
-use Rattle.build.specs.Build.{rowsFor, lawfulVerdict, answer}
+use Rattle.build.specs.Build.{rowsFor, answer}
+use Rattle.lawful.specs.Lawful.{lawfulVerdict}
 use Rattle.rise.specs.Rise.{EntryRises, RiseHypothesis}
 
 -- whether a register of B's entry is as the hypothesis wants it

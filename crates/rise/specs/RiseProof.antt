@@ -35,11 +35,12 @@ use Rattle.update.specs.Kinds.{EntryAtLeast, TableAtLeast, Registers, registerK
 use Rattle.update.specs.Kinds.Kind.{area, other}
 use Rattle.checks.specs.Checks.{missingComponent, componentsVerdict, areaVerdict, rowsVerdict}
 use Rattle.checks.specs.ChecksLaws.{component-present, then-left, then-right, then-skips}
-use Rattle.build.specs.Built.{tableFor}
+use Rattle.rows_built.specs.RowsBuilt.{tableFor}
 use Rattle.table.specs.Table.{tableOf, rowIn}
 use Rattle.collect.specs.FirstEntries.{firstAt, maskRow, maskedAt, legacyFeatures, rowsOf}
 use Rattle.collect.specs.FirstEntriesLaws.{row-of-place}
-use Rattle.build.specs.Build.{editionVerdict, rowsFor, lawfulVerdict, verdictOf, answer}
+use Rattle.build.specs.Build.{editionVerdict, rowsFor, verdictOf, answer}
+use Rattle.lawful.specs.Lawful.{lawfulVerdict}
 use Rattle.refusals.specs.Conditions.{Lacking, ComponentFault, AreaFault}
 use Rattle.refusals.specs.Settles.{Settles}
 use Rattle.refusals.specs.Settles.Settles.{passes, refuses}

@@ -21,7 +21,8 @@ use Rattle.checks.specs.ChecksLaws.{then-left}
 use Rattle.table.specs.Table.{rowIn}
 use Rattle.table.specs.TableLaws.{table-ext}
 use Rattle.build.specs.Built.{SameButOrigins}
-use Rattle.build.specs.Build.{rowsFor, lawfulVerdict, verdictOf, answer}
+use Rattle.build.specs.Build.{rowsFor, verdictOf, answer}
+use Rattle.lawful.specs.Lawful.{lawfulVerdict}
 use Rattle.rise.specs.Rise.{RiseHypothesis, TableRises}
 use Rattle.rise.specs.RiseProof.{answer-table, answer-row, answer-mask, accepted-lawful, demand-3}
 

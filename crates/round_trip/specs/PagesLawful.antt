@@ -10,8 +10,8 @@ use Rattle.reserved.specs.Reserved.{cleanAt, allClean}
 use Rattle.reserved.specs.ZerosLaws.{zeros-of-words}
 use Rattle.reserved.specs.ReservedLaws.{all-clean}
 use Rattle.table.specs.declared.Verdict.the-variants.{Accepted}
-use Rattle.build.specs.Build.{lawfulVerdict}
-use Rattle.build.specs.LawfulLaws.{clean-lawful}
+use Rattle.lawful.specs.Lawful.{lawfulVerdict}
+use Rattle.lawful.specs.LawfulLaws.{clean-lawful}
 use Rattle.kvm_list.specs.Words.{bytesOfWords, cut}
 use Rattle.kvm_list.specs.Format.{ListRow}
 use Rattle.kvm_checks.specs.ListChecks.{rowsOn0, rowsOn1}

@@ -7,7 +7,7 @@ use Rattle.x86defs.specs.declared.CpuidResult.{CpuidResult}
 use Rattle.pages.specs.Layout.{Entry, countOf}
 use Rattle.pages.specs.Entries.{onPage, counted}
 use Rattle.table.specs.declared.Verdict.the-variants.{Accepted}
-use Rattle.build.specs.Build.{lawfulVerdict}
+use Rattle.lawful.specs.Lawful.{lawfulVerdict}
 use Rattle.kvm_list.specs.Format.{ListRow, rowsIn}
 use Rattle.kvm_checks.specs.ListChecks.{rowsOn0, rowsOn1}
 use Rattle.kvm_pages.specs.ListPages.{pagesOf}

@@ -22,7 +22,8 @@ use Rattle.table.specs.Table.{tableOf, countRows, rowIn, rowsIn as tableRows}
 use Rattle.checks.specs.Checks.{rowsVerdict}
 use Rattle.features.specs.Finish.{finished}
 use Rattle.collect.specs.FirstEntries.{firstAt, maskRow, rowsOf}
-use Rattle.build.specs.Built.{builtFrom, withoutOrigins, SameButOrigins}
+use Rattle.rows_built.specs.RowsBuilt.{builtFrom}
+use Rattle.build.specs.Built.{withoutOrigins, SameButOrigins}
 use Rattle.build.specs.Build.{rowsFor, answer}
 use Rattle.build.specs.BuildLaws.{answer-of-rows}
 use Rattle.buffer.specs.declared.Written.the-variants.{Bytes}

@@ -39,7 +39,7 @@ use Rattle.update.specs.PlaceLaws.{always, always-from-entry, required-place, p
 use Rattle.finish_laws.specs.RemainsLaws.{finished-present, finished-result, finished-entry, always-remains, component-finished}
 use Rattle.table.specs.declared.CpuidResults.{CpuidResults}
 use Rattle.table.specs.Table.{tableOf, countRows}
-use Rattle.build.specs.Built.{tableFor, builtFrom}
+use Rattle.rows_built.specs.RowsBuilt.{tableFor, builtFrom}
 use Rattle.collect.specs.FirstEntries.{maskedAt, maskRow}
 use Rattle.round_trip.specs.Again.{readAgain, again, Masked}
 use Rattle.round_trip.specs.RuleAgain.{isSizes, sizes-bit-3, has-of-bit, finish-again, remains-again}

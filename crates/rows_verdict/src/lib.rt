@@ -21,7 +21,7 @@ use x86defs::threads_per_compute_unit;
 ghost use mathlib.Core.Path.{_≡_};
 ghost use Rattle.table.specs.Table.{rowsIn};
 ghost use Rattle.checks.specs.Checks.{rowsVerdict, topologyVerdict};
-ghost use Rattle.build.specs.Stages.{fromInvlpgb, fromComponents, fromArea};
+ghost use Rattle.rows_built.specs.Stages.{fromInvlpgb, fromComponents, fromArea};
 
 // The checks in order, one function a check: the required leaves first.
 pub fn rows_verdict(t: CpuidResults) -> Verdict

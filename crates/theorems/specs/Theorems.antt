@@ -38,7 +38,7 @@ use Rattle.masking.specs.Place
 use Rattle.pages.specs.Parsed.{parsed, countsRead}
 use Rattle.walk.specs.Walk.{firstIndex}
 use Rattle.build.specs.Built.{SameButOrigins}
-use Rattle.build.specs.Build.{answer, originAt}
+use Rattle.build.specs.Build.{answer, originAt, underEdition}
 use Rattle.reader.specs.Read.{given}
 use Rattle.reader.specs.ReadLaws.{reader-gives, reader-gives-counted, reader-gives-clean}
 use Rattle.lookup.specs.declared.LeafResult.the-variants.{None as Nothing}
@@ -105,7 +105,6 @@ use Rattle.finish_laws.specs.FinishLaws.{figures as clears, ymm-figures, ymm-fi
 use Rattle.editions.specs.Second.{SecondEdition, FirstEdition}
 use Rattle.editions.specs.SecondProof as Editions
 use Rattle.edition_examples.specs.WithoutYmm as WithoutYmm
-use Rattle.build.specs.Build.{underEdition}
 use Rattle.carry.specs.Carry.{carry}
 use Rattle.carry.specs.Carried.{CarryKeeps, CarriesInPlace}
 use Rattle.carry.specs.CarriedLaws.{carry-keeps, carries-in-place}

@@ -1,7 +1,7 @@
 -- `build::build` meets its contract: one return a case of the answer.
 use mathlib.Core.Path.{refl, sym, _∙_}
-use Rattle.build.specs.StageLaws.{required-found, required-refuses, required-passes}
-use Rattle.build.specs.LawfulLaws.{lawful-counts, lawful-clean}
+use Rattle.rows_built.specs.StageLaws.{required-found, required-refuses, required-passes}
+use Rattle.lawful.specs.LawfulLaws.{lawful-counts, lawful-clean}
 use Rattle.build.specs.BuildLaws.{answer-unknown, answer-unlawful, answer-refused, answer-collected}
 use borrow.Author.Needs.{needs}
 use Rattle.build.proofs.build.Statement.{statement}

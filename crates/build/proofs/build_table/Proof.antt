@@ -1,8 +1,8 @@
 -- `build::build_table` meets its contract: one return a case of the answer, origins aside.
 use mathlib.Core.Path.{refl, sym, ap, _∙_}
 use Rattle.build.specs.Built.{withoutOrigins}
-use Rattle.build.specs.StageLaws.{required-found, required-refuses, required-passes}
-use Rattle.build.specs.LawfulLaws.{lawful-counts, lawful-clean}
+use Rattle.rows_built.specs.StageLaws.{required-found, required-refuses, required-passes}
+use Rattle.lawful.specs.LawfulLaws.{lawful-counts, lawful-clean}
 use Rattle.build.specs.BuildLaws.{answer-unknown, answer-unlawful, table-collected}
 use borrow.Author.Needs.{needs}
 use Rattle.build.proofs.build_table.Statement.{statement}

@@ -4,8 +4,9 @@ use mathlib.Core.Path.{_≡_, sym, ap, _∙_}
 use Rattle.build.specs.BuildLaws.{as-answer}
 use Rattle.build.specs.declared.Built.{Built}
 use Rattle.table.specs.declared.Verdict.the-variants.{Accepted}
-use Rattle.build.specs.Build.{lawfulVerdict, answer}
-use Rattle.build.specs.LawfulLaws.{lawful-counts, lawful-clean}
+use Rattle.lawful.specs.Lawful.{lawfulVerdict}
+use Rattle.build.specs.Build.{answer}
+use Rattle.lawful.specs.LawfulLaws.{lawful-counts, lawful-clean}
 use Rattle.rise.specs.RiseProof.{accepted-lawful}
 use Rattle.compare.specs.ReturnLaws.{refused-a, unlawful-b, rows-compared}
 use Rattle.compare.specs.DecidesProof.{decided}

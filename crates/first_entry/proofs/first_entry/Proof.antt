@@ -1,7 +1,7 @@
 -- `first_entry::first_entry` meets its contract: the pages are not lawful, or what was collected is read at the place.
 use mathlib.Core.Path.{sym, _∙_}
 use borrow.Author.Needs.{needs}
-use Rattle.build.specs.LawfulLaws.{lawful-counts, lawful-clean}
+use Rattle.lawful.specs.LawfulLaws.{lawful-counts, lawful-clean}
 use Rattle.first_entry.specs.FirstEntryLaws.{first-unlawful, first-found, first-none}
 use Rattle.first_entry.proofs.first_entry.Statement.{statement}
 use Rattle.first_entry.proofs.first_entry.Tie as tie

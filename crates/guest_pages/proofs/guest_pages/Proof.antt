@@ -1,7 +1,7 @@
 -- `guest_pages::guest_pages` meets its contract: the guest's answer on what was built.
 use mathlib.Core.Path.{ap, _∙_}
 use borrow.Author.Needs.{needs}
-use Rattle.build.specs.declared.RowsBuilt.{RowsBuilt}
+use Rattle.rows_built.specs.declared.RowsBuilt.{RowsBuilt}
 use Rattle.guest_pages.specs.GuestPages.{guestBy, guestPages}
 use Rattle.guest_pages.proofs.guest_pages.Statement.{statement}
 use Rattle.guest_pages.proofs.guest_pages.Tie as tie

@@ -10,7 +10,7 @@ use Rattle.walk.specs.Walk.{rest}
 use Rattle.walk.specs.WalkLaws.{turn}
 use Rattle.table.specs.Table.{rowsIn}
 use Rattle.collect.specs.Collect.{countedPlace, counted-place-stored, collected-rows, row-masks}
-use Rattle.build.specs.LawfulLaws.{lawful-counts, lawful-clean}
+use Rattle.lawful.specs.LawfulLaws.{lawful-counts, lawful-clean}
 use Rattle.nearest.specs.Nearest.{chosen}
 use Rattle.deciding.specs.BitLaws.{answer-to}
 use Rattle.nearest.specs.SearchLaws.{Searching, searching-first, searching-last, search-passes, search-none, search-found, bit-in, seen-taken, not-kept, position-fits}

@@ -1,7 +1,7 @@
 -- `pool_server::judged_rows` meets its contract: one return a case of the server's answer.
 use borrow.Author.Needs.{needs}
 use mathlib.Core.Path.{refl, sym, ap, _∙_}
-use Rattle.build.specs.LawfulLaws.{lawful-counts, lawful-clean}
+use Rattle.lawful.specs.LawfulLaws.{lawful-counts, lawful-clean}
 use Rattle.pool_server.specs.Server.{judged}
 use Rattle.pool_server.specs.ServerLaws.{server-unknown, server-unlawful, server-refused, server-accepted}
 use Rattle.pool_server.proofs.judged_rows.Statement.{statement}

@@ -1,7 +1,7 @@
 -- `pool_server::server_rows` meets its contract: one return a case of the server's answer.
 use borrow.Author.Needs.{needs}
 use mathlib.Core.Path.{sym, _∙_}
-use Rattle.build.specs.LawfulLaws.{lawful-counts, lawful-clean}
+use Rattle.lawful.specs.LawfulLaws.{lawful-counts, lawful-clean}
 use Rattle.pool_server.specs.ServerLaws.{server-unknown, server-unlawful, server-refused, server-accepted}
 use Rattle.pool_server.proofs.server_rows.Statement.{statement}
 use Rattle.pool_server.proofs.server_rows.Tie as tie

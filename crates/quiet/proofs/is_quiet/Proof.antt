@@ -7,7 +7,7 @@ use Rattle.table.specs.Rows.{Rows}
 use Rattle.table.specs.Table.{rowsIn}
 use Rattle.checks.specs.ExtendedState.{xfem, xss, combinedMask}
 use Rattle.checks.specs.Checks.{requiredVerdict, invlpgbVerdict}
-use Rattle.build.specs.StageLaws.{required-found}
+use Rattle.rows_built.specs.StageLaws.{required-found}
 use Rattle.quiet.specs.Quiet.{refuses}
 use Rattle.quiet.specs.ReturnLaws.{quiet-missing, quiet-clear, quiet-other}
 use Rattle.quiet.proofs.is_quiet.Statement.{statement}

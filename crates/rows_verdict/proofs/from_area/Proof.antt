@@ -4,7 +4,7 @@ use mathlib.Core.Path.{ap}
 use Rattle.table.specs.Table.{rowsIn}
 use Rattle.checks.specs.ExtendedState.{xfem}
 use Rattle.checks.specs.Checks.{sizeVerdict, areaVerdict, topologyVerdict}
-use Rattle.build.specs.StageLaws.{area-verdict}
+use Rattle.rows_built.specs.StageLaws.{area-verdict}
 use Rattle.rows_verdict.specs.VerdictLaws.{check-refuses, check-passes}
 use Rattle.rows_verdict.proofs.from_area.Statement.{statement}
 use Rattle.rows_verdict.proofs.from_area.Tie as tie

@@ -6,7 +6,7 @@ use Rattle.table.specs.Rows.{Rows}
 use Rattle.table.specs.Table.{rowsIn}
 use Rattle.checks.specs.ExtendedState.{xfem, xss, combinedMask}
 use Rattle.checks.specs.Checks.{componentsOf, componentsVerdict}
-use Rattle.build.specs.Stages.{fromArea}
+use Rattle.rows_built.specs.Stages.{fromArea}
 use Rattle.rows_verdict.specs.VerdictLaws.{check-refuses, check-passes}
 use Rattle.rows_verdict.proofs.from_components.Statement.{statement}
 use Rattle.rows_verdict.proofs.from_components.Tie as tie

@@ -2,7 +2,7 @@
 use borrow.Author.Needs.{needs}
 use Rattle.table.specs.Table.{rowsIn}
 use Rattle.checks.specs.Checks.{invlpgbVerdict}
-use Rattle.build.specs.Stages.{fromComponents}
+use Rattle.rows_built.specs.Stages.{fromComponents}
 use Rattle.rows_verdict.specs.VerdictLaws.{check-refuses, check-passes}
 use Rattle.rows_verdict.proofs.from_invlpgb.Statement.{statement}
 use Rattle.rows_verdict.proofs.from_invlpgb.Tie as tie

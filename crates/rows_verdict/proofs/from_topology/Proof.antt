@@ -5,7 +5,7 @@ use Rattle.topology.specs.Topology.{topologyOf}
 use Rattle.table.specs.Rows.{Rows}
 use Rattle.table.specs.Table.{rowsIn}
 use Rattle.checks.specs.TopologyInputs.{inputsOf}
-use Rattle.build.specs.StageLaws.{topology-inputs}
+use Rattle.rows_built.specs.StageLaws.{topology-inputs}
 use Rattle.rows_verdict.specs.VerdictLaws.{topology-accepts, topology-refuses}
 use Rattle.rows_verdict.proofs.from_topology.Statement.{statement}
 use Rattle.rows_verdict.proofs.from_topology.Tie as tie

@@ -2,8 +2,8 @@
 use borrow.Author.Needs.{needs}
 use Rattle.table.specs.Table.{rowsIn}
 use Rattle.checks.specs.Checks.{requiredVerdict, rowsVerdict}
-use Rattle.build.specs.Stages.{fromInvlpgb}
-use Rattle.build.specs.StageLaws.{required-found}
+use Rattle.rows_built.specs.Stages.{fromInvlpgb}
+use Rattle.rows_built.specs.StageLaws.{required-found}
 use Rattle.rows_verdict.specs.VerdictLaws.{check-refuses, check-passes}
 use Rattle.rows_verdict.proofs.rows_verdict.Statement.{statement}
 use Rattle.rows_verdict.proofs.rows_verdict.Tie as tie

@@ -13,7 +13,7 @@ use Rattle.table.specs.declared.Verdict.{Verdict}
 use Rattle.table.specs.declared.Verdict.the-variants.{Accepted, Refused}
 use Rattle.table.specs.Refusal.{andThen}
 use Rattle.checks.specs.ChecksLaws.{then-left, then-right, demanded}
-use Rattle.build.specs.Build.{lengthVerdict, countsVerdict, cleanVerdict, reservedVerdict, lawfulVerdict}
+use Rattle.lawful.specs.Lawful.{lengthVerdict, countsVerdict, cleanVerdict, reservedVerdict, lawfulVerdict}
 
 module _ (s : List ℕ) where
   pub lawful-bad-length : badLength s ≡ true → Refused PagesLength ≡ lawfulVerdict s

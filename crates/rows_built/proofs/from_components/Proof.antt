@@ -6,10 +6,10 @@ use Rattle.checks.specs.ExtendedState.{xfem, xss, combinedMask}
 use Rattle.checks.specs.Checks.{componentsOf, componentsVerdict}
 use Rattle.table.specs.Rows.{Rows}
 use Rattle.table.specs.Table.{rowsIn}
-use Rattle.build.specs.Stages.{fromArea}
-use Rattle.build.specs.StageLaws.{stage-refuses, stage-passes}
-use Rattle.build.proofs.from_components.Statement.{statement}
-use Rattle.build.proofs.from_components.Tie as tie
+use Rattle.rows_built.specs.Stages.{fromArea}
+use Rattle.rows_built.specs.StageLaws.{stage-refuses, stage-passes}
+use Rattle.rows_built.proofs.from_components.Statement.{statement}
+use Rattle.rows_built.proofs.from_components.Tie as tie
 
 -- the rows, and the verdict on them that the code found, which is the definition's
 abbrev rowsBefore : tie.After-process-extended-state-subleaves → Rows

@@ -2,10 +2,10 @@
 use borrow.Author.Needs.{needs}
 use Rattle.checks.specs.Checks.{invlpgbVerdict}
 use Rattle.table.specs.Table.{rowsIn}
-use Rattle.build.specs.Stages.{fromComponents}
-use Rattle.build.specs.StageLaws.{stage-refuses, stage-passes}
-use Rattle.build.proofs.from_invlpgb.Statement.{statement}
-use Rattle.build.proofs.from_invlpgb.Tie as tie
+use Rattle.rows_built.specs.Stages.{fromComponents}
+use Rattle.rows_built.specs.StageLaws.{stage-refuses, stage-passes}
+use Rattle.rows_built.proofs.from_invlpgb.Statement.{statement}
+use Rattle.rows_built.proofs.from_invlpgb.Tie as tie
 
 returns : tie.Need-returns
 unfolding invlpgbVerdict

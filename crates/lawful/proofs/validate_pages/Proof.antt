@@ -1,10 +1,10 @@
--- `build::validate_pages` meets its contract: one return a case of the verdict.
+-- `lawful::validate_pages` meets its contract: one return a case of the verdict.
 use mathlib.Core.Path.{sym, ap, _∙_}
 use borrow.Author.Needs.{needs}
-use Rattle.build.specs.Build.{cleanVerdict}
-use Rattle.build.specs.LawfulLaws.{lawful-bad-length, lawful-bad-count, lawful-reserved}
-use Rattle.build.proofs.validate_pages.Statement.{statement}
-use Rattle.build.proofs.validate_pages.Tie as tie
+use Rattle.lawful.specs.Lawful.{cleanVerdict}
+use Rattle.lawful.specs.LawfulLaws.{lawful-bad-length, lawful-bad-count, lawful-reserved}
+use Rattle.lawful.proofs.validate_pages.Statement.{statement}
+use Rattle.lawful.proofs.validate_pages.Tie as tie
 
 returns : tie.Need-returns
 returns c = lawful-bad-length _ (sym (c .before .bad-length .ensures) ∙ c .if1 .taken)

@@ -1,8 +1,5 @@
 -- The stages of `build_rows`: the answer from a check on.
-use mathlib.Core.List.{List}
 use Prim.Native.Nat.{ℕ}
-use lib.ListN.{replicate}
-use Rattle.masking.specs.Kept.{places}
 use Rattle.table.specs.declared.Refusal.{Refusal}
 use Rattle.table.specs.declared.Verdict.{Verdict}
 use Rattle.table.specs.declared.Verdict.the-variants.{Refused}
@@ -10,20 +7,11 @@ use Rattle.table.specs.Refusal.{andThen}
 use Rattle.table.specs.Rows.{Rows}
 use Rattle.checks.specs.Checks.{invlpgbVerdict, componentsVerdict, areaVerdict, topologyVerdict}
 use Rattle.table.specs.Table.{emptyTable}
-use Rattle.build.specs.declared.RowsBuilt.{RowsBuilt}
-use Rattle.build.specs.declared.Built.{Built}
-use Rattle.origins.specs.Origin.{finishedOrigins}
-use Rattle.build.specs.Built.{tableFor}
+use Rattle.rows_built.specs.declared.RowsBuilt.{RowsBuilt}
+use Rattle.rows_built.specs.RowsBuilt.{tableFor}
 
 abbrev pub refusedBuilt : Refusal → RowsBuilt
 refusedBuilt r = record { verdict = Refused r; table = emptyTable }
-
-abbrev pub notBuilt : Refusal → Built
-notBuilt r = record { verdict = Refused r; table = emptyTable; origins = replicate places 0 }
-
--- an answer to rows with origins, from the numbers of where the first entries stand
-abbrev pub locatedBuilt : RowsBuilt → List ℕ → Built
-locatedBuilt b found = record { verdict = b .verdict; table = b .table; origins = finishedOrigins (b .table .present) found }
 
 -- the answer that goes with a verdict on masked first entries, under edition n
 abbrev pub builtBy : ℕ → Verdict → Rows → RowsBuilt

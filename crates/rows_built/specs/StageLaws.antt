@@ -10,7 +10,7 @@ use Rattle.topology.specs.declared.Topology.the-variants.{Processors, Inconsist
 use Rattle.topology.specs.declared.TopologyError.{TopologyError}
 use Rattle.topology.specs.Topology.{inputs, topologyOf, processors}
 use Rattle.masking.specs.Place
-use Rattle.build.specs.declared.RowsBuilt.{RowsBuilt}
+use Rattle.rows_built.specs.declared.RowsBuilt.{RowsBuilt}
 use Rattle.table.specs.declared.CpuidResults.{CpuidResults}
 use Rattle.table.specs.declared.Refusal.{Refusal}
 use Rattle.table.specs.declared.Refusal.the-variants.{TopologyInconsistent}
@@ -26,9 +26,9 @@ use Rattle.checks.specs.TopologyInputs.{inputsOf}
 use Rattle.features.specs.Finish.{finished}
 use Rattle.checks.specs.Checks.{requiredVerdict, sizeVerdict, areaVerdict, topologyVerdict, rowsVerdict}
 use Rattle.table.specs.Table.{tableOf, rowsIn}
-use Rattle.build.specs.Built.{builtFrom}
+use Rattle.rows_built.specs.RowsBuilt.{builtFrom}
 use Rattle.checks.specs.Parts.{presentIn, resultsIn}
-use Rattle.build.specs.Stages.{refusedBuilt, builtBy, fromInvlpgb}
+use Rattle.rows_built.specs.Stages.{refusedBuilt, builtBy, fromInvlpgb}
 use Rattle.checks.specs.SaveAreaLaws.{size-bytes}
 
 -- ---- a check with verdict u, of which the code found v, before those with verdict w

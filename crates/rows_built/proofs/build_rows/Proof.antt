@@ -1,9 +1,9 @@
 -- `build_rows` meets its contract: refused by the required leaves, or what the checks after them answer.
 use borrow.Author.Needs.{needs}
 use mathlib.Core.Path.{sym, _∙_}
-use Rattle.build.specs.StageLaws.{required-found, required-refuses, required-passes}
-use Rattle.build.proofs.build_rows.Statement.{statement}
-use Rattle.build.proofs.build_rows.Tie as tie
+use Rattle.rows_built.specs.StageLaws.{required-found, required-refuses, required-passes}
+use Rattle.rows_built.proofs.build_rows.Statement.{statement}
+use Rattle.rows_built.proofs.build_rows.Tie as tie
 
 returns : tie.Need-returns
 returns c =

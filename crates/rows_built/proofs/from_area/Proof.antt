@@ -4,9 +4,9 @@ use mathlib.Core.Path.{ap}
 use Rattle.checks.specs.ExtendedState.{xfem}
 use Rattle.checks.specs.Checks.{sizeVerdict, areaVerdict, topologyVerdict}
 use Rattle.table.specs.Table.{rowsIn}
-use Rattle.build.specs.StageLaws.{stage-refuses, stage-passes, area-verdict, area-found}
-use Rattle.build.proofs.from_area.Statement.{statement}
-use Rattle.build.proofs.from_area.Tie as tie
+use Rattle.rows_built.specs.StageLaws.{stage-refuses, stage-passes, area-verdict, area-found}
+use Rattle.rows_built.proofs.from_area.Statement.{statement}
+use Rattle.rows_built.proofs.from_area.Tie as tie
 
 returns : tie.Need-returns
 unfolding xfem

@@ -1,7 +1,7 @@
--- `build::refused` meets its contract: the refusal, beside the empty table.
+-- `rows_built::refused` meets its contract: the refusal, beside the empty table.
 use borrow.Author.Needs.{needs}
-use Rattle.build.proofs.refused.Statement.{statement}
-use Rattle.build.proofs.refused.Tie as tie
+use Rattle.rows_built.proofs.refused.Statement.{statement}
+use Rattle.rows_built.proofs.refused.Tie as tie
 
 returns : tie.Need-returns
 returns c = rw (c .empty-table .ensures)

@@ -5,9 +5,9 @@ use Rattle.topology.specs.Topology.{topologyOf}
 use Rattle.checks.specs.TopologyInputs.{inputsOf}
 use Rattle.table.specs.Rows.{Rows}
 use Rattle.table.specs.Table.{rowsIn}
-use Rattle.build.specs.StageLaws.{topology-inputs, topology-refuses, topology-found, topology-passes}
-use Rattle.build.proofs.from_topology.Statement.{statement}
-use Rattle.build.proofs.from_topology.Tie as tie
+use Rattle.rows_built.specs.StageLaws.{topology-inputs, topology-refuses, topology-found, topology-passes}
+use Rattle.rows_built.proofs.from_topology.Statement.{statement}
+use Rattle.rows_built.proofs.from_topology.Tie as tie
 
 extended-topology-requires : tie.Need-extended-topology-requires
 extended-topology-requires c κs = let n = c .before .before .before in (n .before .apic-core-id-size .ensures .1, n .nc .ensures .1)

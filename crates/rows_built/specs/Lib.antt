@@ -1,0 +1,3 @@
+pub mod RowsBuilt
+pub mod Stages
+pub mod StageLaws
