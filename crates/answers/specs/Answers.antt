@@ -1,5 +1,6 @@
 -- The answers as the exported functions give them: plain numbers, one for each detail.
 use mathlib.Core.Bool.{Bool}
+use mathlib.Core.List.{List}
 use Prim.Native.Nat.{ℕ, _/_}
 use Rattle.bits.specs.Choice.{pick}
 use Rattle.x86defs.specs.declared.CpuidResult.{CpuidResult}
@@ -7,24 +8,21 @@ use Rattle.origins.specs.declared.OriginRead.{OriginRead}
 use Rattle.origins.specs.Origin.{originRead}
 use Rattle.build.specs.declared.Built.{Built}
 use Rattle.table.specs.declared.Choices.{Choices}
+use Rattle.table.specs.declared.CpuidResults.{CpuidResults}
 use Rattle.table.specs.declared.Verdict.{Verdict}
-use Rattle.table.specs.declared.Verdict.the-variants.{Accepted}
 use Rattle.table.specs.declared.Subleaf.{Subleaf}
 use Rattle.table.specs.declared.Subleaf.the-variants.{None, Some}
+use Rattle.lookup.specs.Lookup.{lookup, lookupOrigin}
 use Rattle.lookup.specs.declared.LeafResult.{LeafResult}
 use Rattle.lookup.specs.declared.LeafResult.the-variants.{Some as Found, None as Nothing}
-use Rattle.compare.specs.declared.Compared.{Compared}
-use Rattle.compare.specs.declared.Compared.the-variants.{Rises, RefusedA, UnlawfulB, NoEntry, Differs}
-use Rattle.compare.specs.Means.{order}
 use Rattle.buffer.specs.declared.Written.{Written}
 use Rattle.buffer.specs.declared.Written.the-variants.{Bytes, Refused}
 use Rattle.numbers.specs.declared.AnswerNumbers.{AnswerNumbers}
-use Rattle.numbers.specs.Numbers.{numbersOf, refusalNumbers, leafNumbers}
+use Rattle.numbers.specs.Numbers.{numbersOf, refusalNumbers}
 use Rattle.answers.specs.declared.SnpCpuidBuilt.{SnpCpuidBuilt}
 use Rattle.answers.specs.declared.SnpCpuidFound.{SnpCpuidFound}
 use Rattle.answers.specs.declared.SnpCpuidFirst.{SnpCpuidFirst}
 use Rattle.answers.specs.declared.SnpCpuidWritten.{SnpCpuidWritten}
-use Rattle.answers.specs.declared.SnpCpuidCompared.{SnpCpuidCompared}
 
 -- what a caller chooses
 abbrev pub choicesOf : Bool → ℕ → Choices
@@ -67,6 +65,11 @@ abbrev pub foundGiven : LeafResult → ℕ → SnpCpuidFound
 foundGiven (Found r) n = foundWith r (originRead n)
 foundGiven Nothing n = record { found = 0; eax = 0; ebx = 0; ecx = 0; edx = 0; origin = 0; page = 0; entry = 0 }
 
+-- the row that a lookup finds in a table, with its origin from the column of origins beside the table
+abbrev pub foundAt : CpuidResults → List ℕ → ℕ → Subleaf → Bool → SnpCpuidFound
+foundAt t origins leaf subleaf enforce =
+    foundGiven (lookup t (record { 0 = leaf }) subleaf enforce) (lookupOrigin origins (record { 0 = leaf }) subleaf enforce)
+
 -- where a first entry stands: found, which is 2 in an origin, is told as 1
 abbrev pub firstWith : AnswerNumbers → OriginRead → SnpCpuidFirst
 firstWith n o = record {
@@ -96,22 +99,3 @@ writtenWith n length = record {
 abbrev pub writtenNumbers : Written → SnpCpuidWritten
 writtenNumbers (Bytes n) = record { number = 0; leaf = 0; «has_subleaf» = 0; subleaf = 0; s = 0; length = n }
 writtenNumbers (Refused r) = writtenWith (refusalNumbers r) 0
-
-abbrev pub comparedWith : ℕ → AnswerNumbers → ℕ → SnpCpuidCompared
-comparedWith answer n register = record {
-  answer = answer;
-  number = n .number;
-  leaf = n .leaf;
-  «has_subleaf» = n .«has_subleaf»;
-  subleaf = n .subleaf;
-  s = n .s;
-  «register_index» = register;
-}
-
--- which answer it is; the refusal's number and details, or the leaf and subleaf in question; EAX to EDX as 0 to 3
-abbrev pub comparedNumbers : Compared → SnpCpuidCompared
-comparedNumbers Rises = comparedWith 0 (numbersOf Accepted) 0
-comparedNumbers (RefusedA r) = comparedWith 1 (refusalNumbers r) 0
-comparedNumbers (UnlawfulB r) = comparedWith 2 (refusalNumbers r) 0
-comparedNumbers (NoEntry leaf subleaf) = comparedWith 3 (leafNumbers 0 (leaf .0) subleaf) 0
-comparedNumbers (Differs leaf subleaf register) = comparedWith 4 (leafNumbers 0 (leaf .0) subleaf) (order register)

@@ -1,19 +1,17 @@
 // Answers as C and Rust are given them: the answers of the crates below come in, structs of plain numbers go out. include/snp_cpuid.h documents each.
 use buffer::Written;
-use compare::Compared;
-use compare::Register;
 use lookup::LeafResult;
-use numbers::AnswerNumbers;
+use lookup::leaf_origin;
+use lookup::leaf_result;
+use masking::PLACES;
 use origins::read_origin;
 use table::Choices;
+use table::CpuidResults;
 use table::Subleaf;
 use table::Verdict;
+use x86defs::CpuidFunction;
 ghost use mathlib.Core.Path.{_≡_};
-ghost use Rattle.compare.specs.Means.{order};
-ghost use Rattle.answers.specs.Answers.{choicesOf, builtGiven, foundGiven, firstGiven, writtenNumbers, comparedWith, comparedNumbers, subleafOf};
-
-pub mod carried;
-pub mod line;
+ghost use Rattle.answers.specs.Answers.{choicesOf, builtGiven, foundGiven, foundAt, firstGiven, writtenNumbers, subleafOf};
 
 #[repr(C)]
 pub struct SnpCpuidBuilt {
@@ -46,17 +44,6 @@ pub struct SnpCpuidWritten {
     pub subleaf: u32,
     pub s: u32,
     pub length: u64,
-}
-
-#[repr(C)]
-pub struct SnpCpuidCompared {
-    pub answer: u32,
-    pub number: u32,
-    pub leaf: u32,
-    pub has_subleaf: u32,
-    pub subleaf: u32,
-    pub s: u32,
-    pub register_index: u32,
 }
 
 #[repr(C)]
@@ -138,6 +125,21 @@ pub fn found_numbers(result: LeafResult, number: u64) -> SnpCpuidFound
     }
 }
 
+// The row that `leaf_result_ref` finds in a table for a leaf and a subleaf, and where it came from.
+pub fn found_at(
+    table: CpuidResults,
+    origins: [u64; PLACES],
+    leaf: u32,
+    subleaf: Subleaf,
+    enforce_subleaf: bool,
+) -> SnpCpuidFound
+    ensures { λ r. ⌜ r ≡ foundAt table origins leaf subleaf «enforce_subleaf» ⌝ }
+{
+    let result = leaf_result(table, CpuidFunction(leaf), subleaf, enforce_subleaf);
+    let origin = leaf_origin(origins, CpuidFunction(leaf), subleaf, enforce_subleaf);
+    found_numbers(result, origin)
+}
+
 // Where a first entry stands, from its number: found where the pages are lawful and have one.
 pub fn first_numbers(verdict: Verdict, number: u64) -> SnpCpuidFirst
     ensures { λ r. ⌜ r ≡ firstGiven verdict number ⌝ }
@@ -179,51 +181,6 @@ pub fn written_numbers(written: Written) -> SnpCpuidWritten
                 s: numbers.s as u32,
                 length: 0,
             }
-        }
-    }
-}
-
-// EAX to EDX as 0 to 3.
-fn register_index(register: Register) -> u32
-    ensures { λ r. ⌜ r ≡ order register ⌝ }
-{
-    match register {
-        Register::Eax => 0,
-        Register::Ebx => 1,
-        Register::Ecx => 2,
-        Register::Edx => 3,
-    }
-}
-
-// One answer of a comparison, with the numbers of a refusal or of a place, and a register.
-fn compared_with(answer: u32, numbers: AnswerNumbers, register_index: u32) -> SnpCpuidCompared
-    ensures { λ r. ⌜ r ≡ comparedWith answer numbers «register_index» ⌝ }
-{
-    SnpCpuidCompared {
-        answer,
-        number: numbers.number as u32,
-        leaf: numbers.leaf,
-        has_subleaf: numbers.has_subleaf,
-        subleaf: numbers.subleaf,
-        s: numbers.s as u32,
-        register_index,
-    }
-}
-
-// A comparison's answer as numbers.
-pub fn compared_numbers(compared: Compared) -> SnpCpuidCompared
-    ensures { λ r. ⌜ r ≡ comparedNumbers compared ⌝ }
-{
-    match compared {
-        Compared::Rises => compared_with(0, numbers::answer_numbers(Verdict::Accepted), 0),
-        Compared::RefusedA(refusal) => compared_with(1, numbers::refusal_numbers(refusal), 0),
-        Compared::UnlawfulB(refusal) => compared_with(2, numbers::refusal_numbers(refusal), 0),
-        Compared::NoEntry(leaf, subleaf) => {
-            compared_with(3, numbers::at_leaf(0, leaf.0, subleaf), 0)
-        }
-        Compared::Differs(leaf, subleaf, register) => {
-            let numbers = numbers::at_leaf(0, leaf.0, subleaf);
-            compared_with(4, numbers, register_index(register))
         }
     }
 }

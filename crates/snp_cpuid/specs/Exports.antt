@@ -2,17 +2,15 @@
 use mathlib.Core.Bool.{Bool}
 use Prim.Native.Nat.{ℕ}
 use Rattle.table.specs.declared.Subleaf.{Subleaf}
-use Rattle.lookup.specs.Lookup.{lookup, lookupOrigin}
 use Rattle.build.specs.declared.Built.{Built}
 use Rattle.first_entry.specs.declared.FirstEntry.{FirstEntry}
 use Rattle.answers.specs.declared.SnpCpuidFound.{SnpCpuidFound}
 use Rattle.answers.specs.declared.SnpCpuidFirst.{SnpCpuidFirst}
-use Rattle.answers.specs.Answers.{foundGiven, firstGiven}
+use Rattle.answers.specs.Answers.{foundAt, firstGiven}
 
 -- the row of a table that was built, with its origin
 abbrev pub foundIn : Built → ℕ → Subleaf → Bool → SnpCpuidFound
-foundIn b leaf subleaf enforce =
-    foundGiven (lookup (b .table) (record { 0 = leaf }) subleaf enforce) (lookupOrigin (b .origins) (record { 0 = leaf }) subleaf enforce)
+foundIn b leaf subleaf enforce = foundAt (b .table) (b .origins) leaf subleaf enforce
 
 abbrev pub firstNumbers : FirstEntry → SnpCpuidFirst
 firstNumbers f = firstGiven (f .verdict) (f .origin)

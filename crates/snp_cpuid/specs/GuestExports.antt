@@ -4,14 +4,13 @@ use mathlib.Core.List.{List}
 use Prim.Native.Nat.{ℕ}
 use Rattle.table.specs.declared.Choices.{Choices}
 use Rattle.table.specs.declared.Subleaf.{Subleaf}
-use Rattle.lookup.specs.Lookup.{lookup, lookupOrigin}
 use Rattle.build.specs.Build.{answer}
 use Rattle.guest.specs.declared.Processor.{Processor}
 use Rattle.guest.specs.declared.GuestAnswer.{GuestAnswer}
 use Rattle.guest_pages.specs.GuestPages.{guestPages}
 use Rattle.answers.specs.declared.SnpCpuidBuilt.{SnpCpuidBuilt}
 use Rattle.answers.specs.declared.SnpCpuidFound.{SnpCpuidFound}
-use Rattle.answers.specs.Answers.{builtGiven, foundGiven}
+use Rattle.answers.specs.Answers.{builtGiven, foundAt}
 
 abbrev pub processorOf : ℕ → ℕ → ℕ → Bool → Processor
 processorOf n x s on = record { x2apic = n; xcr0 = x; xss = s; osxsave = on }
@@ -21,6 +20,4 @@ guestNumbers g = builtGiven (g .verdict) (g .table .«row_count») (g .table .«
 
 -- the lookup in the guest's table, with the origin of the paravisor's row
 abbrev pub guestFound : Choices → List ℕ → Processor → ℕ → Subleaf → Bool → SnpCpuidFound
-guestFound chosen s v leaf subleaf enforce =
-    foundGiven (lookup (guestPages chosen s v .table) (record { 0 = leaf }) subleaf enforce)
-    (lookupOrigin (answer chosen s .origins) (record { 0 = leaf }) subleaf enforce)
+guestFound chosen s v leaf subleaf enforce = foundAt (guestPages chosen s v .table) (answer chosen s .origins) leaf subleaf enforce

@@ -1,4 +1,3 @@
 pub mod Exports
 pub mod GuestExports
 pub mod PoolExports
-pub mod NearestExports

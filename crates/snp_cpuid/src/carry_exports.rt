@@ -1,9 +1,9 @@
 // A running table carried from one edition of the AVX rule to another, for C and Rust: document 02, P8.
-use answers::carried::SnpCpuidCarried;
-use answers::carried::carried_numbers;
+use carry_answers::SnpCpuidCarried;
+use carry_answers::carried_numbers;
 ghost use mathlib.Core.Path.{_≡_};
 ghost use Rattle.carry.specs.CarryImage.{carryImage};
-ghost use Rattle.answers.specs.CarriedAnswers.{carriedNumbers};
+ghost use Rattle.carry_answers.specs.CarriedAnswers.{carriedNumbers};
 
 // Carries the table whose image the bytes are, in place.
 #[no_mangle]

@@ -4,11 +4,10 @@ use answers::SnpCpuidFound;
 use answers::SnpCpuidWritten;
 use answers::built_numbers;
 use answers::choices;
-use answers::found_numbers;
+use answers::found_at;
 use answers::subleaf_of;
 use answers::written_numbers;
 use guest::Processor;
-use x86defs::CpuidFunction;
 ghost use mathlib.Core.Path.{_≡_};
 ghost use Rattle.guest_pages.specs.GuestPages.{guestPages, writeGuest};
 ghost use Rattle.answers.specs.Answers.{choicesOf, writtenNumbers, subleafOf};
@@ -69,9 +68,7 @@ pub extern "C" fn snp_cpuid_guest_lookup(
     let seen = guest_pages::guest_of(verdict, built.table, v);
     let table = seen.table;
     let named = subleaf_of(has_subleaf, subleaf);
-    let result = lookup::leaf_result(table, CpuidFunction(leaf), named, enforce_subleaf);
-    let origin = lookup::leaf_origin(origins, CpuidFunction(leaf), named, enforce_subleaf);
-    found_numbers(result, origin)
+    found_at(table, origins, leaf, named, enforce_subleaf)
 }
 
 // Builds, and writes the image of the guest's table at the front of `out`.

@@ -1,23 +1,24 @@
 // The library's functions for C and Rust: numbers and byte slices in, plain numbers out. include/snp_cpuid.h documents each call.
 use answers::SnpCpuidBuilt;
-use answers::SnpCpuidCompared;
 use answers::SnpCpuidFirst;
 use answers::SnpCpuidFound;
 use answers::SnpCpuidWritten;
 use answers::built_numbers;
 use answers::choices;
-use answers::compared_numbers;
 use answers::first_numbers;
-use answers::found_numbers;
+use answers::found_at;
 use answers::subleaf_of;
 use answers::written_numbers;
+use compare_answers::SnpCpuidCompared;
+use compare_answers::compared_numbers;
 use x86defs::CpuidFunction;
 ghost use mathlib.Core.Path.{_≡_};
 ghost use Rattle.build.specs.Build.{answer};
 ghost use Rattle.write.specs.Write.{write};
 ghost use Rattle.first_entry.specs.FirstEntry.{firstEntry};
 ghost use Rattle.compare.specs.Compare.{compared};
-ghost use Rattle.answers.specs.Answers.{choicesOf, builtNumbers, writtenNumbers, comparedNumbers, subleafOf};
+ghost use Rattle.answers.specs.Answers.{choicesOf, builtNumbers, writtenNumbers, subleafOf};
+ghost use Rattle.compare_answers.specs.ComparedAnswers.{comparedNumbers};
 ghost use Rattle.snp_cpuid.specs.Exports.{foundIn, firstNumbers};
 
 mod carry_exports;
@@ -59,9 +60,7 @@ pub extern "C" fn snp_cpuid_lookup(
     let table = built.table;
     let origins = built.origins;
     let named = subleaf_of(has_subleaf, subleaf);
-    let result = lookup::leaf_result(table, CpuidFunction(leaf), named, enforce_subleaf);
-    let origin = lookup::leaf_origin(origins, CpuidFunction(leaf), named, enforce_subleaf);
-    found_numbers(result, origin)
+    found_at(table, origins, leaf, named, enforce_subleaf)
 }
 
 // Where the first counted entry of a leaf and subleaf stands, whether or not a table is given.

@@ -2,54 +2,19 @@
 use answers::SnpCpuidFound;
 use answers::SnpCpuidWritten;
 use answers::choices;
-use answers::found_numbers;
+use answers::found_at;
 use answers::subleaf_of;
 use answers::written_numbers;
 use pool::build_pool;
+use pool_answers::SnpCpuidPooled;
+use pool_answers::pooled_numbers;
 use pool_write::write_pool_image;
-use table::Verdict;
-use x86defs::CpuidFunction;
 ghost use mathlib.Core.Path.{_≡_};
-ghost use Prim.Native.Nat.{_<_};
 ghost use Rattle.pool.specs.Pool.{pooled};
 ghost use Rattle.pool_write.specs.WritePool.{writePool};
 ghost use Rattle.answers.specs.Answers.{choicesOf, writtenNumbers, subleafOf};
-ghost use Rattle.snp_cpuid.specs.PoolExports.{pooledGiven, pooledNumbers, pooledFound};
-
-#[repr(C)]
-pub struct SnpCpuidPooled {
-    pub number: u32,
-    pub leaf: u32,
-    pub has_subleaf: u32,
-    pub subleaf: u32,
-    pub s: u32,
-    pub server: u32,
-    pub row_count: u64,
-    pub max_extended_state: u64,
-}
-
-// What a pool gives, as numbers: the verdict's, whose refusal it is, how many rows there are and the combined mask.
-fn pooled_numbers(
-    verdict: Verdict,
-    server: usize,
-    row_count: usize,
-    max_extended_state: u64,
-) -> SnpCpuidPooled
-    requires { ⌜ server < 16 ⌝ }
-    ensures { λ r. ⌜ r ≡ pooledGiven verdict server «row_count» «max_extended_state» ⌝ }
-{
-    let numbers = numbers::answer_numbers(verdict);
-    SnpCpuidPooled {
-        number: numbers.number as u32,
-        leaf: numbers.leaf,
-        has_subleaf: numbers.has_subleaf,
-        subleaf: numbers.subleaf,
-        s: numbers.s as u32,
-        server: server as u32,
-        row_count: row_count as u64,
-        max_extended_state,
-    }
-}
+ghost use Rattle.pool_answers.specs.PoolAnswers.{pooledNumbers};
+ghost use Rattle.snp_cpuid.specs.PoolExports.{pooledFound};
 
 // Builds one table for servers whose page sets stand end to end.
 #[no_mangle]
@@ -89,9 +54,7 @@ pub extern "C" fn snp_cpuid_pool_lookup(
     let table = built.table;
     let origins = built.origins;
     let named = subleaf_of(has_subleaf, subleaf);
-    let result = lookup::leaf_result(table, CpuidFunction(leaf), named, enforce_subleaf);
-    let origin = lookup::leaf_origin(origins, CpuidFunction(leaf), named, enforce_subleaf);
-    found_numbers(result, origin)
+    found_at(table, origins, leaf, named, enforce_subleaf)
 }
 
 // Builds, and writes the image of the pool's table at the front of `out`.

@@ -50,7 +50,8 @@ use Rattle.compare.specs.DecidesProof.{decides}
 use Rattle.numbers.specs.Numbers.{numbersOf}
 use Rattle.answers.specs.declared.SnpCpuidBuilt.{SnpCpuidBuilt}
 use Rattle.answers.specs.declared.SnpCpuidFound.{SnpCpuidFound}
-use Rattle.answers.specs.Answers.{builtNumbers, foundWith, foundGiven, comparedNumbers}
+use Rattle.answers.specs.Answers.{builtNumbers, foundWith, foundGiven}
+use Rattle.compare_answers.specs.ComparedAnswers.{comparedNumbers}
 use Rattle.snp_cpuid.specs.Exports.{foundIn}
 use Rattle.origins.specs.declared.OriginRead.{OriginRead}
 use Rattle.origins.specs.Origin.{originRead, originTold}

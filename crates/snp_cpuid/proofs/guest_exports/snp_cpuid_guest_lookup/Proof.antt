@@ -16,24 +16,14 @@ seen c = c .guest-of .ensures ∙ ap (λ (b : Built). guestOf b (c .before .befo
 
 returns : tie.Need-returns
 returns c =
-    let o = c .before in let l = o .before in let n = l .before in let g = n .before .before in let b = g .before .before in
-    rw (
-      ← b .before .choices .ensures,
-      ← b .before .before .processor .ensures,
-      ← b .build .ensures,
-      ← seen g,
-      ← n .subleaf-of .ensures,
-      ← l .leaf-result .ensures,
-      ← o .leaf-origin .ensures,
-    )
-    (c .found-numbers .ensures)
+    let n = c .before in let g = n .before .before in let b = g .before .before in
+    rw (← b .before .choices .ensures, ← b .before .before .processor .ensures, ← b .build .ensures, ← seen g, ← n .subleaf-of .ensures)
+    (c .found-at .ensures)
 
 pub snp-cpuid-guest-lookup-spec : {M : Type 1} → statement M
 snp-cpuid-guest-lookup-spec =
     tie.close
     (tie.spec
-    (λ c κs. search needs)
-    (λ c κs. search needs)
     (λ c κs. search needs)
     (λ c κs. search needs)
     (λ c κs. search needs)

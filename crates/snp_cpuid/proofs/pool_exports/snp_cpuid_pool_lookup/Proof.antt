@@ -5,24 +5,9 @@ use Rattle.snp_cpuid.proofs.pool_exports.snp_cpuid_pool_lookup.Tie as t
 
 returns : tie.Need-returns
 returns c =
-    let o = c .before in let l = o .before in let n = l .before in let b = n .before .before .before in
-    rw (
-      ← b .before .choices .ensures,
-      ← b .build-pool .ensures,
-      ← n .subleaf-of .ensures,
-      ← l .leaf-result .ensures,
-      ← o .leaf-origin .ensures,
-    )
-    (c .found-numbers .ensures)
+    let n = c .before in let b = n .before .before .before in
+    rw (← b .before .choices .ensures, ← b .build-pool .ensures, ← n .subleaf-of .ensures) (c .found-at .ensures)
 
 pub snp-cpuid-pool-lookup-spec : {M : Type 1} → statement M
 snp-cpuid-pool-lookup-spec =
-    tie.close
-    (tie.spec
-    (λ c κs. search needs)
-    (λ c κs. search needs)
-    (λ c κs. search needs)
-    (λ c κs. search needs)
-    (λ c κs. search needs)
-    (λ c κs. search needs)
-    returns)
+    tie.close (tie.spec (λ c κs. search needs) (λ c κs. search needs) (λ c κs. search needs) (λ c κs. search needs) returns)

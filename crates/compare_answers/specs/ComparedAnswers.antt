@@ -1,0 +1,28 @@
+-- What a comparison answers, as the exported function gives it.
+use Prim.Native.Nat.{ℕ}
+use Rattle.table.specs.declared.Verdict.the-variants.{Accepted}
+use Rattle.compare.specs.declared.Compared.{Compared}
+use Rattle.compare.specs.declared.Compared.the-variants.{Rises, RefusedA, UnlawfulB, NoEntry, Differs}
+use Rattle.compare.specs.Means.{order}
+use Rattle.numbers.specs.declared.AnswerNumbers.{AnswerNumbers}
+use Rattle.numbers.specs.Numbers.{numbersOf, refusalNumbers, leafNumbers}
+use Rattle.compare_answers.specs.declared.SnpCpuidCompared.{SnpCpuidCompared}
+
+abbrev pub comparedWith : ℕ → AnswerNumbers → ℕ → SnpCpuidCompared
+comparedWith answer n register = record {
+  answer = answer;
+  number = n .number;
+  leaf = n .leaf;
+  «has_subleaf» = n .«has_subleaf»;
+  subleaf = n .subleaf;
+  s = n .s;
+  «register_index» = register;
+}
+
+-- which answer it is; the refusal's number and details, or the leaf and subleaf in question; EAX to EDX as 0 to 3
+abbrev pub comparedNumbers : Compared → SnpCpuidCompared
+comparedNumbers Rises = comparedWith 0 (numbersOf Accepted) 0
+comparedNumbers (RefusedA r) = comparedWith 1 (refusalNumbers r) 0
+comparedNumbers (UnlawfulB r) = comparedWith 2 (refusalNumbers r) 0
+comparedNumbers (NoEntry leaf subleaf) = comparedWith 3 (leafNumbers 0 (leaf .0) subleaf) 0
+comparedNumbers (Differs leaf subleaf register) = comparedWith 4 (leafNumbers 0 (leaf .0) subleaf) (order register)

@@ -1,0 +1,64 @@
+// A comparison's answer as C and Rust are given it: the answer comes in, a struct of plain numbers goes out.
+use compare::Compared;
+use compare::Register;
+use numbers::AnswerNumbers;
+use table::Verdict;
+ghost use mathlib.Core.Path.{_≡_};
+ghost use Rattle.compare.specs.Means.{order};
+ghost use Rattle.compare_answers.specs.ComparedAnswers.{comparedWith, comparedNumbers};
+
+#[repr(C)]
+pub struct SnpCpuidCompared {
+    pub answer: u32,
+    pub number: u32,
+    pub leaf: u32,
+    pub has_subleaf: u32,
+    pub subleaf: u32,
+    pub s: u32,
+    pub register_index: u32,
+}
+
+// EAX to EDX as 0 to 3.
+fn register_index(register: Register) -> u32
+    ensures { λ r. ⌜ r ≡ order register ⌝ }
+{
+    match register {
+        Register::Eax => 0,
+        Register::Ebx => 1,
+        Register::Ecx => 2,
+        Register::Edx => 3,
+    }
+}
+
+// One answer of a comparison, with the numbers of a refusal or of a place, and a register.
+fn compared_with(answer: u32, numbers: AnswerNumbers, register_index: u32) -> SnpCpuidCompared
+    ensures { λ r. ⌜ r ≡ comparedWith answer numbers «register_index» ⌝ }
+{
+    SnpCpuidCompared {
+        answer,
+        number: numbers.number as u32,
+        leaf: numbers.leaf,
+        has_subleaf: numbers.has_subleaf,
+        subleaf: numbers.subleaf,
+        s: numbers.s as u32,
+        register_index,
+    }
+}
+
+// A comparison's answer as numbers.
+pub fn compared_numbers(compared: Compared) -> SnpCpuidCompared
+    ensures { λ r. ⌜ r ≡ comparedNumbers compared ⌝ }
+{
+    match compared {
+        Compared::Rises => compared_with(0, numbers::answer_numbers(Verdict::Accepted), 0),
+        Compared::RefusedA(refusal) => compared_with(1, numbers::refusal_numbers(refusal), 0),
+        Compared::UnlawfulB(refusal) => compared_with(2, numbers::refusal_numbers(refusal), 0),
+        Compared::NoEntry(leaf, subleaf) => {
+            compared_with(3, numbers::at_leaf(0, leaf.0, subleaf), 0)
+        }
+        Compared::Differs(leaf, subleaf, register) => {
+            let numbers = numbers::at_leaf(0, leaf.0, subleaf);
+            compared_with(4, numbers, register_index(register))
+        }
+    }
+}
