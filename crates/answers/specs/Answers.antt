@@ -15,6 +15,7 @@ use Rattle.table.specs.declared.Subleaf.the-variants.{None, Some}
 use Rattle.lookup.specs.Lookup.{lookup, lookupOrigin}
 use Rattle.lookup.specs.declared.LeafResult.{LeafResult}
 use Rattle.lookup.specs.declared.LeafResult.the-variants.{Some as Found, None as Nothing}
+use Rattle.guest.specs.declared.Processor.{Processor}
 use Rattle.buffer.specs.declared.Written.{Written}
 use Rattle.buffer.specs.declared.Written.the-variants.{Bytes, Refused}
 use Rattle.numbers.specs.declared.AnswerNumbers.{AnswerNumbers}
@@ -27,6 +28,10 @@ use Rattle.answers.specs.declared.SnpCpuidWritten.{SnpCpuidWritten}
 -- what a caller chooses
 abbrev pub choicesOf : Bool → ℕ → Choices
 choicesOf avic edition = record { «secure_avic» = avic; edition = edition }
+
+-- the processor that a caller describes
+abbrev pub processorOf : ℕ → ℕ → ℕ → Bool → Processor
+processorOf n x s on = record { x2apic = n; xcr0 = x; xss = s; osxsave = on }
 
 abbrev pub builtWith : AnswerNumbers → ℕ → ℕ → SnpCpuidBuilt
 builtWith n rows mask = record {

@@ -1,5 +1,6 @@
 // Answers as C and Rust are given them: the answers of the crates below come in, structs of plain numbers go out. include/snp_cpuid.h documents each.
 use buffer::Written;
+use guest::Processor;
 use lookup::LeafResult;
 use lookup::leaf_origin;
 use lookup::leaf_result;
@@ -11,7 +12,7 @@ use table::Subleaf;
 use table::Verdict;
 use x86defs::CpuidFunction;
 ghost use mathlib.Core.Path.{_≡_};
-ghost use Rattle.answers.specs.Answers.{choicesOf, builtGiven, foundGiven, foundAt, firstGiven, writtenNumbers, subleafOf};
+ghost use Rattle.answers.specs.Answers.{choicesOf, processorOf, builtGiven, foundGiven, foundAt, firstGiven, writtenNumbers, subleafOf};
 
 #[repr(C)]
 pub struct SnpCpuidBuilt {
@@ -65,6 +66,18 @@ pub fn choices(secure_avic: bool, edition: u32) -> Choices
     Choices {
         secure_avic,
         edition,
+    }
+}
+
+// The processor that a caller describes.
+pub fn processor(x2apic: u32, xcr0: u64, xss: u64, osxsave: bool) -> Processor
+    ensures { λ r. ⌜ r ≡ processorOf x2apic xcr0 xss osxsave ⌝ }
+{
+    Processor {
+        x2apic,
+        xcr0,
+        xss,
+        osxsave,
     }
 }
 

@@ -12,9 +12,6 @@ use Rattle.answers.specs.declared.SnpCpuidBuilt.{SnpCpuidBuilt}
 use Rattle.answers.specs.declared.SnpCpuidFound.{SnpCpuidFound}
 use Rattle.answers.specs.Answers.{builtGiven, foundAt}
 
-abbrev pub processorOf : ℕ → ℕ → ℕ → Bool → Processor
-processorOf n x s on = record { x2apic = n; xcr0 = x; xss = s; osxsave = on }
-
 abbrev pub guestNumbers : GuestAnswer → SnpCpuidBuilt
 guestNumbers g = builtGiven (g .verdict) (g .table .«row_count») (g .table .«max_extended_state»)
 

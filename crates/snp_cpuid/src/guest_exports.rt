@@ -5,25 +5,13 @@ use answers::SnpCpuidWritten;
 use answers::built_numbers;
 use answers::choices;
 use answers::found_at;
+use answers::processor;
 use answers::subleaf_of;
 use answers::written_numbers;
-use guest::Processor;
 ghost use mathlib.Core.Path.{_≡_};
 ghost use Rattle.guest_pages.specs.GuestPages.{guestPages, writeGuest};
-ghost use Rattle.answers.specs.Answers.{choicesOf, writtenNumbers, subleafOf};
-ghost use Rattle.snp_cpuid.specs.GuestExports.{processorOf, guestNumbers, guestFound};
-
-// The processor that a caller describes.
-fn processor(x2apic: u32, xcr0: u64, xss: u64, osxsave: bool) -> Processor
-    ensures { λ r. ⌜ r ≡ processorOf x2apic xcr0 xss osxsave ⌝ }
-{
-    Processor {
-        x2apic,
-        xcr0,
-        xss,
-        osxsave,
-    }
-}
+ghost use Rattle.answers.specs.Answers.{choicesOf, processorOf, writtenNumbers, subleafOf};
+ghost use Rattle.snp_cpuid.specs.GuestExports.{guestNumbers, guestFound};
 
 // Builds the table of the given pages, and tells whether the processor's guest is given its table.
 #[no_mangle]

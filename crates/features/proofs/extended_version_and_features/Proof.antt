@@ -7,7 +7,7 @@ use Rattle.features.proofs.extended_version_and_features.Tie as tie
 
 returns : tie.Need-returns
 unfolding extendedVersionEcx extendedVersionEdx rdtscp maskOf
-returns c = cc
+returns c = let b = c .before in rw (c .clear-unless2 .ensures, b .clear-unless .ensures, b .before .has-ymm .ensures)
 
 pub extended-version-and-features-spec : {M : Type 1} → statement M
 extended-version-and-features-spec = tie.close (tie.spec (λ c κs. search needs) (λ c κs. search needs) (λ c κs. search needs) returns)

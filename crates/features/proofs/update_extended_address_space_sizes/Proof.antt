@@ -7,7 +7,7 @@ use Rattle.features.proofs.update_extended_address_space_sizes.Tie as t
 
 returns : tie.Need-returns
 unfolding addressSizesEbx ibrsAndStibp btcNo maskOf
-returns c = cc
+returns c = rw (c .clear-unless .ensures, c .before .before .ibpb .ensures)
 
 pub update-extended-address-space-sizes-spec : {M : Type 1} → statement M
 update-extended-address-space-sizes-spec = tie.close (tie.spec (λ c κs. search needs) (λ c κs. search needs) returns)

@@ -7,7 +7,7 @@ use Rattle.features.proofs.version_and_features.Tie as tie
 
 returns : tie.Need-returns
 unfolding versionEcx hypervisorPresent maskOf
-returns c = cc
+returns c = rw (c .clear-unless .ensures, c .before .has-ymm .ensures)
 
 pub version-and-features-spec : {M : Type 1} → statement M
 version-and-features-spec = tie.close (tie.spec (λ c κs. search needs) (λ c κs. search needs) returns)

@@ -6,7 +6,9 @@ use Rattle.pages.proofs.entry_at.Tie as tie
 
 returns : tie.Need-returns
 unfolding entryAt
-returns c = cc
+returns c =
+    let e = c .before in let d = e .before in let b = d .before in let a = b .before in
+    rw (a .before .word-at .ensures, a .word-at2 .ensures, b .word-at3 .ensures, d .word-at4 .ensures, e .word-at5 .ensures, c .word-at6 .ensures)
 
 pub entry-at-spec : {M : Type 1} → statement M
 entry-at-spec =
