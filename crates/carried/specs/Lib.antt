@@ -1,3 +1,5 @@
+pub mod Carried
+pub mod CarriedLaws
 pub mod Moves
 pub mod MovesProof
 pub mod CarryExactly

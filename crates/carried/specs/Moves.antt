@@ -11,9 +11,9 @@ use Rattle.build.specs.Build.{answer}
 use Rattle.image.specs.Image.{image}
 use Rattle.guest_state.specs.State.{saveRegister, compactRegister, stateVerdict}
 use Rattle.rise.specs.Rise.{withEdition}
-use Rattle.carry.specs.declared.CarriedImage.the-variants.{Image}
+use Rattle.carry_image.specs.declared.CarriedImage.the-variants.{Image}
 use Rattle.carry.specs.Carry.{carry}
-use Rattle.carry.specs.CarryImage.{carryImage}
+use Rattle.carry_image.specs.CarryImage.{carryImage}
 
 -- the table of page bytes under edition n
 abbrev pub tableUnder : ℕ → Choices → List ℕ → CpuidResults

@@ -38,9 +38,9 @@ use Rattle.editions.specs.Second as Second
 use Rattle.editions.specs.SecondProof.{second-edition}
 use Rattle.table.specs.declared.Verdict.{Verdict}
 use Rattle.carry.specs.Carry.{ownRows, f16c, xopAndFma4, withoutBits, carriedAt, carriedTable, keeps, carryVerdict, tableGiven, carry}
-use Rattle.carry.specs.declared.CarriedImage.the-variants.{Image}
-use Rattle.carry.specs.CarryImage.{carryImage}
-use Rattle.carry.specs.CarriedLaws.{carries-in-place}
+use Rattle.carry_image.specs.declared.CarriedImage.the-variants.{Image}
+use Rattle.carry_image.specs.CarryImage.{carryImage}
+use Rattle.carried.specs.CarriedLaws.{carries-in-place}
 use Rattle.read_back.specs.BytesLaws.{image-bytes}
 use Rattle.read_back.specs.ReadBackProof.{built-reads-back}
 use Rattle.carried.specs.Moves.{tableUnder, MovesToSecond}

@@ -1,8 +1,6 @@
-// A running table carried from one edition of the AVX rule to another. A table, or its image in a lent buffer, and one processor's state come
-// in; the table under the edition wanted goes out, or a refusal and what was lent as it was.
+// A running table carried from one edition of the AVX rule to another. A table and one processor's state come in; the table under the edition
+// wanted goes out, or a refusal.
 use guest_state::state_verdict;
-use image_read::read_image;
-use image_write::write_table;
 use masking::PLACES;
 use masking::place;
 use table::CpuidResults;
@@ -16,7 +14,6 @@ ghost use Rattle.bits.specs.Choice.{pick};
 ghost use Rattle.bits.specs.Lists.{tabulate};
 ghost use Rattle.x86defs.specs.Functions.{result};
 ghost use Rattle.masking.specs.Kept.{places};
-ghost use Rattle.carry.specs.CarryImage.{carryImage};
 ghost use Rattle.carry.specs.Carry.{ownRows, withoutBits, carriedTable, carry, refusedCarry};
 
 // What goes without YMM state in edition 2 and not in edition 1: F16C of 1.ECX, XOP and FMA4 of 80000001h.ECX.
@@ -51,33 +48,6 @@ pub fn carry(t: CpuidResults, from: u32, to: u32, xcr0: u64, xss: u64) -> Carrie
         verdict: Verdict::Accepted,
         table,
     }
-}
-
-// Whether lent bytes are a table's image, and if so, whether the table is carried.
-pub enum CarriedImage {
-    NotAnImage,
-    Image(Verdict),
-}
-
-// The same for a table handed over as its image, in place: where it is carried, the bytes become the image of the table under the edition
-// wanted, which has as many. Any other bytes, and a table that is refused, stay as they were.
-pub fn carry_image(image: &mut [u8], from: u32, to: u32, xcr0: u64, xss: u64) -> CarriedImage
-    ensures { λ r. ⌜ r ≡ carryImage (now (image .entry)) from to xcr0 xss .answer ⌝ }
-    ensures { λ _. ⌜ now (image .exit) ≡ carryImage (now (image .entry)) from to xcr0 xss .buffer ⌝ }
-{
-    let read = read_image(image);
-    if read.is_image {
-        let t = read.table;
-        let carried = carry(t, from, to, xcr0, xss);
-        let verdict = carried.verdict;
-        if let Verdict::Refused(r) = verdict {
-            return CarriedImage::Image(Verdict::Refused(r));
-        }
-        let table = carried.table;
-        write_table(table, image);
-        return CarriedImage::Image(Verdict::Accepted);
-    }
-    CarriedImage::NotAnImage
 }
 
 // A refused answer holds an empty table.

@@ -1,7 +1,7 @@
 -- What carrying a table answers, as the exported function gives it. 15, 16, 13 and 14 name nothing, so the number is all.
 use Rattle.numbers.specs.Numbers.{numbersOf}
-use Rattle.carry.specs.declared.CarriedImage.{CarriedImage}
-use Rattle.carry.specs.declared.CarriedImage.the-variants.{NotAnImage, Image}
+use Rattle.carry_image.specs.declared.CarriedImage.{CarriedImage}
+use Rattle.carry_image.specs.declared.CarriedImage.the-variants.{NotAnImage, Image}
 use Rattle.carry_answers.specs.declared.SnpCpuidCarried.{SnpCpuidCarried}
 
 abbrev pub carriedNumbers : CarriedImage → SnpCpuidCarried

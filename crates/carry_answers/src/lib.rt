@@ -1,5 +1,5 @@
 // A carried image's answer as C and Rust are given it (document 02, P8): the answer comes in, a struct of plain numbers goes out.
-use carry::CarriedImage;
+use carry_image::CarriedImage;
 ghost use mathlib.Core.Path.{_≡_};
 ghost use Rattle.carry_answers.specs.CarriedAnswers.{carriedNumbers};
 

@@ -106,8 +106,8 @@ use Rattle.editions.specs.Second.{SecondEdition, FirstEdition}
 use Rattle.editions.specs.SecondProof as Editions
 use Rattle.edition_examples.specs.WithoutYmm as WithoutYmm
 use Rattle.carry.specs.Carry.{carry}
-use Rattle.carry.specs.Carried.{CarryKeeps, CarriesInPlace}
-use Rattle.carry.specs.CarriedLaws.{carry-keeps, carries-in-place}
+use Rattle.carried.specs.Carried.{CarryKeeps, CarriesInPlace}
+use Rattle.carried.specs.CarriedLaws.{carry-keeps, carries-in-place}
 use Rattle.read_back.specs.ReadBack.{ImageReadsBack, BuiltReadsBack, OnlyImagesRead}
 use Rattle.read_back.specs.ReadBackProof as ReadBack
 use Rattle.carried.specs.Moves.{MovesToSecond}
@@ -256,7 +256,7 @@ pub moves-to-edition-2 : MovesToSecond
 moves-to-edition-2 = moves-to-second
 
 -- of any table: every other row, which rows are there, the count, the mask and both save sizes stay; within one edition the whole table.
--- crates/carry/specs/Carried.antt
+-- crates/carried/specs/Carried.antt
 pub carrying-changes-nothing-else : CarryKeeps
 carrying-changes-nothing-else = carry-keeps
 

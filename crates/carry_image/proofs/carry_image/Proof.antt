@@ -1,8 +1,8 @@
--- `carry::carry_image` meets its contract: the image read, its table carried, and its bytes written over the old ones.
+-- `carry_image::carry_image` meets its contract: the image read, its table carried, and its bytes written over the old ones.
 use borrow.Author.Needs.{needs}
-use Rattle.carry.specs.CarryImageLaws.{image-none, image-refused, image-written}
-use Rattle.carry.proofs.carry_image.Statement.{statement}
-use Rattle.carry.proofs.carry_image.Tie as tie
+use Rattle.carry_image.specs.CarryImageLaws.{image-none, image-refused, image-written}
+use Rattle.carry_image.proofs.carry_image.Statement.{statement}
+use Rattle.carry_image.proofs.carry_image.Tie as tie
 
 returns : tie.Need-returns
 returns c =

@@ -9,10 +9,10 @@ use Rattle.image_read.specs.declared.ReadImage.{ReadImage}
 use Rattle.image_read.specs.ReadImage.{readImage}
 use Rattle.table.specs.declared.Refusal.{Refusal}
 use Rattle.table.specs.declared.Verdict.the-variants.{Accepted, Refused}
 use Rattle.carry.specs.declared.Carried.{Carried}
-use Rattle.carry.specs.declared.CarriedImage.the-variants.{NotAnImage, Image}
+use Rattle.carry_image.specs.declared.CarriedImage.the-variants.{NotAnImage, Image}
 use Rattle.carry.specs.Carry.{carry}
-use Rattle.carry.specs.CarryImage.{afterCarry, carryImage}
+use Rattle.carry_image.specs.CarryImage.{afterCarry, carryImage}
 
 module _ (s : List ℕ) (from to xcr0 xss : ℕ) {read : ReadImage} (p : read ≡ readImage s) where
   pub image-none : read .«is_image» ≡ false

@@ -28,9 +28,9 @@ use Rattle.image_read.specs.ReadImage.{readImage}
 use Rattle.image_read.specs.WrittenAgain.{read-has-image}
 use Rattle.table.specs.declared.Verdict.{Verdict}
 use Rattle.table.specs.declared.Verdict.the-variants.{Accepted}
 use Rattle.carry.specs.Carry.{carriedAt, carriedTable, keeps, tableGiven, carry}
-use Rattle.carry.specs.CarryImage.{carryImage}
-use Rattle.carry.specs.Carried.{CarryKeeps, CarriesInPlace}
+use Rattle.carry_image.specs.CarryImage.{carryImage}
+use Rattle.carried.specs.Carried.{CarryKeeps, CarriesInPlace}
 
 -- ---- within one edition
 

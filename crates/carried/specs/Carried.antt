@@ -13,8 +13,8 @@ use Rattle.image.specs.Image.{image}
 use Rattle.guest_state.specs.State.{saveRegister, compactRegister}
 use Rattle.image_read.specs.ReadImage.{readImage}
 use Rattle.table.specs.declared.Verdict.the-variants.{Accepted}
 use Rattle.carry.specs.Carry.{carry}
-use Rattle.carry.specs.CarryImage.{carryImage}
+use Rattle.carry_image.specs.CarryImage.{carryImage}
 
 -- what a carried table u has of the table t that was handed over
 pub record Carries (t u : CpuidResults) (from to xcr0 xss : ℕ) : Type 0 where

@@ -8,10 +8,10 @@ use Rattle.image.specs.Image.{image}
 use Rattle.image_read.specs.ReadImage.{readImage}
 use Rattle.table.specs.declared.Verdict.{Verdict}
 use Rattle.table.specs.declared.Verdict.the-variants.{Accepted, Refused}
 use Rattle.carry.specs.declared.Carried.{Carried}
-use Rattle.carry.specs.declared.CarriedImage.{CarriedImage}
-use Rattle.carry.specs.declared.CarriedImage.the-variants.{NotAnImage, Image}
+use Rattle.carry_image.specs.declared.CarriedImage.{CarriedImage}
+use Rattle.carry_image.specs.declared.CarriedImage.the-variants.{NotAnImage, Image}
 use Rattle.carry.specs.Carry.{carry}
 
 -- what is answered, and what the lent bytes then are
 pub record AfterCarry : Type 0 where

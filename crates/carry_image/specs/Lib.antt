@@ -1,0 +1,2 @@
+pub mod CarryImage
+pub mod CarryImageLaws
