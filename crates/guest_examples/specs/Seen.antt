@@ -9,13 +9,15 @@ use Rattle.table.specs.declared.Choices.{Choices}
 use Rattle.table.specs.declared.CpuidResults.{CpuidResults}
 use Rattle.table.specs.declared.Verdict.{Verdict}
 use Rattle.table.specs.declared.Verdict.the-variants.{Accepted}
+use Rattle.table.specs.Rows.{Rows}
 use Rattle.table.specs.Table.{tableOf, rowIn, rowsIn}
 use Rattle.checks.specs.ExtendedState.{combinedMask}
 use Rattle.features.specs.Finish.{finished}
-use Rattle.build.specs.declared.Built.{Built}
 use Rattle.build.specs.Build.{rowsFor, answer}
 use Rattle.rise.specs.RiseProof.{answer-table}
-use Rattle.page_sets.specs.Evaluation.{evaluated}
+use Rattle.page_sets.specs.Pass.{passedVerdict, passedTable}
+use Rattle.page_sets.specs.PassLaws.{rows-passed}
+use Rattle.page_sets.specs.Evaluation.{passed}
 use Rattle.guest_state.specs.Compact.{startOf, placed, compactBelow}
 use Rattle.guest_state.specs.State.{saveRegister, compacts, compactRegister, allowed, allowedVerdict, compactVerdict, stateVerdict}
 use Rattle.guest.specs.declared.Processor.{Processor}
@@ -24,9 +26,9 @@ use Rattle.guest_pages.specs.GuestPages.{guestPages}
 use Rattle.guest_pages.specs.GuestPagesLaws.{guest-verdict, given-guest}
 
 -- with every definition open
-unfoldable pub computed : Choices → List ℕ → Built
-unfolding evaluated stateVerdict allowedVerdict compactVerdict allowed compactRegister compacts saveRegister compactBelow placed startOf numberSeen osxsaveSeen clear
-computed chosen s = answer chosen s
+unfoldable pub viewed : Choices → List ℕ → Verdict
+unfolding passed stateVerdict allowedVerdict compactVerdict allowed compactRegister compacts saveRegister compactBelow placed startOf numberSeen osxsaveSeen clear
+viewed chosen s = passedVerdict chosen s
 
 abbrev pub processor : ℕ → ℕ → ℕ → Bool → Processor
 processor n x s on = record { x2apic = n; xcr0 = x; xss = s; osxsave = on }
@@ -34,6 +36,10 @@ processor n x s on = record { x2apic = n; xcr0 = x; xss = s; osxsave = on }
 -- the table of an accepted page set
 abbrev pub built : Choices → List ℕ → CpuidResults
 built chosen s = tableOf (finished (chosen .edition) (rowsFor chosen s)) (combinedMask (rowsFor chosen s))
+
+-- the same, of entries that are read in one pass
+pub built-passed : (chosen : Choices) (s : List ℕ) → built chosen s ≡ passedTable chosen s
+built-passed chosen s = ap (λ (m : Rows). tableOf (finished (chosen .edition) m) (combinedMask m)) (rows-passed (chosen .«secure_avic») s)
 
 -- 1.EBX, 1.ECX, B.0.EDX, B.1.EDX, D.0.EBX, D.1.EBX
 abbrev pub figures : CpuidResults → List ℕ
