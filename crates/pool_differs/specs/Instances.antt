@@ -15,7 +15,8 @@ use Rattle.pooled.specs.PoolRight.{poolTable, PoolRight, SetsAmong, NothingMore
 use Rattle.pooled.specs.PoolProof.{pool-right, one-more}
 use Rattle.pooled.specs.PoolExactly.{DifferFault, ServerFault}
 use Rattle.pooled.specs.ExactlyProof.{pool-exactly}
-use Rattle.pool_examples.specs.Pools.{two, serverW, pooledOpen, a-and-w, own-refusal, own-server}
+use Rattle.pool_examples.specs.PoolPassed.{poolOpened}
+use Rattle.pool_examples.specs.Pools.{two, serverW, a-and-w, own-refusal, own-server}
 use Rattle.pool_differs.specs.Differ.{three, serverD, a-and-d, a-and-d-and-w}
 
 -- A and W: the and of the two, rising to each
@@ -28,11 +29,11 @@ of-a-and-d = pool-exactly first (serverA ++ serverD) two .differs .0 a-and-d .2
 
 -- A and W, then A, D and W: nothing is added
 first-same : setAt (serverA ++ serverD ++ serverW) three 0 ≡ setAt (serverA ++ serverW) two 0
-unfolding pooledOpen serverD
+unfolding poolOpened serverA serverD serverW
 first-same = refl
 
 second-same : setAt (serverA ++ serverD ++ serverW) three 2 ≡ setAt (serverA ++ serverW) two 1
-unfolding pooledOpen serverD
+unfolding poolOpened serverA serverD serverW
 second-same = refl
 
 abbrev stands : ℕ → ℕ
