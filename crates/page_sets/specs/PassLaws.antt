@@ -76,7 +76,7 @@ module _ (s : List ℕ) where
       (on-page-dropped p 0 (countOf s p) ∙ ap₂ (onPageIn p 0) (word-first (pageSize * p)) (sym (first-entry p)))
       (on-pages-dropped (suc p) n ∙ ap (onPagesIn (suc p) n) (sym (next-page p)))
 
-  entries-passed : entries s ≡ onPagesIn 0 (pagesIn s) s
+  pub entries-passed : entries s ≡ onPagesIn 0 (pagesIn s) s
   unfolding entries
   entries-passed = on-pages-dropped 0 (pagesIn s)
 
