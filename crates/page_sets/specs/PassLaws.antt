@@ -80,6 +80,10 @@ module _ (s : List ℕ) where
   unfolding entries
   entries-passed = on-pages-dropped 0 (pagesIn s)
 
+  pub counted-passed : counted s ≡ keepIf counts (onPagesIn 0 (pagesIn s) s)
+  unfolding counted
+  counted-passed = ap (keepIf counts) entries-passed
+
   -- ---- lawfulness
 
   zeros-dropped : (o k : ℕ) → eightZeros s (o + k) ≡ eightZeros (drop o s) k
