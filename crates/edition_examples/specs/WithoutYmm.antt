@@ -18,7 +18,7 @@ use Rattle.rise.specs.RiseProof.{second-to-first-rises}
 use Rattle.rise.specs.Same.{rises-itself}
 use Rattle.page_sets.specs.PassLaws.{answer-verdict, answer-table}
 use Rattle.page_sets.specs.Evaluation.{first, passed}
-use Rattle.page_sets.specs.PageSets.{entry, page, requiredEntries, stateEntries}
+use Rattle.page_sets.specs.PageSets.{entry, page, requiredEntries}
 
 abbrev pub second : Choices
 second = underEdition 2

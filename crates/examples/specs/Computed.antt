@@ -1,7 +1,6 @@
 -- Not empty words: a whole page set that is accepted, and a pair for each outcome of demand 3, all by computation.
 use mathlib.Core.Path.{_≡_, refl, ap, ap₂}
-use mathlib.Core.List.{List, [], _∷_}
-use Prim.Native.Nat.{ℕ}
+use mathlib.Core.List.{[], _∷_}
 use lib.ListN.{length}
 use Rattle.x86defs.specs.Functions.{ExtendedStateEnumeration}
 use Rattle.table.specs.declared.CpuidResults.{CpuidResults}

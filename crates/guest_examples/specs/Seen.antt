@@ -27,7 +27,8 @@ use Rattle.guest_pages.specs.GuestPagesLaws.{guest-verdict, given-guest}
 
 -- with every definition open
 unfoldable pub viewed : Choices → List ℕ → Verdict
-unfolding passed stateVerdict allowedVerdict compactVerdict allowed compactRegister compacts saveRegister compactBelow placed startOf numberSeen osxsaveSeen clear
+unfolding passed stateVerdict allowedVerdict compactVerdict allowed compactRegister compacts saveRegister compactBelow placed startOf numberSeen
+    osxsaveSeen clear
 viewed chosen s = passedVerdict chosen s
 
 abbrev pub processor : ℕ → ℕ → ℕ → Bool → Processor

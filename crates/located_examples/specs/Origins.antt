@@ -1,7 +1,7 @@
 -- Where rows came from, of a page set written byte by byte: page 0 begins with a D.0 that does not count there and ends with a second leaf 1; page 1 has
 -- the subleaves of leaf Dh.
 use mathlib.Core.Path.{_≡_, refl, ap, _∙_}
-use mathlib.Core.Bool.{Bool, true, false}
+use mathlib.Core.Bool.{true, false}
 use mathlib.Core.List.{List, _++_}
 use Prim.Native.Nat.{ℕ, _<_}
 use lib.Dec.{lit<}
@@ -10,7 +10,6 @@ use Rattle.bits.specs.ChoiceLaws.{pick-true, pick-false}
 use Rattle.pages.specs.Entries.{counted}
 use Rattle.masking.specs.Kept.{places}
 use Rattle.masking.specs.Place
-use Rattle.table.specs.declared.Choices.{Choices}
 use Rattle.table.specs.declared.Verdict.the-variants.{Accepted}
 use Rattle.table.specs.Rows.{Row}
 use Rattle.origins.specs.Origin.{Origin, isMadeHere, originOf}

@@ -1,7 +1,7 @@
 -- That a page set's first bit decides, of pages that are read in one pass.
-use mathlib.Core.Path.{_≡_, refl, ap, ap₂, _∙_}
-use mathlib.Core.Bool.{Bool, true, false, not}
-use mathlib.Core.List.{List, [], _∷_}
+use mathlib.Core.Path.{_≡_, ap₂, _∙_}
+use mathlib.Core.Bool.{Bool, true, not}
+use mathlib.Core.List.{List, _∷_}
 use Prim.Native.Nat.{ℕ}
 use Rattle.bits.specs.ChoiceLaws.{pick-true}
 use Rattle.bits.specs.Lists.{tabulate}
@@ -16,7 +16,6 @@ use Rattle.flips.specs.declared.Flip.{Flip}
 use Rattle.flips.specs.Flips.{flip, flipped, flipsOf, flipsIn, flips}
 use Rattle.flip_rows.specs.Same.{sameAnswer}
 use Rattle.flip_rows.specs.Changes.{changes}
-use Rattle.nearest.specs.declared.Nearest.{Nearest}
 use Rattle.nearest.specs.declared.Nearest.the-variants.{Bit}
 use Rattle.nearest.specs.Nearest.{firstThat, frontVerdict, unlessRefused, nearest}
 use Rattle.page_sets.specs.Pass.{passedTable}

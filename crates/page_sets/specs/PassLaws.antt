@@ -1,5 +1,5 @@
 -- One pass over page bytes gives what the definitions give: the entries, the rows, and the verdict.
-use mathlib.Core.Path.{_≡_, refl, sym, ap, ap₂, _∙_, subst, fun-ext}
+use mathlib.Core.Path.{_≡_, refl, sym, ap, ap₂, _∙_, fun-ext}
 use mathlib.Core.Bool.{Bool, true, false}
 use mathlib.Core.List.{List, [], _∷_, _++_}
 use Prim.Native.Nat.{ℕ, zero, suc, _+_, _*_}
@@ -11,7 +11,7 @@ use borrow.Author.Tests.{eqb-true}
 use Rattle.bits.specs.Choice.{pick}
 use Rattle.bits.specs.Lists.{keepIf}
 use Rattle.bits.specs.Search.{every}
-use Rattle.x86defs.specs.Functions.{function, result}
+use Rattle.x86defs.specs.Functions.{function}
 use Rattle.pages.specs.Layout.{Entry, pageSize, entrySize, firstEntry, mostEntries, wordAt, pagesIn, countOf, entryStart, entryAt, countsFit}
 use Rattle.pages.specs.Entries.{onPage, onPages, entries, counts, counted}
 use Rattle.reserved.specs.declared.Reserved.{Reserved}
