@@ -1,5 +1,5 @@
 -- Not empty words: page sets with entries added, byte by byte. Two keep an accepted answer, one a refusal by 8; the last, refused by 3, is let in.
-use mathlib.Core.Path.{_≡_, refl, ap, _∙_}
+use mathlib.Core.Path.{_≡_, ap}
 use mathlib.Core.List.{List, _++_}
 use Prim.Native.Nat.{ℕ}
 use lib.Dec.{lit≤}
@@ -16,7 +16,7 @@ use Rattle.added.specs.AddedProof.{added-same}
 use Rattle.added.specs.Decide.{figuresOf, figuresWanted, added-by-figures}
 use Rattle.page_sets.specs.PageSets.{entry, page, firstPage, serverA}
 use Rattle.page_sets.specs.Pass.{passedLawful}
-use Rattle.page_sets.specs.PassLaws.{lawful-passed, answer-verdict}
+use Rattle.page_sets.specs.PassLaws.{lawful-passed, verdict-passed}
 use Rattle.page_sets.specs.Evaluation.{first, passed}
 use Rattle.examples.specs.Computed.{serverA-accepted}
 
@@ -31,8 +31,8 @@ abbrev avx : List ℕ
 avx = entry 0xD 2 0x100 0x240 0 0
 
 -- the figures of a page set whose bytes are read in one pass
-figures-passed : (s u : List ℕ) → (passedLawful u, figuresOf s u .1, figuresOf s u .2) ≡ figuresWanted s → figuresOf s u ≡ figuresWanted s
-figures-passed s u e = ap (λ (v : Verdict). (v, figuresOf s u .1, figuresOf s u .2)) (lawful-passed u) ∙ e
+figures-passed : (s u : List ℕ) → figuresOf s u ≡ (passedLawful u, figuresOf s u .1, figuresOf s u .2)
+figures-passed s u = ap (λ (v : Verdict). (v, figuresOf s u .1, figuresOf s u .2)) (lawful-passed u)
 
 -- ---- entries added on the last page
 
@@ -42,7 +42,7 @@ withEntries = page0 ++ page 6 (states ++ avx ++ entry 0xD 2 0xFFFFFFFF 1 0 0 ++ 
 
 entries-figures : figuresOf serverA withEntries ≡ figuresWanted serverA
 unfolding passed serverA withEntries
-entries-figures = figures-passed serverA withEntries refl
+entries-figures = figures-passed serverA withEntries
 
 pub entries-added : Added serverA withEntries
 entries-added = added-by-figures serverA withEntries entries-figures
@@ -58,7 +58,7 @@ withPage = serverA ++ page 2 (entry 1 0 0xFFFFFFFF 0xFFFFFFFF 0xFFFFFFFF 0xFFFFF
 
 page-figures : figuresOf serverA withPage ≡ figuresWanted serverA
 unfolding passed serverA withPage
-page-figures = figures-passed serverA withPage refl
+page-figures = figures-passed serverA withPage
 
 pub page-added : Added serverA withPage
 page-added = added-by-figures serverA withPage page-figures
@@ -81,11 +81,11 @@ oneThreadLater = threaded ++ page 4 (states ++ avx ++ entry 0x8000001E 0 0 0 0 0
 
 pub threads-refused : answer first twoThreads .verdict ≡ Refused (TopologyInconsistent ThreadsPerUnit)
 unfolding passed twoThreads
-threads-refused = answer-verdict first twoThreads refl
+threads-refused = verdict-passed first twoThreads
 
 threads-figures : figuresOf twoThreads oneThreadLater ≡ figuresWanted twoThreads
 unfolding passed twoThreads oneThreadLater
-threads-figures = figures-passed twoThreads oneThreadLater refl
+threads-figures = figures-passed twoThreads oneThreadLater
 
 pub threads-added : Added twoThreads oneThreadLater
 threads-added = added-by-figures twoThreads oneThreadLater threads-figures
@@ -101,11 +101,11 @@ withoutD2 = page0 ++ page 2 states
 
 pub without-refused : answer first withoutD2 .verdict ≡ Refused (MissingRequiredResult ExtendedStateEnumeration (Some 2))
 unfolding passed withoutD2
-without-refused = answer-verdict first withoutD2 refl
+without-refused = verdict-passed first withoutD2
 
 without-figures : figuresOf withoutD2 serverA ≡ figuresWanted withoutD2
 unfolding passed withoutD2 serverA
-without-figures = figures-passed withoutD2 serverA refl
+without-figures = figures-passed withoutD2 serverA
 
 -- server A is this with an entry added, and is accepted (`serverA-accepted`)
 pub without-added : Added withoutD2 serverA

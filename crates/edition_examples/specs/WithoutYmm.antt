@@ -16,7 +16,7 @@ use Rattle.build.specs.Build.{editionVerdict, underEdition, verdictOf, answer}
 use Rattle.rise.specs.Rise.{RiseTo, TableRises}
 use Rattle.rise.specs.RiseProof.{second-to-first-rises}
 use Rattle.rise.specs.Same.{rises-itself}
-use Rattle.page_sets.specs.PassLaws.{answer-verdict, answer-table}
+use Rattle.page_sets.specs.PassLaws.{verdict-passed, table-passed}
 use Rattle.page_sets.specs.Evaluation.{first, passed}
 use Rattle.page_sets.specs.PageSets.{entry, page, requiredEntries}
 
@@ -31,11 +31,11 @@ withoutYmm =
 
 pub first-accepted : answer first withoutYmm .verdict ≡ Accepted
 unfolding passed withoutYmm
-first-accepted = answer-verdict first withoutYmm refl
+first-accepted = verdict-passed first withoutYmm
 
 pub second-accepted : answer second withoutYmm .verdict ≡ Accepted
 unfolding passed withoutYmm
-second-accepted = answer-verdict second withoutYmm refl
+second-accepted = verdict-passed second withoutYmm
 
 -- 1.ECX and 80000001h.ECX
 abbrev ecxOf : CpuidResults → List ℕ
@@ -46,11 +46,11 @@ figures chosen = ecxOf (answer chosen withoutYmm .table)
 
 pub first-figures : figures first ≡ 0xAED82203 ∷ 0x4109F3 ∷ []
 unfolding passed withoutYmm
-first-figures = ap ecxOf (answer-table first withoutYmm first-accepted)
+first-figures = ap ecxOf (table-passed first withoutYmm first-accepted)
 
 pub second-figures : figures second ≡ 0x8ED82203 ∷ 0x4001F3 ∷ []
 unfolding passed withoutYmm
-second-figures = ap ecxOf (answer-table second withoutYmm second-accepted)
+second-figures = ap ecxOf (table-passed second withoutYmm second-accepted)
 
 -- from edition 2 to edition 1 is a rise
 pub from-second : RiseTo second first withoutYmm withoutYmm
@@ -64,7 +64,7 @@ f16c-gone w = omega (arith, w .at 29)
 pub not-from-first : TableRises (answer first withoutYmm .table) (answer second withoutYmm .table) → ⊥
 unfolding passed withoutYmm
 not-from-first t =
-    let u = subst₂ TableRises (answer-table first withoutYmm first-accepted) (answer-table second withoutYmm second-accepted) t in
+    let u = subst₂ TableRises (table-passed first withoutYmm first-accepted) (table-passed second withoutYmm second-accepted) t in
     f16c-gone (u .registers Place.versionAndFeatures (lit< tt) refl .ecx)
 
 -- there is no edition 3, also of no pages at all

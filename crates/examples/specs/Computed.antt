@@ -10,7 +10,7 @@ use Rattle.table.specs.declared.Verdict.the-variants.{Accepted, Refused}
 use Rattle.build.specs.Build.{answer}
 use Rattle.rise.specs.Rise.{RiseHypothesis}
 use Rattle.page_sets.specs.PageSets.{serverA, serverB, serverWithoutD12, serverWithLargeD6}
-use Rattle.page_sets.specs.PassLaws.{answer-verdict, answer-table}
+use Rattle.page_sets.specs.PassLaws.{lawful-passed, verdict-passed, table-passed}
 use Rattle.page_sets.specs.Evaluation.{first, passed}
 use Rattle.examples.specs.RisePassed.{rises-passed}
 
@@ -21,41 +21,41 @@ serverA-length = refl
 
 pub serverA-accepted : answer first serverA .verdict ≡ Accepted
 unfolding passed serverA
-serverA-accepted = answer-verdict first serverA refl
+serverA-accepted = verdict-passed first serverA
 
 pub serverA-rows : answer first serverA .table .«row_count» ≡ 27
 unfolding passed serverA
-serverA-rows = ap (λ (t : CpuidResults). t .«row_count») (answer-table first serverA serverA-accepted)
+serverA-rows = ap (λ (t : CpuidResults). t .«row_count») (table-passed first serverA serverA-accepted)
 
 -- B meets the hypothesis, is accepted, and is strictly richer
 pub serverB-rises : RiseHypothesis first serverA serverB
 unfolding passed serverA serverB
-serverB-rises = rises-passed first serverA serverB serverA-accepted refl refl
+serverB-rises = rises-passed first serverA serverB serverA-accepted (lawful-passed serverB) refl
 
 pub serverB-accepted : answer first serverB .verdict ≡ Accepted
 unfolding passed serverB
-serverB-accepted = answer-verdict first serverB refl
+serverB-accepted = verdict-passed first serverB
 
 pub masks : answer first serverA .table .«max_extended_state» ∷ answer first serverB .table .«max_extended_state» ∷ [] ≡ 0x7 ∷ 0x18E7 ∷ []
 unfolding passed serverA serverB
 masks =
-    ap₂ (λ (t u : CpuidResults). t .«max_extended_state» ∷ u .«max_extended_state» ∷ []) (answer-table first serverA serverA-accepted)
-    (answer-table first serverB serverB-accepted)
+    ap₂ (λ (t u : CpuidResults). t .«max_extended_state» ∷ u .«max_extended_state» ∷ []) (table-passed first serverA serverA-accepted)
+    (table-passed first serverB serverB-accepted)
 
 -- without D.12: the hypothesis holds, and B is refused by 3
 pub without-rises : RiseHypothesis first serverA serverWithoutD12
 unfolding passed serverA serverWithoutD12
-without-rises = rises-passed first serverA serverWithoutD12 serverA-accepted refl refl
+without-rises = rises-passed first serverA serverWithoutD12 serverA-accepted (lawful-passed serverWithoutD12) refl
 
 pub without-refused : answer first serverWithoutD12 .verdict ≡ Refused (MissingRequiredResult ExtendedStateEnumeration (Some 12))
 unfolding passed serverWithoutD12
-without-refused = answer-verdict first serverWithoutD12 refl
+without-refused = verdict-passed first serverWithoutD12
 
 -- with D.6 too large: the hypothesis holds, and B is refused by 5
 pub large-rises : RiseHypothesis first serverA serverWithLargeD6
 unfolding passed serverA serverWithLargeD6
-large-rises = rises-passed first serverA serverWithLargeD6 serverA-accepted refl refl
+large-rises = rises-passed first serverA serverWithLargeD6 serverA-accepted (lawful-passed serverWithLargeD6) refl
 
 pub large-refused : answer first serverWithLargeD6 .verdict ≡ Refused SaveAreaOverflow
 unfolding passed serverWithLargeD6
-large-refused = answer-verdict first serverWithLargeD6 refl
+large-refused = verdict-passed first serverWithLargeD6

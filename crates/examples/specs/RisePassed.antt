@@ -10,11 +10,11 @@ use Rattle.table.specs.declared.CpuidResults.{CpuidResults}
 use Rattle.table.specs.declared.Verdict.the-variants.{Accepted}
 use Rattle.table.specs.Rows.{Rows}
 use Rattle.table.specs.Table.{rowIn}
-use Rattle.build.specs.Build.{rowsFor, answer}
+use Rattle.build.specs.Build.{rowsFor, lawfulVerdict, answer}
 use Rattle.rise.specs.Rise.{RiseHypothesis}
 use Rattle.rise.specs.Decide.{placeTest, pagesTest, rises-by-test}
-use Rattle.page_sets.specs.Pass.{passedLawful, passedFor, passedTable}
-use Rattle.page_sets.specs.PassLaws.{lawful-passed, rows-passed, answer-table}
+use Rattle.page_sets.specs.Pass.{passedFor, passedTable}
+use Rattle.page_sets.specs.PassLaws.{rows-passed, table-passed}
 
 -- of a table and two sets of rows
 abbrev tested : CpuidResults → Rows → Rows → Bool
@@ -26,8 +26,8 @@ passedTest c a b = tested (passedTable c a) (passedFor c a) (passedFor c b)
 module _ (c : Choices) (a b : List ℕ) (v : answer c a .verdict ≡ Accepted) where
   test-passed : pagesTest c a b ≡ passedTest c a b
   test-passed =
-      ap₂ (λ (t : CpuidResults) (A : Rows). tested t A (rowsFor c b)) (answer-table c a v) (rows-passed (c .«secure_avic») a)
+      ap₂ (λ (t : CpuidResults) (A : Rows). tested t A (rowsFor c b)) (table-passed c a v) (rows-passed (c .«secure_avic») a)
       ∙ ap (tested (passedTable c a) (passedFor c a)) (rows-passed (c .«secure_avic») b)
 
-  pub rises-passed : passedLawful b ≡ Accepted → passedTest c a b ≡ true → RiseHypothesis c a b
-  rises-passed l t = rises-by-test c a b v (lawful-passed b ∙ l) (test-passed ∙ t)
+  pub rises-passed : lawfulVerdict b ≡ Accepted → passedTest c a b ≡ true → RiseHypothesis c a b
+  rises-passed l t = rises-by-test c a b v l (test-passed ∙ t)

@@ -11,7 +11,7 @@ use Rattle.table.specs.Table.{rowsIn}
 use Rattle.build.specs.Build.{answer}
 use Rattle.rise.specs.Rise.{RiseHypothesis}
 use Rattle.page_sets.specs.PageSets.{entry, page, firstPage}
-use Rattle.page_sets.specs.PassLaws.{answer-verdict}
+use Rattle.page_sets.specs.PassLaws.{lawful-passed, verdict-passed}
 use Rattle.examples.specs.RisePassed.{rises-passed}
 use Rattle.guest_state.specs.State.{stateVerdict}
 use Rattle.guest.specs.Guest.{guestTable}
@@ -36,15 +36,15 @@ compacting = server 0x3
 
 pub plain-accepted : answer first plain .verdict ≡ Accepted
 unfolding viewed plain
-plain-accepted = answer-verdict first plain refl
+plain-accepted = verdict-passed first plain
 
 pub compacting-accepted : answer first compacting .verdict ≡ Accepted
 unfolding viewed compacting
-compacting-accepted = answer-verdict first compacting refl
+compacting-accepted = verdict-passed first compacting
 
 pub plain-to-compacting : RiseHypothesis first plain compacting
 unfolding viewed plain compacting
-plain-to-compacting = rises-passed first plain compacting plain-accepted refl refl
+plain-to-compacting = rises-passed first plain compacting plain-accepted (lawful-passed compacting) refl
 
 -- D.0.EBX is FFFFFFFFh, the largest; D.1.EBX is 0 on A, and on B 576 more than 32 bits hold
 plain-state : stateVerdict (rowsIn (built first plain)) 0x7 0 ≡ Accepted

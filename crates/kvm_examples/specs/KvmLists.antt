@@ -21,14 +21,14 @@ use Rattle.kvm_import.specs.Import.{listVerdict, readList}
 use Rattle.kvm_import.specs.AnswerLaws.{read-11-0}
 use Rattle.kvm_export.specs.Export.{plainRow, rowsFrom, listRows, listOf}
 use Rattle.page_sets.specs.PageSets.{serverA}
-use Rattle.page_sets.specs.PassLaws.{answer-verdict, answer-table}
+use Rattle.page_sets.specs.PassLaws.{verdict-passed, table-passed}
 use Rattle.page_sets.specs.Evaluation.{first, passed}
 
 -- 27 rows; leaf 0 has the highest leaf Dh and "Auth" "cAMD" "enti"
 pub serverA-list : take 48 (listOf (answer first serverA .table)) ≡ bytesOfWords
     (27 ∷ 0 ∷ 0 ∷ 0 ∷ 0 ∷ 0xD ∷ 0x68747541 ∷ 0x444D4163 ∷ 0x69746E65 ∷ 0 ∷ 0 ∷ 0 ∷ [])
 unfolding passed serverA listOf listRows rowsFrom listBytes allWords bytesOfWords
-serverA-list = ap (λ (t : CpuidResults). take 48 (listOf t)) (answer-table first serverA (answer-verdict first serverA refl))
+serverA-list = ap (λ (t : CpuidResults). take 48 (listOf t)) (table-passed first serverA (verdict-passed first serverA))
 
 -- a list of words
 abbrev pub listed : List ℕ → List ℕ

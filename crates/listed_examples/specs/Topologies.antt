@@ -24,7 +24,7 @@ use Rattle.listed.specs.Builds.{inputsFor}
 use Rattle.listed.specs.BuildsProof.{builds-listed}
 use Rattle.page_sets.specs.PageSets.{entry, page, requiredEntries, stateEntries}
 use Rattle.page_sets.specs.Pass.{passedFor}
-use Rattle.page_sets.specs.PassLaws.{rows-passed, answer-verdict}
+use Rattle.page_sets.specs.PassLaws.{rows-passed, verdict-passed}
 use Rattle.page_sets.specs.Evaluation.{first, passed}
 
 -- server A with entries of leaves 1, 80000008h and 8000001Eh before all others, in which the five inputs stand
@@ -73,7 +73,7 @@ three-inputs = inputs-passed threeProcessors
 
 pub three-accepted : answer first threeProcessors .verdict ≡ Accepted
 unfolding passed threeProcessors
-three-accepted = answer-verdict first threeProcessors refl
+three-accepted = verdict-passed first threeProcessors
 
 pub three-listed : In three acceptedInputs
 three-listed = listed threeProcessors three three-inputs (lit< tt) three-accepted
@@ -96,7 +96,7 @@ largest-inputs = inputs-passed largestServer
 
 pub largest-accepted : answer first largestServer .verdict ≡ Accepted
 unfolding passed largestServer
-largest-accepted = answer-verdict first largestServer refl
+largest-accepted = verdict-passed first largestServer
 
 pub largest-listed : In largest acceptedInputs
 largest-listed = listed largestServer largest largest-inputs (lit< tt) largest-accepted
@@ -119,7 +119,7 @@ wrapped-inputs = inputs-passed wrappedServer
 
 pub wrapped-refused : answer first wrappedServer .verdict ≡ Refused (TopologyInconsistent (ProcessorCount 0))
 unfolding passed wrappedServer
-wrapped-refused = answer-verdict first wrappedServer refl
+wrapped-refused = verdict-passed first wrappedServer
 
 wrapped-rejected : accepts wrapped ≡ false
 unfolding accepts topologyOf

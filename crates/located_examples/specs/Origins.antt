@@ -22,7 +22,7 @@ use Rattle.rise.specs.RiseProof.{answer-row}
 use Rattle.rise.specs.BuiltLaws.{always-finished}
 use Rattle.located.specs.LocatedProof.{rows-have-origins}
 use Rattle.page_sets.specs.PageSets.{entry as entryBytes, page, requiredEntries, stateEntries}
-use Rattle.page_sets.specs.PassLaws.{counted-passed, answer-verdict}
+use Rattle.page_sets.specs.PassLaws.{counted-passed, verdict-passed}
 use Rattle.page_sets.specs.Evaluation.{first, passed}
 
 -- the two bits that D.0 would bring on page 0, and the registers of the second leaf 1, are nobody's
@@ -33,7 +33,7 @@ repeated =
 
 pub repeated-accepted : answer first repeated .verdict ≡ Accepted
 unfolding passed repeated
-repeated-accepted = answer-verdict first repeated refl
+repeated-accepted = verdict-passed first repeated
 
 -- a required row that is not made here has the origin of where the first entry of its place stands
 required-origin : (i : ℕ) → i < places → always (ruleAt i) ≡ true → isMadeHere i ≡ false → {o : Origin} → standsAt i (counted repeated) ≡ o
@@ -65,5 +65,7 @@ d0-on-page-1 = required-origin (Place.extendedState 0) (lit< tt) refl refl stand
 -- B.0 is made here, although the page set has an entry for it
 pub b0-made-here : (standsAt Place.threadLevel (counted repeated) ≡ entry 0 4) × (originAt first repeated Place.threadLevel ≡ madeHere)
 unfolding passed standsAt keepIf repeated isMadeHere
-b0-made-here =
-    (ap (standsAt Place.threadLevel) (counted-passed repeated), rows-have-origins first repeated repeated-accepted Place.threadLevel (lit< tt) .made .1 refl)
+b0-made-here = (
+  ap (standsAt Place.threadLevel) (counted-passed repeated),
+  rows-have-origins first repeated repeated-accepted Place.threadLevel (lit< tt) .made .1 refl,
+)

@@ -36,7 +36,7 @@ use Rattle.nearest_ends.specs.WithoutInvlpgb.{InvlpgbNearest, refused-by-4}
 use Rattle.nearest_ends.specs.OutsideLaws.{Among, FirstAt}
 use Rattle.page_sets.specs.PageSets.{word, entry, page, requiredEntries, firstPage, stateEntries, serverA}
 use Rattle.page_sets.specs.Pass.{entryIn, onPagesIn}
-use Rattle.page_sets.specs.PassLaws.{entries-passed, lawful-passed, rows-passed, answer-verdict}
+use Rattle.page_sets.specs.PassLaws.{entries-passed, lawful-passed, rows-passed, verdict-passed}
 use Rattle.page_sets.specs.Evaluation.{first, evaluated, passed}
 use Rattle.nearest_examples.specs.AreBytes.{areBytes, bytes-at}
 use Rattle.nearest_examples.specs.NearestPassed.{changes-passed, nearest-first}
@@ -62,11 +62,11 @@ unclean-entry = refl
 -- an accepted set: bit 0 of 1.EAX, its first entry's first bit, is in the table
 serverA-flipped : answer first (flipped serverA (flip 0 0 0 0)) .verdict ≡ Accepted
 unfolding passed serverA flipped
-serverA-flipped = answer-verdict first (flipped serverA (flip 0 0 0 0)) refl
+serverA-flipped = verdict-passed first (flipped serverA (flip 0 0 0 0))
 
 serverA-changes : changes first serverA (flip 0 0 0 0) ≡ true
 unfolding passed serverA flipped sameAnswer sameNumbers sameTable sameRows sameResult
-serverA-changes = changes-passed first serverA (flip 0 0 0 0) serverA-flipped (answer-verdict first serverA refl) refl
+serverA-changes = changes-passed first serverA (flip 0 0 0 0) serverA-flipped (verdict-passed first serverA)
 
 serverA-entries : entries serverA ≡ entryIn 0 0 (drop firstEntry serverA) ∷ drop 1 (onPagesIn 0 2 serverA)
 unfolding passed serverA
@@ -99,7 +99,7 @@ withoutD2 = firstPage 0x3ED83203 0x219C07A9 0x3F ++ page 2 (entry 0xD 0 0x7 0x34
 
 pub withoutD2-refused : answer first withoutD2 .verdict ≡ Refused (MissingRequiredResult ExtendedStateEnumeration (Some 2))
 unfolding passed withoutD2
-withoutD2-refused = answer-verdict first withoutD2 refl
+withoutD2-refused = verdict-passed first withoutD2
 
 withoutD2-lawful : lawfulVerdict withoutD2 ≡ Accepted
 unfolding passed withoutD2
@@ -126,7 +126,7 @@ noInvlpgb =
 
 pub noInvlpgb-refused : answer first noInvlpgb .verdict ≡ Refused InvlpgbUnavailable
 unfolding passed noInvlpgb
-noInvlpgb-refused = answer-verdict first noInvlpgb refl
+noInvlpgb-refused = verdict-passed first noInvlpgb
 
 noInvlpgb-bytes : areBytes noInvlpgb ≡ true
 unfolding noInvlpgb areBytes

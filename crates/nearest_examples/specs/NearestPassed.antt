@@ -1,6 +1,6 @@
 -- That a page set's first bit decides, of pages that are read in one pass.
 use mathlib.Core.Path.{_≡_, ap₂, _∙_}
-use mathlib.Core.Bool.{Bool, true, not}
+use mathlib.Core.Bool.{true, not}
 use mathlib.Core.List.{List, _∷_}
 use Prim.Native.Nat.{ℕ}
 use Rattle.bits.specs.ChoiceLaws.{pick-true}
@@ -19,17 +19,16 @@ use Rattle.flip_rows.specs.Changes.{changes}
 use Rattle.nearest.specs.declared.Nearest.the-variants.{Bit}
 use Rattle.nearest.specs.Nearest.{firstThat, frontVerdict, unlessRefused, nearest}
 use Rattle.page_sets.specs.Pass.{passedTable}
-use Rattle.page_sets.specs.PassLaws.{answer-table}
+use Rattle.page_sets.specs.PassLaws.{table-passed}
 
 module _ (c : Choices) (s : List ℕ) where
   -- both page sets are accepted
   pub changes-passed : (f : Flip) → answer c (flipped s f) .verdict ≡ Accepted → answer c s .verdict ≡ Accepted
-      → {b : Bool} → not (sameAnswer Accepted (passedTable c (flipped s f)) Accepted (passedTable c s)) ≡ b → changes c s f ≡ b
+      → changes c s f ≡ not (sameAnswer Accepted (passedTable c (flipped s f)) Accepted (passedTable c s))
   unfolding changes
-  changes-passed f v w e =
-      ap₂ (λ (x : Verdict) (t : CpuidResults). not (sameAnswer x t (answer c s .verdict) (answer c s .table))) v (answer-table c (flipped s f) v)
-      ∙ ap₂ (λ (x : Verdict) (t : CpuidResults). not (sameAnswer Accepted (passedTable c (flipped s f)) x t)) w (answer-table c s w)
-      ∙ e
+  changes-passed f v w =
+      ap₂ (λ (x : Verdict) (t : CpuidResults). not (sameAnswer x t (answer c s .verdict) (answer c s .table))) v (table-passed c (flipped s f) v)
+      ∙ ap₂ (λ (x : Verdict) (t : CpuidResults). not (sameAnswer Accepted (passedTable c (flipped s f)) x t)) w (table-passed c s w)
 
   -- the first bit of the first entry is the first of all flips
   pub nearest-first : (e : Entry) (es : List Entry) → entries s ≡ e ∷ es → frontVerdict c s ≡ Accepted

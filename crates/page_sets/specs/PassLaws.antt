@@ -144,18 +144,12 @@ rows-passed avic s =
 -- ---- the answer
 
 module _ (c : Choices) (s : List ℕ) where
-  verdict-passed : verdictOf c s ≡ passedVerdict c s
-  unfolding verdictOf passedVerdict
+  pub verdict-passed : answer c s .verdict ≡ passedVerdict c s
+  unfolding answer verdictOf passedVerdict
   verdict-passed =
       ap₂ (λ (v : Verdict) (m : Rows). andThen (editionVerdict (c .edition)) (andThen v (rowsVerdict m)))
       (lawful-passed s) (rows-passed (c .«secure_avic») s)
 
-  -- an answer's verdict, by computing that of the pass
-  pub answer-verdict : {v : Verdict} → passedVerdict c s ≡ v → answer c s .verdict ≡ v
+  pub table-passed : answer c s .verdict ≡ Accepted → answer c s .table ≡ passedTable c s
   unfolding answer
-  answer-verdict e = verdict-passed ∙ e
-
-  -- the table of an accepted page set
-  pub answer-table : answer c s .verdict ≡ Accepted → answer c s .table ≡ passedTable c s
-  unfolding answer
-  answer-table e = ap₂ (tableFor (c .edition)) e (rows-passed (c .«secure_avic») s)
+  table-passed e = ap₂ (tableFor (c .edition)) e (rows-passed (c .«secure_avic») s)

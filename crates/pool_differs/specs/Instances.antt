@@ -11,7 +11,7 @@ use Rattle.table.specs.declared.Refusal.the-variants.{PagesLength}
 use Rattle.table.specs.declared.Verdict.the-variants.{Accepted}
 use Rattle.build.specs.Build.{answer}
 use Rattle.page_sets.specs.Pass.{passedTable}
-use Rattle.page_sets.specs.PassLaws.{answer-verdict, answer-table}
+use Rattle.page_sets.specs.PassLaws.{verdict-passed, table-passed}
 use Rattle.page_sets.specs.Evaluation.{first}
 use Rattle.page_sets.specs.PageSets.{serverA}
 use Rattle.pool_sets.specs.Sets.{setAt, lawfulSets}
@@ -117,7 +117,7 @@ of-another-order =
 
 w-accepted : answer first serverW .verdict ≡ Accepted
 unfolding poolOpened serverW
-w-accepted = answer-verdict first serverW refl
+w-accepted = verdict-passed first serverW
 
 w-within : (k : ℕ) → k ≤ 1 → beyondTest (passedTable first serverW) (passedTable first (setAt (serverA ++ serverW) two k)) ≡ true
 unfolding poolOpened serverA serverW
@@ -127,8 +127,8 @@ w-within (suc (suc k)) l = absurd (omega arith)
 
 w-within-each : (k : ℕ) → k ≤ 1 → NoneBeyond (answer first serverW .table) (serverTable first (serverA ++ serverW) two k)
 w-within-each k l =
-    subst₂ NoneBeyond (sym (answer-table first serverW w-accepted))
-    (sym (answer-table first (setAt (serverA ++ serverW) two k) (of-a-and-w .each k l)))
+    subst₂ NoneBeyond (sym (table-passed first serverW w-accepted))
+    (sym (table-passed first (setAt (serverA ++ serverW) two k) (of-a-and-w .each k l)))
     (none-beyond (passedTable first serverW) (passedTable first (setAt (serverA ++ serverW) two k)) (w-within k l))
 
 pub of-w-within : NoneBeyond (answer first serverW .table) (poolTable first (serverA ++ serverW) two)

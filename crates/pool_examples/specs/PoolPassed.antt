@@ -1,5 +1,5 @@
 -- A pool's verdict of servers whose pages are read in one pass.
-use mathlib.Core.Path.{_≡_, refl, ap, ap₂, _∙_, fun-ext}
+use mathlib.Core.Path.{_≡_, ap, ap₂, fun-ext}
 use mathlib.Core.List.{List}
 use Prim.Native.Nat.{ℕ}
 use lib.ListN.{length}
@@ -11,7 +11,7 @@ use Rattle.table.specs.Refusal.{andThen}
 use Rattle.table.specs.Rows.{Rows}
 use Rattle.checks.specs.Checks.{refuseUnless}
 use Rattle.page_sets.specs.Pass.{passedVerdict, passedFor}
-use Rattle.page_sets.specs.PassLaws.{rows-passed, answer-verdict}
+use Rattle.page_sets.specs.PassLaws.{rows-passed, verdict-passed}
 use Rattle.page_sets.specs.Evaluation.{passed}
 use Rattle.pool_join.specs.Join.{withServer, pool, allTo}
 use Rattle.pool_join.specs.Alike.{allHave, alikeTo, allAlike}
@@ -51,15 +51,15 @@ module _ (c : Choices) (pages lengths : List ℕ) where
   poolOpened = passedPool
 
   verdicts-passed : serverVerdict c pages lengths ≡ verdicts
-  verdicts-passed = fun-ext (λ k. answer-verdict c (setAt pages lengths k) refl)
+  verdicts-passed = fun-ext (λ k. verdict-passed c (setAt pages lengths k))
 
   rows-of-passed : serverRows c pages lengths ≡ rows
   rows-of-passed = fun-ext (λ k. rows-passed (c .«secure_avic») (setAt pages lengths k))
 
-  pub pooled-verdict : {v : Verdict} → passedPool ≡ v → pooled c pages lengths .verdict ≡ v
+  pub pool-passed : pooled c pages lengths .verdict ≡ passedPool
   unfolding pooled poolVerdict serversVerdict firstRefused alikeVerdict passedPool
-  pooled-verdict e = ap₂ (verdictBy c pages lengths) verdicts-passed rows-of-passed ∙ e
+  pool-passed = ap₂ (verdictBy c pages lengths) verdicts-passed rows-of-passed
 
-  pub pooled-server : {k : ℕ} → passedServer ≡ k → pooled c pages lengths .server ≡ k
+  pub server-passed : pooled c pages lengths .server ≡ passedServer
   unfolding pooled serverNamed firstRefused passedServer
-  pooled-server e = ap (serverBy pages lengths) verdicts-passed ∙ e
+  server-passed = ap (serverBy pages lengths) verdicts-passed

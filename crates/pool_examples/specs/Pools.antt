@@ -1,5 +1,5 @@
 -- Not empty words: pools of whole page sets, their answers by computation.
-use mathlib.Core.Path.{_≡_, refl}
+use mathlib.Core.Path.{_≡_}
 use mathlib.Core.List.{List, [], _∷_, _++_}
 use Prim.Native.Nat.{ℕ}
 use Rattle.table.specs.declared.Refusal.the-variants.{PagesLength, UnknownEdition, PoolSets}
@@ -8,7 +8,7 @@ use Rattle.build.specs.Build.{underEdition}
 use Rattle.page_sets.specs.Evaluation.{first}
 use Rattle.page_sets.specs.PageSets.{entry, page, firstPage, serverA}
 use Rattle.pool.specs.Pool.{pooled}
-use Rattle.pool_examples.specs.PoolPassed.{poolOpened, pooled-verdict, pooled-server}
+use Rattle.pool_examples.specs.PoolPassed.{poolOpened, pool-passed, server-passed}
 
 abbrev pub two : List ℕ
 two = 8192 ∷ 8192 ∷ []
@@ -20,27 +20,27 @@ serverW = firstPage 0x3ED83203 0x219C07A9 0x3F ++ page 2 (entry 0xD 0 0x3 0x340 
 -- accepted: two servers, the first with more features; its D.2 is not in the pool's table
 pub a-and-w : pooled first (serverA ++ serverW) two .verdict ≡ Accepted
 unfolding poolOpened serverA serverW
-a-and-w = pooled-verdict first (serverA ++ serverW) two refl
+a-and-w = pool-passed first (serverA ++ serverW) two
 
 -- 18, before 15: one set; lengths that only wrap to the slice's
 pub one-alone : pooled (underEdition 3) serverA (8192 ∷ []) .verdict ≡ Refused PoolSets
 unfolding poolOpened serverA
-one-alone = pooled-verdict (underEdition 3) serverA (8192 ∷ []) refl
+one-alone = pool-passed (underEdition 3) serverA (8192 ∷ [])
 
 pub wraps : pooled first (serverA ++ serverW) (0xFFFFFFFFFFFFFFFF ∷ 16385 ∷ []) .verdict ≡ Refused PoolSets
 unfolding poolOpened serverA serverW
-wraps = pooled-verdict first (serverA ++ serverW) (0xFFFFFFFFFFFFFFFF ∷ 16385 ∷ []) refl
+wraps = pool-passed first (serverA ++ serverW) (0xFFFFFFFFFFFFFFFF ∷ 16385 ∷ [])
 
 -- 15, before a server's own 1
 pub unknown : pooled (underEdition 3) serverA (8192 ∷ 0 ∷ []) .verdict ≡ Refused UnknownEdition
 unfolding poolOpened serverA
-unknown = pooled-verdict (underEdition 3) serverA (8192 ∷ 0 ∷ []) refl
+unknown = pool-passed (underEdition 3) serverA (8192 ∷ 0 ∷ [])
 
 -- a server's own refusal, with its number: the second set is of length 0
 pub own-refusal : pooled first serverA (8192 ∷ 0 ∷ []) .verdict ≡ Refused PagesLength
 unfolding poolOpened serverA
-own-refusal = pooled-verdict first serverA (8192 ∷ 0 ∷ []) refl
+own-refusal = pool-passed first serverA (8192 ∷ 0 ∷ [])
 
 pub own-server : pooled first serverA (8192 ∷ 0 ∷ []) .server ≡ 1
 unfolding poolOpened serverA
-own-server = pooled-server first serverA (8192 ∷ 0 ∷ []) refl
+own-server = server-passed first serverA (8192 ∷ 0 ∷ [])

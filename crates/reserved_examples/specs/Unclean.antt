@@ -17,7 +17,7 @@ use Rattle.rise.specs.RiseProof.{accepted-lawful}
 use Rattle.compare.specs.declared.Compared.the-variants.{UnlawfulB}
 use Rattle.compare.specs.Compare.{compared}
 use Rattle.compare.specs.ReturnLaws.{unlawful-b}
-use Rattle.page_sets.specs.PassLaws.{lawful-passed, answer-verdict}
+use Rattle.page_sets.specs.PassLaws.{lawful-passed, verdict-passed}
 use Rattle.page_sets.specs.Evaluation.{first, passed}
 use Rattle.page_sets.specs.PageSets.{word, page, requiredEntries, stateEntries, serverA}
 use Rattle.examples.specs.Computed.{serverA-accepted}
@@ -44,7 +44,7 @@ a-to-unclean = sym (unlawful-b first serverA (withUnclean 23) serverA-accepted u
 -- "Bytes after the count and unused entries aren't tested"
 pub unused-accepted : answer first (withUnclean 22) .verdict ≡ Accepted
 unfolding passed withUnclean
-unused-accepted = answer-verdict first (withUnclean 22) refl
+unused-accepted = verdict-passed first (withUnclean 22)
 
 -- before 3: no required leaf is there, and a Dh entry on page 0 does not count; the first of two is named
 unfoldable pub twoUnclean : List ℕ
@@ -52,12 +52,12 @@ twoUnclean = page 2 (unclean 0xD ++ unclean 0x40000000)
 
 pub two-refused : answer first twoUnclean .verdict ≡ Refused (ReservedBytes (function 0xD))
 unfolding passed twoUnclean
-two-refused = answer-verdict first twoUnclean refl
+two-refused = verdict-passed first twoUnclean
 
 -- after 2, of a later page
 pub later-count-refused : answer first (twoUnclean ++ page 65 []) .verdict ≡ Refused PageCount
 unfolding passed twoUnclean
-later-count-refused = answer-verdict first (twoUnclean ++ page 65 []) refl
+later-count-refused = verdict-passed first (twoUnclean ++ page 65 [])
 
 -- server A is clean, so the reader gives its entries with zeros there
 pub serverA-clean : allClean serverA ≡ true
