@@ -38,10 +38,6 @@ processor n x s on = record { x2apic = n; xcr0 = x; xss = s; osxsave = on }
 abbrev pub built : Choices → List ℕ → CpuidResults
 built chosen s = tableOf (finished (chosen .edition) (rowsFor chosen s)) (combinedMask (rowsFor chosen s))
 
--- the same, of entries that are read in one pass
-pub built-passed : (chosen : Choices) (s : List ℕ) → built chosen s ≡ passedTable chosen s
-built-passed chosen s = ap (λ (m : Rows). tableOf (finished (chosen .edition) m) (combinedMask m)) (rows-passed (chosen .«secure_avic») s)
-
 -- 1.EBX, 1.ECX, B.0.EDX, B.1.EDX, D.0.EBX, D.1.EBX
 abbrev pub figures : CpuidResults → List ℕ
 figures t =
@@ -52,6 +48,17 @@ figures t =
     ∷ rowIn t (Place.extendedState 0) .result .ebx
     ∷ rowIn t (Place.extendedState 1) .result .ebx
     ∷ []
+
+-- the same of entries that are read in one pass
+module _ (chosen : Choices) (s : List ℕ) where
+  pub built-passed : built chosen s ≡ passedTable chosen s
+  built-passed = ap (λ (m : Rows). tableOf (finished (chosen .edition) m) (combinedMask m)) (rows-passed (chosen .«secure_avic») s)
+
+  pub state-passed : (xcr0 xss : ℕ) → stateVerdict (rowsIn (built chosen s)) xcr0 xss ≡ stateVerdict (rowsIn (passedTable chosen s)) xcr0 xss
+  state-passed xcr0 xss = ap (λ (t : CpuidResults). stateVerdict (rowsIn t) xcr0 xss) built-passed
+
+  pub figures-passed : (v : Processor) → figures (guestTable (built chosen s) v) ≡ figures (guestTable (passedTable chosen s) v)
+  figures-passed v = ap (λ (t : CpuidResults). figures (guestTable t v)) built-passed
 
 module _ (chosen : Choices) (s : List ℕ) (v : Processor) (accepted : answer chosen s .verdict ≡ Accepted) where
   pub seen-verdict : {w : Verdict} → stateVerdict (rowsIn (built chosen s)) (v .xcr0) (v .xss) ≡ w → guestPages chosen s v .verdict ≡ w

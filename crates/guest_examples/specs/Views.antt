@@ -16,7 +16,7 @@ use Rattle.guest_pages.specs.GuestPagesLaws.{building-first}
 use Rattle.guest_rise.specs.GuestRise.{GuestOutcome}
 use Rattle.guest_rise.specs.GuestRiseProof.{guest-rise}
 use Rattle.page_sets.specs.Evaluation.{first}
-use Rattle.guest_examples.specs.Seen.{viewed, processor, built, built-passed, figures, seen-verdict, seen-figures}
+use Rattle.guest_examples.specs.Seen.{viewed, processor, built, figures, built-passed, state-passed, figures-passed, seen-verdict, seen-figures}
 
 -- ---- server A, all of its state, OSXSAVE on: bit 27 of 1.ECX is set
 
@@ -25,11 +25,11 @@ viewA = processor 0x12345 0x7 0 true
 
 stateA : stateVerdict (rowsIn (built first serverA)) 0x7 0 ≡ Accepted
 unfolding viewed serverA
-stateA = ap (λ (t : CpuidResults). stateVerdict (rowsIn t) 0x7 0) (built-passed first serverA)
+stateA = state-passed first serverA 0x7 0
 
 figuresA : figures (guestTable (built first serverA) viewA) ≡ 0x45010000 ∷ 0xBED83203 ∷ 0x12345 ∷ 0x12345 ∷ 832 ∷ 832 ∷ []
 unfolding viewed serverA
-figuresA = ap (λ (t : CpuidResults). figures (guestTable t viewA)) (built-passed first serverA)
+figuresA = figures-passed first serverA viewA
 
 pub a-given : guestPages first serverA viewA .verdict ≡ Accepted
 a-given = seen-verdict first serverA viewA serverA-accepted stateA
@@ -51,7 +51,7 @@ beyond =
 
 beyond-high : stateVerdict (rowsIn (built first serverA)) 0x100000007 0 ≡ Refused StateBeyondTable
 unfolding viewed serverA
-beyond-high = ap (λ (t : CpuidResults). stateVerdict (rowsIn t) 0x100000007 0) (built-passed first serverA)
+beyond-high = state-passed first serverA 0x100000007 0
 
 pub a-beyond : guestPages first serverA (processor 0 0x100000007 0 true) .verdict ≡ Refused StateBeyondTable
 a-beyond = seen-verdict first serverA (processor 0 0x100000007 0 true) serverA-accepted beyond-high
@@ -59,7 +59,7 @@ a-beyond = seen-verdict first serverA (processor 0 0x100000007 0 true) serverA-a
 -- bit 1 is not asked: XCR0 1 is given
 without-sse : stateVerdict (rowsIn (built first serverA)) 0x1 0 ≡ Accepted
 unfolding viewed serverA
-without-sse = ap (λ (t : CpuidResults). stateVerdict (rowsIn t) 0x1 0) (built-passed first serverA)
+without-sse = state-passed first serverA 0x1 0
 
 pub a-without-sse : guestPages first serverA (processor 0 0x1 0 false) .verdict ≡ Accepted
 a-without-sse = seen-verdict first serverA (processor 0 0x1 0 false) serverA-accepted without-sse
@@ -76,11 +76,11 @@ a-to-b = guest-rise first serverA serverB viewA serverB-rises serverB-accepted a
 
 stateB : stateVerdict (rowsIn (built first serverB)) 0xE7 0x1800 ≡ Accepted
 unfolding viewed serverB
-stateB = ap (λ (t : CpuidResults). stateVerdict (rowsIn t) 0xE7 0x1800) (built-passed first serverB)
+stateB = state-passed first serverB 0xE7 0x1800
 
 figuresB : figures (guestTable (built first serverB) (processor 1 0xE7 0x1800 true)) ≡ 0x01010000 ∷ 0xFEDA3203 ∷ 1 ∷ 1 ∷ 2432 ∷ 2472 ∷ []
 unfolding viewed serverB
-figuresB = ap (λ (t : CpuidResults). figures (guestTable t (processor 1 0xE7 0x1800 true))) (built-passed first serverB)
+figuresB = figures-passed first serverB (processor 1 0xE7 0x1800 true)
 
 pub b-figures : figures (guestPages first serverB (processor 1 0xE7 0x1800 true) .table) ≡ 0x01010000 ∷ 0xFEDA3203 ∷ 1 ∷ 1 ∷ 2432 ∷ 2472 ∷ []
 b-figures = seen-figures first serverB (processor 1 0xE7 0x1800 true) serverB-accepted stateB figuresB
