@@ -1,5 +1,5 @@
 -- Not empty words: page sets with entries added, byte by byte. Two keep an accepted answer, one a refusal by 8; the last, refused by 3, is let in.
-use mathlib.Core.Path.{_≡_, refl}
+use mathlib.Core.Path.{_≡_, ap}
 use mathlib.Core.List.{List, _++_}
 use Prim.Native.Nat.{ℕ}
 use lib.Dec.{lit≤}
@@ -8,13 +8,16 @@ use Rattle.x86defs.specs.Functions.{ExtendedStateEnumeration}
 use Rattle.topology.specs.declared.TopologyError.the-variants.{ThreadsPerUnit}
 use Rattle.table.specs.declared.Subleaf.the-variants.{Some}
 use Rattle.table.specs.declared.Refusal.the-variants.{MissingRequiredResult, TopologyInconsistent}
+use Rattle.table.specs.declared.Verdict.{Verdict}
 use Rattle.table.specs.declared.Verdict.the-variants.{Refused}
 use Rattle.build.specs.Build.{answer}
 use Rattle.added.specs.Added.{Added}
 use Rattle.added.specs.AddedProof.{added-same}
 use Rattle.added.specs.Decide.{figuresOf, figuresWanted, added-by-figures}
 use Rattle.page_sets.specs.PageSets.{entry, page, firstPage, serverA}
-use Rattle.page_sets.specs.Evaluation.{first, evaluated}
+use Rattle.page_sets.specs.Pass.{passedLawful}
+use Rattle.page_sets.specs.PassLaws.{lawful-passed, verdict-passed}
+use Rattle.page_sets.specs.Evaluation.{first, passed}
 use Rattle.examples.specs.Computed.{serverA-accepted}
 
 -- server A's page 0, and its D.0 and D.1, then D.2
@@ -27,6 +30,10 @@ states = entry 0xD 0 0x7 0x340 0x340 0 ++ entry 0xD 1 0x7 0x340 0 0
 abbrev avx : List ℕ
 avx = entry 0xD 2 0x100 0x240 0 0
 
+-- the figures of a page set whose bytes are read in one pass
+figures-passed : (s u : List ℕ) → figuresOf s u ≡ (passedLawful u, figuresOf s u .1, figuresOf s u .2)
+figures-passed s u = ap (λ (v : Verdict). (v, figuresOf s u .1, figuresOf s u .2)) (lawful-passed u)
+
 -- ---- entries added on the last page
 
 -- a second D.2, too large; D.9, whose bit is in neither mask; a leaf that is not kept
@@ -34,8 +41,8 @@ unfoldable pub withEntries : List ℕ
 withEntries = page0 ++ page 6 (states ++ avx ++ entry 0xD 2 0xFFFFFFFF 1 0 0 ++ entry 0xD 9 0x8 0x980 0 0 ++ entry 0x80000021 0 0x4D 0 0 0)
 
 entries-figures : figuresOf serverA withEntries ≡ figuresWanted serverA
-unfolding evaluated serverA withEntries
-entries-figures = refl
+unfolding passed serverA withEntries
+entries-figures = figures-passed serverA withEntries
 
 pub entries-added : Added serverA withEntries
 entries-added = added-by-figures serverA withEntries entries-figures
@@ -50,8 +57,8 @@ unfoldable pub withPage : List ℕ
 withPage = serverA ++ page 2 (entry 1 0 0xFFFFFFFF 0xFFFFFFFF 0xFFFFFFFF 0xFFFFFFFF ++ entry 0xD 11 0x10 0 1 0)
 
 page-figures : figuresOf serverA withPage ≡ figuresWanted serverA
-unfolding evaluated serverA withPage
-page-figures = refl
+unfolding passed serverA withPage
+page-figures = figures-passed serverA withPage
 
 pub page-added : Added serverA withPage
 page-added = added-by-figures serverA withPage page-figures
@@ -73,12 +80,12 @@ unfoldable pub oneThreadLater : List ℕ
 oneThreadLater = threaded ++ page 4 (states ++ avx ++ entry 0x8000001E 0 0 0 0 0)
 
 pub threads-refused : answer first twoThreads .verdict ≡ Refused (TopologyInconsistent ThreadsPerUnit)
-unfolding evaluated twoThreads
-threads-refused = refl
+unfolding passed twoThreads
+threads-refused = verdict-passed first twoThreads
 
 threads-figures : figuresOf twoThreads oneThreadLater ≡ figuresWanted twoThreads
-unfolding evaluated twoThreads oneThreadLater
-threads-figures = refl
+unfolding passed twoThreads oneThreadLater
+threads-figures = figures-passed twoThreads oneThreadLater
 
 pub threads-added : Added twoThreads oneThreadLater
 threads-added = added-by-figures twoThreads oneThreadLater threads-figures
@@ -93,12 +100,12 @@ unfoldable pub withoutD2 : List ℕ
 withoutD2 = page0 ++ page 2 states
 
 pub without-refused : answer first withoutD2 .verdict ≡ Refused (MissingRequiredResult ExtendedStateEnumeration (Some 2))
-unfolding evaluated withoutD2
-without-refused = refl
+unfolding passed withoutD2
+without-refused = verdict-passed first withoutD2
 
 without-figures : figuresOf withoutD2 serverA ≡ figuresWanted withoutD2
-unfolding evaluated withoutD2 serverA
-without-figures = refl
+unfolding passed withoutD2 serverA
+without-figures = figures-passed withoutD2 serverA
 
 -- server A is this with an entry added, and is accepted (`serverA-accepted`)
 pub without-added : Added withoutD2 serverA

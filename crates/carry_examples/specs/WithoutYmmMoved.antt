@@ -14,7 +14,7 @@ use Rattle.guest_state.specs.State.{stateVerdict}
 use Rattle.rise.specs.RiseProof.{answer-table}
 use Rattle.page_sets.specs.Evaluation.{first}
 use Rattle.edition_examples.specs.WithoutYmm.{withoutYmm, first-accepted, second-figures}
-use Rattle.guest_examples.specs.Seen.{computed, built}
+use Rattle.guest_examples.specs.Seen.{viewed, built, state-passed}
 use Rattle.table.specs.declared.Refusal.the-variants.{UnknownEdition, EditionBack}
 use Rattle.table.specs.declared.Verdict.the-variants.{Accepted, Refused}
 use Rattle.carry.specs.Carry.{carryVerdict, carry}
@@ -31,12 +31,12 @@ state xcr0 xss e =
     ∙ e
 
 in-use : stateVerdict (rowsIn (built first withoutYmm)) 3 0 ≡ Accepted
-unfolding computed withoutYmm
-in-use = refl
+unfolding viewed withoutYmm
+in-use = state-passed first withoutYmm 3 0
 
 beyond-xfem : stateVerdict (rowsIn (built first withoutYmm)) 7 0 ≡ Refused StateBeyondTable
-unfolding computed withoutYmm
-beyond-xfem = refl
+unfolding viewed withoutYmm
+beyond-xfem = state-passed first withoutYmm 7 0
 
 -- a guest with x87 and SSE state in use moves
 pub moved : carry running 1 2 3 0 .verdict ≡ Accepted

@@ -1,5 +1,5 @@
 -- Not empty words: a server without YMM state (XFEM 3) whose entries have F16C, XOP and FMA4, under both editions, by computation.
-use mathlib.Core.Path.{_≡_, refl}
+use mathlib.Core.Path.{_≡_, refl, ap, subst₂}
 use mathlib.Core.List.{List, [], _∷_, _++_}
 use Prim.Native.Nat.{ℕ}
 use native.Mathlib.Omega.{arith}
@@ -7,6 +7,7 @@ use lib.Dec.{lit<}
 use Rattle.bits.specs.Bits.{bit, Within}
 use Rattle.masking.specs.Place
 use Rattle.table.specs.declared.Choices.{Choices}
+use Rattle.table.specs.declared.CpuidResults.{CpuidResults}
 use Rattle.table.specs.declared.Refusal.the-variants.{UnknownEdition}
 use Rattle.table.specs.declared.Verdict.the-variants.{Accepted, Refused}
 use Rattle.table.specs.Edition.{knownEdition}
@@ -15,8 +16,9 @@ use Rattle.build.specs.Build.{editionVerdict, underEdition, verdictOf, answer}
 use Rattle.rise.specs.Rise.{RiseTo, TableRises}
 use Rattle.rise.specs.RiseProof.{second-to-first-rises}
 use Rattle.rise.specs.Same.{rises-itself}
-use Rattle.page_sets.specs.Evaluation.{first, evaluated}
-use Rattle.page_sets.specs.PageSets.{entry, page, requiredEntries, stateEntries}
+use Rattle.page_sets.specs.PassLaws.{verdict-passed, table-passed}
+use Rattle.page_sets.specs.Evaluation.{first, passed}
+use Rattle.page_sets.specs.PageSets.{entry, page, requiredEntries}
 
 abbrev pub second : Choices
 second = underEdition 2
@@ -28,27 +30,27 @@ withoutYmm =
     ++ page 2 (entry 0xD 0 0x3 0x340 0x340 0 ++ entry 0xD 1 0x7 0x340 0 0)
 
 pub first-accepted : answer first withoutYmm .verdict ≡ Accepted
-unfolding evaluated withoutYmm
-first-accepted = refl
+unfolding passed withoutYmm
+first-accepted = verdict-passed first withoutYmm
 
 pub second-accepted : answer second withoutYmm .verdict ≡ Accepted
-unfolding evaluated withoutYmm
-second-accepted = refl
+unfolding passed withoutYmm
+second-accepted = verdict-passed second withoutYmm
 
 -- 1.ECX and 80000001h.ECX
+abbrev ecxOf : CpuidResults → List ℕ
+ecxOf t = rowIn t Place.versionAndFeatures .result .ecx ∷ rowIn t Place.extendedVersionAndFeatures .result .ecx ∷ []
+
 abbrev pub figures : Choices → List ℕ
-figures chosen =
-    rowIn (answer chosen withoutYmm .table) Place.versionAndFeatures .result .ecx
-    ∷ rowIn (answer chosen withoutYmm .table) Place.extendedVersionAndFeatures .result .ecx
-    ∷ []
+figures chosen = ecxOf (answer chosen withoutYmm .table)
 
 pub first-figures : figures first ≡ 0xAED82203 ∷ 0x4109F3 ∷ []
-unfolding evaluated withoutYmm
-first-figures = refl
+unfolding passed withoutYmm
+first-figures = ap ecxOf (table-passed first withoutYmm first-accepted)
 
 pub second-figures : figures second ≡ 0x8ED82203 ∷ 0x4001F3 ∷ []
-unfolding evaluated withoutYmm
-second-figures = refl
+unfolding passed withoutYmm
+second-figures = ap ecxOf (table-passed second withoutYmm second-accepted)
 
 -- from edition 2 to edition 1 is a rise
 pub from-second : RiseTo second first withoutYmm withoutYmm
@@ -60,8 +62,10 @@ unfolding bit
 f16c-gone w = omega (arith, w .at 29)
 
 pub not-from-first : TableRises (answer first withoutYmm .table) (answer second withoutYmm .table) → ⊥
-unfolding evaluated withoutYmm
-not-from-first t = f16c-gone (t .registers Place.versionAndFeatures (lit< tt) refl .ecx)
+unfolding passed withoutYmm
+not-from-first t =
+    let u = subst₂ TableRises (table-passed first withoutYmm first-accepted) (table-passed second withoutYmm second-accepted) t in
+    f16c-gone (u .registers Place.versionAndFeatures (lit< tt) refl .ecx)
 
 -- there is no edition 3, also of no pages at all
 pub third-refused : answer (underEdition 3) [] .verdict ≡ Refused UnknownEdition

@@ -1,1 +1,2 @@
+pub mod RisePassed
 pub mod Computed

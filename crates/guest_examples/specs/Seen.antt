@@ -9,13 +9,15 @@ use Rattle.table.specs.declared.Choices.{Choices}
 use Rattle.table.specs.declared.CpuidResults.{CpuidResults}
 use Rattle.table.specs.declared.Verdict.{Verdict}
 use Rattle.table.specs.declared.Verdict.the-variants.{Accepted}
+use Rattle.table.specs.Rows.{Rows}
 use Rattle.table.specs.Table.{tableOf, rowIn, rowsIn}
 use Rattle.checks.specs.ExtendedState.{combinedMask}
 use Rattle.features.specs.Finish.{finished}
-use Rattle.build.specs.declared.Built.{Built}
 use Rattle.build.specs.Build.{rowsFor, answer}
 use Rattle.rise.specs.RiseProof.{answer-table}
-use Rattle.page_sets.specs.Evaluation.{evaluated}
+use Rattle.page_sets.specs.Pass.{passedVerdict, passedTable}
+use Rattle.page_sets.specs.PassLaws.{rows-passed}
+use Rattle.page_sets.specs.Evaluation.{passed}
 use Rattle.guest_state.specs.Compact.{startOf, placed, compactBelow}
 use Rattle.guest_state.specs.State.{saveRegister, compacts, compactRegister, allowed, allowedVerdict, compactVerdict, stateVerdict}
 use Rattle.guest.specs.declared.Processor.{Processor}
@@ -24,9 +26,10 @@ use Rattle.guest_pages.specs.GuestPages.{guestPages}
 use Rattle.guest_pages.specs.GuestPagesLaws.{guest-verdict, given-guest}
 
 -- with every definition open
-unfoldable pub computed : Choices → List ℕ → Built
-unfolding evaluated stateVerdict allowedVerdict compactVerdict allowed compactRegister compacts saveRegister compactBelow placed startOf numberSeen osxsaveSeen clear
-computed chosen s = answer chosen s
+unfoldable pub viewed : Choices → List ℕ → Verdict
+unfolding passed stateVerdict allowedVerdict compactVerdict allowed compactRegister compacts saveRegister compactBelow placed startOf numberSeen
+    osxsaveSeen clear
+viewed chosen s = passedVerdict chosen s
 
 abbrev pub processor : ℕ → ℕ → ℕ → Bool → Processor
 processor n x s on = record { x2apic = n; xcr0 = x; xss = s; osxsave = on }
@@ -45,6 +48,17 @@ figures t =
     ∷ rowIn t (Place.extendedState 0) .result .ebx
     ∷ rowIn t (Place.extendedState 1) .result .ebx
     ∷ []
+
+-- the same of entries that are read in one pass
+module _ (chosen : Choices) (s : List ℕ) where
+  pub built-passed : built chosen s ≡ passedTable chosen s
+  built-passed = ap (λ (m : Rows). tableOf (finished (chosen .edition) m) (combinedMask m)) (rows-passed (chosen .«secure_avic») s)
+
+  pub state-passed : (xcr0 xss : ℕ) → stateVerdict (rowsIn (built chosen s)) xcr0 xss ≡ stateVerdict (rowsIn (passedTable chosen s)) xcr0 xss
+  state-passed xcr0 xss = ap (λ (t : CpuidResults). stateVerdict (rowsIn t) xcr0 xss) built-passed
+
+  pub figures-passed : (v : Processor) → figures (guestTable (built chosen s) v) ≡ figures (guestTable (passedTable chosen s) v)
+  figures-passed v = ap (λ (t : CpuidResults). figures (guestTable t v)) built-passed
 
 module _ (chosen : Choices) (s : List ℕ) (v : Processor) (accepted : answer chosen s .verdict ≡ Accepted) where
   pub seen-verdict : {w : Verdict} → stateVerdict (rowsIn (built chosen s)) (v .xcr0) (v .xss) ≡ w → guestPages chosen s v .verdict ≡ w

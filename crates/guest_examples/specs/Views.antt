@@ -1,7 +1,8 @@
 -- Not empty words: a view for each answer, and a pair of servers whose guests' tables rise, all by computation.
-use mathlib.Core.Path.{_≡_, refl}
+use mathlib.Core.Path.{_≡_, ap}
 use mathlib.Core.Bool.{true, false}
 use mathlib.Core.List.{[], _∷_}
+use Rattle.table.specs.declared.CpuidResults.{CpuidResults}
 use Rattle.table.specs.declared.Refusal.the-variants.{SaveAreaOverflow, StateBeyondTable}
 use Rattle.table.specs.declared.Verdict.the-variants.{Accepted, Refused}
 use Rattle.table.specs.Table.{rowsIn}
@@ -15,7 +16,7 @@ use Rattle.guest_pages.specs.GuestPagesLaws.{building-first}
 use Rattle.guest_rise.specs.GuestRise.{GuestOutcome}
 use Rattle.guest_rise.specs.GuestRiseProof.{guest-rise}
 use Rattle.page_sets.specs.Evaluation.{first}
-use Rattle.guest_examples.specs.Seen.{computed, processor, built, figures, seen-verdict, seen-figures}
+use Rattle.guest_examples.specs.Seen.{viewed, processor, built, figures, built-passed, state-passed, figures-passed, seen-verdict, seen-figures}
 
 -- ---- server A, all of its state, OSXSAVE on: bit 27 of 1.ECX is set
 
@@ -23,12 +24,12 @@ abbrev pub viewA : Processor
 viewA = processor 0x12345 0x7 0 true
 
 stateA : stateVerdict (rowsIn (built first serverA)) 0x7 0 ≡ Accepted
-unfolding computed serverA
-stateA = refl
+unfolding viewed serverA
+stateA = state-passed first serverA 0x7 0
 
 figuresA : figures (guestTable (built first serverA) viewA) ≡ 0x45010000 ∷ 0xBED83203 ∷ 0x12345 ∷ 0x12345 ∷ 832 ∷ 832 ∷ []
-unfolding computed serverA
-figuresA = refl
+unfolding viewed serverA
+figuresA = figures-passed first serverA viewA
 
 pub a-given : guestPages first serverA viewA .verdict ≡ Accepted
 a-given = seen-verdict first serverA viewA serverA-accepted stateA
@@ -43,20 +44,22 @@ beyond : stateVerdict (rowsIn (built first serverA)) 0x6 0
     ∷ stateVerdict (rowsIn (built first serverA)) 0x7 0x800
     ∷ []
     ≡ Refused StateBeyondTable ∷ Refused StateBeyondTable ∷ Refused StateBeyondTable ∷ []
-unfolding computed serverA
-beyond = refl
+unfolding viewed serverA
+beyond =
+    ap (λ (t : CpuidResults). stateVerdict (rowsIn t) 0x6 0 ∷ stateVerdict (rowsIn t) 0xE7 0 ∷ stateVerdict (rowsIn t) 0x7 0x800 ∷ [])
+    (built-passed first serverA)
 
 beyond-high : stateVerdict (rowsIn (built first serverA)) 0x100000007 0 ≡ Refused StateBeyondTable
-unfolding computed serverA
-beyond-high = refl
+unfolding viewed serverA
+beyond-high = state-passed first serverA 0x100000007 0
 
 pub a-beyond : guestPages first serverA (processor 0 0x100000007 0 true) .verdict ≡ Refused StateBeyondTable
 a-beyond = seen-verdict first serverA (processor 0 0x100000007 0 true) serverA-accepted beyond-high
 
 -- bit 1 is not asked: XCR0 1 is given
 without-sse : stateVerdict (rowsIn (built first serverA)) 0x1 0 ≡ Accepted
-unfolding computed serverA
-without-sse = refl
+unfolding viewed serverA
+without-sse = state-passed first serverA 0x1 0
 
 pub a-without-sse : guestPages first serverA (processor 0 0x1 0 false) .verdict ≡ Accepted
 a-without-sse = seen-verdict first serverA (processor 0 0x1 0 false) serverA-accepted without-sse
@@ -72,12 +75,12 @@ pub a-to-b : GuestOutcome (guestPages first serverA viewA .table) (guestPages fi
 a-to-b = guest-rise first serverA serverB viewA serverB-rises serverB-accepted a-given
 
 stateB : stateVerdict (rowsIn (built first serverB)) 0xE7 0x1800 ≡ Accepted
-unfolding computed serverB
-stateB = refl
+unfolding viewed serverB
+stateB = state-passed first serverB 0xE7 0x1800
 
 figuresB : figures (guestTable (built first serverB) (processor 1 0xE7 0x1800 true)) ≡ 0x01010000 ∷ 0xFEDA3203 ∷ 1 ∷ 1 ∷ 2432 ∷ 2472 ∷ []
-unfolding computed serverB
-figuresB = refl
+unfolding viewed serverB
+figuresB = figures-passed first serverB (processor 1 0xE7 0x1800 true)
 
 pub b-figures : figures (guestPages first serverB (processor 1 0xE7 0x1800 true) .table) ≡ 0x01010000 ∷ 0xFEDA3203 ∷ 1 ∷ 1 ∷ 2432 ∷ 2472 ∷ []
 b-figures = seen-figures first serverB (processor 1 0xE7 0x1800 true) serverB-accepted stateB figuresB

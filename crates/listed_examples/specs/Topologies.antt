@@ -15,6 +15,7 @@ use Rattle.table.specs.declared.Refusal.the-variants.{TopologyInconsistent}
 use Rattle.table.specs.declared.Verdict.the-variants.{Accepted, Refused}
 use Rattle.table.specs.Rows.{Row}
 use Rattle.table.specs.Table.{rowIn}
+use Rattle.checks.specs.TopologyInputs.{inputsOf}
 use Rattle.build.specs.Build.{answer}
 use Rattle.topologies.specs.Topologies.{accepts, acceptedInputs}
 use Rattle.listed.specs.Listed.{In}
@@ -22,7 +23,9 @@ use Rattle.listed.specs.ListedProof.{determined}
 use Rattle.listed.specs.Builds.{inputsFor}
 use Rattle.listed.specs.BuildsProof.{builds-listed}
 use Rattle.page_sets.specs.PageSets.{entry, page, requiredEntries, stateEntries}
-use Rattle.page_sets.specs.Evaluation.{first, evaluated}
+use Rattle.page_sets.specs.Pass.{passedFor}
+use Rattle.page_sets.specs.PassLaws.{rows-passed, verdict-passed}
+use Rattle.page_sets.specs.Evaluation.{first, passed}
 
 -- server A with entries of leaves 1, 80000008h and 8000001Eh before all others, in which the five inputs stand
 abbrev withInputs : Inputs → List ℕ
@@ -33,6 +36,10 @@ withInputs i =
     ++ entry 0x8000001E 0 0 (i .t * 2 ^ 8) 0 0
     ++ requiredEntries 0x3ED83203 0x219C07A9 0x3F)
     ++ page 3 (stateEntries 0x7 0x7 0)
+
+-- the inputs, of entries that are read in one pass
+inputs-passed : (s : List ℕ) → inputsFor first s ≡ inputsOf (passedFor first s)
+inputs-passed s = ap inputsOf (rows-passed false s)
 
 -- B.0 and B.1
 abbrev pub levelsOf : List ℕ → List CpuidResult
@@ -61,12 +68,12 @@ unfoldable pub threeProcessors : List ℕ
 threeProcessors = withInputs three
 
 pub three-inputs : inputsFor first threeProcessors ≡ three
-unfolding evaluated threeProcessors
-three-inputs = refl
+unfolding passed threeProcessors
+three-inputs = inputs-passed threeProcessors
 
 pub three-accepted : answer first threeProcessors .verdict ≡ Accepted
-unfolding evaluated threeProcessors
-three-accepted = refl
+unfolding passed threeProcessors
+three-accepted = verdict-passed first threeProcessors
 
 pub three-listed : In three acceptedInputs
 three-listed = listed threeProcessors three three-inputs (lit< tt) three-accepted
@@ -84,12 +91,12 @@ unfoldable pub largestServer : List ℕ
 largestServer = withInputs largest
 
 pub largest-inputs : inputsFor first largestServer ≡ largest
-unfolding evaluated largestServer
-largest-inputs = refl
+unfolding passed largestServer
+largest-inputs = inputs-passed largestServer
 
 pub largest-accepted : answer first largestServer .verdict ≡ Accepted
-unfolding evaluated largestServer
-largest-accepted = refl
+unfolding passed largestServer
+largest-accepted = verdict-passed first largestServer
 
 pub largest-listed : In largest acceptedInputs
 largest-listed = listed largestServer largest largest-inputs (lit< tt) largest-accepted
@@ -107,12 +114,12 @@ unfoldable pub wrappedServer : List ℕ
 wrappedServer = withInputs wrapped
 
 pub wrapped-inputs : inputsFor first wrappedServer ≡ wrapped
-unfolding evaluated wrappedServer
-wrapped-inputs = refl
+unfolding passed wrappedServer
+wrapped-inputs = inputs-passed wrappedServer
 
 pub wrapped-refused : answer first wrappedServer .verdict ≡ Refused (TopologyInconsistent (ProcessorCount 0))
-unfolding evaluated wrappedServer
-wrapped-refused = refl
+unfolding passed wrappedServer
+wrapped-refused = verdict-passed first wrappedServer
 
 wrapped-rejected : accepts wrapped ≡ false
 unfolding accepts topologyOf

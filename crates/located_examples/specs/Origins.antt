@@ -1,15 +1,15 @@
 -- Where rows came from, of a page set written byte by byte: page 0 begins with a D.0 that does not count there and ends with a second leaf 1; page 1 has
 -- the subleaves of leaf Dh.
 use mathlib.Core.Path.{_≡_, refl, ap, _∙_}
-use mathlib.Core.Bool.{Bool, true, false}
+use mathlib.Core.Bool.{true, false}
 use mathlib.Core.List.{List, _++_}
 use Prim.Native.Nat.{ℕ, _<_}
 use lib.Dec.{lit<}
+use Rattle.bits.specs.Lists.{keepIf}
 use Rattle.bits.specs.ChoiceLaws.{pick-true, pick-false}
 use Rattle.pages.specs.Entries.{counted}
 use Rattle.masking.specs.Kept.{places}
 use Rattle.masking.specs.Place
-use Rattle.table.specs.declared.Choices.{Choices}
 use Rattle.table.specs.declared.Verdict.the-variants.{Accepted}
 use Rattle.table.specs.Rows.{Row}
 use Rattle.origins.specs.Origin.{Origin, isMadeHere, originOf}
@@ -22,7 +22,8 @@ use Rattle.rise.specs.RiseProof.{answer-row}
 use Rattle.rise.specs.BuiltLaws.{always-finished}
 use Rattle.located.specs.LocatedProof.{rows-have-origins}
 use Rattle.page_sets.specs.PageSets.{entry as entryBytes, page, requiredEntries, stateEntries}
-use Rattle.page_sets.specs.Evaluation.{first, evaluated}
+use Rattle.page_sets.specs.PassLaws.{counted-passed, verdict-passed}
+use Rattle.page_sets.specs.Evaluation.{first, passed}
 
 -- the two bits that D.0 would bring on page 0, and the registers of the second leaf 1, are nobody's
 unfoldable pub repeated : List ℕ
@@ -31,8 +32,8 @@ repeated =
     ++ page 3 (stateEntries 0x7 0x7 0)
 
 pub repeated-accepted : answer first repeated .verdict ≡ Accepted
-unfolding evaluated repeated
-repeated-accepted = refl
+unfolding passed repeated
+repeated-accepted = verdict-passed first repeated
 
 -- a required row that is not made here has the origin of where the first entry of its place stands
 required-origin : (i : ℕ) → i < places → always (ruleAt i) ≡ true → isMadeHere i ≡ false → {o : Origin} → standsAt i (counted repeated) ≡ o
@@ -44,8 +45,8 @@ required-origin i l a h e =
     ∙ e
 
 stands-1 : standsAt Place.versionAndFeatures (counted repeated) ≡ entry 0 1
-unfolding evaluated repeated
-stands-1 = refl
+unfolding passed standsAt keepIf repeated
+stands-1 = ap (standsAt Place.versionAndFeatures) (counted-passed repeated)
 
 -- leaf 1 is of the first of two entries: not of the last, at position 23
 pub first-leaf-1 : originAt first repeated Place.versionAndFeatures ≡ entry 0 1
@@ -53,8 +54,8 @@ unfolding isMadeHere
 first-leaf-1 = required-origin Place.versionAndFeatures (lit< tt) refl refl stands-1
 
 stands-d0 : standsAt (Place.extendedState 0) (counted repeated) ≡ entry 1 0
-unfolding evaluated repeated
-stands-d0 = refl
+unfolding passed standsAt keepIf repeated
+stands-d0 = ap (standsAt (Place.extendedState 0)) (counted-passed repeated)
 
 -- D.0 is of the first entry of page 1, counted from that page's beginning: not of page 0's first
 pub d0-on-page-1 : originAt first repeated (Place.extendedState 0) ≡ entry 1 0
@@ -63,5 +64,8 @@ d0-on-page-1 = required-origin (Place.extendedState 0) (lit< tt) refl refl stand
 
 -- B.0 is made here, although the page set has an entry for it
 pub b0-made-here : (standsAt Place.threadLevel (counted repeated) ≡ entry 0 4) × (originAt first repeated Place.threadLevel ≡ madeHere)
-unfolding evaluated repeated isMadeHere
-b0-made-here = (refl, rows-have-origins first repeated repeated-accepted Place.threadLevel (lit< tt) .made .1 refl)
+unfolding passed standsAt keepIf repeated isMadeHere
+b0-made-here = (
+  ap (standsAt Place.threadLevel) (counted-passed repeated),
+  rows-have-origins first repeated repeated-accepted Place.threadLevel (lit< tt) .made .1 refl,
+)

@@ -13,10 +13,10 @@ use Rattle.masking.specs.Place
 use Rattle.table.specs.declared.Verdict.{Verdict}
 use Rattle.table.specs.declared.Verdict.the-variants.{Accepted, Refused}
 use Rattle.table.specs.Refusal.{details, topologyDetails}
-use Rattle.table.specs.Rows.{Row, Rows, row, vacant}
+use Rattle.table.specs.Rows.{Rows, row, vacant}
 use Rattle.checks.specs.Checks.{areaVerdict}
 use Rattle.features.specs.Finish.{finished}
-use Rattle.page_sets.specs.Evaluation.{evaluated}
+use Rattle.page_sets.specs.Evaluation.{opened}
 
 -- what a marked row tells
 pub data Shown : Type 0 where
@@ -99,5 +99,5 @@ pub marked-rows : marked
     ∷ area 0xFFFFFFFF
     ∷ supervisor 0 false
     ∷ []
-unfolding marked evaluated
+unfolding marked opened
 marked-rows = refl

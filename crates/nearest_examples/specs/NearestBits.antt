@@ -6,10 +6,10 @@ use mathlib.Core.Logic.{_≢_}
 use Prim.Native.Nat.{ℕ, _<_}
 use native.Mathlib.Omega.{arith}
 use lib.Dec.{lit<}
-use lib.ListN.{replicate}
+use lib.ListN.{replicate, drop}
 use Rattle.bits.specs.ChoiceLaws.{never-both}
 use Rattle.x86defs.specs.Functions.{function, result, ExtendedStateEnumeration}
-use Rattle.pages.specs.Layout.{Entry, entryAt, pagesIn}
+use Rattle.pages.specs.Layout.{Entry, entryAt, firstEntry, pagesIn}
 use Rattle.pages.specs.Entries.{entries}
 use Rattle.masking.specs.Masks.{applyMask}
 use Rattle.masking.specs.Kept.{masksAt}
@@ -23,7 +23,7 @@ use Rattle.checks.specs.Checks.{requiredVerdict}
 use Rattle.collect.specs.Collect.{storedAt}
 use Rattle.build.specs.Build.{underEdition, editionVerdict, rowsFor, answer}
 use Rattle.lawful.specs.Lawful.{lawfulVerdict}
-use Rattle.flips.specs.Flips.{flip, flipped, flipsOf, flipsIn, flips}
+use Rattle.flips.specs.Flips.{flip, flipped, flips}
 use Rattle.flips.specs.OneBit.{bitIn, oneBit}
 use Rattle.flip_rows.specs.Same.{sameResult, sameRows, sameTable, sameNumbers, sameAnswer}
 use Rattle.flip_rows.specs.Changes.{changes}
@@ -36,8 +36,11 @@ use Rattle.nearest_ends.specs.Ends.{some-decides}
 use Rattle.nearest_ends.specs.WithoutInvlpgb.{InvlpgbNearest, refused-by-4}
 use Rattle.nearest_ends.specs.OutsideLaws.{Among, FirstAt}
 use Rattle.page_sets.specs.PageSets.{word, entry, page, requiredEntries, firstPage, stateEntries, serverA}
-use Rattle.page_sets.specs.Evaluation.{first, evaluated}
+use Rattle.page_sets.specs.Pass.{entryIn, onPagesIn}
+use Rattle.page_sets.specs.PassLaws.{entries-passed, lawful-passed, rows-passed, verdict-passed}
+use Rattle.page_sets.specs.Evaluation.{first, evaluated, passed}
 use Rattle.nearest_examples.specs.AreBytes.{areBytes, bytes-at}
+use Rattle.nearest_examples.specs.NearestPassed.{changes-passed, nearest-first}
 
 -- 15, before 1
 pub no-edition : nearest (underEdition 3) [] ≡ NoBit UnknownEdition
@@ -58,9 +61,23 @@ unfolding evaluated nearest
 unclean-entry = refl
 
 -- an accepted set: bit 0 of 1.EAX, its first entry's first bit, is in the table
+serverA-flipped : answer first (flipped serverA (flip 0 0 0 0)) .verdict ≡ Accepted
+unfolding passed serverA flipped
+serverA-flipped = verdict-passed first (flipped serverA (flip 0 0 0 0))
+
+serverA-changes : changes first serverA (flip 0 0 0 0) ≡ true
+unfolding passed serverA flipped sameAnswer sameNumbers sameTable sameRows sameResult
+serverA-changes = changes-passed first serverA (flip 0 0 0 0) serverA-flipped (verdict-passed first serverA)
+
+serverA-entries : entries serverA ≡ entryIn 0 0 (drop firstEntry serverA) ∷ drop 1 (onPagesIn 0 2 serverA)
+unfolding passed serverA
+serverA-entries = entries-passed serverA
+
 pub serverA-nearest : nearest first serverA ≡ Bit (flip 0 0 0 0)
-unfolding evaluated serverA nearest firstThat changes flips flipsIn flipsOf flipped sameAnswer sameNumbers sameTable sameRows sameResult
-serverA-nearest = refl
+unfolding passed serverA
+serverA-nearest =
+    nearest-first first serverA (entryIn 0 0 (drop firstEntry serverA)) (drop 1 (onPagesIn 0 2 serverA)) serverA-entries (lawful-passed serverA)
+    serverA-changes
 
 -- a set whose only entry is of leaf 5: leaf 1 is missing, and none of its 128 flips changes that
 unfoldable pub onlyLeaf5 : List ℕ
@@ -82,16 +99,16 @@ unfoldable pub withoutD2 : List ℕ
 withoutD2 = firstPage 0x3ED83203 0x219C07A9 0x3F ++ page 2 (entry 0xD 0 0x7 0x340 0x340 0 ++ entry 0xD 1 0x7 0x340 0 0)
 
 pub withoutD2-refused : answer first withoutD2 .verdict ≡ Refused (MissingRequiredResult ExtendedStateEnumeration (Some 2))
-unfolding evaluated withoutD2
-withoutD2-refused = refl
+unfolding passed withoutD2
+withoutD2-refused = verdict-passed first withoutD2
 
 withoutD2-lawful : lawfulVerdict withoutD2 ≡ Accepted
-unfolding evaluated withoutD2
-withoutD2-lawful = refl
+unfolding passed withoutD2
+withoutD2-lawful = lawful-passed withoutD2
 
 withoutD2-required : requiredVerdict (rowsFor first withoutD2) ≡ Accepted
-unfolding evaluated withoutD2
-withoutD2-required = refl
+unfolding passed withoutD2
+withoutD2-required = ap requiredVerdict (rows-passed false withoutD2)
 
 withoutD2-bytes : areBytes withoutD2 ≡ true
 unfolding withoutD2 areBytes
@@ -109,8 +126,8 @@ noInvlpgb =
     page 23 (entry 0x80000008 0 0x3030 0x111ED217 0 0x10007 ++ requiredEntries 0x3ED83203 0x219C07A9 0x3F) ++ page 3 (stateEntries 0x7 0x7 0)
 
 pub noInvlpgb-refused : answer first noInvlpgb .verdict ≡ Refused InvlpgbUnavailable
-unfolding evaluated noInvlpgb
-noInvlpgb-refused = refl
+unfolding passed noInvlpgb
+noInvlpgb-refused = verdict-passed first noInvlpgb
 
 noInvlpgb-bytes : areBytes noInvlpgb ≡ true
 unfolding noInvlpgb areBytes
@@ -126,8 +143,8 @@ unfoldable pub leaf1Twice : List ℕ
 leaf1Twice = page 2 (entry 1 0 0xA00F11 0x10000 0x3ED83203 0x178BFBFF ++ entry 1 0 0xA00F12 0x10000 0x3ED83203 0x178BFBFF)
 
 leaf1Twice-lawful : lawfulVerdict leaf1Twice ≡ Accepted
-unfolding evaluated leaf1Twice
-leaf1Twice-lawful = refl
+unfolding passed leaf1Twice
+leaf1Twice-lawful = lawful-passed leaf1Twice
 
 leaf1Twice-bytes : areBytes leaf1Twice ≡ true
 unfolding leaf1Twice areBytes

@@ -1,4 +1,5 @@
--- The answer with every definition open: a theorem that unfolds `evaluated` computes with page bytes.
+-- The answer with every definition open: a theorem that unfolds `evaluated` computes with page bytes as the definitions read them, and one that
+-- unfolds `passed` with the same bytes read in one pass, which takes a twentieth of the time (PassLaws.antt has what that says of the answer).
 use mathlib.Core.List.{List}
 use Prim.Native.Nat.{ℕ}
 use Rattle.bits.specs.Lists.{tabulate, keepIf, sumTo}
@@ -19,7 +20,9 @@ use Rattle.update.specs.Kinds.{registerKinds, kindsAt}
 use Rattle.features.specs.Finish.{finished, settings, enabledBy, ymmClears, edition1, edition2, versionEcx, featuresEbx, featuresEcx, featuresEdx, extendedVersionEcx, extendedVersionEdx, addressSizesEbx, unlessNoXss, avx512FeaturesEbx, avx512FeaturesEcx, avx512FeaturesEdx, cetSs, rdPid, rdtscp, ibrsAndStibp, btcNo, hypervisorPresent}
 use Rattle.checks.specs.Checks.{requiredVerdict, invlpgbVerdict, componentsOf, componentsVerdict, areaVerdict, topologyVerdict, rowsVerdict}
 use Rattle.table.specs.declared.Choices.{Choices}
+use Rattle.table.specs.declared.Verdict.{Verdict}
 use Rattle.table.specs.Edition.{knownEdition}
+use Rattle.table.specs.Rows.{Rows}
 use Rattle.table.specs.Table.{countRows}
 use Rattle.build.specs.declared.Built.{Built}
 use Rattle.origins.specs.Origin.{isMadeHere, originOf}
@@ -27,18 +30,29 @@ use Rattle.collect.specs.FirstEntries.{firstAt, legacyFeatures, rowsOf}
 use Rattle.locate.specs.Stands.{standsAt}
 use Rattle.build.specs.Build.{editionVerdict, underEdition, verdictOf, originsIn, answer}
 use Rattle.lawful.specs.Lawful.{lengthVerdict, countsVerdict, reservedVerdict, lawfulVerdict}
+use Rattle.page_sets.specs.Pass.{onPageIn, onPagesIn, uncleanOnPage, uncleanIn, passedLawful, placedEntry, placed, firstPlaced, passedEntries, passedRows, passedVerdict}
 
 -- what the examples choose: secure AVIC off, edition 1
 abbrev pub first : Choices
 first = underEdition 1
 
-unfoldable pub evaluated : Choices → List ℕ → Built
-unfolding answer originsIn isMadeHere originOf standsAt verdictOf editionVerdict knownEdition lawfulVerdict lengthVerdict countsVerdict reservedVerdict badLength countsFit reservedOf firstNonzero eightZeros
-    rowsVerdict requiredVerdict invlpgbVerdict componentsOf componentsVerdict areaVerdict topologyVerdict lowest placeRequired requiredAt commonRequiredLeaves snpRequiredLeaves rowsOf firstAt counted
-    keepIf entries onPages onPage entryAt counts placeOf keptLeaves slot versionAndFeatures extendedFeatures extendedState0 extendedState1
+-- what is done with entries once they are read
+unfoldable pub opened : Rows → Verdict
+unfolding rowsVerdict requiredVerdict invlpgbVerdict componentsOf componentsVerdict areaVerdict topologyVerdict lowest placeRequired requiredAt
+    commonRequiredLeaves snpRequiredLeaves counts placeOf keptLeaves slot versionAndFeatures extendedFeatures extendedState0 extendedState1
     extendedVersionAndFeatures extendedAddressSpaceSizes extendedSvm extendedOptimization extendedSev secureAvicMask fieldsMask fieldMask maskOf
     legacyFeatures xfem xss combinedMask areaBelow sizeOf has bit field inputsOf topologyOf threadsIn tabulate sumTo countRows finished settings
     enabledBy ymmClears edition1 edition2 leastPower shiftOf clear clearUnless versionEcx featuresEbx featuresEcx featuresEdx extendedVersionEcx
     extendedVersionEdx addressSizesEbx unlessNoXss avx512FeaturesEbx avx512FeaturesEcx avx512FeaturesEdx cetSs rdPid rdtscp ibrsAndStibp btcNo
     hypervisorPresent AmdMaximum ExtendedAmdMaximum registerKinds kindsAt
+opened m = rowsVerdict m
+
+unfoldable pub evaluated : Choices → List ℕ → Built
+unfolding opened answer originsIn isMadeHere originOf standsAt verdictOf editionVerdict knownEdition lawfulVerdict lengthVerdict countsVerdict
+    reservedVerdict badLength countsFit reservedOf firstNonzero eightZeros rowsOf firstAt counted keepIf entries onPages onPage entryAt
 evaluated chosen s = answer chosen s
+
+unfoldable pub passed : Choices → List ℕ → Verdict
+unfolding opened passedVerdict editionVerdict knownEdition passedLawful lengthVerdict badLength uncleanIn uncleanOnPage eightZeros passedRows
+    passedEntries firstPlaced placed placedEntry onPagesIn onPageIn
+passed chosen s = passedVerdict chosen s

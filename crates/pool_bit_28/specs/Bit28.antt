@@ -1,5 +1,5 @@
 -- Not empty words: two servers that differ in bit 28 of 1.EDX alone, by computation.
-use mathlib.Core.Path.{_≡_, refl}
+use mathlib.Core.Path.{_≡_}
 use mathlib.Core.List.{List, _++_}
 use Prim.Native.Nat.{ℕ}
 use Rattle.table.specs.declared.Refusal.the-variants.{PoolDiffers}
@@ -7,7 +7,8 @@ use Rattle.table.specs.declared.Verdict.the-variants.{Refused}
 use Rattle.page_sets.specs.Evaluation.{first}
 use Rattle.page_sets.specs.PageSets.{entry, page, requiredEntries, serverA}
 use Rattle.pool.specs.Pool.{pooled}
-use Rattle.pool_examples.specs.Pools.{two, pooledOpen}
+use Rattle.pool_examples.specs.PoolPassed.{poolOpened, pool-passed}
+use Rattle.pool_examples.specs.Pools.{two}
 
 -- A without bit 28 of 1.EDX in its first entry of leaf 1
 unfoldable pub serverM : List ℕ
@@ -17,5 +18,5 @@ serverM =
 
 -- 19: bit 28 of 1.EDX, which is no feature
 pub a-and-m : pooled first (serverA ++ serverM) two .verdict ≡ Refused PoolDiffers
-unfolding pooledOpen serverM
-a-and-m = refl
+unfolding poolOpened serverA serverM
+a-and-m = pool-passed first (serverA ++ serverM) two

@@ -1,5 +1,5 @@
 -- Not empty words: pools whose servers differ, by computation. 19 is decided over the rows that all tables have, so a further server may lift it.
-use mathlib.Core.Path.{_≡_, refl}
+use mathlib.Core.Path.{_≡_}
 use mathlib.Core.List.{List, [], _∷_, _++_}
 use Prim.Native.Nat.{ℕ}
 use Rattle.table.specs.declared.Refusal.the-variants.{PoolDiffers}
@@ -7,7 +7,8 @@ use Rattle.table.specs.declared.Verdict.the-variants.{Accepted, Refused}
 use Rattle.page_sets.specs.Evaluation.{first}
 use Rattle.page_sets.specs.PageSets.{entry, page, firstPage, serverA}
 use Rattle.pool.specs.Pool.{pooled}
-use Rattle.pool_examples.specs.Pools.{two, serverW, pooledOpen}
+use Rattle.pool_examples.specs.PoolPassed.{poolOpened, pool-passed}
+use Rattle.pool_examples.specs.Pools.{two, serverW}
 
 abbrev pub three : List ℕ
 three = 8192 ∷ 8192 ∷ 8192 ∷ []
@@ -20,11 +21,11 @@ serverD =
 
 -- 19: another size of D.2, which both tables have
 pub a-and-d : pooled first (serverA ++ serverD) two .verdict ≡ Refused PoolDiffers
-unfolding pooledOpen serverD
-a-and-d = refl
+unfolding poolOpened serverA serverD
+a-and-d = pool-passed first (serverA ++ serverD) two
 
 -- accepted with a third server, whose table has no D.2: one server more gives rows to a refused pool that had none, so document 02's "Joining one
 -- server more .. never adds a feature bit or a row" holds only where both pools are accepted
 pub a-and-d-and-w : pooled first (serverA ++ serverD ++ serverW) three .verdict ≡ Accepted
-unfolding pooledOpen serverD
-a-and-d-and-w = refl
+unfolding poolOpened serverA serverD serverW
+a-and-d-and-w = pool-passed first (serverA ++ serverD ++ serverW) three

@@ -1,21 +1,29 @@
 -- What holds of pools, of pools that meet its hypothesis.
-use mathlib.Core.Path.{_≡_, refl, sym, ap, _∙_}
+use mathlib.Core.Path.{_≡_, refl, sym, ap, _∙_, subst₂}
 use mathlib.Core.Bool.{Bool, true, false}
 use mathlib.Core.List.{List, [], _∷_, _++_}
-use Prim.Native.Nat.{ℕ, _≤_}
+use Prim.Native.Nat.{ℕ, zero, suc, _-_, _≤_}
 use native.Mathlib.Omega.{arith}
 use lib.Dec.{eqb, lit≤}
 use borrow.Author.Tests.{eqb-true, eqb-false}
 use Rattle.bits.specs.Choice.{pick}
 use Rattle.table.specs.declared.Refusal.the-variants.{PagesLength}
+use Rattle.table.specs.declared.Verdict.the-variants.{Accepted}
+use Rattle.build.specs.Build.{answer}
+use Rattle.page_sets.specs.Pass.{passedTable}
+use Rattle.page_sets.specs.PassLaws.{verdict-passed, table-passed}
 use Rattle.page_sets.specs.Evaluation.{first}
 use Rattle.page_sets.specs.PageSets.{serverA}
-use Rattle.pool_sets.specs.Sets.{setAt}
-use Rattle.pooled.specs.PoolRight.{poolTable, PoolRight, SetsAmong, NothingMore}
-use Rattle.pooled.specs.PoolProof.{pool-right, one-more}
+use Rattle.pool_sets.specs.Sets.{setAt, lawfulSets}
+use Rattle.pool.specs.Pool.{pooled}
+use Rattle.pooled.specs.PoolRight.{serverTable, poolTable, PoolRight, NoneBeyond, SetsAmong, NothingMore}
+use Rattle.pooled.specs.PoolProof.{pool-right, greatest, one-more}
+use Rattle.pooled.specs.OrderProof.{order-free}
 use Rattle.pooled.specs.PoolExactly.{DifferFault, ServerFault}
 use Rattle.pooled.specs.ExactlyProof.{pool-exactly}
-use Rattle.pool_examples.specs.Pools.{two, serverW, pooledOpen, a-and-w, own-refusal, own-server}
+use Rattle.pool_examples.specs.PoolPassed.{poolOpened}
+use Rattle.pool_examples.specs.Pools.{two, serverW, a-and-w, own-refusal, own-server}
+use Rattle.pool_differs.specs.Beyond.{beyondTest, none-beyond}
 use Rattle.pool_differs.specs.Differ.{three, serverD, a-and-d, a-and-d-and-w}
 
 -- A and W: the and of the two, rising to each
@@ -28,11 +36,11 @@ of-a-and-d = pool-exactly first (serverA ++ serverD) two .differs .0 a-and-d .2
 
 -- A and W, then A, D and W: nothing is added
 first-same : setAt (serverA ++ serverD ++ serverW) three 0 ≡ setAt (serverA ++ serverW) two 0
-unfolding pooledOpen serverD
+unfolding poolOpened serverA serverD serverW
 first-same = refl
 
 second-same : setAt (serverA ++ serverD ++ serverW) three 2 ≡ setAt (serverA ++ serverW) two 1
-unfolding pooledOpen serverD
+unfolding poolOpened serverA serverD serverW
 second-same = refl
 
 abbrev stands : ℕ → ℕ
@@ -64,3 +72,64 @@ of-own = pool-exactly first serverA (8192 ∷ 0 ∷ []) .server PagesLength (λ 
   where
     impossible : {A : Type 0} → _≡_ {A = ℕ} 0 1 → A
     impossible e = absurd (omega arith)
+
+-- ---- the order beyond the first: A, D and W, and A, W and D
+
+-- what stands at k in one order, in the other
+abbrev swapped : ℕ → ℕ
+swapped zero = 0
+swapped (suc k) = 2 - k
+
+swapped-below : (k : ℕ) → k ≤ 2 → swapped k ≤ 2
+swapped-below zero l = lit≤ tt
+swapped-below (suc k) l = omega arith
+
+module _ (pages again : List ℕ) (first-set : setAt again three 0 ≡ setAt pages three 0) (second-set : setAt again three 2 ≡ setAt pages three 1)
+    (third-set : setAt again three 1 ≡ setAt pages three 2) where
+  swapped-same : (k : ℕ) → k ≤ 2 → setAt again three (swapped k) ≡ setAt pages three k
+  swapped-same zero l = first-set
+  swapped-same (suc zero) l = second-set
+  swapped-same (suc (suc zero)) l = third-set
+  swapped-same (suc (suc (suc k))) l = absurd (omega arith)
+
+  swapped-among : SetsAmong pages three again three
+  swapped-among = record { place = λ k l. swapped k; below = swapped-below; same = swapped-same }
+
+same-sets : (setAt (serverA ++ serverW ++ serverD) three 0 ≡ setAt (serverA ++ serverD ++ serverW) three 0)
+    × (setAt (serverA ++ serverW ++ serverD) three 2 ≡ setAt (serverA ++ serverD ++ serverW) three 1)
+    × (setAt (serverA ++ serverW ++ serverD) three 1 ≡ setAt (serverA ++ serverD ++ serverW) three 2)
+unfolding poolOpened serverA serverD serverW
+same-sets = (refl, refl, refl)
+
+both-lawful : (lawfulSets (serverA ++ serverD ++ serverW) three ≡ true) × (lawfulSets (serverA ++ serverW ++ serverD) three ≡ true)
+unfolding poolOpened serverA serverD serverW
+both-lawful = (refl, refl)
+
+pub of-another-order : pooled first (serverA ++ serverD ++ serverW) three ≡ pooled first (serverA ++ serverW ++ serverD) three
+of-another-order =
+    let (a, d, w) = same-sets in
+    order-free first (serverA ++ serverD ++ serverW) three (serverA ++ serverW ++ serverD) three (both-lawful .0) (both-lawful .1) (sym a)
+    (swapped-among (serverA ++ serverD ++ serverW) (serverA ++ serverW ++ serverD) a d w)
+    (swapped-among (serverA ++ serverW ++ serverD) (serverA ++ serverD ++ serverW) (sym a) (sym w) (sym d))
+    (λ k l. pool-right first (serverA ++ serverD ++ serverW) three a-and-d-and-w .each k (omega arith))
+
+-- ---- W's table has none beyond A's nor its own, and so none beyond the pool's of both
+
+w-accepted : answer first serverW .verdict ≡ Accepted
+unfolding poolOpened serverW
+w-accepted = verdict-passed first serverW
+
+w-within : (k : ℕ) → k ≤ 1 → beyondTest (passedTable first serverW) (passedTable first (setAt (serverA ++ serverW) two k)) ≡ true
+unfolding poolOpened serverA serverW
+w-within zero l = refl
+w-within (suc zero) l = refl
+w-within (suc (suc k)) l = absurd (omega arith)
+
+w-within-each : (k : ℕ) → k ≤ 1 → NoneBeyond (answer first serverW .table) (serverTable first (serverA ++ serverW) two k)
+w-within-each k l =
+    subst₂ NoneBeyond (sym (table-passed first serverW w-accepted))
+    (sym (table-passed first (setAt (serverA ++ serverW) two k) (of-a-and-w .each k l)))
+    (none-beyond (passedTable first serverW) (passedTable first (setAt (serverA ++ serverW) two k)) (w-within k l))
+
+pub of-w-within : NoneBeyond (answer first serverW .table) (poolTable first (serverA ++ serverW) two)
+of-w-within = greatest first (serverA ++ serverW) two a-and-w (answer first serverW .table) w-within-each

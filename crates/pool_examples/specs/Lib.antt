@@ -1,1 +1,2 @@
+pub mod PoolPassed
 pub mod Pools

@@ -18,7 +18,8 @@ use Rattle.rise.specs.RiseProof.{accepted-lawful}
 use Rattle.compare.specs.declared.Compared.the-variants.{UnlawfulB}
 use Rattle.compare.specs.Compare.{compared}
 use Rattle.compare.specs.ReturnLaws.{unlawful-b}
-use Rattle.page_sets.specs.Evaluation.{first, evaluated}
+use Rattle.page_sets.specs.PassLaws.{lawful-passed, verdict-passed}
+use Rattle.page_sets.specs.Evaluation.{first, passed}
 use Rattle.page_sets.specs.PageSets.{word, page, requiredEntries, stateEntries, serverA}
 use Rattle.examples.specs.Computed.{serverA-accepted}
 
@@ -31,8 +32,8 @@ unfoldable pub withUnclean : ℕ → List ℕ
 withUnclean count = page count (requiredEntries 0x3ED83203 0x219C07A9 0x3F ++ unclean 0x40000000) ++ page 3 (stateEntries 0x7 0x7 0)
 
 unlawful : lawfulVerdict (withUnclean 23) ≡ Refused (ReservedBytes (function 0x40000000))
-unfolding evaluated withUnclean
-unlawful = refl
+unfolding passed withUnclean
+unlawful = lawful-passed (withUnclean 23)
 
 pub filtered-refused : answer first (withUnclean 23) .verdict ≡ Refused (ReservedBytes (function 0x40000000))
 unfolding knownEdition
@@ -43,21 +44,21 @@ a-to-unclean = sym (unlawful-b first serverA (withUnclean 23) serverA-accepted u
 
 -- "Bytes after the count and unused entries aren't tested"
 pub unused-accepted : answer first (withUnclean 22) .verdict ≡ Accepted
-unfolding evaluated withUnclean
-unused-accepted = refl
+unfolding passed withUnclean
+unused-accepted = verdict-passed first (withUnclean 22)
 
 -- before 3: no required leaf is there, and a Dh entry on page 0 does not count; the first of two is named
 unfoldable pub twoUnclean : List ℕ
 twoUnclean = page 2 (unclean 0xD ++ unclean 0x40000000)
 
 pub two-refused : answer first twoUnclean .verdict ≡ Refused (ReservedBytes (function 0xD))
-unfolding evaluated twoUnclean
-two-refused = refl
+unfolding passed twoUnclean
+two-refused = verdict-passed first twoUnclean
 
 -- after 2, of a later page
 pub later-count-refused : answer first (twoUnclean ++ page 65 []) .verdict ≡ Refused PageCount
-unfolding evaluated twoUnclean
-later-count-refused = refl
+unfolding passed twoUnclean
+later-count-refused = verdict-passed first (twoUnclean ++ page 65 [])
 
 -- server A is clean, so the reader gives its entries with zeros there
 pub serverA-clean : allClean serverA ≡ true

@@ -136,7 +136,7 @@ use Rattle.marked_examples.specs.MarkedRows.{marked, marked-rows}
 use Rattle.marked_examples.specs.MarkedRows.Shown.{core, refusal, area, supervisor}
 use Rattle.pool.specs.Pool.{pooled}
 use Rattle.pool_write.specs.WritePool.{writePool}
-use Rattle.pooled.specs.PoolRight.{poolTable, PoolRight, Greatest, OneMore, OrderFree, NothingMore}
+use Rattle.pooled.specs.PoolRight.{poolTable, PoolRight, NoneBeyond, Greatest, OneMore, OrderFree, NothingMore}
 use Rattle.pooled.specs.PoolProof.{pool-right, greatest, one-more}
 use Rattle.pooled.specs.OrderProof.{order-free}
 use Rattle.pooled.specs.PoolExactly.{PoolExactly, ServerFault, DifferFault}
@@ -763,8 +763,8 @@ pub each-pool-write-exactly : (chosen : Choices) (pages lengths buffer : List �
 each-pool-write-exactly = pool-writes-exactly
 
 -- Not empty words: a pool of two; 18 for one set and for lengths that only wrap; 15; the second server's own 1; 19 for bit 28 of 1.EDX and for D.2, and
--- accepted with a third server that has no D.2, so that one server more gave rows to a pool that was refused. crates/pool_examples, pool_differs and
--- pool_bit_28
+-- accepted with a third server that has no D.2, so that one server more gave rows to a pool that was refused; a table within both servers'; another
+-- order. crates/pool_examples, pool_differs and pool_bit_28
 pub pool-of-a-and-w : PoolRight first (serverA ++ Pools.serverW) Pools.two
 pool-of-a-and-w = PoolInstances.of-a-and-w
 
@@ -792,5 +792,13 @@ a-third-server-lifts-it = Differ.a-and-d-and-w
 pub a-server-more-adds-nothing :
     NothingMore (poolTable first (serverA ++ Pools.serverW) Pools.two) (poolTable first (serverA ++ Differ.serverD ++ Pools.serverW) Differ.three)
 a-server-more-adds-nothing = PoolInstances.of-one-more
+
+-- W's table lies within A's and its own; A, D and W pool as A, W and D do
+pub w-has-none-beyond-the-pool : NoneBeyond (answer first Pools.serverW .table) (poolTable first (serverA ++ Pools.serverW) Pools.two)
+w-has-none-beyond-the-pool = PoolInstances.of-w-within
+
+pub d-and-w-change-places :
+    pooled first (serverA ++ Differ.serverD ++ Pools.serverW) Differ.three ≡ pooled first (serverA ++ Pools.serverW ++ Differ.serverD) Differ.three
+d-and-w-change-places = PoolInstances.of-another-order
 
 -- ---- P13: the nearest bit that matters. NearestBit.antt.
