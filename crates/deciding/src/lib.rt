@@ -1,6 +1,5 @@
 // The bits of one first entry. Collected rows, what building answers to them and an entry's registers come in; the first of the 128 bits whose flip
 // changes that answer goes out.
-use rows_built::RowsBuilt;
 use flip_rows::same_answer;
 use flip_rows::same_result;
 use flip_rows::same_verdict;
@@ -9,6 +8,7 @@ use flips::flip_bit;
 use masks::KeptLeaf;
 use quiet::is_quiet;
 use quiet::is_refused;
+use rows_built::RowsBuilt;
 use table::CpuidResults;
 use x86defs::CpuidResult;
 ghost use mathlib.Core.Path.{_≡_};

@@ -1,3 +1,4 @@
 pub mod CompactSizes
 pub mod Seen
 pub mod Views
+pub mod Exception

@@ -1,12 +1,12 @@
 // One table for a pool of servers. Their page sets, end to end beside a list of lengths, come in; one table that any of them can keep goes out,
 // or one refusal and, where it is a server's own, which server it is.
-use rows_built::build_rows;
 use masking::PLACES;
 use origins::finish_origins;
 use pool_rows::all_alike;
 use pool_server::server_rows;
 use pool_sets::join_rest;
 use pool_sets::sets_fit;
+use rows_built::build_rows;
 use table::Choices;
 use table::CpuidResults;
 use table::Refusal;

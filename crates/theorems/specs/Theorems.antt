@@ -75,7 +75,7 @@ use Rattle.guest_rise.specs.SeenRises as Seen
 use Rattle.guest_examples.specs.CompactSizes.{sizes, sizes-are}
 use Rattle.guest_examples.specs.Seen.{processor, figures}
 use Rattle.guest_examples.specs.Views as Views
-use Rattle.guest_exception.specs.Exception as Exception
+use Rattle.guest_examples.specs.Exception as Exception
 use Rattle.table.specs.Refusal.{details}
 use Rattle.buffer.specs.declared.Written.the-variants.{Bytes, Refused as NotWritten}
 use Rattle.line_bytes.specs.declared.LineDetails.{LineDetails}
@@ -143,9 +143,9 @@ use Rattle.pooled.specs.PoolExactly.{PoolExactly, ServerFault, DifferFault}
 use Rattle.pooled.specs.ExactlyProof.{pool-exactly}
 use Rattle.pooled.specs.PoolWrites.{pool-writes-exactly}
 use Rattle.pool_examples.specs.Pools
-use Rattle.pool_differs.specs.Differ
-use Rattle.pool_differs.specs.Instances as PoolInstances
-use Rattle.pool_bit_28.specs.Bit28
+use Rattle.pool_examples.specs.Differ
+use Rattle.pool_examples.specs.Instances as PoolInstances
+use Rattle.pool_examples.specs.Bit28
 
 -- ---- Demand 1. crates/refusals/specs/Conditions.antt has each condition by itself, Exactly.antt the two records.
 
@@ -357,7 +357,7 @@ pub guest-of-b : figures (guestPages first serverB (processor 1 0xE7 0x1800 true
 guest-of-b = Views.b-figures
 
 -- the exception: a server with neither bit, where D.1.EBX is 0 and D.0.EBX the largest size, and one with bit 1, which refuses by 14.
--- crates/guest_exception/specs/Exception.antt
+-- crates/guest_examples/specs/Exception.antt
 pub exception-rises : RiseHypothesis first Exception.plain Exception.compacting
 exception-rises = Exception.plain-to-compacting
 
@@ -764,7 +764,7 @@ each-pool-write-exactly = pool-writes-exactly
 
 -- Not empty words: a pool of two; 18 for one set and for lengths that only wrap; 15; the second server's own 1; 19 for bit 28 of 1.EDX and for D.2, and
 -- accepted with a third server that has no D.2, so that one server more gave rows to a pool that was refused; a table within both servers'; another
--- order. crates/pool_examples, pool_differs and pool_bit_28
+-- order. crates/pool_examples
 pub pool-of-a-and-w : PoolRight first (serverA ++ Pools.serverW) Pools.two
 pool-of-a-and-w = PoolInstances.of-a-and-w
 

@@ -21,10 +21,10 @@ use Rattle.pooled.specs.PoolProof.{pool-right, greatest, one-more}
 use Rattle.pooled.specs.OrderProof.{order-free}
 use Rattle.pooled.specs.PoolExactly.{DifferFault, ServerFault}
 use Rattle.pooled.specs.ExactlyProof.{pool-exactly}
 use Rattle.pool_examples.specs.PoolPassed.{poolOpened}
 use Rattle.pool_examples.specs.Pools.{two, serverW, a-and-w, own-refusal, own-server}
-use Rattle.pool_differs.specs.Beyond.{beyondTest, none-beyond}
-use Rattle.pool_differs.specs.Differ.{three, serverD, a-and-d, a-and-d-and-w}
+use Rattle.pool_examples.specs.Beyond.{beyondTest, none-beyond}
+use Rattle.pool_examples.specs.Differ.{three, serverD, a-and-d, a-and-d-and-w}
 
 -- A and W: the and of the two, rising to each
 pub of-a-and-w : PoolRight first (serverA ++ serverW) two

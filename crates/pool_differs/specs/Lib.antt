@@ -1,3 +1,0 @@
-pub mod Differ
-pub mod Beyond
-pub mod Instances
