@@ -22,7 +22,7 @@ def command(kind, a=0, b=0, secure_avic=False, has_subleaf=False, enforce=False,
 
 
 def word(number):
-    return f'{number:08x}'
+    return f'{number:016x}'
 
 
 def refusal_words(answer):
@@ -34,9 +34,9 @@ def refusal_words(answer):
 
 
 def place_words(place):
-    """A page, of 64 bits, and the entry's position on it; zeros where there is none."""
+    """A page and the entry's position on it; zeros where there is none."""
     page, entry = place or (0, 0)
-    return [f'{page:016x}', word(entry)]
+    return [word(page), word(entry)]
 
 
 def origin_words(origin):
@@ -53,7 +53,7 @@ def summed(kind, answer):
 def build(name, data, secure_avic=False, edition=1):
     answer = model.build(data, secure_avic, edition)
     rows, mask = (len(answer[1]), answer[2]) if answer[0] == 'table' else (0, 0)
-    words = ['b', *refusal_words(answer), f'{rows:016x}', f'{mask:016x}']
+    words = ['b', *refusal_words(answer), word(rows), word(mask)]
     asked = command('b', secure_avic=secure_avic, edition=edition)
     return Vector(name, data, asked, summed('build', answer), ' '.join(words))
 
@@ -79,6 +79,6 @@ def first_entry(name, data, leaf, subleaf=0):
 def write(name, data, room, secure_avic=False, edition=1):
     answer, lent = model.write(data, secure_avic, bytes([FILL]) * room, edition)
     length = answer[1] if answer[0] == 'written' else 0
-    words = ['w', *refusal_words(answer), f'{length:016x}', lent.hex()]
+    words = ['w', *refusal_words(answer), word(length), lent.hex()]
     asked = command('w', room, secure_avic=secure_avic, edition=edition)
     return Vector(f'{name}, {room} bytes lent', data, asked, summed('write', answer), ' '.join(words))

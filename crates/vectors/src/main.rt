@@ -1,6 +1,6 @@
 // Runs test vectors: commands come in on standard input, and a line of text goes out for each build, lookup, first entry and write.
 //
-// A command is 16 bytes: its kind, three flags (0 or 1: secure AVIC, a subleaf is given, the subleaf is enforced), and the
+// A command is 16 bytes: its kind, three flags (1 for yes: secure AVIC, a subleaf is given, the subleaf is enforced), and the
 // numbers a, b and edition of 4 bytes, the lowest first. The page set is all zeros at the start and changes by commands alone.
 //   n  the page set has a bytes from now on
 //   d  b bytes follow, which go into the page set at a
@@ -17,8 +17,6 @@ use libc::STDIN_FILENO;
 use libc::STDOUT_FILENO;
 
 const LONGEST_SET: usize = 65537;
-
-const LONGEST_LINE: usize = 2200;
 
 const LONGEST_LENT: usize = 1024;
 
@@ -42,16 +40,15 @@ enum Step {
 
 fn main() {
     let mut set = [0u8; LONGEST_SET];
-    let mut line = [0u8; LONGEST_LINE];
-    run(&mut set, &mut line);
+    run(&mut set);
 }
 
 // A proved loop has to end, and nothing says that the input does: the loop counts its turns down, from a number that no run uses up.
-fn run(set: &mut [u8], line: &mut [u8]) {
+fn run(set: &mut [u8]) {
     let mut length: usize = 0;
     let mut turns = u32::MAX;
     while turns > 0 {
-        let Step::Next(n) = next_command(set, length, line) else {
+        let Step::Next(n) = next_command(set, length) else {
             return;
         };
         length = n;
@@ -59,44 +56,34 @@ fn run(set: &mut [u8], line: &mut [u8]) {
     }
 }
 
-// Reads a command and does it.
-fn next_command(set: &mut [u8], length: usize, line: &mut [u8]) -> Step {
+// Reads a command and does it. The input ends between two commands, else it is malformed.
+fn next_command(set: &mut [u8], length: usize) -> Step {
     let mut head = [0u8; COMMAND_SIZE];
     let got = io::read_full(STDIN_FILENO, &mut head);
+    if got == COMMAND_SIZE {
+        return execute(parse(&head), set, length);
+    }
     if got == 0 {
         return Step::End;
     }
-    execute(parse(&head[..got]), set, length, line)
+    bad_vector()
 }
 
-// The command of 16 bytes; for fewer, or a flag above 1, one of a kind that there is not.
-fn parse(head: &[u8]) -> Command {
-    if head.len() == COMMAND_SIZE {
-        if head[1] < 2 && head[2] < 2 && head[3] < 2 {
-            return Command {
-                kind: head[0],
-                secure_avic: head[1] == 1,
-                has_subleaf: head[2] == 1,
-                enforce_subleaf: head[3] == 1,
-                a: pages::word_at(head, 4),
-                b: pages::word_at(head, 8),
-                edition: pages::word_at(head, 12),
-            };
-        }
-    }
+// The command of 16 bytes.
+fn parse(head: &[u8; COMMAND_SIZE]) -> Command {
     Command {
-        kind: 0,
-        secure_avic: false,
-        has_subleaf: false,
-        enforce_subleaf: false,
-        a: 0,
-        b: 0,
-        edition: 0,
+        kind: head[0],
+        secure_avic: head[1] == 1,
+        has_subleaf: head[2] == 1,
+        enforce_subleaf: head[3] == 1,
+        a: pages::word_at(head, 4),
+        b: pages::word_at(head, 8),
+        edition: pages::word_at(head, 12),
     }
 }
 
 // Changes the page set, or asks the library. The length is looked at where it is used.
-fn execute(command: Command, set: &mut [u8], length: usize, line: &mut [u8]) -> Step {
+fn execute(command: Command, set: &mut [u8], length: usize) -> Step {
     let kind = command.kind;
     if kind == b'n' {
         return Step::Next(command.a as usize);
@@ -107,7 +94,7 @@ fn execute(command: Command, set: &mut [u8], length: usize, line: &mut [u8]) -> 
     if length > set.len() {
         return bad_vector();
     }
-    if answer(command, front(set, length), line) {
+    if answer(command, front(set, length)) {
         return Step::Next(length);
     }
     bad_vector()
@@ -135,18 +122,15 @@ fn patch(set: &mut [u8], from: usize, count: usize, length: usize) -> Step {
 }
 
 // Calls the library and prints its answer; false where the command makes no sense.
-fn answer(command: Command, set: &[u8], line: &mut [u8]) -> bool {
+fn answer(command: Command, set: &[u8]) -> bool {
     let kind = command.kind;
     let avic = command.secure_avic;
     let edition = command.edition;
     match kind {
-        b'b' => print_built(snp_cpuid::snp_cpuid_build(set, avic, edition), line),
-        b'l' => print_found(look_up(command, set), line),
-        b'f' => print_first(
-            snp_cpuid::snp_cpuid_first_entry(set, command.a, command.b),
-            line,
-        ),
-        b'w' => write(set, avic, edition, command.a as usize, line),
+        b'b' => print_built(snp_cpuid::snp_cpuid_build(set, avic, edition)),
+        b'l' => print_found(look_up(command, set)),
+        b'f' => print_first(snp_cpuid::snp_cpuid_first_entry(set, command.a, command.b)),
+        b'w' => write(set, avic, edition, command.a as usize),
         _ => false,
     }
 }
@@ -165,86 +149,116 @@ fn look_up(command: Command, set: &[u8]) -> SnpCpuidFound {
 }
 
 // Lends `room` bytes, all A5h, to the writer.
-fn write(set: &[u8], avic: bool, edition: u32, room: usize, line: &mut [u8]) -> bool {
+fn write(set: &[u8], avic: bool, edition: u32, room: usize) -> bool {
     let mut lent = [0xA5u8; LONGEST_LENT];
     if room > LONGEST_LENT {
         return false;
     }
-    write_into(set, avic, edition, &mut lent[..room], line)
+    write_into(set, avic, edition, &mut lent[..room])
 }
 
 // Writes, and prints what the lent bytes are afterwards.
-fn write_into(set: &[u8], avic: bool, edition: u32, lent: &mut [u8], line: &mut [u8]) -> bool {
+fn write_into(set: &[u8], avic: bool, edition: u32, lent: &mut [u8]) -> bool {
     let written = snp_cpuid::snp_cpuid_write_image(set, avic, edition, lent);
-    print_written(written, lent, line)
+    print_written(written, lent)
 }
 
 // b number leaf has_subleaf subleaf s rows mask
-fn print_built(built: SnpCpuidBuilt, line: &mut [u8]) -> bool {
-    let start = put(line, 0, b'b');
-    let mut at = put_refusal(
-        line,
-        start,
-        built.number,
-        built.leaf,
-        built.has_subleaf,
-        built.subleaf,
-        built.s,
-    );
-    at = put_long(line, at, built.row_count);
-    at = put_long(line, at, built.max_extended_state);
-    print(line, at)
+fn print_built(built: SnpCpuidBuilt) -> bool {
+    print(b'b')
+        & print_refusal(
+            built.number,
+            built.leaf,
+            built.has_subleaf,
+            built.subleaf,
+            built.s,
+        )
+        & print_number(built.row_count)
+        & print_number(built.max_extended_state)
+        & print(b'\n')
 }
 
 // l found EAX EBX ECX EDX origin page entry
-fn print_found(found: SnpCpuidFound, line: &mut [u8]) -> bool {
-    let mut at = put(line, 0, b'l');
-    at = put_word(line, at, found.found);
-    at = put_registers(line, at, found.eax, found.ebx, found.ecx, found.edx);
-    at = put_word(line, at, found.origin);
-    at = put_place(line, at, found.page, found.entry);
-    print(line, at)
+fn print_found(found: SnpCpuidFound) -> bool {
+    print(b'l')
+        & print_number(found.found as u64)
+        & print_number(found.eax as u64)
+        & print_number(found.ebx as u64)
+        & print_number(found.ecx as u64)
+        & print_number(found.edx as u64)
+        & print_number(found.origin as u64)
+        & print_number(found.page)
+        & print_number(found.entry as u64)
+        & print(b'\n')
 }
 
 // f number leaf has_subleaf subleaf s found page entry
-fn print_first(first: SnpCpuidFirst, line: &mut [u8]) -> bool {
-    let start = put(line, 0, b'f');
-    let mut at = put_refusal(
-        line,
-        start,
-        first.number,
-        first.leaf,
-        first.has_subleaf,
-        first.subleaf,
-        first.s,
-    );
-    at = put_word(line, at, first.found);
-    at = put_place(line, at, first.page, first.entry);
-    print(line, at)
+fn print_first(first: SnpCpuidFirst) -> bool {
+    print(b'f')
+        & print_refusal(
+            first.number,
+            first.leaf,
+            first.has_subleaf,
+            first.subleaf,
+            first.s,
+        )
+        & print_number(first.found as u64)
+        & print_number(first.page)
+        & print_number(first.entry as u64)
+        & print(b'\n')
 }
 
 // w number leaf has_subleaf subleaf s length, and every byte of the lent buffer
-fn print_written(written: SnpCpuidWritten, lent: &[u8], line: &mut [u8]) -> bool {
-    let start = put(line, 0, b'w');
-    let mut at = put_refusal(
-        line,
-        start,
-        written.number,
-        written.leaf,
-        written.has_subleaf,
-        written.subleaf,
-        written.s,
-    );
-    at = put_long(line, at, written.length);
-    at = put(line, at, b' ');
-    at = put_bytes(line, at, lent);
-    print(line, at)
+fn print_written(written: SnpCpuidWritten, lent: &[u8]) -> bool {
+    print(b'w')
+        & print_refusal(
+            written.number,
+            written.leaf,
+            written.has_subleaf,
+            written.subleaf,
+            written.s,
+        )
+        & print_number(written.length)
+        & print(b' ')
+        & print_bytes(lent)
+        & print(b'\n')
 }
 
-// Ends the line at `at` and writes it.
-fn print(line: &mut [u8], at: usize) -> bool {
-    let end = put(line, at, b'\n');
-    io::write_all(STDOUT_FILENO, front(line, end))
+// What a refusal names.
+fn print_refusal(number: u32, leaf: u32, has_subleaf: u32, subleaf: u32, s: u32) -> bool {
+    print_number(number as u64)
+        & print_number(leaf as u64)
+        & print_number(has_subleaf as u64)
+        & print_number(subleaf as u64)
+        & print_number(s as u64)
+}
+
+// A space and 16 hexadecimal digits, of which the lowest is found first.
+fn print_number(x: u64) -> bool {
+    let mut text = [b' '; 17];
+    let mut rest = x;
+    let mut i: usize = 16;
+    while i > 0 {
+        text[i] = hex_digit((rest % 16) as u8);
+        rest /= 16;
+        i -= 1;
+    }
+    io::write_all(STDOUT_FILENO, &text)
+}
+
+// Two digits for each byte; false where one could not be written.
+fn print_bytes(bytes: &[u8]) -> bool {
+    let mut written = true;
+    for i in 0..bytes.len() {
+        written = print(hex_digit(bytes[i] / 16)) & print(hex_digit(bytes[i] % 16)) & written;
+    }
+    written
+}
+
+// One character.
+fn print(text: u8) -> bool {
+    let one = [text];
+    io::write_all(STDOUT_FILENO, &one)
 }
 
 // The first `n` bytes, or all where there are fewer.
@@ -253,81 +267,6 @@ fn front(bytes: &[u8], n: usize) -> &[u8] {
         return &bytes[..n];
     }
     bytes
-}
-
-// Each put_ function puts its text into the line at `at`, and answers the place after it. This one: what a refusal names.
-fn put_refusal(
-    line: &mut [u8],
-    at: usize,
-    number: u32,
-    leaf: u32,
-    has_subleaf: u32,
-    subleaf: u32,
-    s: u32,
-) -> usize {
-    let mut next = put_word(line, at, number);
-    next = put_word(line, next, leaf);
-    next = put_word(line, next, has_subleaf);
-    next = put_word(line, next, subleaf);
-    put_word(line, next, s)
-}
-
-// EAX to EDX.
-fn put_registers(line: &mut [u8], at: usize, eax: u32, ebx: u32, ecx: u32, edx: u32) -> usize {
-    let mut next = put_word(line, at, eax);
-    next = put_word(line, next, ebx);
-    next = put_word(line, next, ecx);
-    put_word(line, next, edx)
-}
-
-// A page, and an entry's position on it.
-fn put_place(line: &mut [u8], at: usize, page: u64, entry: u32) -> usize {
-    let next = put_long(line, at, page);
-    put_word(line, next, entry)
-}
-
-// Two digits for each byte.
-fn put_bytes(line: &mut [u8], at: usize, bytes: &[u8]) -> usize {
-    let mut next = at;
-    for i in 0..bytes.len() {
-        next = put_byte(line, next, bytes[i]);
-    }
-    next
-}
-
-// A space and 16 digits.
-fn put_long(line: &mut [u8], at: usize, x: u64) -> usize {
-    let next = put_word(line, at, (x / 0x1_0000_0000) as u32);
-    put_digits(line, next, (x % 0x1_0000_0000) as u32)
-}
-
-// A space and 8 digits.
-fn put_word(line: &mut [u8], at: usize, x: u32) -> usize {
-    let next = put(line, at, b' ');
-    put_digits(line, next, x)
-}
-
-// The 8 hexadecimal digits of a number, the highest first.
-fn put_digits(line: &mut [u8], at: usize, x: u32) -> usize {
-    let mut next = put_byte(line, at, (x / 0x100_0000) as u8);
-    next = put_byte(line, next, (x / 0x1_0000 % 0x100) as u8);
-    next = put_byte(line, next, (x / 0x100 % 0x100) as u8);
-    put_byte(line, next, (x % 0x100) as u8)
-}
-
-// The two of a byte.
-fn put_byte(line: &mut [u8], at: usize, x: u8) -> usize {
-    let next = put(line, at, hex_digit(x / 16));
-    put(line, next, hex_digit(x % 16))
-}
-
-// One character; a place past the line's end takes nothing.
-fn put(line: &mut [u8], at: usize, text: u8) -> usize {
-    if at < line.len() {
-        line[at] = text;
-        return at + 1;
-    }
-    at
 }
 
 // The digit of a number below 16.

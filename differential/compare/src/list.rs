@@ -127,7 +127,7 @@ fn numbers(answer: &Answer) -> String {
         _ => Refusal::default(),
     };
     let named = u32::from(refusal.subleaf.is_some());
-    [refusal.number, refusal.leaf, named, refusal.subleaf.unwrap_or(0), refusal.s].map(|number| format!("{number:08x}")).join(" ")
+    [refusal.number, refusal.leaf, named, refusal.subleaf.unwrap_or(0), refusal.s].map(|number| format!("{number:016x}")).join(" ")
 }
 
 /// The image of rows that rise.

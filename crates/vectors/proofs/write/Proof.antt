@@ -13,5 +13,4 @@ write-spec =
     (λ c. search needs)
     (λ c. simp length-take (omega arith))
     (λ c κs. search needs)
-    (λ c. search needs)
     (λ c. search needs))
