@@ -6,13 +6,12 @@ use lookup::leaf_origin;
 use lookup::leaf_result;
 use masking::PLACES;
 use origins::read_origin;
-use table::Choices;
 use table::CpuidResults;
 use table::Subleaf;
 use table::Verdict;
 use x86defs::CpuidFunction;
 ghost use mathlib.Core.Path.{_≡_};
-ghost use Rattle.answers.specs.Answers.{choicesOf, processorOf, builtGiven, foundGiven, foundAt, firstGiven, writtenNumbers, subleafOf};
+ghost use Rattle.answers.specs.Answers.{processorOf, builtGiven, foundGiven, foundAt, firstGiven, writtenNumbers, subleafOf};
 
 #[repr(C)]
 pub struct SnpCpuidBuilt {
@@ -57,16 +56,6 @@ pub struct SnpCpuidFirst {
     pub found: u32,
     pub page: u64,
     pub entry: u32,
-}
-
-// What a caller chooses.
-pub fn choices(secure_avic: bool, edition: u32) -> Choices
-    ensures { λ r. ⌜ r ≡ choicesOf «secure_avic» edition ⌝ }
-{
-    Choices {
-        secure_avic,
-        edition,
-    }
 }
 
 // The processor that a caller describes.

@@ -3,11 +3,11 @@ use answers::SnpCpuidBuilt;
 use answers::SnpCpuidFound;
 use answers::SnpCpuidWritten;
 use answers::built_numbers;
-use answers::choices;
 use answers::found_at;
 use answers::processor;
 use answers::subleaf_of;
 use answers::written_numbers;
+use table::Choices;
 ghost use mathlib.Core.Path.{_≡_};
 ghost use Rattle.guest_pages.specs.GuestPages.{guestPages, writeGuest};
 ghost use Rattle.answers.specs.Answers.{choicesOf, processorOf, writtenNumbers, subleafOf};
@@ -27,7 +27,11 @@ pub extern "C" fn snp_cpuid_guest_build(
     ensures { λ r. ⌜ r ≡ guestNumbers (guestPages (choicesOf «secure_avic» edition) (now (pages .entry)) (processorOf x2apic xcr0 xss osxsave)) ⌝ }
 {
     let v = processor(x2apic, xcr0, xss, osxsave);
-    let seen = guest_pages::guest_pages(pages, choices(secure_avic, edition), v);
+    let choices = Choices {
+        secure_avic,
+        edition,
+    };
+    let seen = guest_pages::guest_pages(pages, choices, v);
     let verdict = seen.verdict;
     built_numbers(verdict, seen.table.row_count, seen.table.max_extended_state)
 }
@@ -50,7 +54,11 @@ pub extern "C" fn snp_cpuid_guest_lookup(
     ensures { λ r. ⌜ r ≡ guestFound (choicesOf «secure_avic» edition) (now (pages .entry)) (processorOf x2apic xcr0 xss osxsave) leaf (subleafOf «has_subleaf» subleaf) «enforce_subleaf» ⌝ }
 {
     let v = processor(x2apic, xcr0, xss, osxsave);
-    let built = build::build(pages, choices(secure_avic, edition));
+    let choices = Choices {
+        secure_avic,
+        edition,
+    };
+    let built = build::build(pages, choices);
     let origins = built.origins;
     let verdict = built.verdict;
     let seen = guest_pages::guest_of(verdict, built.table, v);
@@ -75,5 +83,9 @@ pub extern "C" fn snp_cpuid_write_guest_image(
     ensures { λ _. ⌜ now (out .exit) ≡ writeGuest (choicesOf «secure_avic» edition) (now (pages .entry)) (processorOf x2apic xcr0 xss osxsave) (now (out .entry)) .buffer ⌝ }
 {
     let v = processor(x2apic, xcr0, xss, osxsave);
-    written_numbers(guest_pages::write_guest_image(pages, choices(secure_avic, edition), v, out))
+    let choices = Choices {
+        secure_avic,
+        edition,
+    };
+    written_numbers(guest_pages::write_guest_image(pages, choices, v, out))
 }

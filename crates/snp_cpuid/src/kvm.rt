@@ -1,7 +1,7 @@
 // Lists for and from KVM, for C and Rust: document 02, P2.
 use answers::SnpCpuidWritten;
-use answers::choices;
 use answers::written_numbers;
+use table::Choices;
 ghost use mathlib.Core.Path.{_≡_};
 ghost use Rattle.kvm_import.specs.Import.{readList};
 ghost use Rattle.kvm_export.specs.Export.{writeList};
@@ -18,7 +18,11 @@ pub extern "C" fn snp_cpuid_write_kvm(
     ensures { λ r. ⌜ r ≡ writtenNumbers (writeList (choicesOf «secure_avic» edition) (now (pages .entry)) (now (out .entry)) .answer) ⌝ }
     ensures { λ _. ⌜ now (out .exit) ≡ writeList (choicesOf «secure_avic» edition) (now (pages .entry)) (now (out .entry)) .buffer ⌝ }
 {
-    written_numbers(kvm_export::write_list(pages, choices(secure_avic, edition), out))
+    let choices = Choices {
+        secure_avic,
+        edition,
+    };
+    written_numbers(kvm_export::write_list(pages, choices, out))
 }
 
 // Reads a struct kvm_cpuid2 into two pages at the front of `out`.

@@ -4,13 +4,13 @@ use answers::SnpCpuidFirst;
 use answers::SnpCpuidFound;
 use answers::SnpCpuidWritten;
 use answers::built_numbers;
-use answers::choices;
 use answers::first_numbers;
 use answers::found_at;
 use answers::subleaf_of;
 use answers::written_numbers;
 use compare_answers::SnpCpuidCompared;
 use compare_answers::compared_numbers;
+use table::Choices;
 use x86defs::CpuidFunction;
 ghost use mathlib.Core.Path.{_≡_};
 ghost use Rattle.build.specs.Build.{answer};
@@ -34,7 +34,11 @@ mod topology_exports;
 pub extern "C" fn snp_cpuid_build(pages: &[u8], secure_avic: bool, edition: u32) -> SnpCpuidBuilt
     ensures { λ r. ⌜ r ≡ builtNumbers (answer (choicesOf «secure_avic» edition) (now (pages .entry))) ⌝ }
 {
-    let built = build::build_table(pages, choices(secure_avic, edition));
+    let choices = Choices {
+        secure_avic,
+        edition,
+    };
+    let built = build::build_table(pages, choices);
     let verdict = built.verdict;
     built_numbers(
         verdict,
@@ -56,7 +60,11 @@ pub extern "C" fn snp_cpuid_lookup(
 ) -> SnpCpuidFound
     ensures { λ r. ⌜ r ≡ foundIn (answer (choicesOf «secure_avic» edition) (now (pages .entry))) leaf (subleafOf «has_subleaf» subleaf) «enforce_subleaf» ⌝ }
 {
-    let built = build::build(pages, choices(secure_avic, edition));
+    let choices = Choices {
+        secure_avic,
+        edition,
+    };
+    let built = build::build(pages, choices);
     let table = built.table;
     let origins = built.origins;
     let named = subleaf_of(has_subleaf, subleaf);
@@ -84,7 +92,11 @@ pub extern "C" fn snp_cpuid_write_image(
     ensures { λ r. ⌜ r ≡ writtenNumbers (write (choicesOf «secure_avic» edition) (now (pages .entry)) (now (out .entry)) .answer) ⌝ }
     ensures { λ _. ⌜ now (out .exit) ≡ write (choicesOf «secure_avic» edition) (now (pages .entry)) (now (out .entry)) .buffer ⌝ }
 {
-    written_numbers(write::write_image(pages, choices(secure_avic, edition), out))
+    let choices = Choices {
+        secure_avic,
+        edition,
+    };
+    written_numbers(write::write_image(pages, choices, out))
 }
 
 // Whether a guest of the server with pages `a` may move to the one with pages `b`, or the first thing in the way.
@@ -97,5 +109,9 @@ pub extern "C" fn snp_cpuid_compare(
 ) -> SnpCpuidCompared
     ensures { λ r. ⌜ r ≡ comparedNumbers (compared (choicesOf «secure_avic» edition) (now (a .entry)) (now (b .entry))) ⌝ }
 {
-    compared_numbers(compare::compare(a, b, choices(secure_avic, edition)))
+    let choices = Choices {
+        secure_avic,
+        edition,
+    };
+    compared_numbers(compare::compare(a, b, choices))
 }

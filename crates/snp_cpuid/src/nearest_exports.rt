@@ -1,7 +1,7 @@
 // The nearest bit that matters, for C and Rust: document 02, P13.
-use answers::choices;
 use nearest_answers::SnpCpuidNearest;
 use nearest_answers::nearest_numbers;
+use table::Choices;
 ghost use mathlib.Core.Path.{_≡_};
 ghost use Rattle.nearest.specs.Nearest.{nearest};
 ghost use Rattle.answers.specs.Answers.{choicesOf};
@@ -16,5 +16,9 @@ pub extern "C" fn snp_cpuid_nearest(
 ) -> SnpCpuidNearest
     ensures { λ r. ⌜ r ≡ nearestNumbers (nearest (choicesOf «secure_avic» edition) (now (pages .entry))) ⌝ }
 {
-    nearest_numbers(nearest::nearest_bit(pages, choices(secure_avic, edition)))
+    let choices = Choices {
+        secure_avic,
+        edition,
+    };
+    nearest_numbers(nearest::nearest_bit(pages, choices))
 }

@@ -1,7 +1,6 @@
 // One table for a pool of servers, for C and Rust: document 02, P12. Page sets end to end and their lengths in, plain numbers or an image out.
 use answers::SnpCpuidFound;
 use answers::SnpCpuidWritten;
-use answers::choices;
 use answers::found_at;
 use answers::subleaf_of;
 use answers::written_numbers;
@@ -9,6 +8,7 @@ use pool::build_pool;
 use pool_answers::SnpCpuidPooled;
 use pool_answers::pooled_numbers;
 use pool_write::write_pool_image;
+use table::Choices;
 ghost use mathlib.Core.Path.{_≡_};
 ghost use Rattle.pool.specs.Pool.{pooled};
 ghost use Rattle.pool_write.specs.WritePool.{writePool};
@@ -26,7 +26,11 @@ pub extern "C" fn snp_cpuid_pool(
 ) -> SnpCpuidPooled
     ensures { λ r. ⌜ r ≡ pooledNumbers (pooled (choicesOf «secure_avic» edition) (now (pages .entry)) (now (lengths .entry))) ⌝ }
 {
-    let built = build_pool(pages, lengths, choices(secure_avic, edition));
+    let choices = Choices {
+        secure_avic,
+        edition,
+    };
+    let built = build_pool(pages, lengths, choices);
     let verdict = built.verdict;
     pooled_numbers(
         verdict,
@@ -50,7 +54,11 @@ pub extern "C" fn snp_cpuid_pool_lookup(
 ) -> SnpCpuidFound
     ensures { λ r. ⌜ r ≡ pooledFound (pooled (choicesOf «secure_avic» edition) (now (pages .entry)) (now (lengths .entry))) leaf (subleafOf «has_subleaf» subleaf) «enforce_subleaf» ⌝ }
 {
-    let built = build_pool(pages, lengths, choices(secure_avic, edition));
+    let choices = Choices {
+        secure_avic,
+        edition,
+    };
+    let built = build_pool(pages, lengths, choices);
     let table = built.table;
     let origins = built.origins;
     let named = subleaf_of(has_subleaf, subleaf);
@@ -69,5 +77,9 @@ pub extern "C" fn snp_cpuid_write_pool_image(
     ensures { λ r. ⌜ r ≡ writtenNumbers (writePool (choicesOf «secure_avic» edition) (now (pages .entry)) (now (lengths .entry)) (now (out .entry)) .answer) ⌝ }
     ensures { λ _. ⌜ now (out .exit) ≡ writePool (choicesOf «secure_avic» edition) (now (pages .entry)) (now (lengths .entry)) (now (out .entry)) .buffer ⌝ }
 {
-    written_numbers(write_pool_image(pages, lengths, choices(secure_avic, edition), out))
+    let choices = Choices {
+        secure_avic,
+        edition,
+    };
+    written_numbers(write_pool_image(pages, lengths, choices, out))
 }

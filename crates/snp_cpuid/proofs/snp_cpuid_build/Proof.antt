@@ -7,13 +7,12 @@ use Rattle.snp_cpuid.proofs.snp_cpuid_build.Tie as tie
 returns : tie.Need-returns
 returns c =
     let b = c .before in
-    rw (← b .before .choices .ensures, ← as-answer _ _ (b .build-table .ensures)) (c .built-numbers .ensures)
+    rw (← as-answer _ _ (b .build-table .ensures)) (c .built-numbers .ensures)
 
 pub snp-cpuid-build-spec : {M : Type 1} → statement M
 snp-cpuid-build-spec =
     tie.close
     (tie.spec
-    (λ c κs. search needs)
     (λ c κs. search needs)
     (λ c κs. search needs)
     returns)

@@ -7,7 +7,7 @@ use Rattle.snp_cpuid.proofs.snp_cpuid_compare.Tie as tie
 
 returns : tie.Need-returns
 returns c =
-    rw (← c .before .before .choices .ensures) (c .compared-numbers .ensures ∙ ap comparedNumbers (c .before .compare .ensures .0))
+    c .compared-numbers .ensures ∙ ap comparedNumbers (c .before .compare .ensures .0)
 
 pub snp-cpuid-compare-spec : {M : Type 1} → statement M
-snp-cpuid-compare-spec = tie.close (tie.spec (λ c κs. search needs) (λ c κs. search needs) (λ c κs. search needs) returns)
+snp-cpuid-compare-spec = tie.close (tie.spec (λ c κs. search needs) (λ c κs. search needs) returns)

@@ -7,15 +7,14 @@ use Rattle.snp_cpuid.proofs.guest_exports.snp_cpuid_write_guest_image.T
 
 returns : tie.Need-returns
 returns c =
-    let w = c .before .before .before in let choices = w .before .before in let p = choices .before in
+    let w = c .before .before .before in let p = w .before .before in
     let o = w .write-guest-image .ensures in
-    rw (← choices .choices .ensures, ← p .processor .ensures) (c .written-numbers .ensures ∙ ap writtenNumbers (o .0), o .1)
+    rw (← p .processor .ensures) (c .written-numbers .ensures ∙ ap writtenNumbers (o .0), o .1)
 
 pub snp-cpuid-write-guest-image-spec : {M : Type 1} → statement M
 snp-cpuid-write-guest-image-spec =
     tie.close
     (tie.spec
-    (λ c κs. search needs)
     (λ c κs. search needs)
     (λ c κs. search needs)
     (λ c κs. search needs)

@@ -6,7 +6,7 @@ use Rattle.snp_cpuid.proofs.nearest_exports.snp_cpuid_nearest.Tie as ti
 returns : tie.Need-returns
 returns c =
     let n = c .before in
-    rw (← n .before .choices .ensures, ← n .nearest-bit .ensures, c .nearest-numbers .ensures)
+    rw (← n .nearest-bit .ensures, c .nearest-numbers .ensures)
 
 pub snp-cpuid-nearest-spec : {M : Type 1} → statement M
-snp-cpuid-nearest-spec = tie.close (tie.spec (λ c κs. search needs) (λ c κs. search needs) (λ c κs. search needs) returns)
+snp-cpuid-nearest-spec = tie.close (tie.spec (λ c κs. search needs) (λ c κs. search needs) returns)

@@ -13,13 +13,12 @@ pooled-numbers-requires c κs = subst (λ (p : Pooled). p .server < 16) (sym (c 
 returns : tie.Need-returns
 returns c =
     let g = c .before in
-    rw (← g .before .choices .ensures, ← g .build-pool .ensures) (c .pooled-numbers .ensures)
+    rw (← g .build-pool .ensures) (c .pooled-numbers .ensures)
 
 pub snp-cpuid-pool-spec : {M : Type 1} → statement M
 snp-cpuid-pool-spec =
     tie.close
     (tie.spec
-    (λ c κs. search needs)
     (λ c κs. search needs)
     pooled-numbers-requires
     returns)

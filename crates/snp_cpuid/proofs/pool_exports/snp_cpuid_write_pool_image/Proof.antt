@@ -7,15 +7,14 @@ use Rattle.snp_cpuid.proofs.pool_exports.snp_cpuid_write_pool_image.Tie
 
 returns : tie.Need-returns
 returns c =
-    let w = c .before .before .before in let choices = w .before .before in
+    let w = c .before .before .before in
     let o = w .write-pool-image .ensures in
-    rw (← choices .choices .ensures) (c .written-numbers .ensures ∙ ap writtenNumbers (o .0), o .1)
+    (c .written-numbers .ensures ∙ ap writtenNumbers (o .0), o .1)
 
 pub snp-cpuid-write-pool-image-spec : {M : Type 1} → statement M
 snp-cpuid-write-pool-image-spec =
     tie.close
     (tie.spec
-    (λ c κs. search needs)
     (λ c κs. search needs)
     (λ c κs. search needs)
     (λ c. search needs)
