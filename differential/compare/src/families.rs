@@ -188,10 +188,14 @@ enum Late {
 }
 
 impl Late {
-    /// In one of the first two pages.
+    /// In one of the first two pages; a length that was cut before may leave too little of the second.
     fn spoil(self, bytes: &mut Vec<u8>, random: &mut Random) {
         match self {
-            Late::Count => set_count(bytes, random.below(2), 65 + random.below(3) as u32),
+            Late::Count => {
+                let (asked, count) = (random.below(2), 65 + random.below(3) as u32);
+                let page = if bytes.len() < asked * PAGE + 4 { 0 } else { asked };
+                set_count(bytes, page, count)
+            }
             Late::Length => bytes.truncate(2 * PAGE - 1 - random.below(PAGE - 1)),
         }
     }
