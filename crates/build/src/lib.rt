@@ -77,7 +77,7 @@ fn not_built(r: Refusal) -> Built
 }
 
 // An answer to rows, with the origins of its table from where the first entries stand.
-pub fn located(rows: RowsBuilt, found: [u64; PLACES]) -> Built
+fn located(rows: RowsBuilt, found: [u64; PLACES]) -> Built
     ensures { λ r. ⌜ r ≡ locatedBuilt rows found ⌝ }
 {
     let verdict = rows.verdict;
