@@ -77,7 +77,7 @@ module _ (keep : Bool) (t : CpuidResults) where
 -- ---- the table that is given
 
 module _ (t : CpuidResults) (from to xcr0 xss : ℕ) (e : carry t from to xcr0 xss .verdict ≡ Accepted) where
-  given : carry t from to xcr0 xss .table ≡ carriedTable (keeps t from to) t
+  pub given : carry t from to xcr0 xss .table ≡ carriedTable (keeps t from to) t
   unfolding carry
   given = ap (λ (v : Verdict). tableGiven v (carriedTable (keeps t from to) t)) e
 

@@ -3,3 +3,4 @@ pub mod CarriedLaws
 pub mod Moves
 pub mod MovesProof
 pub mod CarryExactly
+pub mod CarriedRows

@@ -1,1 +1,2 @@
 pub mod WithoutYmmMoved
+pub mod NotBytes

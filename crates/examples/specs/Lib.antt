@@ -1,2 +1,3 @@
 pub mod RisePassed
 pub mod Computed
+pub mod Chain

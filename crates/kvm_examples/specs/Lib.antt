@@ -1,1 +1,2 @@
 pub mod KvmLists
+pub mod KvmBytes

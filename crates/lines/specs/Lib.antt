@@ -4,3 +4,5 @@ pub mod ReadLineLaws
 pub mod WriteLineLaws
 pub mod LinePromises
 pub mod ComputedLines
+pub mod LineExactly
+pub mod NumbersNamed

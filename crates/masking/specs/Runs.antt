@@ -1,13 +1,14 @@
 -- The runs of places of the code: each place of a run has the leaf, the subleaf and the row of masks that the table of kept leaves gives it.
 use mathlib.Core.Bool.{Bool, false, not, _&&_}
-use Prim.Native.Nat.{ℕ, _+_, _^_}
+use mathlib.Core.List.{List, [], _∷_}
+use Prim.Native.Nat.{ℕ, suc, _+_, _-_, _^_, min}
 use lib.Dec.{eqb, leb, ltb}
 use Rattle.bits.specs.Choice.{pick}
 use Rattle.bits.specs.Search.{every}
 use Rattle.x86defs.specs.declared.CpuidFunction.{CpuidFunction}
 use Rattle.x86defs.specs.Functions.{function, sameFunction}
 use Rattle.masking.specs.declared.run.Run.{Run}
-use Rattle.masking.specs.Kept.{Slot, places, slot}
+use Rattle.masking.specs.Kept.{Kept, Slot, keptLeaves, placesOf, places, slot}
 
 -- the leaf of a run's k-th place
 abbrev pub runLeaf : Run → ℕ → CpuidFunction
@@ -23,3 +24,22 @@ unfoldable pub lawful : Run → Bool
 lawful g =
     leb (g .first + g .count) places
     && (ltb (g .leaf .0 + places) (2 ^ 32) && every (λ k. stands g k (slot false (g .first + k))) (g .count))
+
+-- ---- rows of masks
+
+-- the row of the table of kept leaves that a place falls in, counted from 0
+abbrev rowFrom : List Kept → ℕ → ℕ
+rowFrom [] i = 0
+rowFrom (r ∷ rs) i = pick (ltb i (placesOf (r .span))) 0 (suc (rowFrom rs (i - placesOf (r .span))))
+
+unfoldable pub rowAt : ℕ → ℕ
+unfolding keptLeaves
+rowAt i = rowFrom (keptLeaves false) i
+
+-- whether a run's rows of masks are those of its places: `row` is that of the first, `last_row` that of the last, and the k-th place's is the k-th from
+-- `row` on, up to `last_row`
+unfoldable pub rowsTied : Run → Bool
+rowsTied g =
+    eqb (g .row) (rowAt (g .first))
+    && (eqb (g .«last_row») (rowAt (g .first + g .count - 1))
+    && every (λ k. eqb (min (g .row + k) (g .«last_row»)) (rowAt (g .first + k))) (g .count))

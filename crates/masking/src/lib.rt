@@ -6,7 +6,7 @@ ghost use lib.Dec.{ltb};
 ghost use Rattle.bits.specs.Choice.{pick};
 ghost use Rattle.masking.specs.Kept.{places, placeOf, leafAt, indexedAt, subleafAt};
 ghost use Rattle.masking.specs.Place.{extendedMaxFunction};
-ghost use Rattle.masking.specs.Runs.{lawful};
+ghost use Rattle.masking.specs.Runs.{lawful, rowsTied};
 
 pub mod place;
 pub mod run;
@@ -59,7 +59,7 @@ fn subleaf_place(run: Run, subleaf: u32) -> usize
 // The run in which a place stands.
 pub fn run_at(place: usize) -> Run
     requires { ⌜ place < places ⌝ }
-    ensures { λ r. ⌜ (lawful r ≡ true) × (r .first ≤ place) × (place < r .first + r .count) ⌝ }
+    ensures { λ r. ⌜ (lawful r ≡ true) × (r .first ≤ place) × (place < r .first + r .count) × (rowsTied r ≡ true) ⌝ }
 {
     if place < run::EXTENDED.first {
         return basic_run_at(place);
@@ -70,7 +70,7 @@ pub fn run_at(place: usize) -> Run
 // Among the leaves below 80000000h.
 fn basic_run_at(place: usize) -> Run
     requires { ⌜ place < extendedMaxFunction ⌝ }
-    ensures { λ r. ⌜ (lawful r ≡ true) × (r .first ≤ place) × (place < r .first + r .count) ⌝ }
+    ensures { λ r. ⌜ (lawful r ≡ true) × (r .first ≤ place) × (place < r .first + r .count) × (rowsTied r ≡ true) ⌝ }
 {
     if place < run::MONITOR_MWAIT.first {
         run::BASIC
@@ -88,7 +88,7 @@ fn basic_run_at(place: usize) -> Run
 // From 80000000h on.
 fn extended_run_at(place: usize) -> Run
     requires { ⌜ (extendedMaxFunction ≤ place) × (place < places) ⌝ }
-    ensures { λ r. ⌜ (lawful r ≡ true) × (r .first ≤ place) × (place < r .first + r .count) ⌝ }
+    ensures { λ r. ⌜ (lawful r ≡ true) × (r .first ≤ place) × (place < r .first + r .count) × (rowsTied r ≡ true) ⌝ }
 {
     if place < run::SVM.first {
         run::EXTENDED

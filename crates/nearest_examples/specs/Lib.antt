@@ -1,3 +1,4 @@
 pub mod AreBytes
 pub mod NearestPassed
 pub mod NearestBits
+pub mod Later

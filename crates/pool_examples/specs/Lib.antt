@@ -4,3 +4,4 @@ pub mod Bit28
 pub mod Differ
 pub mod Beyond
 pub mod Instances
+pub mod Letter28

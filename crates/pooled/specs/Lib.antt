@@ -5,3 +5,5 @@ pub mod OrderProof
 pub mod PoolExactly
 pub mod ExactlyProof
 pub mod PoolWrites
+pub mod ByTheLetter
+pub mod PoolMoves

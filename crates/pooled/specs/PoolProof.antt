@@ -1,12 +1,14 @@
 -- The pool over page bytes: what an accepted pool's table is beside its servers' tables, the greatest lower bound, and one server more.
 use mathlib.Core.Path.{_≡_, refl, sym, ap, _∙_, subst, subst₂}
-use mathlib.Core.Bool.{Bool, true}
+use mathlib.Core.Bool.{Bool, true, false}
 use mathlib.Core.List.{List}
 use mathlib.Core.Logic.{_⊎_, inl, inr, ⊎-elim}
 use Prim.Native.Nat.{ℕ, _-_, _≤_, _<_}
 use native.Mathlib.Omega.{arith}
-use lib.ListN.{length}
+use lib.ListN.{length, getD}
+use Rattle.bits.specs.ListsLaws.{getD-tabulate}
 use Rattle.bits.specs.Bits.{has, Within}
+use Rattle.pages.specs.Entries.{counted}
 use Rattle.masking.specs.Kept.{places}
 use Rattle.table.specs.declared.Choices.{Choices}
 use Rattle.table.specs.declared.CpuidResults.{CpuidResults}
@@ -19,7 +21,9 @@ use Rattle.features.specs.Finish.{finished}
 use Rattle.update.specs.Kinds.{Registers, TableAtLeast, kindsAt}
 use Rattle.finish_laws.specs.XsavesLaws.{XsavesEdx}
 use Rattle.rows_built.specs.RowsBuilt.{tableFor}
-use Rattle.build.specs.Build.{rowsFor, answer}
+use Rattle.origins.specs.Origin.{originOf, originNumber}
+use Rattle.locate.specs.Stands.{standsAt}
+use Rattle.build.specs.Build.{rowsFor, originsIn, answer}
 use Rattle.rise.specs.Rise.{Further, TableRises}
 use Rattle.rise.specs.RiseProof.{table-row, answer-row, answer-mask, xsaves-edx}
 use Rattle.pool_join.specs.Join.{pool, andTo, allTo}
@@ -124,8 +128,45 @@ module _ (c : Choices) (pages lengths : List ℕ) (accepted : pooled c pages len
       mask = subst₂ Within (sym pool-max) (server-max k u) (pool-mask-within f n servers k u);
     }
 
+  -- ---- origins
+
+  pool-origin : (i : ℕ) → i < places
+      → getD (pooled c pages lengths .origins) i 0
+      ≡ originNumber (originOf (rowIn (poolTable c pages lengths) i .present) i (standsAt i (counted (setAt pages lengths 0))))
+  unfolding pooled originsIn
+  pool-origin i l =
+      getD-tabulate places (λ j. originNumber (originOf (rowIn (poolTable c pages lengths) j .present) j (standsAt j (counted (setAt pages lengths 0))))) i 0 l
+
+  first-origin : (i : ℕ) → i < places
+      → getD (answer c (setAt pages lengths 0) .origins) i 0
+      ≡ originNumber (originOf (rowIn (serverTable c pages lengths 0) i .present) i (standsAt i (counted (setAt pages lengths 0))))
+  unfolding answer originsIn
+  first-origin i l =
+      getD-tabulate places (λ j. originNumber (originOf (rowIn (serverTable c pages lengths 0) j .present) j (standsAt j (counted (setAt pages lengths 0))))) i 0 l
+
+  origins-right : (i : ℕ) → i < places → rowIn (poolTable c pages lengths) i .present ≡ true
+      → getD (pooled c pages lengths .origins) i 0 ≡ getD (answer c (setAt pages lengths 0) .origins) i 0
+  origins-right i l p =
+      let q : rowIn (serverTable c pages lengths 0) i .present ≡ true = rises-right 0 (omega arith) .rows i l p in
+      pool-origin i l
+      ∙ ap (λ (b : Bool). originNumber (originOf b i (standsAt i (counted (setAt pages lengths 0))))) (p ∙ sym q)
+      ∙ sym (first-origin i l)
+
+  none-right : (i : ℕ) → i < places → rowIn (poolTable c pages lengths) i .present ≡ false → getD (pooled c pages lengths .origins) i 0 ≡ 0
+  unfolding originOf
+  none-right i l p =
+      pool-origin i l ∙ ap (λ (b : Bool). originNumber (originOf b i (standsAt i (counted (setAt pages lengths 0))))) p
+
   pub pool-right : PoolRight c pages lengths
-  pool-right = record { each = each-server; rows = rows-right; features = features-right; mask = mask-right; rises = rises-right }
+  pool-right = record {
+    each = each-server;
+    rows = rows-right;
+    features = features-right;
+    mask = mask-right;
+    rises = rises-right;
+    origins = origins-right;
+    none = none-right;
+  }
 
   pub greatest : Greatest c pages lengths
   greatest t h = record {

@@ -2,10 +2,10 @@
 -- and a table whose feature bits and mask lie within every server's has none beyond the pool's. Joining one server more, where that isn't refused,
 -- never adds a feature bit or a row." Under any edition and secure-AVIC choice, the same for all servers.
 use mathlib.Core.Path.{_≡_}
-use mathlib.Core.Bool.{true}
+use mathlib.Core.Bool.{true, false}
 use mathlib.Core.List.{List}
 use Prim.Native.Nat.{ℕ, _≤_, _<_}
-use lib.ListN.{length}
+use lib.ListN.{length, getD}
 use Rattle.bits.specs.Bits.{Within}
 use Rattle.masking.specs.Kept.{places}
 use Rattle.table.specs.declared.Choices.{Choices}
@@ -42,6 +42,10 @@ pub record PoolRight (c : Choices) (pages lengths : List ℕ) : Type 0 where
   pub mask : poolTable c pages lengths .«max_extended_state» ≡ andTo (λ k. serverTable c pages lengths k .«max_extended_state») (lastOf lengths)
   -- a guest of the pool's table may move to every server: demand 3's conclusion
   pub rises : (k : ℕ) → k ≤ lastOf lengths → TableRises (poolTable c pages lengths) (serverTable c pages lengths k)
+  -- "keeps all else from the first, origins included": a row's origin is the first server's, and a row that is not there has none
+  pub origins : (i : ℕ) → i < places → rowIn (poolTable c pages lengths) i .present ≡ true
+      → getD (pooled c pages lengths .origins) i 0 ≡ getD (answer c (setAt pages lengths 0) .origins) i 0
+  pub none : (i : ℕ) → i < places → rowIn (poolTable c pages lengths) i .present ≡ false → getD (pooled c pages lengths .origins) i 0 ≡ 0
 
 -- ---- the greatest lower bound
 

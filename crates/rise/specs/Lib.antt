@@ -4,4 +4,6 @@ pub mod RowsRise
 pub mod Decide
 pub mod RiseProof
 pub mod Same
+pub mod Preorder
 pub mod BuiltLaws
+pub mod Levels

@@ -65,7 +65,7 @@ register-same area p q = omega (arith, p, q)
 register-same freed p q = p
 register-same other p q = p
 
-registers-same : (k : Kinds) (a b : CpuidResult) → Registers TableAtLeast k a b → Registers TableAtLeast k b a → a ≡ b
+pub registers-same : (k : Kinds) (a b : CpuidResult) → Registers TableAtLeast k a b → Registers TableAtLeast k b a → a ≡ b
 registers-same k a b p q = λ i. record {
   eax = register-same (k .eax) (p .eax) (q .eax) i;
   ebx = register-same (k .ebx) (p .ebx) (q .ebx) i;

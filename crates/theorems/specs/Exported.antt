@@ -129,12 +129,12 @@ refusal-numbered PoolSets e = omega arith
 refusal-numbered PoolDiffers e = omega arith
 refusal-numbered NothingDecides e = omega arith
 
-verdict-numbered : (v : Verdict) → numbersOf v .number ≡ 0 → v ≡ Accepted
+pub verdict-numbered : (v : Verdict) → numbersOf v .number ≡ 0 → v ≡ Accepted
 verdict-numbered Accepted e = refl
 verdict-numbered (Refused r) e = absurd (refusal-numbered r e)
 
 -- a table has 88 places
-table-whole : (chosen : Choices) (s : List ℕ) → length (answer chosen s .table .present) ≤ places
+pub table-whole : (chosen : Choices) (s : List ℕ) → length (answer chosen s .table .present) ≤ places
 unfolding answer
 table-whole chosen s = go (Rattle.build.specs.Build.verdictOf chosen s)
   where

@@ -1,3 +1,7 @@
 pub mod Exported
+pub mod CompareOrder
+pub mod Looked
+pub mod GuestExported
+pub mod PoolExported
 pub mod Theorems
 pub mod NearestBit

@@ -35,6 +35,7 @@ use Rattle.nearest_ends.specs.OutsideLaws.{Among, FirstAt}
 use Rattle.page_sets.specs.PageSets.{word, page, serverA}
 use Rattle.page_sets.specs.Evaluation.{first}
 use Rattle.nearest_examples.specs.NearestBits as Bits
+use Rattle.nearest_examples.specs.Later as Later
 use Rattle.nearest_examples.specs.NearestBits.{onlyLeaf5, withoutD2, noInvlpgb, leaf1Twice}
 
 -- each answer, 15, 1, 2, 17, 20 or a bit: given if and only if its condition holds; no other number is given. A bit is the first flip, in the order
@@ -80,6 +81,13 @@ unclean-entry = Bits.unclean-entry
 
 pub a-nearest : nearest first serverA ≡ Bit (flip 0 0 0 0)
 a-nearest = Bits.serverA-nearest
+
+-- a later page, and a later entry: what stands before is filtered, or Dh on page 0. crates/nearest_examples/specs/Later.antt
+pub later-page-decides : nearest first Later.pageSet ≡ Bit (flip 1 0 0 0)
+later-page-decides = Later.page-decides
+
+pub later-entry-decides : nearest first Later.entrySet ≡ Bit (flip 0 1 0 0)
+later-entry-decides = Later.entry-decides
 
 -- leaf 1 is missing, and none of the 128 bits of the one entry decides
 pub only-leaf-5 : nearest first onlyLeaf5 ≡ NoBit NothingDecides

@@ -3,10 +3,11 @@
 -- `answer chosen s` is the answer of the definition (crates/build/specs/Build.antt) to the page bytes s under what the caller chooses: secure
 -- AVIC or not, and the edition of the AVX rule.
 use mathlib.Core.Path.{_≡_}
+use mathlib.Core.Logic.{_↔_}
 use mathlib.Core.Bool.{Bool, true, false}
 use mathlib.Core.List.{List, [], _∷_, map, _++_}
 use Prim.Native.Nat.{ℕ, _+_, _≤_, _<_, _^_}
-use lib.ListN.{length, replicate, take}
+use lib.ListN.{length, replicate, take, drop}
 use Rattle.x86defs.specs.Functions.{function, result, VersionAndFeatures, ExtendedStateEnumeration}
 use Rattle.x86defs.specs.declared.CpuidFunction.{CpuidFunction}
 use Rattle.table.specs.declared.Choices.{Choices}
@@ -18,6 +19,7 @@ use Rattle.table.specs.declared.CpuidResults.{CpuidResults}
 use Rattle.table.specs.Rows.{Rows}
 use Rattle.table.specs.Table.{emptyTable, rowIn, rowsIn}
 use Rattle.checks.specs.ExtendedState.{saveArea}
+use Rattle.checks.specs.TopologyInputs.{inputsOf}
 use Rattle.table.specs.declared.Verdict.the-variants.{Accepted, Refused}
 use Rattle.bits.specs.Lists.{keepIf}
 use Rattle.topology.specs.declared.Topology.the-variants.{Processors}
@@ -38,7 +40,7 @@ use Rattle.masking.specs.Place
 use Rattle.pages.specs.Parsed.{parsed, countsRead}
 use Rattle.walk.specs.Walk.{firstIndex}
 use Rattle.build.specs.Built.{SameButOrigins}
-use Rattle.build.specs.Build.{answer, originAt, underEdition}
+use Rattle.build.specs.Build.{rowsFor, answer, originAt, underEdition}
 use Rattle.reader.specs.Read.{given}
 use Rattle.reader.specs.ReadLaws.{reader-gives, reader-gives-counted, reader-gives-clean}
 use Rattle.lookup.specs.declared.LeafResult.the-variants.{None as Nothing}
@@ -55,6 +57,9 @@ use Rattle.images.specs.ImagesProof.{equal-images}
 use Rattle.rise.specs.Rise.{RiseHypothesis, HypothesisByTheLetter, RiseConclusion, RiseTo, TableRises, SecondToFirst}
 use Rattle.rise.specs.RiseProof.{demand-3, demand-3-by-the-letter, second-to-first-rises}
 use Rattle.rise.specs.Same.{rises-itself, same-figures}
+use Rattle.rise.specs.Preorder as Preorder
+use Rattle.rise.specs.Preorder.{SameRows}
+use Rattle.rise.specs.Levels.{AcceptedLevels, accepted-levels}
 use Rattle.compare.specs.declared.Register.the-variants.{Ecx}
 use Rattle.compare.specs.declared.Compared.the-variants.{Rises as Yes, RefusedA, UnlawfulB, NoEntry, Differs}
 use Rattle.compare.specs.Compare.{compared}
@@ -69,9 +74,12 @@ use Rattle.guest.specs.Guest.{guestTable, refusedAnswer}
 use Rattle.guest_pages.specs.GuestPages.{guestPages, writeGuest}
 use Rattle.guest_rise.specs.StateExactly.{StateAnswers, state-answers}
 use Rattle.guest_rise.specs.GuestExactly.{GuestExactly, guest-exactly, guest-writes-exactly}
-use Rattle.guest_rise.specs.GuestRise.{GuestRise, GuestOutcome, compactsIn}
+use Rattle.guest_rise.specs.GuestRise.{GuestRise, GuestOutcome, GuestTableRises, compactsIn}
+use Rattle.guest_rise.specs.GuestPreorder.{guest-rises-compose}
 use Rattle.guest_rise.specs.GuestRiseProof as GuestRiseProof
 use Rattle.guest_rise.specs.SeenRises as Seen
+use Rattle.guest_rise.specs.SeenExactly.{SeenExactly, seen-exactly}
+use Rattle.guest_rise.specs.GuestRisen.{GuestRisen, GuestRiseAll, guest-rises-all}
 use Rattle.guest_examples.specs.CompactSizes.{sizes, sizes-are}
 use Rattle.guest_examples.specs.Seen.{processor, figures}
 use Rattle.guest_examples.specs.Views as Views
@@ -87,9 +95,17 @@ use Rattle.lines.specs.WriteLine.{leaves, writeLine}
 use Rattle.lines.specs.ReadLine.{readLine}
 use Rattle.lines.specs.LinePromises as Lines
 use Rattle.lines.specs.LinePromises.{LineOf, lineDetails}
+use Rattle.lines.specs.LineExactly.{LineExactly, Nameable, line-exactly, writable-means}
+use Rattle.lines.specs.NumbersNamed.{NamesExactly, names-exactly}
+use Rattle.line_bytes.specs.NumbersInUse.{names}
+use Rattle.lined.specs.Lined.{BuildingLined, LinesTell}
+use Rattle.lined.specs.LinedProof.{building-lined, lines-tell}
 use Rattle.lines.specs.ComputedLines as ComputedLines
 use Rattle.lines.specs.ComputedLines.{told, longest}
 use Rattle.theorems.specs.Exported.{ExportsRise, ExportsCompare, FoundOrigins, exports-rise, exports-compare, found-origins}
+use Rattle.theorems.specs.CompareOrder.{CompareOrder, compare-order}
+use Rattle.theorems.specs.GuestExported.{GuestExportsRise, GuestOrigins, guest-exports-rise, guest-origins}
+use Rattle.theorems.specs.PoolExported.{PoolOrigins, pool-origins}
 use Rattle.kvm_list.specs.Words.{bytesOfWords}
 use Rattle.kvm_list.specs.Format.{listBytes}
 use Rattle.kvm_import.specs.Import.{readList}
@@ -108,6 +124,7 @@ use Rattle.edition_examples.specs.WithoutYmm as WithoutYmm
 use Rattle.carry.specs.Carry.{carry}
 use Rattle.carried.specs.Carried.{CarryKeeps, CarriesInPlace}
 use Rattle.carried.specs.CarriedLaws.{carry-keeps, carries-in-place}
+use Rattle.carried.specs.CarriedRows as CarriedRows
 use Rattle.read_back.specs.ReadBack.{ImageReadsBack, BuiltReadsBack, OnlyImagesRead}
 use Rattle.read_back.specs.ReadBackProof as ReadBack
 use Rattle.carried.specs.Moves.{MovesToSecond}
@@ -128,9 +145,11 @@ use Rattle.located.specs.Located.{ComesFrom, Origins}
 use Rattle.located.specs.LocatedProof.{rows-come-from, rows-have-origins, refused-has-none}
 use Rattle.located_examples.specs.Origins as Origin
 use Rattle.kvm_examples.specs.KvmLists as KvmLists
+use Rattle.kvm_examples.specs.KvmBytes as KvmBytes
 use Rattle.page_sets.specs.Evaluation.{first}
 use Rattle.page_sets.specs.PageSets.{serverA, serverB, serverWithoutD12, serverWithLargeD6}
 use Rattle.examples.specs.Computed as Computed
+use Rattle.examples.specs.Chain as Chain
 use Rattle.compared_examples.specs.Compared as Pairs
 use Rattle.marked_examples.specs.MarkedRows.{marked, marked-rows}
 use Rattle.marked_examples.specs.MarkedRows.Shown.{core, refusal, area, supervisor}
@@ -138,7 +157,9 @@ use Rattle.pool.specs.Pool.{pooled}
 use Rattle.pool_write.specs.WritePool.{writePool}
 use Rattle.pooled.specs.PoolRight.{poolTable, PoolRight, NoneBeyond, Greatest, OneMore, OrderFree, NothingMore}
 use Rattle.pooled.specs.PoolProof.{pool-right, greatest, one-more}
+use Rattle.pooled.specs.ByTheLetter.{NoFeatureBeyond, GreatestByTheLetter, OneMoreByTheLetter, greatest-by-the-letter, one-more-by-the-letter}
 use Rattle.pooled.specs.OrderProof.{order-free}
+use Rattle.pooled.specs.PoolMoves.{PoolMoves, pool-moves}
 use Rattle.pooled.specs.PoolExactly.{PoolExactly, ServerFault, DifferFault}
 use Rattle.pooled.specs.ExactlyProof.{pool-exactly}
 use Rattle.pooled.specs.PoolWrites.{pool-writes-exactly}
@@ -146,6 +167,7 @@ use Rattle.pool_examples.specs.Pools
 use Rattle.pool_examples.specs.Differ
 use Rattle.pool_examples.specs.Instances as PoolInstances
 use Rattle.pool_examples.specs.Bit28
+use Rattle.pool_examples.specs.Letter28
 
 -- ---- Demand 1. crates/refusals/specs/Conditions.antt has each condition by itself, Exactly.antt the two records.
 
@@ -187,6 +209,28 @@ same-figures-both-ways = same-figures
 pub each-rises-to-itself : (chosen : Choices) (a : List ℕ) → answer chosen a .verdict ≡ Accepted → RiseHypothesis chosen a a
 each-rises-to-itself = rises-itself
 
+-- and the moves compose: from A to B and from B to C is from A to C. So the hypothesis is a preorder of the accepted servers, and those that rise to each
+-- other have one table. crates/rise/specs/Preorder.antt
+pub moves-compose : (chosen : Choices) (a b c : List ℕ) → RiseHypothesis chosen a b → RiseHypothesis chosen b c → RiseHypothesis chosen a c
+moves-compose = Preorder.rises-compose
+
+-- of tables the same: each rises to itself, rises compose, and two that rise to each other have the same rows and mask
+pub tables-rise-to-themselves : (t : CpuidResults) → TableRises t t
+tables-rise-to-themselves = Preorder.table-rises-itself
+
+pub table-rises-compose : (t u v : CpuidResults) → TableRises t u → TableRises u v → TableRises t v
+table-rises-compose = Preorder.table-rises-compose
+
+pub both-ways-the-same-rows : (t u : CpuidResults) → TableRises t u → TableRises u t → SameRows t u
+both-ways-the-same-rows = Preorder.both-ways-same
+
+-- three servers, and the move from the first to the last. crates/examples/specs/Chain.antt
+pub smallest-to-a : RiseHypothesis first Chain.smallest serverA
+smallest-to-a = Chain.smallest-to-a
+
+pub smallest-to-b : RiseHypothesis first Chain.smallest serverB
+smallest-to-b = Chain.smallest-to-b
+
 -- ---- May a guest of server A move to server B? crates/compare/specs/Compare.antt has the comparison, Means.antt what each answer says.
 
 -- the answer is yes if and only if the hypothesis of demand 3 holds; any other names the first thing that fails
@@ -200,6 +244,10 @@ comparison-in-order = places-rise
 -- snp_cpuid_compare answers 0 if and only if the hypothesis holds; what the other exported functions return for B then rises from A's
 pub comparison-of-exports : (chosen : Choices) (a b : List ℕ) → ExportsCompare chosen a b
 comparison-of-exports = exports-compare
+
+-- and it orders servers: yes to oneself exactly where accepted, yes and yes make yes, yes both ways makes one table. crates/theorems/specs/CompareOrder.antt
+pub comparison-orders : (chosen : Choices) → CompareOrder chosen
+comparison-orders = compare-order
 
 -- ---- P7, edition 2 of the AVX rule. crates/update/specs/Finish.antt has the clears of each edition, crates/editions/specs/Second.antt the
 -- statements. All that is said above and below of `chosen` is said for any edition, the same for A and B, in one argument.
@@ -260,6 +308,15 @@ moves-to-edition-2 = moves-to-second
 pub carrying-changes-nothing-else : CarryKeeps
 carrying-changes-nothing-else = carry-keeps
 
+-- of any table from 1 to 2: rows 1 and 80000001h lose exactly the three bits where its own D.0.EAX lacks bit 2, absent rows reading as zeros, and every
+-- other row is as it was. crates/carried/specs/CarriedRows.antt
+pub carrying-clears-exactly : CarriedRows.CarriesRows
+carrying-clears-exactly = CarriedRows.carries-rows
+
+-- in place, within one edition: no lent byte changes, whatever is answered
+pub carried-in-place-within : CarriedRows.StaysWithin
+carried-in-place-within = CarriedRows.stays-within
+
 -- lent bytes that are an image become the carried table's, as many as before
 pub carried-in-place : CarriesInPlace
 carried-in-place = carries-in-place
@@ -314,6 +371,11 @@ pub no-other-row-differs : (t : CpuidResults) (v : Processor) (i : ℕ) → i < 
     → rowIn (guestTable t v) i .result ≡ rowIn t i .result
 no-other-row-differs = Seen.elsewhere
 
+-- and of these five exactly the registers and bits that P3 names, each as it says; every other register and bit is the paravisor's.
+-- crates/guest_rise/specs/SeenExactly.antt
+pub no-other-register-differs : (t : CpuidResults) (v : Processor) → SeenExactly t v
+no-other-register-differs = seen-exactly
+
 -- D.0.EBX of a table that building accepted never overflows: it is the size itself
 pub guest-size-never-overflows : (chosen : Choices) (s : List ℕ) (v : Processor) → answer chosen s .verdict ≡ Accepted
     → guestPages chosen s v .verdict ≡ Accepted
@@ -331,6 +393,20 @@ pub guest-rise-whole : (chosen : Choices) (a b : List ℕ) (v : Processor) → R
     → guestPages chosen a v .verdict ≡ Accepted → compactsIn (answer chosen a .table) ≡ true
     → (guestPages chosen b v .verdict ≡ Accepted) × TableRises (guestPages chosen a v .table) (guestPages chosen b v .table)
 guest-rise-whole = GuestRiseProof.guest-rise-whole
+
+-- The whole of it, B refused or given: by 3 or 5 as in demand 3, by 14 only where A's D.1.EAX has neither bit, or given and risen; never by 13.
+-- crates/guest_rise/specs/GuestRisen.antt
+pub guest-rise-all : GuestRiseAll
+guest-rise-all = guest-rises-all
+
+-- guest tables compose as tables do, the exception included. crates/guest_rise/specs/GuestPreorder.antt
+pub guest-tables-compose : (t u v : CpuidResults) → GuestTableRises t u → GuestTableRises u v → GuestTableRises t v
+guest-tables-compose = guest-rises-compose
+
+-- the same of what the exported guest functions return. crates/theorems/specs/GuestExported.antt
+pub guest-rise-of-exports : (chosen : Choices) (a b : List ℕ) (v : Processor) → RiseHypothesis chosen a b → guestPages chosen a v .verdict ≡ Accepted
+    → GuestExportsRise chosen a b v
+guest-rise-of-exports = guest-exports-rise
 
 -- Not empty words. crates/guest_examples/specs/Views.antt: server A's guest with all of its state, and the six registers that it reads
 -- anew (1.EBX, 1.ECX, B.0.EDX, B.1.EDX, D.0.EBX, D.1.EBX)
@@ -453,6 +529,13 @@ refused-has-no-origins = refused-has-none
 pub exports-tell-origins : FoundOrigins
 exports-tell-origins = found-origins
 
+-- of the guest's lookup, the paravisor's row's; of the pool's, the first server's row's. crates/theorems/specs/GuestExported.antt, PoolExported.antt
+pub guest-exports-tell-origins : GuestOrigins
+guest-exports-tell-origins = guest-origins
+
+pub pool-exports-tell-origins : PoolOrigins
+pool-exports-tell-origins = pool-origins
+
 -- Not empty words: of two entries for leaf 1 the first is told; of two for D.0 that of page 1, counted from that page's beginning; B.0 is made here although
 -- it has an entry. crates/located_examples/specs/Origins.antt
 pub leaf-1-of-the-first : originAt first Origin.repeated Place.versionAndFeatures ≡ entry 0 1
@@ -544,6 +627,15 @@ pub nc-255-not-listed : (inputsFor first Topologies.wrappedServer ≡ inputs 0 2
     × (In (inputs 0 255 0 1 0) acceptedInputs → ⊥)
 nc-255-not-listed = (Topologies.wrapped-inputs, Topologies.wrapped-refused, Topologies.wrapped-unlisted)
 
+-- of any accepted table, whatever s: B.0 and B.1 by the five inputs, EBX of B.1 is v and EAX the least k with 2^k at least v.
+-- crates/rise/specs/Levels.antt
+pub any-levels : (chosen : Choices) (s : List ℕ) → answer chosen s .verdict ≡ Accepted → AcceptedLevels (inputsOf (rowsFor chosen s)) (answer chosen s .table)
+any-levels = accepted-levels
+
+-- s = 8, which no list holds: 256 processors. crates/examples/specs/Chain.antt
+pub eight-levels : Chain.coreRow (answer first Chain.eight .table) ≡ result 8 256 0x201 0
+eight-levels = Chain.eight-figures
+
 -- ---- Counts. crates/counts/specs/Counts.antt.
 
 -- 26 rows and one for each combined bit from 2 up, at most 32; an image of 582 bytes and 25 for each such bit
@@ -615,6 +707,18 @@ nothing-lent = KvmLists.nothing-lent
 
 pub an-empty-list : readList (bytesOfWords (0 ∷ 0 ∷ [])) (replicate 8192 0xA5) .answer ≡ Bytes 8192
 an-empty-list = KvmLists.empty-list
+
+-- rows with a subleaf, flag 1, as bytes: B.1 and D.2 of server A; and a list of two rows given as bytes, every byte of its two pages.
+-- crates/kvm_examples/specs/KvmBytes.antt
+pub row-of-d-2-listed : take 40 (drop 328 (listOf (answer first serverA .table)))
+    ≡ 0xD ∷ 0 ∷ 0 ∷ 0 ∷ 2 ∷ 0 ∷ 0 ∷ 0 ∷ 1 ∷ 0 ∷ 0 ∷ 0
+    ∷ 0 ∷ 0x01 ∷ 0 ∷ 0 ∷ 0x40 ∷ 0x02 ∷ 0 ∷ 0 ∷ 0 ∷ 0 ∷ 0 ∷ 0 ∷ 0 ∷ 0 ∷ 0 ∷ 0
+    ∷ 0 ∷ 0 ∷ 0 ∷ 0 ∷ 0 ∷ 0 ∷ 0 ∷ 0 ∷ 0 ∷ 0 ∷ 0 ∷ 0 ∷ []
+row-of-d-2-listed = KvmBytes.row-of-d-2
+
+pub two-rows-read : (buffer : List ℕ) → 8192 ≤ length buffer
+    → readList KvmBytes.twoRows buffer ≡ record { answer = Bytes 8192; buffer = (KvmBytes.page0 ++ KvmBytes.page1) ++ drop 8192 buffer }
+two-rows-read = KvmBytes.two-rows-read
 
 -- ---- The page reader in the source's form. crates/reader/specs/Read.antt.
 
@@ -701,6 +805,25 @@ line-at-most-22 = at-most-22
 pub every-refusal-has-a-line : (r : Refusal) → details r .s ≤ mostS → writable (lineDetails (details r)) ≡ true
 every-refusal-has-a-line = Lines.every-refusal
 
+-- each refusal that building gives, of page bytes, is written and read back to itself: nothing more is asked. crates/lined/specs/Lined.antt
+pub every-refusal-of-building-is-read-back : BuildingLined
+every-refusal-of-building-is-read-back = building-lined
+
+-- two page sets whose refusals have one line are refused by one refusal, details included
+pub lines-tell-refusals : LinesTell
+lines-tell-refusals = lines-tell
+
+-- "no such line", then 9, then the line, each if and only if its condition holds; every lent byte. crates/lines/specs/LineExactly.antt
+pub each-line-write-exactly : (d : LineDetails) (buffer : List ℕ) → LineExactly d buffer (writeLine d buffer)
+each-line-write-exactly = line-exactly
+
+pub which-have-a-line : (d : LineDetails) → (writable d ≡ true) ↔ Nameable (names (d .number)) d
+which-have-a-line = writable-means
+
+-- a number is in use, and names a leaf, a subleaf or s, exactly where some refusal with that number is, or sets one. crates/lines/specs/NumbersNamed.antt
+pub each-number-names-exactly : (n : ℕ) → NamesExactly n
+each-number-names-exactly = names-exactly
+
 -- the longest line meets what they ask: 3 FFFFFFFF 4294967295
 pub longest-fits : Fits longest
 longest-fits = ComputedLines.longest-fits
@@ -749,9 +872,21 @@ a-pool-is-the-and = pool-right
 pub a-pool-is-the-greatest : (chosen : Choices) (pages lengths : List ℕ) → pooled chosen pages lengths .verdict ≡ Accepted → Greatest chosen pages lengths
 a-pool-is-the-greatest = greatest
 
+-- the same by the letter: bit 28 of 1.EDX, which is no feature, is asked of no table. crates/pooled/specs/ByTheLetter.antt
+pub a-pool-is-the-greatest-by-the-letter : (chosen : Choices) (pages lengths : List ℕ) → pooled chosen pages lengths .verdict ≡ Accepted
+    → GreatestByTheLetter chosen pages lengths
+a-pool-is-the-greatest-by-the-letter = greatest-by-the-letter
+
 -- one server more, or several, wherever they stand: no feature bit, no mask bit and no row is added, where both pools are accepted
 pub one-server-more : OneMore
 one-server-more = one-more
+
+pub one-server-more-by-the-letter : OneMoreByTheLetter
+one-server-more-by-the-letter = one-more-by-the-letter
+
+-- where a guest of one of the pool's servers may move, a guest of the pool's table may. crates/pooled/specs/PoolMoves.antt
+pub a-pool-moves-where-its-servers-do : PoolMoves
+a-pool-moves-where-its-servers-do = pool-moves
 
 -- the order of the servers beyond the first does not matter: the whole answer is the same
 pub order-of-servers-is-free : OrderFree
@@ -796,6 +931,10 @@ a-server-more-adds-nothing = PoolInstances.of-one-more
 -- W's table lies within A's and its own; A, D and W pool as A, W and D do
 pub w-has-none-beyond-the-pool : NoneBeyond (answer first Pools.serverW .table) (poolTable first (serverA ++ Pools.serverW) Pools.two)
 w-has-none-beyond-the-pool = PoolInstances.of-w-within
+
+-- A's table, which has bit 28 of 1.EDX, beside two servers that have not: no feature bit of it lies beyond theirs, nor beyond their pool's
+pub a-has-none-beyond-by-the-letter : NoFeatureBeyond (answer first serverA .table) (poolTable first (Bit28.serverM ++ Bit28.serverM) Pools.two)
+a-has-none-beyond-by-the-letter = Letter28.a-has-none-beyond
 
 pub d-and-w-change-places :
     pooled first (serverA ++ Differ.serverD ++ Pools.serverW) Differ.three ≡ pooled first (serverA ++ Pools.serverW ++ Differ.serverD) Differ.three

@@ -1,0 +1,1 @@
+// Building's refusals as lines: statements and their proofs, no code.
