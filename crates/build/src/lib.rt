@@ -1,6 +1,6 @@
 // Pages in, one table with its origins or without, or one refusal out.
 use checks::validate_required;
-use lawful::validate_pages;
+use lawful::walk_pages;
 use masking::PLACES;
 use rows_built::RowsBuilt;
 use rows_built::from_invlpgb;
@@ -30,18 +30,19 @@ pub fn build(pages: &[u8], choices: Choices) -> Built
     if known_edition(choices.edition) {} else {
         return not_built(Refusal::UnknownEdition);
     }
-    let lawful = validate_pages(pages);
+    let mut registers: [u32; 352] = [0; 352];
+    let mut found: [u64; PLACES] = [0; PLACES];
+    let lawful = walk_pages(pages, choices.secure_avic, &mut registers, &mut found);
     if let Verdict::Refused(r) = lawful {
         return not_built(r);
     }
-    let collected = locate::collect_located(pages, choices.secure_avic);
-    let present = collected.table.present;
+    let t = locate::table_in(&registers, &found);
+    let present = t.present;
     let verdict = validate_required(present);
     if let Verdict::Refused(r) = verdict {
         return not_built(r);
     }
-    let origins = collected.origins;
-    located(from_invlpgb(collected.table, choices.edition), origins)
+    located(from_invlpgb(t, choices.edition), found)
 }
 
 // The same but origins, for what has no use for them: the image, the list for KVM, a comparison.
@@ -51,11 +52,13 @@ pub fn build_table(pages: &[u8], choices: Choices) -> RowsBuilt
     if known_edition(choices.edition) {} else {
         return refused(Refusal::UnknownEdition);
     }
-    let lawful = validate_pages(pages);
+    let mut registers: [u32; 352] = [0; 352];
+    let mut found: [u64; PLACES] = [0; PLACES];
+    let lawful = walk_pages(pages, choices.secure_avic, &mut registers, &mut found);
     if let Verdict::Refused(r) = lawful {
         return refused(r);
     }
-    let t = collect::collect(pages, choices.secure_avic);
+    let t = locate::table_in(&registers, &found);
     let present = t.present;
     let verdict = validate_required(present);
     if let Verdict::Refused(r) = verdict {

@@ -1,19 +1,15 @@
-// From pages to the masked first entries of the 88 places. Page bytes come in; the rows that every check and rule starts from go out.
+// What becomes of one entry: the place that it is stored at, and its registers there. In specs/ the masked first entries of the 88 places.
 use masking::PLACES;
 use masking::place;
 use masks::KeptLeaf;
 use pages::ParsedCpuidEntry;
-use table::CpuidResults;
 use x86defs::CpuidResult;
 use x86defs::leaf;
 ghost use mathlib.Core.Path.{_≡_};
-ghost use mathlib.Core.Bool.{true};
-ghost use Rattle.pages.specs.Layout.{countsFit};
-ghost use Rattle.reserved.specs.Reserved.{allClean};
 ghost use Rattle.masking.specs.Masks.{applyMask};
 ghost use Rattle.masks.specs.KeptTable.{masksOf};
 ghost use Rattle.collect.specs.FirstEntries.{setLegacy};
-ghost use Rattle.collect.specs.Collect.{collected, countedPlace};
+ghost use Rattle.collect.specs.Collect.{countedPlace};
 
 const LEGACY_FEATURES: u32 = 3;
 
@@ -45,35 +41,4 @@ pub fn masked_at(kept: KeptLeaf, place: usize, r: CpuidResult) -> CpuidResult
         };
     }
     masked
-}
-
-// The masked first entry of every place, from clean pages whose counts are lawful: what the reader gives, page by page.
-pub fn collect(pages: &[u8], secure_avic: bool) -> CpuidResults
-    requires { ⌜ (countsFit (now pages) ≡ true) × (allClean (now pages) ≡ true) ⌝ }
-    ensures { λ r. ⌜ r ≡ collected «secure_avic» (now (pages .entry)) ⌝ }
-{
-    let kept = masks::kept_leaves(secure_avic);
-    let n = pages::page_count(pages);
-    let mut t = table::empty_table();
-    let mut index = reader::start(pages);
-    while index.page_index < n {
-        let page = index.page_index;
-        while index.page_index == page {
-            let taken = reader::take(pages, index);
-            let entry = taken.found;
-            let place = counted_place(entry);
-            if place < PLACES {
-                if t.present[place] {} else {
-                    let row = masks::mask_row(place);
-                    let r = entry.result;
-                    let masked = masked_at(kept[row], place, r);
-                    t.present[place] = true;
-                    t.results[place] = masked;
-                }
-            }
-            let next = taken.index;
-            index = next;
-        }
-    }
-    t
 }

@@ -54,16 +54,17 @@ pub fn compare(a: &[u8], b: &[u8], choices: Choices) -> Compared
     if let Verdict::Refused(refusal) = verdict {
         return Compared::RefusedA(refusal);
     }
-    let lawful = lawful::validate_pages(b);
+    let mut registers: [u32; 352] = [0; 352];
+    let mut origins: [u64; PLACES] = [0; PLACES];
+    let lawful = lawful::walk_pages(b, choices.secure_avic, &mut registers, &mut origins);
     if let Verdict::Refused(refusal) = lawful {
         return Compared::UnlawfulB(refusal);
     }
+    let rows_b = locate::table_in(&registers, &origins);
+    let again = lawful::walk_pages(a, choices.secure_avic, &mut registers, &mut origins);
+    let rows_a = locate::table_in(&registers, &origins);
     let table = built.table;
-    first_failing(
-        table,
-        collect::collect(a, choices.secure_avic),
-        collect::collect(b, choices.secure_avic),
-    )
+    first_failing(table, rows_a, rows_b)
 }
 
 // The first place at which B's masked first entry fails beside A's, among the places that A's table has.

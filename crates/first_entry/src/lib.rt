@@ -15,19 +15,20 @@ pub struct FirstEntry {
 pub fn first_entry(pages: &[u8], leaf: CpuidFunction, subleaf: u32) -> FirstEntry
     ensures { λ r. ⌜ r ≡ firstEntry (now (pages .entry)) leaf subleaf ⌝ }
 {
-    let lawful = lawful::validate_pages(pages);
+    let mut registers: [u32; 352] = [0; 352];
+    let mut origins: [u64; PLACES] = [0; PLACES];
+    let lawful = lawful::walk_pages(pages, false, &mut registers, &mut origins);
     if let Verdict::Refused(r) = lawful {
         return FirstEntry {
             verdict: Verdict::Refused(r),
             origin: 0,
         };
     }
-    let collected = locate::collect_located(pages, false);
     let place = masking::place_of(leaf, subleaf);
     if place < PLACES {
         return FirstEntry {
             verdict: Verdict::Accepted,
-            origin: collected.origins[place],
+            origin: origins[place],
         };
     }
     FirstEntry {

@@ -1,6 +1,6 @@
 // One server of a pool by itself. Its pages come in; building's verdict goes out and, where it accepts, the masked first entries and where each
 // stands.
-use lawful::validate_pages;
+use lawful::walk_pages;
 use masking::PLACES;
 use rows_verdict::rows_verdict;
 use table::Choices;
@@ -38,17 +38,17 @@ pub fn server_rows(pages: &[u8], choices: Choices) -> Server
     if known_edition(choices.edition) {} else {
         return refused_server(Refusal::UnknownEdition);
     }
-    let lawful = validate_pages(pages);
+    let mut registers: [u32; 352] = [0; 352];
+    let mut origins: [u64; PLACES] = [0; PLACES];
+    let lawful = walk_pages(pages, choices.secure_avic, &mut registers, &mut origins);
     if let Verdict::Refused(r) = lawful {
         return refused_server(r);
     }
-    let collected = locate::collect_located(pages, choices.secure_avic);
-    let table = collected.table;
+    let table = locate::table_in(&registers, &origins);
     let verdict = rows_verdict(table);
     if let Verdict::Refused(r) = verdict {
         return refused_server(r);
     }
-    let origins = collected.origins;
     Server {
         verdict: Verdict::Accepted,
         table,
@@ -80,11 +80,13 @@ pub fn judged_rows(pages: &[u8], choices: Choices) -> Judged
     if known_edition(choices.edition) {} else {
         return refused_judged(Refusal::UnknownEdition);
     }
-    let lawful = validate_pages(pages);
+    let mut registers: [u32; 352] = [0; 352];
+    let mut origins: [u64; PLACES] = [0; PLACES];
+    let lawful = walk_pages(pages, choices.secure_avic, &mut registers, &mut origins);
     if let Verdict::Refused(r) = lawful {
         return refused_judged(r);
     }
-    let table = collect::collect(pages, choices.secure_avic);
+    let table = locate::table_in(&registers, &origins);
     let verdict = rows_verdict(table);
     if let Verdict::Refused(r) = verdict {
         return refused_judged(r);

@@ -8,25 +8,56 @@ use lib.Dec.{ltb}
 use lib.ListN.{length}
 use borrow.Author.Tests.{ltb-true, ltb-false}
 use Rattle.bits.specs.Choice.{pick}
+use Rattle.bits.specs.ChoiceLaws.{pick-true, pick-false}
 use Rattle.bits.specs.Lists.{keepIf}
+use Rattle.x86defs.specs.declared.CpuidFunction.{CpuidFunction}
 use Rattle.pages.specs.declared.CpuidPageIndex.{CpuidPageIndex}
 use Rattle.pages.specs.declared.ParsedCpuidEntry.{ParsedCpuidEntry}
-use Rattle.pages.specs.Layout.{Entry, pagesIn, mostEntries, entryAt}
+use Rattle.pages.specs.Layout.{Entry as PageEntry, pagesIn, mostEntries, entryAt}
 use Rattle.pages.specs.LayoutLaws.{counts-fit-at}
 use Rattle.pages.specs.Entries.{entries, counts, counted}
 use Rattle.pages.specs.Parsed.{parsed, countsRead}
 use Rattle.walk.specs.Walk.{incremented, rest, firstIndex}
 use Rattle.walk.specs.WalkLaws.{Valid, Turn, turn, first-valid, rest-first, rest-end}
-use Rattle.reserved.specs.Reserved.{cleanAt, clean, allClean}
-use Rattle.reserved.specs.ReservedLaws.{clean-at, clean-kept}
-use Rattle.reader.specs.Read.{Readable, given}
+use Rattle.reserved.specs.Reserved.{clean, allClean}
+use Rattle.reserved.specs.ReservedLaws.{clean-kept}
+use Rattle.reader.specs.declared.Read.the-variants.{Entry, Unclean}
+use Rattle.reader.specs.Read.{Readable, entryHere, cleanHere, readAt, given}
 
--- where a reader may read, the entry stands on its page, and its reserved bytes are zero
+-- where a reader may read, the entry stands on its page
 pub readable-within : {s : List ℕ} {i : CpuidPageIndex} → Readable s i → (i .«page_index» < pagesIn s) × (i .«function_index» < mostEntries)
-readable-within {s} {i} r = (r .page, omega (arith, counts-fit-at s (r .lawful) (i .«page_index») (r .page)))
+readable-within {s} {i} r = let h = r .inside .page in (h, omega (arith, counts-fit-at s (r .lawful) (i .«page_index») h, r .inside .position))
 
-pub readable-clean : {s : List ℕ} {i : CpuidPageIndex} → Readable s i → cleanAt s (i .«page_index») (i .«function_index») ≡ true
-readable-clean {s} {i} r = clean-at s (r .clean) (i .«page_index») (i .«function_index») (r .page) (r .position)
+-- by each answer of the code
+module _ (s : List ℕ) (i j : CpuidPageIndex) where
+  pub clean-read : {e : ParsedCpuidEntry} → e ≡ parsed (entryHere s i) → cleanHere s i ≡ true → Entry e j ≡ readAt s i j
+  unfolding readAt
+  clean-read p c = ap (λ (x : ParsedCpuidEntry). Entry x j) p ∙ sym (pick-true _ _ c)
+
+  pub unclean-read : {e : ParsedCpuidEntry} → e ≡ parsed (entryHere s i) → cleanHere s i ≡ false → Unclean (e .leaf) ≡ readAt s i j
+  unfolding readAt
+  unclean-read p c = ap (λ (x : ParsedCpuidEntry). Unclean (x .leaf)) p ∙ sym (pick-false _ _ c)
+
+-- an entry that it gives is the one there, with the index after, and its reserved bytes are zero; a leaf that it gives is that of the one there, where
+-- one of these bytes is not
+module _ (s : List ℕ) (i j : CpuidPageIndex) where
+  pub read-entry : {e : ParsedCpuidEntry} {k : CpuidPageIndex} → Entry e k ≡ readAt s i j
+      → (e ≡ parsed (entryHere s i)) × (k ≡ j) × (cleanHere s i ≡ true)
+  unfolding readAt
+  read-entry {e} {k} f = go (cleanHere s i) f
+    where
+      go : (b : Bool) → Entry e k ≡ pick b (Entry (parsed (entryHere s i)) j) (Unclean (entryHere s i .leaf))
+          → (e ≡ parsed (entryHere s i)) × (k ≡ j) × (b ≡ true)
+      go true g = (cc, cc, refl)
+      go false g = let z : _≡_ {A = ℕ} 0 1 = cc in absurd (omega arith)
+
+  pub read-unclean : {l : CpuidFunction} → Unclean l ≡ readAt s i j → (l ≡ entryHere s i .leaf) × (cleanHere s i ≡ false)
+  unfolding readAt
+  read-unclean {l} f = go (cleanHere s i) f
+    where
+      go : (b : Bool) → Unclean l ≡ pick b (Entry (parsed (entryHere s i)) j) (Unclean (entryHere s i .leaf)) → (l ≡ entryHere s i .leaf) × (b ≡ false)
+      go true g = let z : _≡_ {A = ℕ} 0 1 = cc in absurd (omega arith)
+      go false g = (cc, refl)
 
 gives-rest : (s : List ℕ) (n : ℕ) (i : CpuidPageIndex) → Valid s i → length (rest s i) ≤ n → given s n i ≡ map parsed (rest s i)
 unfolding given
@@ -50,7 +81,7 @@ pub reader-gives : (s : List ℕ) (n : ℕ) → length (entries s) ≤ n → giv
 reader-gives s n l = gives-rest s n (firstIndex s) (first-valid s) (rw (rest-first s) l) ∙ ap (map parsed) (rest-first s)
 
 -- what is taken of an entry says whether the entry counts
-says-counts : (es : List Entry) → keepIf countsRead (map parsed es) ≡ map parsed (keepIf counts es)
+says-counts : (es : List PageEntry) → keepIf countsRead (map parsed es) ≡ map parsed (keepIf counts es)
 unfolding keepIf counts
 says-counts [] = refl
 says-counts (e ∷ es) = go (says-counts es) (counts e)

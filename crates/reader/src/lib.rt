@@ -2,9 +2,10 @@
 // `take`, whose parameters are a plain slice and an index, and need no walk by hand.
 use pages::CpuidPageIndex;
 use pages::ParsedCpuidEntry;
+use x86defs::CpuidFunction;
 ghost use mathlib.Core.Path.{_≡_};
-ghost use Rattle.walk.specs.Walk.{firstIndex, incremented};
-ghost use Rattle.reader.specs.Read.{Readable, Step};
+ghost use Rattle.walk.specs.Walk.{Inside, firstIndex, incremented};
+ghost use Rattle.reader.specs.Read.{Readable, readAt};
 
 // The caller's pages, and where the reader stands on them.
 pub struct SnpCpuidIterator<'a> {
@@ -12,10 +13,11 @@ pub struct SnpCpuidIterator<'a> {
     pub index: CpuidPageIndex,
 }
 
-// What one step of the reader gives: the entry that it stood at, and where it stands after.
-pub struct Taken {
-    pub found: ParsedCpuidEntry,
-    pub index: CpuidPageIndex,
+// What one step of the reader gives: the entry that it stood at, whose reserved bytes are zero, and where it stands after; or the leaf of an entry
+// where one of these bytes is not zero.
+pub enum Read {
+    Entry(ParsedCpuidEntry, CpuidPageIndex),
+    Unclean(CpuidFunction),
 }
 
 // A reader at the first entry of the pages.
@@ -30,6 +32,7 @@ pub fn new<'a>(cpuid_pages: &'a [u8]) -> SnpCpuidIterator<'a>
 
 // The index stepped in the caller's own record, as `CpuidPageIndex::increment` does.
 pub fn increment(index: &mut CpuidPageIndex, pages: &[u8])
+    requires { ⌜ Inside (now pages) (now index) ⌝ }
     ensures { λ _. ⌜ now (index .exit) ≡ incremented (now (pages .entry)) (now (index .entry)) ⌝ }
 {
     *index = walk::increment(pages, *index);
@@ -43,20 +46,30 @@ pub fn start(pages: &[u8]) -> CpuidPageIndex
     r.index
 }
 
-// One step of a reader that stands at `index`: the entry there is read, and the reader's index is lent to `increment`. With the entry it promises
-// that the entry's reserved bytes are zero.
-pub fn take(pages: &[u8], index: CpuidPageIndex) -> Taken
+// One step of a reader that stands at `index`: its index is lent to `increment`, and what it stood at is read. With an entry it promises that the entry's
+// reserved bytes are zero.
+pub fn take(pages: &[u8], index: CpuidPageIndex) -> Read
     requires { ⌜ Readable (now pages) index ⌝ }
-    ensures { λ r. ⌜ Step (now (pages .entry)) index r ⌝ }
+    ensures { λ r. ⌜ r ≡ readAt (now (pages .entry)) index (incremented (now (pages .entry)) index) ⌝ }
 {
     let mut r = SnpCpuidIterator {
         cpuid_pages: pages,
         index,
     };
-    let found = pages::entry_at(r.cpuid_pages, r.index);
+    let at = r.index;
     increment(&mut r.index, r.cpuid_pages);
-    Taken {
-        found,
-        index: r.index,
+    read_at(r.cpuid_pages, at, r.index)
+}
+
+// The entry at an index, with the index after it, if its reserved bytes are zero; else its leaf.
+pub fn read_at(pages: &[u8], at: CpuidPageIndex, next: CpuidPageIndex) -> Read
+    requires { ⌜ Readable (now pages) at ⌝ }
+    ensures { λ r. ⌜ r ≡ readAt (now (pages .entry)) at next ⌝ }
+{
+    let entry = pages::entry_at(pages, at);
+    if reserved::clean_at(pages, at) {
+        return Read::Entry(entry, next);
     }
+    let leaf = entry.leaf;
+    Read::Unclean(leaf)
 }

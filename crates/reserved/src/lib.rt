@@ -1,4 +1,5 @@
 // The reserved bytes of the entries. Page bytes come in; whether all are zero goes out, or the leaf of the first entry that has another there.
+use pages::CpuidPageIndex;
 use pages::ENTRY_SIZE;
 use pages::FIRST_ENTRY;
 use pages::PAGE_SIZE;
@@ -6,10 +7,10 @@ use pages::word_at;
 use x86defs::CpuidFunction;
 ghost use mathlib.Core.Path.{_≡_};
 ghost use mathlib.Core.Bool.{true};
-ghost use Prim.Native.Nat.{_+_, _≤_};
+ghost use Prim.Native.Nat.{_+_, _≤_, _<_};
 ghost use lib.ListN.{length};
-ghost use Rattle.pages.specs.Layout.{countsFit};
-ghost use Rattle.reserved.specs.Reserved.{eightZeros, reservedOf};
+ghost use Rattle.pages.specs.Layout.{countsFit, pagesIn, mostEntries};
+ghost use Rattle.reserved.specs.Reserved.{eightZeros, cleanAt, reservedOf};
 
 const RESERVED: usize = 40;
 
@@ -40,6 +41,15 @@ pub fn reserved_bytes(pages: &[u8]) -> Reserved
         page += 1;
     }
     Reserved::Zero
+}
+
+// Whether the reserved bytes of the entry at an index are zero.
+pub fn clean_at(pages: &[u8], index: CpuidPageIndex) -> bool
+    requires { ⌜ (index .«page_index» < pagesIn (now pages)) × (index .«function_index» < mostEntries) ⌝ }
+    ensures { λ r. ⌜ r ≡ cleanAt (now (pages .entry)) (index .«page_index») (index .«function_index») ⌝ }
+{
+    let start = PAGE_SIZE * index.page_index + FIRST_ENTRY + ENTRY_SIZE * index.function_index;
+    eight_zeros(pages, start + RESERVED)
 }
 
 // Whether the eight bytes at `o` are zero.

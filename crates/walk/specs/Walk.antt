@@ -2,7 +2,7 @@
 -- count are read, pages in order; empty pages are passed over, also first, last and several running.
 use mathlib.Core.Bool.{Bool, _&&_}
 use mathlib.Core.List.{List, [], _++_}
-use Prim.Native.Nat.{ℕ, _+_, _-_}
+use Prim.Native.Nat.{ℕ, _+_, _-_, _<_}
 use lib.Dec.{eqb, ltb}
 use Rattle.bits.specs.Choice.{pick}
 use Rattle.bits.specs.Search.{Failing, lowest}
@@ -19,6 +19,11 @@ index p q = record { «page_index» = p; «function_index» = q }
 -- whether it stands on a page, below that page's count
 abbrev pub isEntry : List ℕ → CpuidPageIndex → Bool
 isEntry s i = ltb (i .«page_index») (pagesIn s) && ltb (i .«function_index») (countOf s (i .«page_index»))
+
+-- the same as a fact
+pub record Inside (s : List ℕ) (i : CpuidPageIndex) : Type 0 where
+  pub page : i .«page_index» < pagesIn s
+  pub position : i .«function_index» < countOf s (i .«page_index»)
 
 -- whether page p has no entry
 abbrev pub isEmpty : List ℕ → ℕ → Bool

@@ -5,7 +5,7 @@ use pages::page_count;
 ghost use mathlib.Core.Path.{_≡_};
 ghost use Prim.Native.Nat.{_+_, _≤_, _<_};
 ghost use Rattle.pages.specs.Layout.{pagesIn};
-ghost use Rattle.walk.specs.Walk.{firstIndex, nextValid, incremented, firstFrom};
+ghost use Rattle.walk.specs.Walk.{Inside, firstIndex, nextValid, incremented, firstFrom};
 
 // The index of the first entry, or the end. The source's `CpuidPageIndex::new`.
 pub fn first_index(pages: &[u8]) -> CpuidPageIndex
@@ -38,29 +38,22 @@ pub fn next_valid_index(pages: &[u8], index: CpuidPageIndex) -> CpuidPageIndex
     }
 }
 
-// The index of the entry after this one, or the end; past the last page the index stays as it is.
-// A position at or above its page's count goes to a later page, as the next position would. The count is read once, and what leads to a
-// later page stands in a function of its own, so that a loop over one page's entries stays short when this is compiled into it.
+// The index of the entry after the one that an index stands at, or the end. What leads to a later page stands in a function of its own, so that a
+// loop over one page's entries stays short when this is compiled into it.
 pub fn increment(pages: &[u8], index: CpuidPageIndex) -> CpuidPageIndex
+    requires { ⌜ Inside (now pages) index ⌝ }
     ensures { λ r. ⌜ r ≡ incremented (now (pages .entry)) index ⌝ }
 {
     let page = index.page_index;
-    if page < page_count(pages) {
-        let position = index.function_index;
-        let count = count_of(pages, page) as usize;
-        if position < count {
-            let after = position + 1;
-            if after < count {
-                return CpuidPageIndex {
-                    page_index: page,
-                    function_index: after,
-                };
-            }
-            return later_page(pages, page);
-        }
-        return later_page(pages, page);
+    let count = count_of(pages, page) as usize;
+    let after = index.function_index + 1;
+    if after < count {
+        return CpuidPageIndex {
+            page_index: page,
+            function_index: after,
+        };
     }
-    index
+    later_page(pages, page)
 }
 
 // The first entry of the pages after this one, or the end.

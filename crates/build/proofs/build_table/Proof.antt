@@ -2,7 +2,7 @@
 use mathlib.Core.Path.{refl, sym, ap, _∙_}
 use Rattle.build.specs.Built.{withoutOrigins}
 use Rattle.rows_built.specs.StageLaws.{required-found, required-refuses, required-passes}
-use Rattle.lawful.specs.LawfulLaws.{lawful-counts, lawful-clean}
+use Rattle.lawful.specs.Walk.{walked-table}
 use Rattle.build.specs.BuildLaws.{answer-unknown, answer-unlawful, table-collected}
 use borrow.Author.Needs.{needs}
 use Rattle.build.proofs.build_table.Statement.{statement}
@@ -15,36 +15,31 @@ returns c =
 
 returns-2 : tie.Need-returns-2
 returns-2 c =
-    let v = c .before .before in let l = v .before .before in let known = l .before in
+    let v = c .before .before in let l = v .before .before in let known = l .before .before .before in
     c .refused2 .ensures
     ∙ ap withoutOrigins
-    (answer-unlawful _ _ (sym (known .before .known-edition .ensures) ∙ known .if1 .taken) (l .validate-pages .ensures) (v .lawful .given .1) refl)
-
-collect-requires : tie.Need-collect-requires
-collect-requires c κs =
-    let e = sym (c .before .before .validate-pages .ensures) ∙ c .enum-told .given .1 in
-    (lawful-counts _ e, lawful-clean _ e)
+    (answer-unlawful _ _ (sym (known .before .known-edition .ensures) ∙ known .if1 .taken) (l .walk-pages .ensures .verdict) (v .lawful .given .1) refl)
 
 returns-3 : tie.Need-returns-3
 returns-3 c =
     let v = c .before .before in let s = v .before .before in let k = s .before .before in
-    let e = k .before in let l = e .before .before in let known = l .before in
-    table-collected _ _ (sym (known .before .known-edition .ensures) ∙ known .if1 .taken) (l .validate-pages .ensures) (e .enum-told .given .1)
-    (k .collect .ensures)
-    (required-refuses (k .collect .result) (s .validate-required .ensures) _ (v .verdict .given .1) (c .refused3 .ensures))
+    let e = k .before .before .before in let l = e .before .before in let known = l .before .before .before in let w = l .walk-pages .ensures in
+    table-collected _ _ (sym (known .before .known-edition .ensures) ∙ known .if1 .taken) (w .verdict) (e .enum-told .given .1)
+    (walked-table _ _ _ _ w (e .enum-told .given .1) (k .table-in .ensures))
+    (required-refuses (k .table-in .result) (s .validate-required .ensures) _ (v .verdict .given .1) (c .refused3 .ensures))
 
 from-invlpgb-requires : tie.Need-from-invlpgb-requires
 from-invlpgb-requires c κs =
     let s = c .before .before in
-    sym (required-found (s .before .before .collect .result) (s .validate-required .ensures)) ∙ c .enum-told2 .given .1
+    sym (required-found (s .before .before .table-in .result) (s .validate-required .ensures)) ∙ c .enum-told2 .given .1
 
 returns-4 : tie.Need-returns-4
 returns-4 c =
     let v = c .before in let s = v .before .before in let k = s .before .before in
-    let e = k .before in let l = e .before .before in let known = l .before in
-    table-collected _ _ (sym (known .before .known-edition .ensures) ∙ known .if1 .taken) (l .validate-pages .ensures) (e .enum-told .given .1)
-    (k .collect .ensures)
-    (required-passes (k .collect .result) (s .validate-required .ensures) _ (v .enum-told2 .given .1) (c .from-invlpgb .ensures))
+    let e = k .before .before .before in let l = e .before .before in let known = l .before .before .before in let w = l .walk-pages .ensures in
+    table-collected _ _ (sym (known .before .known-edition .ensures) ∙ known .if1 .taken) (w .verdict) (e .enum-told .given .1)
+    (walked-table _ _ _ _ w (e .enum-told .given .1) (k .table-in .ensures))
+    (required-passes (k .table-in .result) (s .validate-required .ensures) _ (v .enum-told2 .given .1) (c .from-invlpgb .ensures))
 
 pub build-table-spec : {M : Type 1} → statement M
 build-table-spec =
@@ -58,7 +53,7 @@ build-table-spec =
     (λ c κs. search needs)
     returns-2
     (λ c. search needs)
-    collect-requires
+    (λ c κs. search needs)
     (λ c κs. search needs)
     (λ c. search needs)
     (λ c κs. search needs)

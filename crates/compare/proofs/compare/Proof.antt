@@ -4,9 +4,8 @@ use mathlib.Core.Path.{_≡_, sym, ap, _∙_}
 use Rattle.build.specs.BuildLaws.{as-answer}
 use Rattle.build.specs.declared.Built.{Built}
 use Rattle.table.specs.declared.Verdict.the-variants.{Accepted}
-use Rattle.lawful.specs.Lawful.{lawfulVerdict}
 use Rattle.build.specs.Build.{answer}
-use Rattle.lawful.specs.LawfulLaws.{lawful-counts, lawful-clean}
+use Rattle.lawful.specs.Walk.{walked-table}
 use Rattle.rise.specs.RiseProof.{accepted-lawful}
 use Rattle.compare.specs.ReturnLaws.{refused-a, unlawful-b, rows-compared}
 use Rattle.compare.specs.DecidesProof.{decided}
@@ -28,26 +27,17 @@ accepted c = sym (ap (λ (x : Built). x .verdict) (as-answer _ _ (c .before .bef
 returns-2 : tie.Need-returns-2
 returns-2 c =
     let l = c .before in let v = l .before .before in
-    decided _ _ _ (unlawful-b _ _ _ (accepted (v .before)) (sym (v .validate-pages .ensures) ∙ l .lawful .given .1))
-
-collect-requires : tie.Need-collect-requires
-collect-requires c κs =
-    let e = accepted-lawful _ _ (accepted (c .before .before .before .before)) in
-    (lawful-counts _ e, lawful-clean _ e)
-
--- where B is lawful
-lawful : (c : tie.After-enum-told2) → lawfulVerdict (start (c .before .before .before) .args .b .now) ≡ Accepted
-lawful c = sym (c .before .before .validate-pages .ensures) ∙ c .enum-told2 .given .1
-
-collect-requires-2 : tie.Need-collect-requires-2
-collect-requires-2 c κs = let e = lawful (c .before .before) in (lawful-counts _ e, lawful-clean _ e)
+    decided _ _ _ (unlawful-b _ _ _ (accepted (v .before .before .before)) (sym (v .walk-pages .ensures .verdict) ∙ l .lawful .given .1))
 
 returns-3 : tie.Need-returns-3
 returns-3 c =
-    let l = c .before .before .before .before in let e = l .before .before .before in
+    let ta = c .before .before in let wa = ta .before .before .before in let tb = wa .before .before .before in
+    let l = tb .before .before .before in let wb = l .before .before in let e = wb .before .before .before in
+    let lawful-a = wa .walk-pages2 .ensures .verdict ∙ accepted-lawful _ _ (accepted e) in
     decided _ _ _
-    (rows-compared _ _ _ (accepted e) (lawful l) (as-answer _ _ (e .before .before .build-table .ensures)) (c .before .before .collect .ensures)
-    (c .before .collect2 .ensures) (c .first-failing .ensures))
+    (rows-compared _ _ _ (accepted e) (sym (wb .walk-pages .ensures .verdict) ∙ l .enum-told2 .given .1)
+    (as-answer _ _ (e .before .before .build-table .ensures)) (walked-table _ _ _ _ (wa .walk-pages2 .ensures) lawful-a (ta .table-in2 .ensures))
+    (walked-table _ _ _ _ (wb .walk-pages .ensures) (l .enum-told2 .given .1) (tb .table-in .ensures)) (c .first-failing .ensures))
 
 pub compare-spec : {M : Type 1} → statement M
 compare-spec =
@@ -61,7 +51,8 @@ compare-spec =
     (λ c. search needs)
     returns-2
     (λ c. search needs)
-    collect-requires
-    collect-requires-2
+    (λ c κs. search needs)
+    (λ c κs. search needs)
+    (λ c κs. search needs)
     (λ c κs. search needs)
     returns-3)

@@ -1,7 +1,7 @@
 -- `pool_server::judged_rows` meets its contract: one return a case of the server's answer.
 use borrow.Author.Needs.{needs}
 use mathlib.Core.Path.{refl, sym, ap, _∙_}
-use Rattle.lawful.specs.LawfulLaws.{lawful-counts, lawful-clean}
+use Rattle.lawful.specs.Walk.{walked-table}
 use Rattle.pool_server.specs.Server.{judged}
 use Rattle.pool_server.specs.ServerLaws.{server-unknown, server-unlawful, server-refused, server-accepted}
 use Rattle.pool_server.proofs.judged_rows.Statement.{statement}
@@ -12,32 +12,27 @@ returns c = c .refused-judged .ensures ∙ ap judged (server-unknown _ _ (sym (c
 
 returns-2 : tie.Need-returns-2
 returns-2 c =
-    let v = c .before .before in let l = v .before .before in let known = l .before in
+    let v = c .before .before in let l = v .before .before in let known = l .before .before .before in
     c .refused-judged2 .ensures
     ∙ ap judged
-    (server-unlawful _ _ (sym (known .before .known-edition .ensures) ∙ known .if1 .taken) (l .validate-pages .ensures) (v .lawful .given .1) refl)
-
-collect-requires : tie.Need-collect-requires
-collect-requires c κs =
-    let e = sym (c .before .before .validate-pages .ensures) ∙ c .enum-told .given .1 in
-    (lawful-counts _ e, lawful-clean _ e)
+    (server-unlawful _ _ (sym (known .before .known-edition .ensures) ∙ known .if1 .taken) (l .walk-pages .ensures .verdict) (v .lawful .given .1) refl)
 
 returns-3 : tie.Need-returns-3
 returns-3 c =
     let v = c .before .before in let b = v .before .before in let k = b .before in
-    let e = k .before in let l = e .before .before in let known = l .before in
+    let e = k .before .before .before in let l = e .before .before in let known = l .before .before .before in
     c .refused-judged3 .ensures
     ∙ ap judged
-    (server-refused _ _ (sym (known .before .known-edition .ensures) ∙ known .if1 .taken) (l .validate-pages .ensures) (e .enum-told .given .1)
-    (k .collect .result) (k .collect .ensures) (b .rows-verdict .ensures) (v .verdict .given .1) refl)
+    (server-refused _ _ (sym (known .before .known-edition .ensures) ∙ known .if1 .taken) (l .walk-pages .ensures .verdict) (e .enum-told .given .1)
+    (k .table-in .result) (walked-table _ _ _ _ (l .walk-pages .ensures) (e .enum-told .given .1) (k .table-in .ensures)) (b .rows-verdict .ensures) (v .verdict .given .1) refl)
 
 returns-4 : tie.Need-returns-4
 returns-4 c =
     let t = c in let b = t .before .before in let k = b .before in
-    let e = k .before in let l = e .before .before in let known = l .before in
+    let e = k .before .before .before in let l = e .before .before in let known = l .before .before .before in
     ap judged
-    (server-accepted _ _ (sym (known .before .known-edition .ensures) ∙ known .if1 .taken) (l .validate-pages .ensures) (e .enum-told .given .1)
-    (k .collect .result) (k .collect .ensures) (b .rows-verdict .ensures) (t .enum-told2 .given .1) refl)
+    (server-accepted _ _ (sym (known .before .known-edition .ensures) ∙ known .if1 .taken) (l .walk-pages .ensures .verdict) (e .enum-told .given .1)
+    (k .table-in .result) (walked-table _ _ _ _ (l .walk-pages .ensures) (e .enum-told .given .1) (k .table-in .ensures)) (b .rows-verdict .ensures) (t .enum-told2 .given .1) refl)
 
 pub judged-rows-spec : {M : Type 1} → statement M
 judged-rows-spec =
@@ -51,7 +46,7 @@ judged-rows-spec =
     (λ c κs. search needs)
     returns-2
     (λ c. search needs)
-    collect-requires
+    (λ c κs. search needs)
     (λ c κs. search needs)
     (λ c. search needs)
     (λ c κs. search needs)

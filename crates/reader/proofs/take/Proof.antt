@@ -1,4 +1,4 @@
--- `reader::take` meets its contract: a walk of its MIR, by hand. A reader is made of the slice and the index passed; the entry at its index is read by `pages::entry_at`; then the reader's index, a field of a local, is lent to `increment` for a lifetime of the call, and comes back stepped.
+-- `reader::take` meets its contract: a walk of its MIR, by hand. A reader is made of the slice and the index passed; its index, a field of a local, is lent to `increment` for a lifetime of the call, and comes back stepped; then `read_at` reads what it stood at.
 -- Of both callees the proof knows their contracts alone. In a local MIR erases the lifetime of the reader's type, so its value is shown to have the type at `erased`.
 use mathlib.Core.Path.{_≡_, refl, sym, ap, subst}
 use Prim.Native.Nat.{ℕ}
@@ -33,6 +33,7 @@ use denote.Ref.{RefT, MutRef, now}
 use denote.Signature.{plain}
 use denote.Slice.{sliceVal, ShrSlice, slice-vals, shr-slice-tells, shr-slice-lawful, shr-slice-copy}
 use denote.Steps.{only, owned, peeks, heard, nothing}
+use denote.Enum.Laws as EL
 use denote.Struct.Laws as LL
 use denote.Struct.Steps.{spelt}
 use denote.Triple.Statement.{Contract, Triple}
@@ -43,27 +44,21 @@ use denote.Triple.Table.{entered, cited}
 use denote.Triple.Walked.{says, needs, Stays, stay-none, stay-none-slice, walkOf, goes-none, goes-none-slice, Walks, ends-at, walked, walk-meets}
 use denote.Triple.Clauses.{ensured, lasts}
 use denote.Exit.{yes}
-use Rattle.pages.specs.Layout.{entryAt}
-use Rattle.pages.specs.Parsed.{parsed}
 use Rattle.walk.specs.Walk.{incremented}
 use Rattle.pages.specs.declared.CpuidPageIndex.{CpuidPageIndex}
-use Rattle.pages.specs.declared.ParsedCpuidEntry.{ParsedCpuidEntry}
 use Rattle.pages.proofs.CpuidPageIndex as P
 use Rattle.pages.proofs.CpuidPageIndex.Laws as P′
-use Rattle.pages.proofs.ParsedCpuidEntry as E
-use Rattle.pages.proofs.ParsedCpuidEntry.Laws as E′
-use Rattle.pages.proofs.entry_at as at-index
-use Rattle.pages.proofs.entry_at.Symbol as at-index-def
-use Rattle.pages.proofs.entry_at.Symbol.{name as #pages·entry-at}
-use Rattle.pages.proofs.entry_at.Met as at-index-thm
-use Rattle.reader.specs.Read.{Readable}
-use Rattle.reader.specs.ReadLaws.{readable-within, readable-clean}
+use Rattle.reader.specs.Read.{Readable, readAt}
+use Rattle.reader.specs.declared.Read.{Read}
 use Rattle.reader.specs.declared.SnpCpuidIterator.{SnpCpuidIterator}
-use Rattle.reader.specs.declared.Taken.{Taken}
 use Rattle.reader.proofs.SnpCpuidIterator as T
 use Rattle.reader.proofs.SnpCpuidIterator.Laws as T′
-use Rattle.reader.proofs.Taken as K
-use Rattle.reader.proofs.Taken.Laws as K′
+use Rattle.reader.proofs.Read as R
+use Rattle.reader.proofs.Read.Laws as R′
+use Rattle.reader.proofs.read_at as read-at
+use Rattle.reader.proofs.read_at.Symbol as read-at-def
+use Rattle.reader.proofs.read_at.Symbol.{name as #reader·read-at}
+use Rattle.reader.proofs.read_at.Met as read-at-thm
 use Rattle.reader.proofs.increment as inc
 use Rattle.reader.proofs.increment.Symbol as inc-def
 use Rattle.reader.proofs.increment.Symbol.{name as #reader·increment}
@@ -82,8 +77,8 @@ vals = LL.vals P.the-type P′.the-laws
 
 module _ {M : Type 1} (𝓤 : URA M) (H : Heap 𝓤) (A : Atoms 𝓤) (mem′ : Memory → SProp 𝓤) (run : Routine → Fun 𝓤) where
   -- the contracts that the proof cites
-  abbrev AtIndex : Contract 𝓤
-  AtIndex = tripleOf 𝓤 H A at-index.signature (at-index.spec 𝓤 H A mem′ run)
+  abbrev ReadAt : Contract 𝓤
+  ReadAt = tripleOf 𝓤 H A read-at.signature (read-at.spec 𝓤 H A mem′ run)
 
   abbrev Inc : Contract 𝓤
   Inc = tripleOf 𝓤 H A inc.signature (inc.spec 𝓤 H A mem′ run)
@@ -96,12 +91,12 @@ module _ {M : Type 1} (𝓤 : URA M) (H : Heap 𝓤) (A : Atoms 𝓤) (W : Given
   abbrev at : Vals take.signature (κ, tt)
   at = (v ∷ [], (vals i, tt))
 
-  -- what is found, and the index after
-  abbrev found : ParsedCpuidEntry
-  found = parsed (entryAt (now s) (i .«page_index») (i .«function_index»))
-
+  -- the index after, and the answer
   abbrev j : CpuidPageIndex
   j = incremented (now s) i
+
+  abbrev answer : Read
+  answer = readAt (now s) i j
 
   abbrev Post : Val → SProp 𝓤
   Post = walkOf 𝓤 H A take.ended stayed (take.clauses 𝓤 H A mem′ run) .post (((κ, tt), (q, tt), tt, (s, (i, tt)), at), tt)
@@ -116,17 +111,18 @@ module _ {M : Type 1} (𝓤 : URA M) (H : Heap 𝓤) (A : Atoms 𝓤) (W : Given
       frame ! $ fsplit ! $ use1 W (‵ Own ⊛ ‵ Own) (shr-slice-copy 𝓤 H A W (named 0) κ u8 .twice s (v ∷ [])) $ split ! $
       use1 W (‵ Own ⊛ ‵ Own) (shr-slice-copy 𝓤 H A W (named 0) κ u8 .twice s (v ∷ [])) $ split ! $ frame ! $ frame ! $ keep ! (0 ∷ []) $ done !
 
-  -- the entry is read
-  abbrev to-entry : AtIndex 𝓤 H A mem′ run .Ghost
-  to-entry = (((κ, tt), (q, tt), tt, (s, (i, tt)), at), tt)
+  -- what stood at the index is read, once the index after is known
+  abbrev to-read : ReadAt 𝓤 H A mem′ run .Ghost
+  to-read = (((κ, tt), (q, tt), tt, (s, (i, (j, tt))), (v ∷ [], (vals i, (vals j, tt)))), tt)
 
-  goes-entry : ent 𝓤 (⋆ 𝓤 H A ((‵ (flft κ q) ⊛ ‵ ftrue) ∷ ‵ Own ∷ ‵ (P.the-row .own i (vals i)) ∷ [])) (AtIndex 𝓤 H A mem′ run .pre to-entry)
-  goes-entry =
-      qed W ((‵ (flft κ q) ⊛ ‵ ftrue) ∷ ‵ Own ∷ ‵ (P.the-row .own i (vals i)) ∷ []) ∵
-      says ! (readable-within readable) $ frame ! $ nothing ! $ move ! (2 ∷ 0 ∷ []) $ fjoin ! $ move ! (1 ∷ 0 ∷ []) $ fjoin ! $ done !
+  goes-read : Is P.the-row j (vals j) → ent 𝓤 (⋆ 𝓤 H A ((‵ (flft κ q) ⊛ ‵ ftrue) ∷ ‵ Own ∷ [])) (ReadAt 𝓤 H A mem′ run .pre to-read)
+  goes-read ij =
+      qed W ((‵ (flft κ q) ⊛ ‵ ftrue) ∷ ‵ Own ∷ []) ∵
+      says ! readable $ frame ! $ nothing ! $ owned ! P.the-row (Is P.the-row) (LL.makes P.the-type P′.the-plain 𝓤 H A) j _ ij $ fjoin ! $
+      owned ! P.the-row (Is P.the-row) (LL.makes P.the-type P′.the-plain 𝓤 H A) i _ ii $ fjoin ! $ move ! (1 ∷ 0 ∷ []) $ fjoin ! $ done !
 
-  entry-said : (t : ParsedCpuidEntry) → ent 𝓤 (ensured 𝓤 H A at-index.ended (at-index.clauses 𝓤 H A mem′ run) (κ, tt) (s, (i, tt)) tt t) (fact 𝓤 (t ≡ found))
-  entry-said t = exE 𝓤 _ (λ ws. snd∗ 𝓤 (sem 𝓤 H A (lasts at-index.ended (κ, tt) (s, (i, tt)) ws)) (fact 𝓤 (t ≡ found)))
+  read-said : (r : Read) → ent 𝓤 (ensured 𝓤 H A read-at.ended (read-at.clauses 𝓤 H A mem′ run) (κ, tt) (s, (i, (j, tt))) tt r) (fact 𝓤 (r ≡ answer))
+  read-said r = exE 𝓤 _ (λ ws. snd∗ 𝓤 (sem 𝓤 H A (lasts read-at.ended (κ, tt) (s, (i, (j, tt))) ws)) (fact 𝓤 (r ≡ answer)))
 
   -- the reader's cell, in the local at b, with the index k; and what makes it of the index's cell
   abbrev Cell : ℕ → CpuidPageIndex → Fml
@@ -170,7 +166,7 @@ module _ {M : Type 1} (𝓤 : URA M) (H : Heap 𝓤) (A : Atoms 𝓤) (W : Given
   goes-inc : (b ν : ℕ) (γ : GName) → ent 𝓤 (⋆ 𝓤 H A ((‵ (flft (ν ∷ []) fullShare) ⊛ ‵ (flft κ q) ⊛ ‵ ftrue) ∷ ‵ (OwnIndex b ν γ) ∷ ‵ Own ∷ [])) (Inc 𝓤 H A mem′ run .pre (to-inc b ν γ))
   goes-inc b ν γ =
       qed W ((‵ (flft (ν ∷ []) fullShare) ⊛ ‵ (flft κ q) ⊛ ‵ ftrue) ∷ ‵ (OwnIndex b ν γ) ∷ ‵ Own ∷ []) ∵
-      nothing ! $ move ! (3 ∷ 0 ∷ []) $ fjoin ! $ move ! (2 ∷ 0 ∷ []) $ fjoin ! $ move ! (1 ∷ 0 ∷ []) $ join ! $ frame ! $ done !
+      says ! (readable .inside) $ frame ! $ nothing ! $ move ! (2 ∷ 0 ∷ []) $ fjoin ! $ move ! (1 ∷ 0 ∷ []) $ fjoin ! $ done !
 
   inc-said : (b ν : ℕ) (γ : GName) (r : Unit {0}) → ent 𝓤 (ensured 𝓤 H A inc.ended (inc.clauses 𝓤 H A mem′ run) (ν ∷ [], (κ, tt)) (lent-index b γ, (s, tt)) tt r) (A .res γ (P.the-row .coded .code j))
   inc-said b ν γ r =
@@ -178,21 +174,13 @@ module _ {M : Type 1} (𝓤 : URA M) (H : Heap 𝓤) (A : Atoms 𝓤) (W : Given
       use1 W (some (λ (ws : CpuidPageIndex × (Unit {0} × Unit {0})). ‵ (lasts inc.ended (ν ∷ [], (κ, tt)) (lent-index b γ, (s, tt)) ws) ⊛ raw (fact 𝓤 (ws .0 ≡ j)))) (id⊢ 𝓤 _) $ pick ! (λ ws.
       split ! $ move ! (1 ∷ []) $ heard ! (ws .0 ≡ j) (λ e. fsplit ! $ rewrite ! 0 (λ (k : CpuidPageIndex). ‵ (fres γ (P.the-row .coded .code k))) e refl $ keep ! (0 ∷ []) $ done !))
 
-  -- the answer
-  abbrev both : ParsedCpuidEntry → Taken
-  both t = record { found = t; index = j }
+  exits : (r : Read) (u : Val) → r ≡ answer → ent 𝓤 (⋆ 𝓤 H A (‵ (R.the-row .own r (u ∷ [])) ∷ (‵ (flft κ q) ⊛ ‵ ftrue) ∷ ‵ Own ∷ [])) (Post u)
+  exits r u e =
+      qed W (‵ (R.the-row .own r (u ∷ [])) ∷ (‵ (flft κ q) ⊛ ‵ ftrue) ∷ ‵ Own ∷ []) ∵
+      suffices ! _ (ends-at 𝓤 H A take.ended stayed (take.clauses 𝓤 H A mem′ run) W (((κ, tt), (q, tt), tt, (s, (i, tt)), at), tt) u r (tt, (tt, tt)) (tt, (tt, tt))) $ says ! e $
+      move ! (1 ∷ []) $ frame ! $ nothing ! $ owned ! P.the-row (Is P.the-row) (LL.makes P.the-type P′.the-plain 𝓤 H A) i _ ii $ fjoin ! $ move ! (2 ∷ 0 ∷ []) $ fjoin ! $ frame ! $ done !
 
-  abbrev answer : ParsedCpuidEntry → Val
-  answer t = LL.val K.the-type K′.the-laws (both t)
-
-  exits : (t : ParsedCpuidEntry) → t ≡ found → Is K.the-row (both t) (LL.vals K.the-type K′.the-laws (both t)) → ent 𝓤 (⋆ 𝓤 H A ((‵ (flft κ q) ⊛ ‵ ftrue) ∷ ‵ Own ∷ [])) (Post (answer t))
-  exits t e is =
-      qed W ((‵ (flft κ q) ⊛ ‵ ftrue) ∷ ‵ Own ∷ []) ∵
-      suffices ! _ (ends-at 𝓤 H A take.ended stayed (take.clauses 𝓤 H A mem′ run) W (((κ, tt), (q, tt), tt, (s, (i, tt)), at), tt) (answer t) (both t) (tt, (tt, tt)) (tt, (tt, tt))) $ says ! (record { found = e; clean = readable-clean readable; next = refl }) $
-      frame ! $ nothing ! $ owned ! P.the-row (Is P.the-row) (LL.makes P.the-type P′.the-plain 𝓤 H A) i _ ii $ fjoin ! $ move ! (1 ∷ 0 ∷ []) $ fjoin ! $ frame ! $
-      owned ! K.the-row (Is K.the-row) (LL.makes K.the-type K′.the-plain 𝓤 H A) (both t) _ is $ done !
-
-  module _ (C : Calls 𝓤 H) (Λ : Loops 𝓤 H) (fm : FmC 𝓤 H (W .laws) C) (known-entry : Triple 𝓤 (C #pages·entry-at) (AtIndex 𝓤 H A mem′ run)) (known-inc : Triple 𝓤 (C #reader·increment) (Inc 𝓤 H A mem′ run)) where
+  module _ (C : Calls 𝓤 H) (Λ : Loops 𝓤 H) (fm : FmC 𝓤 H (W .laws) C) (known-read : Triple 𝓤 (C #reader·read-at) (ReadAt 𝓤 H A mem′ run)) (known-inc : Triple 𝓤 (C #reader·increment) (Inc 𝓤 H A mem′ run)) where
     walk : Is (ShrSlice (named 0) κ u8) s (v ∷ []) → ent 𝓤 (onEntry 𝓤 H A take.signature (κ, tt) (q, tt) (s, (i, tt)) at) (WpFn 𝓤 H C Λ code.function (v ∷ P′.lowered i ∷ []) Post)
     walk p =
         let ps = shr-slice-lawful 𝓤 H A W (named 0) κ u8 .typed s (v ∷ []) p .0 in
@@ -201,60 +189,57 @@ module _ {M : Type 1} (𝓤 : URA M) (H : Heap 𝓤) (A : Atoms 𝓤) (W : Given
         qed W (raw (onEntry 𝓤 H A take.signature (κ, tt) (q, tt) (s, (i, tt)) at) ∷ []) ∵ enter ! C Λ code.function (v ∷ P′.lowered i ∷ []) _ $
         alloc1 ! (λ l₀. alloc1 ! (λ l₁. alloc1 ! (λ l₂. alloc1 ! (λ l₃. alloc1 ! (λ l₄. alloc1 ! (λ l₅. alloc1 ! (λ l₆. alloc1 ! (λ l₇. alloc1 ! (λ l₈. alloc0 ! $ params1 ! $
         pass1 ! (init ! 14 refl ps) $ pass1 ! (init ! 12 refl pi) $ pass0 ! $
-        -- [room for _8; …; _7; …; _6; …; _5; …; _4; …; _3; …; _2; …; _1; …; room for _0; …; what is had on entry]: the reader is made, and its parts copied
+        -- [room for _8; …; _7; …; _6; …; _5; …; _4; …; _3; …; _2; …; _1; …; room for _0; …; what is had on entry]: the reader is made, its index copied and its address taken
         assigns ! (agg ! (and-then ! (load ! (from ! (stop !)) (look ! 14 refl)) (and-then ! (load ! (from ! (stop !)) (look ! 12 refl)) (no-more !)))) (from ! (stop !)) (init ! 10 refl (tt, (ps .1, (pi .1, tt)))) $
-        assigns ! (of-opd ! (load ! (from ! (fld ! refl (stop !))) (look-in ! 10 (sub ! 0 refl (whole !))))) (from ! (stop !)) (init ! 6 refl pe) $
-        assigns ! (of-opd ! (load ! (from ! (fld ! refl (stop !))) (look-in ! 10 (sub ! 1 refl (whole !))))) (from ! (stop !)) (init ! 4 refl pi) $
-        move ! (18 ∷ []) $ use1 W ((‵ (flft κ q) ⊛ ‵ ftrue) ⊛ ‵ Own ⊛ ‵ Own ⊛ ‵ Own) ready $ split ! $ move ! (1 ∷ []) $ split ! $ move ! (1 ∷ []) $ split ! $
-        owned ! P.the-row (Is P.the-row) (LL.makes P.the-type P′.the-plain 𝓤 H A) i _ ii $ move ! (4 ∷ 1 ∷ 0 ∷ []) $ use3 W (raw (AtIndex 𝓤 H A mem′ run .pre to-entry)) goes-entry $
-        -- [what `entry_at` asks; what s owns; the same; room for _8; …; _7; …; _6; …; _5; …; _4; …; _3; …; _2; …; _1; …; room for _0; …]
-        calls-at ! fm (AtIndex 𝓤 H A mem′ run) known-entry to-entry (and-then ! (load ! (from ! (stop !)) (look ! 9 refl)) (and-then ! (load ! (from ! (stop !)) (look ! 7 refl)) (no-more !))) (λ u.
-        use1 W (later (some (λ (t : ParsedCpuidEntry). ((‵ (flft κ q) ⊛ ‵ ftrue) ⊛ ‵ (E.the-row .own t (u ∷ []))) ⊛ raw (ensured 𝓤 H A at-index.ended (at-index.clauses 𝓤 H A mem′ run) (κ, tt) (s, (i, tt)) tt t)))) (id⊢ 𝓤 _) $ await ! tt $ pick ! (λ t.
-        split ! $ move ! (1 ∷ []) $ use1 W (raw (fact 𝓤 (t ≡ found))) (entry-said t) $ heard ! (t ≡ found) (λ e. split ! $ move ! (1 ∷ []) $
-        peeks ! E.the-row (Is E.the-row) (shows 𝓤 H A E.the-row) t (u ∷ []) (λ is.
-        land ! (from ! (stop !)) (init ! 12 refl (LL.lawful E.the-type E′.the-laws 𝓤 H A W .typed t _ is .0)) $
-        rewrite ! 12 (λ (w : Val). ‵ (fat fullShare E′.mir l₄ 0 w)) (ap only (LL.tells E.the-type E′.the-laws t (u ∷ []) is)) refl $ drop ! $
-        -- [the token; what s owns; the same; room for _8; …; _7; …; _6; …; _5; …; _4; …; _3; …; _2; …; _1; …; room for _0; …]
-        assigns ! (addr ! (from ! (fld ! refl (stop !)))) (from ! (stop !)) (init ! 3 refl (tt, tt)) $
-        assigns ! (of-opd ! (load ! (from ! (fld ! refl (stop !))) (look-in ! 13 (sub ! 0 refl (whole !))))) (from ! (stop !)) (store ! 9 refl pe) $
-        -- the index is taken out of the reader and lent
-        move ! (13 ∷ []) $ owned ! P.the-row (Is P.the-row) (LL.makes P.the-type P′.the-plain 𝓤 H A) i _ ii $ move ! (1 ∷ 0 ∷ []) $
+        assigns ! (of-opd ! (load ! (from ! (fld ! refl (stop !))) (look-in ! 10 (sub ! 1 refl (whole !))))) (from ! (stop !)) (init ! 8 refl pi) $
+        assigns ! (addr ! (from ! (fld ! refl (stop !)))) (from ! (stop !)) (init ! 4 refl (tt, tt)) $
+        assigns ! (of-opd ! (load ! (from ! (fld ! refl (stop !))) (look-in ! 10 (sub ! 0 refl (whole !))))) (from ! (stop !)) (init ! 2 refl pe) $
+        move ! (18 ∷ []) $ use1 W ((‵ (flft κ q) ⊛ ‵ ftrue) ⊛ ‵ Own ⊛ ‵ Own ⊛ ‵ Own) ready $ split ! $ move ! (1 ∷ []) $ split ! $ move ! (1 ∷ []) $ split ! $ move ! (3 ∷ []) $
+        -- [the token; what s owns, three times; _8; …]: the index is taken out of the reader and lent
+        move ! (14 ∷ []) $ owned ! P.the-row (Is P.the-row) (LL.makes P.the-type P′.the-plain 𝓤 H A) i _ ii $ move ! (1 ∷ 0 ∷ []) $
         use2 W (‵ (mem P.the-row .lies i l₃ 16) ⊛ raw (Back l₃)) (opened l₃) $ split ! $ lft-new ! tt (λ ν. move ! (1 ∷ []) $
         use1 W (later (some (λ (γ : GName). ‵ (OwnIndex l₃ ν γ) ⊛ ‵ (flent (ν ∷ []) (Body (mem P.the-row) l₃ 16 γ))))) (lends-ref 𝓤 H A W P.the-row (named 0) (ν ∷ []) i l₃ 16) $ await ! tt $ pick ! (λ γ. split ! $
-        -- [the loan; the lender's part; ν's token; the way back; the token; what s owns; the same; _8; …]
+        -- [the loan; the lender's part; ν's token; the way back; the token; what s owns, three times; _8; …]
         move ! (2 ∷ 4 ∷ 0 ∷ 5 ∷ []) $ join ! $ use3 W (raw (Inc 𝓤 H A mem′ run .pre (to-inc l₃ ν γ))) (goes-inc l₃ ν γ) $
-        -- [what `increment` asks; the lender's part; the way back; what s owns; _8; …; room for _7; …; _6; …; _5; …; _4; …; …; _2; …; _1; …; room for _0; …]
-        calls-at ! fm (Inc 𝓤 H A mem′ run) known-inc (to-inc l₃ ν γ) (and-then ! (load ! (from ! (stop !)) (look ! 4 refl)) (and-then ! (load ! (from ! (stop !)) (look ! 10 refl)) (no-more !))) (λ w.
+        -- [what `increment` asks; the lender's part; the way back; what s owns, twice; room for _8; …; _7; …; _6; …; room for _5; …; _4; …; …; _2; …; _1; …; room for _0; …]
+        calls-at ! fm (Inc 𝓤 H A mem′ run) known-inc (to-inc l₃ ν γ) (and-then ! (load ! (from ! (stop !)) (look ! 9 refl)) (and-then ! (load ! (from ! (stop !)) (look ! 7 refl)) (no-more !))) (λ w.
         use1 W (later (some (λ (r : Unit {0}). ((‵ (flft (ν ∷ []) fullShare) ⊛ ‵ (flft κ q) ⊛ ‵ ftrue) ⊛ ‵ (Nothing .own r (w ∷ []))) ⊛ raw (ensured 𝓤 H A inc.ended (inc.clauses 𝓤 H A mem′ run) (ν ∷ [], (κ, tt)) (lent-index l₃ γ, (s, tt)) tt r)))) (id⊢ 𝓤 _) $ await ! tt $ pick ! (λ r.
         split ! $ move ! (1 ∷ []) $ use1 W (‵ (fres γ (P.the-row .coded .code j))) (inc-said l₃ ν γ r) $ move ! (1 ∷ []) $ split ! $ move ! (1 ∷ []) $ feqL ! (λ e₂.
-        -- [the tokens; the index's last value; the lender's part; the way back; what s owns; _8; …; room for _7; …]
-        land ! (from ! (stop !)) (init ! 7 refl (subst (λ (y : Val). T (hasTy tyUnit y) × WT y) (sym (ap only e₂)) (tt, tt))) $
+        -- [the tokens; the index's last value; the lender's part; the way back; what s owns, twice; room for _8; …; _7; …; _6; …; room for _5; …]
+        land ! (from ! (stop !)) (init ! 12 refl (subst (λ (y : Val). T (hasTy tyUnit y) × WT y) (sym (ap only e₂)) (tt, tt))) $
         split ! $ lft-end ! tt $ move ! (0 ∷ 3 ∷ 2 ∷ []) $ use3 W (later (‵ (mem P.the-row .lies j l₃ 16))) (ref-back 𝓤 H A W P.the-row (ν ∷ []) γ j l₃ 16) $ await ! tt $
         move ! (0 ∷ 2 ∷ []) $ use2 W (‵ (P.the-row .own j (vals j)) ⊛ ‵ (Cell l₃ j)) (closed l₃) $ split ! $
         peeks ! P.the-row (Is P.the-row) (shows 𝓤 H A P.the-row) j (vals j) (λ ij. drop ! $
-        -- [_3; the token; what s owns; _8; …; _7; …; _6; …; _5; …; _4; …; …; _2; …; _1; …; room for _0; …]
-        assigns ! (of-opd ! (load ! (from ! (fld ! refl (stop !))) (look-in ! 0 (sub ! 1 refl (whole !))))) (from ! (stop !)) (store ! 7 refl (LL.lawful P.the-type P′.the-laws 𝓤 H A W .typed j (vals j) ij .0)) $
-        let ik = LL.owes K.the-type K′.the-laws (both t) (subst (Is E.the-row t) (LL.tells E.the-type E′.the-laws t (u ∷ []) is) is, (ij, tt)) in
-        assigns ! (agg ! (and-then ! (load ! (from ! (stop !)) (look ! 11 refl)) (and-then ! (load ! (from ! (stop !)) (look ! 7 refl)) (no-more !)))) (from ! (stop !)) (init ! 18 refl (LL.lawful K.the-type K′.the-laws 𝓤 H A W .typed (both t) _ ik .0)) $
-        returns ! (look ! 18 refl) $ forget ! 0 refl $ forget ! 3 refl $ forget ! 5 refl $ forget ! 7 refl $ forget ! 9 refl $ forget ! 11 refl $ forget ! 14 refl $ forget ! 16 refl $ forget ! 18 refl $
-        move ! (18 ∷ 19 ∷ []) $ free1 ! $ move ! (16 ∷ 17 ∷ []) $ free1 ! $ move ! (14 ∷ 15 ∷ []) $ free1 ! $ move ! (0 ∷ 13 ∷ []) $ free1 ! $ move ! (10 ∷ 11 ∷ []) $ free1 ! $
-        move ! (8 ∷ 9 ∷ []) $ free1 ! $ move ! (6 ∷ 7 ∷ []) $ free1 ! $ move ! (4 ∷ 5 ∷ []) $ free1 ! $ move ! (2 ∷ 3 ∷ []) $ free1 ! $ free0 ! $
-        by ! (exits t e ik))))))))))))))))))))
+        -- [_3; the token; what s owns, twice; room for _8; …; _7; …; _6; …; _5; …; _4; …; …; _2; …; _1; …; room for _0; …]
+        assigns ! (of-opd ! (load ! (from ! (fld ! refl (stop !))) (look-in ! 0 (sub ! 0 refl (whole !))))) (from ! (stop !)) (store ! 6 refl pe) $
+        assigns ! (of-opd ! (load ! (from ! (fld ! refl (stop !))) (look-in ! 0 (sub ! 1 refl (whole !))))) (from ! (stop !)) (init ! 4 refl (LL.lawful P.the-type P′.the-laws 𝓤 H A W .typed j (vals j) ij .0)) $
+        move ! (1 ∷ 2 ∷ []) $ use2 W (raw (ReadAt 𝓤 H A mem′ run .pre to-read)) (goes-read ij) $
+        -- [what `read_at` asks; _3; what s owns; _8; …; _7; …; _6; …; _5; …; _4; …; …; _2; …; _1; …; room for _0; …]
+        calls-at ! fm (ReadAt 𝓤 H A mem′ run) known-read to-read (and-then ! (load ! (from ! (stop !)) (look ! 5 refl)) (and-then ! (load ! (from ! (stop !)) (look ! 11 refl)) (and-then ! (load ! (from ! (stop !)) (look ! 3 refl)) (no-more !)))) (λ u.
+        use1 W (later (some (λ (t : Read). ((‵ (flft κ q) ⊛ ‵ ftrue) ⊛ ‵ (R.the-row .own t (u ∷ []))) ⊛ raw (ensured 𝓤 H A read-at.ended (read-at.clauses 𝓤 H A mem′ run) (κ, tt) (s, (i, (j, tt))) tt t)))) (id⊢ 𝓤 _) $ await ! tt $ pick ! (λ t.
+        split ! $ move ! (1 ∷ []) $ use1 W (raw (fact 𝓤 (t ≡ answer))) (read-said t) $ heard ! (t ≡ answer) (λ e. split ! $ move ! (1 ∷ []) $
+        -- [the answer; the token; _3; what s owns; _8; …; _7; …; _6; …; _5; …; _4; …; …; _2; …; _1; …; room for _0; …]
+        peeks ! R.the-row (Is R.the-row) (shows 𝓤 H A R.the-row) t (u ∷ []) (λ is.
+        land ! (from ! (stop !)) (init ! 19 refl (EL.lawful R.the-type R′.the-laws 𝓤 H A W tt .typed t _ is .0)) $
+        returns ! (look ! 19 refl) $ forget ! 2 refl $ forget ! 4 refl $ forget ! 6 refl $ forget ! 8 refl $ forget ! 10 refl $ forget ! 12 refl $ forget ! 15 refl $ forget ! 17 refl $ forget ! 19 refl $
+        move ! (19 ∷ 20 ∷ []) $ free1 ! $ move ! (17 ∷ 18 ∷ []) $ free1 ! $ move ! (15 ∷ 16 ∷ []) $ free1 ! $ move ! (2 ∷ 14 ∷ []) $ free1 ! $ move ! (11 ∷ 12 ∷ []) $ free1 ! $
+        move ! (9 ∷ 10 ∷ []) $ free1 ! $ move ! (7 ∷ 8 ∷ []) $ free1 ! $ move ! (5 ∷ 6 ∷ []) $ free1 ! $ move ! (3 ∷ 4 ∷ []) $ free1 ! $ free0 ! $
+        by ! (exits t u e))))))))))))))))))))
 
 module _ {M : Type 1} (𝓤 : URA M) (H : Heap 𝓤) (A : Atoms 𝓤) (W : Given 𝓤 H A) (mem′ : Memory → SProp 𝓤) (run : Routine → Fun 𝓤) where
-  take-walks : (C : Calls 𝓤 H) (Λ : Loops 𝓤 H) → FmC 𝓤 H (W .laws) C → Triple 𝓤 (C #pages·entry-at) (AtIndex 𝓤 H A mem′ run) → Triple 𝓤 (C #reader·increment) (Inc 𝓤 H A mem′ run)
+  take-walks : (C : Calls 𝓤 H) (Λ : Loops 𝓤 H) → FmC 𝓤 H (W .laws) C → Triple 𝓤 (C #reader·read-at) (ReadAt 𝓤 H A mem′ run) → Triple 𝓤 (C #reader·increment) (Inc 𝓤 H A mem′ run)
       → Walks 𝓤 H A take.ended stayed (WpFn 𝓤 H C Λ code.function) (take.clauses 𝓤 H A mem′ run)
-  take-walks C Λ fm known-entry known-inc = walked 𝓤 H A take.ended stayed (take.clauses 𝓤 H A mem′ run) (WpFn 𝓤 H C Λ code.function)
+  take-walks C Λ fm known-read known-inc = walked 𝓤 H A take.ended stayed (take.clauses 𝓤 H A mem′ run) (WpFn 𝓤 H C Λ code.function)
       (λ κs. (slice-vals, (vals, tt))) (λ κs. (shr-slice-tells (named 0) (κs .0) u8, (LL.tells P.the-type P′.the-laws, tt)))
       (λ κs qs bounds a g are. needs 𝓤 (Readable (now (a .0)) (a .1 .0)) _ (λ readable.
-      walk 𝓤 H A W mem′ run (κs .0) (qs .0) (a .0) (a .1 .0) (are .1 .0) readable C Λ fm known-entry known-inc (are .0)))
+      walk 𝓤 H A W mem′ run (κs .0) (qs .0) (a .0) (a .1 .0) (are .1 .0) readable C Λ fm known-read known-inc (are .0)))
 
 take-meets : {M : Type 1} (𝓤 : URA M) (H : Heap 𝓤) (A : Atoms 𝓤) (W : Given 𝓤 H A) (mem′ : Memory → SProp 𝓤) (run : Routine → Fun 𝓤) (𝓣 : Tables 𝓤 H)
-    → Triple 𝓤 (𝓣 .C #pages·entry-at) (AtIndex 𝓤 H A mem′ run) → Triple 𝓤 (𝓣 .C #reader·increment) (Inc 𝓤 H A mem′ run)
+    → Triple 𝓤 (𝓣 .C #reader·read-at) (ReadAt 𝓤 H A mem′ run) → Triple 𝓤 (𝓣 .C #reader·increment) (Inc 𝓤 H A mem′ run)
     → Meets 𝓤 H A take.signature (WpFn 𝓤 H (𝓣 .C) (𝓣 .Λ) code.function) (take.spec 𝓤 H A mem′ run)
-take-meets 𝓤 H A W mem′ run 𝓣 known-entry known-inc =
+take-meets 𝓤 H A W mem′ run 𝓣 known-read known-inc =
     walk-meets 𝓤 H A take.ended stayed W (goes-none-slice 𝓤 H A W 1 (0 ∷ []) tt (plain (λ _. u8)) yes, (goes-none 𝓤 H A W 1 (λ _. P.the-row) yes (λ κs x f. refl), tt)) (take.clauses 𝓤 H A mem′ run)
-    (WpFn 𝓤 H (𝓣 .C) (𝓣 .Λ) code.function) (WpFn-mono 𝓤 H (W .laws) 𝓣 code.function) (take-walks 𝓤 H A W mem′ run (𝓣 .C) (𝓣 .Λ) (fmOf 𝓤 H (W .laws) 𝓣) known-entry known-inc)
+    (WpFn 𝓤 H (𝓣 .C) (𝓣 .Λ) code.function) (WpFn-mono 𝓤 H (W .laws) 𝓣 code.function) (take-walks 𝓤 H A W mem′ run (𝓣 .C) (𝓣 .Λ) (fmOf 𝓤 H (W .laws) 𝓣) known-read known-inc)
 
 pub take-spec : {M : Type 1} → stated.statement M
 unfolding code.routine tablesOf
@@ -262,5 +247,5 @@ take-spec 𝓤 H 𝓜 𝓖 𝓡 =
     entered 𝓤 H (tripleOf 𝓤 H (𝓖 .A) take.signature (take.spec 𝓤 H (𝓖 .A) (𝓜 .mem) (𝓡 .run)))
     (tables 𝓤 H 𝓜 𝓡 code.env .C) (tables 𝓤 H 𝓜 𝓡 code.env .Λ) #reader·take code.function (code.unfolded 𝓤 H 𝓜 𝓡)
     (take-meets 𝓤 H (𝓖 .A) (givenOf 𝓤 H 𝓜 𝓖) (𝓜 .mem) (𝓡 .run) (tablesOf 𝓤 H 𝓜 (tables 𝓤 H 𝓜 𝓡 code.env))
-    (cited 𝓤 H (AtIndex 𝓤 H (𝓖 .A) (𝓜 .mem) (𝓡 .run)) 𝓜 𝓡 code.env #pages·entry-at at-index-def.routine code.calls-pages·entry-at (at-index-thm.met 𝓤 H 𝓜 𝓖 𝓡))
+    (cited 𝓤 H (ReadAt 𝓤 H (𝓖 .A) (𝓜 .mem) (𝓡 .run)) 𝓜 𝓡 code.env #reader·read-at read-at-def.routine code.calls-reader·read-at (read-at-thm.met 𝓤 H 𝓜 𝓖 𝓡))
     (cited 𝓤 H (Inc 𝓤 H (𝓖 .A) (𝓜 .mem) (𝓡 .run)) 𝓜 𝓡 code.env #reader·increment inc-def.routine code.calls-reader·increment (inc-thm.met 𝓤 H 𝓜 𝓖 𝓡)))
