@@ -40,7 +40,7 @@ no-origins s =
     ∙ sym (ap (λ (b : Bool). originNumber (pick b (pick (isMadeHere i) madeHere (standsAt i (counted s))) neither)) (getD-replicate places i false false l)))
 
 -- the origins of a table, from where the first entries stand
-located-origins : (t : CpuidResults) (s : List ℕ) → finishedOrigins (t .present) (foundOrigins s) ≡ originsIn t s
+pub located-origins : (t : CpuidResults) (s : List ℕ) → finishedOrigins (t .present) (foundOrigins s) ≡ originsIn t s
 unfolding originsIn foundOrigins
 located-origins t s = finished-origins (t .present) (λ i. standsAt i (counted s))
 

@@ -2,9 +2,13 @@
 use checks::validate_required;
 use lawful::walk_pages;
 use masking::PLACES;
+use memory::REGISTERS;
+use memory::sized;
 use rows_built::RowsBuilt;
 use rows_built::from_invlpgb;
 use rows_built::refused;
+use rows_finished::build_rows;
+use rows_finished::clear;
 use table::Choices;
 use table::CpuidResults;
 use table::Refusal;
@@ -14,6 +18,7 @@ use table::known_edition;
 ghost use mathlib.Core.Path.{_≡_};
 ghost use Rattle.build.specs.Built.{withoutOrigins, notBuilt, locatedBuilt};
 ghost use Rattle.build.specs.Build.{answer};
+ghost use Rattle.build.specs.InMemory.{InMemory, Emptied};
 
 // What building gives: the answer to the masked first entries, and where each row came from (document 02, P11), as `origins` numbers it.
 pub struct Built {
@@ -92,4 +97,32 @@ fn located(rows: RowsBuilt, found: [u64; PLACES]) -> Built
         table,
         origins,
     }
+}
+
+// Pages of any length, count and content, into memory that the caller lends: one table with its origins; or one refusal, and the memory is cleared.
+pub fn build_into(
+    pages: &[u8],
+    choices: Choices,
+    registers: &mut [u32; REGISTERS],
+    origins: &mut [u64; PLACES],
+) -> Verdict
+    ensures { λ r. ⌜ InMemory (answer choices (now (pages .entry))) r (now (registers .exit)) (now (origins .exit)) ⌝ }
+{
+    if known_edition(choices.edition) {} else {
+        return refuse(registers, origins, Refusal::UnknownEdition);
+    }
+    let lawful = walk_pages(pages, choices.secure_avic, registers, origins);
+    if let Verdict::Refused(r) = lawful {
+        return refuse(registers, origins, r);
+    }
+    sized(registers, origins);
+    build_rows(registers, origins, choices.edition)
+}
+
+// A refusal, and the memory cleared.
+fn refuse(registers: &mut [u32; REGISTERS], origins: &mut [u64; PLACES], r: Refusal) -> Verdict
+    ensures { λ q. ⌜ Emptied r q (now (registers .exit)) (now (origins .exit)) ⌝ }
+{
+    clear(registers, origins);
+    Verdict::Refused(r)
 }

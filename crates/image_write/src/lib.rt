@@ -50,7 +50,14 @@ fn put_rows(t: CpuidResults, out: &mut [u8])
 }
 
 // Writes the row of the `k`-th place of a run, if it is there, and gives the index after it.
-fn put_place(out: &mut [u8], at: usize, run: Run, k: u32, present: bool, r: CpuidResult) -> usize
+pub fn put_place(
+    out: &mut [u8],
+    at: usize,
+    run: Run,
+    k: u32,
+    present: bool,
+    r: CpuidResult,
+) -> usize
     requires { ⌜ (run .leaf .0 + k < 2 ^ 32) × (at + length (runRow run k present r) ≤ length (now out)) ⌝ }
     ensures { λ n. ⌜ (n ≡ at + length (runRow run k present r)) × (now (out .exit) ≡ sets (now (out .entry)) at (runRow run k present r)) ⌝ }
 {

@@ -11,14 +11,15 @@ use Rattle.table.specs.declared.CpuidResults.{CpuidResults}
 use Rattle.collect.specs.FirstEntries.{rowsOf}
 use Rattle.collect.specs.Collect.{collected}
 use Rattle.locate.specs.Stands.{foundOrigins}
-use Rattle.locate.specs.Flat.{flat, tableIn, Walked}
+use Rattle.memory.specs.Memory.{layout, tableIn}
+use Rattle.locate.specs.Walked.{Walked}
 use Rattle.locate.specs.CollectedLaws.{walked-collected}
 use Rattle.lawful.specs.Lawful.{lawfulVerdict}
 use Rattle.lawful.specs.LawfulLaws.{lawful-clean}
 
 pub record WalkedPages (avic : Bool) (s : List ℕ) (r : Verdict) (w o : List ℕ) : Type 0 where
   pub verdict : r ≡ lawfulVerdict s
-  pub rows : r ≡ Accepted → w ≡ flat (rowsOf avic s)
+  pub rows : r ≡ Accepted → w ≡ layout (λ i. rowsOf avic s i .result)
   pub stands : r ≡ Accepted → o ≡ foundOrigins s
 
 -- a refusal leaves nothing to say of the arrays

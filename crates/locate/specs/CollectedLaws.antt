@@ -19,8 +19,8 @@ use Rattle.collect.specs.FirstEntries.{placeOfEntry, firstAt, maskedAt, maskRow
 use Rattle.collect.specs.FirstEntriesLaws.{row-of-place}
 use Rattle.collect.specs.Collect.{collected}
 use Rattle.locate.specs.Stands.{standsAt, foundOrigins}
-use Rattle.locate.specs.Flat.{flat, rowAt, hasRow, tableIn}
-use Rattle.locate.specs.FlatLaws.{row-flat}
+use Rattle.memory.specs.Memory.{rowOf, isThere, layout, tableIn}
+use Rattle.memory.specs.MemoryLaws.{layout-list}
 
 stands-present : (i : ℕ) (es : List Entry) → not (eqb (originNumber (standsAt i es)) 0) ≡ firstAt i es .present
 unfolding standsAt firstAt
@@ -40,16 +40,16 @@ mask-present avic i r = go (r .present)
     go true = refl
     go false = refl
 
-has-row : (avic : Bool) (s : List ℕ) (i : ℕ) → i < places → hasRow (foundOrigins s) i ≡ rowsOf avic s i .present
+has-row : (avic : Bool) (s : List ℕ) (i : ℕ) → i < places → isThere (getD (foundOrigins s) i 0) ≡ rowsOf avic s i .present
 unfolding foundOrigins
 has-row avic s i h =
     ap (λ (n : ℕ). not (eqb n 0)) (getD-tabulate places (λ j. originNumber (standsAt j (counted s))) i 0 h)
     ∙ stands-present i (counted s)
     ∙ sym (ap (λ (x : Row). x .present) (row-of-place avic s i h) ∙ mask-present avic i (firstAt i (counted s)))
 
-pub walked-collected : (avic : Bool) (s : List ℕ) → tableIn (flat (rowsOf avic s)) (foundOrigins s) ≡ collected avic s
+pub walked-collected : (avic : Bool) (s : List ℕ) → tableIn (layout (λ i. rowsOf avic s i .result)) (foundOrigins s) ≡ collected avic s
 unfolding collected
 walked-collected avic s =
-    let p = tabulate-ext places (hasRow (foundOrigins s)) (λ i. rowsOf avic s i .present) (has-row avic s) in
-    let r = tabulate-ext places (rowAt (flat (rowsOf avic s))) (λ i. rowsOf avic s i .result) (row-flat (rowsOf avic s)) in
+    let p = tabulate-ext places (λ i. isThere (getD (foundOrigins s) i 0)) (λ i. rowsOf avic s i .present) (has-row avic s) in
+    let r = layout-list (λ i. rowsOf avic s i .result) in
     λ k. record { present = p k; results = r k; «row_count» = 0; «max_extended_state» = 0 }

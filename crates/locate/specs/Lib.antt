@@ -1,7 +1,7 @@
 pub mod Stands
 pub mod OriginsLaws
-pub mod Flat
-pub mod FlatLaws
+pub mod Walked
+pub mod StoreLaws
 pub mod WalkingLaws
 pub mod CollectedLaws
 pub mod TableLaws

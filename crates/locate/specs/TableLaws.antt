@@ -15,7 +15,7 @@ use Rattle.x86defs.specs.Functions.{result}
 use Rattle.masking.specs.Kept.{places}
 use Rattle.table.specs.declared.CpuidResults.{CpuidResults}
 use Rattle.table.specs.Table.{emptyTable}
-use Rattle.locate.specs.Flat.{rowAt, hasRow, tableIn}
+use Rattle.memory.specs.Memory.{rowOf, isThere, tableIn}
 
 -- a list of 88 whose first i elements are those of f
 pub record Filled {A : Type 0} (f : ℕ → A) (d : A) (l : List A) (i : ℕ) : Type 0 where
@@ -34,8 +34,8 @@ module _ {A : Type 0} (f : ℕ → A) (d : A) (l : List A) (i : ℕ) where
   filled-all k e = tabulated places f l d (k .size) (λ j u. k .below j (omega arith))
 
 pub record Making (w o : List ℕ) (t : CpuidResults) (i : ℕ) : Type 0 where
-  pub present : Filled (hasRow o) false (t .present) i
-  pub results : Filled (rowAt w) (result 0 0 0 0) (t .results) i
+  pub present : Filled (λ j. isThere (getD o j 0)) false (t .present) i
+  pub results : Filled (rowOf w) (result 0 0 0 0) (t .results) i
   pub count : t .«row_count» ≡ 0
   pub mask : t .«max_extended_state» ≡ 0
 
@@ -49,6 +49,6 @@ making-first w o = record {
 
 pub making-last : (w o : List ℕ) (t : CpuidResults) (i : ℕ) → Making w o t i → places ≡ i → t ≡ tableIn w o
 making-last w o t i k e =
-    let p = filled-all (hasRow o) false (t .present) i (k .present) e in
-    let r = filled-all (rowAt w) (result 0 0 0 0) (t .results) i (k .results) e in
+    let p = filled-all (λ j. isThere (getD o j 0)) false (t .present) i (k .present) e in
+    let r = filled-all (rowOf w) (result 0 0 0 0) (t .results) i (k .results) e in
     λ x. record { present = p x; results = r x; «row_count» = k .count x; «max_extended_state» = k .mask x }

@@ -10,7 +10,7 @@ use lib.ListN.{length, getD, set, replicate, length-replicate}
 use borrow.Author.Tests.{eq-eqb, ne-eqb}
 use Rattle.bits.specs.Choice.{pick}
 use Rattle.bits.specs.ChoiceLaws.{pick-true, pick-false}
-use Rattle.bits.specs.ListsLaws.{getD-tabulate, tabulate-at}
+use Rattle.bits.specs.ListsLaws.{getD-tabulate}
 use Rattle.x86defs.specs.declared.CpuidFunction.{CpuidFunction}
 use Rattle.x86defs.specs.declared.CpuidResult.{CpuidResult}
 use Rattle.pages.specs.declared.ParsedCpuidEntry.{ParsedCpuidEntry}
@@ -38,8 +38,10 @@ use Rattle.collect.specs.FirstEntries.{setLegacy, rowsOf}
 use Rattle.collect.specs.Collect.{collected, countedPlace, counted-place-stored, storedAt, store, turn-kept, turn-new, turn-none, Collecting, collecting-first, collecting-next, collecting-last}
 use Rattle.locate.specs.Stands.{foundOrigins}
 use Rattle.locate.specs.OriginsLaws.{Locating, locating-first, locating-kept, locating-none, locating-new, locating-last}
-use Rattle.locate.specs.Flat.{flat, rowAt, putRow, hasRow, tableIn, Walked}
-use Rattle.locate.specs.FlatLaws.{put-length, put-is-store, cleared, flat-rows}
+use Rattle.memory.specs.Memory.{rowOf, putRow, isThere, tableIn}
+use Rattle.memory.specs.MemoryLaws.{put-length, known-by-rows}
+use Rattle.locate.specs.Walked.{Walked}
+use Rattle.locate.specs.StoreLaws.{put-is-store, cleared}
 
 pub record Walking (avic : Bool) (s : List ℕ) (w o : List ℕ) (i : CpuidPageIndex) : Type 0 where
   pub size : length w ≡ 4 * places
@@ -62,7 +64,7 @@ walking-last avic s w o i k h =
     let t : tableIn w o ≡ collected avic s = collecting-last avic s (tableIn w o) i (k .rows) h in
     record {
       answer = sym (ap (firstNonzero s) (rest-end s i h)) ∙ k .answer;
-      rows = λ _. flat-rows w (rowsOf avic s) (k .size) (tabulate-at places (rowAt w) (λ j. rowsOf avic s j .result) (ap (λ (x : CpuidResults). x .results) t));
+      rows = λ _. known-by-rows w (λ j. rowsOf avic s j .result) (k .size) (ap (λ (x : CpuidResults). x .results) t);
       stands = λ _. locating-last s (tableIn w o .present) o i (k .stands) h;
     }
 
@@ -115,7 +117,7 @@ module _ {avic : Bool} {s w o : List ℕ} {i : CpuidPageIndex} {e : ParsedCpuidE
   pub walking-kept : place < places → getD o place 0 ≢ 0 → Walking avic s w o j
   walking-kept l n =
       let t : CpuidResults = tableIn w o in
-      let g : getD (t .present) place false ≡ true = getD-tabulate places (hasRow o) place false l ∙ ap not (ne-eqb _ 0 n) in
+      let g : getD (t .present) place false ≡ true = getD-tabulate places (λ j. isThere (getD o j 0)) place false l ∙ ap not (ne-eqb _ 0 n) in
       rw (found .1)
       (record {
         size = k .size;
@@ -141,13 +143,13 @@ module _ {avic : Bool} {s w o : List ℕ} {i : CpuidPageIndex} {e : ParsedCpuidE
       → Walking avic s (putRow w place r) (set o place (originNumber (entry (i .«page_index») (i .«function_index»)))) j
   walking-new l n {kept} {row} {r} q m d =
       let t : CpuidResults = tableIn w o in
-      let g : getD (t .present) place false ≡ false = getD-tabulate places (hasRow o) place false l ∙ ap not (eq-eqb _ 0 n) in
+      let g : getD (t .present) place false ≡ false = getD-tabulate places (λ j. isThere (getD o j 0)) place false l ∙ ap not (eq-eqb _ 0 n) in
       let number : ℕ = originNumber (entry (i .«page_index») (i .«function_index»)) in
       let u : CpuidResults = tableIn (putRow w place r) (set o place number) in
       let z : u ≡ store t place r = put-is-store w o place number r (k .size) (k .stands .size) l (λ x. omega arith) in
       rw (found .1)
       (record {
-        size = put-length w place r ∙ k .size;
+        size = put-length w place r (k .size) l;
         rows = collecting-next avic s t u i (k .rows) h (turn-new avic t u (entryHere s i) place at kept row e r q m (found .0) g d z);
         stands = subst (λ (x : CpuidResults). Locating s (x .present) (set o place number) (incremented s i)) (sym z)
             (locating-new s (t .present) o i (k .stands) (k .rows .valid) h place at (k .rows .whole .present) l g);

@@ -2,27 +2,25 @@
 use collect::counted_place;
 use collect::masked_at;
 use masking::PLACES;
+use memory::REGISTERS;
+use memory::put_row;
+use memory::row_at;
 use reader::Read;
 use reserved::Reserved;
 use table::CpuidResults;
-use x86defs::CpuidResult;
 ghost use mathlib.Core.Path.{_≡_};
 ghost use mathlib.Core.Bool.{true};
-ghost use Prim.Native.Nat.{_<_};
 ghost use Rattle.pages.specs.Layout.{countsFit};
-ghost use Rattle.masking.specs.Kept.{places};
-ghost use Rattle.locate.specs.Flat.{rowAt, putRow, tableIn, Walked};
-
-// Four registers for each place.
-pub const REGISTERS: usize = 352;
+ghost use Rattle.memory.specs.Memory.{tableIn};
+ghost use Rattle.locate.specs.Walked.{Walked};
 
 // The masked first entry of every place and where it stands, from pages whose counts are lawful: what the reader gives, page by page, up to the first
 // entry that is not clean. The arrays are cleared first; a place whose number is 0 has no row yet.
 pub fn collect_into(
     pages: &[u8],
     secure_avic: bool,
-    registers: &mut [u32; 352],
-    origins: &mut [u64; 88],
+    registers: &mut [u32; REGISTERS],
+    origins: &mut [u64; PLACES],
 ) -> Reserved
     requires { ⌜ countsFit (now pages) ≡ true ⌝ }
     ensures { λ r. ⌜ Walked «secure_avic» (now (pages .entry)) r (now (registers .exit)) (now (origins .exit)) ⌝ }
@@ -62,34 +60,8 @@ pub fn collect_into(
     Reserved::Zero
 }
 
-// A row's registers stored at its place.
-fn put_row(registers: &mut [u32; 352], place: usize, r: CpuidResult)
-    requires { ⌜ place < places ⌝ }
-    ensures { λ _. ⌜ now (registers .exit) ≡ putRow (now (registers .entry)) place r ⌝ }
-{
-    let at = 4 * place;
-    registers[at] = r.eax;
-    registers[at + 1] = r.ebx;
-    registers[at + 2] = r.ecx;
-    registers[at + 3] = r.edx;
-}
-
-// The registers at a place.
-pub fn row_at(registers: &[u32; 352], place: usize) -> CpuidResult
-    requires { ⌜ place < places ⌝ }
-    ensures { λ r. ⌜ r ≡ rowAt (now (registers .entry)) place ⌝ }
-{
-    let at = 4 * place;
-    CpuidResult {
-        eax: registers[at],
-        ebx: registers[at + 1],
-        ecx: registers[at + 2],
-        edx: registers[at + 3],
-    }
-}
-
 // The table that the two arrays stand for.
-pub fn table_in(registers: &[u32; 352], origins: &[u64; 88]) -> CpuidResults
+pub fn table_in(registers: &[u32; REGISTERS], origins: &[u64; PLACES]) -> CpuidResults
     ensures { λ r. ⌜ r ≡ tableIn (now (registers .entry)) (now (origins .entry)) ⌝ }
 {
     let mut t = table::empty_table();
