@@ -17,6 +17,7 @@ use Rattle.table.specs.Table as Tables
 use Rattle.origins.specs.Origin.{finishedOrigins}
 use Rattle.memory.specs.Memory.{rowsIn, layout, tableIn}
 use Rattle.memory.specs.MemoryLaws.{rows-in}
+use Rattle.memory.specs.Held.{heldIn}
 use Rattle.collect.specs.Collect.{collected-rows}
 use Rattle.locate.specs.Stands.{foundOrigins}
 use Rattle.lawful.specs.Lawful.{lawfulVerdict}
@@ -24,17 +25,18 @@ use Rattle.lawful.specs.Walk.{WalkedPages, walked-table}
 use Rattle.rows_built.specs.declared.RowsBuilt.{RowsBuilt}
 use Rattle.rows_built.specs.RowsBuilt.{builtFrom}
 use Rattle.rows_finished.specs.Finished.{Answered}
-use Rattle.rows_finished.specs.AnsweredLaws.{cleared}
+use Rattle.rows_finished.specs.AnsweredLaws.{cleared, cleared-whole}
 use Rattle.build.specs.declared.Built.{Built}
 use Rattle.build.specs.Built.{withoutOrigins, notBuilt}
 use Rattle.build.specs.Build.{editionVerdict, rowsFor, answer}
 use Rattle.build.specs.BuildLaws.{answer-of-rows, located-origins}
 
--- the memory w, o and the verdict v are the answer b
+-- the memory w, o and the verdict v are the answer b: every word, and count and mask, which follow from the words
 pub record InMemory (b : Built) (v : Verdict) (w o : List ℕ) : Type 0 where
   pub verdict : v ≡ b .verdict
   pub registers : w ≡ layout (λ i. Tables.rowIn (b .table) i .result)
   pub origins : o ≡ b .origins
+  pub table : heldIn w o ≡ b .table
 
 -- the refusal r, and cleared memory
 pub record Emptied (r : Refusal) (v : Verdict) (w o : List ℕ) : Type 0 where
@@ -45,7 +47,12 @@ pub record Emptied (r : Refusal) (v : Verdict) (w o : List ℕ) : Type 0 where
 pub refused-in-memory : {r : Refusal} {b : Built} {v : Verdict} {w o : List ℕ} → notBuilt r ≡ b → Emptied r v w o → InMemory b v w o
 refused-in-memory {r} {b} {v} {w} {o} e d =
     let h = cleared [] (d .registers) (d .origins) in
-    let n : InMemory (notBuilt r) v w o = record { verdict = d .verdict; registers = h .registers; origins = d .origins } in
+    let n : InMemory (notBuilt r) v w o = record {
+      verdict = d .verdict;
+      registers = h .registers;
+      origins = d .origins;
+      table = cleared-whole (d .registers) (d .origins);
+    } in
     subst (λ (k : Built). InMemory k v w o) e n
 
 -- what building makes of the rows that the walk left
@@ -65,6 +72,7 @@ module _ (c : Choices) (s w o : List ℕ) (a : length w ≡ 4 * places) (b : len
       record {
         verdict = d₁ .verdict;
         registers = d₁ .table .registers;
+        table = d₁ .whole;
         origins =
             d₁ .table .origins
             ∙ ap (finishedOrigins (answer c s .table .present)) (k .stands z)
