@@ -1,9 +1,10 @@
-// The image of a table, written. A table and a lent buffer come in; the table's bytes go out, or refusal 9 and the buffer as it was.
+// The image of a table, written. A table in lent memory and a lent buffer come in; the table's bytes go out, or refusal 9 and the buffer as it was.
 ghost use mathlib.Core.Path.{_≡_};
 ghost use Prim.Native.Nat.{_+_, _^_, _≤_, _<_};
 ghost use lib.ListN.{length};
 ghost use lib.Seq.{sets};
 ghost use Rattle.buffer.specs.Front.{writeFront};
+ghost use Rattle.memory.specs.Held.{heldIn};
 ghost use Rattle.image.specs.Image.{image};
 ghost use Rattle.image.specs.Pieces.{indexedRow, wholeRow, runRow};
 use buffer::Written;
@@ -12,27 +13,30 @@ use buffer::put_word;
 use image::image_length;
 use masking::PLACES;
 use masking::Run;
-use table::CpuidResults;
+use memory::REGISTERS;
+use memory::is_there;
+use memory::row_at;
 use table::Refusal;
 use x86defs::CpuidFunction;
 use x86defs::CpuidResult;
 
 // Writes a table's image at the front of a lent buffer. A buffer that is too short is refused, and stays as it was.
-pub fn write_table(t: CpuidResults, out: &mut [u8]) -> Written
-    ensures { λ r. ⌜ (r ≡ writeFront (image t) (now (out .entry)) .answer) × (now (out .exit) ≡ writeFront (image t) (now (out .entry)) .buffer) ⌝ }
+pub fn write_table(registers: &[u32; REGISTERS], origins: &[u64; PLACES], out: &mut [u8]) -> Written
+    ensures { λ r. ⌜ (r ≡ writeFront (image (heldIn (now (registers .entry)) (now (origins .entry)))) (now (out .entry)) .answer)
+        × (now (out .exit) ≡ writeFront (image (heldIn (now (registers .entry)) (now (origins .entry)))) (now (out .entry)) .buffer) ⌝ }
 {
-    let n = image_length(t);
+    let n = image_length(origins);
     if out.len() < n {
         return Written::Refused(Refusal::BufferTooShort);
     }
-    put_rows(t, out);
+    put_rows(registers, origins, out);
     Written::Bytes(n)
 }
 
-// Writes the rows of a table one after another, run by run, so that the leaf is at hand.
-fn put_rows(t: CpuidResults, out: &mut [u8])
-    requires { ⌜ length (image t) ≤ length (now out) ⌝ }
-    ensures { λ _. ⌜ now (out .exit) ≡ sets (now (out .entry)) 0 (image t) ⌝ }
+// Writes the rows one after another, run by run, so that the leaf is at hand.
+fn put_rows(registers: &[u32; REGISTERS], origins: &[u64; PLACES], out: &mut [u8])
+    requires { ⌜ length (image (heldIn (now registers) (now origins))) ≤ length (now out) ⌝ }
+    ensures { λ _. ⌜ now (out .exit) ≡ sets (now (out .entry)) 0 (image (heldIn (now (registers .entry)) (now (origins .entry)))) ⌝ }
 {
     let mut at = 0;
     let mut i = 0;
@@ -41,23 +45,16 @@ fn put_rows(t: CpuidResults, out: &mut [u8])
         let first = run.first;
         let end = first + run.count as usize;
         while i < end {
-            let present = t.present[i];
-            let r = t.results[i];
-            at = put_place(out, at, run, (i - first) as u32, present, r);
+            let origin = origins[i];
+            let r = row_at(registers, i);
+            at = put_place(out, at, run, (i - first) as u32, is_there(origin), r);
             i += 1;
         }
     }
 }
 
 // Writes the row of the `k`-th place of a run, if it is there, and gives the index after it.
-pub fn put_place(
-    out: &mut [u8],
-    at: usize,
-    run: Run,
-    k: u32,
-    present: bool,
-    r: CpuidResult,
-) -> usize
+fn put_place(out: &mut [u8], at: usize, run: Run, k: u32, present: bool, r: CpuidResult) -> usize
     requires { ⌜ (run .leaf .0 + k < 2 ^ 32) × (at + length (runRow run k present r) ≤ length (now out)) ⌝ }
     ensures { λ n. ⌜ (n ≡ at + length (runRow run k present r)) × (now (out .exit) ≡ sets (now (out .entry)) at (runRow run k present r)) ⌝ }
 {

@@ -16,6 +16,8 @@ use Rattle.table.specs.Rows.{Row}
 use Rattle.table.specs.Table.{rowIn}
 use Rattle.lookup.specs.declared.LeafResult.{LeafResult}
 use Rattle.lookup.specs.declared.LeafResult.the-variants.{Some as Found, None as Nothing}
+use Rattle.lookup.specs.declared.Found.{Found as Location}
+use Rattle.lookup.specs.declared.Found.the-variants.{Row as Located, NoRow}
 
 -- the leaves that have subleaves
 unfoldable pub withSubleaves : CpuidFunction → Bool
@@ -53,3 +55,11 @@ placeAsked l (Some k) enforce = pick (withSubleaves l) (placeOf l k) (pick enfor
 -- the origin of the row that is found, by its number in a column of origins; 0 past the last place
 abbrev pub lookupOrigin : List ℕ → CpuidFunction → Subleaf → Bool → ℕ
 lookupOrigin origins l sub enforce = getD origins (placeAsked l sub enforce) 0
+
+-- what is found, with its origin
+abbrev pub withOrigin : LeafResult → ℕ → Location
+withOrigin (Found r) n = Located r n
+withOrigin Nothing n = NoRow
+
+abbrev pub found : CpuidResults → List ℕ → CpuidFunction → Subleaf → Bool → Location
+found t origins l sub enforce = withOrigin (lookup t l sub enforce) (lookupOrigin origins l sub enforce)

@@ -1,58 +1,54 @@
-// Lookup in a table, as the source's leaf_result_ref: a leaf, a subleaf or none, and whether to enforce come in; a result or nothing goes out.
+// Lookup in a table in lent memory, as the source's leaf_result_ref: a leaf, a subleaf or none, and whether to enforce come in; a row or nothing goes out.
 ghost use mathlib.Core.Path.{_≡_};
 ghost use Prim.Native.Nat.{_≤_};
 ghost use Rattle.masking.specs.Kept.{places};
-ghost use Rattle.lookup.specs.Lookup.{withSubleaves, placeWhole, placeAsked, lookup, lookupOrigin};
+ghost use Rattle.memory.specs.Held.{heldIn};
+ghost use Rattle.lookup.specs.Lookup.{withSubleaves, placeWhole, placeAsked, found};
 use masking::PLACES;
 use masking::place;
-use table::CpuidResults;
+use memory::REGISTERS;
+use memory::is_there;
+use memory::row_at;
 use table::Subleaf;
 use x86defs::CpuidFunction;
 use x86defs::CpuidResult;
 use x86defs::leaf;
 
+// What `leaf_result_ref` gives.
 pub enum LeafResult {
     Some(CpuidResult),
     None,
 }
 
-// The result of a leaf, with or without a subleaf. A leaf without subleaves is found under any subleaf, unless the caller enforces.
-pub fn leaf_result(
-    t: CpuidResults,
-    leaf: CpuidFunction,
-    subleaf: Subleaf,
-    enforce_subleaf: bool,
-) -> LeafResult
-    ensures { λ r. ⌜ r ≡ lookup t leaf subleaf «enforce_subleaf» ⌝ }
-{
-    let i = place_asked(leaf, subleaf, enforce_subleaf);
-    if i < PLACES {
-        if t.present[i] {
-            let r = t.results[i];
-            return LeafResult::Some(r);
-        }
-    }
-    LeafResult::None
+// A row that is found, with the number of where it came from.
+pub enum Found {
+    Row(CpuidResult, u64),
+    NoRow,
 }
 
-// Where the row that `leaf_result` finds came from, by its number in the table's column of origins; 0 where there is no such place.
-pub fn leaf_origin(
-    origins: [u64; PLACES],
+// The row of a leaf, with or without a subleaf, in memory of any content. A leaf without subleaves is found under any subleaf, unless the caller
+// enforces.
+pub fn find(
+    registers: &[u32; REGISTERS],
+    origins: &[u64; PLACES],
     leaf: CpuidFunction,
     subleaf: Subleaf,
     enforce_subleaf: bool,
-) -> u64
-    ensures { λ r. ⌜ r ≡ lookupOrigin origins leaf subleaf «enforce_subleaf» ⌝ }
+) -> Found
+    ensures { λ r. ⌜ r ≡ found (heldIn (now (registers .entry)) (now (origins .entry))) (now (origins .entry)) leaf subleaf «enforce_subleaf» ⌝ }
 {
     let i = place_asked(leaf, subleaf, enforce_subleaf);
     if i < PLACES {
-        return origins[i];
+        let origin = origins[i];
+        if is_there(origin) {
+            return Found::Row(row_at(registers, i), origin);
+        }
     }
-    0
+    Found::NoRow
 }
 
 // The place that is asked for, or 88 where the question has no answer.
-pub fn place_asked(leaf: CpuidFunction, subleaf: Subleaf, enforce_subleaf: bool) -> usize
+fn place_asked(leaf: CpuidFunction, subleaf: Subleaf, enforce_subleaf: bool) -> usize
     ensures { λ r. ⌜ (r ≡ placeAsked leaf subleaf «enforce_subleaf») × (r ≤ places) ⌝ }
 {
     let indexed = with_subleaves(leaf);

@@ -1,7 +1,7 @@
 -- The whole table that lent memory holds. Its count is that of the rows that are there; its combined mask, which the memory does not hold, is what
 -- document 01 makes of rows D.0 and D.1, as for an image that is read.
 use mathlib.Core.Path.{_≡_, refl, sym, ap, ap₂, _∙_}
-use mathlib.Core.Bool.{false}
+use mathlib.Core.Bool.{Bool, false}
 use mathlib.Core.List.{List}
 use Prim.Native.Nat.{ℕ, _+_, _*_, _<_}
 use native.Mathlib.Omega.{arith}
@@ -34,6 +34,13 @@ whole-row m i l k = record {
   present = getD-tabulate places (λ j. m j .present) i false l k;
   result = getD-tabulate places (λ j. m j .result) i (result 0 0 0 0) l k;
 }
+
+-- which places have a row
+abbrev pub flags : List ℕ → List Bool
+flags o = tabulate places (λ i. isThere (getD o i 0))
+
+pub flag-at : (o : List ℕ) (i : ℕ) → i < places → getD (flags o) i false ≡ isThere (getD o i 0)
+flag-at o i h = getD-tabulate places (λ j. isThere (getD o j 0)) i false h
 
 -- rows that are the same give the same
 mask-ext : {a b : Rows} → ((i : ℕ) → i < places → a i ≡ b i) → combinedMask a ≡ combinedMask b

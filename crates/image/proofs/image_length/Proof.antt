@@ -2,11 +2,12 @@
 use native.Mathlib.Omega.{arith}
 use borrow.Author.Needs.{needs}
 use Rattle.image.specs.LengthLaws.{image-length}
+use Rattle.memory.specs.Held.{heldIn}
 use Rattle.image.proofs.image_length.Statement.{statement}
 use Rattle.image.proofs.image_length.Tie as tie
 
 returns : tie.Need-returns
-returns c = omega (arith, image-length (c .before .before .before .before .before .before .before .before .before .before .before .args .t))
+returns c = λ w. omega (arith, image-length (heldIn w (c .before .before .before .before .before .args .origins .now)))
 
 pub image-length-spec : {M : Type 1} → statement M
 image-length-spec =

@@ -1,28 +1,33 @@
 -- `image_write::put_rows` meets its contract. The invariant of either loop: writing went on from where the loop began to place `i` and index `at`.
 -- The inner loop goes through one run, which gives each of its places its row.
-use mathlib.Core.Path.{ap}
+use mathlib.Core.Path.{_≡_, sym, ap, ap₂, _∙_}
 use Prim.Native.Nat.{_-_, _≤_}
 use native.Mathlib.Omega.{arith}
 use borrow.Author.Needs.{needs}
 use lib.ListN.{length}
 use Rattle.masking.specs.Kept.{places}
+use Rattle.table.specs.declared.CpuidResults.{CpuidResults}
 use Rattle.table.specs.Table.{rowIn}
+use Rattle.memory.specs.Memory.{rowsIn}
+use Rattle.memory.specs.Held.{heldIn, whole-row}
+use Rattle.image.specs.Image.{placeBytes}
+use Rattle.image.specs.Pieces.{runRow}
 use Rattle.masking.specs.RunLaws.{run-end, run-leaf}
 use Rattle.image.specs.PiecesLaws.{rows-all, run-row, Onward, onward-none, onward-join, row-room, onward-row, onward-all}
 use Rattle.image_write.proofs.put_rows.Statement.{statement}
 use Rattle.image_write.proofs.put_rows.Tie as tie
 
 abbrev Inv-loop2 : tie.InvT-loop2
-Inv-loop2 out₀ t at₀ i₀ run first end out at i = (i₀ ≤ i) × (i ≤ end) × Onward t out₀ at₀ i₀ out at i
+Inv-loop2 registers origins out₀ at₀ i₀ run first end out at i = (i₀ ≤ i) × (i ≤ end) × Onward (heldIn registers origins) out₀ at₀ i₀ out at i
 
 abbrev μ-loop2 : tie.MeasureT-loop2
-μ-loop2 out₀ t at₀ i₀ run first end out at i = end - i
+μ-loop2 registers origins out₀ at₀ i₀ run first end out at i = end - i
 
 abbrev Inv-loop : tie.InvT-loop
-Inv-loop out₀ t at₀ i₀ out at i = (i ≤ places) × Onward t out₀ 0 0 out at i
+Inv-loop registers origins out₀ at₀ i₀ out at i = (i ≤ places) × Onward (heldIn registers origins) out₀ 0 0 out at i
 
 abbrev μ-loop : tie.MeasureT-loop
-μ-loop out₀ t at₀ i₀ out at i = places - i
+μ-loop registers origins out₀ at₀ i₀ out at i = places - i
 
 loop-again : tie.Need-loop-again Inv-loop2 μ-loop2 Inv-loop μ-loop
 loop-again c =
@@ -30,30 +35,46 @@ loop-again c =
     let outer = c .before .before .before .before .before .loop in
     (omega (arith, run-end (call .result) (call .ensures .0)), onward-join _ (outer .inv .1) (c .before .loop2 .inv .2))
 
+-- the inner loop, the run and the table, at the call that writes a row
+abbrev inner : tie.After-is-there Inv-loop2 μ-loop2 Inv-loop μ-loop → tie.At-loop2 Inv-loop2 μ-loop2 Inv-loop μ-loop
+inner c = c .before .before .before .before .before
+
+abbrev run : tie.After-is-there Inv-loop2 μ-loop2 Inv-loop μ-loop → tie.After-run-at Inv-loop2 μ-loop2 Inv-loop μ-loop
+run c = inner c .before .before
+
+abbrev outer : tie.After-is-there Inv-loop2 μ-loop2 Inv-loop μ-loop → tie.At-loop Inv-loop2 μ-loop2 Inv-loop μ-loop
+outer c = run c .before .before
+
+abbrev held : tie.After-is-there Inv-loop2 μ-loop2 Inv-loop μ-loop → CpuidResults
+held c = let a = outer c .before .before .args in heldIn (a .registers .now) (a .origins .now)
+
+-- what is written is the row of the place
+written : (c : tie.After-is-there Inv-loop2 μ-loop2 Inv-loop μ-loop)
+    → placeBytes (inner c .loop2 .i) (rowIn (held c) (inner c .loop2 .i))
+    ≡ runRow (run c .run-at .result) (inner c .loop2 .i - run c .run-at .result .first) (c .is-there .result) (c .before .before .row-at .result)
+written c =
+    let call = run c .run-at in let i = inner c .loop2 .i in let a = outer c .before .before .args in
+    let high = run-end (call .result) (call .ensures .0) in
+    ap (placeBytes i) (whole-row (rowsIn (a .registers .now) (a .origins .now)) i (omega arith))
+    ∙ run-row (call .result) (call .ensures .0) i (rowsIn (a .registers .now) (a .origins .now) i) (omega arith) (omega arith)
+    ∙ ap₂ (runRow (call .result) (i - call .result .first)) (sym (c .is-there .ensures)) (sym (c .before .before .row-at .ensures))
+
 put-place-requires : tie.Need-put-place-requires Inv-loop2 μ-loop2 Inv-loop μ-loop
 put-place-requires c κs =
-    let inner = c .before .before .before .before in
-    let call = inner .before .before .run-at in
-    let outer = inner .before .before .before .before .loop in
-    let t = inner .before .before .before .before .before .before .args .t1 in
-    let i = inner .loop2 .i in
-    let high = run-end (call .result) (call .ensures .0) in
-    let e = run-row (call .result) (call .ensures .0) i (rowIn t i) (omega arith) (omega arith) in (
+    let call = run c .run-at in let i = inner c .loop2 .i in
+    let high = run-end (call .result) (call .ensures .0) in (
       omega (arith, run-leaf (call .result) (call .ensures .0)),
-      omega (arith, row-room t i _ (omega arith) e, inner .loop2 .inv .2 .room, outer .inv .1 .room, ap length (rows-all t)),
+      omega (arith, row-room (held c) i _ (omega arith) (written c), inner c .loop2 .inv .2 .room, outer c .loop .inv .1 .room, ap length (rows-all (held c))),
     )
 
 loop2-again : tie.Need-loop2-again Inv-loop2 μ-loop2 Inv-loop μ-loop
 loop2-again c =
     let put = c .before .before .put-place in
-    let inner = c .before .before .before .before .before .before .before in
-    let call = inner .before .before .run-at in
-    let t = inner .before .before .before .before .before .before .args .t1 in
-    let i = inner .loop2 .i in
+    let s = c .before .before .before in
+    let call = run s .run-at in let i = inner s .loop2 .i in
     let high = run-end (call .result) (call .ensures .0) in
-    let e = run-row (call .result) (call .ensures .0) i (rowIn t i) (omega arith) (omega arith) in
-    let further = onward-row t (inner .loop2 .out) (put .last .0) _ (inner .loop2 .at) i (omega arith) e (put .ensures .1) in
-    (omega arith, omega arith, onward-join _ (inner .loop2 .inv .2) (rw (put .ensures .0) further))
+    let further = onward-row (held s) (inner s .loop2 .out) (put .last .0) _ (inner s .loop2 .at) i (omega arith) (written s) (put .ensures .1) in
+    (omega arith, omega arith, onward-join _ (inner s .loop2 .inv .2) (rw (put .ensures .0) further))
 
 returns : tie.Need-returns Inv-loop2 μ-loop2 Inv-loop μ-loop
 returns c = onward-all _ _ _ _ _ (omega arith) (c .before .loop .inv .1)
@@ -73,11 +94,12 @@ put-rows-spec =
     (λ c. (search needs, search needs, onward-none _ _ _ _))
     (λ c. omega (arith, run-end _ (c .before .before .before .run-at .ensures .0)))
     loop-again
+    (λ c. record { fits = omega (arith, run-end _ (c .before .before .before .run-at .ensures .0)) })
     (λ c. omega (arith, run-end _ (c .before .before .before .run-at .ensures .0)))
-    (λ c. omega (arith, run-end _ (c .before .before .before .before .run-at .ensures .0)))
-    (λ c. omega (arith, run-end _ (c .before .before .before .before .run-at .ensures .0)))
+    (λ c κs. omega (arith, run-end _ (c .before .before .before .before .run-at .ensures .0)))
     (λ c. omega arith)
-    (λ c. omega (arith, run-end _ (c .before .before .before .before .before .before .run-at .ensures .0)))
+    (λ c. record { fits = omega (arith, run-end _ (c .before .before .before .before .before .before .run-at .ensures .0)) })
+    (λ c κs. search needs)
     put-place-requires
     (λ c. omega arith)
     (λ c. search needs)
