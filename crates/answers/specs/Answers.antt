@@ -1,4 +1,5 @@
 -- The answers as the exported functions give them: plain numbers, one for each detail.
+use mathlib.Core.Path.{_≡_, refl}
 use mathlib.Core.Bool.{Bool}
 use mathlib.Core.List.{List}
 use Prim.Native.Nat.{ℕ, _/_}
@@ -12,7 +13,9 @@ use Rattle.table.specs.declared.CpuidResults.{CpuidResults}
 use Rattle.table.specs.declared.Verdict.{Verdict}
 use Rattle.table.specs.declared.Subleaf.{Subleaf}
 use Rattle.table.specs.declared.Subleaf.the-variants.{None, Some}
-use Rattle.lookup.specs.Lookup.{lookup, lookupOrigin}
+use Rattle.lookup.specs.Lookup.{lookup, lookupOrigin, withOrigin}
+use Rattle.lookup.specs.declared.Found.{Found as Location}
+use Rattle.lookup.specs.declared.Found.the-variants.{Row as Located, NoRow}
 use Rattle.lookup.specs.declared.LeafResult.{LeafResult}
 use Rattle.lookup.specs.declared.LeafResult.the-variants.{Some as Found, None as Nothing}
 use Rattle.guest.specs.declared.Processor.{Processor}
@@ -47,8 +50,12 @@ builtWith n rows mask = record {
 abbrev pub builtGiven : Verdict → ℕ → ℕ → SnpCpuidBuilt
 builtGiven v rows mask = builtWith (numbersOf v) rows mask
 
+-- a verdict, and the count and mask of a table
+abbrev pub heldNumbers : Verdict → CpuidResults → SnpCpuidBuilt
+heldNumbers v t = builtGiven v (t .«row_count») (t .«max_extended_state»)
+
 abbrev pub builtNumbers : Built → SnpCpuidBuilt
-builtNumbers b = builtGiven (b .verdict) (b .table .«row_count») (b .table .«max_extended_state»)
+builtNumbers b = heldNumbers (b .verdict) (b .table)
 
 abbrev pub subleafOf : Bool → ℕ → Subleaf
 subleafOf named k = pick named (Some k) None
@@ -66,9 +73,21 @@ foundWith r o = record {
   entry = o .position;
 }
 
+abbrev pub nothingFound : SnpCpuidFound
+nothingFound = record { found = 0; eax = 0; ebx = 0; ecx = 0; edx = 0; origin = 0; page = 0; entry = 0 }
+
 abbrev pub foundGiven : LeafResult → ℕ → SnpCpuidFound
 foundGiven (Found r) n = foundWith r (originRead n)
-foundGiven Nothing n = record { found = 0; eax = 0; ebx = 0; ecx = 0; edx = 0; origin = 0; page = 0; entry = 0 }
+foundGiven Nothing n = nothingFound
+
+-- the same of a row that was found with its origin
+abbrev pub foundNumbers : Location → SnpCpuidFound
+foundNumbers (Located r n) = foundWith r (originRead n)
+foundNumbers NoRow = nothingFound
+
+pub given-located : (x : LeafResult) (n : ℕ) → foundNumbers (withOrigin x n) ≡ foundGiven x n
+given-located (Found r) n = refl
+given-located Nothing n = refl
 
 -- the row that a lookup finds in a table, with its origin from the column of origins beside the table
 abbrev pub foundAt : CpuidResults → List ℕ → ℕ → Subleaf → Bool → SnpCpuidFound

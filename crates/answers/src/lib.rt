@@ -1,17 +1,19 @@
 // Answers as C and Rust are given them: the answers of the crates below come in, structs of plain numbers go out. include/snp_cpuid.h documents each.
 use buffer::Written;
 use guest::Processor;
-use lookup::LeafResult;
-use lookup::leaf_origin;
-use lookup::leaf_result;
+use lookup::Found;
+use lookup::find;
 use masking::PLACES;
+use memory::REGISTERS;
+use memory::combined_mask;
+use memory::row_count;
 use origins::read_origin;
-use table::CpuidResults;
 use table::Subleaf;
 use table::Verdict;
 use x86defs::CpuidFunction;
 ghost use mathlib.Core.Path.{_≡_};
-ghost use Rattle.answers.specs.Answers.{processorOf, builtGiven, foundGiven, foundAt, firstGiven, writtenNumbers, subleafOf};
+ghost use Rattle.memory.specs.Held.{heldIn};
+ghost use Rattle.answers.specs.Answers.{processorOf, builtGiven, heldNumbers, foundNumbers, foundAt, firstGiven, writtenNumbers, subleafOf};
 
 #[repr(C)]
 pub struct SnpCpuidBuilt {
@@ -96,12 +98,12 @@ pub fn subleaf_of(has_subleaf: bool, subleaf: u32) -> Subleaf
     Subleaf::None
 }
 
-// A lookup's answer as numbers, with the origin of the row from the number of where it came from.
-pub fn found_numbers(result: LeafResult, number: u64) -> SnpCpuidFound
-    ensures { λ r. ⌜ r ≡ foundGiven result number ⌝ }
+// A row that was found as numbers, with its origin; or all zeros.
+pub fn found_numbers(found: Found) -> SnpCpuidFound
+    ensures { λ r. ⌜ r ≡ foundNumbers found ⌝ }
 {
-    match result {
-        LeafResult::Some(q) => {
+    match found {
+        Found::Row(q, number) => {
             let read = read_origin(number);
             SnpCpuidFound {
                 found: 1,
@@ -114,7 +116,7 @@ pub fn found_numbers(result: LeafResult, number: u64) -> SnpCpuidFound
                 entry: read.position,
             }
         }
-        LeafResult::None => SnpCpuidFound {
+        Found::NoRow => SnpCpuidFound {
             found: 0,
             eax: 0,
             ebx: 0,
@@ -129,17 +131,26 @@ pub fn found_numbers(result: LeafResult, number: u64) -> SnpCpuidFound
 
 // The row that `leaf_result_ref` finds in a table for a leaf and a subleaf, and where it came from.
 pub fn found_at(
-    table: CpuidResults,
-    origins: [u64; PLACES],
+    registers: &[u32; REGISTERS],
+    origins: &[u64; PLACES],
     leaf: u32,
     subleaf: Subleaf,
     enforce_subleaf: bool,
 ) -> SnpCpuidFound
-    ensures { λ r. ⌜ r ≡ foundAt table origins leaf subleaf «enforce_subleaf» ⌝ }
+    ensures { λ r. ⌜ r ≡ foundAt (heldIn (now (registers .entry)) (now (origins .entry))) (now (origins .entry)) leaf subleaf «enforce_subleaf» ⌝ }
 {
-    let result = leaf_result(table, CpuidFunction(leaf), subleaf, enforce_subleaf);
-    let origin = leaf_origin(origins, CpuidFunction(leaf), subleaf, enforce_subleaf);
-    found_numbers(result, origin)
+    found_numbers(find(registers, origins, CpuidFunction(leaf), subleaf, enforce_subleaf))
+}
+
+// A verdict with the count of rows and the combined mask of the table that goes with it.
+pub fn table_numbers(
+    verdict: Verdict,
+    registers: &[u32; REGISTERS],
+    origins: &[u64; PLACES],
+) -> SnpCpuidBuilt
+    ensures { λ r. ⌜ r ≡ heldNumbers verdict (heldIn (now (registers .entry)) (now (origins .entry))) ⌝ }
+{
+    built_numbers(verdict, row_count(origins), combined_mask(registers))
 }
 
 // Where a first entry stands, from its number: found where the pages are lawful and have one.
