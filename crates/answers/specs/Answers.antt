@@ -18,13 +18,20 @@ use Rattle.lookup.specs.declared.Found.{Found as Location}
 use Rattle.lookup.specs.declared.Found.the-variants.{Row as Located, NoRow}
 use Rattle.lookup.specs.declared.LeafResult.{LeafResult}
 use Rattle.lookup.specs.declared.LeafResult.the-variants.{Some as Found, None as Nothing}
+use Rattle.guest_state.specs.declared.InUse.{InUse}
+use Rattle.guest_state.specs.declared.InUse.the-variants.{Refused as NotInUse, Compacted}
 use Rattle.guest.specs.declared.Processor.{Processor}
+use Rattle.guest.specs.declared.GuestFound.{GuestFound}
+use Rattle.guest.specs.declared.GuestFound.the-variants.{Refused as NotGiven, Looked}
 use Rattle.buffer.specs.declared.Written.{Written}
 use Rattle.buffer.specs.declared.Written.the-variants.{Bytes, Refused}
 use Rattle.numbers.specs.declared.AnswerNumbers.{AnswerNumbers}
 use Rattle.numbers.specs.Numbers.{numbersOf, refusalNumbers}
 use Rattle.answers.specs.declared.SnpCpuidBuilt.{SnpCpuidBuilt}
 use Rattle.answers.specs.declared.SnpCpuidFound.{SnpCpuidFound}
+use Rattle.answers.specs.declared.SnpCpuidGuestFound.{SnpCpuidGuestFound}
+use Rattle.answers.specs.declared.SnpCpuidState.{SnpCpuidState}
+use Rattle.answers.specs.declared.SnpCpuidCounts.{SnpCpuidCounts}
 use Rattle.answers.specs.declared.SnpCpuidFirst.{SnpCpuidFirst}
 use Rattle.answers.specs.declared.SnpCpuidWritten.{SnpCpuidWritten}
 
@@ -123,3 +130,30 @@ writtenWith n length = record {
 abbrev pub writtenNumbers : Written → SnpCpuidWritten
 writtenNumbers (Bytes n) = record { number = 0; leaf = 0; «has_subleaf» = 0; subleaf = 0; s = 0; length = n }
 writtenNumbers (Refused r) = writtenWith (refusalNumbers r) 0
+
+-- ---- of a table that the caller keeps
+
+abbrev pub countsOf : CpuidResults → SnpCpuidCounts
+countsOf t = record { «row_count» = t .«row_count»; «max_extended_state» = t .«max_extended_state» }
+
+abbrev pub guestFoundWith : ℕ → SnpCpuidFound → SnpCpuidGuestFound
+guestFoundWith n f = record {
+  number = n;
+  found = f .found;
+  eax = f .eax;
+  ebx = f .ebx;
+  ecx = f .ecx;
+  edx = f .edx;
+  origin = f .origin;
+  page = f .page;
+  entry = f .entry;
+}
+
+-- 13 or 14 and nothing found, or what was found
+abbrev pub guestFoundNumbers : GuestFound → SnpCpuidGuestFound
+guestFoundNumbers (NotGiven r) = guestFoundWith (refusalNumbers r .number) nothingFound
+guestFoundNumbers (Looked f) = guestFoundWith 0 (foundNumbers f)
+
+abbrev pub stateNumbers : InUse → SnpCpuidState
+stateNumbers (NotInUse r) = record { number = refusalNumbers r .number; size = 0 }
+stateNumbers (Compacted n) = record { number = 0; size = n }

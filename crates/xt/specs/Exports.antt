@@ -9,4 +9,3 @@ use Rattle.answers.specs.Answers.{foundAt}
 -- the row of a table that was built, with its origin
 abbrev pub foundIn : Built → ℕ → Subleaf → Bool → SnpCpuidFound
 foundIn b leaf subleaf enforce = foundAt (b .table) (b .origins) leaf subleaf enforce
-
