@@ -139,7 +139,13 @@ pub fn found_at(
 ) -> SnpCpuidFound
     ensures { λ r. ⌜ r ≡ foundAt (heldIn (now (registers .entry)) (now (origins .entry))) (now (origins .entry)) leaf subleaf «enforce_subleaf» ⌝ }
 {
-    found_numbers(find(registers, origins, CpuidFunction(leaf), subleaf, enforce_subleaf))
+    found_numbers(find(
+        registers,
+        origins,
+        CpuidFunction(leaf),
+        subleaf,
+        enforce_subleaf,
+    ))
 }
 
 // A verdict with the count of rows and the combined mask of the table that goes with it.
