@@ -3,7 +3,6 @@ use mathlib.Core.Path.{_≡_}
 use mathlib.Core.Bool.{Bool}
 use mathlib.Core.List.{List}
 use Prim.Native.Nat.{ℕ}
-use lib.ListN.{replicate}
 use Rattle.bits.specs.Lists.{tabulate}
 use Rattle.x86defs.specs.declared.CpuidFunction.{CpuidFunction}
 use Rattle.x86defs.specs.declared.CpuidResult.{CpuidResult}
@@ -49,13 +48,8 @@ foundIn g origins l sub enforce = lookedBy (g .verdict) (found (g .table) origin
 
 -- ---- the whole table
 
--- each row keeps its origin; a refused table has none
-abbrev pub originsBy : Verdict → List ℕ → List ℕ
-originsBy Accepted found = found
-originsBy (Refused r) found = replicate 88 0
-
--- d and the memory w, o are the guest's answer g, where the rows came from `found`
-pub record SeenIn (g : GuestAnswer) (found : List ℕ) (d : Verdict) (w o : List ℕ) : Type 0 where
+-- d and the memory w, o are the guest's answer g; where it is given, each row keeps its origin
+pub record SeenIn (g : GuestAnswer) (before : List ℕ) (d : Verdict) (w o : List ℕ) : Type 0 where
   pub verdict : d ≡ g .verdict
   pub table : heldIn w o ≡ g .table
-  pub origins : o ≡ originsBy (g .verdict) found
+  pub origins : d ≡ Accepted → o ≡ before
