@@ -4,12 +4,14 @@ use answers::SnpCpuidBuilt;
 use answers::SnpCpuidCounts;
 use answers::SnpCpuidFound;
 use answers::SnpCpuidGuestFound;
+use answers::SnpCpuidRead;
 use answers::SnpCpuidState;
 use answers::SnpCpuidWritten;
 use answers::found_at;
 use answers::found_numbers;
 use answers::guest_found_numbers;
 use answers::processor;
+use answers::read_numbers;
 use answers::state_numbers;
 use answers::subleaf_of;
 use answers::table_counts;
@@ -25,12 +27,11 @@ use guest_state::state_in_use;
 use masking::PLACES;
 use memory::REGISTERS;
 use table::Choices;
-use table::Verdict;
 use tables_compared::compare_tables;
 use x86defs::CpuidFunction;
 ghost use mathlib.Core.Path.{_≡_};
+ghost use mathlib.Core.Bool.{false};
 ghost use Rattle.x86defs.specs.Functions.{function};
-ghost use Rattle.table.specs.Table as Tables;
 ghost use Rattle.memory.specs.Held.{heldIn};
 ghost use Rattle.build.specs.Build.{answer};
 ghost use Rattle.build.specs.InMemory.{TableIn};
@@ -42,14 +43,14 @@ ghost use Rattle.image_read.specs.ReadIn.{ReadIn};
 ghost use Rattle.kvm_export.specs.Export.{listOf};
 ghost use Rattle.guest_state.specs.InUse.{readRows, inUse};
 ghost use Rattle.guest.specs.Guest.{guestAnswer};
-ghost use Rattle.guest.specs.Seen.{tableWith, foundIn, SeenIn};
+ghost use Rattle.guest.specs.Seen.{tableWith, foundIn};
 ghost use Rattle.carry.specs.Carry.{carry};
 ghost use Rattle.carry.specs.InPlace.{CarriedIn};
 ghost use Rattle.tables_compared.specs.CompareTables.{comparedTables};
 ghost use Rattle.numbers.specs.Numbers.{numbersOf};
-ghost use Rattle.answers.specs.Answers.{choicesOf, processorOf, countsOf, heldNumbers, builtNumbers, foundNumbers, foundAt, guestFoundNumbers, stateNumbers, writtenNumbers, subleafOf};
+ghost use Rattle.answers.specs.Answers.{choicesOf, processorOf, countsOf, readWith, builtNumbers, foundNumbers, foundAt, guestFoundNumbers, stateNumbers, writtenNumbers, subleafOf};
 ghost use Rattle.compare_answers.specs.ComparedAnswers.{tablesComparedNumbers};
-ghost use Rattle.snp_cpuid.specs.TableExports.{readNumbers};
+ghost use Rattle.snp_cpuid.specs.GuestExports.{guestNumbers, GuestIn};
 
 // Builds the table of the given pages into the caller's memory; a refusal leaves a table without rows.
 #[no_mangle]
@@ -71,18 +72,18 @@ pub extern "C" fn snp_cpuid_table_build(
     table_numbers(verdict, registers, origins)
 }
 
-// Reads a table's image into the caller's memory: number 0 with its counts, or number 1 and a table without rows where the bytes are no image.
+// Reads a table's image into the caller's memory; bytes that are no image leave a table without rows.
 #[no_mangle]
 pub extern "C" fn snp_cpuid_table_read_image(
     image: &[u8],
     registers: &mut [u32; REGISTERS],
     origins: &mut [u64; PLACES],
 ) -> SnpCpuidRead
-    ensures { λ r. ⌜ r ≡ readNumbers (readImage (now (image .entry))) ⌝ }
+    ensures { λ r. ⌜ r ≡ readWith (readImage (now (image .entry)) .«is_image») (readImage (now (image .entry)) .table) ⌝ }
     ensures { λ _. ⌜ ReadIn (now (image .entry)) (readImage (now (image .entry)) .«is_image») (now (registers .exit)) (now (origins .exit)) ⌝ }
 {
     let is_image = image_read::read_image(image, registers, origins);
-    read_numbers(is_image, table_counts(registers, origins))
+    read_numbers(is_image, registers, origins)
 }
 
 // Looks a row up as leaf_result_ref does, in a table of any content.
@@ -137,7 +138,7 @@ pub extern "C" fn snp_cpuid_table_state(
     xcr0: u64,
     xss: u64,
 ) -> SnpCpuidState
-    ensures { λ r. ⌜ r ≡ stateNumbers (inUse (readRows Bool.false (now (registers .entry)) (now (origins .entry))) xcr0 xss) ⌝ }
+    ensures { λ r. ⌜ r ≡ stateNumbers (inUse (readRows false (now (registers .entry)) (now (origins .entry))) xcr0 xss) ⌝ }
 {
     state_numbers(state_in_use(registers, origins, false, xcr0, xss))
 }
