@@ -1,4 +1,5 @@
 -- The answers as the exported functions give them: plain numbers, one for each detail.
+use mathlib.Core.Path.{_≡_, refl}
 use mathlib.Core.Bool.{Bool}
 use mathlib.Core.List.{List}
 use Prim.Native.Nat.{ℕ, _/_}
@@ -12,16 +13,25 @@ use Rattle.table.specs.declared.CpuidResults.{CpuidResults}
 use Rattle.table.specs.declared.Verdict.{Verdict}
 use Rattle.table.specs.declared.Subleaf.{Subleaf}
 use Rattle.table.specs.declared.Subleaf.the-variants.{None, Some}
-use Rattle.lookup.specs.Lookup.{lookup, lookupOrigin}
+use Rattle.lookup.specs.Lookup.{lookup, lookupOrigin, withOrigin}
+use Rattle.lookup.specs.declared.Found.{Found as Location}
+use Rattle.lookup.specs.declared.Found.the-variants.{Row as Located, NoRow}
 use Rattle.lookup.specs.declared.LeafResult.{LeafResult}
 use Rattle.lookup.specs.declared.LeafResult.the-variants.{Some as Found, None as Nothing}
+use Rattle.guest_state.specs.declared.InUse.{InUse}
+use Rattle.guest_state.specs.declared.InUse.the-variants.{Refused as NotInUse, Compacted}
 use Rattle.guest.specs.declared.Processor.{Processor}
+use Rattle.guest.specs.declared.GuestFound.{GuestFound}
+use Rattle.guest.specs.declared.GuestFound.the-variants.{Refused as NotGiven, Looked}
 use Rattle.buffer.specs.declared.Written.{Written}
 use Rattle.buffer.specs.declared.Written.the-variants.{Bytes, Refused}
 use Rattle.numbers.specs.declared.AnswerNumbers.{AnswerNumbers}
 use Rattle.numbers.specs.Numbers.{numbersOf, refusalNumbers}
 use Rattle.answers.specs.declared.SnpCpuidBuilt.{SnpCpuidBuilt}
 use Rattle.answers.specs.declared.SnpCpuidFound.{SnpCpuidFound}
+use Rattle.answers.specs.declared.SnpCpuidGuestFound.{SnpCpuidGuestFound}
+use Rattle.answers.specs.declared.SnpCpuidState.{SnpCpuidState}
+use Rattle.answers.specs.declared.SnpCpuidCounts.{SnpCpuidCounts}
 use Rattle.answers.specs.declared.SnpCpuidFirst.{SnpCpuidFirst}
 use Rattle.answers.specs.declared.SnpCpuidWritten.{SnpCpuidWritten}
 
@@ -47,8 +57,12 @@ builtWith n rows mask = record {
 abbrev pub builtGiven : Verdict → ℕ → ℕ → SnpCpuidBuilt
 builtGiven v rows mask = builtWith (numbersOf v) rows mask
 
+-- a verdict, and the count and mask of a table
+abbrev pub heldNumbers : Verdict → CpuidResults → SnpCpuidBuilt
+heldNumbers v t = builtGiven v (t .«row_count») (t .«max_extended_state»)
+
 abbrev pub builtNumbers : Built → SnpCpuidBuilt
-builtNumbers b = builtGiven (b .verdict) (b .table .«row_count») (b .table .«max_extended_state»)
+builtNumbers b = heldNumbers (b .verdict) (b .table)
 
 abbrev pub subleafOf : Bool → ℕ → Subleaf
 subleafOf named k = pick named (Some k) None
@@ -66,9 +80,21 @@ foundWith r o = record {
   entry = o .position;
 }
 
+abbrev pub nothingFound : SnpCpuidFound
+nothingFound = record { found = 0; eax = 0; ebx = 0; ecx = 0; edx = 0; origin = 0; page = 0; entry = 0 }
+
 abbrev pub foundGiven : LeafResult → ℕ → SnpCpuidFound
 foundGiven (Found r) n = foundWith r (originRead n)
-foundGiven Nothing n = record { found = 0; eax = 0; ebx = 0; ecx = 0; edx = 0; origin = 0; page = 0; entry = 0 }
+foundGiven Nothing n = nothingFound
+
+-- the same of a row that was found with its origin
+abbrev pub foundNumbers : Location → SnpCpuidFound
+foundNumbers (Located r n) = foundWith r (originRead n)
+foundNumbers NoRow = nothingFound
+
+pub given-located : (x : LeafResult) (n : ℕ) → foundNumbers (withOrigin x n) ≡ foundGiven x n
+given-located (Found r) n = refl
+given-located Nothing n = refl
 
 -- the row that a lookup finds in a table, with its origin from the column of origins beside the table
 abbrev pub foundAt : CpuidResults → List ℕ → ℕ → Subleaf → Bool → SnpCpuidFound
@@ -104,3 +130,30 @@ writtenWith n length = record {
 abbrev pub writtenNumbers : Written → SnpCpuidWritten
 writtenNumbers (Bytes n) = record { number = 0; leaf = 0; «has_subleaf» = 0; subleaf = 0; s = 0; length = n }
 writtenNumbers (Refused r) = writtenWith (refusalNumbers r) 0
+
+-- ---- of a table that the caller keeps
+
+abbrev pub countsOf : CpuidResults → SnpCpuidCounts
+countsOf t = record { «row_count» = t .«row_count»; «max_extended_state» = t .«max_extended_state» }
+
+abbrev pub guestFoundWith : ℕ → SnpCpuidFound → SnpCpuidGuestFound
+guestFoundWith n f = record {
+  number = n;
+  found = f .found;
+  eax = f .eax;
+  ebx = f .ebx;
+  ecx = f .ecx;
+  edx = f .edx;
+  origin = f .origin;
+  page = f .page;
+  entry = f .entry;
+}
+
+-- 13 or 14 and nothing found, or what was found
+abbrev pub guestFoundNumbers : GuestFound → SnpCpuidGuestFound
+guestFoundNumbers (NotGiven r) = guestFoundWith (refusalNumbers r .number) nothingFound
+guestFoundNumbers (Looked f) = guestFoundWith 0 (foundNumbers f)
+
+abbrev pub stateNumbers : InUse → SnpCpuidState
+stateNumbers (NotInUse r) = record { number = refusalNumbers r .number; size = 0 }
+stateNumbers (Compacted n) = record { number = 0; size = n }

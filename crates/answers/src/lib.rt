@@ -1,17 +1,21 @@
 // Answers as C and Rust are given them: the answers of the crates below come in, structs of plain numbers go out. include/snp_cpuid.h documents each.
 use buffer::Written;
+use guest::GuestFound;
 use guest::Processor;
-use lookup::LeafResult;
-use lookup::leaf_origin;
-use lookup::leaf_result;
+use guest_state::InUse;
+use lookup::Found;
+use lookup::find;
 use masking::PLACES;
+use memory::REGISTERS;
+use memory::combined_mask;
+use memory::row_count;
 use origins::read_origin;
-use table::CpuidResults;
 use table::Subleaf;
 use table::Verdict;
 use x86defs::CpuidFunction;
 ghost use mathlib.Core.Path.{_≡_};
-ghost use Rattle.answers.specs.Answers.{processorOf, builtGiven, foundGiven, foundAt, firstGiven, writtenNumbers, subleafOf};
+ghost use Rattle.memory.specs.Held.{heldIn};
+ghost use Rattle.answers.specs.Answers.{processorOf, builtGiven, heldNumbers, countsOf, stateNumbers, guestFoundWith, guestFoundNumbers, foundNumbers, foundAt, firstGiven, writtenNumbers, subleafOf};
 
 #[repr(C)]
 pub struct SnpCpuidBuilt {
@@ -58,6 +62,34 @@ pub struct SnpCpuidFirst {
     pub entry: u32,
 }
 
+// What a processor's guest reads: 13 or 14 and zeros, or number 0 with what a lookup gives.
+#[repr(C)]
+pub struct SnpCpuidGuestFound {
+    pub number: u32,
+    pub found: u32,
+    pub eax: u32,
+    pub ebx: u32,
+    pub ecx: u32,
+    pub edx: u32,
+    pub origin: u32,
+    pub page: u64,
+    pub entry: u32,
+}
+
+// Whether a table gives a state: 13 or 14, or number 0 with the compacted size of the save area.
+#[repr(C)]
+pub struct SnpCpuidState {
+    pub number: u32,
+    pub size: u32,
+}
+
+// How many rows a table has, and its combined mask.
+#[repr(C)]
+pub struct SnpCpuidCounts {
+    pub row_count: u64,
+    pub max_extended_state: u64,
+}
+
 // The processor that a caller describes.
 pub fn processor(x2apic: u32, xcr0: u64, xss: u64, osxsave: bool) -> Processor
     ensures { λ r. ⌜ r ≡ processorOf x2apic xcr0 xss osxsave ⌝ }
@@ -96,12 +128,12 @@ pub fn subleaf_of(has_subleaf: bool, subleaf: u32) -> Subleaf
     Subleaf::None
 }
 
-// A lookup's answer as numbers, with the origin of the row from the number of where it came from.
-pub fn found_numbers(result: LeafResult, number: u64) -> SnpCpuidFound
-    ensures { λ r. ⌜ r ≡ foundGiven result number ⌝ }
+// A row that was found as numbers, with its origin; or all zeros.
+pub fn found_numbers(found: Found) -> SnpCpuidFound
+    ensures { λ r. ⌜ r ≡ foundNumbers found ⌝ }
 {
-    match result {
-        LeafResult::Some(q) => {
+    match found {
+        Found::Row(q, number) => {
             let read = read_origin(number);
             SnpCpuidFound {
                 found: 1,
@@ -114,7 +146,7 @@ pub fn found_numbers(result: LeafResult, number: u64) -> SnpCpuidFound
                 entry: read.position,
             }
         }
-        LeafResult::None => SnpCpuidFound {
+        Found::NoRow => SnpCpuidFound {
             found: 0,
             eax: 0,
             ebx: 0,
@@ -129,17 +161,88 @@ pub fn found_numbers(result: LeafResult, number: u64) -> SnpCpuidFound
 
 // The row that `leaf_result_ref` finds in a table for a leaf and a subleaf, and where it came from.
 pub fn found_at(
-    table: CpuidResults,
-    origins: [u64; PLACES],
+    registers: &[u32; REGISTERS],
+    origins: &[u64; PLACES],
     leaf: u32,
     subleaf: Subleaf,
     enforce_subleaf: bool,
 ) -> SnpCpuidFound
-    ensures { λ r. ⌜ r ≡ foundAt table origins leaf subleaf «enforce_subleaf» ⌝ }
+    ensures { λ r. ⌜ r ≡ foundAt (heldIn (now (registers .entry)) (now (origins .entry))) (now (origins .entry)) leaf subleaf «enforce_subleaf» ⌝ }
 {
-    let result = leaf_result(table, CpuidFunction(leaf), subleaf, enforce_subleaf);
-    let origin = leaf_origin(origins, CpuidFunction(leaf), subleaf, enforce_subleaf);
-    found_numbers(result, origin)
+    found_numbers(find(
+        registers,
+        origins,
+        CpuidFunction(leaf),
+        subleaf,
+        enforce_subleaf,
+    ))
+}
+
+// What a processor's guest reads, as numbers.
+pub fn guest_found_numbers(answer: GuestFound) -> SnpCpuidGuestFound
+    ensures { λ r. ⌜ r ≡ guestFoundNumbers answer ⌝ }
+{
+    match answer {
+        GuestFound::Refused(refusal) => guest_found_with(
+            numbers::refusal_numbers(refusal).number as u32,
+            found_numbers(Found::NoRow),
+        ),
+        GuestFound::Looked(found) => guest_found_with(0, found_numbers(found)),
+    }
+}
+
+// A number, and what a lookup gives.
+fn guest_found_with(number: u32, f: SnpCpuidFound) -> SnpCpuidGuestFound
+    ensures { λ r. ⌜ r ≡ guestFoundWith number f ⌝ }
+{
+    SnpCpuidGuestFound {
+        number,
+        found: f.found,
+        eax: f.eax,
+        ebx: f.ebx,
+        ecx: f.ecx,
+        edx: f.edx,
+        origin: f.origin,
+        page: f.page,
+        entry: f.entry,
+    }
+}
+
+// Whether a table gives a state, as numbers.
+pub fn state_numbers(state: InUse) -> SnpCpuidState
+    ensures { λ r. ⌜ r ≡ stateNumbers state ⌝ }
+{
+    match state {
+        InUse::Refused(refusal) => {
+            let numbers = numbers::refusal_numbers(refusal);
+            SnpCpuidState {
+                number: numbers.number as u32,
+                size: 0,
+            }
+        }
+        InUse::Compacted(size) => SnpCpuidState { number: 0, size },
+    }
+}
+
+// How many rows a table has, and its combined mask.
+pub fn table_counts(registers: &[u32; REGISTERS], origins: &[u64; PLACES]) -> SnpCpuidCounts
+    ensures { λ r. ⌜ r ≡ countsOf (heldIn (now (registers .entry)) (now (origins .entry))) ⌝ }
+{
+    SnpCpuidCounts {
+        row_count: row_count(origins) as u64,
+        max_extended_state: combined_mask(registers),
+    }
+}
+
+// A verdict with the count of rows and the combined mask of the table that goes with it.
+pub fn table_numbers(
+    verdict: Verdict,
+    registers: &[u32; REGISTERS],
+    origins: &[u64; PLACES],
+) -> SnpCpuidBuilt
+    ensures { λ r. ⌜ r ≡ heldNumbers verdict (heldIn (now (registers .entry)) (now (origins .entry))) ⌝ }
+{
+    built_numbers(verdict, row_count(origins), combined_mask(registers))
 }
 
 // Where a first entry stands, from its number: found where the pages are lawful and have one.

@@ -82,3 +82,7 @@ module _ (c : Choices) (s w o : List ℕ) (a : length w ≡ 4 * places) (b : len
 pub edition-known : (n : ℕ) → knownEdition n ≡ true → editionVerdict n ≡ Accepted
 unfolding editionVerdict
 edition-known n e = rw e
+
+-- the memory w, o holds the table of the answer b, and where its rows came from
+abbrev pub TableIn : Built → List ℕ → List ℕ → Type 0
+TableIn b w o = InMemory b (b .verdict) w o

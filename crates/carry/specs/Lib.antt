@@ -1,2 +1,4 @@
 pub mod Carry
 pub mod CarryLaws
+pub mod InPlace
+pub mod InPlaceLaws

@@ -1,113 +1,83 @@
-// A running table carried from one edition of the AVX rule to another. A table and one processor's state come in; the table under the edition
-// wanted goes out, or a refusal.
-use guest_state::state_verdict;
+// A running table carried from one edition of the AVX rule to another. A table in lent memory and one processor's state come in; the table becomes the
+// one under the edition wanted, or a refusal goes out and it stays as it was. Where rows came from is not touched.
+use guest_state::InUse;
+use guest_state::read_row;
+use guest_state::state_in_use;
 use masking::PLACES;
 use masking::place;
+use memory::REGISTERS;
+use memory::is_there;
+use memory::put_row;
+use memory::row_at;
+use memory::sized;
 use table::CpuidResults;
 use table::Refusal;
 use table::Verdict;
-use table::empty_table;
 use table::known_edition;
 use x86defs::CpuidResult;
 ghost use mathlib.Core.Path.{_≡_};
 ghost use Rattle.bits.specs.Choice.{pick};
-ghost use Rattle.bits.specs.Lists.{tabulate};
-ghost use Rattle.x86defs.specs.Functions.{result};
-ghost use Rattle.masking.specs.Kept.{places};
-ghost use Rattle.carry.specs.Carry.{ownRows, withoutBits, carriedTable, carry, refusedCarry};
+ghost use Rattle.table.specs.Table.{rowIn};
+ghost use Rattle.memory.specs.Memory.{layout};
+ghost use Rattle.memory.specs.Held.{heldIn};
+ghost use Rattle.carry.specs.Carry.{withoutBits, carriedTable, carry};
+ghost use Rattle.carry.specs.InPlace.{CarriedIn};
 
 // What goes without YMM state in edition 2 and not in edition 1: F16C of 1.ECX, XOP and FMA4 of 80000001h.ECX.
 const F16C: u32 = 0x20000000;
 
 const XOP_AND_FMA4: u32 = 0x10800;
 
-// Accepted with the table under the edition wanted, or refused with an empty one.
+// Accepted with the table under the edition wanted, or refused with an empty one: the answer of the definition, specs/Carry.antt.
 pub struct Carried {
     pub verdict: Verdict,
     pub table: CpuidResults,
 }
 
-// A table under edition `from`, with a processor's XCR0 and XSS, taken to edition `to`.
-pub fn carry(t: CpuidResults, from: u32, to: u32, xcr0: u64, xss: u64) -> Carried
-    ensures { λ r. ⌜ r ≡ carry t from to xcr0 xss ⌝ }
+// The memory's table under edition `from`, with a processor's XCR0 and XSS, taken to edition `to`. A refusal leaves the memory as it was.
+pub fn carry(
+    registers: &mut [u32; REGISTERS],
+    origins: &[u64; PLACES],
+    from: u32,
+    to: u32,
+    xcr0: u64,
+    xss: u64,
+) -> Verdict
+    ensures { λ r. ⌜ CarriedIn (carry (heldIn (now (registers .entry)) (now (origins .entry))) from to xcr0 xss) r
+        (now (registers .entry)) (now (origins .entry)) (now (registers .exit)) ⌝ }
 {
     if known_edition(from) & known_edition(to) {} else {
-        return refused(Refusal::UnknownEdition);
+        return Verdict::Refused(Refusal::UnknownEdition);
     }
     if to < from {
-        return refused(Refusal::EditionBack);
+        return Verdict::Refused(Refusal::EditionBack);
     }
-    let own = own_results(t);
-    let verdict = state_verdict(own, xcr0, xss);
-    if let Verdict::Refused(r) = verdict {
-        return refused(r);
+    let state = state_in_use(registers, origins, true, xcr0, xss);
+    if let InUse::Refused(r) = state {
+        return Verdict::Refused(r);
     }
-    let subleaf0 = own[place::EXTENDED_STATE_0];
-    let table = clear_bits(t, (from == to) | bits::has_bit(subleaf0.eax, 2));
-    Carried {
-        verdict: Verdict::Accepted,
-        table,
-    }
-}
-
-// A refused answer holds an empty table.
-fn refused(r: Refusal) -> Carried
-    ensures { λ q. ⌜ q ≡ refusedCarry r ⌝ }
-{
-    let table = empty_table();
-    Carried {
-        verdict: Verdict::Refused(r),
-        table,
-    }
-}
-
-// The registers of each place, zeros where it has no row.
-fn own_results(t: CpuidResults) -> [CpuidResult; PLACES]
-    ensures { λ r. ⌜ r ≡ tabulate places (λ i. ownRows t i .result) ⌝ }
-{
-    let mut own = t.results;
-    let mut i = 0;
-    while i < PLACES {
-        let present = t.present[i];
-        let r = t.results[i];
-        own[i] = if_there(present, r);
-        i += 1;
-    }
-    own
-}
-
-// The registers of a row that is there; else zeros.
-fn if_there(present: bool, r: CpuidResult) -> CpuidResult
-    ensures { λ q. ⌜ q ≡ pick present r (result 0 0 0 0) ⌝ }
-{
-    if present {
-        return r;
-    }
-    CpuidResult {
-        eax: 0,
-        ebx: 0,
-        ecx: 0,
-        edx: 0,
-    }
+    let subleaf0 = read_row(registers, origins, true, place::EXTENDED_STATE_0);
+    clear_bits(
+        registers,
+        origins,
+        (from == to) | bits::has_bit(subleaf0.eax, 2),
+    );
+    Verdict::Accepted
 }
 
 // The three bits cleared, unless they are kept. Nothing else changes.
-fn clear_bits(t: CpuidResults, keep: bool) -> CpuidResults
-    ensures { λ r. ⌜ r ≡ carriedTable keep t ⌝ }
+fn clear_bits(registers: &mut [u32; REGISTERS], origins: &[u64; PLACES], keep: bool)
+    ensures { λ _. ⌜ now (registers .exit) ≡ layout (λ i. rowIn (carriedTable keep (heldIn (now (registers .entry)) (now (origins .entry)))) i .result) ⌝ }
 {
-    let has_version = t.present[place::VERSION_AND_FEATURES];
-    let version = t.results[place::VERSION_AND_FEATURES];
-    let has_extended = t.present[place::EXTENDED_VERSION_AND_FEATURES];
-    let extended = t.results[place::EXTENDED_VERSION_AND_FEATURES];
-    let mut out = t;
-    out.results[place::VERSION_AND_FEATURES] = clear_ecx(has_version, keep, F16C, version);
-    out.results[place::EXTENDED_VERSION_AND_FEATURES] = clear_ecx(
-        has_extended,
-        keep,
-        XOP_AND_FMA4,
-        extended,
-    );
-    out
+    sized(registers, origins);
+    let has_version = origins[place::VERSION_AND_FEATURES];
+    let has_extended = origins[place::EXTENDED_VERSION_AND_FEATURES];
+    let version = row_at(registers, place::VERSION_AND_FEATURES);
+    let extended = row_at(registers, place::EXTENDED_VERSION_AND_FEATURES);
+    let cleared = clear_ecx(is_there(has_version), keep, F16C, version);
+    put_row(registers, place::VERSION_AND_FEATURES, cleared);
+    let cleared = clear_ecx(is_there(has_extended), keep, XOP_AND_FMA4, extended);
+    put_row(registers, place::EXTENDED_VERSION_AND_FEATURES, cleared);
 }
 
 // ECX of a row that is there without the bits of `m`, unless they are kept.

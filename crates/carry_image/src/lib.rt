@@ -3,6 +3,8 @@
 use carry::carry;
 use image_read::read_image;
 use image_write::write_table;
+use masking::PLACES;
+use memory::REGISTERS;
 use table::Verdict;
 ghost use mathlib.Core.Path.{_≡_};
 ghost use Rattle.carry_image.specs.CarryImage.{carryImage};
@@ -19,16 +21,14 @@ pub fn carry_image(image: &mut [u8], from: u32, to: u32, xcr0: u64, xss: u64) ->
     ensures { λ r. ⌜ r ≡ carryImage (now (image .entry)) from to xcr0 xss .answer ⌝ }
     ensures { λ _. ⌜ now (image .exit) ≡ carryImage (now (image .entry)) from to xcr0 xss .buffer ⌝ }
 {
-    let read = read_image(image);
-    if read.is_image {
-        let t = read.table;
-        let carried = carry(t, from, to, xcr0, xss);
-        let verdict = carried.verdict;
+    let mut registers: [u32; REGISTERS] = [0; REGISTERS];
+    let mut origins: [u64; PLACES] = [0; PLACES];
+    if read_image(image, &mut registers, &mut origins) {
+        let verdict = carry(&mut registers, &origins, from, to, xcr0, xss);
         if let Verdict::Refused(r) = verdict {
             return CarriedImage::Image(Verdict::Refused(r));
         }
-        let table = carried.table;
-        write_table(table, image);
+        write_table(&registers, &origins, image);
         return CarriedImage::Image(Verdict::Accepted);
     }
     CarriedImage::NotAnImage

@@ -1,43 +1,46 @@
 -- The bits of one row, as the code searches them: flipped in the entry's registers, masked, and put at the entry's place.
-use mathlib.Core.Path.{_≡_, refl, sym, ap, ap₂, _∙_}
-use mathlib.Core.Bool.{Bool, true, false, _&&_}
+use mathlib.Core.Path.{_≡_, refl, sym, ap, _∙_}
+use mathlib.Core.Bool.{Bool, true, false}
+use mathlib.Core.List.{List}
 use Prim.Native.Nat.{ℕ, _+_, _-_, _/_, _%_, _≤_, _<_}
-use lib.Dec.{eqb}
-use Rattle.bits.specs.ChoiceLaws.{never-both}
 use Rattle.bits.specs.Search.{Failing, lowest}
 use Rattle.bits.specs.Search.Failing.{at, none}
 use Rattle.bits.specs.SearchLaws.{lowest-all, lowest-passes, lowest-stops, lowest-ends}
 use Rattle.x86defs.specs.declared.CpuidResult.{CpuidResult}
-use Rattle.topology.specs.declared.TopologyError.the-variants.{Hyperthreading, ProcessorCount, ThreadsPerUnit}
 use Rattle.masking.specs.Masks.{applyMask}
 use Rattle.masks.specs.declared.KeptLeaf.{KeptLeaf}
 use Rattle.masks.specs.KeptTable.{masksOf}
-use Rattle.table.specs.declared.Refusal.{Refusal}
-use Rattle.table.specs.declared.Refusal.the-variants.{PagesLength, PageCount, MissingRequiredResult, InvlpgbUnavailable, SaveAreaOverflow, TopologyInconsistent, BufferTooShort, ListLength, ListRows, ListFields, StateBeyondTable, CompactSizeTooLarge, UnknownEdition, EditionBack, ReservedBytes, PoolSets, PoolDiffers, NothingDecides}
+use Rattle.table.specs.declared.CpuidResults.{CpuidResults}
 use Rattle.table.specs.declared.Verdict.{Verdict}
-use Rattle.table.specs.declared.Verdict.the-variants.{Accepted, Refused}
-use Rattle.table.specs.Refusal.{details}
 use Rattle.table.specs.Rows.{Rows, row}
-use Rattle.table.specs.Table.{emptyTable}
+use Rattle.memory.specs.Held.{heldIn}
 use Rattle.collect.specs.FirstEntries.{setLegacy}
 use Rattle.checks.specs.Checks.{rowsVerdict}
-use Rattle.rows_built.specs.declared.RowsBuilt.{RowsBuilt}
 use Rattle.rows_built.specs.RowsBuilt.{tableFor, builtFrom}
+use Rattle.rows_finished.specs.Finished.{Answered}
 use Rattle.flips.specs.OneBit.{oneBit, xorResult}
-use Rattle.flip_rows.specs.Same.{sameResult, sameTable, sameNumbers, sameVerdict, sameAnswer, sameFrom}
-use Rattle.flip_rows.specs.SameLaws.{table-same, result-equal}
+use Rattle.flip_rows.specs.Same.{sameResult, sameTable, sameVerdict, sameAnswer, sameFrom}
+use Rattle.flip_rows.specs.SameLaws.{result-equal}
 use Rattle.flip_rows.specs.PutRow.{putRow}
 use Rattle.flip_rows.specs.PutRowLaws.{put-same}
 use Rattle.flip_rows.specs.ChangesLaws.{from-equal}
-use Rattle.quiet.specs.Quiet.{refuses, quiet}
+use Rattle.quiet.specs.Quiet.{quiet}
 use Rattle.quiet.specs.QuietLaws.{quiet-same}
 use Rattle.deciding.specs.declared.Deciding.{Deciding}
 use Rattle.deciding.specs.declared.Deciding.the-variants.{Number, NoNumber}
 
 -- what building from the rows under edition n gives
-pub record AnswerTo (n : ℕ) (m : Rows) (b : RowsBuilt) : Type 0 where
-  pub verdict : b .verdict ≡ rowsVerdict m
-  pub table : b .table ≡ tableFor n (rowsVerdict m) m
+pub record AnswerTo (n : ℕ) (m : Rows) (v : Verdict) (t : CpuidResults) : Type 0 where
+  pub verdict : v ≡ rowsVerdict m
+  pub table : t ≡ tableFor n (rowsVerdict m) m
+
+-- is what `build_rows` leaves
+pub answer-to : (n : ℕ) {m o : Rows} {found w q : List ℕ} {v : Verdict} → Answered (builtFrom n m) found v w q → m ≡ o → AnswerTo n o v (heldIn w q)
+unfolding builtFrom
+answer-to n a e = record {
+  verdict = a .verdict ∙ ap rowsVerdict e;
+  table = a .whole ∙ ap (λ (m : Rows). tableFor n (rowsVerdict m) m) e;
+}
 
 -- whether flip j of an entry's registers x, masked for place i, keeps the answer
 unfoldable pub keeps : ℕ → Rows → KeptLeaf → ℕ → CpuidResult → ℕ → Bool
@@ -88,58 +91,14 @@ pub keeps-there : (n i : ℕ) (x y : CpuidResult) (m : Rows) → m i ≡ row y �
 keeps-there n i x y m f g = sym (from-equal n (put-same i x m (f ∙ ap row (result-equal y x g))))
 
 -- what building from the rows with another row gives, held to the answer before
-pub keeps-built : (n : ℕ) {o p m : Rows} {b base : RowsBuilt} {q : Bool} → b ≡ builtFrom n o → o ≡ p → AnswerTo n m base
-    → q ≡ sameAnswer (b .verdict) (b .table) (base .verdict) (base .table) → q ≡ sameFrom n p m
-unfolding builtFrom
-keeps-built n e f a g =
-    let h : _ ≡ builtFrom n _ = e ∙ ap (builtFrom n) f in
-    g ∙ (λ k. sameAnswer (h k .verdict) (h k .table) (a .verdict k) (a .table k))
+module _ (n : ℕ) {o m : Rows} {v u : Verdict} {t z : CpuidResults} (a : AnswerTo n o v t) (b : AnswerTo n m u z) where
+  held-to : sameAnswer v t u z ≡ sameFrom n o m
+  held-to k = sameAnswer (a .verdict k) (a .table k) (b .verdict k) (b .table k)
 
--- ---- a refused answer, whose table is empty
+  pub keeps-table : {p q : Bool} → p ≡ sameVerdict v u → p ≡ true → q ≡ sameTable t z → q ≡ sameFrom n o m
+  unfolding sameAnswer
+  keeps-table e f g = g ∙ sym (rw (sym e ∙ f)) ∙ held-to
 
-refused-number : (r : Refusal) → eqb 0 (details r .number) ≡ false
-refused-number PagesLength = refl
-refused-number PageCount = refl
-refused-number (MissingRequiredResult leaf subleaf) = refl
-refused-number InvlpgbUnavailable = refl
-refused-number SaveAreaOverflow = refl
-refused-number (TopologyInconsistent (Hyperthreading s)) = refl
-refused-number (TopologyInconsistent (ProcessorCount s)) = refl
-refused-number (TopologyInconsistent ThreadsPerUnit) = refl
-refused-number BufferTooShort = refl
-refused-number ListLength = refl
-refused-number ListRows = refl
-refused-number ListFields = refl
-refused-number StateBeyondTable = refl
-refused-number CompactSizeTooLarge = refl
-refused-number UnknownEdition = refl
-refused-number EditionBack = refl
-refused-number (ReservedBytes leaf) = refl
-refused-number PoolSets = refl
-refused-number PoolDiffers = refl
-refused-number NothingDecides = refl
-
--- is the same as another exactly where the verdicts are
-refused-same : (n : ℕ) (o m : Rows) → refuses (rowsVerdict m) ≡ true → sameVerdict (rowsVerdict o) (rowsVerdict m) ≡ sameFrom n o m
-unfolding sameAnswer
-refused-same n o m e = go (rowsVerdict o) (rowsVerdict m) e
-  where
-    go : (v w : Verdict) → refuses w ≡ true → sameVerdict v w ≡ (sameVerdict v w && sameTable (tableFor n v o) (tableFor n w m))
-    go v Accepted f = absurd (never-both f refl)
-    go Accepted (Refused r) f = let z : sameVerdict Accepted (Refused r) ≡ false = unfold sameNumbers in rw (refused-number r) in rw z
-    go (Refused q) (Refused r) f = sym (and-true (sameVerdict (Refused q) (Refused r)) (table-same emptyTable))
-      where
-        and-true : (a : Bool) {b : Bool} → b ≡ true → (a && b) ≡ a
-        and-true true g = g
-        and-true false g = refl
-
-pub keeps-refused : (n : ℕ) {o p m : Rows} {b base : RowsBuilt} {a q : Bool} → b ≡ builtFrom n o → o ≡ p → AnswerTo n m base
-    → a ≡ refuses (base .verdict) → a ≡ true → q ≡ sameVerdict (b .verdict) (base .verdict) → q ≡ sameFrom n p m
-unfolding builtFrom
-keeps-refused n {o} {p} {m} e f w g h k =
-    let v : _ ≡ rowsVerdict p = ap (λ (b : RowsBuilt). b .verdict) e ∙ ap rowsVerdict f in
-    k ∙ ap₂ sameVerdict v (w .verdict) ∙ refused-same n p m (sym (g ∙ ap refuses (w .verdict)) ∙ h)
-
-pub answer-to : (n : ℕ) {m : Rows} {b : RowsBuilt} → b ≡ builtFrom n m → AnswerTo n m b
-unfolding builtFrom
-answer-to n e = record { verdict = ap (λ (b : RowsBuilt). b .verdict) e; table = ap (λ (b : RowsBuilt). b .table) e }
+  pub verdict-differs : {p : Bool} → p ≡ sameVerdict v u → p ≡ false → false ≡ sameFrom n o m
+  unfolding sameAnswer
+  verdict-differs e f = sym (rw (sym e ∙ f)) ∙ held-to

@@ -1,25 +1,33 @@
-// The bits of one first entry. Collected rows, what building answers to them and an entry's registers come in; the first of the 128 bits whose flip
-// changes that answer goes out.
-use flip_rows::same_answer;
+// The bits of one first entry. Collected rows in lent memory and an entry's registers come in; the first of the 128 bits whose flip changes what building
+// answers to the rows goes out.
 use flip_rows::same_result;
+use flip_rows::same_table;
 use flip_rows::same_verdict;
-use flip_rows::with_row;
 use flips::flip_bit;
+use masking::PLACES;
 use masks::KeptLeaf;
+use memory::REGISTERS;
+use memory::is_there;
+use memory::put_row;
+use memory::row_at;
+use memory::sized;
 use quiet::is_quiet;
-use quiet::is_refused;
-use rows_built::RowsBuilt;
-use table::CpuidResults;
+use rows_finished::build_rows;
+use table::Verdict;
 use x86defs::CpuidResult;
 ghost use mathlib.Core.Path.{_≡_};
 ghost use Prim.Native.Nat.{_<_};
 ghost use Rattle.masking.specs.Kept.{places};
-ghost use Rattle.table.specs.Table.{rowsIn};
+ghost use Rattle.memory.specs.Memory.{rowsIn};
+ghost use Rattle.memory.specs.Held.{heldIn};
 ghost use Rattle.flip_rows.specs.Same.{sameFrom};
 ghost use Rattle.flip_rows.specs.PutRow.{putRow};
 ghost use Rattle.deciding.specs.BitLaws.{AnswerTo, firstBit};
 
 const BITS: u32 = 128;
+
+// The origin of a row that is tried: any number but 0 says that it is there, and origins don't count.
+const TRIED: u64 = 1;
 
 // The first of an entry's 128 result bits that decides, by number: 32 times the register, and the bit.
 pub enum Deciding {
@@ -29,26 +37,38 @@ pub enum Deciding {
 
 // The first of an entry's bits that decides at its row; none is tried where no row there would change the answer.
 pub fn first_bit(
-    t: CpuidResults,
+    registers: &[u32; REGISTERS],
+    origins: &[u64; PLACES],
     edition: u32,
-    base: RowsBuilt,
     kept: KeptLeaf,
     place: usize,
     x: CpuidResult,
 ) -> Deciding
-    requires { ⌜ (place < places) × AnswerTo edition (rowsIn t) base ⌝ }
-    ensures { λ r. ⌜ r ≡ firstBit edition (rowsIn t) kept place x ⌝ }
+    requires { ⌜ place < places ⌝ }
+    ensures { λ r. ⌜ r ≡ firstBit edition (rowsIn (now (registers .entry)) (now (origins .entry))) kept place x ⌝ }
 {
-    if t.present[place] {
-        let verdict = base.verdict;
-        if is_quiet(t, verdict, place) {
+    let origin = origins[place];
+    if is_there(origin) {
+        if is_quiet(registers, origins, place) {
             return Deciding::NoNumber;
         }
     }
+    let mut table = *registers;
+    let mut table_origins = *origins;
+    let verdict = build_rows(&mut table, &mut table_origins, edition);
     let mut n = 0;
     while n < BITS {
         let row = collect::masked_at(kept, place, flip_bit(x, n));
-        if keeps_answer(t, edition, base, place, row) {
+        if keeps_answer(
+            registers,
+            origins,
+            edition,
+            verdict,
+            &table,
+            &table_origins,
+            place,
+            row,
+        ) {
             n += 1;
         } else {
             return Deciding::Number(n);
@@ -57,31 +77,35 @@ pub fn first_bit(
     Deciding::NoNumber
 }
 
-// Whether another row at a place keeps the answer. A row that is there already does.
+// Whether another row at a place keeps the answer, which is the verdict and the table in the second memory. A row that is there already does.
 fn keeps_answer(
-    t: CpuidResults,
+    registers: &[u32; REGISTERS],
+    origins: &[u64; PLACES],
     edition: u32,
-    base: RowsBuilt,
+    verdict: Verdict,
+    table: &[u32; REGISTERS],
+    table_origins: &[u64; PLACES],
     place: usize,
     x: CpuidResult,
 ) -> bool
-    requires { ⌜ (place < places) × AnswerTo edition (rowsIn t) base ⌝ }
-    ensures { λ r. ⌜ r ≡ sameFrom edition (putRow place x (rowsIn t)) (rowsIn t) ⌝ }
+    requires { ⌜ (place < places) × AnswerTo edition (rowsIn (now registers) (now origins)) verdict (heldIn (now table) (now «table_origins»)) ⌝ }
+    ensures { λ r. ⌜ r ≡ sameFrom edition (putRow place x (rowsIn (now (registers .entry)) (now (origins .entry))))
+        (rowsIn (now (registers .entry)) (now (origins .entry))) ⌝ }
 {
-    if t.present[place] {
-        let old = t.results[place];
-        if same_result(old, x) {
+    let origin = origins[place];
+    if is_there(origin) {
+        if same_result(row_at(registers, place), x) {
             return true;
         }
     }
-    let built = rows_built::build_rows(with_row(t, place, x), edition);
-    let verdict = built.verdict;
-    let verdict_before = base.verdict;
-    if is_refused(verdict_before) {
-        // then the table is empty, and that of a verdict which is the same
-        return same_verdict(verdict, verdict_before);
+    sized(registers, origins);
+    let mut tried = *registers;
+    let mut tried_origins = *origins;
+    put_row(&mut tried, place, x);
+    tried_origins[place] = TRIED;
+    let tried_verdict = build_rows(&mut tried, &mut tried_origins, edition);
+    if same_verdict(tried_verdict, verdict) {
+        return same_table(&tried, &tried_origins, table, table_origins);
     }
-    let table = built.table;
-    let table_before = base.table;
-    same_answer(verdict, table, verdict_before, table_before)
+    false
 }

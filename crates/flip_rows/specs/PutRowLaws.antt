@@ -1,23 +1,24 @@
--- Rows with another row at one place: where the row stands already, which rows are there, and a row stored in a table.
-use mathlib.Core.Path.{_≡_, refl, sym, ap, fun-ext}
+-- Rows with another row at one place: where the row stands already, which rows are there, and a row stored in memory.
+use mathlib.Core.Path.{_≡_, refl, sym, ap, _∙_, fun-ext}
 use mathlib.Core.Bool.{Bool, true, false}
+use mathlib.Core.List.{List}
 use mathlib.Core.Logic.{_≢_}
-use Prim.Native.Nat.{ℕ, _<_}
+use Prim.Native.Nat.{ℕ, _*_, _<_}
+use native.Mathlib.Omega.{arith}
 use lib.Dec.{eqb}
-use lib.ListN.{length, getD}
-use lib.Seq.{getD-set-same, getD-set-other}
+use lib.ListN.{length, getD, set}
 use borrow.Author.Tests.{eqb-true, eqb-false, ne-eqb}
 use Rattle.bits.specs.Choice.{pick}
-use Rattle.bits.specs.ChoiceLaws.{pick-false}
+use Rattle.bits.specs.ChoiceLaws.{pick-true, pick-false}
 use Rattle.bits.specs.Search.{lowest}
 use Rattle.x86defs.specs.declared.CpuidResult.{CpuidResult}
-use Rattle.x86defs.specs.Functions.{result}
-use Rattle.table.specs.declared.CpuidResults.{CpuidResults}
+use Rattle.masking.specs.Kept.{places}
 use Rattle.table.specs.Rows.{Rows, row}
-use Rattle.table.specs.Table.{rowIn, rowsIn}
+use Rattle.memory.specs.Memory as Memory
+use Rattle.memory.specs.Memory.{rowOf, isThere, rowsIn}
+use Rattle.memory.specs.MemoryLaws.{set-at, put-at}
 use Rattle.checks.specs.Required.{requiredCount, placeRequired}
 use Rattle.checks.specs.Checks.{refuseAt, missingRequired, requiredVerdict}
-use Rattle.collect.specs.Collect.{store}
 use Rattle.flip_rows.specs.PutRow.{putRow}
 
 module _ (i : ℕ) (x : CpuidResult) (m : Rows) where
@@ -49,20 +50,22 @@ module _ (i : ℕ) (x : CpuidResult) (m : Rows) where
   required-same e =
       ap (λ (t : ℕ → Bool). refuseAt (lowest t 0 requiredCount) missingRequired) (fun-ext (λ j. put-present e (placeRequired j)))
 
--- a present row of a table
-pub there : (t : CpuidResults) (i : ℕ) → getD (t .present) i false ≡ true → rowIn t i ≡ row (getD (t .results) i (result 0 0 0 0))
-there t i e = λ k. record { present = e k; result = getD (t .results) i (result 0 0 0 0) }
+-- a row that is there in memory
+pub there : (w o : List ℕ) (i : ℕ) → isThere (getD o i 0) ≡ true → rowsIn w o i ≡ row (rowOf w i)
+there w o i e = λ k. record { present = e k; result = rowOf w i }
 
--- a row stored in a table
-pub put-row : (t : CpuidResults) (i : ℕ) (x : CpuidResult) → i < length (t .present) → i < length (t .results)
-    → rowsIn (store t i x) ≡ putRow i x (rowsIn t)
+-- a row stored in memory, with an origin
+pub put-row : (w o : List ℕ) (i : ℕ) (x : CpuidResult) (n : ℕ) → length w ≡ 4 * places → length o ≡ places → i < places → isThere n ≡ true
+    → rowsIn (Memory.putRow w i x) (set o i n) ≡ putRow i x (rowsIn w o)
 unfolding putRow
-put-row t i x l h = fun-ext (λ j. go j (eqb j i) refl)
+put-row w o i x n a b h e = fun-ext (λ j. go j (eqb j i) refl)
   where
-    go : (j : ℕ) (b : Bool) → eqb j i ≡ b → rowIn (store t i x) j ≡ pick b (row x) (rowIn t j)
-    go j true e =
-        let q : j ≡ i = eqb-true j i e in
-        rw q (λ k. record { present = getD-set-same (t .present) i true false l k; result = getD-set-same (t .results) i x (result 0 0 0 0) h k })
-    go j false e =
-        let n : j ≢ i = eqb-false j i e in
-        λ k. record { present = getD-set-other (t .present) i j true false n k; result = getD-set-other (t .results) i j x (result 0 0 0 0) n k }
+    go : (j : ℕ) (c : Bool) → eqb j i ≡ c → rowsIn (Memory.putRow w i x) (set o i n) j ≡ pick c (row x) (rowsIn w o j)
+    go j true f = λ k. record {
+      present = (ap isThere (set-at o i j n 0 (omega (arith, b)) ∙ pick-true _ _ f) ∙ e) k;
+      result = (put-at w i x a h j ∙ pick-true _ _ f) k;
+    }
+    go j false f = λ k. record {
+      present = ap isThere (set-at o i j n 0 (omega (arith, b)) ∙ pick-false _ _ f) k;
+      result = (put-at w i x a h j ∙ pick-false _ _ f) k;
+    }

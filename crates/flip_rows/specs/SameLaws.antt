@@ -1,5 +1,5 @@
--- The same answer: an answer is the same as itself, equal registers, and tables compared row by row as the code does.
-use mathlib.Core.Path.{_≡_, refl, sym}
+-- The same answer: an answer is the same as itself, equal registers, and tables in memory compared row by row as the code does.
+use mathlib.Core.Path.{_≡_, refl, sym, ap, _∙_}
 use mathlib.Core.Bool.{Bool, true, false}
 use Prim.Native.Nat.{ℕ, zero, suc, _+_, _<_}
 use native.Mathlib.Numerals.{add-one}
@@ -12,7 +12,9 @@ use Rattle.x86defs.specs.declared.CpuidResult.{CpuidResult}
 use Rattle.masking.specs.Kept.{places}
 use Rattle.table.specs.declared.CpuidResults.{CpuidResults}
 use Rattle.table.specs.declared.Verdict.{Verdict}
+use Rattle.table.specs.Rows.{Row, Rows}
 use Rattle.table.specs.Table.{rowIn}
+use Rattle.memory.specs.Held.{wholeOf, whole-row, whole-ext}
 use Rattle.numbers.specs.declared.AnswerNumbers.{AnswerNumbers}
 use Rattle.numbers.specs.Numbers.{numbersOf}
 use Rattle.flip_rows.specs.Same.{agree, sameResult, sameRow, sameRows, sameTable, sameNumbers, sameAnswer}
@@ -65,31 +67,54 @@ result-equal a b e =
       edx = eqb-true (a .edx) (b .edx) (and-right (eqb (a .ecx) (b .ecx)) _ g) k;
     }
 
--- ---- tables compared
+agree-equal : (a b : Bool) → agree a b ≡ true → a ≡ b
+agree-equal true true e = refl
+agree-equal true false e = absurd (never-both e refl)
+agree-equal false true e = absurd (never-both e refl)
+agree-equal false false e = refl
 
-abbrev pub rowsAgree : CpuidResults → CpuidResults → ℕ → Bool
-rowsAgree t u i = sameRow (rowIn t i) (rowIn u i)
+row-equal : (a b : Row) → sameRow a b ≡ true → a ≡ b
+row-equal a b e =
+    let p = agree-equal (a .present) (b .present) (and-left _ _ e) in
+    let r = result-equal (a .result) (b .result) (and-right (agree (a .present) (b .present)) _ e) in λ k.
+    record { present = p k; result = r k }
 
-unfoldable pub rowsSameTo : CpuidResults → CpuidResults → ℕ → Bool
-rowsSameTo t u n = every (rowsAgree t u) n
+-- ---- tables in memory compared: the rows decide, since count and mask follow from them
 
-module _ (t u : CpuidResults) where
-  pub rows-same-none : rowsSameTo t u 0 ≡ true
+abbrev pub rowsAgree : Rows → Rows → ℕ → Bool
+rowsAgree m o i = sameRow (m i) (o i)
+
+unfoldable pub rowsSameTo : Rows → Rows → ℕ → Bool
+rowsSameTo m o n = every (rowsAgree m o) n
+
+module _ (m o : Rows) where
+  -- what the code finds at a place
+  pub rows-found : (i : ℕ) {p q r : Bool} {a b : CpuidResult} → p ≡ m i .present → a ≡ m i .result → q ≡ o i .present → b ≡ o i .result
+      → r ≡ sameRow (record { present = p; result = a }) (record { present = q; result = b }) → r ≡ rowsAgree m o i
+  rows-found i e f g h j = j ∙ (λ k. sameRow (record { present = e k; result = f k }) (record { present = g k; result = h k }))
+
+  pub rows-same-none : rowsSameTo m o 0 ≡ true
   unfolding rowsSameTo
   rows-same-none = refl
 
-  pub rows-same-more : (i : ℕ) → rowsSameTo t u i ≡ true → rowsAgree t u i ≡ true → rowsSameTo t u (i + 1) ≡ true
+  pub rows-same-more : (i : ℕ) → rowsSameTo m o i ≡ true → rowsAgree m o i ≡ true → rowsSameTo m o (i + 1) ≡ true
   unfolding rowsSameTo
   rows-same-more i e f = rw add-one (and-both f e)
 
-  pub rows-same-all : (i : ℕ) → i ≡ places → rowsSameTo t u i ≡ true → true ≡ sameRows t u
-  unfolding rowsSameTo sameRows
-  rows-same-all i q e = sym (rw q at e)
+  pub rows-same-all : (i : ℕ) → i ≡ places → rowsSameTo m o i ≡ true → true ≡ sameTable (wholeOf m) (wholeOf o)
+  unfolding rowsSameTo
+  rows-same-all i q e =
+      let f : every (rowsAgree m o) places ≡ true = rw q at e in
+      sym (ap (sameTable (wholeOf m)) (sym (whole-ext (λ j l. row-equal (m j) (o j) (every-at (rowsAgree m o) places f j l)))) ∙ table-same (wholeOf m))
 
-  pub rows-differ : (i : ℕ) → i < places → rowsAgree t u i ≡ false → false ≡ sameRows t u
-  unfolding sameRows
-  rows-differ i l f = go (every (rowsAgree t u) places) refl
+  pub rows-differ : (i : ℕ) → i < places → rowsAgree m o i ≡ false → false ≡ sameTable (wholeOf m) (wholeOf o)
+  unfolding sameTable sameRows
+  rows-differ i l f = go (sameTable (wholeOf m) (wholeOf o)) refl
     where
-      go : (b : Bool) → every (rowsAgree t u) places ≡ b → false ≡ b
-      go true e = absurd (never-both (every-at (rowsAgree t u) places e i l) f)
+      go : (b : Bool) → sameTable (wholeOf m) (wholeOf o) ≡ b → false ≡ b
+      go true e =
+          let g = and-right (eqb (wholeOf m .«max_extended_state») (wholeOf o .«max_extended_state»)) _
+          (and-right (eqb (wholeOf m .«row_count») (wholeOf o .«row_count»)) _ e) in
+          let h : sameRow (rowIn (wholeOf m) i) (rowIn (wholeOf o) i) ≡ true = every-at (λ j. sameRow (rowIn (wholeOf m) j) (rowIn (wholeOf o) j)) places g i l in
+          absurd (never-both (sym (λ k. sameRow (whole-row m i l k) (whole-row o i l k)) ∙ h) f)
       go false e = refl

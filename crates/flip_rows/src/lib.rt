@@ -1,36 +1,14 @@
-// Whether two answers are the same, and rows with another row at one place: what a flipped bit is decided by, at the 88 rows.
+// Whether two answers are the same: their verdicts with details, and the tables in lent memory. A flipped bit is decided by it.
 use masking::PLACES;
+use memory::REGISTERS;
+use memory::is_there;
+use memory::row_at;
 use numbers::AnswerNumbers;
-use table::CpuidResults;
 use table::Verdict;
 use x86defs::CpuidResult;
 ghost use mathlib.Core.Path.{_≡_};
-ghost use Prim.Native.Nat.{_<_};
-ghost use Rattle.masking.specs.Kept.{places};
-ghost use Rattle.table.specs.Table.{rowsIn};
-ghost use Rattle.flip_rows.specs.Same.{sameResult, sameRow, sameRows, sameTable, sameNumbers, sameVerdict, sameAnswer};
-ghost use Rattle.flip_rows.specs.PutRow.{putRow};
-
-// A table with another row at a place.
-pub fn with_row(t: CpuidResults, place: usize, x: CpuidResult) -> CpuidResults
-    requires { ⌜ place < places ⌝ }
-    ensures { λ r. ⌜ rowsIn r ≡ putRow place x (rowsIn t) ⌝ }
-{
-    let mut u = t;
-    u.present[place] = true;
-    u.results[place] = x;
-    u
-}
-
-// Whether two answers are the same: verdict and details, and the table.
-pub fn same_answer(v: Verdict, t: CpuidResults, w: Verdict, u: CpuidResults) -> bool
-    ensures { λ r. ⌜ r ≡ sameAnswer v t w u ⌝ }
-{
-    if same_verdict(v, w) {
-        return same_table(t, u);
-    }
-    false
-}
+ghost use Rattle.memory.specs.Held.{heldIn};
+ghost use Rattle.flip_rows.specs.Same.{sameResult, sameRow, sameTable, sameNumbers, sameVerdict};
 
 // Whether two verdicts are the same: the number and its details.
 pub fn same_verdict(v: Verdict, w: Verdict) -> bool
@@ -57,28 +35,23 @@ fn same_numbers(a: AnswerNumbers, b: AnswerNumbers) -> bool
     a.s == b.s
 }
 
-fn same_table(t: CpuidResults, u: CpuidResults) -> bool
-    ensures { λ r. ⌜ r ≡ sameTable t u ⌝ }
-{
-    if t.row_count != u.row_count {
-        return false;
-    }
-    if t.max_extended_state != u.max_extended_state {
-        return false;
-    }
-    same_rows(t, u)
-}
-
-fn same_rows(t: CpuidResults, u: CpuidResults) -> bool
-    ensures { λ r. ⌜ r ≡ sameRows t u ⌝ }
+// Whether two memories hold the same table: the same rows, from which count and mask follow.
+pub fn same_table(
+    registers: &[u32; REGISTERS],
+    origins: &[u64; PLACES],
+    other_registers: &[u32; REGISTERS],
+    other_origins: &[u64; PLACES],
+) -> bool
+    ensures { λ r. ⌜ r ≡ sameTable (heldIn (now (registers .entry)) (now (origins .entry)))
+        (heldIn (now («other_registers» .entry)) (now («other_origins» .entry))) ⌝ }
 {
     let mut i: usize = 0;
     while i < PLACES {
-        let p = t.present[i];
-        let q = u.present[i];
-        let a = t.results[i];
-        let b = u.results[i];
-        if same_row(p, a, q, b) {
+        let origin = origins[i];
+        let other_origin = other_origins[i];
+        let a = row_at(registers, i);
+        let b = row_at(other_registers, i);
+        if same_row(is_there(origin), a, is_there(other_origin), b) {
             i += 1;
         } else {
             return false;

@@ -1,5 +1,5 @@
--- The guest's table as the code stores it, and the answer by its verdict.
-use mathlib.Core.Path.{_≡_, refl, sym, ap, _∙_}
+-- The guest's table as the code stores it.
+use mathlib.Core.Path.{_≡_, refl, ap, _∙_}
 use mathlib.Core.List.{List}
 use Prim.Native.Nat.{ℕ, _+_, _*_, _%_, _^_}
 use native.Mathlib.Nat.{mod-lt}
@@ -13,17 +13,11 @@ use Rattle.bits.specs.ListsLaws.{tabulated}
 use Rattle.x86defs.specs.declared.CpuidResult.{CpuidResult}
 use Rattle.x86defs.specs.Functions.{result}
 use Rattle.masking.specs.Kept.{places}
-use Rattle.masking.specs.Place
 use Rattle.table.specs.declared.CpuidResults.{CpuidResults}
-use Rattle.table.specs.declared.Refusal.{Refusal}
-use Rattle.table.specs.declared.Verdict.{Verdict}
-use Rattle.table.specs.declared.Verdict.the-variants.{Accepted, Refused}
 use Rattle.table.specs.Rows.{Row, Rows}
-use Rattle.table.specs.Table.{rowsIn}
+use Rattle.table.specs.Table.{rowIn, rowsIn}
 use Rattle.guest.specs.declared.Processor.{Processor}
-use Rattle.guest.specs.declared.GuestAnswer.{GuestAnswer}
-use Rattle.guest_state.specs.State.{saveRegister, compactRegister, stateVerdict}
-use Rattle.guest.specs.Guest.{versionSeen, levelSeen, sizeSeen, seenAt, seenIn, refusedAnswer, answerFor, guestAnswer}
+use Rattle.guest.specs.Guest.{versionSeen, levelSeen, sizeSeen, seenAt}
 
 -- ---- leaf 1 EBX by masks and a shift
 
@@ -47,42 +41,17 @@ stores : (m : Rows) (v : Processor) (a c : ℕ)
 unfolding tabulate
 stores m v a c = refl
 
-abbrev tableWith : CpuidResults → List CpuidResult → CpuidResults
-tableWith t l = record { present = t .present; results = l; «row_count» = t .«row_count»; «max_extended_state» = t .«max_extended_state» }
-
 -- a row that is there, as seen; else as it is
-abbrev ifThere : Row → CpuidResult → CpuidResult
-ifThere r seen = pick (r .present) seen (r .result)
+abbrev pub ifThere : Row → (CpuidResult → CpuidResult) → CpuidResult
+ifThere r f = pick (r .present) (f (r .result)) (r .result)
 
-module _ (t : CpuidResults) (v : Processor) where
-  abbrev m : Rows
-  m = rowsIn t
-
-  pub given : {a c : ℕ} {version threads cores state0 state1 : CpuidResult} → length (t .results) ≡ places
-      → a ≡ saveRegister m (v .xcr0) → c ≡ compactRegister m (v .xcr0) (v .xss)
-      → version ≡ ifThere (m 1) (versionSeen v (m 1 .result))
-      → threads ≡ ifThere (m 4) (levelSeen v (m 4 .result))
-      → cores ≡ ifThere (m 5) (levelSeen v (m 5 .result))
-      → state0 ≡ ifThere (m 6) (sizeSeen a (m 6 .result))
-      → state1 ≡ ifThere (m 7) (sizeSeen c (m 7 .result))
-      → _≡_ {A = GuestAnswer} (record { verdict = Accepted; table = tableWith t (storing version threads cores state0 state1 (t .results)) })
-      (answerFor Accepted t v)
-  given {a} {c} {version} {threads} {cores} {state0} {state1} n ea ec e₁ e₄ e₅ e₆ e₇ =
-      let whole : t .results ≡ tabulate places (λ i. m i .result) =
-      tabulated places (λ i. m i .result) (t .results) (result 0 0 0 0) n (λ i l. refl) in
-      let p : storing version threads cores state0 state1 (t .results) ≡ storingAll (seenIn t v) (t .results) = rw (e₁, e₄, e₅, e₆, e₇, ea, ec) in
-      ap (λ (l : List CpuidResult). record { verdict = Accepted; table = tableWith t l })
-      (p ∙ ap (storingAll (seenIn t v)) whole ∙ stores m v (saveRegister m (v .xcr0)) (compactRegister m (v .xcr0) (v .xss)))
-
-  -- ---- the answer, by the verdict that the code found
-
-  module _ {w : Verdict} (e : w ≡ stateVerdict m (v .xcr0) (v .xss)) where
-    answer-with : answerFor w t v ≡ guestAnswer t v
-    unfolding guestAnswer
-    answer-with = ap (λ (u : Verdict). answerFor u t v) e
-
-    pub guest-refuses : {q : GuestAnswer} {r : Refusal} → w ≡ Refused r → q ≡ refusedAnswer r → q ≡ guestAnswer t v
-    guest-refuses f g = g ∙ ap (λ (u : Verdict). answerFor u t v) (sym f) ∙ answer-with
-
-    pub guest-passes : {q : GuestAnswer} → w ≡ Accepted → q ≡ answerFor Accepted t v → q ≡ guestAnswer t v
-    guest-passes f g = g ∙ ap (λ (u : Verdict). answerFor u t v) (sym f) ∙ answer-with
+pub given : (t : CpuidResults) (v : Processor) (a c : ℕ) {version threads cores state0 state1 : CpuidResult} → length (t .results) ≡ places
+    → version ≡ ifThere (rowIn t 1) (versionSeen v) → threads ≡ ifThere (rowIn t 4) (levelSeen v) → cores ≡ ifThere (rowIn t 5) (levelSeen v)
+    → state0 ≡ ifThere (rowIn t 6) (sizeSeen a) → state1 ≡ ifThere (rowIn t 7) (sizeSeen c)
+    → storing version threads cores state0 state1 (t .results) ≡ tabulate places (λ i. seenAt v a c i (rowIn t i))
+given t v a c {version} {threads} {cores} {state0} {state1} n e₁ e₄ e₅ e₆ e₇ =
+    let whole : t .results ≡ tabulate places (λ i. rowIn t i .result) =
+    tabulated places (λ i. rowIn t i .result) (t .results) (result 0 0 0 0) n (λ i l. refl) in
+    let p : storing version threads cores state0 state1 (t .results) ≡ storingAll (λ i. seenAt v a c i (rowIn t i)) (t .results) =
+    rw (e₁, e₄, e₅, e₆, e₇) in
+    p ∙ ap (storingAll (λ i. seenAt v a c i (rowIn t i))) whole ∙ stores (rowsIn t) v a c

@@ -1,18 +1,33 @@
-// What one processor's guest sees. A table and the processor's own numbers come in; the guest's table, or a refusal, goes out.
-use guest_state::compact_register;
+// What one processor's guest sees. A table in lent memory and the processor's own numbers come in; one row, or the table as the guest sees it, or a refusal
+// goes out.
+use guest_state::InUse;
 use guest_state::save_register;
-use guest_state::state_verdict;
+use guest_state::state_in_use;
+use lookup::Found;
+use lookup::place_asked;
+use masking::PLACES;
 use masking::place;
+use memory::REGISTERS;
+use memory::clear;
+use memory::is_there;
+use memory::put_row;
+use memory::row_at;
+use memory::sized;
 use table::CpuidResults;
 use table::Refusal;
+use table::Subleaf;
 use table::Verdict;
-use table::empty_table;
+use x86defs::CpuidFunction;
 use x86defs::CpuidResult;
 ghost use mathlib.Core.Path.{_≡_};
 ghost use Rattle.bits.specs.Choice.{pick};
-ghost use Rattle.table.specs.Table.{rowsIn};
-ghost use Rattle.guest_state.specs.State.{stateVerdict};
-ghost use Rattle.guest.specs.Guest.{osxsaveSeen, versionSeen, levelSeen, sizeSeen, guestAnswer, answerFor, refusedAnswer};
+ghost use Rattle.table.specs.Rows.{row};
+ghost use Rattle.memory.specs.Held.{heldIn};
+ghost use Rattle.lookup.specs.Lookup.{found};
+ghost use Rattle.rows_checked.specs.Checked.{registersIn};
+ghost use Rattle.guest_state.specs.State.{saveRegister};
+ghost use Rattle.guest.specs.Guest.{osxsaveSeen, versionSeen, levelSeen, sizeSeen, seenAt, guestAnswer};
+ghost use Rattle.guest.specs.Seen.{tableWith, foundIn, SeenIn};
 
 // A processor: its x2APIC number, XCR0, XSS, and whether OSXSAVE is on.
 pub struct Processor {
@@ -28,57 +43,129 @@ pub struct GuestAnswer {
     pub table: CpuidResults,
 }
 
-// What the guest of a processor sees of a table.
-pub fn guest_table(t: CpuidResults, v: Processor) -> GuestAnswer
-    ensures { λ r. ⌜ r ≡ guestAnswer t v ⌝ }
-{
-    let results = t.results;
-    let verdict = state_verdict(results, v.xcr0, v.xss);
-    if let Verdict::Refused(r) = verdict {
-        return refused(r);
-    }
-    guest_rows(t, v)
+// Refused by 13 or 14, or what the lookup found.
+pub enum GuestFound {
+    Refused(Refusal),
+    Looked(Found),
 }
 
-// A refused answer holds an empty table.
-pub fn refused(r: Refusal) -> GuestAnswer
-    ensures { λ q. ⌜ q ≡ refusedAnswer r ⌝ }
+// What the guest of a processor reads: the verdict on its state, then the row that is asked for, as it sees it.
+pub fn guest_find(
+    registers: &[u32; REGISTERS],
+    origins: &[u64; PLACES],
+    v: Processor,
+    leaf: CpuidFunction,
+    subleaf: Subleaf,
+    enforce_subleaf: bool,
+) -> GuestFound
+    ensures { λ r. ⌜ r ≡ foundIn (guestAnswer (heldIn (now (registers .entry)) (now (origins .entry))) v) (now (origins .entry)) leaf subleaf «enforce_subleaf» ⌝ }
 {
-    let table = empty_table();
-    GuestAnswer {
-        verdict: Verdict::Refused(r),
-        table,
+    let state = state_in_use(registers, origins, false, v.xcr0, v.xss);
+    match state {
+        InUse::Refused(r) => GuestFound::Refused(r),
+        InUse::Compacted(size) => GuestFound::Looked(find_kept(
+            registers,
+            origins,
+            v,
+            size,
+            leaf,
+            subleaf,
+            enforce_subleaf,
+        )),
     }
 }
 
-// The rows, once nothing refuses: five differ.
-fn guest_rows(t: CpuidResults, v: Processor) -> GuestAnswer
-    requires { ⌜ stateVerdict (rowsIn t) (v .xcr0) (v .xss) ≡ Verdict.Accepted ⌝ }
-    ensures { λ r. ⌜ r ≡ answerFor Verdict.Accepted t v ⌝ }
+// The row as the guest sees it where D.1.EBX is `size`, for a caller that kept the size which `state_in_use` gave when XCR0 or XSS last changed: then it
+// is what `guest_find` finds (`kept-found`). Any size has an answer.
+pub fn find_kept(
+    registers: &[u32; REGISTERS],
+    origins: &[u64; PLACES],
+    v: Processor,
+    size: u32,
+    leaf: CpuidFunction,
+    subleaf: Subleaf,
+    enforce_subleaf: bool,
+) -> Found
+    ensures { λ r. ⌜ r ≡ found (tableWith (heldIn (now (registers .entry)) (now (origins .entry))) v size) (now (origins .entry)) leaf subleaf «enforce_subleaf» ⌝ }
 {
-    let results = t.results;
-    let area = save_register(results, v.xcr0);
-    let compact = compact_register(results, v.xcr0, v.xss) as u32;
-    let version = t.results[place::VERSION_AND_FEATURES];
-    let threads = t.results[place::THREAD_LEVEL];
-    let cores = t.results[place::CORE_LEVEL];
-    let subleaf0 = t.results[place::EXTENDED_STATE_0];
-    let subleaf1 = t.results[place::EXTENDED_STATE_1];
-    let has_version = t.present[place::VERSION_AND_FEATURES];
-    let has_threads = t.present[place::THREAD_LEVEL];
-    let has_cores = t.present[place::CORE_LEVEL];
-    let has_subleaf0 = t.present[place::EXTENDED_STATE_0];
-    let has_subleaf1 = t.present[place::EXTENDED_STATE_1];
-    let mut out = t;
-    out.results[place::VERSION_AND_FEATURES] = see_version(has_version, v, version);
-    out.results[place::THREAD_LEVEL] = see_level(has_threads, v, threads);
-    out.results[place::CORE_LEVEL] = see_level(has_cores, v, cores);
-    out.results[place::EXTENDED_STATE_0] = see_size(has_subleaf0, area, subleaf0);
-    out.results[place::EXTENDED_STATE_1] = see_size(has_subleaf1, compact, subleaf1);
-    GuestAnswer {
-        verdict: Verdict::Accepted,
-        table: out,
+    let i = place_asked(leaf, subleaf, enforce_subleaf);
+    if i < PLACES {
+        let origin = origins[i];
+        if is_there(origin) {
+            let r = row_at(registers, i);
+            return Found::Row(seen_at(registers, v, size, i, r), origin);
+        }
     }
+    Found::NoRow
+}
+
+// The row of a place as the guest sees it: five differ.
+fn seen_at(
+    registers: &[u32; REGISTERS],
+    v: Processor,
+    size: u32,
+    place: usize,
+    r: CpuidResult,
+) -> CpuidResult
+    ensures { λ q. ⌜ q ≡ seenAt v (saveRegister (registersIn (now (registers .entry))) (v .xcr0)) size place (row r) ⌝ }
+{
+    match place {
+        place::VERSION_AND_FEATURES => see_version(true, v, r),
+        place::THREAD_LEVEL => see_level(true, v, r),
+        place::CORE_LEVEL => see_level(true, v, r),
+        place::EXTENDED_STATE_0 => see_size(true, save_register(registers, v.xcr0), r),
+        place::EXTENDED_STATE_1 => see_size(true, size, r),
+        _ => r,
+    }
+}
+
+// The table becomes what the guest of a processor sees of it. A refusal clears it.
+pub fn guest_table(
+    registers: &mut [u32; REGISTERS],
+    origins: &mut [u64; PLACES],
+    v: Processor,
+) -> Verdict
+    ensures { λ r. ⌜ SeenIn (guestAnswer (heldIn (now (registers .entry)) (now (origins .entry))) v) (now (origins .entry)) r (now (registers .exit)) (now (origins .exit)) ⌝ }
+{
+    let state = state_in_use(registers, origins, false, v.xcr0, v.xss);
+    match state {
+        InUse::Refused(r) => {
+            clear(registers, origins);
+            Verdict::Refused(r)
+        }
+        InUse::Compacted(size) => {
+            put_seen(registers, origins, v, size);
+            Verdict::Accepted
+        }
+    }
+}
+
+// The five rows that differ, in place. `size` is D.1.EBX.
+fn put_seen(registers: &mut [u32; REGISTERS], origins: &[u64; PLACES], v: Processor, size: u32)
+    ensures { λ _. ⌜ heldIn (now (registers .exit)) (now (origins .entry)) ≡ tableWith (heldIn (now (registers .entry)) (now (origins .entry))) v size ⌝ }
+{
+    sized(registers, origins);
+    let area = save_register(registers, v.xcr0);
+    let version = row_at(registers, place::VERSION_AND_FEATURES);
+    let threads = row_at(registers, place::THREAD_LEVEL);
+    let cores = row_at(registers, place::CORE_LEVEL);
+    let subleaf0 = row_at(registers, place::EXTENDED_STATE_0);
+    let subleaf1 = row_at(registers, place::EXTENDED_STATE_1);
+    let of_version = origins[place::VERSION_AND_FEATURES];
+    let of_threads = origins[place::THREAD_LEVEL];
+    let of_cores = origins[place::CORE_LEVEL];
+    let of_subleaf0 = origins[place::EXTENDED_STATE_0];
+    let of_subleaf1 = origins[place::EXTENDED_STATE_1];
+    let seen = see_version(is_there(of_version), v, version);
+    put_row(registers, place::VERSION_AND_FEATURES, seen);
+    let seen = see_level(is_there(of_threads), v, threads);
+    put_row(registers, place::THREAD_LEVEL, seen);
+    let seen = see_level(is_there(of_cores), v, cores);
+    put_row(registers, place::CORE_LEVEL, seen);
+    let seen = see_size(is_there(of_subleaf0), area, subleaf0);
+    put_row(registers, place::EXTENDED_STATE_0, seen);
+    let seen = see_size(is_there(of_subleaf1), size, subleaf1);
+    put_row(registers, place::EXTENDED_STATE_1, seen);
 }
 
 // Leaf 1, where it is there.

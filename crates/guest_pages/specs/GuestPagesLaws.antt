@@ -7,15 +7,18 @@ use Rattle.table.specs.declared.CpuidResults.{CpuidResults}
 use Rattle.table.specs.declared.Refusal.{Refusal}
 use Rattle.table.specs.declared.Verdict.{Verdict}
 use Rattle.table.specs.declared.Verdict.the-variants.{Accepted, Refused}
-use Rattle.table.specs.Refusal.{andThen}
-use Rattle.table.specs.Table.{rowsIn}
-use Rattle.build.specs.Build.{answer}
+use Rattle.table.specs.Table.{emptyTable, rowsIn}
+use Rattle.memory.specs.Held.{heldIn}
+use Rattle.rows_built.specs.RowsBuilt.{tableFor}
+use Rattle.build.specs.Build.{rowsFor, answer}
+use Rattle.build.specs.InMemory.{InMemory}
 use Rattle.buffer.specs.declared.Written.the-variants.{Refused as NotWritten}
 use Rattle.buffer.specs.Front.{AfterWrite, writeFront}
 use Rattle.image.specs.Image.{image}
 use Rattle.guest_state.specs.State.{stateVerdict}
 use Rattle.guest.specs.declared.Processor.{Processor}
 use Rattle.guest.specs.declared.GuestAnswer.{GuestAnswer}
+use Rattle.guest.specs.Seen.{SeenIn}
 use Rattle.guest.specs.Guest.{guestTable, tableGiven, answerFor, guestAnswer, refusedAnswer}
 use Rattle.guest_pages.specs.GuestPages.{guestBy, guestPages, writeGuest}
 
@@ -54,14 +57,41 @@ module _ (chosen : Choices) (s : List ℕ) (v : Processor) where
   unfolding guestPages
   refused-guest r f = ap (λ (w : Verdict). answerFor w (answer chosen s .table) v) f
 
+  -- ---- in lent memory
+
+  module _ {d : Verdict} {w o : List ℕ} (built : InMemory (answer chosen s) d w o) where
+    pub seen-refused : {r : Refusal} → d ≡ Refused r → SeenIn (guestPages chosen s v) (answer chosen s .origins) (Refused r) w o
+    unfolding answer
+    seen-refused {r} e =
+        let f : answer chosen s .verdict ≡ Refused r = sym (built .verdict) ∙ e in
+        let none : answer chosen s .table ≡ emptyTable = ap (λ (x : Verdict). tableFor (chosen .edition) x (rowsFor chosen s)) f in
+        let g : guestPages chosen s v ≡ refusedAnswer r = building-first r f in
+        record {
+          verdict = sym (ap (λ (x : GuestAnswer). x .verdict) g);
+          table = built .table ∙ none ∙ sym (ap (λ (x : GuestAnswer). x .table) g);
+          origins = λ a. built .origins;
+        }
+
+    pub seen-given : d ≡ Accepted → {d₁ : Verdict} {w₁ o₁ : List ℕ} → SeenIn (guestAnswer (heldIn w o) v) o d₁ w₁ o₁
+        → SeenIn (guestPages chosen s v) (answer chosen s .origins) d₁ w₁ o₁
+    seen-given e {d₁} {w₁} {o₁} seen =
+        let g : guestAnswer (heldIn w o) v ≡ guestPages chosen s v =
+        ap (λ (t : CpuidResults). guestAnswer t v) (built .table) ∙ sym (accepted-guest (sym (built .verdict) ∙ e)) in
+        record {
+          verdict = seen .verdict ∙ ap (λ (x : GuestAnswer). x .verdict) g;
+          table = seen .table ∙ ap (λ (x : GuestAnswer). x .table) g;
+          origins = λ a. seen .origins a ∙ built .origins;
+        }
+
 -- ---- a write
 
-module _ (chosen : Choices) (s : List ℕ) (v : Processor) (buffer : List ℕ) {g : GuestAnswer} (e : g ≡ guestPages chosen s v) where
-  pub write-refused : {r : Refusal} → g .verdict ≡ Refused r
+module _ (chosen : Choices) (s : List ℕ) (v : Processor) (buffer : List ℕ) {d : Verdict} {w o : List ℕ}
+    (seen : SeenIn (guestPages chosen s v) (answer chosen s .origins) d w o) where
+  pub write-refused : {r : Refusal} → d ≡ Refused r
       → _≡_ {A = AfterWrite} (record { answer = NotWritten r; buffer = buffer }) (writeGuest chosen s v buffer)
   unfolding writeGuest
-  write-refused f = rw (← e, f)
+  write-refused f = rw (← seen .verdict, f)
 
-  pub write-given : g .verdict ≡ Accepted → writeFront (image (g .table)) buffer ≡ writeGuest chosen s v buffer
+  pub write-given : d ≡ Accepted → writeFront (image (heldIn w o)) buffer ≡ writeGuest chosen s v buffer
   unfolding writeGuest
-  write-given f = rw (← e, f)
+  write-given f = rw (← seen .verdict, ← seen .table, f)

@@ -1,2 +1,3 @@
 pub mod GuestPages
 pub mod GuestPagesLaws
+pub mod FromMemory

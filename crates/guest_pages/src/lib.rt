@@ -1,32 +1,34 @@
 // What one processor's guest sees of a page set. Pages and the processor come in; building's refusal, the guest's refusal or the guest's
-// table goes out, as a table or as an image.
+// table goes out, in lent memory or as an image.
 use buffer::Written;
-use guest::GuestAnswer;
+use build::build_into;
 use guest::Processor;
+use guest::guest_table;
+use image_write::write_table;
+use masking::PLACES;
+use memory::REGISTERS;
 use table::Choices;
-use table::CpuidResults;
 use table::Verdict;
 ghost use mathlib.Core.Path.{_≡_};
-ghost use Rattle.guest_pages.specs.GuestPages.{guestBy, guestPages, writeGuest};
+ghost use Rattle.build.specs.Build.{answer};
+ghost use Rattle.guest.specs.Seen.{SeenIn};
+ghost use Rattle.guest_pages.specs.GuestPages.{guestPages, writeGuest};
 
-// Builds the table of the given pages, and shows it as the processor's guest sees it.
-pub fn guest_pages(pages: &[u8], choices: Choices, v: Processor) -> GuestAnswer
-    ensures { λ r. ⌜ r ≡ guestPages choices (now (pages .entry)) v ⌝ }
+// Builds the table of the given pages into lent memory, and makes it what the processor's guest sees. A refusal leaves the memory cleared.
+pub fn guest_pages(
+    pages: &[u8],
+    choices: Choices,
+    v: Processor,
+    registers: &mut [u32; REGISTERS],
+    origins: &mut [u64; PLACES],
+) -> Verdict
+    ensures { λ r. ⌜ SeenIn (guestPages choices (now (pages .entry)) v) (answer choices (now (pages .entry)) .origins) r (now (registers .exit)) (now (origins .exit)) ⌝ }
 {
-    let built = build::build_table(pages, choices);
-    let verdict = built.verdict;
-    let table = built.table;
-    guest_of(verdict, table, v)
-}
-
-// The same of what was built.
-pub fn guest_of(verdict: Verdict, table: CpuidResults, v: Processor) -> GuestAnswer
-    ensures { λ r. ⌜ r ≡ guestBy verdict table v ⌝ }
-{
+    let verdict = build_into(pages, choices, registers, origins);
     if let Verdict::Refused(r) = verdict {
-        return guest::refused(r);
+        return Verdict::Refused(r);
     }
-    guest::guest_table(table, v)
+    guest_table(registers, origins, v)
 }
 
 // The same as an image at the front of `out`. A refusal leaves the buffer as it was.
@@ -34,11 +36,11 @@ pub fn write_guest_image(pages: &[u8], choices: Choices, v: Processor, out: &mut
     ensures { λ r. ⌜ r ≡ writeGuest choices (now (pages .entry)) v (now (out .entry)) .answer ⌝ }
     ensures { λ _. ⌜ now (out .exit) ≡ writeGuest choices (now (pages .entry)) v (now (out .entry)) .buffer ⌝ }
 {
-    let seen = guest_pages(pages, choices, v);
-    let verdict = seen.verdict;
+    let mut registers: [u32; REGISTERS] = [0; REGISTERS];
+    let mut origins: [u64; PLACES] = [0; PLACES];
+    let verdict = guest_pages(pages, choices, v, &mut registers, &mut origins);
     if let Verdict::Refused(r) = verdict {
         return Written::Refused(r);
     }
-    let table = seen.table;
-    image_write::write_table(table, out)
+    write_table(&registers, &origins, out)
 }

@@ -1,6 +1,6 @@
 -- Verdict and sizes, case by case in the terms of the code's returns; and that they are of leaf Dh's registers alone, so that tables
 -- that differ elsewhere give a guest the same.
-use mathlib.Core.Path.{_≡_, refl, sym, ap, ap₂, _∙_}
+use mathlib.Core.Path.{_≡_, sym, ap, ap₂, _∙_}
 use mathlib.Core.Bool.{Bool, true, false, _&&_}
 use Prim.Native.Nat.{ℕ, _+_, _-_, _^_, _≤_, _<_, min}
 use native.Mathlib.Omega.{arith}
@@ -12,20 +12,17 @@ use Rattle.bits.specs.Bits.{has}
 use Rattle.bits.specs.BitsLaws.{within-refl}
 use Rattle.x86defs.specs.declared.CpuidResult.{CpuidResult}
 use Rattle.masking.specs.Place
-use Rattle.table.specs.declared.CpuidResults.{CpuidResults}
 use Rattle.table.specs.declared.Refusal.the-variants.{StateBeyondTable, CompactSizeTooLarge}
 use Rattle.table.specs.declared.Verdict.{Verdict}
 use Rattle.table.specs.declared.Verdict.the-variants.{Accepted, Refused}
 use Rattle.table.specs.Refusal.{andThen}
 use Rattle.table.specs.Rows.{Rows}
-use Rattle.table.specs.Table.{rowsIn}
 use Rattle.checks.specs.declared.Size.{Size}
 use Rattle.checks.specs.declared.Size.the-variants.{Bytes, TooLarge}
 use Rattle.checks.specs.Checks.{refuseUnless}
 use Rattle.checks.specs.ChecksLaws.{then-right, demanded}
 use Rattle.checks.specs.ExtendedState.{xfem, xss as maxXss, saveArea, sizeOf}
 use Rattle.checks.specs.ExtendedStateLaws.{area-mono}
-use Rattle.checks.specs.Parts.{resultsIn}
 use Rattle.checks.specs.SaveAreaLaws.{size-bytes, size-large}
 use Rattle.guest_state.specs.CompactLaws.{compact-same}
 use Rattle.guest_state.specs.State.{allowed, compacts, saveRegister, compactRegister, allowedVerdict, compactVerdict, stateVerdict}
@@ -102,15 +99,3 @@ module _ (A B : Rows) (same : (k : ℕ) → k < 64 → A (Place.extendedState k)
   pub verdict-of-state : stateVerdict A x s ≡ stateVerdict B x s
   unfolding stateVerdict
   verdict-of-state = ap₂ andThen allowed-of-state size-of-state
-
--- ---- a table's registers without its flags
-
-module _ (t : CpuidResults) (x s : ℕ) where
-  pub save-registers : saveRegister (resultsIn (t .results)) x ≡ saveRegister (rowsIn t) x
-  save-registers = save-of-state (resultsIn (t .results)) (rowsIn t) (λ k h. refl) x s
-
-  pub compact-registers : compactRegister (resultsIn (t .results)) x s ≡ compactRegister (rowsIn t) x s
-  compact-registers = compact-of-state (resultsIn (t .results)) (rowsIn t) (λ k h. refl) x s
-
-  pub verdict-registers : stateVerdict (resultsIn (t .results)) x s ≡ stateVerdict (rowsIn t) x s
-  verdict-registers = verdict-of-state (resultsIn (t .results)) (rowsIn t) (λ k h. refl) x s

@@ -1,35 +1,50 @@
-// Extended state in use. The registers of a table, XCR0 and XSS come in; refusals 13 and 14 and the two sizes go out.
+// Extended state in use, over a table in lent memory. XCR0 and XSS come in; refusals 13 and 14, the compacted size and the size of the save area go out.
 use checks::Size;
 use checks::max_xss;
-use checks::xsave_size;
 use masking::PLACES;
 use masking::place;
+use memory::REGISTERS;
+use memory::is_there;
+use memory::row_at;
+use rows_checked::xsave_size;
 use table::Refusal;
-use table::Verdict;
 use x86defs::CpuidResult;
 use x86defs::xsave_c;
 use x86defs::xsave_s;
 ghost use mathlib.Core.Path.{_≡_};
 ghost use Prim.Native.Nat.{_+_, _≤_, _<_, _^_};
-ghost use lib.Bits.{bitOr};
-ghost use Rattle.checks.specs.Parts.{resultsIn};
+ghost use Rattle.masking.specs.Kept.{places};
+ghost use Rattle.rows_checked.specs.Checked.{registersIn};
 ghost use Rattle.guest_state.specs.Compact.{placed, compactSize};
-ghost use Rattle.guest_state.specs.State.{within, allowed, compactRegister, saveRegister, stateVerdict};
+ghost use Rattle.guest_state.specs.State.{within, allowed, compactRegister, saveRegister};
+ghost use Rattle.guest_state.specs.InUse.{readRows, inUse};
 
-// Whether a table gives XCR0 and XSS, by its own rows of leaf Dh.
-pub fn state_verdict(results: [CpuidResult; PLACES], xcr0: u64, xss: u64) -> Verdict
-    ensures { λ r. ⌜ r ≡ stateVerdict (resultsIn results) xcr0 xss ⌝ }
+// Refused, or given: D.1.EBX.
+pub enum InUse {
+    Refused(Refusal),
+    Compacted(u32),
+}
+
+// Whether the memory's own rows of leaf Dh give XCR0 and XSS, and the compacted size. With `own` an absent row reads as zeros.
+pub fn state_in_use(
+    registers: &[u32; REGISTERS],
+    origins: &[u64; PLACES],
+    own: bool,
+    xcr0: u64,
+    xss: u64,
+) -> InUse
+    ensures { λ r. ⌜ r ≡ inUse (readRows own (now (registers .entry)) (now (origins .entry))) xcr0 xss ⌝ }
 {
-    let subleaf0 = results[place::EXTENDED_STATE_0];
-    let subleaf1 = results[place::EXTENDED_STATE_1];
+    let subleaf0 = read_row(registers, origins, own, place::EXTENDED_STATE_0);
+    let subleaf1 = read_row(registers, origins, own, place::EXTENDED_STATE_1);
     if is_allowed(subleaf0.eax, max_xss(subleaf1), xcr0, xss) {
-        let size = compact_register(results, xcr0, xss);
+        let size = compact_register(registers, origins, own, xcr0, xss);
         if size > 0xFFFFFFFF {
-            return Verdict::Refused(Refusal::CompactSizeTooLarge);
+            return InUse::Refused(Refusal::CompactSizeTooLarge);
         }
-        return Verdict::Accepted;
+        return InUse::Compacted(size as u32);
     }
-    Verdict::Refused(Refusal::StateBeyondTable)
+    InUse::Refused(Refusal::StateBeyondTable)
 }
 
 // Whether XCR0 has bit 0, and XCR0 and XSS only bits that the table has.
@@ -49,31 +64,51 @@ fn is_within(x: u64, y: u64) -> bool
     x & y == x
 }
 
-// D.0.EBX.
-pub fn save_register(results: [CpuidResult; PLACES], xcr0: u64) -> u32
-    ensures { λ r. ⌜ r ≡ saveRegister (resultsIn results) xcr0 ⌝ }
+// The registers of a place.
+pub fn read_row(
+    registers: &[u32; REGISTERS],
+    origins: &[u64; PLACES],
+    own: bool,
+    place: usize,
+) -> CpuidResult
+    requires { ⌜ place < places ⌝ }
+    ensures { λ r. ⌜ r ≡ readRows own (now (registers .entry)) (now (origins .entry)) place .result ⌝ }
 {
-    let size = xsave_size(results, xcr0);
-    match size {
-        Size::Bytes(bytes) => bytes,
-        Size::TooLarge => 0xFFFFFFFF,
+    if own {
+        let origin = origins[place];
+        if is_there(origin) {
+            return row_at(registers, place);
+        }
+        return CpuidResult {
+            eax: 0,
+            ebx: 0,
+            ecx: 0,
+            edx: 0,
+        };
     }
+    row_at(registers, place)
 }
 
 // D.1.EBX before it is held to 32 bits: 0 where the processor compacts nothing.
-pub fn compact_register(results: [CpuidResult; PLACES], xcr0: u64, xss: u64) -> u64
-    ensures { λ r. ⌜ r ≡ compactRegister (resultsIn results) xcr0 xss ⌝ }
+fn compact_register(
+    registers: &[u32; REGISTERS],
+    origins: &[u64; PLACES],
+    own: bool,
+    xcr0: u64,
+    xss: u64,
+) -> u64
+    ensures { λ r. ⌜ r ≡ compactRegister (readRows own (now (registers .entry)) (now (origins .entry))) xcr0 xss ⌝ }
 {
-    let subleaf1 = results[place::EXTENDED_STATE_1];
+    let subleaf1 = read_row(registers, origins, own, place::EXTENDED_STATE_1);
     if xsave_c(subleaf1.eax) | xsave_s(subleaf1.eax) {
-        return compact_size(results, xcr0 | xss);
+        return compact_size(registers, origins, own, xcr0 | xss);
     }
     0
 }
 
 // The compacted area over any mask: at most 62 subleaves of less than 2^32 bytes and 63 bytes of alignment, so it never wraps.
-fn compact_size(results: [CpuidResult; PLACES], mask: u64) -> u64
-    ensures { λ r. ⌜ r ≡ compactSize (resultsIn results) mask ⌝ }
+fn compact_size(registers: &[u32; REGISTERS], origins: &[u64; PLACES], own: bool, mask: u64) -> u64
+    ensures { λ r. ⌜ r ≡ compactSize (readRows own (now (registers .entry)) (now (origins .entry))) mask ⌝ }
 {
     let mut size: u64 = 576;
     let mut k: u32 = 2;
@@ -82,7 +117,7 @@ fn compact_size(results: [CpuidResult; PLACES], mask: u64) -> u64
             return size;
         }
         let place = place::EXTENDED_STATE_0 + k as usize;
-        let subleaf = results[place];
+        let subleaf = read_row(registers, origins, own, place);
         let used = bits::has_bit64(mask, k);
         size = place_component(used, subleaf, size);
         k += 1;
@@ -103,4 +138,15 @@ fn place_component(used: bool, subleaf: CpuidResult, size: u64) -> u64
         return size + subleaf.eax as u64;
     }
     size
+}
+
+// D.0.EBX.
+pub fn save_register(registers: &[u32; REGISTERS], xcr0: u64) -> u32
+    ensures { λ r. ⌜ r ≡ saveRegister (registersIn (now (registers .entry))) xcr0 ⌝ }
+{
+    let size = xsave_size(registers, xcr0);
+    match size {
+        Size::Bytes(bytes) => bytes,
+        Size::TooLarge => 0xFFFFFFFF,
+    }
 }

@@ -1,5 +1,7 @@
 pub mod ReadImage
 pub mod Runs
 pub mod BeginsLaws
+pub mod ReadIn
 pub mod ReadingLaws
+pub mod ReadHeld
 pub mod WrittenAgain

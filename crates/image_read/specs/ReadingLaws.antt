@@ -1,43 +1,41 @@
--- The loop that reads an image, from place to place, and the answer that it ends in.
+-- The loop that reads an image into memory, from place to place, and the answer that it ends in.
 use mathlib.Core.Path.{_≡_, refl, sym, ap, subst, _∙_}
 use mathlib.Core.Bool.{Bool, true, false}
 use mathlib.Core.List.{List}
-use Prim.Native.Nat.{ℕ, zero, suc, _+_, _-_, _≤_, _<_}
+use Prim.Native.Nat.{ℕ, zero, suc, _+_, _-_, _*_, _≤_, _<_}
 use native.Mathlib.Nat.{le-refl}
 use native.Mathlib.Numerals.{add-one}
 use native.Mathlib.Omega.{arith}
-use lib.Dec.{eqb, lit<}
-use lib.Bits.{bitOr}
+use lib.Dec.{eqb}
 use lib.ListN.{length, getD, drop, set, replicate, length-drop}
-use lib.Seq.{drop-drop, set-getD}
+use lib.Seq.{drop-drop}
 use borrow.Author.Tests.{eq-eqb, ne-eqb}
-use Rattle.bits.specs.InPlace.{UpTo, up-to-next}
-use Rattle.bits.specs.Lists.{sumTo, one}
-use Rattle.bits.specs.ListsLaws.{getD-tabulate, tabulated}
+use Rattle.bits.specs.InPlace.{UpTo, up-to-next, up-to-same, up-to-end}
+use Rattle.bits.specs.Lists.{tabulate}
+use Rattle.bits.specs.ListsLaws.{tabulate-ext}
 use Rattle.x86defs.specs.declared.CpuidResult.{CpuidResult}
 use Rattle.x86defs.specs.Functions.{result}
 use Rattle.masking.specs.Kept.{places, indexedAt}
-use Rattle.masking.specs.Place
-use Rattle.table.specs.declared.CpuidResults.{CpuidResults}
 use Rattle.table.specs.Rows.{Row, row, vacant}
-use Rattle.table.specs.Table.{countRows, emptyTable, rowIn}
-use Rattle.checks.specs.ExtendedState.{xssOf, xfem, xss, combinedMask}
-use Rattle.update.specs.Stores.{table}
+use Rattle.table.specs.Table.{rowIn}
+use Rattle.origins.specs.Origin.{originNumber}
+use Rattle.origins.specs.Origin.Origin.{notKnown}
+use Rattle.memory.specs.Memory.{putRow, layout, rowList}
+use Rattle.memory.specs.MemoryLaws.{put-length, put-is-set, known-by-rows, layout-ext}
+use Rattle.memory.specs.Held.{whole-row}
 use Rattle.image_read.specs.ReadImage.{registersAt, begins, rowRead, afterRow, left, rowsRead, isImage, readImage}
-use Rattle.image_read.specs.Runs.{Found}
 use Rattle.image_read.specs.BeginsLaws.{registers-end, RowThere}
+use Rattle.image_read.specs.ReadIn.{originOfRead, FoundIn, ReadIn}
 
 -- ---- from place to place
 
 -- Reading stands at index `at` of the bytes and at place i: the rows of the places before are stored, no other is.
-pub record Reading (s : List ℕ) (at i : ℕ) (t : CpuidResults) : Type 0 where
+pub record Reading (s : List ℕ) (at i : ℕ) (w o : List ℕ) : Type 0 where
   pub inside : at ≤ length s
   pub rest : drop at s ≡ left s i
-  pub present : UpTo false (λ j. rowsRead s j .present) (replicate places false) (t .present) i
-  pub results : UpTo (result 0 0 0 0) (λ j. rowsRead s j .result) (replicate places (result 0 0 0 0)) (t .results) i
-  pub count : t .«row_count» ≡ sumTo (λ j. one (rowsRead s j .present)) i
-  pub few : t .«row_count» ≤ i
-  pub mask : t .«max_extended_state» ≡ 0
+  pub size : length w ≡ 4 * places
+  pub results : UpTo (result 0 0 0 0) (λ j. rowsRead s j .result) (replicate places (result 0 0 0 0)) (rowList w) i
+  pub origins : UpTo 0 (λ j. originOfRead (rowsRead s j .present)) (replicate places 0) o i
 
 -- an empty list has its default everywhere
 getD-empty : {A : Type 0} (n : ℕ) (d : A) (j : ℕ) → getD (replicate n d) j d ≡ d
@@ -46,95 +44,95 @@ getD-empty (suc n) d zero = refl
 getD-empty (suc n) d (suc j) = getD-empty n d j
 
 -- where the default is wanted, nothing is stored
-stays : {A : Type 0} {d : A} {new : ℕ → A} {out : List A} {i : ℕ} → i < places → UpTo d new (replicate places d) out i → new i ≡ d
+stays : {A : Type 0} {d : A} {new : ℕ → A} {out : List A} {i : ℕ} → UpTo d new (replicate places d) out i → new i ≡ d
     → UpTo d new (replicate places d) out (i + 1)
-stays {A} {d} {new} {out} {i} h u e =
-    let here : getD out i d ≡ new i = u .above i (le-refl i) ∙ getD-empty places d i ∙ sym e in
-    subst (λ (l : List A). UpTo d new (replicate places d) l (i + 1)) (set-getD out i d) (up-to-next refl (omega (arith, u .size)) here u)
+stays {A} {d} {new} {out} {i} u e = up-to-same refl (u .above i (le-refl i) ∙ getD-empty places d i ∙ sym e) u
 
-count-more : (s : List ℕ) (i : ℕ) {b : Bool} → rowsRead s i .present ≡ b
-    → sumTo (λ j. one (rowsRead s j .present)) (i + 1) ≡ sumTo (λ j. one (rowsRead s j .present)) i + one b
-unfolding sumTo
-count-more s i e = rw (add-one, sumTo, e)
+no-rows : rowList (replicate 352 0) ≡ replicate places (result 0 0 0 0)
+unfolding tabulate
+no-rows = refl
+
+untouched : {A : Type 0} (d : A) (new : ℕ → A) → UpTo d new (replicate places d) (replicate places d) 0
+untouched d new = record { size = refl; below = λ j h. absurd (omega arith); above = λ j h. refl }
 
 module _ (s : List ℕ) where
-  pub reading-starts : Reading s 0 0 emptyTable
-  unfolding left sumTo
-  reading-starts = record {
+  pub reading-starts : {w o : List ℕ} → w ≡ replicate 352 0 → o ≡ replicate 88 0 → Reading s 0 0 w o
+  unfolding left
+  reading-starts {w} {o} e f = record {
     inside = omega arith;
     rest = refl;
-    present = record { size = refl; below = λ j h. absurd (omega arith); above = λ j h. refl };
-    results = record { size = refl; below = λ j h. absurd (omega arith); above = λ j h. refl };
-    count = refl;
-    few = omega arith;
-    mask = refl;
+    size = ap length e;
+    results =
+        subst (λ (l : List CpuidResult). UpTo (result 0 0 0 0) (λ j. rowsRead s j .result) (replicate places (result 0 0 0 0)) l 0)
+        (sym (ap rowList e ∙ no-rows)) (untouched (result 0 0 0 0) (λ j. rowsRead s j .result));
+    origins =
+        subst (λ (l : List ℕ). UpTo 0 (λ j. originOfRead (rowsRead s j .present)) (replicate places 0) l 0) (sym f)
+        (untouched 0 (λ j. originOfRead (rowsRead s j .present)));
   }
 
-  module _ {at i : ℕ} {t : CpuidResults} (h : i < places) (r : Reading s at i t) where
+  module _ {at i : ℕ} {w o : List ℕ} (h : i < places) (r : Reading s at i w o) where
     here : {b : Bool} → begins (drop at s) i ≡ b → begins (left s i) i ≡ b
     here e = ap (λ (l : List ℕ). begins l i) (sym (r .rest)) ∙ e
 
     -- the place has no row
-    pub reading-none : begins (drop at s) i ≡ false → Reading s at (i + 1) t
-    unfolding left afterRow rowRead sumTo
+    pub reading-none : begins (drop at s) i ≡ false → Reading s at (i + 1) w o
+    unfolding left afterRow rowRead
     reading-none e =
         let f : rowsRead s i ≡ vacant = rw (here e) in
         record {
           inside = r .inside;
           rest = r .rest ∙ rw (add-one, left, here e);
-          present = stays h (r .present) (ap (λ (w : Row). w .present) f);
-          results = stays h (r .results) (ap (λ (w : Row). w .result) f);
-          count = omega (arith, r .count, count-more s i (ap (λ (w : Row). w .present) f));
-          few = omega (arith, r .few);
-          mask = r .mask;
+          size = r .size;
+          results = stays (r .results) (ap (λ (w : Row). w .result) f);
+          origins = stays (r .origins) (ap (λ (w : Row). originOfRead (w .present)) f);
         }
 
     -- its row is stored, and reading goes on behind it
     pub reading-row : {n : ℕ} {q : CpuidResult} → RowThere s at i n → q ≡ registersAt s (at + n - 16)
-        → Reading s (at + n) (i + 1)
-        (table (set (t .present) i true) (set (t .results) i q) (t .«row_count» + 1) (t .«max_extended_state»))
+        → Reading s (at + n) (i + 1) (putRow w i q) (set o i (originNumber notKnown))
     unfolding left afterRow rowRead
-    reading-row {n} {q} w v =
-        let f : rowsRead s i ≡ row q = rw (here (w .here), v, registers-end s at n (indexedAt i) (w .width), ← r .rest) in
+    reading-row {n} {q} t v =
+        let f : rowsRead s i ≡ row q = rw (here (t .here), v, registers-end s at n (indexedAt i) (t .width), ← r .rest) in
         record {
-          inside = omega (arith, r .inside, w .long);
-          rest = sym (drop-drop n at s) ∙ rw (r .rest, add-one, left, here (w .here), w .width);
-          present = up-to-next refl (omega (arith, r .present .size)) (sym (ap (λ (w : Row). w .present) f)) (r .present);
-          results = up-to-next refl (omega (arith, r .results .size)) (sym (ap (λ (w : Row). w .result) f)) (r .results);
-          count = omega (arith, r .count, count-more s i (ap (λ (w : Row). w .present) f));
-          few = omega (arith, r .few);
-          mask = r .mask;
+          inside = omega (arith, r .inside, t .long);
+          rest = sym (drop-drop n at s) ∙ rw (r .rest, add-one, left, here (t .here), t .width);
+          size = put-length w i q (r .size) h;
+          results =
+              subst
+              (λ (l : List CpuidResult). UpTo (result 0 0 0 0) (λ j. rowsRead s j .result) (replicate places (result 0 0 0 0)) l (i + 1))
+              (sym (put-is-set w i q (r .size) h))
+              (up-to-next refl (omega (arith, r .results .size)) (sym (ap (λ (w : Row). w .result) f)) (r .results));
+          origins = up-to-next refl (omega (arith, r .origins .size)) (sym (ap (λ (w : Row). originOfRead (w .present)) f)) (r .origins);
         }
 
-  pub reading-ends : {at i : ℕ} {t : CpuidResults} → i ≡ places → Reading s at i t → Found s at t
-  unfolding countRows
-  reading-ends {at} {i} {t} e r =
-      let whole : t ≡ table (t .present) (t .results) (t .«row_count») (t .«max_extended_state») = refl in
-      let p = tabulated places (λ j. rowsRead s j .present) (t .present) false (r .present .size) (λ j l. r .present .below j (omega arith)) in
-      let q =
-      tabulated places (λ j. rowsRead s j .result) (t .results) (result 0 0 0 0) (r .results .size) (λ j l. r .results .below j (omega arith)) in
-      record { inside = r .inside; rest = rw e at (r .rest); table = whole ∙ rw (p, q, r .count, r .mask, e) }
+  pub reading-ends : {at i : ℕ} {w o : List ℕ} → i ≡ places → Reading s at i w o → FoundIn s at w o
+  reading-ends {at} {i} {w} {o} e r = record {
+    inside = r .inside;
+    rest = rw e at (r .rest);
+    registers = known-by-rows w (λ j. rowsRead s j .result) (r .size) (up-to-end refl (omega arith) (r .results));
+    origins = up-to-end refl (omega arith) (r .origins);
+  }
 
 -- ---- the answer
 
-module _ (s : List ℕ) {end : ℕ} {t : CpuidResults} (f : Found s end t) where
+module _ (s : List ℕ) {end : ℕ} {w o : List ℕ} (f : FoundIn s end w o) where
   left-over : length (left s places) ≡ length s - end
   left-over = ap length (sym (f .rest)) ∙ length-drop end s
 
-  -- the registers found at a place
-  found-at : (i : ℕ) → i < places → rowIn t i .result ≡ rowsRead s i .result
-  found-at i h = ap (λ (w : CpuidResults). rowIn w i .result) (f .table) ∙ getD-tabulate places (λ j. rowsRead s j .result) i (result 0 0 0 0) h
-
-  pub read-whole : {x y : ℕ} → end ≡ length s → x ≡ bitOr (rowIn t (Place.extendedState 0) .result .eax) y
-      → y ≡ xssOf (rowIn t (Place.extendedState 1) .result)
-      → record { «is_image» = true; table = table (t .present) (t .results) (t .«row_count») x } ≡ readImage s
-  unfolding readImage isImage combinedMask xfem xss
-  read-whole e v w =
-      let q : eqb (length (left s places)) 0 ≡ true = eq-eqb (length (left s places)) 0 (omega (arith, left-over)) in
-      rw (q, v, w, found-at (Place.extendedState 0) (lit< tt), found-at (Place.extendedState 1) (lit< tt), f .table)
-
-  pub read-over : (end ≡ length s → ⊥) → record { «is_image» = false; table = emptyTable } ≡ readImage s
+  pub read-whole : end ≡ length s → ReadIn s true w o
   unfolding readImage isImage
-  read-over e =
-      let q : eqb (length (left s places)) 0 ≡ false = ne-eqb (length (left s places)) 0 (λ z. e (omega (arith, left-over, f .inside))) in
-      rw q
+  read-whole e =
+      let q : eqb (length (left s places)) 0 ≡ true = eq-eqb (length (left s places)) 0 (omega (arith, left-over)) in
+      let found : (i : ℕ) → i < places → rowsRead s i ≡ rowIn (readImage s .table) i = λ i l. rw q (sym (whole-row (rowsRead s) i l)) in
+      record {
+        image = sym q;
+        registers = f .registers ∙ layout-ext _ _ (λ i l. ap (λ (r : Row). r .result) (found i l));
+        origins = f .origins ∙ tabulate-ext places _ _ (λ i l. ap (λ (r : Row). originOfRead (r .present)) (found i l));
+      }
+
+  -- memory that is cleared
+  pub read-over : (end ≡ length s → ⊥) → {v q : List ℕ} → v ≡ replicate 352 0 → q ≡ replicate 88 0 → ReadIn s false v q
+  unfolding readImage isImage layout tabulate
+  read-over e {v} {q} a b =
+      let none : eqb (length (left s places)) 0 ≡ false = ne-eqb (length (left s places)) 0 (λ z. e (omega (arith, left-over, f .inside))) in
+      record { image = sym none; registers = rw none a; origins = rw none b }

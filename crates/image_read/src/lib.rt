@@ -1,20 +1,22 @@
-// An image read back. Bytes come in; the table whose image they are goes out, or that they are no image.
+// An image read into lent memory. Bytes come in; the rows of the table whose image they are go out, or none where they are no image.
+use masking::PLACES;
+use masking::Run;
+use memory::REGISTERS;
+use memory::clear;
+use memory::put_row;
+use origins::NOT_KNOWN;
+use pages::word_at;
+use table::CpuidResults;
+use x86defs::CpuidFunction;
+use x86defs::CpuidResult;
 ghost use mathlib.Core.Path.{_≡_};
 ghost use Prim.Native.Nat.{_+_, _^_, _≤_, _<_};
 ghost use lib.ListN.{length, drop};
 ghost use Rattle.bits.specs.Choice.{pick};
+ghost use Rattle.memory.specs.Held.{heldIn};
 ghost use Rattle.image_read.specs.ReadImage.{registersAt, opens, readImage};
-ghost use Rattle.image_read.specs.Runs.{runBegins, Found};
-use checks::max_extended_state;
-use checks::max_xss;
-use masking::PLACES;
-use masking::Run;
-use masking::place;
-use pages::word_at;
-use table::CpuidResults;
-use table::empty_table;
-use x86defs::CpuidFunction;
-use x86defs::CpuidResult;
+ghost use Rattle.image_read.specs.ReadIn.{FoundIn, ReadIn};
+ghost use Rattle.image_read.specs.Runs.{runBegins};
 
 // The bytes of a row without a subleaf, and of one with.
 const WHOLE_ROW: usize = 21;
@@ -27,39 +29,28 @@ pub struct ReadImage {
     pub table: CpuidResults,
 }
 
-// The rows that bytes begin with, and the index after them.
-struct FoundRows {
-    end: usize,
-    table: CpuidResults,
+// The table whose image the bytes are goes into memory, and whether they are one comes out; where they are none, the memory is cleared.
+pub fn read_image(
+    bytes: &[u8],
+    registers: &mut [u32; REGISTERS],
+    origins: &mut [u64; PLACES],
+) -> bool
+    ensures { λ r. ⌜ ReadIn (now (bytes .entry)) r (now (registers .exit)) (now (origins .exit)) ⌝ }
+    ensures held { λ _. ⌜ heldIn (now (registers .exit)) (now (origins .exit)) ≡ readImage (now (bytes .entry)) .table ⌝ }
+{
+    let end = read_rows(bytes, registers, origins);
+    if end == bytes.len() {
+        return true;
+    }
+    clear(registers, origins);
+    false
 }
 
-// The table whose image the bytes are. Its combined mask, which an image does not hold, is that of its rows D.0 and D.1.
-pub fn read_image(bytes: &[u8]) -> ReadImage
-    ensures { λ r. ⌜ r ≡ readImage (now (bytes .entry)) ⌝ }
+// Goes from place to place, run by run, as the image is written: the next bytes are the place's row, or the place has none. The index after the rows goes out.
+fn read_rows(bytes: &[u8], registers: &mut [u32; REGISTERS], origins: &mut [u64; PLACES]) -> usize
+    ensures { λ r. ⌜ FoundIn (now (bytes .entry)) r (now (registers .exit)) (now (origins .exit)) ⌝ }
 {
-    let found = read_rows(bytes);
-    if found.end == bytes.len() {
-        let mut table = found.table;
-        let subleaf0 = table.results[place::EXTENDED_STATE_0];
-        let subleaf1 = table.results[place::EXTENDED_STATE_1];
-        table.max_extended_state = max_extended_state(subleaf0.eax, max_xss(subleaf1));
-        return ReadImage {
-            is_image: true,
-            table,
-        };
-    }
-    let table = empty_table();
-    ReadImage {
-        is_image: false,
-        table,
-    }
-}
-
-// Goes from place to place, run by run, as the image is written: the next bytes are the place's row, or the place has none.
-fn read_rows(bytes: &[u8]) -> FoundRows
-    ensures { λ r. ⌜ Found (now (bytes .entry)) (r .end) (r .table) ⌝ }
-{
-    let mut t = empty_table();
+    clear(registers, origins);
     let mut at = 0;
     let mut i = 0;
     while i < PLACES {
@@ -69,15 +60,14 @@ fn read_rows(bytes: &[u8]) -> FoundRows
         while i < end {
             if row_begins(bytes, at, run, (i - first) as u32) {
                 let length = row_length(run.indexed);
-                t.present[i] = true;
-                t.results[i] = registers_at(bytes, at + length - 16);
-                t.row_count += 1;
+                put_row(registers, i, registers_at(bytes, at + length - 16));
+                origins[i] = NOT_KNOWN;
                 at += length;
             }
             i += 1;
         }
     }
-    FoundRows { end: at, table: t }
+    at
 }
 
 // How many bytes a row has.

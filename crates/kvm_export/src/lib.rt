@@ -1,21 +1,27 @@
-// From pages to a list for KVM. Pages and a lent buffer come in; the table's list goes out, or a refusal and the buffer as it was.
+// A list for KVM. Pages, or a table in lent memory, and a lent buffer come in; the table's list goes out, or a refusal and the buffer as it was.
 use buffer::Written;
 use buffer::put_registers;
 use buffer::put_word;
+use build::build_into;
+use image::rows_among;
 use kvm_list::HEAD_SIZE;
 use kvm_list::ROW_SIZE;
 use kvm_list::put_zeros;
 use masking::PLACES;
 use masking::Run;
+use memory::REGISTERS;
+use memory::is_there;
+use memory::row_at;
 use table::Choices;
-use table::CpuidResults;
 use table::Refusal;
 use table::Verdict;
+use x86defs::CpuidFunction;
 use x86defs::CpuidResult;
 ghost use mathlib.Core.Path.{_≡_};
 ghost use Prim.Native.Nat.{_+_, _^_, _≤_, _<_};
 ghost use lib.ListN.{length};
 ghost use lib.Seq.{sets};
+ghost use Rattle.memory.specs.Held.{heldIn};
 ghost use Rattle.buffer.specs.Front.{writeFront};
 ghost use Rattle.kvm_export.specs.Export.{listOf, writeList};
 ghost use Rattle.kvm_export.specs.Pieces.{rowBytes, runRow, rowsLeft};
@@ -25,35 +31,35 @@ pub fn write_list(pages: &[u8], choices: Choices, out: &mut [u8]) -> Written
     ensures { λ r. ⌜ r ≡ writeList choices (now (pages .entry)) (now (out .entry)) .answer ⌝ }
     ensures { λ _. ⌜ now (out .exit) ≡ writeList choices (now (pages .entry)) (now (out .entry)) .buffer ⌝ }
 {
-    let built = build::build_table(pages, choices);
-    let verdict = built.verdict;
+    let mut registers: [u32; REGISTERS] = [0; REGISTERS];
+    let mut origins: [u64; PLACES] = [0; PLACES];
+    let verdict = build_into(pages, choices, &mut registers, &mut origins);
     if let Verdict::Refused(r) = verdict {
         return Written::Refused(r);
     }
-    let table = built.table;
-    write_table(table, out)
+    write_table(&registers, &origins, out)
 }
 
 // Writes a table's list at the front of a lent buffer. A buffer that is too short is refused, and stays as it was.
-pub fn write_table(t: CpuidResults, out: &mut [u8]) -> Written
-    ensures { λ r. ⌜ (r ≡ writeFront (listOf t) (now (out .entry)) .answer) × (now (out .exit) ≡ writeFront (listOf t) (now (out .entry)) .buffer) ⌝ }
+pub fn write_table(registers: &[u32; REGISTERS], origins: &[u64; PLACES], out: &mut [u8]) -> Written
+    ensures { λ r. ⌜ (r ≡ writeFront (listOf (heldIn (now (registers .entry)) (now (origins .entry)))) (now (out .entry)) .answer)
+        × (now (out .exit) ≡ writeFront (listOf (heldIn (now (registers .entry)) (now (origins .entry)))) (now (out .entry)) .buffer) ⌝ }
 {
-    let present = t.present;
-    let n = image::rows_among(&present, 0, PLACES) as usize;
+    let n = rows_among(origins, 0, PLACES) as usize;
     let size = HEAD_SIZE + ROW_SIZE * n;
     if out.len() < size {
         return Written::Refused(Refusal::BufferTooShort);
     }
     put_word(out, 0, n as u32);
     put_word(out, 4, 0);
-    put_rows(t, out);
+    put_rows(registers, origins, out);
     Written::Bytes(size)
 }
 
 // Writes the rows of a table one after another, after the head, run by run, so that the leaf is at hand.
-fn put_rows(t: CpuidResults, out: &mut [u8])
-    requires { ⌜ 8 + length (rowsLeft t 0) ≤ length (now out) ⌝ }
-    ensures { λ _. ⌜ now (out .exit) ≡ sets (now (out .entry)) 8 (rowsLeft t 0) ⌝ }
+fn put_rows(registers: &[u32; REGISTERS], origins: &[u64; PLACES], out: &mut [u8])
+    requires { ⌜ 8 + length (rowsLeft (heldIn (now registers) (now origins)) 0) ≤ length (now out) ⌝ }
+    ensures { λ _. ⌜ now (out .exit) ≡ sets (now (out .entry)) 8 (rowsLeft (heldIn (now (registers .entry)) (now (origins .entry))) 0) ⌝ }
 {
     let mut at = HEAD_SIZE;
     let mut i = 0;
@@ -62,9 +68,9 @@ fn put_rows(t: CpuidResults, out: &mut [u8])
         let first = run.first;
         let end = first + run.count as usize;
         while i < end {
-            let present = t.present[i];
-            let r = t.results[i];
-            at = put_place(out, at, run, (i - first) as u32, present, r);
+            let origin = origins[i];
+            let r = row_at(registers, i);
+            at = put_place(out, at, run, (i - first) as u32, is_there(origin), r);
             i += 1;
         }
     }
@@ -76,23 +82,23 @@ fn put_place(out: &mut [u8], at: usize, run: Run, k: u32, present: bool, r: Cpui
     ensures { λ n. ⌜ (n ≡ at + length (runRow run k present r)) × (now (out .exit) ≡ sets (now (out .entry)) at (runRow run k present r)) ⌝ }
 {
     if present {
-        let leaf = run.leaf.0;
+        let leaf = run.leaf;
         if run.indexed {
             put_row(out, at, leaf, k, 1, r);
             return at + ROW_SIZE;
         }
-        put_row(out, at, leaf + k, 0, 0, r);
+        put_row(out, at, CpuidFunction(leaf.0 + k), 0, 0, r);
         return at + ROW_SIZE;
     }
     at
 }
 
 // Function, index, flags, the four registers and three zero words.
-fn put_row(out: &mut [u8], at: usize, leaf: u32, index: u32, flags: u32, r: CpuidResult)
+fn put_row(out: &mut [u8], at: usize, leaf: CpuidFunction, index: u32, flags: u32, r: CpuidResult)
     requires { ⌜ at + 40 ≤ length (now out) ⌝ }
-    ensures { λ _. ⌜ now (out .exit) ≡ sets (now (out .entry)) at (rowBytes leaf index flags r) ⌝ }
+    ensures { λ _. ⌜ now (out .exit) ≡ sets (now (out .entry)) at (rowBytes (leaf .0) index flags r) ⌝ }
 {
-    put_word(out, at, leaf);
+    put_word(out, at, leaf.0);
     put_word(out, at + 4, index);
     put_word(out, at + 8, flags);
     put_registers(out, at + 12, r);

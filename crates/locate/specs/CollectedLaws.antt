@@ -30,7 +30,7 @@ stands-present i (e ∷ es) = go (eqb (placeOfEntry e) i) (stands-present i es)
     go : (b : Bool) → not (eqb (originNumber (standsAt i es)) 0) ≡ firstAt i es .present
         → not (eqb (originNumber (pick b (entry (e .page) (e .position)) (standsAt i es))) 0)
         ≡ pick b (row (e .registers)) (firstAt i es) .present
-    go true h = ap not (ne-eqb (2 + 64 * e .page + e .position) 0 (λ z. omega arith))
+    go true h = ap not (ne-eqb (4 + 64 * e .page + e .position) 0 (λ z. omega arith))
     go false h = h
 
 mask-present : (avic : Bool) (i : ℕ) (r : Row) → maskRow avic i r .present ≡ r .present

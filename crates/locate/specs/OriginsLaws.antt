@@ -46,7 +46,7 @@ stands-cons i l e es = go (counts e)
     go false = sym (pick-false _ _ (ne-eqb places i (λ (q : places ≡ i). omega arith)))
 
 -- the number of any entry fits 64 bits: its page lies inside the bytes
-pub number-fits : (s : List ℕ) → countsFit s ≡ true → length s < 2 ^ 64 → (p q : ℕ) → p < pagesIn s → q < countOf s p → 2 + 64 * p + q < 2 ^ 64
+pub number-fits : (s : List ℕ) → countsFit s ≡ true → length s < 2 ^ 64 → (p q : ℕ) → p < pagesIn s → q < countOf s p → 4 + 64 * p + q < 2 ^ 64
 number-fits s fit short p q h l = omega (arith, counts-fit-at s fit p h)
 
 -- what holds before each turn: a place that has a row has its number, any other has none yet and gets that of the first entry that is left

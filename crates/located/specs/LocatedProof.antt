@@ -20,7 +20,7 @@ use Rattle.table.specs.declared.Verdict.the-variants.{Accepted}
 use Rattle.table.specs.Rows.{Row, Rows, row, vacant}
 use Rattle.table.specs.Table.{rowIn}
 use Rattle.origins.specs.Origin.{Origin, isMadeHere, originOf, originNumber, originRead, originTold}
-use Rattle.origins.specs.Origin.Origin.{neither, madeHere, entry}
+use Rattle.origins.specs.Origin.Origin.{neither, madeHere, notKnown, entry}
 use Rattle.origins.specs.OriginLaws.{entry-read, neither-read, made-read}
 use Rattle.collect.specs.FirstEntries.{placeOfEntry, firstAt, maskedAt, maskRow}
 use Rattle.locate.specs.Stands.{standsAt}
@@ -56,21 +56,25 @@ all-made-here = refl
 abbrev isEntry : Origin → Bool
 isEntry neither = false
 isEntry madeHere = false
+isEntry notKnown = false
 isEntry (entry p q) = true
 
 abbrev isMade : Origin → Bool
 isMade neither = false
 isMade madeHere = true
+isMade notKnown = false
 isMade (entry p q) = false
 
 abbrev pageOf : Origin → ℕ
 pageOf neither = 0
 pageOf madeHere = 0
+pageOf notKnown = 0
 pageOf (entry p q) = p
 
 abbrev positionOf : Origin → ℕ
 positionOf neither = 0
 positionOf madeHere = 0
+positionOf notKnown = 0
 positionOf (entry p q) = q
 
 -- ---- one place of an accepted table

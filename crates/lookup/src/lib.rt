@@ -48,7 +48,7 @@ pub fn find(
 }
 
 // The place that is asked for, or 88 where the question has no answer.
-fn place_asked(leaf: CpuidFunction, subleaf: Subleaf, enforce_subleaf: bool) -> usize
+pub fn place_asked(leaf: CpuidFunction, subleaf: Subleaf, enforce_subleaf: bool) -> usize
     ensures { λ r. ⌜ (r ≡ placeAsked leaf subleaf «enforce_subleaf») × (r ≤ places) ⌝ }
 {
     let indexed = with_subleaves(leaf);

@@ -1,15 +1,17 @@
 -- The whole table that lent memory holds. Its count is that of the rows that are there; its combined mask, which the memory does not hold, is what
 -- document 01 makes of rows D.0 and D.1, as for an image that is read.
 use mathlib.Core.Path.{_≡_, refl, sym, ap, ap₂, _∙_}
-use mathlib.Core.Bool.{Bool, false}
+use mathlib.Core.Bool.{Bool, true, false}
 use mathlib.Core.List.{List}
-use Prim.Native.Nat.{ℕ, _+_, _*_, _<_}
+use Prim.Native.Nat.{ℕ, _+_, _*_, _≤_, _<_}
+use native.Mathlib.Numerals.{add-one}
 use native.Mathlib.Omega.{arith}
-use lib.Dec.{lit<}
+use lib.Dec.{lit≤, lit<}
+use mir.Val.{boolByte}
 use lib.Bits.{bitOr}
 use lib.ListN.{getD, replicate, getD-replicate}
 use Rattle.bits.specs.Bits.{has, bit}
-use Rattle.bits.specs.Lists.{tabulate, sumTo}
+use Rattle.bits.specs.Lists.{tabulate, sumTo, one}
 use Rattle.bits.specs.ListsLaws.{getD-tabulate}
 use Rattle.x86defs.specs.Functions.{result}
 use Rattle.masking.specs.Kept.{places}
@@ -77,3 +79,29 @@ cleared-row i l =
 
 pub cleared-held : heldIn (replicate 352 0) (replicate 88 0) ≡ emptyTable
 cleared-held = whole-ext cleared-row ∙ empty-whole
+
+-- ---- rows counted one after another
+
+-- how many of the first n places have a row
+abbrev pub countTo : List ℕ → ℕ → ℕ
+countTo o n = sumTo (λ i. one (isThere (getD o i 0))) n
+
+pub count-starts : (o : List ℕ) → _≡_ {A = ℕ} 0 (countTo o 0)
+unfolding sumTo
+count-starts o = refl
+
+byte-one : (b : Bool) → boolByte b ≡ one b
+byte-one true = refl
+byte-one false = refl
+
+pub byte-le : (b : Bool) → boolByte b ≤ 1
+byte-le true = lit≤ tt
+byte-le false = lit≤ tt
+
+pub count-next : (o : List ℕ) (i : ℕ) {n : ℕ} {b : Bool} → n ≡ countTo o i → b ≡ isThere (getD o i 0) → n + boolByte b ≡ countTo o (i + 1)
+unfolding sumTo
+count-next o i {n} {b} e f = rw (add-one, e, byte-one b, f, sumTo)
+
+pub count-all : (w o : List ℕ) {n : ℕ} → n ≡ countTo o places → n ≡ heldIn w o .«row_count»
+unfolding countRows
+count-all w o e = e

@@ -14,27 +14,35 @@ use Rattle.bits.specs.Lists.{tabulate}
 use Rattle.bits.specs.Search.{Failing, lowest}
 use Rattle.bits.specs.Search.Failing.{at, none}
 use Rattle.bits.specs.SearchLaws.{lowest-all}
+use Rattle.x86defs.specs.declared.CpuidFunction.{CpuidFunction}
 use Rattle.x86defs.specs.declared.CpuidResult.{CpuidResult}
 use Rattle.pages.specs.declared.CpuidPageIndex.{CpuidPageIndex}
+use Rattle.pages.specs.declared.ParsedCpuidEntry.{ParsedCpuidEntry}
 use Rattle.pages.specs.Layout.{Entry, entryAt, pagesIn, mostEntries}
 use Rattle.pages.specs.LayoutLaws.{counts-fit-at}
 use Rattle.pages.specs.Entries.{entries}
+use Rattle.pages.specs.Parsed.{parsed}
+use Rattle.reserved.specs.ReservedLaws.{clean-at}
 use Rattle.walk.specs.Walk.{firstIndex, incremented, rest}
 use Rattle.walk.specs.WalkLaws.{Valid, Turn, turn, first-valid, rest-first, rest-end}
+use Rattle.reader.specs.declared.Read.the-variants as Read
+use Rattle.reader.specs.Read.{entryHere, cleanHere, readAt}
+use Rattle.reader.specs.ReadLaws.{read-entry, read-unclean}
 use Rattle.masking.specs.Kept.{places}
 use Rattle.masking.specs.Masks.{applyMask}
 use Rattle.masks.specs.declared.KeptLeaf.{KeptLeaf}
-use Rattle.masks.specs.KeptTable.{masksOf}
+use Rattle.masks.specs.KeptTable as Kept
+use Rattle.masks.specs.KeptTable.{noRow, masksOf, rowOfPlace}
 use Rattle.table.specs.declared.Choices.{Choices}
 use Rattle.table.specs.declared.Refusal.the-variants.{NothingDecides}
 use Rattle.table.specs.declared.Verdict.the-variants.{Accepted}
 use Rattle.table.specs.Edition.{knownEdition}
 use Rattle.table.specs.Rows.{Row, Rows, row, vacant}
 use Rattle.collect.specs.FirstEntries.{setLegacy, maskedAt}
-use Rattle.collect.specs.Collect.{storedAt}
+use Rattle.collect.specs.Collect.{countedPlace, storedAt, counted-place-stored, row-masks}
 use Rattle.lawful.specs.Lawful.{lawfulVerdict}
 use Rattle.build.specs.Build.{rowsFor}
-use Rattle.lawful.specs.LawfulLaws.{lawful-counts}
+use Rattle.lawful.specs.LawfulLaws.{lawful-counts, lawful-clean}
 use Rattle.flips.specs.declared.Flip.{Flip}
 use Rattle.flips.specs.Flips.{flip, flipsOf, flipsIn, flips}
 use Rattle.flips.specs.OneBit.{oneBit, xorResult}
@@ -243,16 +251,60 @@ module _ (c : Choices) (s : List ℕ) (bytes : (n : ℕ) → getD s n 0 < 256) (
         found (at m) g = cc
         found none g = cc
 
--- what the code finds at the collected rows
-pub bit-in : {m o : Rows} {x y : CpuidResult} {b : Deciding} (n : ℕ) (kept : KeptLeaf) (i : ℕ) → m ≡ o → x ≡ y → b ≡ firstBit n m kept i x
-    → firstBit n o kept i y ≡ b
-bit-in n kept i e g h = sym (h ∙ (λ k. firstBit n (e k) kept i (g k)))
+-- ---- one turn in the terms of the code: e is the entry that the reader gives, j the index after, and place where it is stored
 
--- a place that is seen, or past the last, passes
-pub seen-taken : (seen : List Bool) {place stored : ℕ} → place ≡ stored → getD seen place false ≡ true
-    → (j : ℕ) → j < places → getD seen j false ≡ false → stored ≡ j → ⊥
-seen-taken seen e f j l g h = never-both (rw (e ∙ h) at f) g
+pub record AtEntry (c : Choices) (s : List ℕ) (seen : List Bool) (i : CpuidPageIndex) (e : ParsedCpuidEntry) (j : CpuidPageIndex) (place : ℕ) : Type 0 where
+  pub known : knownEdition (c .edition) ≡ true
+  pub lawful : lawfulVerdict s ≡ Accepted
+  pub searching : Searching c s seen i
+  pub inside : i .«page_index» < pagesIn s
+  pub read : Read.Entry e j ≡ readAt s i (incremented s i)
+  pub stored : place ≡ countedPlace e
 
-pub not-kept : (seen : List Bool) {place stored : ℕ} → place ≡ stored → places ≤ place
-    → (j : ℕ) → j < places → getD seen j false ≡ false → stored ≡ j → ⊥
-not-kept seen e f j l g h = omega arith
+module _ {c : Choices} {s : List ℕ} {seen : List Bool} {i : CpuidPageIndex} {e : ParsedCpuidEntry} {j : CpuidPageIndex} {place : ℕ}
+    (a : AtEntry c s seen i e j place) where
+  given : (e ≡ parsed (entryHere s i)) × (j ≡ incremented s i) × (cleanHere s i ≡ true)
+  given = read-entry s i (incremented s i) (a .read)
+
+  at-place : place ≡ storedAt (entryHere s i)
+  at-place = a .stored ∙ ap countedPlace (given .0) ∙ counted-place-stored (entryHere s i)
+
+  pub entry-falls : length (rest s j) < length (rest s i)
+  entry-falls = rw (given .1) (turn s i (a .searching .valid) (a .inside) .falls)
+
+  module _ (bytes : (n : ℕ) → getD s n 0 < 256) where
+    -- a place that is seen, or past the last, passes
+    pub entry-seen : getD seen place false ≡ true → Searching c s seen j
+    entry-seen f =
+        rw (given .1) (search-passes c s bytes (a .known) (a .lawful) seen i (a .searching) (a .inside)
+        (λ k l g h. never-both (rw (at-place ∙ h) at f) g))
+
+    pub entry-not-kept : places ≤ place → Searching c s seen j
+    entry-not-kept f =
+        rw (given .1) (search-passes c s bytes (a .known) (a .lawful) seen i (a .searching) (a .inside) (λ k l g h. omega (arith, at-place)))
+
+    -- the first entry of its place; b is what the code finds at the collected rows
+    module _ (small : place < places) (new : getD seen place false ≡ false) {m : Rows} {kept : List KeptLeaf} {row : ℕ} {b : Deciding}
+        (rows : m ≡ rowsFor c s) (table : kept ≡ Kept.table (c .«secure_avic»)) (masks : row ≡ rowOfPlace place)
+        (bit : b ≡ firstBit (c .edition) m (getD kept row noRow) place (e .result)) where
+      bit-here : firstBit (c .edition) (rowsFor c s) (getD kept row noRow) place (entryHere s i .registers) ≡ b
+      bit-here =
+          sym (bit ∙ (λ k. firstBit (c .edition) (rows k) (getD kept row noRow) place (ap (λ (p : ParsedCpuidEntry). p .result) (given .0) k)))
+
+      pub entry-none : b ≡ NoNumber → Searching c s (set seen place true) j
+      entry-none f =
+          rw (given .1) (search-none c s bytes (a .known) (a .lawful) seen i (a .searching) (a .inside) place small (sym at-place) new
+          (getD kept row noRow) (λ x. row-masks (c .«secure_avic») place row kept x table masks) (bit-here ∙ f))
+
+      pub entry-decides : {n : ℕ} → b ≡ Number n
+          → Bit (flip (i .«page_index») (i .«function_index») (n / 32) (n % 32)) ≡ firstThat (changes c s) (flips s)
+      entry-decides {n} f =
+          search-found c s bytes (a .known) (a .lawful) seen i (a .searching) (a .inside) place small (sym at-place) new
+          (getD kept row noRow) (λ x. row-masks (c .«secure_avic») place row kept x table masks) n (bit-here ∙ f)
+
+-- lawful pages have no unclean entry
+pub no-unclean : {c : Choices} {s : List ℕ} {seen : List Bool} {i : CpuidPageIndex} {l : CpuidFunction} → lawfulVerdict s ≡ Accepted
+    → Searching c s seen i → i .«page_index» < pagesIn s → Read.Unclean l ≡ readAt s i (incremented s i) → ⊥
+no-unclean {c} {s} {seen} {i} e w h f =
+    never-both (clean-at s (lawful-clean s e) (i .«page_index») (i .«function_index») h (turn s i (w .valid) h .below))
+    (read-unclean s i (incremented s i) f .1)

@@ -2,7 +2,11 @@
 use deciding::Deciding;
 use deciding::first_bit;
 use flips::Flip;
+use lawful::walk_pages;
 use masking::PLACES;
+use memory::REGISTERS;
+use memory::sized;
+use reader::Read;
 use table::Choices;
 use table::Refusal;
 use table::Verdict;
@@ -10,6 +14,8 @@ use table::known_edition;
 ghost use mathlib.Core.Path.{_≡_};
 ghost use mathlib.Core.Bool.{true};
 ghost use Rattle.table.specs.Edition.{knownEdition};
+ghost use Rattle.memory.specs.Memory.{rowsIn};
+ghost use Rattle.collect.specs.FirstEntries.{rowsOf};
 ghost use Rattle.lawful.specs.Lawful.{lawfulVerdict};
 ghost use Rattle.flips.specs.Flips.{flips};
 ghost use Rattle.flip_rows.specs.Changes.{changes};
@@ -28,48 +34,67 @@ pub fn nearest_bit(pages: &[u8], choices: Choices) -> Nearest
     if known_edition(choices.edition) {} else {
         return Nearest::NoBit(Refusal::UnknownEdition);
     }
-    let lawful = lawful::validate_pages(pages);
+    let mut registers: [u32; REGISTERS] = [0; REGISTERS];
+    let mut origins: [u64; PLACES] = [0; PLACES];
+    let lawful = walk_pages(pages, choices.secure_avic, &mut registers, &mut origins);
     if let Verdict::Refused(r) = lawful {
         return Nearest::NoBit(r);
     }
-    search_flips(pages, choices.secure_avic, choices.edition)
+    sized(&registers, &origins);
+    search_flips(
+        pages,
+        choices.secure_avic,
+        choices.edition,
+        &registers,
+        &origins,
+    )
 }
 
-// The search, in the order of the entries. Rows are collected once; a flip in an entry that is not the first of its place is passed over, and one in
-// a first entry is tried at the collected rows.
-fn search_flips(pages: &[u8], secure_avic: bool, edition: u32) -> Nearest
-    requires { ⌜ (knownEdition edition ≡ true) × (lawfulVerdict (now pages) ≡ Verdict.Accepted) ⌝ }
+// The search, in the order of the entries, at the rows that the walk left in memory. A flip in an entry that is not the first of its place is passed
+// over, and one in a first entry is tried at these rows. Lawful pages have no unclean entry.
+fn search_flips(
+    pages: &[u8],
+    secure_avic: bool,
+    edition: u32,
+    registers: &[u32; REGISTERS],
+    origins: &[u64; PLACES],
+) -> Nearest
+    requires { ⌜ (knownEdition edition ≡ true) × (lawfulVerdict (now pages) ≡ Verdict.Accepted)
+        × (rowsIn (now registers) (now origins) ≡ rowsOf «secure_avic» (now pages)) ⌝ }
     ensures { λ r. ⌜ r ≡ firstThat (changes (chosen «secure_avic» edition) (now (pages .entry))) (flips (now (pages .entry))) ⌝ }
 {
     let kept = masks::kept_leaves(secure_avic);
     let n = pages::page_count(pages);
-    let t = collect::collect(pages, secure_avic);
-    let base = rows_built::build_rows(t, edition);
     let mut seen = [false; PLACES];
     let mut index = reader::start(pages);
     while index.page_index < n {
-        let taken = reader::take(pages, index);
-        let entry = taken.found;
-        let place = collect::counted_place(entry);
-        if place < PLACES {
-            if seen[place] {} else {
-                let row = masks::mask_row(place);
-                let x = entry.result;
-                let bit = first_bit(t, edition, base, kept[row], place, x);
-                if let Deciding::Number(b) = bit {
-                    let position = index.function_index as u32;
-                    return Nearest::Bit(Flip {
-                        page: index.page_index,
-                        entry: position,
-                        register: b / 32,
-                        bit: b % 32,
-                    });
+        let read = reader::take(pages, index);
+        match read {
+            Read::Entry(entry, next) => {
+                let place = collect::counted_place(entry);
+                if place < PLACES {
+                    if seen[place] {} else {
+                        let row = masks::mask_row(place);
+                        let x = entry.result;
+                        let bit = first_bit(registers, origins, edition, kept[row], place, x);
+                        if let Deciding::Number(b) = bit {
+                            let position = index.function_index as u32;
+                            return Nearest::Bit(Flip {
+                                page: index.page_index,
+                                entry: position,
+                                register: b / 32,
+                                bit: b % 32,
+                            });
+                        }
+                        seen[place] = true;
+                    }
                 }
-                seen[place] = true;
+                index = next;
+            }
+            Read::Unclean(leaf) => {
+                return Nearest::NoBit(Refusal::ReservedBytes(leaf));
             }
         }
-        let next = taken.index;
-        index = next;
     }
     Nearest::NoBit(Refusal::NothingDecides)
 }

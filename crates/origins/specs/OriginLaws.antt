@@ -16,15 +16,15 @@ use Rattle.masking.specs.Kept.{places}
 use Rattle.masking.specs.Place
 use Rattle.origins.specs.declared.OriginRead.{OriginRead}
 use Rattle.origins.specs.Origin.{Origin, isMadeHere, originOf, originNumber, finishedOrigins, originRead, originTold}
-use Rattle.origins.specs.Origin.Origin.{neither, madeHere, entry}
+use Rattle.origins.specs.Origin.Origin.{neither, madeHere, notKnown, entry}
 
 -- "Pages beyond 32 bits of number": any page, and any position below 64
 pub entry-read : (p q : ℕ) → q < 64 → originRead (originNumber (entry p q)) ≡ originTold (entry p q)
 unfolding originRead
 entry-read p q l =
-    let a : (2 + 64 * p + q - 2) / 64 ≡ p = omega arith in
-    let b : (2 + 64 * p + q - 2) % 64 ≡ q = omega arith in
-    pick-false _ _ (le-ltb (2 + 64 * p + q) 2 (omega arith)) ∙ rw (a, b)
+    let a : (4 + 64 * p + q - 4) / 64 ≡ p = omega arith in
+    let b : (4 + 64 * p + q - 4) % 64 ≡ q = omega arith in
+    pick-false _ _ (le-ltb (4 + 64 * p + q) 4 (omega arith)) ∙ rw (a, b)
 
 pub neither-read : originRead (originNumber neither) ≡ originTold neither
 unfolding originRead
@@ -33,6 +33,10 @@ neither-read = refl
 pub made-read : originRead (originNumber madeHere) ≡ originTold madeHere
 unfolding originRead
 made-read = refl
+
+pub not-known-read : originRead (originNumber notKnown) ≡ originTold notKnown
+unfolding originRead
+not-known-read = refl
 
 number-pick : (b : Bool) (x y : Origin) → originNumber (pick b x y) ≡ pick b (originNumber x) (originNumber y)
 number-pick true x y = refl

@@ -9,11 +9,14 @@ const NONE: u64 = 0;
 
 const MADE_HERE: u64 = 1;
 
-const FIRST_ENTRY: u64 = 2;
+// The origin of a row that was read from an image, which holds no origins.
+pub const NOT_KNOWN: u64 = 3;
+
+const FIRST_ENTRY: u64 = 4;
 
 const MOST_ENTRIES: u64 = 64;
 
-// An origin read back from its number: 0 none, 1 made here, 2 an entry, with the entry's page and its position there.
+// An origin read back from its number: 0 none, 1 made here, 2 an entry, with the entry's page and its position there, 3 not known.
 pub struct OriginRead {
     pub origin: u32,
     pub page: u64,
@@ -22,7 +25,7 @@ pub struct OriginRead {
 
 // The number of the entry at a position of a page.
 pub fn entry_number(page: usize, position: usize) -> u64
-    requires { ⌜ 2 + 64 * page + position < 2 ^ 64 ⌝ }
+    requires { ⌜ 4 + 64 * page + position < 2 ^ 64 ⌝ }
     ensures { λ r. ⌜ r ≡ originNumber (Origin.entry page position) ⌝ }
 {
     FIRST_ENTRY + MOST_ENTRIES * page as u64 + position as u64

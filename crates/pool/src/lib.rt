@@ -2,12 +2,12 @@
 // is in the memory then, or it is cleared and one refusal goes out and, where it is a server's own, which server it is.
 use masking::PLACES;
 use memory::REGISTERS;
+use memory::clear;
 use pool_rows::all_alike;
 use pool_server::server_into;
 use pool_sets::join_rest;
 use pool_sets::sets_fit;
 use rows_finished::build_rows;
-use rows_finished::clear;
 use table::Choices;
 use table::CpuidResults;
 use table::Refusal;

@@ -1,5 +1,5 @@
 -- `quiet`, case by case, in the terms of the code's returns.
-use mathlib.Core.Path.{_≡_, sym, ap₂, _∙_}
+use mathlib.Core.Path.{_≡_, sym, ap, ap₂, _∙_}
 use mathlib.Core.Bool.{Bool, true, false, not}
 use Prim.Native.Nat.{ℕ, _-_, _≤_, _<_}
 use lib.Dec.{eqb, leb}
@@ -12,6 +12,9 @@ use Rattle.table.specs.declared.Verdict.the-variants.{Accepted, Refused}
 use Rattle.table.specs.Rows.{Rows}
 use Rattle.checks.specs.ExtendedState.{combinedMask}
 use Rattle.checks.specs.Checks.{requiredVerdict, invlpgbVerdict, rowsVerdict}
+use Rattle.rows_checked.specs.declared.Checked.{Checked}
+use Rattle.rows_checked.specs.Checked.{checkedRows, verdictOf}
+use Rattle.rows_checked.specs.CheckedLaws.{verdict-of}
 use Rattle.quiet.specs.Quiet.{refuses, isComponent, isLevel, isRead, quietAt, quiet}
 
 module _ (m : Rows) (i : ℕ) where
@@ -24,11 +27,14 @@ module _ (m : Rows) (i : ℕ) where
   unfolding quiet
   quiet-clear e f = rw (e, f)
 
-  pub quiet-other : {b q : Bool} {x : ℕ} → requiredVerdict m ≡ Accepted → invlpgbVerdict m ≡ Accepted
-      → b ≡ refuses (rowsVerdict m) → x ≡ combinedMask m
+  -- k is what the checks find
+  pub quiet-other : {k : Checked} {b q : Bool} {x : ℕ} → requiredVerdict m ≡ Accepted → invlpgbVerdict m ≡ Accepted
+      → k ≡ checkedRows m → b ≡ refuses (verdictOf k) → x ≡ combinedMask m
       → q ≡ quietAt b x i → q ≡ quiet m i
-  unfolding quiet
-  quiet-other e f g h k = k ∙ ap₂ (λ (b : Bool) (x : ℕ). quietAt b x i) g h ∙ sym (rw (e, f))
+  unfolding quiet checkedRows
+  quiet-other e f c g h k =
+      k ∙ ap₂ (λ (b : Bool) (x : ℕ). quietAt b x i) (g ∙ ap (λ (k : Checked). refuses (verdictOf k)) c ∙ ap refuses (verdict-of (rowsVerdict m) m)) h
+      ∙ sym (rw (e, f))
 
 module _ (i : ℕ) where
   -- the bounds of a component

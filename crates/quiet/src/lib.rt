@@ -1,47 +1,50 @@
-// Places whose registers decide nothing, whatever row stands there. Collected rows and the verdict on them come in; yes or no goes out.
+// Places whose registers decide nothing, whatever row stands there. Collected rows in lent memory come in; yes or no goes out.
 use checks::max_extended_state;
 use checks::max_xss;
 use checks::validate_invlpgb;
-use checks::validate_required;
+use masking::PLACES;
 use masking::place;
-use table::CpuidResults;
+use memory::REGISTERS;
+use memory::row_at;
+use rows_checked::Checked;
+use rows_checked::check_rows;
+use rows_checked::validate_required;
 use table::Verdict;
 ghost use mathlib.Core.Path.{_≡_};
-ghost use Rattle.table.specs.Table.{rowsIn};
-ghost use Rattle.checks.specs.Checks.{rowsVerdict};
+ghost use Rattle.memory.specs.Memory.{rowsIn};
+ghost use Rattle.rows_checked.specs.Checked.{verdictOf};
 ghost use Rattle.quiet.specs.Quiet.{refuses, isRead, quietAt, quiet};
 
-// Whether no row at a place would change the answer to the rows of a table; `verdict` is what the checks find of them.
-pub fn is_quiet(t: CpuidResults, verdict: Verdict, place: usize) -> bool
-    requires { ⌜ verdict ≡ rowsVerdict (rowsIn t) ⌝ }
-    ensures { λ r. ⌜ r ≡ quiet (rowsIn t) place ⌝ }
+// Whether no row at a place would change the answer to the rows in memory.
+pub fn is_quiet(registers: &[u32; REGISTERS], origins: &[u64; PLACES], place: usize) -> bool
+    ensures { λ r. ⌜ r ≡ quiet (rowsIn (now (registers .entry)) (now (origins .entry))) place ⌝ }
 {
-    let present = t.present;
-    let required = validate_required(present);
+    let required = validate_required(origins);
     if let Verdict::Refused(_r) = required {
         return true;
     }
-    let sizes = t.results[place::EXTENDED_ADDRESS_SPACE_SIZES];
+    let sizes = row_at(registers, place::EXTENDED_ADDRESS_SPACE_SIZES);
     let invlpgb = validate_invlpgb(sizes);
     if let Verdict::Refused(_r) = invlpgb {
         return place != place::EXTENDED_ADDRESS_SPACE_SIZES;
     }
-    let subleaf0 = t.results[place::EXTENDED_STATE_0];
-    let subleaf1 = t.results[place::EXTENDED_STATE_1];
+    let checked = check_rows(registers, origins);
+    let subleaf0 = row_at(registers, place::EXTENDED_STATE_0);
+    let subleaf1 = row_at(registers, place::EXTENDED_STATE_1);
     quiet_at(
-        is_refused(verdict),
+        is_refused(checked),
         max_extended_state(subleaf0.eax, max_xss(subleaf1)),
         place,
     )
 }
 
-// Whether a verdict refuses.
-pub fn is_refused(verdict: Verdict) -> bool
-    ensures { λ r. ⌜ r ≡ refuses verdict ⌝ }
+// Whether the checks refuse.
+fn is_refused(checked: Checked) -> bool
+    ensures { λ r. ⌜ r ≡ refuses (verdictOf checked) ⌝ }
 {
-    match verdict {
-        Verdict::Accepted => false,
-        Verdict::Refused(_r) => true,
+    match checked {
+        Checked::Ready(_size, _processors) => false,
+        Checked::Refused(_r) => true,
     }
 }
 

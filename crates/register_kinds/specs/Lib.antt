@@ -1,1 +1,2 @@
 pub mod KindsInCode
+pub mod Registers

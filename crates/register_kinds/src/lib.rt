@@ -1,6 +1,7 @@
 // How demand 3 compares each register. A place comes in; the kinds of its four registers go out, and two values of a register are held
-// against each other by its kind.
+// against each other by its kind. Four tests come in; the first register that fails goes out.
 use masking::place;
+use table::Subleaf;
 use x86defs::mt_per_socket;
 ghost use mathlib.Core.Path.{_≡_};
 ghost use Prim.Native.Nat.{_<_};
@@ -9,6 +10,7 @@ ghost use Rattle.features.specs.Finish.{ruleAt};
 ghost use Rattle.update.specs.Kinds.{kindsAt, fromEntry};
 ghost use Rattle.rise.specs.Decide.{risesTest};
 ghost use Rattle.register_kinds.specs.KindsInCode.{kindIn, kindsIn};
+ghost use Rattle.register_kinds.specs.Registers.{firstOf, subleafNamed};
 
 // The kinds of specs/Kinds.antt of crate update.
 pub enum Kind {
@@ -24,6 +26,21 @@ pub struct Kinds {
     pub ebx: Kind,
     pub ecx: Kind,
     pub edx: Kind,
+}
+
+pub enum Register {
+    Eax,
+    Ebx,
+    Ecx,
+    Edx,
+}
+
+// Which of a row's registers are as demand 3 has them.
+pub struct RegistersRise {
+    pub eax: bool,
+    pub ebx: bool,
+    pub ecx: bool,
+    pub edx: bool,
 }
 
 // The kinds of a row, register by register.
@@ -125,4 +142,31 @@ pub fn register_rises(kind: Kind, a: u32, b: u32) -> bool
         Kind::Freed => true,
         Kind::Other => a == b,
     }
+}
+
+// The first register that fails: EDX where the other three do not.
+pub fn first_register(rise: RegistersRise) -> Register
+    ensures { λ r. ⌜ r ≡ firstOf rise ⌝ }
+{
+    if rise.eax {
+        if rise.ebx {
+            if rise.ecx {
+                return Register::Edx;
+            }
+            return Register::Ecx;
+        }
+        return Register::Ebx;
+    }
+    Register::Eax
+}
+
+// The subleaf of a place, where its row carries one.
+pub fn subleaf_named(place: usize) -> Subleaf
+    requires { ⌜ place < places ⌝ }
+    ensures { λ r. ⌜ r ≡ subleafNamed place ⌝ }
+{
+    if masking::indexed_at(place) {
+        return Subleaf::Some(masking::subleaf_at(place));
+    }
+    Subleaf::None
 }

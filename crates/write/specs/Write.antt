@@ -2,7 +2,6 @@
 -- image. A successful write returns the length. Bytes beyond the image stay, and a refused write changes no lent byte.
 use mathlib.Core.List.{List}
 use Prim.Native.Nat.{ℕ}
-use Rattle.build.specs.declared.Built.{Built}
 use Rattle.build.specs.Build.{answer}
 use Rattle.buffer.specs.Front.{AfterWrite, writeVerdict}
 use Rattle.image.specs.Image.{image}

@@ -1,5 +1,9 @@
 // From pages to the image. Pages and a lent buffer come in; the table's bytes go out, or a refusal and the buffer as it was.
 use buffer::Written;
+use build::build_into;
+use image_write::write_table;
+use masking::PLACES;
+use memory::REGISTERS;
 use table::Choices;
 use table::Verdict;
 ghost use mathlib.Core.Path.{_≡_};
@@ -10,11 +14,11 @@ pub fn write_image(pages: &[u8], choices: Choices, out: &mut [u8]) -> Written
     ensures { λ r. ⌜ r ≡ write choices (now (pages .entry)) (now (out .entry)) .answer ⌝ }
     ensures { λ _. ⌜ now (out .exit) ≡ write choices (now (pages .entry)) (now (out .entry)) .buffer ⌝ }
 {
-    let built = build::build_table(pages, choices);
-    let verdict = built.verdict;
+    let mut registers: [u32; REGISTERS] = [0; REGISTERS];
+    let mut origins: [u64; PLACES] = [0; PLACES];
+    let verdict = build_into(pages, choices, &mut registers, &mut origins);
     if let Verdict::Refused(r) = verdict {
         return Written::Refused(r);
     }
-    let table = built.table;
-    image_write::write_table(table, out)
+    write_table(&registers, &origins, out)
 }

@@ -4,7 +4,7 @@ use Rattle.answers.proofs.found_numbers.Statement.{statement}
 use Rattle.answers.proofs.found_numbers.Tie as tie
 
 returns : tie.Need-returns
-returns c = rw (c .before .before .result .given .1, c .read-origin .ensures)
+returns c = rw (c .before .before .found .given .1, c .read-origin .ensures)
 
 returns-2 : tie.Need-returns-2
 returns-2 c = rw (c .enum-told .given .1)

@@ -7,25 +7,27 @@ use Rattle.carry_image.proofs.carry_image.Tie as tie
 returns : tie.Need-returns
 returns c =
     let done = c .before .before .before in
-    let read = done .before .before .before in
-    let a = read .before .before .before .args in
-    image-refused (a .image .now) (a .from) (a .to) (a .xcr0) (a .xss) (read .read-image .ensures) (done .before .before .if1 .taken)
-    (done .carry .ensures) (c .before .verdict .given .1)
+    let test = done .before .before .before in
+    let read = test .before in
+    let a = read .before .before .before .before .before .args in
+    image-refused (a .image .now) (a .from) (a .to) (a .xcr0) (a .xss) (read .read-image .ensures .0 .image) (test .if1 .taken)
+    (read .read-image .ensures .1) (done .carry .ensures) (c .before .verdict .given .1)
 
 returns-2 : tie.Need-returns-2
 returns-2 c =
-    let told = c .before .before .before .before .before in
+    let told = c .before .before .before .before .before .before in
     let done = told .before .before in
-    let read = done .before .before .before in
-    let a = read .before .before .before .args in
-    image-written (a .image .now) (a .from) (a .to) (a .xcr0) (a .xss) (read .read-image .ensures) (done .before .before .if1 .taken)
-    (done .carry .ensures) (told .enum-told .given .1) (c .before .before .write-table .ensures .1)
+    let test = done .before .before .before in
+    let read = test .before in
+    let a = read .before .before .before .before .before .args in
+    image-written (a .image .now) (a .from) (a .to) (a .xcr0) (a .xss) (read .read-image .ensures .0 .image) (test .if1 .taken)
+    (read .read-image .ensures .1) (done .carry .ensures) (told .enum-told .given .1) (c .before .before .write-table .ensures .1)
 
 returns-3 : tie.Need-returns-3
 returns-3 c =
     let read = c .before in
-    let a = c .before .before .before .before .args in
-    image-none (a .image .now) (a .from) (a .to) (a .xcr0) (a .xss) (read .read-image .ensures) (c .if1 .left)
+    let a = read .before .before .before .before .before .args in
+    image-none (a .image .now) (a .from) (a .to) (a .xcr0) (a .xss) (read .read-image .ensures .0 .image) (c .if1 .left)
 
 pub carry-image-spec : {M : Type 1} → statement M
 carry-image-spec =

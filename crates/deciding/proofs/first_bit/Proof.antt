@@ -1,37 +1,42 @@
 -- `deciding::first_bit` meets its contract: at a quiet place no bit decides; else the bits passed keep the answer.
 use borrow.Author.Needs.{needs}
 use native.Mathlib.Omega.{arith}
-use mathlib.Core.Path.{_≡_, sym, _∙_}
+use mathlib.Core.Path.{_≡_, refl, sym, _∙_}
 use Prim.Native.Nat.{_-_, _≤_}
-use Rattle.table.specs.Table.{rowsIn}
-use Rattle.deciding.specs.BitLaws.{firstBit, keeps-found, bitFrom, bit-first, bit-passes, bit-stops, bit-ends, bit-quiet}
+use Rattle.memory.specs.Memory.{rowsIn}
+use Rattle.deciding.specs.BitLaws.{firstBit, answer-to, keeps, keeps-found, bitFrom, bit-first, bit-passes, bit-stops, bit-ends, bit-quiet}
 use Rattle.deciding.proofs.first_bit.Statement.{statement}
 use Rattle.deciding.proofs.first_bit.Tie as tie
 
 abbrev Inv-loop : tie.InvT-loop
-Inv-loop edition base kept place x t n₀ n = (n ≤ 128) × (firstBit edition (rowsIn t) kept place x ≡ bitFrom edition (rowsIn t) kept place x n)
+Inv-loop registers origins edition kept place x origin table table-origins verdict n₀ n =
+    (n ≤ 128) × (firstBit edition (rowsIn registers origins) kept place x ≡ bitFrom edition (rowsIn registers origins) kept place x n)
 
 abbrev μ-loop : tie.MeasureT-loop
-μ-loop edition base kept place x t n₀ n = 128 - n
-
-is-quiet-requires : tie.Need-is-quiet-requires Inv-loop μ-loop
-is-quiet-requires c κs = c .before .before .pre .1 .verdict
+μ-loop registers origins edition kept place x origin table table-origins verdict n₀ n = 128 - n
 
 returns : tie.Need-returns Inv-loop μ-loop
 returns c =
-    let q = c .before in let f = q .before in let a = f .before .before in
-    bit-quiet _ (rowsIn (a .args .t1)) _ _ _ (f .if1 .taken) (sym (q .is-quiet .ensures) ∙ c .if2 .taken)
+    let q = c .before in let t = q .before in let f = t .before in let s = f .before .before in
+    bit-quiet _ (rowsIn (s .args .registers .now) (s .args .origins .now)) _ _ _ (sym (f .is-there .ensures) ∙ t .if1 .taken)
+    (sym (q .is-quiet .ensures) ∙ c .if2 .taken)
+
+keeps-answer-requires : tie.Need-keeps-answer-requires Inv-loop μ-loop
+keeps-answer-requires c κs =
+    let b = c .before .before .before .before .before .before in
+    let s = b .before .before .before .before .before .before .before .before in
+    (s .pre, answer-to _ (b .build-rows .ensures) refl)
 
 loop-again : tie.Need-loop-again Inv-loop μ-loop
 loop-again c =
-    let k = c .before in let f = k .before .before in let l = f .before .before in
-    let e = keeps-found _ _ _ _ _ (l .loop .n) (f .flip-bit .ensures) (k .before .masked-at .ensures) (k .keeps-answer .ensures) in
+    let k = c .before in let m = k .before .before .before in let f = m .before in let l = f .before .before in
+    let e = keeps-found _ _ _ _ _ (l .loop .n) (f .flip-bit .ensures) (m .masked-at .ensures) (k .keeps-answer .ensures) in
     (omega arith, l .loop .inv .1 ∙ bit-passes _ _ _ _ _ (l .loop .n) (f .before .loop-test .taken) (sym e ∙ c .if3 .taken))
 
 returns-2 : tie.Need-returns-2 Inv-loop μ-loop
 returns-2 c =
-    let k = c .before in let f = k .before .before in let l = f .before .before in
-    let e = keeps-found _ _ _ _ _ (l .loop .n) (f .flip-bit .ensures) (k .before .masked-at .ensures) (k .keeps-answer .ensures) in
+    let k = c .before in let m = k .before .before .before in let f = m .before in let l = f .before .before in
+    let e = keeps-found _ _ _ _ _ (l .loop .n) (f .flip-bit .ensures) (m .masked-at .ensures) (k .keeps-answer .ensures) in
     sym (l .loop .inv .1 ∙ bit-stops _ _ _ _ _ (l .loop .n) (f .before .loop-test .taken) (sym e ∙ c .if3 .left))
 
 returns-3 : tie.Need-returns-3 Inv-loop μ-loop
@@ -44,12 +49,15 @@ first-bit-spec =
     Inv-loop
     μ-loop
     (λ c. search needs)
-    is-quiet-requires
+    (λ c. search needs)
+    (λ c κs. search needs)
+    (λ c κs. search needs)
     returns
+    (λ c κs. search needs)
     (λ c. (omega arith, bit-first _ _ _ _ _))
     (λ c κs. omega arith)
     (λ c κs. search needs)
-    (λ c κs. c .before .before .before .before .before .before .pre)
+    keeps-answer-requires
     (λ c. omega arith)
     (λ c. omega arith)
     loop-again

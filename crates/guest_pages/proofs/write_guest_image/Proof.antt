@@ -9,16 +9,15 @@ use Rattle.guest_pages.proofs.write_guest_image.Tie as tie
 
 returns : tie.Need-returns
 returns c =
-    let s = c .before .before .before .before .before .before in
-    let e = write-refused _ _ (s .args .v) (now (s .args .out)) (c .before .before .before .guest-pages .ensures) (c .before .verdict .given .1) in
+    let g = c .before .before .before in let a = g .before .before .before .before .before .args in
+    let e = write-refused _ _ (a .v) (now (a .out)) (g .guest-pages .ensures) (c .before .verdict .given .1) in
     (ap (λ (o : AfterWrite). o .answer) e, ap (λ (o : AfterWrite). o .buffer) e)
 
 returns-2 : tie.Need-returns-2
 returns-2 c =
-    let w = c .before .before in
-    let t = w .before .before .before in
-    let s = t .before .before .before .before .before in
-    let e = write-given _ _ (s .args .v) (now (s .args .out)) (t .before .before .guest-pages .ensures) (t .enum-told .given .1) in
+    let w = c .before .before in let t = w .before .before .before .before in
+    let g = t .before .before in let a = g .before .before .before .before .before .args in
+    let e = write-given _ _ (a .v) (now (a .out)) (g .guest-pages .ensures) (t .enum-told .given .1) in
     (w .write-table .ensures .0 ∙ ap (λ (o : AfterWrite). o .answer) e, w .write-table .ensures .1 ∙ ap (λ (o : AfterWrite). o .buffer) e)
 
 pub write-guest-image-spec : {M : Type 1} → statement M

@@ -3,17 +3,23 @@ use borrow.Author.Needs.{needs}
 use mathlib.Core.Path.{_≡_, ap, _∙_}
 use Prim.Native.Nat.{_+_, _-_, _*_, _^_, _≤_}
 use native.Mathlib.Omega.{arith}
-use Rattle.checks.specs.Parts.{resultsIn}
-use Rattle.guest_state.specs.Compact.{compactBelow}
+use Rattle.x86defs.specs.declared.CpuidResult.{CpuidResult}
+use Rattle.table.specs.Rows.{Rows}
+use Rattle.guest_state.specs.Compact.{placed, compactBelow}
 use Rattle.guest_state.specs.CompactLaws.{compact-starts, compact-next, compact-ends}
+use Rattle.guest_state.specs.InUse.{readRows}
 use Rattle.guest_state.proofs.compact_size.Statement.{statement}
 use Rattle.guest_state.proofs.compact_size.Tie as tie
 
 abbrev Inv-loop : tie.InvT-loop
-Inv-loop mask results size₀ k₀ size k = (2 ≤ k) × (k ≤ 64) × (size ≡ compactBelow (resultsIn results) mask k) × (size ≤ 576 + k * 2 ^ 33)
+Inv-loop registers origins own mask size₀ k₀ size k =
+    (2 ≤ k) × (k ≤ 64) × (size ≡ compactBelow (readRows own registers origins) mask k) × (size ≤ 576 + k * 2 ^ 33)
 
 abbrev μ-loop : tie.MeasureT-loop
-μ-loop mask results size₀ k₀ size k = 64 - k
+μ-loop registers origins own mask size₀ k₀ size k = 64 - k
+
+abbrev rows : tie.Start Inv-loop μ-loop → Rows
+rows c = readRows (c .args .own) (c .args .registers .now) (c .args .origins .now)
 
 loop-holds : tie.Need-loop-holds Inv-loop μ-loop
 loop-holds c = (omega arith, omega arith, compact-starts _ _, omega arith)
@@ -21,19 +27,21 @@ loop-holds c = (omega arith, omega arith, compact-starts _ _, omega arith)
 returns : tie.Need-returns Inv-loop μ-loop
 returns c =
     let s = c .before .before in let i = s .loop .inv in
-    i .2 ∙ compact-ends (resultsIn (s .before .args .t1)) _ (s .loop .k) (i .1) (c .if1 .taken)
+    i .2 ∙ compact-ends (rows (s .before)) _ (s .loop .k) (i .1) (c .if1 .taken)
 
 loop-again : tie.Need-loop-again Inv-loop μ-loop
 loop-again c =
-    let b = c .before in let s = b .before .before .before .before in let i = s .loop .inv in
-    let next = compact-next (resultsIn (s .before .args .t1)) _ (s .loop .k) (i .0) (i .2) (b .has-bit64 .ensures) (c .place-component .ensures .0) in
+    let b = c .before in let r = b .before in let s = r .before .before .before in let i = s .loop .inv in
+    let next = compact-next (rows (s .before)) _ (s .loop .k) (i .0) (i .2) (b .has-bit64 .ensures)
+    (c .place-component .ensures .0
+    ∙ ap (λ (q : CpuidResult). placed (b .has-bit64 .result) q (s .loop .size)) (r .read-row .ensures)) in
     (omega arith, omega arith, next, omega (arith, c .place-component .ensures .1))
 
 returns-2 : tie.Need-returns-2 Inv-loop μ-loop
 returns-2 c =
     let s = c .before in let i = s .loop .inv in
     let e : s .loop .k ≡ 64 = omega arith in
-    i .2 ∙ ap (compactBelow (resultsIn (s .before .args .t1)) (s .before .args .mask)) e
+    i .2 ∙ ap (compactBelow (rows (s .before)) (s .before .args .mask)) e
 
 pub compact-size-spec : {M : Type 1} → statement M
 compact-size-spec =
@@ -47,8 +55,7 @@ compact-size-spec =
     returns
     (λ c. search needs)
     (λ c. search needs)
-    (λ c. search needs)
-    (λ c. search needs)
+    (λ c κs. search needs)
     (λ c κs. search needs)
     (λ c κs. search needs)
     (λ c. search needs)

@@ -8,23 +8,23 @@ use Rattle.kvm_export.proofs.put_place.Tie as tie
 
 put-row-requires : tie.Need-put-row-requires
 put-row-requires c κs =
-    let a = c .before .before .before .before .args in
-    omega (arith, run-length (a .run) (a .k) (a .r) [] 0 (c .before .before .if1 .taken))
+    let t = c .before .before .before in let a = t .before .before .args in
+    omega (arith, run-length (a .run) (a .k) (a .r) [] 0 (t .if1 .taken))
 
 returns : tie.Need-returns
 returns c =
     let t = c .before .before .before .before in
-    run-indexed _ _ _ _ _ (t .before .if1 .taken) (t .if2 .taken) (c .before .before .put-row .ensures)
+    run-indexed _ _ _ _ _ (t .before .before .if1 .taken) (t .if2 .taken) (c .before .before .put-row .ensures)
 
 put-row-requires-2 : tie.Need-put-row-requires-2
 put-row-requires-2 c κs =
-    let a = c .before .before .before .before .args in
-    omega (arith, run-length (a .run) (a .k) (a .r) [] 0 (c .before .before .if1 .taken))
+    let t = c .before .before .before .before in let a = t .before .before .args in
+    omega (arith, run-length (a .run) (a .k) (a .r) [] 0 (t .if1 .taken))
 
 returns-2 : tie.Need-returns-2
 returns-2 c =
-    let t = c .before .before .before .before in
-    run-whole _ _ _ _ _ (t .before .if1 .taken) (t .if2 .left) (c .before .before .put-row2 .ensures)
+    let t = c .before .before .before .before .before in
+    run-whole _ _ _ _ _ (t .before .before .if1 .taken) (t .if2 .left) (c .before .before .put-row2 .ensures)
 
 returns-3 : tie.Need-returns-3
 returns-3 c = run-absent _ _ _ _ _ (c .if1 .left)

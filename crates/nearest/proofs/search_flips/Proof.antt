@@ -2,26 +2,22 @@
 use borrow.Author.Needs.{needs}
 use native.Mathlib.Omega.{arith}
 use mathlib.Core.Path.{sym, ap, _∙_}
-use mathlib.Core.Logic.{⊎-elim}
 use Prim.Native.Nat.{ℕ, _<_}
 use lib.ListN.{length, getD}
-use Rattle.pages.specs.declared.ParsedCpuidEntry.{ParsedCpuidEntry}
+use denote.Ref.{now}
 use Rattle.walk.specs.Walk.{rest}
 use Rattle.walk.specs.WalkLaws.{turn}
-use Rattle.table.specs.Table.{rowsIn}
-use Rattle.collect.specs.Collect.{countedPlace, counted-place-stored, collected-rows, row-masks}
-use Rattle.lawful.specs.LawfulLaws.{lawful-counts, lawful-clean}
+use Rattle.lawful.specs.LawfulLaws.{lawful-counts}
 use Rattle.nearest.specs.Nearest.{chosen}
-use Rattle.deciding.specs.BitLaws.{answer-to}
-use Rattle.nearest.specs.SearchLaws.{Searching, searching-first, searching-last, search-passes, search-none, search-found, bit-in, seen-taken, not-kept, position-fits}
+use Rattle.nearest.specs.SearchLaws.{Searching, searching-first, searching-last, position-fits, AtEntry, entry-falls, entry-seen, entry-not-kept, entry-none, entry-decides, no-unclean}
 use Rattle.nearest.proofs.search_flips.Statement.{statement}
 use Rattle.nearest.proofs.search_flips.Tie as tie
 
 abbrev Inv-loop : tie.InvT-loop
-Inv-loop pages secure-avic edition kept n t base seen₀ index₀ seen index = Searching (chosen secure-avic edition) pages seen index
+Inv-loop pages secure-avic edition registers origins kept n seen₀ index₀ seen index = Searching (chosen secure-avic edition) pages seen index
 
 abbrev μ-loop : tie.MeasureT-loop
-μ-loop pages secure-avic edition kept n t base seen₀ index₀ seen index = length (rest pages index)
+μ-loop pages secure-avic edition registers origins kept n seen₀ index₀ seen index = length (rest pages index)
 
 loop-holds : tie.Need-loop-holds Inv-loop μ-loop
 loop-holds c = rw (c .start .ensures) (searching-first _ _)
@@ -29,92 +25,81 @@ loop-holds c = rw (c .start .ensures) (searching-first _ _)
 take-requires : tie.Need-take-requires Inv-loop μ-loop
 take-requires c κs =
     let l = c .before .before in
-    let count = l .before .before .before .before in
-    let h : l .loop .index .«page_index» < _ = rw (count .page-count .ensures) at (c .if1 .taken) in
-    let lawful = count .before .before .before .pre .1 in
-    record { lawful = lawful-counts _ lawful; clean = lawful-clean _ lawful; page = h; position = turn _ _ (l .loop .inv .valid) h .below }
+    let n = l .before .before in
+    let h : l .loop .index .«page_index» < _ = rw (n .page-count .ensures) at (c .if1 .taken) in
+    record {
+      lawful = lawful-counts _ (n .before .before .before .pre .1);
+      inside = record { page = h; position = turn _ _ (l .loop .inv .valid) h .below };
+    }
 
-first-bit-requires : tie.Need-first-bit-requires Inv-loop μ-loop
-first-bit-requires c κs =
-    let f = c .before .before .before .before in
-    let l = f .before .before .before .before .before .before in
-    (f .if2 .taken, answer-to _ (l .before .before .build-rows .ensures))
+-- a turn at an entry, once its place is known
+abbrev Counted : Type 0
+Counted = tie.After-counted-place Inv-loop μ-loop
+
+abbrev turned : Counted → tie.At-loop Inv-loop μ-loop
+turned c = c .before .before .before .before .before .before .before
+
+abbrev start : Counted → tie.Start Inv-loop μ-loop
+start c = turned c .before .before .before .before .before
+
+at-entry : (c : Counted) → AtEntry (chosen (start c .args .secure-avic) (start c .args .edition)) (now (start c .args .pages)) (turned c .loop .seen)
+    (turned c .loop .index) (c .before .before .read .given .0 .0) (c .before .before .read .given .0 .1 .0) (c .counted-place .result)
+at-entry c =
+    let k = c .before .before .before .before in
+    record {
+      known = start c .pre .0;
+      lawful = start c .pre .1;
+      searching = turned c .loop .inv;
+      inside = take-requires (k .before) (k .take .lifetimes) .inside .page;
+      read = sym (c .before .before .read .given .1) ∙ k .take .ensures;
+      stored = c .counted-place .ensures;
+    }
+
+bytes : (c : Counted) (i : ℕ) → getD (now (start c .args .pages)) i 0 < 256
+bytes c i = omega (arith, turned c .before .before .before .before .shared-slice-known .given i)
 
 -- an entry stands among the first 64
 cast-position : tie.Need-cast-position Inv-loop μ-loop
 cast-position c =
-    let row = c .before .before .before .before .before .before .before in
-    let e = row .before .before .before .before .before in
-    let l = e .before .before .before in
-    let count = l .before .before .before .before in
-    let start = count .before .before .before in
-    let h : l .loop .index .«page_index» < _ = rw (count .page-count .ensures) at (e .before .if1 .taken) in
-    record { fits = omega (arith, position-fits _ _ (start .pre .1) (l .loop .inv .valid) h) }
+    let a = at-entry (c .before .before .before .before .before .before .before .before .before .before) in
+    record { fits = omega (arith, position-fits _ _ (a .lawful) (a .searching .valid) (a .inside)) }
 
 returns : tie.Need-returns Inv-loop μ-loop
 returns c =
     let b = c .before .before in
-    let first = b .before .before in
-    let row = first .before .before .before in
-    let new = row .before in
-    let f = new .before in
-    let k = f .before in
-    let e = k .before .before in
-    let l = e .before .before .before in
-    let update = l .before .before in
-    let collect = update .before in
-    let count = collect .before in
-    let kept = count .before in
-    let start = kept .before .before in
-    let h : l .loop .index .«page_index» < _ = rw (count .page-count .ensures) at (e .before .if1 .taken) in
-    let at = k .counted-place .ensures ∙ ap (countedPlace) (e .take .ensures .found) ∙ counted-place-stored _ in
-    search-found (chosen _ _) (start .args .pages .now) (λ i. omega (arith, kept .before .shared-slice-known .given i))
-    (start .pre .0) (start .pre .1) _ _ (l .loop .inv) h
-    _ (f .if2 .taken) (sym at) (new .if3 .left) _
-    (λ x. row-masks _ _ _ _ x (kept .kept-leaves .ensures) (row .mask-row .ensures .0)) _
-    (bit-in _ _ _ (ap rowsIn (collect .collect .ensures) ∙ collected-rows _ _)
-    (ap (λ (p : ParsedCpuidEntry). p .result) (e .take .ensures .found)) (first .first-bit .ensures) ∙ b .bit .given .1)
-
-loop-less : tie.Need-loop-less Inv-loop μ-loop
-loop-less c =
-    let e = c .before .before .before .before in
-    let l = e .before .before .before in
-    let h : l .loop .index .«page_index» < _ = rw (l .before .before .before .before .page-count .ensures) at (e .before .if1 .taken) in
-    rw (e .take .ensures .next) (turn _ _ (l .loop .inv .valid) h .falls)
+    let f = b .before .before in
+    let m = f .before .before .before in
+    let n = m .before in
+    let p = n .before .before in
+    entry-decides (at-entry p) (bytes p) (n .before .if2 .taken) (n .if3 .left) (start p .pre .2)
+    (turned p .before .before .before .kept-leaves .ensures) (m .mask-row .ensures .0) (f .first-bit .ensures) (b .bit .given .1)
 
 loop-again : tie.Need-loop-again Inv-loop μ-loop
-loop-again c =
-    let k = c .before .before in
-    let e = k .before .before in
-    let l = e .before .before .before in
-    let update = l .before .before in
-    let collect = update .before in
-    let count = collect .before in
-    let kept = count .before in
-    let start = kept .before .before in
-    let s = start .args .pages .now in
-    let bytes : (i : ℕ) → getD s i 0 < 256 = λ i. omega (arith, kept .before .shared-slice-known .given i) in
-    let h : l .loop .index .«page_index» < _ = rw (count .page-count .ensures) at (e .before .if1 .taken) in
-    let at = k .counted-place .ensures ∙ ap (countedPlace) (e .take .ensures .found) ∙ counted-place-stored _ in
-    rw (e .take .ensures .next)
-    (⊎-elim
-    (λ w. rw (w .2) (search-passes (chosen _ _) s bytes (start .pre .0) (start .pre .1) _ _ (l .loop .inv) h
-    (seen-taken (l .loop .seen) at (w .1 .taken))))
-    (⊎-elim
-    (λ w.
-    rw (w .8)
-    (search-none (chosen _ _) s bytes (start .pre .0) (start .pre .1) _ _ (l .loop .inv) h _ (w .0 .taken) (sym at) (w .1 .left) _
-    (λ x. row-masks _ _ _ _ x (kept .kept-leaves .ensures) (w .2 .ensures .0))
-    (bit-in _ _ _ (ap rowsIn (collect .collect .ensures) ∙ collected-rows _ _)
-    (ap (λ (p : ParsedCpuidEntry). p .result) (e .take .ensures .found)) (w .5 .ensures) ∙ w .7 .given .1)))
-    (λ w. rw (w .1) (search-passes (chosen _ _) s bytes (start .pre .0) (start .pre .1) _ _ (l .loop .inv) h
-    (not-kept (l .loop .seen) at (w .0 .left)))))
-    (c .before .if2 .came))
+loop-again c = let p = c .before .before in entry-seen (at-entry p) (bytes p) (c .if3 .taken)
+
+loop-again-2 : tie.Need-loop-again-2 Inv-loop μ-loop
+loop-again-2 c =
+    let f = c .before .before in
+    let m = f .before .before .before in
+    let n = m .before in
+    let p = n .before .before in
+    entry-none (at-entry p) (bytes p) (n .before .if2 .taken) (n .if3 .left) (start p .pre .2)
+    (turned p .before .before .before .kept-leaves .ensures) (m .mask-row .ensures .0) (f .first-bit .ensures) (c .enum-told .given .1)
+
+loop-again-3 : tie.Need-loop-again-3 Inv-loop μ-loop
+loop-again-3 c = entry-not-kept (at-entry (c .before)) (bytes (c .before)) (c .if2 .left)
 
 returns-2 : tie.Need-returns-2 Inv-loop μ-loop
 returns-2 c =
+    let k = c .before .before .before in
+    absurd (no-unclean (k .before .before .before .before .before .before .before .before .pre .1) (k .before .before .before .loop .inv)
+    (take-requires (k .before) (k .take .lifetimes) .inside .page)
+    (sym (c .before .read2 .given .1) ∙ k .take .ensures))
+
+returns-3 : tie.Need-returns-3 Inv-loop μ-loop
+returns-3 c =
     let l = c .before .before in
-    searching-last _ _ _ _ (l .loop .inv) (rw (l .before .before .before .before .page-count .ensures) at (c .if1 .left))
+    searching-last _ _ _ _ (l .loop .inv) (rw (l .before .before .page-count .ensures) at (c .if1 .left))
 
 pub search-flips-spec : {M : Type 1} → statement M
 search-flips-spec =
@@ -124,22 +109,27 @@ search-flips-spec =
     μ-loop
     (λ c κs. search needs)
     (λ c κs. search needs)
-    (λ c κs. let l = c .before .before .before .pre .1 in (lawful-counts _ l, lawful-clean _ l))
-    (λ c κs. search needs)
     (λ c κs. search needs)
     loop-holds
     take-requires
-    (λ c κs. search needs)
     (λ c. search needs)
     (λ c κs. search needs)
     (λ c. search needs)
+    (λ c κs. search needs)
     (λ c. search needs)
-    first-bit-requires
+    (λ c. search needs)
+    (λ c κs. search needs)
     (λ c. search needs)
     cast-position
     returns
     (λ c. search needs)
     (λ c. search needs)
-    loop-less
+    (λ c. entry-falls (at-entry (c .before .before)))
     loop-again
-    returns-2)
+    (λ c. entry-falls (at-entry (c .before .before .before .before .before .before .before .before)))
+    loop-again-2
+    (λ c. entry-falls (at-entry (c .before)))
+    loop-again-3
+    (λ c. search needs)
+    returns-2
+    returns-3)

@@ -1,0 +1,31 @@
+-- `guest::guest_find` meets its contract: the state's refusal, or the row found in the guest's table.
+use borrow.Author.Needs.{needs}
+use mathlib.Core.Path.{ap, _∙_}
+use Rattle.guest.specs.declared.GuestFound.the-variants.{Looked}
+use Rattle.guest.specs.SeenLaws.{found-refused, kept-found}
+use Rattle.guest.proofs.guest_find.Statement.{statement}
+use Rattle.guest.proofs.guest_find.Tie as tie
+
+returns : tie.Need-returns
+returns c =
+    let k = c .before in let u = k .before .before in let a = u .before .args in
+    found-refused (a .registers .now) (a .origins .now) (a .v) (u .state-in-use .ensures) (a .leaf) (a .subleaf) (a .enforce-subleaf)
+    (k .state .given .1)
+
+returns-2 : tie.Need-returns-2
+returns-2 c =
+    let k = c .before in let u = k .before .before .before in let a = u .before .args in
+    ap Looked (c .find-kept .ensures)
+    ∙ kept-found (a .registers .now) (a .origins .now) (a .v) (u .state-in-use .ensures) (a .leaf) (a .subleaf) (a .enforce-subleaf)
+    (k .before .state2 .given .1)
+
+pub guest-find-spec : {M : Type 1} → statement M
+guest-find-spec =
+    tie.close
+    (tie.spec
+    (λ c κs. search needs)
+    (λ c. search needs)
+    (λ c. search needs)
+    (λ c κs. search needs)
+    returns
+    returns-2)

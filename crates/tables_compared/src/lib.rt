@@ -1,0 +1,163 @@
+// Two tables in lent memory compared. The tables of A and B come in; whether a guest of A's may move to B's goes out, or the first thing in the way.
+use masking::PLACES;
+use masking::place;
+use memory::REGISTERS;
+use memory::combined_mask;
+use memory::is_there;
+use memory::row_at;
+use register_kinds::Kind;
+use register_kinds::Kinds;
+use register_kinds::Register;
+use register_kinds::RegistersRise;
+use register_kinds::first_register;
+use register_kinds::subleaf_named;
+use table::Subleaf;
+use x86defs::CpuidFunction;
+use x86defs::CpuidResult;
+ghost use mathlib.Core.Path.{_≡_};
+ghost use Prim.Native.Nat.{_<_};
+ghost use Rattle.masking.specs.Kept.{places};
+ghost use Rattle.memory.specs.Held.{heldIn};
+ghost use Rattle.register_kinds.specs.KindsInCode.{kindIn, kindsIn};
+ghost use Rattle.register_kinds.specs.Registers.{registersRise};
+ghost use Rattle.tables_compared.specs.CompareTables.{tableTest, furtherTest, rowTest, failingOf, comparedTables};
+ghost use Rattle.tables_compared.specs.CompareLaws.{rowWith};
+ghost use Rattle.tables_compared.specs.Means.{Decides};
+
+// What a comparison gives: B's table rises from A's; it lacks a row of A's; a register of its row fails; it has a row that A's has not and that is no
+// extended state of its further mask bits; or its combined mask lacks a bit of A's.
+pub enum TablesCompared {
+    Rises,
+    NoRow(CpuidFunction, Subleaf),
+    Differs(CpuidFunction, Subleaf, Register),
+    Beyond(CpuidFunction, Subleaf),
+    MaskLacks,
+}
+
+// Whether B's table rises from A's, or the first thing that fails: the places by rising leaf and subleaf, at each first whether there is a row and then
+// EAX, EBX, ECX, EDX; last the combined masks.
+pub fn compare_tables(
+    a_registers: &[u32; REGISTERS],
+    a_origins: &[u64; PLACES],
+    b_registers: &[u32; REGISTERS],
+    b_origins: &[u64; PLACES],
+) -> TablesCompared
+    ensures { λ r. ⌜ r ≡ comparedTables (heldIn (now («a_registers» .entry)) (now («a_origins» .entry))) (heldIn (now («b_registers» .entry)) (now («b_origins» .entry))) ⌝ }
+    ensures decides { λ r. ⌜ Decides (heldIn (now («a_registers» .entry)) (now («a_origins» .entry))) (heldIn (now («b_registers» .entry)) (now («b_origins» .entry))) r ⌝ }
+{
+    let a_mask = combined_mask(a_registers);
+    let b_mask = combined_mask(b_registers);
+    let mut place: usize = 0;
+    while place < PLACES {
+        let a_origin = a_origins[place];
+        let b_origin = b_origins[place];
+        let in_a = is_there(a_origin);
+        let in_b = is_there(b_origin);
+        let a = row_at(a_registers, place);
+        let b = row_at(b_registers, place);
+        if place_rises(place, a_mask, b_mask, in_a, a, in_b, b) {
+            place += 1;
+        } else {
+            return failing_at(place, in_a, a, in_b, b);
+        }
+    }
+    if a_mask & b_mask == a_mask {
+        return TablesCompared::Rises;
+    }
+    TablesCompared::MaskLacks
+}
+
+// Whether a place is as the conclusion of demand 3 has it: a row of A's is in B's with registers that compare, and any other of B's is a further state.
+fn place_rises(
+    place: usize,
+    a_mask: u64,
+    b_mask: u64,
+    in_a: bool,
+    a: CpuidResult,
+    in_b: bool,
+    b: CpuidResult,
+) -> bool
+    requires { ⌜ place < places ⌝ }
+    ensures { λ r. ⌜ r ≡ rowTest place «a_mask» «b_mask» (rowWith «in_a» a) (rowWith «in_b» b) ⌝ }
+{
+    if in_a {
+        if in_b {
+            let rise = registers_rise(register_kinds::kinds_at(place), a, b);
+            return rise.eax & (rise.ebx & (rise.ecx & rise.edx));
+        }
+        return false;
+    }
+    if in_b {
+        return is_further(place, a_mask, b_mask);
+    }
+    true
+}
+
+// Whether a place is that of an extended state that B's mask has and A's has not.
+fn is_further(place: usize, a_mask: u64, b_mask: u64) -> bool
+    ensures { λ r. ⌜ r ≡ furtherTest «a_mask» «b_mask» place ⌝ }
+{
+    if place < place::EXTENDED_STATE_0 + 2 {
+        return false;
+    }
+    if place < place::EXTENDED_STATE_0 + 64 {
+        let k = (place - place::EXTENDED_STATE_0) as u32;
+        if bits::has_bit64(b_mask, k) {
+            return !bits::has_bit64(a_mask, k);
+        }
+        return false;
+    }
+    false
+}
+
+// Whether a register of B's table is as wanted beside A's: as for entries, but for the save area and for what is freed there.
+fn register_rises(kind: Kind, a: u32, b: u32) -> bool
+    ensures { λ r. ⌜ r ≡ tableTest (kindIn kind) a b ⌝ }
+{
+    match kind {
+        Kind::Feature => register_kinds::register_rises(Kind::Feature, a, b),
+        Kind::FeatureBut28 => register_kinds::register_rises(Kind::FeatureBut28, a, b),
+        Kind::Area => a <= b,
+        Kind::Freed => a == b,
+        Kind::Other => a == b,
+    }
+}
+
+// Which registers of B's row are as wanted, by the kinds of their place.
+fn registers_rise(kinds: Kinds, a: CpuidResult, b: CpuidResult) -> RegistersRise
+    ensures { λ r. ⌜ r ≡ registersRise tableTest (kindsIn kinds) a b ⌝ }
+{
+    let eax = kinds.eax;
+    let ebx = kinds.ebx;
+    let ecx = kinds.ecx;
+    let edx = kinds.edx;
+    RegistersRise {
+        eax: register_rises(eax, a.eax, b.eax),
+        ebx: register_rises(ebx, a.ebx, b.ebx),
+        ecx: register_rises(ecx, a.ecx, b.ecx),
+        edx: register_rises(edx, a.edx, b.edx),
+    }
+}
+
+// What fails at a place: B has no row for A's, or the first of its registers that is not as wanted; or B has a row too many.
+fn failing_at(
+    place: usize,
+    in_a: bool,
+    a: CpuidResult,
+    in_b: bool,
+    b: CpuidResult,
+) -> TablesCompared
+    requires { ⌜ place < places ⌝ }
+    ensures { λ r. ⌜ r ≡ failingOf place (rowWith «in_a» a) (rowWith «in_b» b) ⌝ }
+{
+    let leaf = masking::leaf_at(place);
+    let subleaf = subleaf_named(place);
+    if in_a {
+        if in_b {
+            let rise = registers_rise(register_kinds::kinds_at(place), a, b);
+            return TablesCompared::Differs(leaf, subleaf, first_register(rise));
+        }
+        return TablesCompared::NoRow(leaf, subleaf);
+    }
+    TablesCompared::Beyond(leaf, subleaf)
+}

@@ -1,0 +1,5 @@
+pub mod Moves
+pub mod MovesProof
+pub mod AnyMemory
+pub mod MaskFollows
+pub mod OrderProof
