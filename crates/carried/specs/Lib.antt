@@ -4,3 +4,4 @@ pub mod Moves
 pub mod MovesProof
 pub mod CarryExactly
 pub mod CarriedRows
+pub mod SecondInMemory
