@@ -67,10 +67,9 @@ result-equal a b e =
       edx = eqb-true (a .edx) (b .edx) (and-right (eqb (a .ecx) (b .ecx)) _ g) k;
     }
 
-agree-equal : (a b : Bool) → agree a b ≡ true → a ≡ b
-agree-equal true true e = refl
-agree-equal true false e = absurd (never-both e refl)
-agree-equal false true e = absurd (never-both e refl)
+pub agree-equal : (a b : Bool) → agree a b ≡ true → a ≡ b
+agree-equal true b e = sym e
+agree-equal false true e = e
 agree-equal false false e = refl
 
 row-equal : (a b : Row) → sameRow a b ≡ true → a ≡ b
