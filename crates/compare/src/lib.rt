@@ -88,7 +88,8 @@ fn first_failing(
     b: &[u32; REGISTERS],
     origins_b: &[u64; PLACES],
 ) -> Compared
-    ensures { λ r. ⌜ r ≡ comparedRows (hasOrigin (now (table .entry))) (registersIn (now (a .entry))) (rowsIn (now (b .entry)) (now («origins_b» .entry))) ⌝ }
+    ensures { λ r. ⌜ r ≡ comparedRows (hasOrigin (now (table .entry))) (registersIn (now (a .entry)))
+        (rowsIn (now (b .entry)) (now («origins_b» .entry))) ⌝ }
 {
     let mut place: usize = 0;
     while place < PLACES {

@@ -262,7 +262,8 @@ not-kept seen e f j l g h = omega arith
 
 -- ---- one turn in the terms of the code: e is the entry that the reader gives, j the index after, and place where it is stored
 
-pub record AtEntry (c : Choices) (s : List ℕ) (seen : List Bool) (i : CpuidPageIndex) (e : ParsedCpuidEntry) (j : CpuidPageIndex) (place : ℕ) : Type 0 where
+pub record AtEntry (c : Choices) (s : List ℕ) (seen : List Bool) (i : CpuidPageIndex) (e : ParsedCpuidEntry) (j : CpuidPageIndex)
+    (place : ℕ) : Type 0 where
   pub known : knownEdition (c .edition) ≡ true
   pub lawful : lawfulVerdict s ≡ Accepted
   pub searching : Searching c s seen i

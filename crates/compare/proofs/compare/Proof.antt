@@ -15,7 +15,8 @@ use Rattle.compare.proofs.compare.Tie as tie
 
 returns : tie.Need-returns
 returns c =
-    decided _ _ _ (refused-a _ _ _ (ap (λ (x : Built). x .verdict) (sym (answer-unknown _ _ (sym (c .before .known-edition .ensures) ∙ c .if1 .left) refl))))
+    decided _ _ _ (refused-a _ _ _ (ap (λ (x : Built). x .verdict)
+    (sym (answer-unknown _ _ (sym (c .before .known-edition .ensures) ∙ c .if1 .left) refl))))
 
 -- the edition is known, when A's pages are walked
 abbrev start : tie.After-walk-pages → tie.Start
@@ -65,8 +66,9 @@ returns-5 c =
     let z = c .before .before .before .before .before in let e = z .before .before .before in let w = e .before .before in
     let d = w .before .before .before in let b = d .before .before in let chosen = start (walked b) .args .choices in
     decided _ _ _
-    (rows-compared _ _ _ (accepted d) (sym (w .walk-pages2 .ensures .verdict) ∙ e .enum-told3 .given .1) (b .build-rows .last .0) (b .build-rows .last .1 .0)
-    (walked b .walk-pages .last .1 .1 .0) (walked b .walk-pages .last .1 .1 .1 .0) (w .walk-pages2 .last .1 .1 .0) (w .walk-pages2 .last .1 .1 .1 .0) (built b .table)
+    (rows-compared _ _ _ (accepted d) (sym (w .walk-pages2 .ensures .verdict) ∙ e .enum-told3 .given .1)
+    (b .build-rows .last .0) (b .build-rows .last .1 .0) (walked b .walk-pages .last .1 .1 .0) (walked b .walk-pages .last .1 .1 .1 .0)
+    (w .walk-pages2 .last .1 .1 .0) (w .walk-pages2 .last .1 .1 .1 .0) (built b .table)
     (walked-rows chosen _ _ _ (size b .sized .ensures .0) (size b .sized .ensures .1) (walked b .walk-pages .ensures) (told b .enum-told .given .1))
     (walked-rows chosen _ _ _ (z .sized2 .ensures .0) (z .sized2 .ensures .1) (w .walk-pages2 .ensures) (e .enum-told3 .given .1))
     (c .first-failing .ensures))

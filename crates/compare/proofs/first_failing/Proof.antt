@@ -33,7 +33,8 @@ below : (p : tie.After-place-rises Inv-loop μ-loop) → turned p .loop .place <
 below p = omega arith
 
 rises : (p : tie.After-place-rises Inv-loop μ-loop) → let a = turned p .before .args in
-    p .place-rises .result ≡ placeTest (hasOrigin (a .table .now)) (registersIn (a .a .now)) (rowsIn (a .b .now) (a .origins-b .now)) (turned p .loop .place)
+    p .place-rises .result
+    ≡ placeTest (hasOrigin (a .table .now)) (registersIn (a .a .now)) (rowsIn (a .b .now) (a .origins-b .now)) (turned p .loop .place)
 rises p =
     let y = p .before in let x = y .before in let q = x .before in let i = q .before in let a = turned p .before .args in
     rises-found (a .table .now) (a .a .now) (a .b .now) (a .origins-b .now) (turned p .loop .place) (below p)
