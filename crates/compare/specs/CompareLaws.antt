@@ -18,9 +18,6 @@ use Rattle.memory.specs.Held.{flags, flag-at}
 use Rattle.update.specs.Kinds.{Kinds}
 use Rattle.rows_checked.specs.Checked.{registersIn}
 use Rattle.rise.specs.Decide.{risesTest, rowTest, placeTest}
-use Rattle.compare.specs.declared.Register.{Register}
-use Rattle.compare.specs.declared.Register.the-variants.{Eax, Ebx, Ecx, Edx}
-use Rattle.compare.specs.declared.RegistersRise.{RegistersRise}
 use Rattle.compare.specs.declared.Compared.{Compared}
 use Rattle.compare.specs.declared.Compared.the-variants.{Rises}
 use Rattle.compare.specs.Compare.{failingOf, failingAt, firstFailing}
@@ -35,18 +32,6 @@ hasOrigin o i = getD (flags o) i false
 
 abbrev pub rowWith : Bool → CpuidResult → Row
 rowWith p r = record { present = p; result = r }
-
--- the four tests at once, and the first that fails
-abbrev pub registersRise : Kinds → CpuidResult → CpuidResult → RegistersRise
-registersRise k a b = record {
-  eax = risesTest (k .eax) (a .eax) (b .eax);
-  ebx = risesTest (k .ebx) (a .ebx) (b .ebx);
-  ecx = risesTest (k .ecx) (a .ecx) (b .ecx);
-  edx = risesTest (k .edx) (a .edx) (b .edx);
-}
-
-abbrev pub firstOf : RegistersRise → Register
-firstOf t = pick (t .eax) (pick (t .ebx) (pick (t .ecx) Edx Ecx) Ebx) Eax
 
 -- the first failing place from k on
 unfoldable pub failingFrom : (ℕ → Bool) → (ℕ → Compared) → ℕ → Compared

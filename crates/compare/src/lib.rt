@@ -6,6 +6,10 @@ use memory::is_there;
 use memory::row_at;
 use memory::sized;
 use register_kinds::Kinds;
+use register_kinds::Register;
+use register_kinds::RegistersRise;
+use register_kinds::first_register;
+use register_kinds::subleaf_named;
 use rows_finished::build_rows;
 use table::Choices;
 use table::Refusal;
@@ -19,18 +23,12 @@ ghost use Prim.Native.Nat.{_<_};
 ghost use Rattle.masking.specs.Kept.{places};
 ghost use Rattle.memory.specs.Memory.{rowsIn};
 ghost use Rattle.rows_checked.specs.Checked.{registersIn};
-ghost use Rattle.rise.specs.Decide.{rowTest};
+ghost use Rattle.rise.specs.Decide.{risesTest, rowTest};
 ghost use Rattle.register_kinds.specs.KindsInCode.{kindsIn};
-ghost use Rattle.compare.specs.Compare.{subleafNamed, failingOf, comparedRows, compared};
-ghost use Rattle.compare.specs.CompareLaws.{hasOrigin, rowWith, registersRise, firstOf};
+ghost use Rattle.register_kinds.specs.Registers.{registersRise};
+ghost use Rattle.compare.specs.Compare.{failingOf, comparedRows, compared};
+ghost use Rattle.compare.specs.CompareLaws.{hasOrigin, rowWith};
 ghost use Rattle.compare.specs.Means.{Decides};
-
-pub enum Register {
-    Eax,
-    Ebx,
-    Ecx,
-    Edx,
-}
 
 // What a comparison gives: B meets the hypothesis of demand 3; A is refused; B's length or counts are not lawful or its reserved bytes not zero;
 // B has no counted entry for a row of A's table; or B's entry fails in a register.
@@ -40,14 +38,6 @@ pub enum Compared {
     UnlawfulB(Refusal),
     NoEntry(CpuidFunction, Subleaf),
     Differs(CpuidFunction, Subleaf, Register),
-}
-
-// Which of a row's registers are as demand 3 wants them.
-struct RegistersRise {
-    eax: bool,
-    ebx: bool,
-    ecx: bool,
-    edx: bool,
 }
 
 // Whether B meets the hypothesis of demand 3 beside A under the same choices, or the first thing that fails: A's refusal, then B's length, counts
@@ -127,7 +117,7 @@ fn place_rises(place: usize, in_table: bool, a: CpuidResult, present: bool, b: C
 
 // Which registers of B's entry are as wanted, by the kinds of their place.
 fn registers_rise(kinds: Kinds, a: CpuidResult, b: CpuidResult) -> RegistersRise
-    ensures { λ r. ⌜ r ≡ registersRise (kindsIn kinds) a b ⌝ }
+    ensures { λ r. ⌜ r ≡ registersRise risesTest (kindsIn kinds) a b ⌝ }
 {
     let eax = kinds.eax;
     let ebx = kinds.ebx;
@@ -153,31 +143,4 @@ fn failing_at(place: usize, a: CpuidResult, present: bool, b: CpuidResult) -> Co
         return Compared::Differs(leaf, subleaf, first_register(rise));
     }
     Compared::NoEntry(leaf, subleaf)
-}
-
-// The first register that fails: EDX where the other three do not.
-fn first_register(rise: RegistersRise) -> Register
-    ensures { λ r. ⌜ r ≡ firstOf rise ⌝ }
-{
-    if rise.eax {
-        if rise.ebx {
-            if rise.ecx {
-                return Register::Edx;
-            }
-            return Register::Ecx;
-        }
-        return Register::Ebx;
-    }
-    Register::Eax
-}
-
-// The subleaf of a place, where its row carries one.
-fn subleaf_named(place: usize) -> Subleaf
-    requires { ⌜ place < places ⌝ }
-    ensures { λ r. ⌜ r ≡ subleafNamed place ⌝ }
-{
-    if masking::indexed_at(place) {
-        return Subleaf::Some(masking::subleaf_at(place));
-    }
-    Subleaf::None
 }

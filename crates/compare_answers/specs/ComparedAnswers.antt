@@ -3,7 +3,7 @@ use Prim.Native.Nat.{ℕ}
 use Rattle.table.specs.declared.Verdict.the-variants.{Accepted}
 use Rattle.compare.specs.declared.Compared.{Compared}
 use Rattle.compare.specs.declared.Compared.the-variants.{Rises, RefusedA, UnlawfulB, NoEntry, Differs}
-use Rattle.compare.specs.Means.{order}
+use Rattle.register_kinds.specs.Registers.{order}
 use Rattle.tables_compared.specs.declared.TablesCompared.{TablesCompared}
 use Rattle.tables_compared.specs.declared.TablesCompared.the-variants.{Rises as TablesRise, NoRow, Differs as RowDiffers, Beyond, MaskLacks}
 use Rattle.numbers.specs.declared.AnswerNumbers.{AnswerNumbers}

@@ -5,7 +5,7 @@ use register_kinds::Register;
 use table::Verdict;
 use tables_compared::TablesCompared;
 ghost use mathlib.Core.Path.{_≡_};
-ghost use Rattle.compare.specs.Means.{order};
+ghost use Rattle.register_kinds.specs.Registers.{order};
 ghost use Rattle.compare_answers.specs.ComparedAnswers.{comparedWith, comparedNumbers, tablesComparedWith, tablesComparedNumbers};
 
 #[repr(C)]
