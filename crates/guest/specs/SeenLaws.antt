@@ -68,7 +68,8 @@ module _ (w o : List ℕ) (v : Processor) where
         ∙ asked
 
     module _ (h : i < places) {there : Bool} (f : there ≡ isThere (getD o i 0)) where
-      pub seen-there : {q : CpuidResult} → there ≡ true → q ≡ seenAt v area n i (row (rowOf w i)) → Located q (getD o i 0) ≡ found seen o l sub enforce
+      pub seen-there : {q : CpuidResult} → there ≡ true → q ≡ seenAt v area n i (row (rowOf w i))
+          → Located q (getD o i 0) ≡ found seen o l sub enforce
       seen-there {q} g k =
           let b : isThere (getD o i 0) ≡ true = sym f ∙ g in
           let p : Found q ≡ lookup seen l sub enforce =

@@ -98,7 +98,8 @@ module _ (w o : List ℕ) (v : Processor) where
     pub into-refused : {r : Refusal} {w₁ o₁ : List ℕ} → u ≡ NotInUse r → w₁ ≡ replicate 352 0 → o₁ ≡ replicate 88 0
         → SeenIn (guestAnswer t v) o (Refused r) w₁ o₁
     into-refused {r} {w₁} {o₁} f p q =
-        subst (λ (g : GuestAnswer). SeenIn g o (Refused r) w₁ o₁) (sym (by-verdict w o v e (told-refused (readRows false w o) (v .xcr0) (v .xss) e f)))
+        subst (λ (g : GuestAnswer). SeenIn g o (Refused r) w₁ o₁)
+        (sym (by-verdict w o v e (told-refused (readRows false w o) (v .xcr0) (v .xss) e f)))
         (record { verdict = refl; table = cleared-whole p q; origins = λ a. let z : _≡_ {A = ℕ} 0 1 = cc a in absurd (omega arith) })
 
     pub into-given : {n : ℕ} {w₁ : List ℕ} → u ≡ Compacted n → heldIn w₁ o ≡ tableWith t v n → SeenIn (guestAnswer t v) o Accepted w₁ o

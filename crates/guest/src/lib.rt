@@ -1,5 +1,5 @@
-// What one processor's guest sees. A table in lent memory and the processor's own numbers come in; one row, or the table as the guest sees it, or a refusal
-// goes out.
+// What one processor's guest sees. A table in lent memory and the processor's own numbers come in; one row, or the table as the guest sees it, or
+// a refusal goes out.
 use guest_state::InUse;
 use guest_state::save_register;
 use guest_state::state_in_use;
@@ -58,7 +58,8 @@ pub fn guest_find(
     subleaf: Subleaf,
     enforce_subleaf: bool,
 ) -> GuestFound
-    ensures { λ r. ⌜ r ≡ foundIn (guestAnswer (heldIn (now (registers .entry)) (now (origins .entry))) v) (now (origins .entry)) leaf subleaf «enforce_subleaf» ⌝ }
+    ensures { λ r. ⌜ r ≡ foundIn (guestAnswer (heldIn (now (registers .entry)) (now (origins .entry))) v)
+        (now (origins .entry)) leaf subleaf «enforce_subleaf» ⌝ }
 {
     let state = state_in_use(registers, origins, false, v.xcr0, v.xss);
     match state {
@@ -75,8 +76,8 @@ pub fn guest_find(
     }
 }
 
-// The row as the guest sees it where D.1.EBX is `size`, for a caller that kept the size which `state_in_use` gave when XCR0 or XSS last changed: then it
-// is what `guest_find` finds (`kept-found`). Any size has an answer.
+// The row as the guest sees it where D.1.EBX is `size`, for a caller that kept the size which `state_in_use` gave when XCR0 or XSS last changed:
+// then it is what `guest_find` finds (`kept-found`). Any size has an answer.
 pub fn find_kept(
     registers: &[u32; REGISTERS],
     origins: &[u64; PLACES],
@@ -86,7 +87,8 @@ pub fn find_kept(
     subleaf: Subleaf,
     enforce_subleaf: bool,
 ) -> Found
-    ensures { λ r. ⌜ r ≡ found (tableWith (heldIn (now (registers .entry)) (now (origins .entry))) v size) (now (origins .entry)) leaf subleaf «enforce_subleaf» ⌝ }
+    ensures { λ r. ⌜ r ≡ found (tableWith (heldIn (now (registers .entry)) (now (origins .entry))) v size)
+        (now (origins .entry)) leaf subleaf «enforce_subleaf» ⌝ }
 {
     let i = place_asked(leaf, subleaf, enforce_subleaf);
     if i < PLACES {
@@ -125,7 +127,8 @@ pub fn guest_table(
     origins: &mut [u64; PLACES],
     v: Processor,
 ) -> Verdict
-    ensures { λ r. ⌜ SeenIn (guestAnswer (heldIn (now (registers .entry)) (now (origins .entry))) v) (now (origins .entry)) r (now (registers .exit)) (now (origins .exit)) ⌝ }
+    ensures { λ r. ⌜ SeenIn (guestAnswer (heldIn (now (registers .entry)) (now (origins .entry))) v)
+        (now (origins .entry)) r (now (registers .exit)) (now (origins .exit)) ⌝ }
 {
     let state = state_in_use(registers, origins, false, v.xcr0, v.xss);
     match state {
@@ -142,7 +145,8 @@ pub fn guest_table(
 
 // The five rows that differ, in place. `size` is D.1.EBX.
 fn put_seen(registers: &mut [u32; REGISTERS], origins: &[u64; PLACES], v: Processor, size: u32)
-    ensures { λ _. ⌜ heldIn (now (registers .exit)) (now (origins .entry)) ≡ tableWith (heldIn (now (registers .entry)) (now (origins .entry))) v size ⌝ }
+    ensures { λ _. ⌜ heldIn (now (registers .exit)) (now (origins .entry))
+        ≡ tableWith (heldIn (now (registers .entry)) (now (origins .entry))) v size ⌝ }
 {
     sized(registers, origins);
     let area = save_register(registers, v.xcr0);

@@ -1,5 +1,5 @@
--- What is found for a processor's guest in lent memory is what a lookup finds in the table that its guest sees of the pages, with the same origin: in a
--- table that was built there, and in the guest's own table.
+-- What is found for a processor's guest in lent memory is what a lookup finds in the table that its guest sees of the pages, with the same origin:
+-- in a table that was built there, and in the guest's own table.
 use mathlib.Core.Path.{_≡_, refl, sym, ap, ap₂, _∙_}
 use mathlib.Core.Bool.{Bool}
 use mathlib.Core.List.{List}

@@ -22,7 +22,8 @@ pub fn guest_pages(
     registers: &mut [u32; REGISTERS],
     origins: &mut [u64; PLACES],
 ) -> Verdict
-    ensures { λ r. ⌜ SeenIn (guestPages choices (now (pages .entry)) v) (answer choices (now (pages .entry)) .origins) r (now (registers .exit)) (now (origins .exit)) ⌝ }
+    ensures { λ r. ⌜ SeenIn (guestPages choices (now (pages .entry)) v)
+        (answer choices (now (pages .entry)) .origins) r (now (registers .exit)) (now (origins .exit)) ⌝ }
 {
     let verdict = build_into(pages, choices, registers, origins);
     if let Verdict::Refused(r) = verdict {

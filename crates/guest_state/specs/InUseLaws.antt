@@ -70,7 +70,8 @@ module _ (w o : List ℕ) (i : ℕ) {q : CpuidResult} where
   pub read-there : {own there : Bool} → own ≡ true → there ≡ isThere (getD o i 0) → there ≡ true → q ≡ rowOf w i → q ≡ readRows own w o i .result
   read-there e f g h = h ∙ rw (e, ← f, g)
 
-  pub read-absent : {own there : Bool} → own ≡ true → there ≡ isThere (getD o i 0) → there ≡ false → q ≡ result 0 0 0 0 → q ≡ readRows own w o i .result
+  pub read-absent : {own there : Bool} → own ≡ true → there ≡ isThere (getD o i 0) → there ≡ false → q ≡ result 0 0 0 0
+      → q ≡ readRows own w o i .result
   read-absent e f g h = h ∙ rw (e, ← f, g)
 
   pub read-any : {own : Bool} → own ≡ false → q ≡ rowOf w i → q ≡ readRows own w o i .result

@@ -14,7 +14,8 @@ use Rattle.buffer.specs.Front.{AfterWrite, writeFront}
 use Rattle.kvm_export.specs.Export.{listOf, writeList}
 
 module _ (chosen : Choices) (s buffer : List ℕ) {d : Verdict} {w o : List ℕ} (built : InMemory (answer chosen s) d w o) where
-  pub write-refused : {r : Refusal} → d ≡ NotBuilt r → _≡_ {A = AfterWrite} (record { answer = Refused r; buffer = buffer }) (writeList chosen s buffer)
+  pub write-refused : {r : Refusal} → d ≡ NotBuilt r
+      → _≡_ {A = AfterWrite} (record { answer = Refused r; buffer = buffer }) (writeList chosen s buffer)
   unfolding writeList
   write-refused e = rw (← built .verdict, e)
 

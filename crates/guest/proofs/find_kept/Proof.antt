@@ -14,8 +14,8 @@ returns : tie.Need-returns
 returns c =
     let r = c .before in let t = r .before in let i = t .before in let b = i .before .before in let p = b .before in let s = p .before in
     let a = s .args in
-    seen-there (a .registers .now) (a .origins .now) (a .v) (a .size) (a .leaf) (a .subleaf) (a .enforce-subleaf) (p .place-asked .ensures .0) (b .if1 .taken)
-    (i .is-there .ensures) (t .if2 .taken)
+    seen-there (a .registers .now) (a .origins .now) (a .v) (a .size) (a .leaf) (a .subleaf) (a .enforce-subleaf)
+    (p .place-asked .ensures .0) (b .if1 .taken) (i .is-there .ensures) (t .if2 .taken)
     (c .seen-at .ensures
     ∙ ap (λ (q : CpuidResult). seenAt (a .v) (saveRegister (registersIn (a .registers .now)) (a .v .xcr0)) (a .size) (p .place-asked .result) (row q))
     (r .row-at .ensures))
@@ -23,13 +23,14 @@ returns c =
 returns-2 : tie.Need-returns-2
 returns-2 c =
     let i = c .before in let b = i .before .before in let p = b .before in let a = p .before .args in
-    seen-absent (a .registers .now) (a .origins .now) (a .v) (a .size) (a .leaf) (a .subleaf) (a .enforce-subleaf) (p .place-asked .ensures .0) (b .if1 .taken)
-    (i .is-there .ensures) (c .if2 .left)
+    seen-absent (a .registers .now) (a .origins .now) (a .v) (a .size) (a .leaf) (a .subleaf) (a .enforce-subleaf)
+    (p .place-asked .ensures .0) (b .if1 .taken) (i .is-there .ensures) (c .if2 .left)
 
 returns-3 : tie.Need-returns-3
 returns-3 c =
     let p = c .before in let a = p .before .args in
-    seen-past (a .registers .now) (a .origins .now) (a .v) (a .size) (a .leaf) (a .subleaf) (a .enforce-subleaf) (p .place-asked .ensures .0) (c .if1 .left)
+    seen-past (a .registers .now) (a .origins .now) (a .v) (a .size) (a .leaf) (a .subleaf) (a .enforce-subleaf)
+    (p .place-asked .ensures .0) (c .if1 .left)
 
 pub find-kept-spec : {M : Type 1} → statement M
 find-kept-spec =

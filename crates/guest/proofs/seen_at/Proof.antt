@@ -38,8 +38,8 @@ returns-5 c =
 returns-6 : tie.Need-returns-6
 returns-6 c =
     let s = c .before in let rest = c .match .rest in
-    rule-none (s .args .v) (area s) (s .args .size) (s .args .place) (s .args .r) (rest .0 .0 .0 .0 .1) (rest .0 .0 .0 .1) (rest .0 .0 .1) (rest .0 .1)
-    (rest .1)
+    rule-none (s .args .v) (area s) (s .args .size) (s .args .place) (s .args .r)
+    (rest .0 .0 .0 .0 .1) (rest .0 .0 .0 .1) (rest .0 .0 .1) (rest .0 .1) (rest .1)
 
 pub seen-at-spec : {M : Type 1} → statement M
 seen-at-spec =

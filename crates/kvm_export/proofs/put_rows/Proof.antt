@@ -18,7 +18,8 @@ use Rattle.kvm_export.proofs.put_rows.Statement.{statement}
 use Rattle.kvm_export.proofs.put_rows.Tie as tie
 
 abbrev Inv-loop2 : tie.InvT-loop2
-Inv-loop2 registers origins out₀ at₀ i₀ run first end out at i = (i₀ ≤ i) × (i ≤ end) × Onward (rowsLeft (heldIn registers origins)) out₀ at₀ i₀ out at i
+Inv-loop2 registers origins out₀ at₀ i₀ run first end out at i =
+    (i₀ ≤ i) × (i ≤ end) × Onward (rowsLeft (heldIn registers origins)) out₀ at₀ i₀ out at i
 
 abbrev μ-loop2 : tie.MeasureT-loop2
 μ-loop2 registers origins out₀ at₀ i₀ run first end out at i = end - i
@@ -76,7 +77,8 @@ loop2-again c =
     let put = c .before .before .put-place in
     let s = c .before .before .before in
     let i = inner s .loop2 .i in
-    let further = onward-piece (rowsLeft (held s)) (row s) i (written s) (inner s .loop2 .out) (put .last .0) (inner s .loop2 .at) (put .ensures .1) in
+    let further = onward-piece (rowsLeft (held s)) (row s) i (written s)
+    (inner s .loop2 .out) (put .last .0) (inner s .loop2 .at) (put .ensures .1) in
     (omega arith, omega arith, onward-join _ (inner s .loop2 .inv .2) (rw (put .ensures .0) further))
 
 returns : tie.Need-returns Inv-loop2 μ-loop2 Inv-loop μ-loop
