@@ -2,7 +2,7 @@
 use mathlib.Core.Path.{_≡_, refl, sym, ap, ap₂, _∙_, subst}
 use mathlib.Core.Bool.{Bool, true, false, _&&_, _||_}
 use mathlib.Core.List.{List}
-use Prim.Native.Nat.{ℕ, zero, suc, _+_, _*_, _≤_, _<_}
+use Prim.Native.Nat.{ℕ, zero, suc, _*_, _≤_, _<_}
 use native.Mathlib.Omega.{arith}
 use lib.Dec.{eqb, lit<}
 use lib.Bits.{bitOr}
@@ -26,7 +26,7 @@ use Rattle.table.specs.Edition.{knownEdition}
 use Rattle.table.specs.Rows.{Row, Rows}
 use Rattle.table.specs.Table.{countRows, rowIn}
 use Rattle.memory.specs.Memory.{isThere, rowOf, putRow, rowsIn, layout, rowList}
-use Rattle.memory.specs.MemoryLaws.{put-length, put-is-set, known-by-rows, layout-row, layout-list}
+use Rattle.memory.specs.MemoryLaws.{put-length, put-is-set, known-by-rows, layout-row}
 use Rattle.memory.specs.Held.{heldIn, whole-row}
 use Rattle.checks.specs.ExtendedState.{xssOf, xfem, xss, combinedMask}
 use Rattle.guest_state.specs.State.{stateVerdict}
@@ -38,7 +38,7 @@ use Rattle.guest_state.specs.declared.InUse.{InUse}
 use Rattle.guest_state.specs.declared.InUse.the-variants.{Refused as NotInUse, Compacted}
 use Rattle.guest_state.specs.InUse.{readRows, inUse}
 use Rattle.guest_state.specs.InUseLaws.{told-refused, told-given}
-use Rattle.carry.specs.InPlace.{leftBy, CarriedIn}
+use Rattle.carry.specs.InPlace.{CarriedIn}
 
 -- a verdict is not both
 abbrev isAccepted : Verdict → Bool
