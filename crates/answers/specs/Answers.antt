@@ -4,6 +4,7 @@ use mathlib.Core.Bool.{Bool}
 use mathlib.Core.List.{List}
 use Prim.Native.Nat.{ℕ, _/_}
 use Rattle.bits.specs.Choice.{pick}
+use Rattle.bits.specs.Lists.{one}
 use Rattle.x86defs.specs.declared.CpuidResult.{CpuidResult}
 use Rattle.origins.specs.declared.OriginRead.{OriginRead}
 use Rattle.origins.specs.Origin.{originRead}
@@ -32,6 +33,7 @@ use Rattle.answers.specs.declared.SnpCpuidFound.{SnpCpuidFound}
 use Rattle.answers.specs.declared.SnpCpuidGuestFound.{SnpCpuidGuestFound}
 use Rattle.answers.specs.declared.SnpCpuidState.{SnpCpuidState}
 use Rattle.answers.specs.declared.SnpCpuidCounts.{SnpCpuidCounts}
+use Rattle.answers.specs.declared.SnpCpuidRead.{SnpCpuidRead}
 use Rattle.answers.specs.declared.SnpCpuidFirst.{SnpCpuidFirst}
 use Rattle.answers.specs.declared.SnpCpuidWritten.{SnpCpuidWritten}
 
@@ -157,3 +159,7 @@ guestFoundNumbers (Looked f) = guestFoundWith 0 (foundNumbers f)
 abbrev pub stateNumbers : InUse → SnpCpuidState
 stateNumbers (NotInUse r) = record { number = refusalNumbers r .number; size = 0 }
 stateNumbers (Compacted n) = record { number = 0; size = n }
+
+-- whether bytes are an image, 1 or 0, with the counts of the table that they gave
+abbrev pub readWith : Bool → CpuidResults → SnpCpuidRead
+readWith b t = record { «is_image» = one b; «row_count» = t .«row_count»; «max_extended_state» = t .«max_extended_state» }

@@ -15,7 +15,7 @@ use table::Verdict;
 use x86defs::CpuidFunction;
 ghost use mathlib.Core.Path.{_≡_};
 ghost use Rattle.memory.specs.Held.{heldIn};
-ghost use Rattle.answers.specs.Answers.{processorOf, builtGiven, heldNumbers, countsOf, stateNumbers, guestFoundWith, guestFoundNumbers, foundNumbers, foundAt, firstGiven, writtenNumbers, subleafOf};
+ghost use Rattle.answers.specs.Answers.{processorOf, builtGiven, heldNumbers, countsOf, readWith, stateNumbers, guestFoundWith, guestFoundNumbers, foundNumbers, foundAt, firstGiven, writtenNumbers, subleafOf};
 
 #[repr(C)]
 pub struct SnpCpuidBuilt {
@@ -86,6 +86,14 @@ pub struct SnpCpuidState {
 // How many rows a table has, and its combined mask.
 #[repr(C)]
 pub struct SnpCpuidCounts {
+    pub row_count: u64,
+    pub max_extended_state: u64,
+}
+
+// Whether bytes are a table's image, with the table's counts.
+#[repr(C)]
+pub struct SnpCpuidRead {
+    pub is_image: u32,
     pub row_count: u64,
     pub max_extended_state: u64,
 }
@@ -231,6 +239,22 @@ pub fn table_counts(registers: &[u32; REGISTERS], origins: &[u64; PLACES]) -> Sn
     SnpCpuidCounts {
         row_count: row_count(origins) as u64,
         max_extended_state: combined_mask(registers),
+    }
+}
+
+// Whether bytes are a table's image, as numbers, with the counts of the table that was read.
+pub fn read_numbers(
+    is_image: bool,
+    registers: &[u32; REGISTERS],
+    origins: &[u64; PLACES],
+) -> SnpCpuidRead
+    ensures { λ r. ⌜ r ≡ readWith «is_image» (heldIn (now (registers .entry)) (now (origins .entry))) ⌝ }
+{
+    let counts = table_counts(registers, origins);
+    SnpCpuidRead {
+        is_image: is_image as u32,
+        row_count: counts.row_count,
+        max_extended_state: counts.max_extended_state,
     }
 }
 

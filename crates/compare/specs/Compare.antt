@@ -19,23 +19,14 @@ use Rattle.update.specs.Kinds.{Kinds, kindsAt}
 use Rattle.build.specs.Build.{rowsFor, answer}
 use Rattle.lawful.specs.Lawful.{lawfulVerdict}
 use Rattle.rise.specs.Decide.{risesTest, placeTest, inTable}
-use Rattle.compare.specs.declared.Register.{Register}
-use Rattle.compare.specs.declared.Register.the-variants.{Eax, Ebx, Ecx, Edx}
+use Rattle.register_kinds.specs.declared.Register.{Register}
+use Rattle.register_kinds.specs.Registers.{registersRise, firstOf, subleafNamed}
 use Rattle.compare.specs.declared.Compared.{Compared}
 use Rattle.compare.specs.declared.Compared.the-variants.{Rises, RefusedA, UnlawfulB, NoEntry, Differs}
 
--- the first register that fails: EDX where the other three pass
+-- the first register that fails
 abbrev pub firstRegister : Kinds → CpuidResult → CpuidResult → Register
-firstRegister k a b =
-    pick (risesTest (k .eax) (a .eax) (b .eax))
-    (pick (risesTest (k .ebx) (a .ebx) (b .ebx))
-    (pick (risesTest (k .ecx) (a .ecx) (b .ecx)) Edx Ecx)
-    Ebx)
-    Eax
-
--- the subleaf of a place, where its row carries one
-abbrev pub subleafNamed : ℕ → Subleaf
-subleafNamed i = pick (indexedAt i) (Some (subleafAt i)) None
+firstRegister k a b = firstOf (registersRise risesTest k a b)
 
 -- what fails at place i: "a first counted entry", then its registers
 abbrev pub failingOf : ℕ → CpuidResult → Row → Compared

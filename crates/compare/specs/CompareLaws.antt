@@ -1,8 +1,10 @@
 -- The search for the first place that fails, in the terms of the code's loop: a turn passes a place or stops there; after the last place
 -- nothing has failed.
-use mathlib.Core.Path.{_≡_, ap}
+use mathlib.Core.Path.{_≡_, sym, ap, _∙_}
 use mathlib.Core.Bool.{Bool, true, false}
+use mathlib.Core.List.{List}
 use Prim.Native.Nat.{ℕ, _+_, _-_, _≤_, _<_}
+use lib.ListN.{getD}
 use Rattle.bits.specs.Choice.{pick}
 use Rattle.bits.specs.Search.{Failing, lowest}
 use Rattle.bits.specs.SearchLaws.{lowest-passes, lowest-stops, lowest-ends}
@@ -11,33 +13,25 @@ use Rattle.masking.specs.Kept.{places}
 use Rattle.table.specs.declared.CpuidResults.{CpuidResults}
 use Rattle.table.specs.Rows.{Row}
 use Rattle.table.specs.Table.{rowIn}
+use Rattle.memory.specs.Memory.{rowOf, isThere, rowsIn}
+use Rattle.memory.specs.Held.{flags, flag-at}
 use Rattle.update.specs.Kinds.{Kinds}
-use Rattle.rise.specs.Decide.{risesTest}
-use Rattle.compare.specs.declared.Register.{Register}
-use Rattle.compare.specs.declared.Register.the-variants.{Eax, Ebx, Ecx, Edx}
-use Rattle.compare.specs.declared.RegistersRise.{RegistersRise}
+use Rattle.rows_checked.specs.Checked.{registersIn}
+use Rattle.rise.specs.Decide.{risesTest, rowTest, placeTest}
 use Rattle.compare.specs.declared.Compared.{Compared}
 use Rattle.compare.specs.declared.Compared.the-variants.{Rises}
-use Rattle.compare.specs.Compare.{firstFailing}
+use Rattle.compare.specs.Compare.{failingOf, failingAt, firstFailing}
 
 -- whether a table has a row at a place
 abbrev pub hasRow : CpuidResults → ℕ → Bool
 hasRow t i = rowIn t i .present
 
+-- whether the table has one whose memory has these origins
+abbrev pub hasOrigin : List ℕ → ℕ → Bool
+hasOrigin o i = getD (flags o) i false
+
 abbrev pub rowWith : Bool → CpuidResult → Row
 rowWith p r = record { present = p; result = r }
-
--- the four tests at once, and the first that fails
-abbrev pub registersRise : Kinds → CpuidResult → CpuidResult → RegistersRise
-registersRise k a b = record {
-  eax = risesTest (k .eax) (a .eax) (b .eax);
-  ebx = risesTest (k .ebx) (a .ebx) (b .ebx);
-  ecx = risesTest (k .ecx) (a .ecx) (b .ecx);
-  edx = risesTest (k .edx) (a .edx) (b .edx);
-}
-
-abbrev pub firstOf : RegistersRise → Register
-firstOf t = pick (t .eax) (pick (t .ebx) (pick (t .ecx) Edx Ecx) Ebx) Eax
 
 -- the first failing place from k on
 unfoldable pub failingFrom : (ℕ → Bool) → (ℕ → Compared) → ℕ → Compared
@@ -55,3 +49,12 @@ module _ (test : ℕ → Bool) (failing : ℕ → Compared) (k : ℕ) where
   pub turns-end : places ≤ k → failingFrom test failing k ≡ Rises
   unfolding failingFrom
   turns-end l = ap (λ (f : Failing). firstFailing f failing) (lowest-ends test places k l)
+
+-- what the code finds at a place: of A's table, A's entry and B's, whether it rises and what fails
+module _ (t a b o : List ℕ) (i : ℕ) (l : i < places) {p q : Bool} {x y : CpuidResult}
+    (f : p ≡ isThere (getD t i 0)) (g : q ≡ isThere (getD o i 0)) (h : x ≡ rowOf a i) (k : y ≡ rowOf b i) where
+  pub rises-found : {r : Bool} → r ≡ rowTest i p x (rowWith q y) → r ≡ placeTest (hasOrigin t) (registersIn a) (rowsIn b o) i
+  rises-found e = e ∙ (λ j. rowTest i ((f ∙ sym (flag-at t i l)) j) (h j) (rowWith (g j) (k j)))
+
+  pub fails-found : {c : Compared} → c ≡ failingOf i x (rowWith q y) → c ≡ failingAt (registersIn a) (rowsIn b o) i
+  fails-found e = e ∙ (λ j. failingOf i (h j) (rowWith (g j) (k j)))

@@ -24,13 +24,14 @@ use Rattle.lawful.specs.Lawful.{lawfulVerdict}
 use Rattle.rise.specs.Rise.{EntryRises, RiseHypothesis as Hypothesis}
 use Rattle.rise.specs.Decide.{risesTest, registersTest, placeTest, inTable, test-rises, rises-test, test-fails, place-rises, rises-place}
 use Rattle.rise.specs.RiseProof.{demand-3}
-use Rattle.compare.specs.declared.Register.{Register}
-use Rattle.compare.specs.declared.Register.the-variants.{Eax, Ebx, Ecx, Edx}
+use Rattle.register_kinds.specs.declared.Register.{Register}
+use Rattle.register_kinds.specs.declared.Register.the-variants.{Eax, Ebx, Ecx, Edx}
 use Rattle.compare.specs.declared.Compared.{Compared}
 use Rattle.compare.specs.declared.Compared.the-variants.{Rises, RefusedA, UnlawfulB, NoEntry, Differs}
-use Rattle.compare.specs.Compare.{firstRegister, subleafNamed, failingAt, firstFailing, afterA, afterB, comparedRows, compared}
+use Rattle.compare.specs.Compare.{firstRegister, failingAt, firstFailing, afterA, afterB, comparedRows, compared}
 use Rattle.compare.specs.ReturnLaws.{with-verdicts, refused-a}
-use Rattle.compare.specs.Means.{order, valueOf, kindOf, Reached, Means, Decides}
+use Rattle.compare.specs.Means.{Reached, Means, Decides}
+use Rattle.register_kinds.specs.Registers.{order, valueOf, kindOf, subleafNamed}
 
 -- ---- the registers of a row before the first that fails
 

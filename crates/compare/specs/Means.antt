@@ -16,30 +16,10 @@ use Rattle.build.specs.Build.{rowsFor, answer}
 use Rattle.lawful.specs.Lawful.{lawfulVerdict}
 use Rattle.rise.specs.Rise.{EntryRises, RiseConclusion, RiseHypothesis as Hypothesis}
 use Rattle.rise.specs.Decide.{inTable}
-use Rattle.compare.specs.declared.Register.{Register}
-use Rattle.compare.specs.declared.Register.the-variants.{Eax, Ebx, Ecx, Edx}
+use Rattle.register_kinds.specs.declared.Register.{Register}
+use Rattle.register_kinds.specs.Registers.{order, valueOf, kindOf, subleafNamed}
 use Rattle.compare.specs.declared.Compared.{Compared}
 use Rattle.compare.specs.declared.Compared.the-variants.{Rises, RefusedA, UnlawfulB, NoEntry, Differs}
-use Rattle.compare.specs.Compare.{subleafNamed}
-
--- a register by name: its place among the four, its value in a row, its kind
-abbrev pub order : Register → ℕ
-order Eax = 0
-order Ebx = 1
-order Ecx = 2
-order Edx = 3
-
-abbrev pub valueOf : Register → CpuidResult → ℕ
-valueOf Eax r = r .eax
-valueOf Ebx r = r .ebx
-valueOf Ecx r = r .ecx
-valueOf Edx r = r .edx
-
-abbrev pub kindOf : Register → Kinds → Kind
-kindOf Eax k = k .eax
-kindOf Ebx k = k .ebx
-kindOf Ecx k = k .ecx
-kindOf Edx k = k .edx
 
 -- one register of B's row at place i beside A's
 abbrev pub RegisterRises : ℕ → Row → Row → Register → Type 0

@@ -1,22 +1,20 @@
 -- The comparison, case by case, in the terms of the code's returns.
-use mathlib.Core.Path.{_≡_, refl, sym, ap, _∙_}
+use mathlib.Core.Path.{_≡_, refl, sym, _∙_}
 use mathlib.Core.List.{List}
 use Prim.Native.Nat.{ℕ}
-use Rattle.build.specs.declared.Built.{Built}
 use Rattle.table.specs.declared.Choices.{Choices}
-use Rattle.table.specs.declared.CpuidResults.{CpuidResults}
 use Rattle.table.specs.declared.Refusal.{Refusal}
 use Rattle.table.specs.declared.Verdict.{Verdict}
 use Rattle.table.specs.declared.Verdict.the-variants.{Accepted, Refused}
-use Rattle.table.specs.Rows.{Rows}
-use Rattle.table.specs.Table.{rowsIn}
+use Rattle.memory.specs.Memory.{rowsIn}
+use Rattle.memory.specs.Held.{heldIn}
+use Rattle.rows_checked.specs.Checked.{registersIn}
 use Rattle.build.specs.Build.{rowsFor, answer}
 use Rattle.lawful.specs.Lawful.{lawfulVerdict}
-use Rattle.collect.specs.Collect.{collected, collected-rows}
 use Rattle.compare.specs.declared.Compared.{Compared}
 use Rattle.compare.specs.declared.Compared.the-variants.{RefusedA, UnlawfulB}
 use Rattle.compare.specs.Compare.{afterA, afterB, comparedRows, compared}
-use Rattle.compare.specs.CompareLaws.{hasRow}
+use Rattle.compare.specs.CompareLaws.{hasRow, hasOrigin}
 
 module _ (chosen : Choices) (a b : List ℕ) where
   -- with a verdict on A, and one on B's pages
@@ -32,12 +30,12 @@ module _ (chosen : Choices) (a b : List ℕ) where
     pub unlawful-b : {r : Refusal} → lawfulVerdict b ≡ Refused r → UnlawfulB r ≡ compared chosen a b
     unlawful-b e = sym (with-verdicts accepted e)
 
-    pub rows-compared : lawfulVerdict b ≡ Accepted → {r : Compared} {built : Built} {ta tb : CpuidResults}
-        → built ≡ answer chosen a → ta ≡ collected (chosen .«secure_avic») a → tb ≡ collected (chosen .«secure_avic») b
-        → r ≡ comparedRows (hasRow (built .table)) (rowsIn ta) (rowsIn tb) → r ≡ compared chosen a b
-    rows-compared e {r} {built} {ta} {tb} g p q h =
+    -- the table of A is in memory w, o; v and u are the rows of A's entries and of B's
+    pub rows-compared : lawfulVerdict b ≡ Accepted → {r : Compared} (w o v q u p : List ℕ)
+        → heldIn w o ≡ answer chosen a .table → rowsIn v q ≡ rowsFor chosen a → rowsIn u p ≡ rowsFor chosen b
+        → r ≡ comparedRows (hasOrigin o) (registersIn v) (rowsIn u p) → r ≡ compared chosen a b
+    unfolding comparedRows
+    rows-compared e w o v q u p t f g h =
         h
-        ∙ ap (λ (x : Built). comparedRows (hasRow (x .table)) (rowsIn ta) (rowsIn tb)) g
-        ∙ ap (λ (x : Rows). comparedRows (hasRow (answer chosen a .table)) x (rowsIn tb)) (ap rowsIn p ∙ collected-rows (chosen .«secure_avic») a)
-        ∙ ap (comparedRows (hasRow (answer chosen a .table)) (rowsFor chosen a)) (ap rowsIn q ∙ collected-rows (chosen .«secure_avic») b)
+        ∙ (λ k. comparedRows (hasRow (t k)) (f k) (g k))
         ∙ sym (with-verdicts accepted e)

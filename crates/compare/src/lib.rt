@@ -1,29 +1,34 @@
 // Two servers compared. The pages of A and B come in; whether a guest of A may move to B goes out, or the first thing in the way.
+use lawful::walk_pages;
 use masking::PLACES;
+use memory::REGISTERS;
+use memory::is_there;
+use memory::row_at;
+use memory::sized;
 use register_kinds::Kinds;
+use register_kinds::Register;
+use register_kinds::RegistersRise;
+use register_kinds::first_register;
+use register_kinds::subleaf_named;
+use rows_finished::build_rows;
 use table::Choices;
-use table::CpuidResults;
 use table::Refusal;
 use table::Subleaf;
 use table::Verdict;
+use table::known_edition;
 use x86defs::CpuidFunction;
 use x86defs::CpuidResult;
 ghost use mathlib.Core.Path.{_≡_};
 ghost use Prim.Native.Nat.{_<_};
 ghost use Rattle.masking.specs.Kept.{places};
-ghost use Rattle.table.specs.Table.{rowsIn};
-ghost use Rattle.rise.specs.Decide.{rowTest};
+ghost use Rattle.memory.specs.Memory.{rowsIn};
+ghost use Rattle.rows_checked.specs.Checked.{registersIn};
+ghost use Rattle.rise.specs.Decide.{risesTest, rowTest};
 ghost use Rattle.register_kinds.specs.KindsInCode.{kindsIn};
-ghost use Rattle.compare.specs.Compare.{subleafNamed, failingOf, comparedRows, compared};
-ghost use Rattle.compare.specs.CompareLaws.{hasRow, rowWith, registersRise, firstOf};
+ghost use Rattle.register_kinds.specs.Registers.{registersRise};
+ghost use Rattle.compare.specs.Compare.{failingOf, comparedRows, compared};
+ghost use Rattle.compare.specs.CompareLaws.{hasOrigin, rowWith};
 ghost use Rattle.compare.specs.Means.{Decides};
-
-pub enum Register {
-    Eax,
-    Ebx,
-    Ecx,
-    Edx,
-}
 
 // What a comparison gives: B meets the hypothesis of demand 3; A is refused; B's length or counts are not lawful or its reserved bytes not zero;
 // B has no counted entry for a row of A's table; or B's entry fails in a register.
@@ -35,48 +40,55 @@ pub enum Compared {
     Differs(CpuidFunction, Subleaf, Register),
 }
 
-// Which of a row's registers are as demand 3 wants them.
-struct RegistersRise {
-    eax: bool,
-    ebx: bool,
-    ecx: bool,
-    edx: bool,
-}
-
 // Whether B meets the hypothesis of demand 3 beside A under the same choices, or the first thing that fails: A's refusal, then B's length, counts
 // and reserved bytes, then the rows of A's table by rising leaf and subleaf, at each first B's entry and then EAX, EBX, ECX, EDX.
 pub fn compare(a: &[u8], b: &[u8], choices: Choices) -> Compared
     ensures { λ r. ⌜ r ≡ compared choices (now (a .entry)) (now (b .entry)) ⌝ }
     ensures decides { λ r. ⌜ Decides choices (now (a .entry)) (now (b .entry)) r ⌝ }
 {
-    let built = build::build_table(a, choices);
-    let verdict = built.verdict;
+    if known_edition(choices.edition) {} else {
+        return Compared::RefusedA(Refusal::UnknownEdition);
+    }
+    let mut registers: [u32; REGISTERS] = [0; REGISTERS];
+    let mut origins: [u64; PLACES] = [0; PLACES];
+    let walked = walk_pages(a, choices.secure_avic, &mut registers, &mut origins);
+    if let Verdict::Refused(refusal) = walked {
+        return Compared::RefusedA(refusal);
+    }
+    sized(&registers, &origins);
+    let entries = registers;
+    let verdict = build_rows(&mut registers, &mut origins, choices.edition);
     if let Verdict::Refused(refusal) = verdict {
         return Compared::RefusedA(refusal);
     }
-    let mut registers: [u32; 352] = [0; 352];
-    let mut origins: [u64; PLACES] = [0; PLACES];
-    let lawful = lawful::walk_pages(b, choices.secure_avic, &mut registers, &mut origins);
+    let mut origins_b: [u64; PLACES] = [0; PLACES];
+    let lawful = walk_pages(b, choices.secure_avic, &mut registers, &mut origins_b);
     if let Verdict::Refused(refusal) = lawful {
         return Compared::UnlawfulB(refusal);
     }
-    let rows_b = locate::table_in(&registers, &origins);
-    let again = lawful::walk_pages(a, choices.secure_avic, &mut registers, &mut origins);
-    let rows_a = locate::table_in(&registers, &origins);
-    let table = built.table;
-    first_failing(table, rows_a, rows_b)
+    sized(&registers, &origins_b);
+    first_failing(&origins, &entries, &registers, &origins_b)
 }
 
-// The first place at which B's masked first entry fails beside A's, among the places that A's table has.
-fn first_failing(table: CpuidResults, a: CpuidResults, b: CpuidResults) -> Compared
-    ensures { λ r. ⌜ r ≡ comparedRows (hasRow table) (rowsIn a) (rowsIn b) ⌝ }
+// The first place at which B's masked first entry fails beside A's, among the places that A's table has: its origins, A's entries, B's entries and
+// their origins.
+fn first_failing(
+    table: &[u64; PLACES],
+    a: &[u32; REGISTERS],
+    b: &[u32; REGISTERS],
+    origins_b: &[u64; PLACES],
+) -> Compared
+    ensures { λ r. ⌜ r ≡ comparedRows (hasOrigin (now (table .entry))) (registersIn (now (a .entry)))
+        (rowsIn (now (b .entry)) (now («origins_b» .entry))) ⌝ }
 {
     let mut place: usize = 0;
     while place < PLACES {
-        let in_table = table.present[place];
-        let entry_a = a.results[place];
-        let entry_b = b.results[place];
-        let present = b.present[place];
+        let origin = table[place];
+        let origin_b = origins_b[place];
+        let in_table = is_there(origin);
+        let present = is_there(origin_b);
+        let entry_a = row_at(a, place);
+        let entry_b = row_at(b, place);
         if place_rises(place, in_table, entry_a, present, entry_b) {
             place += 1;
         } else {
@@ -105,7 +117,7 @@ fn place_rises(place: usize, in_table: bool, a: CpuidResult, present: bool, b: C
 
 // Which registers of B's entry are as wanted, by the kinds of their place.
 fn registers_rise(kinds: Kinds, a: CpuidResult, b: CpuidResult) -> RegistersRise
-    ensures { λ r. ⌜ r ≡ registersRise (kindsIn kinds) a b ⌝ }
+    ensures { λ r. ⌜ r ≡ registersRise risesTest (kindsIn kinds) a b ⌝ }
 {
     let eax = kinds.eax;
     let ebx = kinds.ebx;
@@ -131,31 +143,4 @@ fn failing_at(place: usize, a: CpuidResult, present: bool, b: CpuidResult) -> Co
         return Compared::Differs(leaf, subleaf, first_register(rise));
     }
     Compared::NoEntry(leaf, subleaf)
-}
-
-// The first register that fails: EDX where the other three do not.
-fn first_register(rise: RegistersRise) -> Register
-    ensures { λ r. ⌜ r ≡ firstOf rise ⌝ }
-{
-    if rise.eax {
-        if rise.ebx {
-            if rise.ecx {
-                return Register::Edx;
-            }
-            return Register::Ecx;
-        }
-        return Register::Ebx;
-    }
-    Register::Eax
-}
-
-// The subleaf of a place, where its row carries one.
-fn subleaf_named(place: usize) -> Subleaf
-    requires { ⌜ place < places ⌝ }
-    ensures { λ r. ⌜ r ≡ subleafNamed place ⌝ }
-{
-    if masking::indexed_at(place) {
-        return Subleaf::Some(masking::subleaf_at(place));
-    }
-    Subleaf::None
 }

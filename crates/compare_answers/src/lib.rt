@@ -1,11 +1,12 @@
 // A comparison's answer as C and Rust are given it: the answer comes in, a struct of plain numbers goes out.
 use compare::Compared;
-use compare::Register;
 use numbers::AnswerNumbers;
+use register_kinds::Register;
 use table::Verdict;
+use tables_compared::TablesCompared;
 ghost use mathlib.Core.Path.{_≡_};
-ghost use Rattle.compare.specs.Means.{order};
-ghost use Rattle.compare_answers.specs.ComparedAnswers.{comparedWith, comparedNumbers};
+ghost use Rattle.register_kinds.specs.Registers.{order};
+ghost use Rattle.compare_answers.specs.ComparedAnswers.{comparedWith, comparedNumbers, tablesComparedWith, tablesComparedNumbers};
 
 #[repr(C)]
 pub struct SnpCpuidCompared {
@@ -59,6 +60,57 @@ pub fn compared_numbers(compared: Compared) -> SnpCpuidCompared
         Compared::Differs(leaf, subleaf, register) => {
             let numbers = numbers::at_leaf(0, leaf.0, subleaf);
             compared_with(4, numbers, register_index(register))
+        }
+    }
+}
+
+// What comparing two tables gives.
+#[repr(C)]
+pub struct SnpCpuidTablesCompared {
+    pub answer: u32,
+    pub leaf: u32,
+    pub has_subleaf: u32,
+    pub subleaf: u32,
+    pub register_index: u32,
+}
+
+// One answer of comparing tables, with the numbers of a place, and a register.
+fn tables_compared_with(
+    answer: u32,
+    numbers: AnswerNumbers,
+    register_index: u32,
+) -> SnpCpuidTablesCompared
+    ensures { λ r. ⌜ r ≡ tablesComparedWith answer numbers «register_index» ⌝ }
+{
+    SnpCpuidTablesCompared {
+        answer,
+        leaf: numbers.leaf,
+        has_subleaf: numbers.has_subleaf,
+        subleaf: numbers.subleaf,
+        register_index,
+    }
+}
+
+// What comparing two tables gives, as numbers.
+pub fn tables_compared_numbers(compared: TablesCompared) -> SnpCpuidTablesCompared
+    ensures { λ r. ⌜ r ≡ tablesComparedNumbers compared ⌝ }
+{
+    match compared {
+        TablesCompared::Rises => {
+            tables_compared_with(0, numbers::answer_numbers(Verdict::Accepted), 0)
+        }
+        TablesCompared::NoRow(leaf, subleaf) => {
+            tables_compared_with(1, numbers::at_leaf(0, leaf.0, subleaf), 0)
+        }
+        TablesCompared::Differs(leaf, subleaf, register) => {
+            let numbers = numbers::at_leaf(0, leaf.0, subleaf);
+            tables_compared_with(2, numbers, register_index(register))
+        }
+        TablesCompared::Beyond(leaf, subleaf) => {
+            tables_compared_with(3, numbers::at_leaf(0, leaf.0, subleaf), 0)
+        }
+        TablesCompared::MaskLacks => {
+            tables_compared_with(4, numbers::answer_numbers(Verdict::Accepted), 0)
         }
     }
 }

@@ -13,7 +13,7 @@ use Rattle.table.specs.Rows.{Rows}
 use Rattle.build.specs.Build.{rowsFor, answer}
 use Rattle.lawful.specs.Lawful.{lawfulVerdict}
 use Rattle.lawful.specs.LawfulLaws.{lawful-bad-length}
-use Rattle.compare.specs.declared.Register.the-variants.{Ecx}
+use Rattle.register_kinds.specs.declared.Register.the-variants.{Ecx}
 use Rattle.compare.specs.declared.Compared.the-variants.{Rises, RefusedA, UnlawfulB, NoEntry, Differs}
 use Rattle.compare.specs.Compare.{comparedRows, compared}
 use Rattle.compare.specs.CompareLaws.{hasRow}

@@ -1,5 +1,5 @@
-// The bits of one first entry. Collected rows in lent memory and an entry's registers come in; the first of the 128 bits whose flip changes what building
-// answers to the rows goes out.
+// The bits of one first entry. Collected rows in lent memory and an entry's registers come in; the first of the 128 bits whose flip changes what
+// building answers to the rows goes out.
 use flip_rows::same_result;
 use flip_rows::same_table;
 use flip_rows::same_verdict;

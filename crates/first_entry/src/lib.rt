@@ -1,5 +1,6 @@
 // Where the first entry of a leaf and subleaf stands. Pages come in, lawful or not; the entry's page and position go out, as an origin's number.
 use masking::PLACES;
+use memory::REGISTERS;
 use table::Verdict;
 use x86defs::CpuidFunction;
 ghost use mathlib.Core.Path.{_≡_};
@@ -15,7 +16,7 @@ pub struct FirstEntry {
 pub fn first_entry(pages: &[u8], leaf: CpuidFunction, subleaf: u32) -> FirstEntry
     ensures { λ r. ⌜ r ≡ firstEntry (now (pages .entry)) leaf subleaf ⌝ }
 {
-    let mut registers: [u32; 352] = [0; 352];
+    let mut registers: [u32; REGISTERS] = [0; REGISTERS];
     let mut origins: [u64; PLACES] = [0; PLACES];
     let lawful = lawful::walk_pages(pages, false, &mut registers, &mut origins);
     if let Verdict::Refused(r) = lawful {

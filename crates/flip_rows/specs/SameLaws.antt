@@ -67,10 +67,9 @@ result-equal a b e =
       edx = eqb-true (a .edx) (b .edx) (and-right (eqb (a .ecx) (b .ecx)) _ g) k;
     }
 
-agree-equal : (a b : Bool) → agree a b ≡ true → a ≡ b
-agree-equal true true e = refl
-agree-equal true false e = absurd (never-both e refl)
-agree-equal false true e = absurd (never-both e refl)
+pub agree-equal : (a b : Bool) → agree a b ≡ true → a ≡ b
+agree-equal true b e = sym e
+agree-equal false true e = e
 agree-equal false false e = refl
 
 row-equal : (a b : Row) → sameRow a b ≡ true → a ≡ b
@@ -105,7 +104,8 @@ module _ (m o : Rows) where
   unfolding rowsSameTo
   rows-same-all i q e =
       let f : every (rowsAgree m o) places ≡ true = rw q at e in
-      sym (ap (sameTable (wholeOf m)) (sym (whole-ext (λ j l. row-equal (m j) (o j) (every-at (rowsAgree m o) places f j l)))) ∙ table-same (wholeOf m))
+      let w : wholeOf m ≡ wholeOf o = whole-ext (λ j l. row-equal (m j) (o j) (every-at (rowsAgree m o) places f j l)) in
+      sym (ap (sameTable (wholeOf m)) (sym w) ∙ table-same (wholeOf m))
 
   pub rows-differ : (i : ℕ) → i < places → rowsAgree m o i ≡ false → false ≡ sameTable (wholeOf m) (wholeOf o)
   unfolding sameTable sameRows
@@ -115,6 +115,7 @@ module _ (m o : Rows) where
       go true e =
           let g = and-right (eqb (wholeOf m .«max_extended_state») (wholeOf o .«max_extended_state»)) _
           (and-right (eqb (wholeOf m .«row_count») (wholeOf o .«row_count»)) _ e) in
-          let h : sameRow (rowIn (wholeOf m) i) (rowIn (wholeOf o) i) ≡ true = every-at (λ j. sameRow (rowIn (wholeOf m) j) (rowIn (wholeOf o) j)) places g i l in
+          let h : sameRow (rowIn (wholeOf m) i) (rowIn (wholeOf o) i) ≡ true =
+          every-at (λ j. sameRow (rowIn (wholeOf m) j) (rowIn (wholeOf o) j)) places g i l in
           absurd (never-both (sym (λ k. sameRow (whole-row m i l k) (whole-row o i l k)) ∙ h) f)
       go false e = refl

@@ -20,11 +20,10 @@ use Rattle.walk.specs.Walk.{firstIndex, incremented, rest}
 use Rattle.walk.specs.WalkLaws.{Valid, turn, rest-first, rest-end}
 use Rattle.pages.specs.Entries.{entries, counts, counted}
 use Rattle.masking.specs.Kept.{places}
-use Rattle.table.specs.declared.CpuidResults.{CpuidResults}
 use Rattle.origins.specs.Origin.{Origin, originNumber}
 use Rattle.origins.specs.Origin.Origin.{neither, entry}
 use Rattle.collect.specs.FirstEntries.{placeOfEntry}
-use Rattle.collect.specs.Collect.{storedAt, insert, Collecting, collecting-next}
+use Rattle.collect.specs.Collect.{storedAt}
 use Rattle.locate.specs.Stands.{standsAt, foundOrigins}
 
 -- where the first counted entry of place i stands, of a list of entries
@@ -147,10 +146,3 @@ module _ (s : List ℕ) (present : List Bool) (found : List ℕ) (i : CpuidPageI
       at′ j l false q =
           let r : j ≢ place = eqb-false j place q in
           rw (getD-set-other present place j true false r, getD-set-other found place j number 0 r) (same j l (λ e. r))
-
--- ---- rows and origins together
-
-pub finding-next : (avic : Bool) (s : List ℕ) (t u : CpuidResults) (found : List ℕ) (i : CpuidPageIndex) → Collecting avic s t i → i .«page_index» < pagesIn s
-    → (u ≡ insert avic t (entryAt s (i .«page_index») (i .«function_index»))) × Locating s (u .present) found (incremented s i)
-    → Collecting avic s u (incremented s i) × Locating s (u .present) found (incremented s i)
-finding-next avic s t u found i c h w = (collecting-next avic s t u i c h (w .0), w .1)

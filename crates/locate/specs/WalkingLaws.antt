@@ -23,9 +23,9 @@ use Rattle.reserved.specs.declared.Reserved.{Reserved}
 use Rattle.reserved.specs.declared.Reserved.the-variants.{Zero, Nonzero}
 use Rattle.reserved.specs.Reserved.{clean, firstNonzero, reservedOf, allClean}
 use Rattle.reserved.specs.ReservedLaws.{clean-zero}
-use Rattle.reader.specs.declared.Read.the-variants.{Entry, Unclean}
+use Rattle.reader.specs.declared.Read.the-variants.{Unclean}
 use Rattle.reader.specs.Read.{entryHere, cleanHere, readAt}
-use Rattle.reader.specs.ReadLaws.{read-entry, read-unclean}
+use Rattle.reader.specs.ReadLaws.{read-unclean}
 use Rattle.masking.specs.Kept.{places}
 use Rattle.masking.specs.Masks.{applyMask}
 use Rattle.masks.specs.declared.KeptLeaf.{KeptLeaf}
@@ -83,11 +83,13 @@ walking-stops avic s w o i k h {l} f =
     let no : allClean s ≡ true → ⊥ = λ c. let z : _≡_ {A = ℕ} 0 1 = cc (clean-zero s c) in omega arith in
     record { answer = a; rows = λ c. absurd (no c); stands = λ c. absurd (no c) }
 
--- a turn at one that is: e is the entry, j the index after, and place where it is stored
+-- a turn at one that is, which the reader promises with it: e is the entry, j the index after, and place where it is stored
 pub record AtEntry (avic : Bool) (s w o : List ℕ) (i : CpuidPageIndex) (e : ParsedCpuidEntry) (j : CpuidPageIndex) (place : ℕ) : Type 0 where
   pub walking : Walking avic s w o i
   pub inside : i .«page_index» < pagesIn s
-  pub read : Entry e j ≡ readAt s i (incremented s i)
+  pub entry : e ≡ parsed (entryHere s i)
+  pub next : j ≡ incremented s i
+  pub clean : cleanHere s i ≡ true
   pub stored : place ≡ countedPlace e
 
 module _ {avic : Bool} {s w o : List ℕ} {i : CpuidPageIndex} {e : ParsedCpuidEntry} {j : CpuidPageIndex} {place : ℕ} (a : AtEntry avic s w o i e j place) where
@@ -97,28 +99,25 @@ module _ {avic : Bool} {s w o : List ℕ} {i : CpuidPageIndex} {e : ParsedCpuidE
   abbrev h : i .«page_index» < pagesIn s
   h = a .inside
 
-  found : (e ≡ parsed (entryHere s i)) × (j ≡ incremented s i) × (cleanHere s i ≡ true)
-  found = read-entry s i (incremented s i) (a .read)
-
   at : place ≡ storedAt (entryHere s i)
-  at = a .stored ∙ ap countedPlace (found .0) ∙ counted-place-stored (entryHere s i)
+  at = a .stored ∙ ap countedPlace (a .entry) ∙ counted-place-stored (entryHere s i)
 
   onward : firstNonzero s (rest s (incremented s i)) ≡ reservedOf s
-  onward = sym (pick-true _ _ (found .2)) ∙ turn-answer avic s w o i k h
+  onward = sym (pick-true _ _ (a .clean)) ∙ turn-answer avic s w o i k h
 
   -- fewer entries are left, and the page is no earlier one
   pub walking-falls : length (rest s j) < length (rest s i)
-  walking-falls = rw (found .1) (turn s i (k .rows .valid) h .falls)
+  walking-falls = rw (a .next) (turn s i (k .rows .valid) h .falls)
 
   pub walking-rises : i .«page_index» ≤ j .«page_index»
-  walking-rises = rw (found .1) (turn s i (k .rows .valid) h .rises)
+  walking-rises = rw (a .next) (turn s i (k .rows .valid) h .rises)
 
   -- by what is found at the place: a row, no place at all, or nothing yet
   pub walking-kept : place < places → getD o place 0 ≢ 0 → Walking avic s w o j
   walking-kept l n =
       let t : CpuidResults = tableIn w o in
       let g : getD (t .present) place false ≡ true = getD-tabulate places (λ j. isThere (getD o j 0)) place false l ∙ ap not (ne-eqb _ 0 n) in
-      rw (found .1)
+      rw (a .next)
       (record {
         size = k .size;
         rows = collecting-next avic s t t i (k .rows) h (turn-kept avic t t (entryHere s i) place at g refl);
@@ -129,7 +128,7 @@ module _ {avic : Bool} {s w o : List ℕ} {i : CpuidPageIndex} {e : ParsedCpuidE
   pub walking-none : places ≤ place → Walking avic s w o j
   walking-none l =
       let t : CpuidResults = tableIn w o in
-      rw (found .1)
+      rw (a .next)
       (record {
         size = k .size;
         rows = collecting-next avic s t t i (k .rows) h (turn-none avic t t (entryHere s i) place at (k .rows .whole) l refl);
@@ -147,10 +146,10 @@ module _ {avic : Bool} {s w o : List ℕ} {i : CpuidPageIndex} {e : ParsedCpuidE
       let number : ℕ = originNumber (entry (i .«page_index») (i .«function_index»)) in
       let u : CpuidResults = tableIn (putRow w place r) (set o place number) in
       let z : u ≡ store t place r = put-is-store w o place number r (k .size) (k .stands .size) l (λ x. omega arith) in
-      rw (found .1)
+      rw (a .next)
       (record {
         size = put-length w place r (k .size) l;
-        rows = collecting-next avic s t u i (k .rows) h (turn-new avic t u (entryHere s i) place at kept row e r q m (found .0) g d z);
+        rows = collecting-next avic s t u i (k .rows) h (turn-new avic t u (entryHere s i) place at kept row e r q m (a .entry) g d z);
         stands = subst (λ (x : CpuidResults). Locating s (x .present) (set o place number) (incremented s i)) (sym z)
             (locating-new s (t .present) o i (k .stands) (k .rows .valid) h place at (k .rows .whole .present) l g);
         answer = onward;

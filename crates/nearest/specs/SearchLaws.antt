@@ -251,9 +251,19 @@ module _ (c : Choices) (s : List ℕ) (bytes : (n : ℕ) → getD s n 0 < 256) (
         found (at m) g = cc
         found none g = cc
 
+-- a place that is seen, or past the last, passes
+pub seen-taken : (seen : List Bool) {place stored : ℕ} → place ≡ stored → getD seen place false ≡ true
+    → (j : ℕ) → j < places → getD seen j false ≡ false → stored ≡ j → ⊥
+seen-taken seen e f j l g h = never-both (rw (e ∙ h) at f) g
+
+pub not-kept : (seen : List Bool) {place stored : ℕ} → place ≡ stored → places ≤ place
+    → (j : ℕ) → j < places → getD seen j false ≡ false → stored ≡ j → ⊥
+not-kept seen e f j l g h = omega arith
+
 -- ---- one turn in the terms of the code: e is the entry that the reader gives, j the index after, and place where it is stored
 
-pub record AtEntry (c : Choices) (s : List ℕ) (seen : List Bool) (i : CpuidPageIndex) (e : ParsedCpuidEntry) (j : CpuidPageIndex) (place : ℕ) : Type 0 where
+pub record AtEntry (c : Choices) (s : List ℕ) (seen : List Bool) (i : CpuidPageIndex) (e : ParsedCpuidEntry) (j : CpuidPageIndex)
+    (place : ℕ) : Type 0 where
   pub known : knownEdition (c .edition) ≡ true
   pub lawful : lawfulVerdict s ≡ Accepted
   pub searching : Searching c s seen i
@@ -273,15 +283,14 @@ module _ {c : Choices} {s : List ℕ} {seen : List Bool} {i : CpuidPageIndex} {e
   entry-falls = rw (given .1) (turn s i (a .searching .valid) (a .inside) .falls)
 
   module _ (bytes : (n : ℕ) → getD s n 0 < 256) where
-    -- a place that is seen, or past the last, passes
+    passes : ((k : ℕ) → k < places → getD seen k false ≡ false → storedAt (entryHere s i) ≡ k → ⊥) → Searching c s seen j
+    passes f = rw (given .1) (search-passes c s bytes (a .known) (a .lawful) seen i (a .searching) (a .inside) f)
+
     pub entry-seen : getD seen place false ≡ true → Searching c s seen j
-    entry-seen f =
-        rw (given .1) (search-passes c s bytes (a .known) (a .lawful) seen i (a .searching) (a .inside)
-        (λ k l g h. never-both (rw (at-place ∙ h) at f) g))
+    entry-seen f = passes (seen-taken seen at-place f)
 
     pub entry-not-kept : places ≤ place → Searching c s seen j
-    entry-not-kept f =
-        rw (given .1) (search-passes c s bytes (a .known) (a .lawful) seen i (a .searching) (a .inside) (λ k l g h. omega (arith, at-place)))
+    entry-not-kept f = passes (not-kept seen at-place f)
 
     -- the first entry of its place; b is what the code finds at the collected rows
     module _ (small : place < places) (new : getD seen place false ≡ false) {m : Rows} {kept : List KeptLeaf} {row : ℕ} {b : Deciding}

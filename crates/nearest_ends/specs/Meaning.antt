@@ -31,8 +31,8 @@ use Rattle.numbers.specs.declared.AnswerNumbers.{AnswerNumbers}
 use Rattle.numbers.specs.Numbers.{numbersOf}
 use Rattle.flips.specs.declared.Flip.{Flip}
 use Rattle.flips.specs.Flips.{flipped}
-use Rattle.flip_rows.specs.Same.{agree, sameRows, sameTable, sameNumbers, sameVerdict, sameAnswer}
-use Rattle.flip_rows.specs.SameLaws.{rowsAgree, result-equal, answer-same}
+use Rattle.flip_rows.specs.Same.{agree, sameRow, sameRows, sameTable, sameNumbers, sameVerdict, sameAnswer}
+use Rattle.flip_rows.specs.SameLaws.{agree-equal, result-equal, answer-same}
 use Rattle.flip_rows.specs.Changes.{changes}
 
 -- ---- a verdict is known by its numbers
@@ -98,17 +98,12 @@ verdict-equal v w e = sym (known-by-numbers v) ∙ ap verdictFrom (numbers-equal
 
 -- ---- a table of 88 places is known by its rows, its count and its mask
 
-agree-equal : (a b : Bool) → agree a b ≡ true → a ≡ b
-agree-equal true b e = sym e
-agree-equal false true e = e
-agree-equal false false e = refl
-
 table-equal : (t u : CpuidResults) → Whole t → Whole u → sameTable t u ≡ true → t ≡ u
 unfolding sameTable sameRows
 table-equal t u w x e =
     let f = and-right (eqb (t .«row_count») (u .«row_count»)) _ e in
-    let rows : (i : ℕ) → i < places → rowsAgree t u i ≡ true =
-    every-at (rowsAgree t u) places (and-right (eqb (t .«max_extended_state») (u .«max_extended_state»)) _ f) in λ k.
+    let rows : (i : ℕ) → i < places → sameRow (rowIn t i) (rowIn u i) ≡ true =
+    every-at (λ i. sameRow (rowIn t i) (rowIn u i)) places (and-right (eqb (t .«max_extended_state») (u .«max_extended_state»)) _ f) in λ k.
     record {
       present =
           (tabulated places (λ i. getD (u .present) i false) (t .present) false (w .present) (λ i l. agree-equal _ _ (and-left _ _ (rows i l)))

@@ -1,2 +1,4 @@
 pub mod Pool
+pub mod PoolIn
+pub mod JoinedRows
 pub mod PooledLaws

@@ -1,5 +1,5 @@
 -- The answer to a pool, case by case, in the terms of the code's returns.
-use mathlib.Core.Path.{_≡_, refl, sym, ap, ap₂, _∙_}
+use mathlib.Core.Path.{_≡_, refl, sym, ap, ap₂, _∙_, subst}
 use mathlib.Core.Bool.{Bool, true, false, _&&_}
 use mathlib.Core.List.{List}
 use Prim.Native.Nat.{ℕ, zero, suc, _-_, _≤_, _<_}
@@ -15,8 +15,6 @@ use Rattle.bits.specs.Bits.{Within, maskOf}
 use Rattle.bits.specs.BitsLaws.{within-trans, within-of-and, within-zero, and-within-right}
 use Rattle.bits.specs.Lists.{tabulate}
 use Rattle.bits.specs.ListsLaws.{getD-tabulate}
-use Rattle.x86defs.specs.declared.CpuidResult.{CpuidResult}
-use Rattle.pages.specs.Entries.{counted}
 use Rattle.masking.specs.Masks.{extendedState0, extendedState1}
 use Rattle.masking.specs.Kept.{places, keptLeaves, slot}
 use Rattle.masking.specs.Place
@@ -27,43 +25,43 @@ use Rattle.table.specs.declared.Refusal.the-variants.{PoolSets, PoolDiffers}
 use Rattle.table.specs.declared.Verdict.{Verdict}
 use Rattle.table.specs.declared.Verdict.the-variants.{Accepted, Refused}
 use Rattle.table.specs.Refusal.{andThen}
-use Rattle.table.specs.Rows.{Row, Rows}
-use Rattle.table.specs.Table.{tableOf, emptyTable, rowIn, rowsIn}
+use Rattle.table.specs.Rows.{Rows}
+use Rattle.table.specs.Table.{tableOf, emptyTable}
+use Rattle.memory.specs.Memory.{isThere, rowsIn}
+use Rattle.memory.specs.Held.{flag-at}
 use Rattle.checks.specs.ExtendedState.{xss, combinedMask}
 use Rattle.checks.specs.Checks.{rowsVerdict}
 use Rattle.checks.specs.ChecksLaws.{then-left, then-right, demanded}
 use Rattle.features.specs.Finish.{finished}
 use Rattle.finish_laws.specs.JoinLaws.{MaskedState}
 use Rattle.origins.specs.Origin.{finishedOrigins}
-use Rattle.origins.specs.OriginLaws.{finished-origins}
 use Rattle.collect.specs.FirstEntries.{rowsOf}
-use Rattle.locate.specs.Stands.{standsAt, foundOrigins}
+use Rattle.locate.specs.Stands.{foundOrigins}
 use Rattle.rows_built.specs.declared.RowsBuilt.{RowsBuilt}
 use Rattle.rows_built.specs.RowsBuilt.{tableFor, builtFrom}
 use Rattle.build.specs.Build.{editionVerdict, verdictOf, originsIn, answer}
 use Rattle.lawful.specs.Lawful.{lawfulVerdict}
-use Rattle.build.specs.BuildLaws.{no-origins}
+use Rattle.build.specs.BuildLaws.{no-origins, located-origins}
+use Rattle.rows_finished.specs.Finished.{Answered}
 use Rattle.counts.specs.Mask.{register-within, xfem-within, xss-within}
 use Rattle.pool_join.specs.Join.{pool}
 use Rattle.pool_join.specs.Alike.{allHave, alikeTo, allAlike}
 use Rattle.pool_join.specs.PoolLaws.{Servers, pool-accepted, pool-rows}
-use Rattle.pool_rows.specs.AskedBits.{alikeWhere}
+use Rattle.pool_rows.specs.Joins.{alikeWhere}
+use Rattle.pool_rows.specs.JoinLaws.{registersOf, alikeFlags}
 use Rattle.pool_sets.specs.declared.Joined.{Joined}
 use Rattle.pool_sets.specs.Sets.{setAt, lastOf, lawfulSets, setsVerdict}
 use Rattle.pool_sets.specs.SetsLaws.{at-least-two, at-most-sixteen}
-use Rattle.pool_sets.specs.Servers.{serverVerdict, serverRows, isAccepted, firstRefused, refusedBy, serversVerdict, numberOf, poolRows, JoinsRest}
+use Rattle.pool_sets.specs.Servers.{serverVerdict, serverRows, isAccepted, firstRefused, refusedBy, serversVerdict, numberOf, poolRows, joinedTo, JoinsRest}
 use Rattle.pool.specs.declared.Pooled.{Pooled}
 use Rattle.pool.specs.Pool.{alikeVerdict, poolVerdict, serverFor, serverNamed, pooled, refusedPool}
+use Rattle.pool.specs.PoolIn.{PoolIn, pool-in}
+use Rattle.pool.specs.JoinedRows.{joined-rows}
 
 -- the same test at every place
 every-same : (p q : ℕ → Bool) (n : ℕ) → ((i : ℕ) → i < n → p i ≡ q i) → every p n ≡ every q n
 every-same p q zero h = refl
 every-same p q (suc n) h = ap₂ _&&_ (h n (omega arith)) (every-same p q n (λ i l. h i (omega arith)))
-
--- the origins of a table, from where the first entries stand
-located-origins : (t : CpuidResults) (s : List ℕ) → finishedOrigins (t .present) (foundOrigins s) ≡ originsIn t s
-unfolding originsIn foundOrigins
-located-origins t s = finished-origins (t .present) (λ i. standsAt i (counted s))
 
 -- ---- what all servers accepted says
 
@@ -151,15 +149,14 @@ module _ (c : Choices) (pages lengths : List ℕ) where
       demanded (allAlike (c .edition) f n) PoolDiffers
       (then-right (serversVerdict c pages lengths) _ (then-right (setsVerdict pages lengths) _ e))
 
-  refused-with : {r : Refusal} {k : ℕ} {q : Pooled} → q ≡ refusedPool r k → poolVerdict c pages lengths ≡ Refused r → serverNamed c pages lengths ≡ k
-      → q ≡ pooled c pages lengths
-  refused-with {r} {k} g e p =
-      g
-      ∙ ap (λ (o : List ℕ). record { verdict = Refused r; server = k; table = emptyTable; origins = o }) (no-origins (setAt pages lengths 0))
+  -- a refusal, case by case
+  refused-with : {r : Refusal} {k : ℕ} → poolVerdict c pages lengths ≡ Refused r → serverNamed c pages lengths ≡ k → refusedPool r k ≡ pooled c pages lengths
+  refused-with {r} {k} e p =
+      ap (λ (o : List ℕ). record { verdict = Refused r; server = k; table = emptyTable; origins = o }) (no-origins (setAt pages lengths 0))
       ∙ sym (pooled-with {v = Refused r} e p)
 
-  pub pooled-sets : lawfulSets pages lengths ≡ false → {q : Pooled} → q ≡ refusedPool PoolSets 0 → q ≡ pooled c pages lengths
-  pooled-sets e g = refused-with g (unfold poolVerdict setsVerdict in rw e) (unfold serverNamed setsVerdict in rw e)
+  pub pooled-sets : lawfulSets pages lengths ≡ false → refusedPool PoolSets 0 ≡ pooled c pages lengths
+  pooled-sets e = refused-with (unfold poolVerdict setsVerdict in rw e) (unfold serverNamed setsVerdict in rw e)
 
   module _ (lawful : lawfulSets pages lengths ≡ true) where
     named : (x : Failing) → firstRefused c pages lengths ≡ x → serverNamed c pages lengths ≡ numberOf x
@@ -171,70 +168,91 @@ module _ (c : Choices) (pages lengths : List ℕ) where
     unfolding poolVerdict setsVerdict
     server-with e = rw (lawful, e)
 
-    pub pooled-first : {r : Refusal} → serverVerdict c pages lengths 0 ≡ Refused r → {q : Pooled} → q ≡ refusedPool r 0 → q ≡ pooled c pages lengths
+    pub pooled-first : {r : Refusal} → serverVerdict c pages lengths 0 ≡ Refused r → refusedPool r 0 ≡ pooled c pages lengths
     unfolding serversVerdict firstRefused
-    pooled-first e g =
+    pooled-first e =
         let whole : length lengths ≡ length lengths - 0 = omega arith in
         let p : firstRefused c pages lengths ≡ at 0 =
         ap (lowest test 0) whole ∙ lowest-stops test (length lengths) 0 (omega (arith, at-least-two pages lengths lawful)) (ap isAccepted e) in
-        refused-with g (server-with (ap (λ (x : Failing). refusedBy x (serverVerdict c pages lengths)) p ∙ e)) (named (at 0) p)
+        refused-with (server-with (ap (λ (x : Failing). refusedBy x (serverVerdict c pages lengths)) p ∙ e)) (named (at 0) p)
 
-    module _ (q : Joined) (j : JoinsRest c pages lengths q) where
-      pub pooled-server : {r : Refusal} → q .verdict ≡ Refused r → {w : Pooled} → w ≡ refusedPool r (q .server) → w ≡ pooled c pages lengths
-      pooled-server {r} e g =
-          refused-with g (server-with (sym (j .verdict) ∙ e)) (named (firstRefused c pages lengths) refl ∙ sym (j .server))
+    module _ {q : Joined} {w : List ℕ} (j : JoinsRest c pages lengths q w) where
+      joined-verdict : serversVerdict c pages lengths ≡ q .verdict
+      joined-verdict = sym (ap (λ (x : Joined). x .verdict) (j .answer))
 
-      -- all are accepted
-      module _ (passed : q .verdict ≡ Accepted) {built : RowsBuilt} (b : built ≡ builtFrom (c .edition) (rowsIn (q .table))) where
+      pub pooled-server : {r : Refusal} → q .verdict ≡ Refused r → refusedPool r (q .server) ≡ pooled c pages lengths
+      pooled-server e =
+          refused-with (server-with (joined-verdict ∙ e))
+          (named (firstRefused c pages lengths) refl ∙ sym (ap (λ (x : Joined). x .server) (j .answer)))
+
+      -- all are accepted: o are the first server's origins, and v, w₁ and o₁ what building leaves
+      module _ (passed : q .verdict ≡ Accepted) {o : List ℕ} (stands : o ≡ foundOrigins (setAt pages lengths 0)) {v : Verdict} {w₁ o₁ : List ℕ}
+          (b : Answered (builtFrom (c .edition) (rowsIn w o)) o v w₁ o₁) where
         all-accepted : serversVerdict c pages lengths ≡ Accepted
-        all-accepted = sym (j .verdict) ∙ passed
+        all-accepted = joined-verdict ∙ passed
+
+        all-joined : firstRefused c pages lengths ≡ none
+        all-joined = none-refused all-accepted
 
         servers : Servers f n
         servers = servers-of (λ k l. each-accepted all-accepted k (omega (arith, at-least-two pages lengths lawful)))
 
-        rows : rowsIn (q .table) ≡ pool f n
-        rows = j .rows passed
+        rows : rowsIn w o ≡ pool f n
+        rows =
+            ap₂ rowsIn (j .registers ∙ ap (λ (x : Failing). registersOf (pool f (joinedTo x lengths))) all-joined) stands
+            ∙ joined-rows (c .«secure_avic») (setAt pages lengths) n
 
-        pub pool-table : built .table ≡ tableOf (finished (c .edition) (pool f n)) (combinedMask (pool f n))
+        abbrev table : CpuidResults
+        table = tableOf (finished (c .edition) (pool f n)) (combinedMask (pool f n))
+
+        built : builtFrom (c .edition) (rowsIn w o) ≡ record { verdict = Accepted; table = table }
         unfolding builtFrom
-        pool-table =
-            ap (λ (x : RowsBuilt). x .table) (b ∙ ap (builtFrom (c .edition)) rows)
-            ∙ ap (λ (v : Verdict). tableFor (c .edition) v (pool f n)) (pool-accepted f n servers)
+        built =
+            ap (builtFrom (c .edition)) rows
+            ∙ ap (λ (x : Verdict). record { verdict = x; table = tableFor (c .edition) x (pool f n) }) (pool-accepted f n servers)
+
+        answered : Answered (record { verdict = Accepted; table = table }) o v w₁ o₁
+        answered = subst (λ (x : RowsBuilt). Answered x o v w₁ o₁) built b
 
         -- the rows of the pool's table are those that all tables have
-        asked-all : (i : ℕ) → i < places → getD (built .table .present) i false ≡ allHave (c .edition) f n i
+        asked-all : (i : ℕ) → i < places → isThere (getD o₁ i 0) ≡ allHave (c .edition) f n i
         asked-all i l =
-            ap (λ (x : CpuidResults). getD (x .present) i false) pool-table
+            sym (flag-at o₁ i l)
+            ∙ ap (λ (x : CpuidResults). getD (x .present) i false) (answered .whole)
             ∙ getD-tabulate places (λ j. finished (c .edition) (pool f n) j .present) i false l
             ∙ pool-rows (c .edition) f n servers i l
 
         alike-at : (i : ℕ) → i < places → getD (q .alike) i false ≡ alikeTo f n i
         alike-at i l =
-            ap (λ (x : List Bool). getD x i false) (j .alike passed) ∙ getD-tabulate places (λ i. alikeTo f n i) i false l
+            ap (λ (x : Joined). getD (x .alike) i false) (j .answer)
+            ∙ ap (λ (x : Failing). getD (alikeFlags f (joinedTo x lengths)) i false) all-joined
+            ∙ getD-tabulate places (alikeTo f n) i false l
 
-        alike-found : alikeWhere (built .table .present) (q .alike) ≡ allAlike (c .edition) f n
+        alike-found : alikeWhere o₁ (q .alike) ≡ allAlike (c .edition) f n
         unfolding alikeWhere allAlike
         alike-found = every-same _ _ places (λ i l. ap₂ (λ (a b : Bool). pick a b true) (asked-all i l) (alike-at i l))
 
-        module _ {a : Bool} (found : a ≡ alikeWhere (built .table .present) (q .alike)) where
+        module _ {a : Bool} (found : a ≡ alikeWhere o₁ (q .alike)) where
           alike-verdict : {b : Bool} → a ≡ b → poolVerdict c pages lengths ≡ pick b Accepted (Refused PoolDiffers)
           unfolding alikeVerdict
           alike-verdict h = server-with all-accepted ∙ ap (λ (x : Bool). pick x Accepted (Refused PoolDiffers)) (sym alike-found ∙ sym found ∙ h)
 
           none-named : serverNamed c pages lengths ≡ 0
-          none-named = named none (none-refused all-accepted)
+          none-named = named none all-joined
 
-          pub pooled-differs : a ≡ false → {w : Pooled} → w ≡ refusedPool PoolDiffers 0 → w ≡ pooled c pages lengths
-          pooled-differs h g = refused-with g (alike-verdict h) none-named
+          pub pooled-differs : a ≡ false → refusedPool PoolDiffers 0 ≡ pooled c pages lengths
+          pooled-differs h = refused-with (alike-verdict h) none-named
 
-          -- o are the origins of the table, from where the first server's entries stand
-          pub pooled-accepted : a ≡ true → {x o : List ℕ} → x ≡ foundOrigins (setAt pages lengths 0) → o ≡ finishedOrigins (built .table .present) x
-              → record { verdict = Accepted; server = 0; table = built .table; origins = o } ≡ pooled c pages lengths
-          pooled-accepted h p q =
-              ap (λ (w : List ℕ). record { verdict = Accepted; server = 0; table = built .table; origins = w })
-              (q ∙ ap (finishedOrigins (built .table .present)) p ∙ located-origins (built .table) (setAt pages lengths 0))
-              ∙ ap (pooledBy Accepted 0) pool-table
-              ∙ sym (pooled-with (alike-verdict h) none-named)
+          pub pooled-accepted : a ≡ true → PoolIn (pooled c pages lengths) (record { verdict = v; server = 0 }) w₁ o₁
+          pooled-accepted h =
+              pool-in {p = pooledBy Accepted 0 table} (sym (pooled-with (alike-verdict h) none-named))
+              (record {
+                verdict = answered .verdict;
+                server = refl;
+                registers = answered .table .registers;
+                origins = answered .table .origins ∙ ap (finishedOrigins (table .present)) stands ∙ located-origins table (setAt pages lengths 0);
+                table = answered .whole;
+              })
 
 -- a server is named by a number below 16
 pub server-below : (c : Choices) (pages lengths : List ℕ) → pooled c pages lengths .server < 16

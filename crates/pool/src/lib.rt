@@ -1,24 +1,25 @@
-// One table for a pool of servers. Their page sets, end to end beside a list of lengths, come in; one table that any of them can keep goes out,
-// or one refusal and, where it is a server's own, which server it is.
+// One table for a pool of servers. Their page sets, end to end beside a list of lengths, and lent memory come in; one table that any of them can keep
+// is in the memory then, or it is cleared and one refusal goes out and, where it is a server's own, which server it is.
 use masking::PLACES;
-use origins::finish_origins;
+use memory::REGISTERS;
+use memory::clear;
 use pool_rows::all_alike;
-use pool_server::server_rows;
+use pool_server::server_into;
 use pool_sets::join_rest;
 use pool_sets::sets_fit;
-use rows_built::build_rows;
+use rows_finished::build_rows;
 use table::Choices;
 use table::CpuidResults;
 use table::Refusal;
 use table::Verdict;
-use table::empty_table;
 ghost use mathlib.Core.Path.{_≡_};
 ghost use mathlib.Core.Bool.{true};
 ghost use Rattle.pool_sets.specs.Sets.{lawfulSets};
 ghost use Rattle.pool.specs.Pool.{pooled, refusedPool};
+ghost use Rattle.pool.specs.PoolIn.{PoolIn};
 
-// What pooling gives: accepted with its table and where each row stood in the first server's pages, or refused with an empty one. `server` is the
-// number, from 0, of the server whose own refusal it is, else 0.
+// What pooling gives, as specs/Pool.antt has it: accepted with its table and where each row stood in the first server's pages, or refused with an empty
+// one. `server` is the number, from 0, of the server whose own refusal it is, else 0.
 pub struct Pooled {
     pub verdict: Verdict,
     pub server: usize,
@@ -26,60 +27,73 @@ pub struct Pooled {
     pub origins: [u64; PLACES],
 }
 
-// A refused pool has an empty table.
-fn refused_pool(r: Refusal, server: usize) -> Pooled
-    ensures { λ q. ⌜ q ≡ refusedPool r server ⌝ }
+// What goes out beside the memory.
+pub struct PoolVerdict {
+    pub verdict: Verdict,
+    pub server: usize,
+}
+
+// A refusal, and the memory cleared.
+fn refuse(
+    registers: &mut [u32; REGISTERS],
+    origins: &mut [u64; PLACES],
+    r: Refusal,
+    server: usize,
+) -> PoolVerdict
+    ensures { λ q. ⌜ PoolIn (refusedPool r server) q (now (registers .exit)) (now (origins .exit)) ⌝ }
 {
-    let table = empty_table();
-    Pooled {
+    clear(registers, origins);
+    PoolVerdict {
         verdict: Verdict::Refused(r),
         server,
-        table,
-        origins: [0; PLACES],
     }
 }
 
-// Servers whose sets are lawful, joined and finished. 19 is decided over the rows that the finished table has, which are those that all servers'
-// tables have.
-fn pool_servers(pages: &[u8], lengths: &[u64], choices: Choices) -> Pooled
+// Servers whose sets are lawful, joined in the first one's memory and finished there. 19 is decided over the rows that the finished table has, which are
+// those that all servers' tables have.
+fn pool_servers(
+    pages: &[u8],
+    lengths: &[u64],
+    choices: Choices,
+    registers: &mut [u32; REGISTERS],
+    origins: &mut [u64; PLACES],
+) -> PoolVerdict
     requires { ⌜ lawfulSets (now pages) (now lengths) ≡ true ⌝ }
-    ensures { λ r. ⌜ r ≡ pooled choices (now (pages .entry)) (now (lengths .entry)) ⌝ }
+    ensures { λ r. ⌜ PoolIn (pooled choices (now (pages .entry)) (now (lengths .entry))) r (now (registers .exit)) (now (origins .exit)) ⌝ }
 {
     let end = lengths[0] as usize;
-    let first = server_rows(&pages[0..end], choices);
-    let first_verdict = first.verdict;
-    if let Verdict::Refused(r) = first_verdict {
-        return refused_pool(r, 0);
+    let first = server_into(&pages[0..end], choices, registers, origins);
+    if let Verdict::Refused(r) = first {
+        return refuse(registers, origins, r, 0);
     }
-    let joined = join_rest(pages, lengths, choices, first.table);
+    let joined = join_rest(pages, lengths, choices, registers);
     let verdict = joined.verdict;
     if let Verdict::Refused(r) = verdict {
-        return refused_pool(r, joined.server);
+        return refuse(registers, origins, r, joined.server);
     }
-    let rows = joined.table;
-    let built = build_rows(rows, choices.edition);
-    let table = built.table;
-    let present = table.present;
+    let built = build_rows(registers, origins, choices.edition);
     let alike = joined.alike;
-    if all_alike(present, alike) {
-        let found = first.origins;
-        let origins = finish_origins(present, found);
-        return Pooled {
-            verdict: Verdict::Accepted,
+    if all_alike(origins, alike) {
+        return PoolVerdict {
+            verdict: built,
             server: 0,
-            table,
-            origins,
         };
     }
-    refused_pool(Refusal::PoolDiffers, 0)
+    refuse(registers, origins, Refusal::PoolDiffers, 0)
 }
 
-// One table for a pool of servers, or one refusal: 18, then a server's own, then 19.
-pub fn build_pool(pages: &[u8], lengths: &[u64], choices: Choices) -> Pooled
-    ensures { λ r. ⌜ r ≡ pooled choices (now (pages .entry)) (now (lengths .entry)) ⌝ }
+// One table for a pool of servers, into memory that the caller lends, or one refusal: 18, then a server's own, then 19.
+pub fn pool_into(
+    pages: &[u8],
+    lengths: &[u64],
+    choices: Choices,
+    registers: &mut [u32; REGISTERS],
+    origins: &mut [u64; PLACES],
+) -> PoolVerdict
+    ensures { λ r. ⌜ PoolIn (pooled choices (now (pages .entry)) (now (lengths .entry))) r (now (registers .exit)) (now (origins .exit)) ⌝ }
 {
     if sets_fit(pages, lengths) {
-        return pool_servers(pages, lengths, choices);
+        return pool_servers(pages, lengths, choices, registers, origins);
     }
-    refused_pool(Refusal::PoolSets, 0)
+    refuse(registers, origins, Refusal::PoolSets, 0)
 }

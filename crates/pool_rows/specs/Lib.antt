@@ -1,3 +1,4 @@
-pub mod AskedBits
-pub mod AskedLaws
+pub mod Joins
+pub mod MaskLaws
+pub mod JoinLaws
 pub mod CodeLaws

@@ -1,71 +1,60 @@
--- One server, case by case in the terms of the code's returns, and what its answer says.
-use mathlib.Core.Path.{_≡_, refl, sym, ap, _∙_}
+-- One server, case by case in the terms of the code's returns.
+use mathlib.Core.Path.{_≡_, sym, ap, _∙_}
 use mathlib.Core.Bool.{true, false}
 use mathlib.Core.List.{List}
-use Prim.Native.Nat.{ℕ}
+use Prim.Native.Nat.{ℕ, _*_}
+use lib.ListN.{length}
+use Rattle.masking.specs.Kept.{places}
 use Rattle.table.specs.declared.Choices.{Choices}
-use Rattle.table.specs.declared.CpuidResults.{CpuidResults}
 use Rattle.table.specs.declared.Refusal.{Refusal}
 use Rattle.table.specs.declared.Refusal.the-variants.{UnknownEdition}
 use Rattle.table.specs.declared.Verdict.{Verdict}
 use Rattle.table.specs.declared.Verdict.the-variants.{Accepted, Refused}
 use Rattle.table.specs.Edition.{knownEdition}
-use Rattle.table.specs.Table.{rowsIn}
+use Rattle.memory.specs.Memory.{rowsIn}
 use Rattle.checks.specs.Checks.{rowsVerdict}
-use Rattle.locate.specs.Stands.{foundOrigins}
-use Rattle.collect.specs.Collect.{collected, collected-rows}
-use Rattle.build.specs.Build.{editionVerdict, rowsFor, verdictOf, answer}
 use Rattle.lawful.specs.Lawful.{lawfulVerdict}
-use Rattle.pool_server.specs.declared.Server.{Server}
-use Rattle.pool_server.specs.declared.Judged.{Judged}
-use Rattle.pool_server.specs.Server.{refusedServer, serverWith, serverOf, judgedOf}
+use Rattle.lawful.specs.Walk.{WalkedPages}
+use Rattle.rows_checked.specs.declared.Checked.{Checked}
+use Rattle.rows_checked.specs.declared.Checked.the-variants.{Refused as NotReady, Ready}
+use Rattle.rows_checked.specs.Checked.{checkedRows, verdictOf}
+use Rattle.rows_checked.specs.CheckedLaws.{verdict-of}
+use Rattle.build.specs.Build as Build
+use Rattle.build.specs.Build.{editionVerdict, rowsFor, answer}
+use Rattle.build.specs.InMemory.{walked-rows}
+use Rattle.pool_server.specs.Server.{ServerIn}
 
-module _ (c : Choices) (s : List ℕ) where
-  server-with : {v : Verdict} → verdictOf c s ≡ v → serverOf c s ≡ serverWith v c s
-  unfolding serverOf answer
-  server-with e = ap (λ (x : Verdict). serverWith x c s) e
+module _ (c : Choices) (s w o : List ℕ) where
+  -- a refusal leaves nothing to say of the memory
+  refused-with : {r : Refusal} → Build.verdictOf c s ≡ Refused r → ServerIn c s (Refused r) w o
+  unfolding answer
+  refused-with e = record { verdict = sym e; rows = λ a. cc; stands = λ a. cc }
 
-  pub server-unknown : knownEdition (c .edition) ≡ false → {q : Server} → q ≡ refusedServer UnknownEdition → q ≡ serverOf c s
-  server-unknown k g = g ∙ sym (server-with {v = Refused UnknownEdition} (unfold verdictOf editionVerdict in rw k))
+  pub server-unknown : knownEdition (c .edition) ≡ false → ServerIn c s (Refused UnknownEdition) w o
+  server-unknown k = refused-with (unfold Build.verdictOf editionVerdict in rw k)
 
-  module _ (k : knownEdition (c .edition) ≡ true) {v : Verdict} (e : v ≡ lawfulVerdict s) where
-    pub server-unlawful : {r : Refusal} → v ≡ Refused r → {q : Server} → q ≡ refusedServer r → q ≡ serverOf c s
-    server-unlawful {r} f g = g ∙ sym (server-with {v = Refused r} (unfold verdictOf editionVerdict in rw (k, ← e, f)))
+  module _ (k : knownEdition (c .edition) ≡ true) {v : Verdict} (walk : WalkedPages (c .«secure_avic») s v w o) where
+    pub server-unlawful : {r : Refusal} → v ≡ Refused r → ServerIn c s (Refused r) w o
+    server-unlawful {r} f =
+        refused-with (unfold Build.verdictOf editionVerdict in rw (k, ← walk .verdict, f))
 
-    -- w is the verdict on the collected rows
-    module _ (f : v ≡ Accepted) (t : CpuidResults) {w : Verdict} (g : t ≡ collected (c .«secure_avic») s) (h : w ≡ rowsVerdict (rowsIn t)) where
-      rows-verdict : verdictOf c s ≡ w
-      unfolding verdictOf editionVerdict
-      rows-verdict = rw (k, ← e, f) (sym (h ∙ ap rowsVerdict (ap rowsIn g ∙ collected-rows (c .«secure_avic») s)))
+    -- x is what the checks give of the rows that the walk left
+    module _ (f : v ≡ Accepted) (a : length w ≡ 4 * places) (b : length o ≡ places) {x : Checked} (e : x ≡ checkedRows (rowsIn w o)) where
+      checked : verdictOf x ≡ rowsVerdict (rowsFor c s)
+      unfolding checkedRows
+      checked = ap verdictOf e ∙ verdict-of _ (rowsIn w o) ∙ ap rowsVerdict (walked-rows c s w o a b walk f)
 
-      pub server-refused : {r : Refusal} → w ≡ Refused r → {q : Server} → q ≡ refusedServer r → q ≡ serverOf c s
-      server-refused p q = q ∙ sym (server-with (rows-verdict ∙ p))
+      judged : Build.verdictOf c s ≡ verdictOf x
+      unfolding Build.verdictOf editionVerdict
+      judged = let l : lawfulVerdict s ≡ Accepted = sym (walk .verdict) ∙ f in rw (k, l) (sym checked)
 
-      pub server-accepted : w ≡ Accepted → {o : List ℕ} → o ≡ foundOrigins s → record { verdict = Accepted; table = t; origins = o } ≡ serverOf c s
-      server-accepted p q = rw (g, q) (sym (server-with (rows-verdict ∙ p)))
+      pub server-refused : {r : Refusal} → x ≡ NotReady r → ServerIn c s (Refused r) w o
+      server-refused g = refused-with (judged ∙ ap verdictOf g)
 
-  -- ---- what the answer says
-
-  -- a server that was judged alone, as one of which all is known
-  pub as-server : {y : Judged} → y ≡ judgedOf c s
-      → _≡_ {A = Server} (record { verdict = y .verdict; table = y .table; origins = serverOf c s .origins }) (serverOf c s)
-  as-server e = λ k. record { verdict = e k .verdict; table = e k .table; origins = serverOf c s .origins }
-
-  with-verdict : (v : Verdict) → serverWith v c s .verdict ≡ v
-  with-verdict Accepted = refl
-  with-verdict (Refused r) = refl
-
-  pub server-verdict : {x : Server} → x ≡ serverOf c s → x .verdict ≡ answer c s .verdict
-  unfolding serverOf
-  server-verdict e = ap (λ (y : Server). y .verdict) e ∙ with-verdict (answer c s .verdict)
-
-  module _ (x : Server) (e : x ≡ serverOf c s) (p : x .verdict ≡ Accepted) where
-    accepted-server : x ≡ serverWith Accepted c s
-    unfolding serverOf
-    accepted-server = e ∙ ap (λ (v : Verdict). serverWith v c s) (sym (server-verdict e) ∙ p)
-
-    pub server-rows : rowsIn (x .table) ≡ rowsFor c s
-    server-rows = ap (λ (y : Server). rowsIn (y .table)) accepted-server ∙ collected-rows (c .«secure_avic») s
-
-    pub server-origins : x .origins ≡ foundOrigins s
-    server-origins = ap (λ (y : Server). y .origins) accepted-server
+      pub server-accepted : {size n : ℕ} → x ≡ Ready size n → ServerIn c s Accepted w o
+      unfolding answer
+      server-accepted g = record {
+        verdict = sym (judged ∙ ap verdictOf g);
+        rows = λ _. walk .rows f;
+        stands = λ _. walk .stands f;
+      }

@@ -3,21 +3,18 @@
 use mathlib.Core.Path.{_≡_}
 use mathlib.Core.Bool.{Bool, true, false}
 use mathlib.Core.List.{List}
-use Prim.Native.Nat.{ℕ}
-use lib.ListN.{length, replicate}
+use Prim.Native.Nat.{ℕ, _-_}
+use lib.ListN.{length}
 use Rattle.bits.specs.Search.{Failing, lowest}
 use Rattle.bits.specs.Search.Failing.{at, none}
-use Rattle.bits.specs.Lists.{tabulate}
-use Rattle.masking.specs.Kept.{places}
 use Rattle.table.specs.declared.Choices.{Choices}
 use Rattle.table.specs.declared.Refusal.{Refusal}
 use Rattle.table.specs.declared.Verdict.{Verdict}
 use Rattle.table.specs.declared.Verdict.the-variants.{Accepted, Refused}
 use Rattle.table.specs.Rows.{Rows}
-use Rattle.table.specs.Table.{emptyTable, rowsIn}
 use Rattle.build.specs.Build.{rowsFor, answer}
 use Rattle.pool_join.specs.Join.{pool}
-use Rattle.pool_join.specs.Alike.{alikeTo}
+use Rattle.pool_rows.specs.JoinLaws.{registersOf, alikeFlags}
 use Rattle.pool_sets.specs.declared.Joined.{Joined}
 use Rattle.pool_sets.specs.Sets.{setAt, lastOf}
 
@@ -56,12 +53,19 @@ poolRows c pages lengths = pool (serverRows c pages lengths) (lastOf lengths)
 
 -- ---- the loop over the servers
 
-pub record JoinsRest (c : Choices) (pages lengths : List ℕ) (r : Joined) : Type 0 where
-  pub verdict : r .verdict ≡ serversVerdict c pages lengths
-  pub server : r .server ≡ numberOf (firstRefused c pages lengths)
-  pub rows : r .verdict ≡ Accepted → rowsIn (r .table) ≡ poolRows c pages lengths
-  pub alike : r .verdict ≡ Accepted → r .alike ≡ tabulate places (λ i. alikeTo (serverRows c pages lengths) (lastOf lengths) i)
+-- the last that is joined: the last of all, or the one before the first that is refused
+abbrev pub joinedTo : Failing → List ℕ → ℕ
+joinedTo (at k) lengths = k - 1
+joinedTo none lengths = lastOf lengths
 
--- a refused one holds nothing
-abbrev pub refusedJoined : Refusal → ℕ → Joined
-refusedJoined r k = record { verdict = Refused r; server = k; table = emptyTable; alike = replicate places false }
+-- what the loop gives, and the registers that it leaves, a server refused or none
+abbrev pub joinedOf : Choices → List ℕ → List ℕ → Joined
+joinedOf c pages lengths = record {
+  verdict = serversVerdict c pages lengths;
+  server = numberOf (firstRefused c pages lengths);
+  alike = alikeFlags (serverRows c pages lengths) (joinedTo (firstRefused c pages lengths) lengths);
+}
+
+pub record JoinsRest (c : Choices) (pages lengths : List ℕ) (r : Joined) (w : List ℕ) : Type 0 where
+  pub answer : r ≡ joinedOf c pages lengths
+  pub registers : w ≡ registersOf (pool (serverRows c pages lengths) (joinedTo (firstRefused c pages lengths) lengths))

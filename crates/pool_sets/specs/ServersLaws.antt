@@ -1,47 +1,40 @@
 -- The code's steps: the servers after the first, one a turn.
-use mathlib.Core.Path.{_≡_, refl, sym, ap, ap₂, _∙_}
+use mathlib.Core.Path.{_≡_, refl, sym, ap, _∙_}
 use mathlib.Core.Bool.{Bool, true, false}
 use mathlib.Core.List.{List}
-use Prim.Native.Nat.{ℕ, zero, suc, _+_, _-_, _≤_, _<_}
+use Prim.Native.Nat.{ℕ, zero, suc, _+_, _*_, _-_, _≤_, _<_}
 use native.Mathlib.Omega.{arith}
 use lib.ListN.{length, replicate}
 use Rattle.bits.specs.Search.{Failing, lowest}
 use Rattle.bits.specs.Search.Failing.{at, none}
 use Rattle.bits.specs.SearchLaws.{lowest-passes, lowest-stops, lowest-ends}
 use Rattle.masking.specs.Kept.{places}
-use Rattle.x86defs.specs.declared.CpuidResult.{CpuidResult}
 use Rattle.table.specs.declared.Choices.{Choices}
-use Rattle.table.specs.declared.CpuidResults.{CpuidResults}
 use Rattle.table.specs.declared.Refusal.{Refusal}
 use Rattle.table.specs.declared.Verdict.{Verdict}
 use Rattle.table.specs.declared.Verdict.the-variants.{Accepted, Refused}
 use Rattle.table.specs.Rows.{Rows}
-use Rattle.table.specs.Table.{rowsIn}
+use Rattle.memory.specs.MemoryLaws.{layout-length}
+use Rattle.build.specs.Build.{rowsFor, answer}
 use Rattle.locate.specs.Stands.{foundOrigins}
-use Rattle.collect.specs.RowsFit.{rows-fit}
-use Rattle.pool_join.specs.Join.{withServer, pool}
-use Rattle.pool_rows.specs.AskedBits.{askedTable, stillAlike}
-use Rattle.pool_rows.specs.AskedLaws.{alikeFlags, flags-first, flags-next}
-use Rattle.pool_server.specs.declared.Server.{Server}
-use Rattle.pool_server.specs.Server.{serverOf}
-use Rattle.pool_server.specs.ServerLaws.{server-verdict, server-rows, server-origins}
+use Rattle.pool_join.specs.Join.{pool}
+use Rattle.pool_rows.specs.Joins.{Joins}
+use Rattle.pool_rows.specs.JoinLaws.{registersOf, alikeFlags, flags-first, registers-next, flags-next}
+use Rattle.pool_server.specs.Server.{ServerIn}
 use Rattle.pool_sets.specs.declared.Joined.{Joined}
 use Rattle.pool_sets.specs.Sets.{setAt, lastOf}
-use Rattle.pool_sets.specs.Servers.{serverVerdict, serverRows, isAccepted, firstRefused, refusedBy, serversVerdict, numberOf, poolRows, JoinsRest, refusedJoined}
+use Rattle.pool_sets.specs.Servers.{serverVerdict, serverRows, isAccepted, firstRefused, refusedBy, serversVerdict, numberOf, joinedTo, JoinsRest}
 
 -- of a part of the slice that is server k's set
-module _ (c : Choices) (pages lengths : List ℕ) (k : ℕ) {s : List ℕ} (part : s ≡ setAt pages lengths k) {x : Server} (e : x ≡ serverOf c s) where
-  same-set : x ≡ serverOf c (setAt pages lengths k)
-  same-set = e ∙ ap (serverOf c) part
+module _ (c : Choices) (pages lengths : List ℕ) (k : ℕ) {s w o : List ℕ} {v : Verdict} (part : s ≡ setAt pages lengths k) (e : ServerIn c s v w o) where
+  pub part-verdict : {x : Verdict} → v ≡ x → serverVerdict c pages lengths k ≡ x
+  part-verdict p = sym (e .verdict ∙ ap (λ (t : List ℕ). answer c t .verdict) part) ∙ p
 
-  pub part-verdict : {v : Verdict} → x .verdict ≡ v → serverVerdict c pages lengths k ≡ v
-  part-verdict p = sym (server-verdict c (setAt pages lengths k) same-set) ∙ p
+  pub part-rows : v ≡ Accepted → w ≡ registersOf (serverRows c pages lengths k)
+  part-rows p = e .rows p ∙ ap (λ (t : List ℕ). registersOf (rowsFor c t)) part
 
-  pub part-rows : x .verdict ≡ Accepted → rowsIn (x .table) ≡ serverRows c pages lengths k
-  part-rows = server-rows c (setAt pages lengths k) x same-set
-
-  pub part-origins : x .verdict ≡ Accepted → x .origins ≡ foundOrigins (setAt pages lengths k)
-  part-origins = server-origins c (setAt pages lengths k) x same-set
+  pub part-stands : v ≡ Accepted → o ≡ foundOrigins (setAt pages lengths k)
+  part-stands p = e .stands p ∙ ap foundOrigins part
 
 -- ---- the servers after the first
 
@@ -53,15 +46,15 @@ module _ (c : Choices) (pages lengths : List ℕ) where
   test k = isAccepted (serverVerdict c pages lengths k)
 
   -- before server k: none is refused so far, and their entries are joined
-  pub record Joining (k : ℕ) (t : CpuidResults) (alike : List Bool) : Type 0 where
+  pub record Joining (k : ℕ) (w : List ℕ) (alike : List Bool) : Type 0 where
     pub passed : firstRefused c pages lengths ≡ lowest test k (length lengths - k)
-    pub rows : rowsIn t ≡ pool f (k - 1)
+    pub rows : w ≡ registersOf (pool f (k - 1))
     pub flags : alike ≡ alikeFlags f (k - 1)
 
-  pub joining-starts : 2 ≤ length lengths → serverVerdict c pages lengths 0 ≡ Accepted → (t : CpuidResults) → rowsIn t ≡ f 0
-      → {alike : List Bool} → alike ≡ replicate places true → Joining 1 t alike
+  pub joining-starts : 2 ≤ length lengths → serverVerdict c pages lengths 0 ≡ Accepted → {w : List ℕ} → w ≡ registersOf (f 0)
+      → {alike : List Bool} → alike ≡ replicate places true → Joining 1 w alike
   unfolding firstRefused pool
-  joining-starts l e t r a =
+  joining-starts l e r a =
       let whole : length lengths ≡ length lengths - 0 = omega arith in
       record {
         passed = ap (lowest test 0) whole ∙ lowest-passes test (length lengths) 0 (omega arith) (ap isAccepted e);
@@ -69,49 +62,44 @@ module _ (c : Choices) (pages lengths : List ℕ) where
         flags = a ∙ flags-first f;
       }
 
-  pub joining-next : (k : ℕ) (t u w : CpuidResults) (alike found : List Bool) {asked : List CpuidResult} → asked ≡ askedTable → 1 ≤ k → k < length lengths
-      → serverVerdict c pages lengths k ≡ Accepted → rowsIn u ≡ f k → found ≡ stillAlike asked alike (rowsIn t) (rowsIn u) → rowsIn w ≡ withServer (rowsIn t) (rowsIn u)
-      → Joining k t alike → Joining (k + 1) w found
-  unfolding pool
-  joining-next k t u w alike found a l h e q p r j =
+  pub joining-length : {k : ℕ} {w : List ℕ} {alike : List Bool} → Joining k w alike → length w ≡ 4 * places
+  joining-length {k} j = ap length (j .rows) ∙ layout-length (λ i. pool f (k - 1) i .result)
+
+  -- u are the registers of server k
+  pub joining-next : (k : ℕ) {w u v : List ℕ} {alike found : List Bool} → 1 ≤ k → k < length lengths → serverVerdict c pages lengths k ≡ Accepted
+      → u ≡ registersOf (f k) → Joins w u alike v found → Joining k w alike → Joining (k + 1) v found
+  joining-next k {w} {u} l h e q b j =
       let s : k ≡ suc (k - 1) = omega arith in
-      let s₁ : k + 1 - 1 ≡ suc (k - 1) = omega arith in
-      let q₁ : rowsIn u ≡ f (suc (k - 1)) = q ∙ ap f s in
+      let s₁ : suc (k - 1) ≡ k + 1 - 1 = omega arith in
+      let q₁ : u ≡ registersOf (f (suc (k - 1))) = q ∙ ap (λ (n : ℕ). registersOf (f n)) s in
       record {
         passed = j .passed ∙ lowest-passes test (length lengths) k h (ap isAccepted e);
-        rows = r ∙ ap₂ withServer (j .rows) q₁ ∙ sym (ap (pool f) s₁);
-        flags =
-            p
-            ∙ ap (λ (m : List CpuidResult). stillAlike m alike (rowsIn t) (rowsIn u)) a
-            ∙ flags-next f (k - 1) (λ a b. rows-fit (c .«secure_avic») (setAt pages lengths a) b) (j .flags) (j .rows) q₁
-            ∙ sym (ap (alikeFlags f) s₁);
+        rows = b .registers ∙ registers-next f (k - 1) (j .rows) q₁ ∙ ap (λ (n : ℕ). registersOf (pool f n)) s₁;
+        flags = b .flags ∙ flags-next f (k - 1) (j .rows) q₁ (j .flags) ∙ ap (alikeFlags f) s₁;
       }
 
-  found-verdict : {x : Failing} → firstRefused c pages lengths ≡ x → serversVerdict c pages lengths ≡ refusedBy x (serverVerdict c pages lengths)
+  -- what was found is what the loop gives
+  joins : {x : Failing} {v : Verdict} {w : List ℕ} {alike : List Bool} → firstRefused c pages lengths ≡ x → v ≡ refusedBy x (serverVerdict c pages lengths)
+      → w ≡ registersOf (pool f (joinedTo x lengths)) → alike ≡ alikeFlags f (joinedTo x lengths)
+      → JoinsRest c pages lengths (record { verdict = v; server = numberOf x; alike = alike }) w
   unfolding serversVerdict
-  found-verdict e = ap (λ (y : Failing). refusedBy y (serverVerdict c pages lengths)) e
+  joins p e r a =
+      let v = e ∙ ap (λ (y : Failing). refusedBy y (serverVerdict c pages lengths)) (sym p) in
+      let a₁ = a ∙ ap (λ (y : Failing). alikeFlags f (joinedTo y lengths)) (sym p) in
+      record {
+        answer = λ t. record { verdict = v t; server = numberOf (sym p t); alike = a₁ t };
+        registers = r ∙ ap (λ (y : Failing). registersOf (pool f (joinedTo y lengths))) (sym p);
+      }
 
   -- server k is refused
-  pub joining-refuses : (k : ℕ) (t : CpuidResults) (alike : List Bool) {r : Refusal} {q : Joined} → k < length lengths
-      → serverVerdict c pages lengths k ≡ Refused r → q ≡ refusedJoined r k → Joining k t alike → JoinsRest c pages lengths q
-  joining-refuses k t alike {r} {q} l e g j =
-      let p : firstRefused c pages lengths ≡ at k = j .passed ∙ lowest-stops test (length lengths) k l (ap isAccepted e) in
-      let no : q .verdict ≡ Accepted → ⊥ = λ h. absurd (let z : _≡_ {A = ℕ} 0 1 = cc in omega arith) in
-      record {
-        verdict = ap (λ (x : Joined). x .verdict) g ∙ sym (found-verdict p ∙ e);
-        server = ap (λ (x : Joined). x .server) g ∙ sym (ap numberOf p);
-        rows = λ h. absurd (no h);
-        alike = λ h. absurd (no h);
-      }
+  pub joining-refuses : (k : ℕ) {w : List ℕ} {alike : List Bool} {r : Refusal} → k < length lengths → serverVerdict c pages lengths k ≡ Refused r
+      → Joining k w alike → JoinsRest c pages lengths (record { verdict = Refused r; server = k; alike = alike }) w
+  joining-refuses k l e j =
+      joins {x = at k} (j .passed ∙ lowest-stops test (length lengths) k l (ap isAccepted e)) (sym e) (j .rows) (j .flags)
 
   -- all servers pass
-  pub joining-ends : (k : ℕ) (t : CpuidResults) (alike : List Bool) → k ≡ length lengths → Joining k t alike
-      → JoinsRest c pages lengths (record { verdict = Accepted; server = 0; table = t; alike = alike })
-  joining-ends k t alike e j =
-      let p : firstRefused c pages lengths ≡ none = j .passed ∙ lowest-ends test (length lengths) k (omega arith) in
-      record {
-        verdict = sym (found-verdict p);
-        server = sym (ap numberOf p);
-        rows = λ h. j .rows ∙ ap (λ (n : ℕ). pool f (n - 1)) e;
-        alike = λ h. j .flags ∙ ap (λ (n : ℕ). alikeFlags f (n - 1)) e;
-      }
+  pub joining-ends : (k : ℕ) {w : List ℕ} {alike : List Bool} → k ≡ length lengths → Joining k w alike
+      → JoinsRest c pages lengths (record { verdict = Accepted; server = 0; alike = alike }) w
+  joining-ends k e j =
+      joins {x = none} {v = Accepted} (j .passed ∙ lowest-ends test (length lengths) k (omega arith)) refl
+      (j .rows ∙ ap (λ (n : ℕ). registersOf (pool f (n - 1))) e) (j .flags ∙ ap (λ (n : ℕ). alikeFlags f (n - 1)) e)

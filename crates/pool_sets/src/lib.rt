@@ -1,27 +1,23 @@
-// Page sets end to end, beside a list of their lengths. Whether they are lawful goes out, and the entries of all servers joined, or the first server
-// that is refused.
+// Page sets end to end, beside a list of their lengths. Whether they are lawful goes out; the entries of all servers are joined in the memory of the
+// first, up to one that is refused.
 use masking::PLACES;
+use memory::REGISTERS;
 use pool_rows::all_places;
-use pool_rows::asked_bits;
-use pool_rows::still_alike;
 use pool_rows::with_server;
-use pool_server::judged_rows;
+use pool_server::server_into;
 use table::Choices;
-use table::CpuidResults;
-use table::Refusal;
 use table::Verdict;
-use table::empty_table;
 ghost use mathlib.Core.Path.{_≡_};
 ghost use mathlib.Core.Bool.{true};
-ghost use Rattle.table.specs.Table.{rowsIn};
 ghost use Rattle.pool_sets.specs.Sets.{lawfulSets};
-ghost use Rattle.pool_sets.specs.Servers.{serverVerdict, serverRows, JoinsRest, refusedJoined};
+ghost use Rattle.pool_rows.specs.JoinLaws.{registersOf};
+ghost use Rattle.pool_sets.specs.Servers.{serverVerdict, serverRows, JoinsRest};
 
-// All servers joined: the first that is refused, or the joined entries and the places at which all are like the first.
+// What joining gives beside the joined registers: the first server that is refused, or that none is, and the places at which those that were joined are
+// like the first.
 pub struct Joined {
     pub verdict: Verdict,
     pub server: usize,
-    pub table: CpuidResults,
     pub alike: [bool; PLACES],
 }
 
@@ -49,49 +45,42 @@ pub fn sets_fit(pages: &[u8], lengths: &[u64]) -> bool
     left == 0
 }
 
-fn refused_joined(r: Refusal, server: usize) -> Joined
-    ensures { λ q. ⌜ q ≡ refusedJoined r server ⌝ }
-{
-    let table = empty_table();
-    Joined {
-        verdict: Verdict::Refused(r),
-        server,
-        table,
-        alike: [false; PLACES],
-    }
-}
-
-// The servers after the first, whose entries come in, each walked once and in order, up to one that is refused.
-pub fn join_rest(pages: &[u8], lengths: &[u64], choices: Choices, first: CpuidResults) -> Joined
+// The servers after the first, whose registers are in the memory: each is walked once and in order, into memory of its own, and joined, up to one that
+// is refused.
+pub fn join_rest(
+    pages: &[u8],
+    lengths: &[u64],
+    choices: Choices,
+    registers: &mut [u32; REGISTERS],
+) -> Joined
     requires { ⌜ (lawfulSets (now pages) (now lengths) ≡ true) × (serverVerdict choices (now pages) (now lengths) 0 ≡ Verdict.Accepted)
-        × (rowsIn first ≡ serverRows choices (now pages) (now lengths) 0) ⌝ }
-    ensures { λ r. ⌜ JoinsRest choices (now (pages .entry)) (now (lengths .entry)) r ⌝ }
+        × (now registers ≡ registersOf (serverRows choices (now pages) (now lengths) 0)) ⌝ }
+    ensures { λ r. ⌜ JoinsRest choices (now (pages .entry)) (now (lengths .entry)) r (now (registers .exit)) ⌝ }
 {
-    let asked = asked_bits();
     let n = lengths.len();
+    let mut other: [u32; REGISTERS] = [0; REGISTERS];
+    let mut stands: [u64; PLACES] = [0; PLACES];
     let mut start = lengths[0] as usize;
-    let mut t = first;
     let mut alike = all_places();
     let mut k: usize = 1;
     while k < n {
         let end = start + lengths[k] as usize;
-        let server = judged_rows(&pages[start..end], choices);
-        let verdict = server.verdict;
+        let verdict = server_into(&pages[start..end], choices, &mut other, &mut stands);
         if let Verdict::Refused(r) = verdict {
-            return refused_joined(r, k);
+            return Joined {
+                verdict: Verdict::Refused(r),
+                server: k,
+                alike,
+            };
         }
-        let u = server.table;
-        let found = still_alike(asked, alike, t, u);
+        let found = with_server(registers, &other, alike);
         alike = found;
-        let joined = with_server(t, u);
-        t = joined;
         start = end;
         k += 1;
     }
     Joined {
         verdict: Verdict::Accepted,
         server: 0,
-        table: t,
         alike,
     }
 }

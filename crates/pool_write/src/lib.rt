@@ -1,7 +1,10 @@
 // From the page sets of a pool to the image of its table. The sets, their lengths and a lent buffer come in; the table's bytes go out, or a refusal
 // and the buffer as it was.
 use buffer::Written;
-use pool::build_pool;
+use image_write::write_table;
+use masking::PLACES;
+use memory::REGISTERS;
+use pool::pool_into;
 use table::Choices;
 use table::Verdict;
 ghost use mathlib.Core.Path.{_≡_};
@@ -12,11 +15,12 @@ pub fn write_pool_image(pages: &[u8], lengths: &[u64], choices: Choices, out: &m
     ensures { λ r. ⌜ r ≡ writePool choices (now (pages .entry)) (now (lengths .entry)) (now (out .entry)) .answer ⌝ }
     ensures { λ _. ⌜ now (out .exit) ≡ writePool choices (now (pages .entry)) (now (lengths .entry)) (now (out .entry)) .buffer ⌝ }
 {
-    let pooled = build_pool(pages, lengths, choices);
+    let mut registers: [u32; REGISTERS] = [0; REGISTERS];
+    let mut origins: [u64; PLACES] = [0; PLACES];
+    let pooled = pool_into(pages, lengths, choices, &mut registers, &mut origins);
     let verdict = pooled.verdict;
     if let Verdict::Refused(r) = verdict {
         return Written::Refused(r);
     }
-    let table = pooled.table;
-    image_write::write_table(table, out)
+    write_table(&registers, &origins, out)
 }

@@ -2,16 +2,17 @@
 use mathlib.Core.Path.{_≡_, refl, ap, _∙_}
 use mathlib.Core.List.{List, [], _∷_, _++_}
 use Prim.Native.Nat.{ℕ, _≤_, _<_}
-use lib.Dec.{leb}
 use lib.ListN.{length}
 use borrow.Author.Tests.{le-leb, lt-leb}
-use Rattle.build.specs.declared.Built.{Built}
 use Rattle.table.specs.declared.Subleaf.{Subleaf}
 use Rattle.table.specs.declared.Subleaf.the-variants.{None, Some}
 use Rattle.table.specs.declared.Refusal.{Refusal}
+use Rattle.table.specs.declared.Verdict.{Verdict}
 use Rattle.table.specs.declared.Verdict.the-variants.{Accepted, Refused as NotBuilt}
 use Rattle.table.specs.Refusal.{Details, details}
+use Rattle.memory.specs.Held.{heldIn}
 use Rattle.build.specs.Build.{underEdition, answer}
+use Rattle.build.specs.InMemory.{InMemory}
 use Rattle.numbers.specs.declared.AnswerNumbers.{AnswerNumbers}
 use Rattle.numbers.specs.Numbers.{detailNumbers, refusalNumbers}
 use Rattle.buffer.specs.Front.{bytesOf}
@@ -32,11 +33,11 @@ code-of (Some k) number leaf t = refl
 number-bytes : (d : Details) → numberBytes (detailNumbers d) ≡ refusalBytes d
 number-bytes d = ap (λ (k : ℕ). 3 ∷ d .number ∷ bytesOf (d .leaf) ++ bytesOf k ++ (d .s ∷ [])) (code-of (d .subleaf) (d .number) (d .leaf) (d .s))
 
-module _ (s : List ℕ) (short : length s ≤ longestInput) {b : Built} (built : b ≡ answer (underEdition 1) s) where
-  pub output-refused : (r : Refusal) (n : AnswerNumbers) → b .verdict ≡ NotBuilt r → n ≡ refusalNumbers r → numberBytes n ≡ output s
+module _ (s : List ℕ) (short : length s ≤ longestInput) {d : Verdict} {w o : List ℕ} (built : InMemory (answer (underEdition 1) s) d w o) where
+  pub output-refused : (r : Refusal) (n : AnswerNumbers) → d ≡ NotBuilt r → n ≡ refusalNumbers r → numberBytes n ≡ output s
   unfolding output
-  output-refused r n e p = ap numberBytes p ∙ number-bytes (details r) ∙ rw (le-leb (length s) longestInput short, ← built, e)
+  output-refused r n e p = ap numberBytes p ∙ number-bytes (details r) ∙ rw (le-leb (length s) longestInput short, ← built .verdict, e)
 
-  pub output-accepted : b .verdict ≡ Accepted → image (b .table) ≡ output s
+  pub output-accepted : d ≡ Accepted → image (heldIn w o) ≡ output s
   unfolding output
-  output-accepted e = rw (le-leb (length s) longestInput short, ← built, e)
+  output-accepted e = rw (le-leb (length s) longestInput short, ← built .verdict, ← built .table, e)

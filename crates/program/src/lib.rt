@@ -1,5 +1,9 @@
 // The program's output. Input bytes come in; the image, or the bytes that say why there is none, go out.
 use buffer::Written;
+use build::build_into;
+use image_write::write_table;
+use masking::PLACES;
+use memory::REGISTERS;
 use numbers::AnswerNumbers;
 use table::Choices;
 use table::Refusal;
@@ -45,13 +49,13 @@ pub fn write_output(input: &[u8], out: &mut [u8]) -> Written
     if input.len() > LONGEST_INPUT {
         return put_too_long(out);
     }
-    let built = build::build_table(input, CHOICES);
-    let verdict = built.verdict;
+    let mut registers: [u32; REGISTERS] = [0; REGISTERS];
+    let mut origins: [u64; PLACES] = [0; PLACES];
+    let verdict = build_into(input, CHOICES, &mut registers, &mut origins);
     if let Verdict::Refused(refusal) = verdict {
         return put_refusal(numbers::refusal_numbers(refusal), out);
     }
-    let table = built.table;
-    image_write::write_table(table, out)
+    write_table(&registers, &origins, out)
 }
 
 // Byte 4.

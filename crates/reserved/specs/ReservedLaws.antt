@@ -47,29 +47,6 @@ pub record FirstUnclean (s : List ℕ) (p q : ℕ) : Type 0 where
   pub unclean : cleanAt s p q ≡ false
   pub before : CleanBefore s p q
 
--- a pass over pages and positions
-module _ (s : List ℕ) where
-  pub before-first : CleanBefore s 0 0
-  before-first = record { pages = λ i j h l. absurd (omega arith); positions = λ j l. absurd (omega arith) }
-
-  pub before-next : (p q : ℕ) → CleanBefore s p q → cleanAt s p q ≡ true → CleanBefore s p (q + 1)
-  before-next p q b e = record {
-    pages = b .pages;
-    positions = λ j l. elim (eq-or-lt-of-le l) [ inl z ↦ ap (cleanAt s p) (omega arith) ∙ e | inr z ↦ b .positions j (omega arith) ];
-  }
-
-  pub before-page : (p q : ℕ) → CleanBefore s p q → countOf s p ≤ q → CleanBefore s (p + 1) 0
-  before-page p q b h = record {
-    pages = λ i j l k. elim (eq-or-lt-of-le l) [
-      | inl z ↦ let e : i ≡ p = omega arith in rw e (b .positions j (omega (arith, rw e at k)))
-      | inr z ↦ b .pages i j (omega arith) k
-    ];
-    positions = λ j l. absurd (omega arith);
-  }
-
-  pub before-end : (p q : ℕ) → CleanBefore s p q → pagesIn s ≤ p → allClean s ≡ true
-  before-end p q b h = all-clean s (λ i j l k. b .pages i j (omega arith) k)
-
 -- ---- what is named
 
 module _ (s : List ℕ) where

@@ -1,4 +1,4 @@
-// The reserved bytes of the entries. Page bytes come in; whether all are zero goes out, or the leaf of the first entry that has another there.
+// The reserved bytes of an entry. Page bytes and an index come in; whether the bytes are zero goes out.
 use pages::CpuidPageIndex;
 use pages::ENTRY_SIZE;
 use pages::FIRST_ENTRY;
@@ -6,41 +6,17 @@ use pages::PAGE_SIZE;
 use pages::word_at;
 use x86defs::CpuidFunction;
 ghost use mathlib.Core.Path.{_≡_};
-ghost use mathlib.Core.Bool.{true};
 ghost use Prim.Native.Nat.{_+_, _≤_, _<_};
 ghost use lib.ListN.{length};
-ghost use Rattle.pages.specs.Layout.{countsFit, pagesIn, mostEntries};
-ghost use Rattle.reserved.specs.Reserved.{eightZeros, cleanAt, reservedOf};
+ghost use Rattle.pages.specs.Layout.{pagesIn, mostEntries};
+ghost use Rattle.reserved.specs.Reserved.{eightZeros, cleanAt};
 
 const RESERVED: usize = 40;
 
-// Whether the reserved bytes of all entries are zero, or the leaf of the first entry where one is not.
+// What a walk over all entries finds of these bytes: all are zero, or the leaf of the first entry where one is not.
 pub enum Reserved {
     Zero,
     Nonzero(CpuidFunction),
-}
-
-// Refusal 17, from pages whose counts are lawful: the reserved bytes of every entry below its page's count, in page and entry order.
-pub fn reserved_bytes(pages: &[u8]) -> Reserved
-    requires { ⌜ countsFit (now pages) ≡ true ⌝ }
-    ensures { λ r. ⌜ r ≡ reservedOf (now (pages .entry)) ⌝ }
-{
-    let n = pages::page_count(pages);
-    let mut page: usize = 0;
-    while page < n {
-        let count = pages::count_of(pages, page) as usize;
-        let mut position: usize = 0;
-        while position < count {
-            let start = PAGE_SIZE * page + FIRST_ENTRY + ENTRY_SIZE * position;
-            if eight_zeros(pages, start + RESERVED) {
-                position += 1;
-            } else {
-                return Reserved::Nonzero(CpuidFunction(word_at(pages, start)));
-            }
-        }
-        page += 1;
-    }
-    Reserved::Zero
 }
 
 // Whether the reserved bytes of the entry at an index are zero.

@@ -2,11 +2,13 @@
 use answers::SnpCpuidBuilt;
 use answers::SnpCpuidFound;
 use answers::SnpCpuidWritten;
-use answers::built_numbers;
 use answers::found_at;
 use answers::processor;
 use answers::subleaf_of;
+use answers::table_numbers;
 use answers::written_numbers;
+use masking::PLACES;
+use memory::REGISTERS;
 use table::Choices;
 ghost use mathlib.Core.Path.{_≡_};
 ghost use Rattle.guest_pages.specs.GuestPages.{guestPages, writeGuest};
@@ -31,9 +33,10 @@ pub extern "C" fn snp_cpuid_guest_build(
         secure_avic,
         edition,
     };
-    let seen = guest_pages::guest_pages(pages, choices, v);
-    let verdict = seen.verdict;
-    built_numbers(verdict, seen.table.row_count, seen.table.max_extended_state)
+    let mut registers: [u32; REGISTERS] = [0; REGISTERS];
+    let mut origins: [u64; PLACES] = [0; PLACES];
+    let verdict = guest_pages::guest_pages(pages, choices, v, &mut registers, &mut origins);
+    table_numbers(verdict, &registers, &origins)
 }
 
 // Builds, and looks a row up in the guest's table as leaf_result_ref does in the paravisor's, whose row's origin it has.
@@ -58,13 +61,11 @@ pub extern "C" fn snp_cpuid_guest_lookup(
         secure_avic,
         edition,
     };
-    let built = build::build(pages, choices);
-    let origins = built.origins;
-    let verdict = built.verdict;
-    let seen = guest_pages::guest_of(verdict, built.table, v);
-    let table = seen.table;
+    let mut registers: [u32; REGISTERS] = [0; REGISTERS];
+    let mut origins: [u64; PLACES] = [0; PLACES];
+    guest_pages::guest_pages(pages, choices, v, &mut registers, &mut origins);
     let named = subleaf_of(has_subleaf, subleaf);
-    found_at(table, origins, leaf, named, enforce_subleaf)
+    found_at(&registers, &origins, leaf, named, enforce_subleaf)
 }
 
 // Builds, and writes the image of the guest's table at the front of `out`.

@@ -3,13 +3,16 @@ use answers::SnpCpuidBuilt;
 use answers::SnpCpuidFirst;
 use answers::SnpCpuidFound;
 use answers::SnpCpuidWritten;
-use answers::built_numbers;
 use answers::first_numbers;
 use answers::found_at;
 use answers::subleaf_of;
+use answers::table_numbers;
 use answers::written_numbers;
+use build::build_into;
 use compare_answers::SnpCpuidCompared;
 use compare_answers::compared_numbers;
+use masking::PLACES;
+use memory::REGISTERS;
 use table::Choices;
 use x86defs::CpuidFunction;
 ghost use mathlib.Core.Path.{_≡_};
@@ -27,6 +30,7 @@ mod kvm;
 mod line_exports;
 mod nearest_exports;
 mod pool_exports;
+mod table_exports;
 mod topology_exports;
 
 // Builds the table of the given pages.
@@ -38,13 +42,10 @@ pub extern "C" fn snp_cpuid_build(pages: &[u8], secure_avic: bool, edition: u32)
         secure_avic,
         edition,
     };
-    let built = build::build_table(pages, choices);
-    let verdict = built.verdict;
-    built_numbers(
-        verdict,
-        built.table.row_count,
-        built.table.max_extended_state,
-    )
+    let mut registers: [u32; REGISTERS] = [0; REGISTERS];
+    let mut origins: [u64; PLACES] = [0; PLACES];
+    let verdict = build_into(pages, choices, &mut registers, &mut origins);
+    table_numbers(verdict, &registers, &origins)
 }
 
 // Builds, and looks a row up as leaf_result_ref does; with the row it tells where it came from.
@@ -64,11 +65,11 @@ pub extern "C" fn snp_cpuid_lookup(
         secure_avic,
         edition,
     };
-    let built = build::build(pages, choices);
-    let table = built.table;
-    let origins = built.origins;
+    let mut registers: [u32; REGISTERS] = [0; REGISTERS];
+    let mut origins: [u64; PLACES] = [0; PLACES];
+    build_into(pages, choices, &mut registers, &mut origins);
     let named = subleaf_of(has_subleaf, subleaf);
-    found_at(table, origins, leaf, named, enforce_subleaf)
+    found_at(&registers, &origins, leaf, named, enforce_subleaf)
 }
 
 // Where the first counted entry of a leaf and subleaf stands, whether or not a table is given.

@@ -4,7 +4,11 @@ use answers::SnpCpuidWritten;
 use answers::found_at;
 use answers::subleaf_of;
 use answers::written_numbers;
-use pool::build_pool;
+use masking::PLACES;
+use memory::REGISTERS;
+use memory::combined_mask;
+use memory::row_count;
+use pool::pool_into;
 use pool_answers::SnpCpuidPooled;
 use pool_answers::pooled_numbers;
 use pool_write::write_pool_image;
@@ -14,7 +18,7 @@ ghost use Rattle.pool.specs.Pool.{pooled};
 ghost use Rattle.pool_write.specs.WritePool.{writePool};
 ghost use Rattle.answers.specs.Answers.{choicesOf, writtenNumbers, subleafOf};
 ghost use Rattle.pool_answers.specs.PoolAnswers.{pooledNumbers};
-ghost use Rattle.snp_cpuid.specs.PoolExports.{pooledFound};
+ghost use Rattle.snp_cpuid.specs.PoolExports.{pooledFound, PooledIn};
 
 // Builds one table for servers whose page sets stand end to end.
 #[no_mangle]
@@ -30,13 +34,42 @@ pub extern "C" fn snp_cpuid_pool(
         secure_avic,
         edition,
     };
-    let built = build_pool(pages, lengths, choices);
-    let verdict = built.verdict;
+    let mut registers: [u32; REGISTERS] = [0; REGISTERS];
+    let mut origins: [u64; PLACES] = [0; PLACES];
+    let pooled = pool_into(pages, lengths, choices, &mut registers, &mut origins);
+    let verdict = pooled.verdict;
     pooled_numbers(
         verdict,
-        built.server,
-        built.table.row_count,
-        built.table.max_extended_state,
+        pooled.server,
+        row_count(&origins),
+        combined_mask(&registers),
+    )
+}
+
+// Builds one table for servers whose page sets stand end to end into the caller's memory; a refusal leaves a table without rows.
+#[no_mangle]
+pub extern "C" fn snp_cpuid_table_pool(
+    pages: &[u8],
+    lengths: &[u64],
+    secure_avic: bool,
+    edition: u32,
+    registers: &mut [u32; REGISTERS],
+    origins: &mut [u64; PLACES],
+) -> SnpCpuidPooled
+    ensures { λ r. ⌜ r ≡ pooledNumbers (pooled (choicesOf «secure_avic» edition) (now (pages .entry)) (now (lengths .entry))) ⌝ }
+    ensures { λ _. ⌜ PooledIn (pooled (choicesOf «secure_avic» edition) (now (pages .entry)) (now (lengths .entry))) (now (registers .exit)) (now (origins .exit)) ⌝ }
+{
+    let choices = Choices {
+        secure_avic,
+        edition,
+    };
+    let pooled = pool_into(pages, lengths, choices, registers, origins);
+    let verdict = pooled.verdict;
+    pooled_numbers(
+        verdict,
+        pooled.server,
+        row_count(origins),
+        combined_mask(registers),
     )
 }
 
@@ -58,11 +91,11 @@ pub extern "C" fn snp_cpuid_pool_lookup(
         secure_avic,
         edition,
     };
-    let built = build_pool(pages, lengths, choices);
-    let table = built.table;
-    let origins = built.origins;
+    let mut registers: [u32; REGISTERS] = [0; REGISTERS];
+    let mut origins: [u64; PLACES] = [0; PLACES];
+    pool_into(pages, lengths, choices, &mut registers, &mut origins);
     let named = subleaf_of(has_subleaf, subleaf);
-    found_at(table, origins, leaf, named, enforce_subleaf)
+    found_at(&registers, &origins, leaf, named, enforce_subleaf)
 }
 
 // Builds, and writes the image of the pool's table at the front of `out`.

@@ -60,7 +60,7 @@ use Rattle.rise.specs.Same.{rises-itself, same-figures}
 use Rattle.rise.specs.Preorder as Preorder
 use Rattle.rise.specs.Preorder.{SameRows}
 use Rattle.rise.specs.Levels.{AcceptedLevels, accepted-levels}
-use Rattle.compare.specs.declared.Register.the-variants.{Ecx}
+use Rattle.register_kinds.specs.declared.Register.the-variants.{Ecx}
 use Rattle.compare.specs.declared.Compared.the-variants.{Rises as Yes, RefusedA, UnlawfulB, NoEntry, Differs}
 use Rattle.compare.specs.Compare.{compared}
 use Rattle.compare.specs.Means.{Decides}

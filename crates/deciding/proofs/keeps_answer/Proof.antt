@@ -33,7 +33,8 @@ answer b =
     let put = b .before .before .before in let z = put .before .before .before .before in let s = start b in
     answer-to (s .args .edition) (b .build-rows .ensures)
     (ap (λ (w : List ℕ). rowsIn w (set (s .args .origins .now) (s .args .place) 1)) (put .put-row .ensures)
-    ∙ put-row (s .args .registers .now) (s .args .origins .now) (s .args .place) (s .args .x) 1 (z .sized .ensures .0) (z .sized .ensures .1) (s .pre .0) refl)
+    ∙ put-row (s .args .registers .now) (s .args .origins .now) (s .args .place) (s .args .x) 1
+    (z .sized .ensures .0) (z .sized .ensures .1) (s .pre .0) refl)
 
 returns-2 : tie.Need-returns-2
 returns-2 c =

@@ -8,6 +8,7 @@ use denote.Ref.{now}
 use Rattle.pages.specs.Layout.{pagesIn}
 use Rattle.walk.specs.Walk.{rest}
 use Rattle.walk.specs.WalkLaws.{turn}
+use Rattle.reader.specs.ReadLaws.{read-entry}
 use Rattle.locate.specs.OriginsLaws.{number-fits}
 use Rattle.locate.specs.WalkingLaws.{Walking, walking-first, walking-last, walking-stops, AtEntry, walking-falls, walking-rises, walking-kept, walking-none, walking-new}
 use Rattle.locate.proofs.collect_into.Statement.{statement}
@@ -73,10 +74,13 @@ at-entry : (c : Counted) → AtEntry (start c .args .secure-avic) (now (start c 
     (c .before .before .read .given .0 .0) (c .before .before .read .given .0 .1 .0) (c .counted-place .result)
 at-entry c =
     let k = c .before .before .before .before in
+    let read = read-entry _ _ _ (sym (c .before .before .read .given .1) ∙ k .take .ensures) in
     record {
       walking = turned c .loop2 .inv .0;
       inside = take-requires (k .before) (k .take .lifetimes) .inside .page;
-      read = sym (c .before .before .read .given .1) ∙ k .take .ensures;
+      entry = read .0;
+      next = read .1;
+      clean = read .2;
       stored = c .counted-place .ensures;
     }
 

@@ -24,7 +24,8 @@ search-flips-requires : tie.Need-search-flips-requires
 search-flips-requires c κs =
     let z = c .before .before in let e = z .before .before .before in let l = e .before .before in
     let w = l .walk-pages .ensures in let a = e .enum-told .given .1 in
-    (known l, sym (w .verdict) ∙ a, walked-rows (l .before .before .before .before .before .before .args .choices) _ _ _ (z .sized .ensures .0) (z .sized .ensures .1) w a)
+    let chosen = l .before .before .before .before .before .before .args .choices in
+    (known l, sym (w .verdict) ∙ a, walked-rows chosen _ _ _ (z .sized .ensures .0) (z .sized .ensures .1) w a)
 
 returns-3 : tie.Need-returns-3
 returns-3 c =

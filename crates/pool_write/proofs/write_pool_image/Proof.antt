@@ -9,15 +9,15 @@ use Rattle.pool_write.proofs.write_pool_image.Tie as tie
 
 returns : tie.Need-returns
 returns c =
-    let built = c .before .before .before in let start = built .before .before .before .before in
-    let e = write-refused _ _ _ (now (start .args .out)) (built .build-pool .ensures) (c .before .verdict .given .1) in
+    let b = c .before .before .before in let s = b .before .before .before .before .before .before in
+    let e = write-refused _ _ _ (now (s .args .out)) (b .pool-into .ensures) (c .before .verdict .given .1) in
     (ap (λ (o : AfterWrite). o .answer) e, ap (λ (o : AfterWrite). o .buffer) e)
 
 returns-2 : tie.Need-returns-2
 returns-2 c =
-    let w = c .before .before in let t = w .before .before .before in
-    let built = t .before .before in let start = built .before .before .before .before in
-    let e = write-accepted _ _ _ (now (start .args .out)) (built .build-pool .ensures) (t .enum-told .given .1) in
+    let w = c .before .before in let t = w .before .before .before .before in let b = t .before .before in
+    let s = b .before .before .before .before .before .before in
+    let e = write-accepted _ _ _ (now (s .args .out)) (b .pool-into .ensures) (t .enum-told .given .1) in
     (w .write-table .ensures .0 ∙ ap (λ (o : AfterWrite). o .answer) e, w .write-table .ensures .1 ∙ ap (λ (o : AfterWrite). o .buffer) e)
 
 pub write-pool-image-spec : {M : Type 1} → statement M

@@ -1,5 +1,4 @@
 -- `program::write_output` meets its contract: too long, refused, or the image.
-use Rattle.build.specs.BuildLaws.{as-answer}
 use Rattle.program.specs.BytesLaws.{output-too-long, output-refused, output-accepted}
 use borrow.Author.Needs.{needs}
 use Rattle.program.proofs.write_output.Statement.{statement}
@@ -14,15 +13,15 @@ returns-2 c =
     let n = p .before .before in
     let v = n .before .before in
     let b = v .before .before in
-    rw (← output-refused _ (b .before .if1 .left) (as-answer _ _ (b .build-table .ensures)) _ _ (v .verdict .given .1) (n .refusal-numbers .ensures))
+    rw (← output-refused _ (b .before .before .before .if1 .left) (b .build-into .ensures) _ _ (v .verdict .given .1) (n .refusal-numbers .ensures))
     (p .put-refusal .ensures)
 
 returns-3 : tie.Need-returns-3
 returns-3 c =
     let w = c .before .before in
-    let t = w .before .before .before in
+    let t = w .before .before .before .before in
     let b = t .before .before in
-    rw (← output-accepted _ (b .before .if1 .left) (as-answer _ _ (b .build-table .ensures)) (t .enum-told .given .1)) (w .write-table .ensures)
+    rw (← output-accepted _ (b .before .before .before .if1 .left) (b .build-into .ensures) (t .enum-told .given .1)) (w .write-table .ensures)
 
 pub write-output-spec : {M : Type 1} → statement M
 write-output-spec =

@@ -1,0 +1,16 @@
+-- `snp_cpuid_table_build` meets its contract: the built answer's numbers, and its table in the caller's memory.
+use borrow.Author.Needs.{needs}
+use mathlib.Core.Path.{refl, ap₂, _∙_}
+use Rattle.answers.specs.Answers.{heldNumbers}
+use Rattle.snp_cpuid.proofs.table_exports.snp_cpuid_table_build.Statement.{statement}
+use Rattle.snp_cpuid.proofs.table_exports.snp_cpuid_table_build.Tie as tie
+
+returns : tie.Need-returns
+returns c =
+    let b = c .before .before .before .build-into .ensures in (
+      c .table-numbers .ensures ∙ ap₂ heldNumbers (b .verdict) (b .table),
+      record { verdict = refl; registers = b .registers; origins = b .origins; table = b .table },
+    )
+
+pub snp-cpuid-table-build-spec : {M : Type 1} → statement M
+snp-cpuid-table-build-spec = tie.close (tie.spec (λ c κs. search needs) (λ c κs. search needs) returns)
