@@ -100,9 +100,12 @@ module _ (w o : List ℕ) where
 
     -- rows D.0 and D.1 stay, and with them the mask
     state-row : (k : ℕ) → k < 2 → rowOf w₁ (Place.extendedState k) ≡ rowOf w (Place.extendedState k)
-    state-row k l = go k l (carried-row (Place.extendedState k) (omega arith)) ∙ ap (λ (r : Row). r .result) (whole-row (rowsIn w o) (Place.extendedState k) (omega arith))
+    state-row k l =
+        go k l (carried-row (Place.extendedState k) (omega arith))
+        ∙ ap (λ (r : Row). r .result) (whole-row (rowsIn w o) (Place.extendedState k) (omega arith))
       where
-        go : (k : ℕ) → k < 2 → {q : CpuidResult} → q ≡ carriedAt keep (Place.extendedState k) (rowIn t (Place.extendedState k)) → q ≡ rowIn t (Place.extendedState k) .result
+        go : (k : ℕ) → k < 2 → {q : CpuidResult} → q ≡ carriedAt keep (Place.extendedState k) (rowIn t (Place.extendedState k))
+            → q ≡ rowIn t (Place.extendedState k) .result
         go zero h f = f
         go (suc zero) h f = f
         go (suc (suc k)) h f = absurd (omega arith)
@@ -121,7 +124,9 @@ module _ (w o : List ℕ) where
 
   module _ (from to x s : ℕ) {a b : Bool} (p : a ≡ knownEdition from) (q : b ≡ knownEdition to) where
     refused-in : {r : Refusal} → carry t from to x s ≡ refusedCarry r → CarriedIn (carry t from to x s) (Refused r) w o w
-    refused-in {r} e = subst (λ (c : Carried). CarriedIn c (Refused r) w o w) (sym e) (record { verdict = refl; registers = refl; table = λ z. absurd (not-accepted z) })
+    refused-in {r} e =
+        subst (λ (c : Carried). CarriedIn c (Refused r) w o w) (sym e)
+        (record { verdict = refl; registers = refl; table = λ z. absurd (not-accepted z) })
 
     unknown : (a && b) ≡ false → carry t from to x s ≡ refusedCarry UnknownEdition
     unfolding carry carryVerdict

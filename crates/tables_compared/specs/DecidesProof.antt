@@ -29,7 +29,7 @@ use Rattle.register_kinds.specs.declared.Register.{Register}
 use Rattle.register_kinds.specs.declared.Register.the-variants.{Eax, Ebx, Ecx, Edx}
 use Rattle.tables_compared.specs.declared.TablesCompared.{TablesCompared}
 use Rattle.tables_compared.specs.declared.TablesCompared.the-variants.{Rises, NoRow, Differs, Beyond, MaskLacks}
-use Rattle.register_kinds.specs.Registers.{valueOf, kindOf, subleafNamed}
+use Rattle.register_kinds.specs.Registers.{order, valueOf, kindOf, subleafNamed}
 use Rattle.register_kinds.specs.RegistersLaws.{is-false, register-fails, registers-before, first-unique}
 use Rattle.tables_compared.specs.CompareTables.{tableTest, registersTest, furtherTest, placeTest, firstRegister, failingAt, masksCompared, firstFailing, comparedTables}
 use Rattle.tables_compared.specs.Means.{PlaceRises, Reached, Means, Decides}
@@ -80,6 +80,15 @@ module _ (k : Kinds) (a b : CpuidResult) where
 
   passing : (q : Register) → AtLeast q → passes q ≡ true
   passing q h = at-least-test (kindOf q k) (valueOf q a) (valueOf q b) h
+
+  first-fails : registersTest k a b ≡ false → AtLeast (firstRegister k a b) → ⊥
+  first-fails = register-fails passes AtLeast passed passing
+
+  before-first : (x : Register) → order x < order (firstRegister k a b) → AtLeast x
+  before-first = registers-before passes AtLeast passed passing
+
+  only-first : (q : Register) → (AtLeast q → ⊥) → ((x : Register) → order x < order q → AtLeast x) → firstRegister k a b ≡ q
+  only-first = first-unique passes AtLeast passed passing
 
   register-of : Registers TableAtLeast k a b → (q : Register) → AtLeast q
   register-of h Eax = h .eax
@@ -191,10 +200,8 @@ module _ (a b : CpuidResults) where
         reached = reached i h;
         inA = e;
         inB = f;
-        fails = register-fails (passes (kindsAt i) (rowIn a i .result) (rowIn b i .result)) (AtLeast (kindsAt i) (rowIn a i .result) (rowIn b i .result))
-            (passed (kindsAt i) (rowIn a i .result) (rowIn b i .result)) (passing (kindsAt i) (rowIn a i .result) (rowIn b i .result)) t;
-        registersBefore = registers-before (passes (kindsAt i) (rowIn a i .result) (rowIn b i .result)) (AtLeast (kindsAt i) (rowIn a i .result) (rowIn b i .result))
-            (passed (kindsAt i) (rowIn a i .result) (rowIn b i .result)) (passing (kindsAt i) (rowIn a i .result) (rowIn b i .result));
+        fails = first-fails (kindsAt i) (rowIn a i .result) (rowIn b i .result) t;
+        registersBefore = before-first (kindsAt i) (rowIn a i .result) (rowIn b i .result);
       }
       go true e false f t = record { place = i; reached = reached i h; inA = e; absent = f }
       go false e true f t = record {
@@ -265,9 +272,7 @@ module _ (a b : CpuidResults) where
       compared-there i h (λ e. m .fails (register-of k (rowIn a i .result) (rowIn b i .result) (e .registers (m .inA)) register))
       ∙ pick-true _ _ (m .inA)
       ∙ pick-true _ _ (m .inB)
-      ∙ ap (Differs (leafAt i) (subleafNamed i))
-      (first-unique (passes k (rowIn a i .result) (rowIn b i .result)) (AtLeast k (rowIn a i .result) (rowIn b i .result))
-      (passed k (rowIn a i .result) (rowIn b i .result)) (passing k (rowIn a i .result) (rowIn b i .result)) register (m .fails) (m .registersBefore))
+      ∙ ap (Differs (leafAt i) (subleafNamed i)) (only-first k (rowIn a i .result) (rowIn b i .result) register (m .fails) (m .registersBefore))
       ∙ sym (ap₂ (λ (l : CpuidFunction) (s : Subleaf). Differs l s register) (h .leafAtPlace) (h .subleafAtPlace))
   exact (Beyond leaf subleaf) m =
       let i = m .place in
