@@ -2,7 +2,7 @@
 use mathlib.Core.Path.{_≡_, refl, sym, ap, ap₂, _∙_, subst}
 use mathlib.Core.Bool.{Bool, true, false, _&&_, _||_}
 use mathlib.Core.List.{List}
-use Prim.Native.Nat.{ℕ, zero, suc, _+_, _*_, _≤_, _<_}
+use Prim.Native.Nat.{ℕ, zero, suc, _*_, _≤_, _<_}
 use native.Mathlib.Omega.{arith}
 use lib.Dec.{eqb, lit<}
 use lib.Bits.{bitOr}
@@ -26,7 +26,7 @@ use Rattle.table.specs.Edition.{knownEdition}
 use Rattle.table.specs.Rows.{Row, Rows}
 use Rattle.table.specs.Table.{countRows, rowIn}
 use Rattle.memory.specs.Memory.{isThere, rowOf, putRow, rowsIn, layout, rowList}
-use Rattle.memory.specs.MemoryLaws.{put-length, put-is-set, known-by-rows, layout-row, layout-list}
+use Rattle.memory.specs.MemoryLaws.{put-length, put-is-set, known-by-rows, layout-row}
 use Rattle.memory.specs.Held.{heldIn, whole-row}
 use Rattle.checks.specs.ExtendedState.{xssOf, xfem, xss, combinedMask}
 use Rattle.guest_state.specs.State.{stateVerdict}
@@ -38,7 +38,7 @@ use Rattle.guest_state.specs.declared.InUse.{InUse}
 use Rattle.guest_state.specs.declared.InUse.the-variants.{Refused as NotInUse, Compacted}
 use Rattle.guest_state.specs.InUse.{readRows, inUse}
 use Rattle.guest_state.specs.InUseLaws.{told-refused, told-given}
-use Rattle.carry.specs.InPlace.{leftBy, CarriedIn}
+use Rattle.carry.specs.InPlace.{CarriedIn}
 
 -- a verdict is not both
 abbrev isAccepted : Verdict → Bool
@@ -100,9 +100,12 @@ module _ (w o : List ℕ) where
 
     -- rows D.0 and D.1 stay, and with them the mask
     state-row : (k : ℕ) → k < 2 → rowOf w₁ (Place.extendedState k) ≡ rowOf w (Place.extendedState k)
-    state-row k l = go k l (carried-row (Place.extendedState k) (omega arith)) ∙ ap (λ (r : Row). r .result) (whole-row (rowsIn w o) (Place.extendedState k) (omega arith))
+    state-row k l =
+        go k l (carried-row (Place.extendedState k) (omega arith))
+        ∙ ap (λ (r : Row). r .result) (whole-row (rowsIn w o) (Place.extendedState k) (omega arith))
       where
-        go : (k : ℕ) → k < 2 → {q : CpuidResult} → q ≡ carriedAt keep (Place.extendedState k) (rowIn t (Place.extendedState k)) → q ≡ rowIn t (Place.extendedState k) .result
+        go : (k : ℕ) → k < 2 → {q : CpuidResult} → q ≡ carriedAt keep (Place.extendedState k) (rowIn t (Place.extendedState k))
+            → q ≡ rowIn t (Place.extendedState k) .result
         go zero h f = f
         go (suc zero) h f = f
         go (suc (suc k)) h f = absurd (omega arith)
@@ -121,7 +124,9 @@ module _ (w o : List ℕ) where
 
   module _ (from to x s : ℕ) {a b : Bool} (p : a ≡ knownEdition from) (q : b ≡ knownEdition to) where
     refused-in : {r : Refusal} → carry t from to x s ≡ refusedCarry r → CarriedIn (carry t from to x s) (Refused r) w o w
-    refused-in {r} e = subst (λ (c : Carried). CarriedIn c (Refused r) w o w) (sym e) (record { verdict = refl; registers = refl; table = λ z. absurd (not-accepted z) })
+    refused-in {r} e =
+        subst (λ (c : Carried). CarriedIn c (Refused r) w o w) (sym e)
+        (record { verdict = refl; registers = refl; table = λ z. absurd (not-accepted z) })
 
     unknown : (a && b) ≡ false → carry t from to x s ≡ refusedCarry UnknownEdition
     unfolding carry carryVerdict

@@ -1,5 +1,5 @@
-// A running table carried from one edition of the AVX rule to another. A table in lent memory and one processor's state come in; the table becomes the
-// one under the edition wanted, or a refusal goes out and it stays as it was. Where rows came from is not touched.
+// A running table carried from one edition of the AVX rule to another. A table in lent memory and one processor's state come in; the table becomes
+// the one under the edition wanted, or a refusal goes out and it stays as it was. Where rows came from is not touched.
 use guest_state::InUse;
 use guest_state::read_row;
 use guest_state::state_in_use;
@@ -67,7 +67,8 @@ pub fn carry(
 
 // The three bits cleared, unless they are kept. Nothing else changes.
 fn clear_bits(registers: &mut [u32; REGISTERS], origins: &[u64; PLACES], keep: bool)
-    ensures { λ _. ⌜ now (registers .exit) ≡ layout (λ i. rowIn (carriedTable keep (heldIn (now (registers .entry)) (now (origins .entry)))) i .result) ⌝ }
+    ensures { λ _. ⌜ now (registers .exit)
+        ≡ layout (λ i. rowIn (carriedTable keep (heldIn (now (registers .entry)) (now (origins .entry)))) i .result) ⌝ }
 {
     sized(registers, origins);
     let has_version = origins[place::VERSION_AND_FEATURES];

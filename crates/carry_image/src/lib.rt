@@ -15,8 +15,8 @@ pub enum CarriedImage {
     Image(Verdict),
 }
 
-// A table under edition `from` that is handed over as its image, taken to edition `to` in place: where it is carried, the bytes become the image of the table under the edition
-// wanted, which has as many. Any other bytes, and a table that is refused, stay as they were.
+// A table under edition `from` that is handed over as its image, taken to edition `to` in place: where it is carried, the bytes become the image of
+// the table under the edition wanted, which has as many. Any other bytes, and a table that is refused, stay as they were.
 pub fn carry_image(image: &mut [u8], from: u32, to: u32, xcr0: u64, xss: u64) -> CarriedImage
     ensures { λ r. ⌜ r ≡ carryImage (now (image .entry)) from to xcr0 xss .answer ⌝ }
     ensures { λ _. ⌜ now (image .exit) ≡ carryImage (now (image .entry)) from to xcr0 xss .buffer ⌝ }

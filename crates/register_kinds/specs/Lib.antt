@@ -1,2 +1,3 @@
 pub mod KindsInCode
 pub mod Registers
+pub mod RegistersLaws

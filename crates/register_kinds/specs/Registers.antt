@@ -39,8 +39,11 @@ registersRise test k a b = record {
   edx = test (k .edx) (a .edx) (b .edx);
 }
 
+abbrev pub firstBy : Bool → Bool → Bool → Register
+firstBy eax ebx ecx = pick eax (pick ebx (pick ecx Edx Ecx) Ebx) Eax
+
 abbrev pub firstOf : RegistersRise → Register
-firstOf t = pick (t .eax) (pick (t .ebx) (pick (t .ecx) Edx Ecx) Ebx) Eax
+firstOf t = firstBy (t .eax) (t .ebx) (t .ecx)
 
 -- the subleaf of a place, where its row carries one
 abbrev pub subleafNamed : ℕ → Subleaf

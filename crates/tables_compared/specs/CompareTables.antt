@@ -19,8 +19,7 @@ use Rattle.update.specs.Kinds.{Kind, Kinds, kindsAt}
 use Rattle.update.specs.Kinds.Kind.{feature, featureBut28, area, freed, other}
 use Rattle.rise.specs.Decide.{risesTest}
 use Rattle.register_kinds.specs.declared.Register.{Register}
-use Rattle.register_kinds.specs.declared.Register.the-variants.{Eax, Ebx, Ecx, Edx}
-use Rattle.register_kinds.specs.Registers.{subleafNamed}
+use Rattle.register_kinds.specs.Registers.{firstBy, subleafNamed}
 use Rattle.tables_compared.specs.declared.TablesCompared.{TablesCompared}
 use Rattle.tables_compared.specs.declared.TablesCompared.the-variants.{Rises, NoRow, Differs, Beyond, MaskLacks}
 
@@ -54,11 +53,7 @@ placeTest a b i = rowTest i (a .«max_extended_state») (b .«max_extended_state
 -- the first register that fails: EDX where the other three pass
 abbrev pub firstRegister : Kinds → CpuidResult → CpuidResult → Register
 firstRegister k a b =
-    pick (tableTest (k .eax) (a .eax) (b .eax))
-    (pick (tableTest (k .ebx) (a .ebx) (b .ebx))
-    (pick (tableTest (k .ecx) (a .ecx) (b .ecx)) Edx Ecx)
-    Ebx)
-    Eax
+    firstBy (tableTest (k .eax) (a .eax) (b .eax)) (tableTest (k .ebx) (a .ebx) (b .ebx)) (tableTest (k .ecx) (a .ecx) (b .ecx))
 
 -- what fails at place i
 abbrev pub failingOf : ℕ → Row → Row → TablesCompared

@@ -30,12 +30,9 @@ use Rattle.register_kinds.specs.declared.Register.the-variants.{Eax, Ebx, Ecx, 
 use Rattle.tables_compared.specs.declared.TablesCompared.{TablesCompared}
 use Rattle.tables_compared.specs.declared.TablesCompared.the-variants.{Rises, NoRow, Differs, Beyond, MaskLacks}
 use Rattle.register_kinds.specs.Registers.{order, valueOf, kindOf, subleafNamed}
+use Rattle.register_kinds.specs.RegistersLaws.{is-false, register-fails, registers-before, first-unique}
 use Rattle.tables_compared.specs.CompareTables.{tableTest, registersTest, furtherTest, placeTest, firstRegister, failingAt, masksCompared, firstFailing, comparedTables}
 use Rattle.tables_compared.specs.Means.{PlaceRises, Reached, Means, Decides}
-
-is-false : (b : Bool) → (b ≡ true → ⊥) → b ≡ false
-is-false true n = absurd (n refl)
-is-false false n = refl
 
 -- ---- a register
 
@@ -54,10 +51,6 @@ at-least-test freed a b h = eq-eqb a b h
 at-least-test other a b h = eq-eqb a b h
 
 -- ---- the registers of a row, and those before the first that fails
-
--- the first register that fails, by the tests of the three before EDX
-abbrev first : Bool → Bool → Bool → Register
-first p q r = pick p (pick q (pick r Edx Ecx) Ebx) Eax
 
 module _ (k : Kinds) (a b : CpuidResult) where
   abbrev passes : Register → Bool
@@ -82,53 +75,20 @@ module _ (k : Kinds) (a b : CpuidResult) where
       and-both (at-least-test (k .eax) _ _ (h .eax))
       (and-both (at-least-test (k .ebx) _ _ (h .ebx)) (and-both (at-least-test (k .ecx) _ _ (h .ecx)) (at-least-test (k .edx) _ _ (h .edx))))
 
-  before-first : (p q r : Bool) → passes Eax ≡ p → passes Ebx ≡ q → passes Ecx ≡ r → (x : Register) → order x < order (first p q r) → passes x ≡ true
-  before-first false q r e f g x l = absurd (omega arith)
-  before-first true false r e f g Eax l = e
-  before-first true false r e f g Ebx l = absurd (omega arith)
-  before-first true false r e f g Ecx l = absurd (omega arith)
-  before-first true false r e f g Edx l = absurd (omega arith)
-  before-first true true false e f g Eax l = e
-  before-first true true false e f g Ebx l = f
-  before-first true true false e f g Ecx l = absurd (omega arith)
-  before-first true true false e f g Edx l = absurd (omega arith)
-  before-first true true true e f g Eax l = e
-  before-first true true true e f g Ebx l = f
-  before-first true true true e f g Ecx l = g
-  before-first true true true e f g Edx l = absurd (omega arith)
+  passed : (q : Register) → passes q ≡ true → AtLeast q
+  passed q e = test-at-least (kindOf q k) (valueOf q a) (valueOf q b) e
 
-  first-fails : (p q r s : Bool) → passes Eax ≡ p → passes Ebx ≡ q → passes Ecx ≡ r → passes Edx ≡ s → (p && (q && (r && s))) ≡ false
-      → passes (first p q r) ≡ false
-  first-fails false q r s e f g h n = e
-  first-fails true false r s e f g h n = f
-  first-fails true true false s e f g h n = g
-  first-fails true true true s e f g h n = h ∙ n
+  passing : (q : Register) → AtLeast q → passes q ≡ true
+  passing q h = at-least-test (kindOf q k) (valueOf q a) (valueOf q b) h
 
-  register-fails : registersTest k a b ≡ false → AtLeast (firstRegister k a b) → ⊥
-  register-fails n h =
-      let q : Register = firstRegister k a b in
-      never-both (at-least-test (kindOf q k) (valueOf q a) (valueOf q b) h)
-      (first-fails (passes Eax) (passes Ebx) (passes Ecx) (passes Edx) refl refl refl refl n)
+  first-fails : registersTest k a b ≡ false → AtLeast (firstRegister k a b) → ⊥
+  first-fails = register-fails passes AtLeast passed passing
 
-  registers-before : (x : Register) → order x < order (firstRegister k a b) → AtLeast x
-  registers-before x l =
-      test-at-least (kindOf x k) (valueOf x a) (valueOf x b) (before-first (passes Eax) (passes Ebx) (passes Ecx) refl refl refl x l)
+  before-first : (x : Register) → order x < order (firstRegister k a b) → AtLeast x
+  before-first = registers-before passes AtLeast passed passing
 
-  -- a register that fails where those before it pass is the first
-  first-unique : (q : Register) → (AtLeast q → ⊥) → ((x : Register) → order x < order q → AtLeast x) → firstRegister k a b ≡ q
-  first-unique q f before = go q f before
-    where
-      pass : (x : Register) → AtLeast x → passes x ≡ true
-      pass x h = at-least-test (kindOf x k) (valueOf x a) (valueOf x b) h
-
-      fail : (x : Register) → (AtLeast x → ⊥) → passes x ≡ false
-      fail x n = is-false (passes x) (λ e. n (test-at-least (kindOf x k) (valueOf x a) (valueOf x b) e))
-
-      go : (q : Register) → (AtLeast q → ⊥) → ((x : Register) → order x < order q → AtLeast x) → firstRegister k a b ≡ q
-      go Eax n h = rw (fail Eax n)
-      go Ebx n h = rw (pass Eax (h Eax (omega arith)), fail Ebx n)
-      go Ecx n h = rw (pass Eax (h Eax (omega arith)), pass Ebx (h Ebx (omega arith)), fail Ecx n)
-      go Edx n h = rw (pass Eax (h Eax (omega arith)), pass Ebx (h Ebx (omega arith)), pass Ecx (h Ecx (omega arith)))
+  only-first : (q : Register) → (AtLeast q → ⊥) → ((x : Register) → order x < order q → AtLeast x) → firstRegister k a b ≡ q
+  only-first = first-unique passes AtLeast passed passing
 
   register-of : Registers TableAtLeast k a b → (q : Register) → AtLeast q
   register-of h Eax = h .eax
@@ -240,8 +200,8 @@ module _ (a b : CpuidResults) where
         reached = reached i h;
         inA = e;
         inB = f;
-        fails = register-fails (kindsAt i) _ _ t;
-        registersBefore = registers-before (kindsAt i) _ _;
+        fails = first-fails (kindsAt i) (rowIn a i .result) (rowIn b i .result) t;
+        registersBefore = before-first (kindsAt i) (rowIn a i .result) (rowIn b i .result);
       }
       go true e false f t = record { place = i; reached = reached i h; inA = e; absent = f }
       go false e true f t = record {
@@ -312,7 +272,7 @@ module _ (a b : CpuidResults) where
       compared-there i h (λ e. m .fails (register-of k (rowIn a i .result) (rowIn b i .result) (e .registers (m .inA)) register))
       ∙ pick-true _ _ (m .inA)
       ∙ pick-true _ _ (m .inB)
-      ∙ ap (Differs (leafAt i) (subleafNamed i)) (first-unique k (rowIn a i .result) (rowIn b i .result) register (m .fails) (m .registersBefore))
+      ∙ ap (Differs (leafAt i) (subleafNamed i)) (only-first k (rowIn a i .result) (rowIn b i .result) register (m .fails) (m .registersBefore))
       ∙ sym (ap₂ (λ (l : CpuidFunction) (s : Subleaf). Differs l s register) (h .leafAtPlace) (h .subleafAtPlace))
   exact (Beyond leaf subleaf) m =
       let i = m .place in

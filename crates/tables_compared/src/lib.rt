@@ -34,16 +34,18 @@ pub enum TablesCompared {
     MaskLacks,
 }
 
-// Whether B's table rises from A's, or the first thing that fails: the places by rising leaf and subleaf, at each first whether there is a row and then
-// EAX, EBX, ECX, EDX; last the combined masks.
+// Whether B's table rises from A's, or the first thing that fails: the places by rising leaf and subleaf, at each first whether there is a row and
+// then EAX, EBX, ECX, EDX; last the combined masks.
 pub fn compare_tables(
     a_registers: &[u32; REGISTERS],
     a_origins: &[u64; PLACES],
     b_registers: &[u32; REGISTERS],
     b_origins: &[u64; PLACES],
 ) -> TablesCompared
-    ensures { λ r. ⌜ r ≡ comparedTables (heldIn (now («a_registers» .entry)) (now («a_origins» .entry))) (heldIn (now («b_registers» .entry)) (now («b_origins» .entry))) ⌝ }
-    ensures decides { λ r. ⌜ Decides (heldIn (now («a_registers» .entry)) (now («a_origins» .entry))) (heldIn (now («b_registers» .entry)) (now («b_origins» .entry))) r ⌝ }
+    ensures { λ r. ⌜ r ≡ comparedTables (heldIn (now («a_registers» .entry)) (now («a_origins» .entry)))
+        (heldIn (now («b_registers» .entry)) (now («b_origins» .entry))) ⌝ }
+    ensures decides { λ r. ⌜ Decides (heldIn (now («a_registers» .entry)) (now («a_origins» .entry)))
+        (heldIn (now («b_registers» .entry)) (now («b_origins» .entry))) r ⌝ }
 {
     let a_mask = combined_mask(a_registers);
     let b_mask = combined_mask(b_registers);
@@ -67,7 +69,8 @@ pub fn compare_tables(
     TablesCompared::MaskLacks
 }
 
-// Whether a place is as the conclusion of demand 3 has it: a row of A's is in B's with registers that compare, and any other of B's is a further state.
+// Whether a place is as the conclusion of demand 3 has it: a row of A's is in B's with registers that compare, and any other of B's is a further
+// state.
 fn place_rises(
     place: usize,
     a_mask: u64,

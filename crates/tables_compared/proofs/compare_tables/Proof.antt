@@ -36,7 +36,9 @@ loop-again c =
     let g = m .before .before .args in (
       omega (arith, test .loop-test .taken),
       s .loop .inv .1
-          ∙ code-passes (g .a-registers .now) (g .a-origins .now) (g .b-registers .now) (g .b-origins .now) (m .before .combined-mask .ensures) (m .combined-mask2 .ensures) (s .loop .place) (test .loop-test .taken) (inA .is-there .ensures)
+          ∙ code-passes (g .a-registers .now) (g .a-origins .now) (g .b-registers .now) (g .b-origins .now)
+          (m .before .combined-mask .ensures) (m .combined-mask2 .ensures) (s .loop .place)
+          (test .loop-test .taken) (inA .is-there .ensures)
           (a .row-at .ensures) (inB .is-there2 .ensures) (b .row-at2 .ensures) (p .place-rises .ensures) (c .if1 .taken),
     )
 
@@ -52,7 +54,9 @@ returns c =
     let m = s .before in
     let g = m .before .before .args in
     decided _ _
-    (code-stops (g .a-registers .now) (g .a-origins .now) (g .b-registers .now) (g .b-origins .now) (m .before .combined-mask .ensures) (m .combined-mask2 .ensures) (s .loop .place) (test .loop-test .taken) (inA .is-there .ensures)
+    (code-stops (g .a-registers .now) (g .a-origins .now) (g .b-registers .now) (g .b-origins .now)
+    (m .before .combined-mask .ensures) (m .combined-mask2 .ensures) (s .loop .place)
+    (test .loop-test .taken) (inA .is-there .ensures)
     (a .row-at .ensures) (inB .is-there2 .ensures) (b .row-at2 .ensures) (p .place-rises .ensures) (c .before .if1 .left) (c .failing-at .ensures)
     ∙ sym (s .loop .inv .1))
 
@@ -62,7 +66,8 @@ returns-2 c =
     let m = s .before in
     let g = m .before .before .args in
     decided _ _
-    (code-rises (g .a-registers .now) (g .a-origins .now) (g .b-registers .now) (g .b-origins .now) (m .before .combined-mask .ensures) (m .combined-mask2 .ensures) (s .loop .place) (search needs) (c .if2 .taken) ∙ sym (s .loop .inv .1))
+    (code-rises (g .a-registers .now) (g .a-origins .now) (g .b-registers .now) (g .b-origins .now)
+    (m .before .combined-mask .ensures) (m .combined-mask2 .ensures) (s .loop .place) (search needs) (c .if2 .taken) ∙ sym (s .loop .inv .1))
 
 returns-3 : tie.Need-returns-3 Inv-loop μ-loop
 returns-3 c =
@@ -70,7 +75,8 @@ returns-3 c =
     let m = s .before in
     let g = m .before .before .args in
     decided _ _
-    (code-lacks (g .a-registers .now) (g .a-origins .now) (g .b-registers .now) (g .b-origins .now) (m .before .combined-mask .ensures) (m .combined-mask2 .ensures) (s .loop .place) (search needs) (c .if2 .left) ∙ sym (s .loop .inv .1))
+    (code-lacks (g .a-registers .now) (g .a-origins .now) (g .b-registers .now) (g .b-origins .now)
+    (m .before .combined-mask .ensures) (m .combined-mask2 .ensures) (s .loop .place) (search needs) (c .if2 .left) ∙ sym (s .loop .inv .1))
 
 pub compare-tables-spec : {M : Type 1} → statement M
 compare-tables-spec =

@@ -11,7 +11,12 @@ returns c = sym (further-low _ _ _ (search needs))
 returns-2 : tie.Need-returns-2
 returns-2 c =
     let b = c .before .before in
-    rw (further-state _ _ (b .before .before .before .args .place) (search needs) (search needs), c .has-bit642 .ensures, ← b .has-bit64 .ensures, c .before .if3 .taken)
+    rw (
+      further-state _ _ (b .before .before .before .args .place) (search needs) (search needs),
+      c .has-bit642 .ensures,
+      ← b .has-bit64 .ensures,
+      c .before .if3 .taken,
+    )
 
 returns-3 : tie.Need-returns-3
 returns-3 c =
