@@ -13,7 +13,6 @@ use Rattle.bits.specs.Search.Failing.{at, none}
 use Rattle.bits.specs.SearchLaws.{Lowest, lowest-none, lowest-all, lowest-at, lowest-stops}
 use Rattle.bits.specs.Bits.{Within, maskOf}
 use Rattle.bits.specs.BitsLaws.{within-trans, within-of-and, within-zero, and-within-right}
-use Rattle.bits.specs.Lists.{tabulate}
 use Rattle.bits.specs.ListsLaws.{getD-tabulate}
 use Rattle.masking.specs.Masks.{extendedState0, extendedState1}
 use Rattle.masking.specs.Kept.{places, keptLeaves, slot}

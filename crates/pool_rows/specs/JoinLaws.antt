@@ -6,7 +6,6 @@ use Prim.Native.Nat.{ℕ, suc, _<_}
 use lib.ListN.{getD, replicate, length-replicate, getD-replicate}
 use Rattle.bits.specs.Lists.{tabulate}
 use Rattle.bits.specs.ListsLaws.{getD-tabulate, tabulated, tabulate-ext}
-use Rattle.x86defs.specs.declared.CpuidResult.{CpuidResult}
 use Rattle.masking.specs.Kept.{places}
 use Rattle.table.specs.Rows.{Rows}
 use Rattle.memory.specs.Memory.{rowOf, layout}
@@ -16,7 +15,7 @@ use Rattle.pool_join.specs.Join.{pooledResults, withServer, pool, allTo}
 use Rattle.pool_join.specs.Alike.{registersAlike, alikeTo}
 use Rattle.pool_join.specs.EntryLaws.{registers-refl}
 use Rattle.pool_join.specs.AlikeLaws.{registers-test, alike-first}
-use Rattle.pool_rows.specs.Joins.{joinedRow, foundAlike, Joins}
+use Rattle.pool_rows.specs.Joins.{joinedRow, foundAlike}
 
 abbrev pub registersOf : Rows → List ℕ
 registersOf m = layout (λ i. m i .result)

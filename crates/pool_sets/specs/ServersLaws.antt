@@ -1,8 +1,8 @@
 -- The code's steps: the servers after the first, one a turn.
 use mathlib.Core.Path.{_≡_, refl, sym, ap, _∙_}
-use mathlib.Core.Bool.{Bool, true, false}
+use mathlib.Core.Bool.{Bool, true}
 use mathlib.Core.List.{List}
-use Prim.Native.Nat.{ℕ, zero, suc, _+_, _*_, _-_, _≤_, _<_}
+use Prim.Native.Nat.{ℕ, suc, _+_, _*_, _-_, _≤_, _<_}
 use native.Mathlib.Omega.{arith}
 use lib.ListN.{length, replicate}
 use Rattle.bits.specs.Search.{Failing, lowest}
@@ -21,8 +21,7 @@ use Rattle.pool_join.specs.Join.{pool}
 use Rattle.pool_rows.specs.Joins.{Joins}
 use Rattle.pool_rows.specs.JoinLaws.{registersOf, alikeFlags, flags-first, registers-next, flags-next}
 use Rattle.pool_server.specs.Server.{ServerIn}
-use Rattle.pool_sets.specs.declared.Joined.{Joined}
-use Rattle.pool_sets.specs.Sets.{setAt, lastOf}
+use Rattle.pool_sets.specs.Sets.{setAt}
 use Rattle.pool_sets.specs.Servers.{serverVerdict, serverRows, isAccepted, firstRefused, refusedBy, serversVerdict, numberOf, joinedTo, JoinsRest}
 
 -- of a part of the slice that is server k's set

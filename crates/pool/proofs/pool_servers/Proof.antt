@@ -1,11 +1,8 @@
 -- `pool::pool_servers` meets its contract: one return a case of the answer.
 use borrow.Author.Needs.{needs}
-use mathlib.Core.Path.{_≡_, sym, _∙_}
+use mathlib.Core.Path.{_≡_}
 use native.Mathlib.Omega.{arith}
 use Rattle.table.specs.declared.Verdict.{Verdict}
-use Rattle.table.specs.declared.Verdict.the-variants.{Accepted}
-use Rattle.locate.specs.Stands.{foundOrigins}
-use Rattle.pool_sets.specs.Sets.{setAt}
 use Rattle.pool_sets.specs.SetsLaws.{start-first, first-set, at-least-two, set-ends}
 use Rattle.pool_sets.specs.Servers.{serverVerdict}
 use Rattle.pool_sets.specs.ServersLaws.{part-verdict, part-rows, part-stands}

@@ -1,13 +1,12 @@
 -- `all_alike` meets its contract: before each turn the places passed are alike where they have a row.
 use borrow.Author.Needs.{needs}
-use mathlib.Core.Path.{_≡_, sym, ap, _∙_}
+use mathlib.Core.Path.{sym, ap, _∙_}
 use mathlib.Core.Bool.{Bool, false}
 use Prim.Native.Nat.{_-_, _≤_}
 use native.Mathlib.Omega.{arith}
 use lib.ListN.{getD}
 use Rattle.bits.specs.Choice.{pick}
 use Rattle.masking.specs.Kept.{places}
-use Rattle.memory.specs.Memory.{isThere}
 use Rattle.pool_rows.specs.CodeLaws.{AlikeBelow, where-starts, where-next, where-stops, where-ends}
 use Rattle.pool_rows.proofs.all_alike.Statement.{statement}
 use Rattle.pool_rows.proofs.all_alike.Tie as tie

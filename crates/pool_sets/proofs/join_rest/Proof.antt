@@ -3,7 +3,6 @@ use borrow.Author.Needs.{needs}
 use mathlib.Core.Path.{_≡_}
 use Prim.Native.Nat.{_-_, _≤_}
 use native.Mathlib.Omega.{arith}
-use lib.ListN.{length}
 use Rattle.pool_sets.specs.Sets.{startOf}
 use Rattle.pool_sets.specs.SetsLaws.{start-first, start-next, set-of, at-least-two, set-ends}
 use Rattle.pool_sets.specs.ServersLaws.{Joining, part-verdict, part-rows, joining-starts, joining-length, joining-next, joining-refuses, joining-ends}
