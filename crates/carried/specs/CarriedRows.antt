@@ -7,7 +7,7 @@ use mathlib.Core.Logic.{_≢_}
 use Prim.Native.Nat.{ℕ, _-_, _^_, _<_, min}
 use native.Mathlib.Omega.{arith}
 use lib.Dec.{lit<, eqb}
-use lib.ListN.{length, getD, length-replicate}
+use lib.ListN.{length, length-replicate}
 use borrow.Author.Tests.{eqb-true, ne-eqb}
 use Rattle.bits.specs.Choice.{pick}
 use Rattle.bits.specs.ChoiceLaws.{never-both}
@@ -18,6 +18,7 @@ use Rattle.bits.specs.BitsLaws.{bit-lt, bit-and}
 use Rattle.bits.specs.ListsLaws.{getD-tabulate, length-tabulate}
 use Rattle.x86defs.specs.declared.CpuidResult.{CpuidResult}
 use Rattle.x86defs.specs.Functions.{result}
+use Rattle.pages.specs.Bytes.{AreBytes}
 use Rattle.masking.specs.Kept.{places}
 use Rattle.masking.specs.Place
 use Rattle.table.specs.declared.CpuidResults.{CpuidResults}
@@ -75,7 +76,7 @@ CarriesRows = (t : CpuidResults) (xcr0 xss : ℕ) → carry t 1 2 xcr0 xss .verd
 
 -- in place, within one edition: any lent bytes, an image or not, refused or not, stay
 abbrev pub StaysWithin : Type 0
-StaysWithin = (s : List ℕ) (n xcr0 xss : ℕ) → ((k : ℕ) → getD s k 0 < 256) → carryImage s n n xcr0 xss .buffer ≡ s
+StaysWithin = (s : List ℕ) (n xcr0 xss : ℕ) → AreBytes s → carryImage s n n xcr0 xss .buffer ≡ s
 
 -- ---- bits
 

@@ -9,6 +9,7 @@ use lib.Dec.{lit<}
 use lib.ListN.{drop}
 use Rattle.bits.specs.ChoiceLaws.{pick-true, pick-false}
 use Rattle.bits.specs.Lists.{tabulate}
+use Rattle.pages.specs.Bytes.{areBytes, bytes-at}
 use Rattle.pages.specs.Layout.{Entry, entryAt, firstEntry, pageSize, entrySize, pagesIn}
 use Rattle.pages.specs.Entries.{entries}
 use Rattle.masking.specs.Kept.{places}
@@ -30,7 +31,6 @@ use Rattle.page_sets.specs.PageSets.{entry, page, requiredEntries, stateEntries
 use Rattle.page_sets.specs.Pass.{entryIn, onPagesIn}
 use Rattle.page_sets.specs.PassLaws.{entries-passed, lawful-passed, verdict-passed}
 use Rattle.page_sets.specs.Evaluation.{first, evaluated, passed}
-use Rattle.nearest_examples.specs.AreBytes.{areBytes, bytes-at}
 use Rattle.nearest_examples.specs.NearestPassed.{changes-passed}
 
 -- ---- an entry whose 128 flips change nothing is passed over

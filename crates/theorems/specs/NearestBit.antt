@@ -6,8 +6,9 @@ use mathlib.Core.Bool.{false}
 use mathlib.Core.List.{List, [], _∷_, _++_}
 use mathlib.Core.Logic.{_↔_, _≢_}
 use Prim.Native.Nat.{ℕ, _<_}
-use lib.ListN.{getD, replicate}
+use lib.ListN.{replicate}
 use Rattle.x86defs.specs.Functions.{function, result, ExtendedStateEnumeration}
+use Rattle.pages.specs.Bytes.{AreBytes}
 use Rattle.pages.specs.Layout.{entryAt}
 use Rattle.masking.specs.Masks.{applyMask}
 use Rattle.masking.specs.Kept.{masksAt}
@@ -48,7 +49,7 @@ pub twenty-exactly : (chosen : Choices) (s : List ℕ) → TwentyExactly chosen 
 twenty-exactly = Twenty.twenty-exactly
 
 -- of pages that building refuses by 4 it is INVLPGB's own, 80000008h.EBX bit 3. crates/nearest_ends/specs/WithoutInvlpgb.antt
-pub refused-by-4 : (chosen : Choices) (s : List ℕ) → ((k : ℕ) → getD s k 0 < 256) → answer chosen s .verdict ≡ Refused InvlpgbUnavailable
+pub refused-by-4 : (chosen : Choices) (s : List ℕ) → AreBytes s → answer chosen s .verdict ≡ Refused InvlpgbUnavailable
     → InvlpgbNearest chosen s
 refused-by-4 = Invlpgb.refused-by-4
 

@@ -34,6 +34,7 @@ use Rattle.listed.specs.Builds.{BuildsListed, inputsFor}
 use Rattle.listed.specs.BuildsProof.{builds-listed}
 use Rattle.listed.specs.Writes.{writes-exactly as topologies-write-exactly}
 use Rattle.listed_examples.specs.Topologies as Topologies
+use Rattle.pages.specs.Bytes.{AreBytes}
 use Rattle.pages.specs.Entries.{entries, counted}
 use Rattle.masking.specs.Kept.{places}
 use Rattle.masking.specs.Place
@@ -112,7 +113,7 @@ use Rattle.kvm_import.specs.Import.{readList}
 use Rattle.kvm_export.specs.Export.{plainRow, listRows, listOf}
 use Rattle.round_trip.specs.RoundTrip.{Returns, RoundTrip, ListWritesExactly}
 use Rattle.round_trip.specs.RoundTripProof.{round-trip, list-writes-exactly}
-use Rattle.round_trip.specs.Reads.{AreBytes, ReadMakes}
+use Rattle.round_trip.specs.Reads.{ReadMakes}
 use Rattle.round_trip.specs.ReadsExactly.{ReadsExactly}
 use Rattle.round_trip.specs.ReadsExactlyProof.{reads-exactly, read-makes}
 use Rattle.round_trip.specs.Ascends.{Ascend, rows-ascend as list-ascends}

@@ -1,5 +1,8 @@
--- `reader::take` meets its contract: a walk of its MIR, by hand. A reader is made of the slice and the index passed; the entry at its index is read by `pages::entry_at`; then the reader's index, a field of a local, is lent to `increment` for a lifetime of the call, and comes back stepped.
--- Of both callees the proof knows their contracts alone. In a local MIR erases the lifetime of the reader's type, so its value is shown to have the type at `erased`.
+-- `reader::take` meets its contract: a walk of its MIR, by hand. A reader is made of the slice and the index passed; the entry at its index is
+-- read by `pages::entry_at`; then the reader's index, a field of a local, is lent to `increment` for a lifetime of the call, and comes back
+-- stepped.
+-- Of both callees the proof knows their contracts alone. In a local MIR erases the lifetime of the reader's type, so its value is shown to have
+-- the type at `erased`.
 use mathlib.Core.Path.{_≡_, refl, sym, ap, subst}
 use Prim.Native.Nat.{ℕ}
 use mathlib.Core.List.{List, [], _∷_}

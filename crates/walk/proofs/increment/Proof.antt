@@ -1,4 +1,4 @@
--- `pages::increment` meets its contract: each return is a law of `incremented`.
+-- `walk::increment` meets its contract: each return is a law of `incremented`.
 use mathlib.Core.Path.{sym, _∙_}
 use native.Mathlib.Omega.{arith}
 use borrow.Author.Needs.{needs}
