@@ -1,2 +1,4 @@
 pub mod Guest
 pub mod GuestLaws
+pub mod SeenLaws
+pub mod SeenExactly

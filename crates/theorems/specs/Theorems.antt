@@ -78,8 +78,8 @@ use Rattle.guest_rise.specs.GuestExactly.{GuestExactly, guest-exactly, guest-wr
 use Rattle.guest_rise.specs.GuestRise.{GuestRise, GuestOutcome, GuestTableRises, compactsIn}
 use Rattle.guest_rise.specs.GuestPreorder.{guest-rises-compose}
 use Rattle.guest_rise.specs.GuestRiseProof as GuestRiseProof
-use Rattle.guest_rise.specs.SeenRises as Seen
-use Rattle.guest_rise.specs.SeenExactly.{SeenExactly, seen-exactly}
+use Rattle.guest.specs.SeenLaws as Seen
+use Rattle.guest.specs.SeenExactly.{SeenExactly, seen-exactly}
 use Rattle.guest_rise.specs.GuestRisen.{GuestRisen, GuestRiseAll, guest-rises-all}
 use Rattle.guest_examples.specs.CompactSizes.{sizes, sizes-are}
 use Rattle.guest_examples.specs.Seen.{processor, figures}
@@ -97,7 +97,7 @@ use Rattle.lines.specs.ReadLine.{readLine}
 use Rattle.lines.specs.LinePromises as Lines
 use Rattle.lines.specs.LinePromises.{LineOf, lineDetails}
 use Rattle.lines.specs.LineExactly.{LineExactly, Nameable, line-exactly, writable-means}
-use Rattle.lines.specs.NumbersNamed.{NamesExactly, names-exactly}
+use Rattle.line_bytes.specs.NumbersNamed.{NamesExactly, names-exactly}
 use Rattle.line_bytes.specs.NumbersInUse.{names}
 use Rattle.lined.specs.Lined.{BuildingLined, LinesTell}
 use Rattle.lined.specs.LinedProof.{building-lined, lines-tell}
@@ -373,7 +373,7 @@ pub no-other-row-differs : (t : CpuidResults) (v : Processor) (i : ℕ) → i < 
 no-other-row-differs = Seen.elsewhere
 
 -- and of these five exactly the registers and bits that P3 names, each as it says; every other register and bit is the paravisor's.
--- crates/guest_rise/specs/SeenExactly.antt
+-- crates/guest/specs/SeenExactly.antt
 pub no-other-register-differs : (t : CpuidResults) (v : Processor) → SeenExactly t v
 no-other-register-differs = seen-exactly
 
@@ -821,7 +821,7 @@ each-line-write-exactly = line-exactly
 pub which-have-a-line : (d : LineDetails) → (writable d ≡ true) ↔ Nameable (names (d .number)) d
 which-have-a-line = writable-means
 
--- a number is in use, and names a leaf, a subleaf or s, exactly where some refusal with that number is, or sets one. crates/lines/specs/NumbersNamed.antt
+-- a number is in use, and names a leaf, a subleaf or s, exactly where some refusal with that number is, or sets one. crates/line_bytes/specs/NumbersNamed.antt
 pub each-number-names-exactly : (n : ℕ) → NamesExactly n
 each-number-names-exactly = names-exactly
 
