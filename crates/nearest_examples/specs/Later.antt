@@ -1,4 +1,4 @@
--- Not empty words, of P13's order: a page set whose first entry, on page 0, decides nothing, and whose nearest bit stands on page 1; and one whose nearest
+-- Examples of P13's order: a page set whose first entry, on page 0, decides nothing, and whose nearest bit stands on page 1; and one whose nearest
 -- bit stands in the second entry of its page.
 use mathlib.Core.Path.{_≡_, refl, ap₂, _∙_}
 use mathlib.Core.Bool.{Bool, true, false}
@@ -27,7 +27,7 @@ use Rattle.flip_rows.specs.Changes.{changes}
 use Rattle.nearest.specs.declared.Nearest.the-variants.{Bit}
 use Rattle.nearest.specs.Nearest.{firstThat, frontVerdict, unlessRefused, nearest}
 use Rattle.nearest_ends.specs.OutsideLaws.{Among, not-first}
-use Rattle.page_sets.specs.PageSets.{entry, page, requiredEntries, stateEntries}
+use Rattle.page_sets.specs.PageSets.{entry, page, requiredEntries, stateEntries, withFirst}
 use Rattle.page_sets.specs.Pass.{entryIn, onPagesIn}
 use Rattle.page_sets.specs.PassLaws.{entries-passed, lawful-passed, verdict-passed}
 use Rattle.page_sets.specs.Evaluation.{first, evaluated, passed}
@@ -126,7 +126,7 @@ page-decides = nearest-second first pageSet (entryAt pageSet 0 0) pageEntry page
 -- ---- a later entry: D.0 stands first, on page 0, where a Dh entry does not count
 
 unfoldable pub entrySet : List ℕ
-entrySet = page 23 (entry 0xD 0 0x7 0x340 0x340 0 ++ requiredEntries 0x3ED83203 0x219C07A9 0x3F) ++ page 3 (stateEntries 0x7 0x7 0)
+entrySet = withFirst (entry 0xD 0 0x7 0x340 0x340 0)
 
 pub entry-accepted : answer first entrySet .verdict ≡ Accepted
 unfolding passed entrySet

@@ -148,7 +148,7 @@ use Rattle.located_examples.specs.Origins as Origin
 use Rattle.kvm_examples.specs.KvmLists as KvmLists
 use Rattle.kvm_examples.specs.KvmBytes as KvmBytes
 use Rattle.page_sets.specs.Evaluation.{first}
-use Rattle.page_sets.specs.PageSets.{serverA, serverB, serverWithoutD12, serverWithLargeD6}
+use Rattle.page_sets.specs.PageSets.{serverA, serverB, serverW, serverWithoutD12, serverWithLargeD6}
 use Rattle.examples.specs.Computed as Computed
 use Rattle.examples.specs.Chain as Chain
 use Rattle.compared_examples.specs.Compared as Pairs
@@ -901,13 +901,13 @@ each-pool-write-exactly = pool-writes-exactly
 -- Not empty words: a pool of two; 18 for one set and for lengths that only wrap; 15; the second server's own 1; 19 for bit 28 of 1.EDX and for D.2, and
 -- accepted with a third server that has no D.2, so that one server more gave rows to a pool that was refused; a table within both servers'; another
 -- order. crates/pool_examples
-pub pool-of-a-and-w : PoolRight first (serverA ++ Pools.serverW) Pools.two
+pub pool-of-a-and-w : PoolRight first (serverA ++ serverW) Pools.two
 pool-of-a-and-w = PoolInstances.of-a-and-w
 
 pub one-alone-is-no-pool : pooled (underEdition 3) serverA (8192 ∷ []) .verdict ≡ Refused PoolSets
 one-alone-is-no-pool = Pools.one-alone
 
-pub lengths-do-not-wrap : pooled first (serverA ++ Pools.serverW) (0xFFFFFFFFFFFFFFFF ∷ 16385 ∷ []) .verdict ≡ Refused PoolSets
+pub lengths-do-not-wrap : pooled first (serverA ++ serverW) (0xFFFFFFFFFFFFFFFF ∷ 16385 ∷ []) .verdict ≡ Refused PoolSets
 lengths-do-not-wrap = Pools.wraps
 
 pub no-third-edition-in-a-pool : pooled (underEdition 3) serverA (8192 ∷ 0 ∷ []) .verdict ≡ Refused UnknownEdition
@@ -922,15 +922,15 @@ bit-28-is-no-feature = Bit28.a-and-m
 pub d-2-differs : DifferFault first (serverA ++ Differ.serverD) Pools.two
 d-2-differs = PoolInstances.of-a-and-d
 
-pub a-third-server-lifts-it : pooled first (serverA ++ Differ.serverD ++ Pools.serverW) Differ.three .verdict ≡ Accepted
+pub a-third-server-lifts-it : pooled first (serverA ++ Differ.serverD ++ serverW) Differ.three .verdict ≡ Accepted
 a-third-server-lifts-it = Differ.a-and-d-and-w
 
 pub a-server-more-adds-nothing :
-    NothingMore (poolTable first (serverA ++ Pools.serverW) Pools.two) (poolTable first (serverA ++ Differ.serverD ++ Pools.serverW) Differ.three)
+    NothingMore (poolTable first (serverA ++ serverW) Pools.two) (poolTable first (serverA ++ Differ.serverD ++ serverW) Differ.three)
 a-server-more-adds-nothing = PoolInstances.of-one-more
 
 -- W's table lies within A's and its own; A, D and W pool as A, W and D do
-pub w-has-none-beyond-the-pool : NoneBeyond (answer first Pools.serverW .table) (poolTable first (serverA ++ Pools.serverW) Pools.two)
+pub w-has-none-beyond-the-pool : NoneBeyond (answer first serverW .table) (poolTable first (serverA ++ serverW) Pools.two)
 w-has-none-beyond-the-pool = PoolInstances.of-w-within
 
 -- A's table, which has bit 28 of 1.EDX, beside two servers that have not: no feature bit of it lies beyond theirs, nor beyond their pool's
@@ -938,7 +938,7 @@ pub a-has-none-beyond-by-the-letter : NoFeatureBeyond (answer first serverA .tab
 a-has-none-beyond-by-the-letter = Letter28.a-has-none-beyond
 
 pub d-and-w-change-places :
-    pooled first (serverA ++ Differ.serverD ++ Pools.serverW) Differ.three ≡ pooled first (serverA ++ Pools.serverW ++ Differ.serverD) Differ.three
+    pooled first (serverA ++ Differ.serverD ++ serverW) Differ.three ≡ pooled first (serverA ++ serverW ++ Differ.serverD) Differ.three
 d-and-w-change-places = PoolInstances.of-another-order
 
 -- ---- P13: the nearest bit that matters. NearestBit.antt.
