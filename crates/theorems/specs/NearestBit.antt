@@ -20,6 +20,7 @@ use Rattle.table.specs.declared.Verdict.the-variants.{Refused}
 use Rattle.build.specs.Build.{underEdition, answer}
 use Rattle.flips.specs.declared.Flip.{Flip}
 use Rattle.flips.specs.Flips.{flip}
+use Rattle.flips.specs.FlipOrder.{someFlips, flips-are}
 use Rattle.flips.specs.OneBit.{oneBit}
 use Rattle.flip_rows.specs.Changes.{changes}
 use Rattle.nearest.specs.declared.Nearest.the-variants.{Bit, NoBit}
@@ -52,6 +53,12 @@ twenty-exactly = Twenty.twenty-exactly
 pub refused-by-4 : (chosen : Choices) (s : List ℕ) → AreBytes s → answer chosen s .verdict ≡ Refused InvlpgbUnavailable
     → InvlpgbNearest chosen s
 refused-by-4 = Invlpgb.refused-by-4
+
+-- the order of the flips, by page, entry, register and bit from 0: some of the 384 of three entries, two on page 0 and one on page 1.
+-- crates/flips/specs/FlipOrder.antt
+pub flips-in-order : someFlips
+    ≡ flip 0 0 0 0 ∷ flip 0 0 0 1 ∷ flip 0 0 1 0 ∷ flip 0 0 3 31 ∷ flip 0 1 0 0 ∷ flip 1 0 0 0 ∷ flip 1 0 3 31 ∷ []
+flips-in-order = flips-are
 
 -- to change nothing is that verdict and table of the two answers are equal. crates/nearest_ends/specs/Meaning.antt
 pub unchanged-exactly : (chosen : Choices) (s : List ℕ) (f : Flip) → (changes chosen s f ≡ false) ↔ Unchanged chosen s f

@@ -112,6 +112,7 @@ use Rattle.theorems.specs.GuestExported.{GuestExportsRise, GuestOrigins,
 use Rattle.theorems.specs.PoolExported.{PoolOrigins, pool-origins}
 use Rattle.kvm_list.specs.Words.{bytesOfWords}
 use Rattle.kvm_list.specs.Format.{listBytes}
+use Rattle.kvm_pages.specs.TwoRows as TwoRows
 use Rattle.kvm_import.specs.Import.{readList}
 use Rattle.kvm_export.specs.Export.{plainRow, listRows, listOf}
 use Rattle.kvm_export.specs.Flags.{flags, flags-are}
@@ -753,16 +754,16 @@ an-empty-list = KvmLists.empty-list
 pub flags-by-place : flags ≡ replicate 3 0 ++ replicate 67 1 ++ replicate 12 0 ++ replicate 4 1 ++ replicate 2 0
 flags-by-place = flags-are
 
--- row D.2 of server A as bytes, with flag 1; and a list of two rows given as bytes, every byte of its two pages.
--- crates/kvm_examples/specs/KvmBytes.antt, which has row B.1 too
+-- row D.2 of server A as bytes, with flag 1. crates/kvm_examples/specs/KvmBytes.antt, which has row B.1 too
 pub row-of-d-2-listed : take 40 (drop 328 (listOf (answer first serverA .table)))
     ≡ 0xD ∷ 0 ∷ 0 ∷ 0 ∷ 2 ∷ 0 ∷ 0 ∷ 0 ∷ 1 ∷ 0 ∷ 0 ∷ 0
     ∷ 0 ∷ 0x01 ∷ 0 ∷ 0 ∷ 0x40 ∷ 0x02 ∷ 0 ∷ 0 ∷ 0 ∷ 0 ∷ 0 ∷ 0 ∷ 0 ∷ 0 ∷ 0 ∷ 0
     ∷ 0 ∷ 0 ∷ 0 ∷ 0 ∷ 0 ∷ 0 ∷ 0 ∷ 0 ∷ 0 ∷ 0 ∷ 0 ∷ 0 ∷ []
 row-of-d-2-listed = KvmBytes.row-of-d-2
 
+-- a list of two rows given as bytes, and every byte of its two pages. crates/kvm_pages/specs/TwoRows.antt
 pub two-rows-read : (buffer : List ℕ) → 8192 ≤ length buffer
-    → readList KvmBytes.twoRows buffer ≡ record { answer = Bytes 8192; buffer = (KvmBytes.page0 ++ KvmBytes.page1) ++ drop 8192 buffer }
+    → readList TwoRows.twoRows buffer ≡ record { answer = Bytes 8192; buffer = (TwoRows.page0 ++ TwoRows.page1) ++ drop 8192 buffer }
 two-rows-read = KvmBytes.two-rows-read
 
 -- ---- The page reader in the source's form. crates/reader/specs/Read.antt.
