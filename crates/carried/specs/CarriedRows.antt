@@ -1,5 +1,6 @@
 -- Document 02, P8: "From 1 to 2 a table built otherwise gets the same three bits cleared where its own D.0.EAX lacks bit 2, and nothing else changed,
--- absent rows reading as zeros". Of any table, row by row and bit by bit. And in place: within one edition no lent byte changes, whatever is answered.
+-- absent rows reading as zeros". Of any table, row by row and bit by bit. And in place: within one edition no lent byte changes, whatever is
+-- answered.
 use mathlib.Core.Path.{_≡_, refl, ap, _∙_}
 use mathlib.Core.Bool.{Bool, true, false, _&&_, _||_}
 use mathlib.Core.List.{List}
@@ -112,7 +113,8 @@ unfolding keeps xfem
 own-keeps t = go (rowIn t (Place.extendedState 0) .present)
   where
     go : (b : Bool)
-        → has 2 (pick b (rowIn t (Place.extendedState 0) .result) (result 0 0 0 0) .eax) ≡ has 2 (pick b (rowIn t (Place.extendedState 0) .result .eax) 0)
+        → has 2 (pick b (rowIn t (Place.extendedState 0) .result) (result 0 0 0 0) .eax)
+        ≡ has 2 (pick b (rowIn t (Place.extendedState 0) .result .eax) 0)
     go true = refl
     go false = refl
 
@@ -144,8 +146,10 @@ module _ (keep : Bool) (t : CpuidResults) where
   version-row e = rw (carried-at Place.versionAndFeatures (lit< tt), e) (record { eax = refl; ebx = refl; ecx = version-gone keep _; edx = refl })
 
   extended-row : rowIn t Place.extendedVersionAndFeatures .present ≡ true
-      → RowGone keep ofExtended (rowIn t Place.extendedVersionAndFeatures .result) (rowIn (carriedTable keep t) Place.extendedVersionAndFeatures .result)
-  extended-row e = rw (carried-at Place.extendedVersionAndFeatures (lit< tt), e) (record { eax = refl; ebx = refl; ecx = extended-gone keep _; edx = refl })
+      → RowGone keep ofExtended (rowIn t Place.extendedVersionAndFeatures .result)
+      (rowIn (carriedTable keep t) Place.extendedVersionAndFeatures .result)
+  extended-row e =
+      rw (carried-at Place.extendedVersionAndFeatures (lit< tt), e) (record { eax = refl; ebx = refl; ecx = extended-gone keep _; edx = refl })
 
 pub carries-rows : CarriesRows
 carries-rows t xcr0 xss e =

@@ -1,5 +1,5 @@
--- "absent rows reading as zeros" (document 02, P8), with figures: a table whose registers are all ones at every place, and one row, D.0 with EAX 7. What
--- stands at an absent row lets no state in, and counts for no size.
+-- "absent rows reading as zeros" (document 02, P8), with figures: a table whose registers are all ones at every place, and one row, D.0 with EAX 7.
+-- What stands at an absent row lets no state in, and counts for no size.
 use mathlib.Core.Path.{_≡_, refl}
 use mathlib.Core.Bool.{Bool, false}
 use mathlib.Core.List.{List, [], _∷_}

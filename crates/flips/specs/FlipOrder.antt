@@ -1,5 +1,5 @@
--- "ordered by page, entry, register (EAX, EBX, ECX, EDX) and bit from 0" (document 02, P13), with figures: three entries, two on page 0 and one on page
--- 1. Of their 384 flips the 1st, 2nd, 33rd, 128th, 129th, 257th and 384th.
+-- "ordered by page, entry, register (EAX, EBX, ECX, EDX) and bit from 0" (document 02, P13), with figures: three entries, two on page 0 and one on
+-- page 1. Of their 384 flips the 1st, 2nd, 33rd, 128th, 129th, 257th and 384th.
 use mathlib.Core.Path.{_≡_, refl}
 use mathlib.Core.List.{List, [], _∷_, map}
 use Prim.Native.Nat.{ℕ}

@@ -1,5 +1,5 @@
--- Guest tables are ordered as tables are (crates/rise/specs/Preorder.antt), P3's exception included: each rises to itself, and rises compose. Where A's
--- D.1.EAX has bit 1 or bit 3, so has B's, and the exception does not arise on the way.
+-- Guest tables are ordered as tables are (crates/rise/specs/Preorder.antt), P3's exception included: each rises to itself, and rises compose. Where
+-- A's D.1.EAX has bit 1 or bit 3, so has B's, and the exception does not arise on the way.
 use mathlib.Core.Path.{_≡_, refl, _∙_}
 use mathlib.Core.Logic.{_⊎_, inl, inr, ⊎-elim}
 use Prim.Native.Nat.{ℕ, _<_}

@@ -48,7 +48,8 @@ module _ (c : Choices) (s : List ℕ) where
   unfolding nearest flips flipsIn flipsOf
   nearest-second d e es p v n h =
       ap₂ (λ (x : Verdict) (l : List Entry). unlessRefused x (firstThat (changes c s) (flipsIn l))) v p
-      ∙ skipped (changes c s) 128 (λ i. flip (d .page) (d .position) (i / 32) (i % 32)) (flipsIn (e ∷ es)) (λ i l. n (i / 32) (i % 32) (omega arith) (omega arith))
+      ∙ skipped (changes c s) 128 (λ i. flip (d .page) (d .position) (i / 32) (i % 32)) (flipsIn (e ∷ es))
+      (λ i l. n (i / 32) (i % 32) (omega arith) (omega arith))
       ∙ at-once
     where
       at-once : firstThat (changes c s) (flipsIn (e ∷ es)) ≡ Bit (flip (e .page) (e .position) 0 0)

@@ -216,12 +216,12 @@ same-figures-both-ways = same-figures
 pub each-rises-to-itself : (chosen : Choices) (a : List ℕ) → answer chosen a .verdict ≡ Accepted → RiseHypothesis chosen a a
 each-rises-to-itself = rises-itself
 
--- and the moves compose: from A to B and from B to C is from A to C. So the hypothesis is a preorder of the accepted servers, and those that rise to each
--- other have one table. crates/rise/specs/Preorder.antt. Servers W, A and B below meet both hypotheses.
+-- and the moves compose: from A to B and from B to C is from A to C. So the hypothesis is a preorder of the accepted servers, and those that rise to
+-- each other have one table. crates/rise/specs/Preorder.antt. Servers W, A and B below meet both hypotheses.
 pub moves-compose : (chosen : Choices) (a b c : List ℕ) → RiseHypothesis chosen a b → RiseHypothesis chosen b c → RiseHypothesis chosen a c
 moves-compose = Preorder.rises-compose
 
--- round a ring of three servers every answer is the same but origins
+-- round a ring of three servers every answer is the same but origins. Server A with entries added, A, and A with a page added are such a ring (P9).
 pub around-a-ring : (chosen : Choices) (a b c : List ℕ) → RiseHypothesis chosen a b → RiseHypothesis chosen b c → RiseHypothesis chosen c a
     → SameButOrigins (answer chosen a) (answer chosen b) × SameButOrigins (answer chosen b) (answer chosen c)
 around-a-ring = Preorder.around-the-same
@@ -332,8 +332,8 @@ moves-to-edition-2 = moves-to-second
 pub carrying-changes-nothing-else : CarryKeeps
 carrying-changes-nothing-else = carry-keeps
 
--- of any table from 1 to 2: rows 1 and 80000001h lose exactly the three bits where its own D.0.EAX lacks bit 2, absent rows reading as zeros, and every
--- other row is as it was. crates/carried/specs/CarriedRows.antt; `without-ymm-moved` below meets it
+-- of any table from 1 to 2: rows 1 and 80000001h lose exactly the three bits where its own D.0.EAX lacks bit 2, absent rows reading as zeros, and
+-- every other row is as it was. crates/carried/specs/CarriedRows.antt; `without-ymm-moved` below meets it
 pub carrying-clears-exactly : CarriedRows.CarriesRows
 carrying-clears-exactly = CarriedRows.carries-rows
 
@@ -430,11 +430,12 @@ guest-rise-whole = GuestRiseProof.guest-rise-whole
 pub guest-rise-all : GuestRiseAll
 guest-rise-all = guest-rises-all
 
--- rises of guest tables compose as those of tables do, the exception included. crates/guest_rise/specs/GuestPreorder.antt; `guest-from-w-to-b` meets it
+-- rises of guest tables compose as those of tables do, the exception included. crates/guest_rise/specs/GuestPreorder.antt; `guest-from-w-to-b` meets
+-- it
 pub guest-tables-compose : (t u v : CpuidResults) → GuestTableRises t u → GuestTableRises u v → GuestTableRises t v
 guest-tables-compose = guest-rises-compose
 
--- the same of what the exported guest functions return. crates/theorems/specs/GuestExported.antt
+-- the same of what the exported guest functions return, for the same servers. crates/theorems/specs/GuestExported.antt
 pub guest-rise-of-exports : (chosen : Choices) (a b : List ℕ) (v : Processor) → RiseHypothesis chosen a b → guestPages chosen a v .verdict ≡ Accepted
     → GuestExportsRise chosen a b v
 guest-rise-of-exports = guest-exports-rise
@@ -523,7 +524,8 @@ pub missing-leaf-arrives : (answer first Spare.withoutD2 .verdict ≡ Refused (M
 missing-leaf-arrives = (Spare.without-refused, Spare.without-added, Computed.serverA-accepted)
 
 -- ---- P10, reserved bytes of an entry. crates/reserved/specs/Reserved.antt: `allClean` says that the eight reserved bytes of every entry below its
--- page's count are zero. It is part of what lawful pages are (`lawfulVerdict`, crates/lawful/specs/Lawful.antt), which demand 3, the comparison and P9 ask.
+-- page's count are zero. It is part of what lawful pages are (`lawfulVerdict`, crates/lawful/specs/Lawful.antt), which demand 3, the comparison and
+-- P9 ask.
 
 -- of clean pages every entry that a reader gives is clean: the entries whose reserved bytes are zero are all of them
 pub reader-gives-clean-entries : (s : List ℕ) (n : ℕ) → length (entries s) ≤ n → allClean s ≡ true
@@ -570,7 +572,7 @@ pub exports-tell-origins : FoundOrigins
 exports-tell-origins = found-origins
 
 -- with a row that is found, the guest's lookup tells the paravisor's row's origin, and the pool's the first server's row's.
--- crates/theorems/specs/GuestExported.antt, PoolExported.antt
+-- crates/theorems/specs/GuestExported.antt, PoolExported.antt. What they tell is `originAt`, with figures below.
 pub guest-exports-tell-origins : GuestOrigins
 guest-exports-tell-origins = guest-origins
 
@@ -670,7 +672,8 @@ nc-255-not-listed = (Topologies.wrapped-inputs, Topologies.wrapped-refused, Topo
 
 -- of any accepted table, whatever s: B.0 and B.1 by the five inputs. v is 1, lps = nc + 1 or 2^s, EBX of B.1 is v and EAX the least k with 2^k at
 -- least v. crates/rise/specs/Levels.antt
-pub any-levels : (chosen : Choices) (s : List ℕ) → answer chosen s .verdict ≡ Accepted → AcceptedLevels (inputsOf (rowsFor chosen s)) (answer chosen s .table)
+pub any-levels : (chosen : Choices) (s : List ℕ) → answer chosen s .verdict ≡ Accepted
+    → AcceptedLevels (inputsOf (rowsFor chosen s)) (answer chosen s .table)
 any-levels = accepted-levels
 
 -- an example with s = 8, beyond the list: 256 processors. crates/examples/specs/Chain.antt
@@ -823,7 +826,8 @@ pub a-to-none : compared first serverA [] ≡ UnlawfulB PagesLength
 a-to-none = Pairs.a-to-none
 
 -- ---- P6: refusals as lines. crates/line_bytes/specs/NumbersInUse.antt has what each number names, Line.antt beside it the line;
--- crates/lines/specs/WriteLine.antt and ReadLine.antt have the writer and the reader. `writable d`: the number is in use, names every detail that is set, and s has 8 bits.
+-- crates/lines/specs/WriteLine.antt and ReadLine.antt have the writer and the reader. `writable d`: the number is in use, names every detail that is
+-- set, and s has 8 bits.
 
 -- reading what was written gives it back: of every line, and of what the writer left at the front of any lent buffer
 pub line-read-back : (d : LineDetails) → Fits d → writable d ≡ true → readLine (line d) ≡ Says d
@@ -933,7 +937,7 @@ pub a-pool-is-the-greatest : (chosen : Choices) (pages lengths : List ℕ) → p
 a-pool-is-the-greatest = greatest
 
 -- the same by the letter: bit 28 of 1.EDX, which is no feature, is asked of no table and said of none. Neither form follows from the other.
--- crates/pooled/specs/ByTheLetter.antt
+-- crates/pooled/specs/ByTheLetter.antt; `a-has-none-beyond-by-the-letter` below meets it
 pub a-pool-is-the-greatest-by-the-letter : (chosen : Choices) (pages lengths : List ℕ) → pooled chosen pages lengths .verdict ≡ Accepted
     → GreatestByTheLetter chosen pages lengths
 a-pool-is-the-greatest-by-the-letter = greatest-by-the-letter
@@ -942,7 +946,7 @@ a-pool-is-the-greatest-by-the-letter = greatest-by-the-letter
 pub one-server-more : OneMore
 one-server-more = one-more
 
--- the same by the letter
+-- the same by the letter; `a-server-more-adds-nothing` below meets what both ask
 pub one-server-more-by-the-letter : OneMoreByTheLetter
 one-server-more-by-the-letter = one-more-by-the-letter
 
@@ -998,8 +1002,8 @@ w-has-none-beyond-the-pool = PoolInstances.of-w-within
 pub pool-to-b : TableRises (poolTable first (serverA ++ serverW) Pools.two) (answer first serverB .table)
 pool-to-b = PoolInstances.of-moves
 
--- A's table, which has bit 28 of 1.EDX, beside two servers that have not: no feature bit of it lies beyond theirs, nor beyond their pool's; with bit 28
--- it does not lie within. crates/pool_examples/specs/Letter28.antt
+-- A's table, which has bit 28 of 1.EDX, beside two servers that have not: no feature bit of it lies beyond theirs, nor beyond their pool's; with bit
+-- 28 it does not lie within. crates/pool_examples/specs/Letter28.antt
 pub a-has-none-beyond-by-the-letter : NoFeatureBeyond (answer first serverA .table) (poolTable first (Bit28.serverM ++ Bit28.serverM) Pools.two)
 a-has-none-beyond-by-the-letter = Letter28.a-has-none-beyond
 
