@@ -36,8 +36,8 @@ unfoldable pub rowAt : ℕ → ℕ
 unfolding keptLeaves
 rowAt i = rowFrom (keptLeaves false) i
 
--- whether a run's rows of masks are those of its places: `row` is that of the first, `last_row` that of the last, and the k-th place's is the k-th
--- from `row` on, up to `last_row`
+-- whether a run's rows of masks are those of its places: `row` is that of the first, `last_row` that of the last, and the k-th place's is the k-th from
+-- `row` on, up to `last_row`
 unfoldable pub rowsTied : Run → Bool
 rowsTied g =
     eqb (g .row) (rowAt (g .first))

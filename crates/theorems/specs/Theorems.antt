@@ -260,7 +260,7 @@ w-to-b = moves-compose first serverW serverA serverB Chain.w-to-a Computed.serve
 pub comparison-decides : (chosen : Choices) (a b : List ℕ) → Decides chosen a b (compared chosen a b)
 comparison-decides = decides
 
--- its order is that of the places, which rise by leaf, then by subleaf, as unsigned numbers. crates/table/specs/Order.antt
+-- the places, which the comparison takes one after another, rise by leaf, then by subleaf, as unsigned numbers. crates/table/specs/Order.antt
 pub comparison-in-order : (i j : ℕ) → i < j → j < places → Precedes i j
 comparison-in-order = places-rise
 
@@ -430,8 +430,8 @@ guest-rise-whole = GuestRiseProof.guest-rise-whole
 pub guest-rise-all : GuestRiseAll
 guest-rise-all = guest-rises-all
 
--- rises of guest tables compose as those of tables do, the exception included. crates/guest_rise/specs/GuestPreorder.antt; `guest-from-w-to-b` meets
--- it
+-- rises of guest tables compose as those of tables do, the exception included. crates/guest_rise/specs/GuestPreorder.antt; `guest-from-w-to-b`
+-- below meets it
 pub guest-tables-compose : (t u v : CpuidResults) → GuestTableRises t u → GuestTableRises u v → GuestTableRises t v
 guest-tables-compose = guest-rises-compose
 
@@ -777,7 +777,7 @@ pub reader-in-order : (s : List ℕ) (n : ℕ) → length (entries s) ≤ n
     → (given s n (firstIndex s) ≡ map parsed (entries s)) × (keepIf countsRead (given s n (firstIndex s)) ≡ map parsed (counted s))
 reader-in-order s n l = (reader-gives s n l, reader-gives-counted s n l)
 
--- ---- Not empty words. crates/page_sets/specs/PageSets.antt has four page sets, byte by byte.
+-- ---- Not empty words. crates/page_sets/specs/PageSets.antt has five page sets, byte by byte.
 
 -- two whole pages
 pub a-whole-set : length serverA ≡ 8192
@@ -856,15 +856,17 @@ pub every-refusal-has-a-line : (r : Refusal) → details r .s ≤ mostS → writ
 every-refusal-has-a-line = Lines.every-refusal
 
 -- each refusal that building gives, of page bytes, is written and read back to itself: nothing more is asked. crates/lined/specs/Lined.antt; without
--- "bytes" it is false (NotBytes.antt beside it)
+-- "bytes" it is false (NotBytes.antt beside it). The sets of `line-of-7` and `line-of-8` below meet it.
 pub every-refusal-of-building-is-read-back : BuildingLined
 every-refusal-of-building-is-read-back = building-lined
 
--- two page sets whose refusals have one line are refused by one refusal, details included. `line-of-7` and `line-of-8` below meet both.
+-- two page sets whose refusals have one line are refused by one refusal, details included. The two sets of
+-- `threads-with-an-entry`, both refused by 8, meet it.
 pub lines-tell-refusals : LinesTell
 lines-tell-refusals = lines-tell
 
--- "no such line", then 9, then the line, each if and only if its condition holds; every lent byte. crates/lines/specs/LineExactly.antt
+-- "no such line", then 9, then the line, each if and only if its condition holds; every lent byte. crates/lines/specs/LineExactly.antt, with examples
+-- in ComputedLines.antt beside it
 pub each-line-write-exactly : (d : LineDetails) (buffer : List ℕ) → LineExactly d buffer (writeLine d buffer)
 each-line-write-exactly = line-exactly
 
