@@ -22,7 +22,7 @@ use Rattle.table.specs.Table.{emptyTable, rowIn, rowsIn}
 use Rattle.checks.specs.ExtendedState.{saveArea}
 use Rattle.checks.specs.TopologyInputs.{inputsOf}
 use Rattle.table.specs.declared.Verdict.the-variants.{Accepted, Refused}
-use Rattle.bits.specs.Lists.{keepIf}
+use Rattle.bits.specs.Lists.{tabulate, keepIf}
 use Rattle.topology.specs.declared.Topology.the-variants.{Processors}
 use Rattle.topology.specs.Topology.{Inputs, inputs, topologyOf, shiftOf}
 use Rattle.topology.specs.TopologyLaws.{LeastShift, shift-least}
@@ -115,7 +115,7 @@ use Rattle.kvm_list.specs.Format.{listBytes}
 use Rattle.kvm_pages.specs.TwoRows as TwoRows
 use Rattle.kvm_import.specs.Import.{readList}
 use Rattle.kvm_export.specs.Export.{plainRow, listRows, listOf}
-use Rattle.kvm_export.specs.Flags.{flags, flags-are}
+use Rattle.kvm_export.specs.Flags.{flags, indexes, flags-are, indexes-are}
 use Rattle.round_trip.specs.RoundTrip.{Returns, RoundTrip, ListWritesExactly}
 use Rattle.round_trip.specs.RoundTripProof.{round-trip, list-writes-exactly}
 use Rattle.round_trip.specs.Reads.{ReadMakes}
@@ -756,6 +756,9 @@ an-empty-list = KvmLists.empty-list
 -- crates/kvm_export/specs/Flags.antt
 pub flags-by-place : flags ≡ replicate 3 0 ++ replicate 67 1 ++ replicate 12 0 ++ replicate 4 1 ++ replicate 2 0
 flags-by-place = flags-are
+
+pub indexes-by-place : indexes ≡ replicate 4 0 ++ (0 ∷ 1 ∷ []) ++ tabulate 64 (λ k. k) ++ replicate 12 0 ++ (0 ∷ 1 ∷ 2 ∷ 3 ∷ []) ++ replicate 2 0
+indexes-by-place = indexes-are
 
 -- row D.2 of server A as bytes, with flag 1. crates/kvm_examples/specs/KvmBytes.antt, which has row B.1 too
 pub row-of-d-2-listed : take 40 (drop 328 (listOf (answer first serverA .table)))
