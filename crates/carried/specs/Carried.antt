@@ -4,7 +4,8 @@ use mathlib.Core.Path.{_≡_}
 use mathlib.Core.Bool.{true}
 use mathlib.Core.List.{List}
 use Prim.Native.Nat.{ℕ, _<_}
-use lib.ListN.{length, getD}
+use lib.ListN.{length}
+use Rattle.pages.specs.Bytes.{AreBytes}
 use Rattle.masking.specs.Kept.{places}
 use Rattle.masking.specs.Place
 use Rattle.table.specs.declared.CpuidResults.{CpuidResults}
@@ -33,7 +34,7 @@ CarryKeeps = (t : CpuidResults) (from to xcr0 xss : ℕ) → length (t .results)
 
 -- the lent bytes are those of an image
 abbrev pub CarriesInPlace : Type 0
-CarriesInPlace = (s : List ℕ) (from to xcr0 xss : ℕ) → ((k : ℕ) → getD s k 0 < 256) → readImage s .«is_image» ≡ true
+CarriesInPlace = (s : List ℕ) (from to xcr0 xss : ℕ) → AreBytes s → readImage s .«is_image» ≡ true
     → carry (readImage s .table) from to xcr0 xss .verdict ≡ Accepted
     → (carryImage s from to xcr0 xss .buffer ≡ image (carry (readImage s .table) from to xcr0 xss .table))
     × (length (carryImage s from to xcr0 xss .buffer) ≡ length s)

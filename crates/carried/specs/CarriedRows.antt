@@ -1,5 +1,6 @@
 -- Document 02, P8: "From 1 to 2 a table built otherwise gets the same three bits cleared where its own D.0.EAX lacks bit 2, and nothing else changed,
--- absent rows reading as zeros". Of any table, row by row and bit by bit. And in place: within one edition no lent byte changes, whatever is answered.
+-- absent rows reading as zeros". Of any table, row by row and bit by bit. And in place: within one edition no lent byte changes, whatever is
+-- answered.
 use mathlib.Core.Path.{_≡_, refl, ap, _∙_}
 use mathlib.Core.Bool.{Bool, true, false, _&&_, _||_}
 use mathlib.Core.List.{List}
@@ -7,7 +8,7 @@ use mathlib.Core.Logic.{_≢_}
 use Prim.Native.Nat.{ℕ, _-_, _^_, _<_, min}
 use native.Mathlib.Omega.{arith}
 use lib.Dec.{lit<, eqb}
-use lib.ListN.{length, getD, length-replicate}
+use lib.ListN.{length, length-replicate}
 use borrow.Author.Tests.{eqb-true, ne-eqb}
 use Rattle.bits.specs.Choice.{pick}
 use Rattle.bits.specs.ChoiceLaws.{never-both}
@@ -18,6 +19,7 @@ use Rattle.bits.specs.BitsLaws.{bit-lt, bit-and}
 use Rattle.bits.specs.ListsLaws.{getD-tabulate, length-tabulate}
 use Rattle.x86defs.specs.declared.CpuidResult.{CpuidResult}
 use Rattle.x86defs.specs.Functions.{result}
+use Rattle.pages.specs.Bytes.{AreBytes}
 use Rattle.masking.specs.Kept.{places}
 use Rattle.masking.specs.Place
 use Rattle.table.specs.declared.CpuidResults.{CpuidResults}
@@ -75,7 +77,7 @@ CarriesRows = (t : CpuidResults) (xcr0 xss : ℕ) → carry t 1 2 xcr0 xss .verd
 
 -- in place, within one edition: any lent bytes, an image or not, refused or not, stay
 abbrev pub StaysWithin : Type 0
-StaysWithin = (s : List ℕ) (n xcr0 xss : ℕ) → ((k : ℕ) → getD s k 0 < 256) → carryImage s n n xcr0 xss .buffer ≡ s
+StaysWithin = (s : List ℕ) (n xcr0 xss : ℕ) → AreBytes s → carryImage s n n xcr0 xss .buffer ≡ s
 
 -- ---- bits
 
@@ -111,7 +113,8 @@ unfolding keeps xfem
 own-keeps t = go (rowIn t (Place.extendedState 0) .present)
   where
     go : (b : Bool)
-        → has 2 (pick b (rowIn t (Place.extendedState 0) .result) (result 0 0 0 0) .eax) ≡ has 2 (pick b (rowIn t (Place.extendedState 0) .result .eax) 0)
+        → has 2 (pick b (rowIn t (Place.extendedState 0) .result) (result 0 0 0 0) .eax)
+        ≡ has 2 (pick b (rowIn t (Place.extendedState 0) .result .eax) 0)
     go true = refl
     go false = refl
 
@@ -143,8 +146,10 @@ module _ (keep : Bool) (t : CpuidResults) where
   version-row e = rw (carried-at Place.versionAndFeatures (lit< tt), e) (record { eax = refl; ebx = refl; ecx = version-gone keep _; edx = refl })
 
   extended-row : rowIn t Place.extendedVersionAndFeatures .present ≡ true
-      → RowGone keep ofExtended (rowIn t Place.extendedVersionAndFeatures .result) (rowIn (carriedTable keep t) Place.extendedVersionAndFeatures .result)
-  extended-row e = rw (carried-at Place.extendedVersionAndFeatures (lit< tt), e) (record { eax = refl; ebx = refl; ecx = extended-gone keep _; edx = refl })
+      → RowGone keep ofExtended (rowIn t Place.extendedVersionAndFeatures .result)
+      (rowIn (carriedTable keep t) Place.extendedVersionAndFeatures .result)
+  extended-row e =
+      rw (carried-at Place.extendedVersionAndFeatures (lit< tt), e) (record { eax = refl; ebx = refl; ecx = extended-gone keep _; edx = refl })
 
 pub carries-rows : CarriesRows
 carries-rows t xcr0 xss e =

@@ -2,3 +2,4 @@ pub mod Carry
 pub mod CarryLaws
 pub mod InPlace
 pub mod InPlaceLaws
+pub mod AbsentRows

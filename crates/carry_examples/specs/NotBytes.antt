@@ -1,5 +1,5 @@
--- That the lent elements are bytes is needed for `StaysWithin`: the definitions read lists of any numbers. One row, D.0 with EAX 1, whose EDX has 256 in
--- its first element: read as the number 256, it is written as 0 and 1. No slice of bytes is such a list.
+-- That the lent elements are bytes is needed for `StaysWithin`: the definitions read lists of any numbers. One row, D.0 with EAX 1, whose EDX has 256
+-- in its first element: read as the number 256, it is written as 0 and 1. No slice of bytes is such a list.
 use mathlib.Core.Path.{_≡_, refl, sym, ap, _∙_}
 use mathlib.Core.List.{List, [], _∷_}
 use Prim.Native.Nat.{ℕ}
@@ -20,8 +20,8 @@ abbrev pub notBytes : List ℕ
 notBytes = 2 ∷ 0xD ∷ 0 ∷ 0 ∷ 0 ∷ 0 ∷ 0 ∷ 0 ∷ 0 ∷ 1 ∷ 0 ∷ 0 ∷ 0 ∷ 0 ∷ 0 ∷ 0 ∷ 0 ∷ 0 ∷ 0 ∷ 0 ∷ 0 ∷ 256 ∷ 0 ∷ 0 ∷ 0 ∷ []
 
 carried-otherwise : getD (carryImage notBytes 1 1 1 0 .buffer) 21 0 ≡ 0
-unfolding evaluated carryImage readImage isImage left afterRow begins opens rowRead registersAt carry carryVerdict knownEdition keeps stateVerdict allowedVerdict
-    compactVerdict allowed compactRegister compacts image imageIn rowOrder writeFront tabulate
+unfolding evaluated carryImage readImage isImage left afterRow begins opens rowRead registersAt carry carryVerdict knownEdition keeps stateVerdict
+    allowedVerdict compactVerdict allowed compactRegister compacts image imageIn rowOrder writeFront tabulate
 carried-otherwise = refl
 
 pub not-the-same : carryImage notBytes 1 1 1 0 .buffer ≡ notBytes → ⊥

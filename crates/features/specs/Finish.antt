@@ -106,7 +106,7 @@ edition2 = record {
       maskOf ExtendedEcx.position (ExtendedEcx.ExtendedVersionAndFeaturesEcx.xop ∷ ExtendedEcx.ExtendedVersionAndFeaturesEcx.fma4 ∷ []);
 }
 
--- the clears of an edition by its number; any number but 1 and 2 is refused before a row is made (Build.antt, `editionVerdict`)
+-- the clears of an edition by its number; any number but 1 and 2 is refused before a row is made (crates/build/specs/Build.antt, `editionVerdict`)
 unfoldable pub ymmClears : ℕ → YmmClears
 ymmClears n = pick (eqb n 2) edition2 edition1
 

@@ -5,3 +5,4 @@ pub mod WordLaws
 pub mod EntryLaws
 pub mod CleanLaws
 pub mod ListLaws
+pub mod FlipOrder

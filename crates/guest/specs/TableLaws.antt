@@ -34,7 +34,7 @@ use Rattle.guest.specs.declared.GuestAnswer.{GuestAnswer}
 use Rattle.guest.specs.Guest.{versionSeen, levelSeen, sizeSeen, guestAnswer}
 use Rattle.guest.specs.GuestLaws.{ifThere, given}
 use Rattle.guest.specs.Seen.{seenWith, tableWith, SeenIn}
-use Rattle.guest.specs.SeenLaws.{by-verdict, table-kept}
+use Rattle.guest.specs.FindLaws.{by-verdict, table-kept}
 
 pub rowed : (w : List ℕ) → length w ≡ 4 * places → Rowed w (rowList w)
 rowed w e = record { size = e; rows = refl }

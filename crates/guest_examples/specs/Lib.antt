@@ -2,3 +2,4 @@ pub mod CompactSizes
 pub mod Seen
 pub mod Views
 pub mod Exception
+pub mod Composed

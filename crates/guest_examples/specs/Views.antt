@@ -1,18 +1,22 @@
 -- Not empty words: a view for each answer, and a pair of servers whose guests' tables rise, all by computation.
-use mathlib.Core.Path.{_≡_, ap}
+use mathlib.Core.Path.{_≡_, ap, _∙_}
 use mathlib.Core.Bool.{true, false}
 use mathlib.Core.List.{[], _∷_}
+use Rattle.x86defs.specs.declared.CpuidResult.{CpuidResult}
+use Rattle.x86defs.specs.Functions.{result}
+use Rattle.masking.specs.Place
 use Rattle.table.specs.declared.CpuidResults.{CpuidResults}
 use Rattle.table.specs.declared.Refusal.the-variants.{SaveAreaOverflow, StateBeyondTable}
 use Rattle.table.specs.declared.Verdict.the-variants.{Accepted, Refused}
-use Rattle.table.specs.Table.{rowsIn}
+use Rattle.table.specs.Table.{rowIn, rowsIn}
+use Rattle.rise.specs.RiseProof.{answer-table}
 use Rattle.page_sets.specs.PageSets.{serverA, serverB, serverWithLargeD6}
 use Rattle.examples.specs.Computed.{serverA-accepted, serverB-rises, serverB-accepted, large-refused}
 use Rattle.guest_state.specs.State.{stateVerdict}
 use Rattle.guest.specs.declared.Processor.{Processor}
 use Rattle.guest.specs.Guest.{guestTable, refusedAnswer}
 use Rattle.guest_pages.specs.GuestPages.{guestPages}
-use Rattle.guest_pages.specs.GuestPagesLaws.{building-first}
+use Rattle.guest_pages.specs.GuestPagesLaws.{given-guest, building-first}
 use Rattle.guest_rise.specs.GuestRise.{GuestOutcome}
 use Rattle.guest_rise.specs.GuestRiseProof.{guest-rise}
 use Rattle.page_sets.specs.Evaluation.{first}
@@ -36,6 +40,21 @@ a-given = seen-verdict first serverA viewA serverA-accepted stateA
 
 pub a-figures : figures (guestPages first serverA viewA .table) ≡ 0x45010000 ∷ 0xBED83203 ∷ 0x12345 ∷ 0x12345 ∷ 832 ∷ 832 ∷ []
 a-figures = seen-figures first serverA viewA serverA-accepted stateA figuresA
+
+-- row 1 whole: EAX and EDX are the table's, and of EBX and ECX all but the number and bit 27
+abbrev versionRow : CpuidResults → CpuidResult
+versionRow t = rowIn t Place.versionAndFeatures .result
+
+version-passed : versionRow (guestTable (built first serverA) viewA) ≡ result 0xA00F11 0x45010000 0xBED83203 0x178BFBFF
+unfolding viewed serverA
+version-passed = ap (λ (t : CpuidResults). versionRow (guestTable t viewA)) (built-passed first serverA)
+
+pub a-version : rowIn (guestPages first serverA viewA .table) Place.versionAndFeatures .result ≡ result 0xA00F11 0x45010000 0xBED83203 0x178BFBFF
+a-version =
+    ap versionRow
+    (given-guest first serverA viewA serverA-accepted a-given
+    ∙ ap (λ (t : CpuidResults). guestTable t viewA) (answer-table first serverA serverA-accepted))
+    ∙ version-passed
 
 -- ---- 13: without bit 0; beyond XFEM; beyond XFEM's 32 bits; XSS beyond the table's, which is 0
 

@@ -1,19 +1,16 @@
--- Guest tables are ordered as tables are (crates/rise/specs/Preorder.antt), P3's exception included: each rises to itself, and rises compose. Where A's
--- D.1.EAX has bit 1 or bit 3, so has B's, and the exception does not arise on the way.
-use mathlib.Core.Path.{_≡_, refl, _∙_, subst}
-use mathlib.Core.Bool.{Bool, true, false, _||_}
+-- Guest tables are ordered as tables are (crates/rise/specs/Preorder.antt), P3's exception included: each rises to itself, and rises compose. Where
+-- A's D.1.EAX has bit 1 or bit 3, so has B's, and the exception does not arise on the way.
+use mathlib.Core.Path.{_≡_, refl, _∙_}
 use mathlib.Core.Logic.{_⊎_, inl, inr, ⊎-elim}
 use Prim.Native.Nat.{ℕ, _<_}
-use Rattle.bits.specs.ChoiceLaws.{never-both}
-use Rattle.bits.specs.Bits.{has, Within}
-use Rattle.bits.specs.BitsLaws.{within-refl, within-trans, has-mono}
+use Rattle.bits.specs.BitsLaws.{within-refl, within-trans}
 use Rattle.masking.specs.Place
 use Rattle.table.specs.declared.CpuidResults.{CpuidResults}
 use Rattle.table.specs.Table.{rowIn}
 use Rattle.update.specs.Kinds.{kindsAt}
 use Rattle.rise.specs.Preorder.{registers-itself, registers-compose, further-composes-first, further-composes-second}
-use Rattle.guest_state.specs.State.{compacts}
 use Rattle.guest_rise.specs.GuestRise.{compactsIn, GuestTableRises}
+use Rattle.guest_rise.specs.StateExactly.{compacts-mono}
 
 pub guest-rises-itself : (t : CpuidResults) → GuestTableRises t t
 guest-rises-itself t = record {
@@ -25,18 +22,6 @@ guest-rises-itself t = record {
   others = λ i l p. inl p;
   mask = within-refl _;
 }
-
-compacts-mono : {a b : ℕ} → Within a b → compacts a ≡ true → compacts b ≡ true
-unfolding compacts
-compacts-mono {a} {b} w = go (has 1 a) refl
-  where
-    right : (p : Bool) → (p || true) ≡ true
-    right true = refl
-    right false = refl
-
-    go : (p : Bool) → has 1 a ≡ p → (p || has 3 a) ≡ true → (has 1 b || has 3 b) ≡ true
-    go true e f = rw (has-mono 1 w e)
-    go false e f = rw (has-mono 3 w f) (right (has 1 b))
 
 module _ (t u v : CpuidResults) (p : GuestTableRises t u) (q : GuestTableRises u v) where
   pub guest-rises-compose : GuestTableRises t v

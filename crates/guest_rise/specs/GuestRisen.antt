@@ -1,7 +1,7 @@
--- Document 02, P3, the rise of guest answers whole: "The rise from server A to server B is wanted for guest answers with the same number, XCR0, XSS and
--- OSXSAVE too, except that where A's D.1.EBX is 0 for want of both bits, B's may be any size or refused by 14." From a guest that A gives its table, B's
--- answer is one of four, as B's own rows decide: refused by 3 or by 5, as demand 3 has it and for its reasons; refused by 14, only where A's D.1.EAX has
--- neither bit; or given, and the guest's table rises from A's. 13 never stands in the way.
+-- Document 02, P3, the rise of guest answers whole: "The rise from server A to server B is wanted for guest answers with the same number, XCR0, XSS
+-- and OSXSAVE too, except that where A's D.1.EBX is 0 for want of both bits, B's may be any size or refused by 14." From a guest that A gives its
+-- table, B's answer is one of four, as B's own rows decide: refused by 3 or by 5, as demand 3 has it and for its reasons; refused by 14, only where
+-- A's D.1.EAX has neither bit; or given, and the guest's table rises from A's. 13 never stands in the way.
 use mathlib.Core.Path.{_≡_, refl, sym, _∙_}
 use mathlib.Core.Bool.{true, false}
 use mathlib.Core.List.{List}

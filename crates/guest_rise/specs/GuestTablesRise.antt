@@ -26,6 +26,7 @@ use Rattle.guest_state.specs.Compact.{compactSize}
 use Rattle.guest_state.specs.CompactLaws.{compact-same}
 use Rattle.guest_state.specs.State.{compacts, saveRegister, compactRegister, stateVerdict}
 use Rattle.guest.specs.declared.Processor.{Processor}
+use Rattle.guest.specs.SeenLaws.{seen-there}
 use Rattle.guest.specs.Guest.{guestTable, tableGiven, guestAnswer}
 use Rattle.guest_rise.specs.GuestRise.{compactsIn, RowRises, GuestTableRises, GuestOutcome}
 use Rattle.guest_rise.specs.GuestRise.GuestOutcome.{given, tooLarge}
@@ -33,7 +34,7 @@ use Rattle.guest_rise.specs.StateExactly.{Allowed, SizeFault, StateAnswe
 use Rattle.guest_rise.specs.StateExactly.StateAnswers.{beyond, large}
 use Rattle.guest_rise.specs.StateExactly.StateAnswers.{given as accepted}
 use Rattle.guest_rise.specs.BuiltState.{Supplied}
-use Rattle.guest_rise.specs.SeenRises.{state0-eax, state1-eax, state1-ecx, state1-edx, seen-rises, seen-there}
+use Rattle.guest_rise.specs.SeenRises.{state0-eax, state1-eax, state1-ecx, state1-edx, seen-rises}
 
 module _ (t u : CpuidResults) (v : Processor) (rises : TableRises t u) (supplied : Supplied t) (allows : Allowed (rowsIn t) (v .xcr0) (v .xss)) where
   abbrev T : Rows

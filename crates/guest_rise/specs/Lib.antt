@@ -5,6 +5,5 @@ pub mod BuiltState
 pub mod SeenRises
 pub mod GuestTablesRise
 pub mod GuestRiseProof
-pub mod SeenExactly
 pub mod GuestRisen
 pub mod GuestPreorder

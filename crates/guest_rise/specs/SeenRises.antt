@@ -1,26 +1,21 @@
--- What the guest sees, row by row: a row that compares with A's compares as seen too.
-use mathlib.Core.Path.{_≡_, refl, sym, ap, _∙_, subst}
+-- What the guest sees, row by row: a row that compares with A's compares as seen too. crates/guest/specs/SeenLaws.antt has the rows.
+use mathlib.Core.Path.{_≡_, refl, sym, ap, subst}
 use mathlib.Core.Bool.{Bool, true, false, _&&_}
-use Prim.Native.Nat.{ℕ, _-_, _^_, _<_}
+use Prim.Native.Nat.{ℕ, _-_, _^_}
 use lib.Dec.{eqb}
 use lib.Bits.{bitOr}
-use borrow.Author.Tests.{eqb-true, ne-eqb}
+use borrow.Author.Tests.{eqb-true}
 use Rattle.bits.specs.Choice.{pick}
 use Rattle.bits.specs.ChoiceLaws.{never-both, and-left, and-right, and-both}
-use Rattle.bits.specs.ListsLaws.{getD-tabulate}
 use Rattle.bits.specs.Bits.{has, clear, Within}
 use Rattle.bits.specs.BitsLaws.{has-mono, within-or, within-and, within-refl, within-trans, clear-within, or-within-left}
 use Rattle.x86defs.specs.declared.CpuidResult.{CpuidResult}
-use Rattle.x86defs.specs.Functions.{result}
-use Rattle.masking.specs.Kept.{places, keptLeaves, slot}
+use Rattle.masking.specs.Kept.{keptLeaves, slot}
 use Rattle.masking.specs.Place
-use Rattle.table.specs.declared.CpuidResults.{CpuidResults}
 use Rattle.table.specs.Rows.{row}
-use Rattle.table.specs.Table.{rowIn, rowsIn}
 use Rattle.update.specs.Kinds.{registerKinds, kindsAt}
-use Rattle.guest_state.specs.State.{saveRegister, compactRegister}
 use Rattle.guest.specs.declared.Processor.{Processor}
-use Rattle.guest.specs.Guest.{numberSeen, osxsaveSeen, versionSeen, levelSeen, sizeSeen, seenAt, seenIn, guestTable}
+use Rattle.guest.specs.Guest.{numberSeen, osxsaveSeen, versionSeen, levelSeen, sizeSeen, seenAt}
 use Rattle.guest_rise.specs.GuestRise.{RowRises}
 
 -- ---- leaf 1 ECX
@@ -101,35 +96,3 @@ seen-rises v i r s e f h =
     (choose i Place.coreLevel (λ _. cores-rise v r s)
     (choose i (Place.extendedState 0) (λ _. state0-rises r s e)
     (choose i (Place.extendedState 1) (λ q. state1-rises r s (f q)) h h) h) h) h) h
-
--- ---- the guest's table, row by row
-
-pub seen-row : (t : CpuidResults) (v : Processor) (i : ℕ) → i < places → rowIn (guestTable t v) i .result ≡ seenIn t v i
-seen-row t v i l = getD-tabulate places (seenIn t v) i (result 0 0 0 0) l
-
--- of a row that is there
-pub seen-there : (t : CpuidResults) (v : Processor) (i : ℕ) → i < places → rowIn t i .present ≡ true
-    → rowIn (guestTable t v) i .result
-    ≡ seenAt v (saveRegister (rowsIn t) (v .xcr0)) (compactRegister (rowsIn t) (v .xcr0) (v .xss)) i (row (rowIn t i .result))
-seen-there t v i l p =
-    seen-row t v i l
-    ∙ ap (λ (b : Bool). seenAt v (saveRegister (rowsIn t) (v .xcr0)) (compactRegister (rowsIn t) (v .xcr0) (v .xss)) i
-    (record { present = b; result = rowIn t i .result })) p
-
--- "differs in these places": every other row is the table's
-pub elsewhere : (t : CpuidResults) (v : Processor) (i : ℕ) → i < places
-    → (i ≡ Place.versionAndFeatures → ⊥) → (i ≡ Place.threadLevel → ⊥) → (i ≡ Place.coreLevel → ⊥)
-    → (i ≡ Place.extendedState 0 → ⊥) → (i ≡ Place.extendedState 1 → ⊥)
-    → rowIn (guestTable t v) i .result ≡ rowIn t i .result
-elsewhere t v i l a b c d e = seen-row t v i l ∙ rw (ne-eqb i 1 a, ne-eqb i 4 b, ne-eqb i 5 c, ne-eqb i 6 d, ne-eqb i 7 e)
-
--- a row that is not there stays as it is
-pub absent-stays : (t : CpuidResults) (v : Processor) (i : ℕ) → i < places → rowIn t i .present ≡ false
-    → rowIn (guestTable t v) i .result ≡ rowIn t i .result
-absent-stays t v i l p =
-    seen-row t v i l
-    ∙ rw (p, none (eqb i 1), none (eqb i 4), none (eqb i 5), none (eqb i 6), none (eqb i 7))
-  where
-    none : (b : Bool) → (b && false) ≡ false
-    none true = refl
-    none false = refl

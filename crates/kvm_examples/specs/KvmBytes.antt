@@ -1,9 +1,9 @@
--- Lists for and from KVM as bytes: rows of server A's list that have a subleaf, flag 1, and the two pages that a list of two rows gives, every byte.
+-- Lists for and from KVM as bytes: rows of server A's list that have a subleaf, flag 1; and a list of two rows read into any buffer with room.
 use mathlib.Core.Path.{_≡_, refl, ap}
 use mathlib.Core.List.{List, [], _∷_, _++_}
 use Prim.Native.Nat.{ℕ, _≤_}
 use native.Mathlib.Omega.{arith}
-use lib.ListN.{length, replicate, take, drop}
+use lib.ListN.{length, take, drop}
 use borrow.Author.Tests.{le-leb}
 use Rattle.bits.specs.Lists.{tabulate, keepIf}
 use Rattle.table.specs.declared.CpuidResults.{CpuidResults}
@@ -14,7 +14,7 @@ use Rattle.buffer.specs.Front.{writeFront}
 use Rattle.kvm_list.specs.Words.{bytesOfWords}
 use Rattle.kvm_list.specs.Format.{allWords, listBytes, rowAt, rowsIn}
 use Rattle.kvm_checks.specs.ListChecks.{badListLength, allLawful, fieldsLawful, rowsOn0, rowsOn1, rowsFit}
-use Rattle.kvm_pages.specs.ListPages.{entriesWords, pageWords, pagesOf}
+use Rattle.kvm_pages.specs.TwoRows.{twoRows, page0, page1, two-pages}
 use Rattle.kvm_import.specs.Import.{listVerdict, readList}
 use Rattle.kvm_export.specs.Export.{rowsFrom, listRows, listOf}
 use Rattle.page_sets.specs.PageSets.{serverA}
@@ -39,41 +39,7 @@ pub row-of-d-2 : take 40 (drop 328 (listOf (answer first serverA .table)))
 unfolding passed serverA listOf listRows rowsFrom listBytes allWords bytesOfWords
 row-of-d-2 = ap (λ (t : CpuidResults). take 40 (drop 328 (listOf t))) (table-passed first serverA (verdict-passed first serverA))
 
--- ---- a list of two rows: D.1 with flag 1, then 80000008h with flag 0 and no index
-
-abbrev pub twoRows : List ℕ
-twoRows =
-    2 ∷ 0 ∷ 0 ∷ 0 ∷ 0 ∷ 0 ∷ 0 ∷ 0
-    ∷ 0x0D ∷ 0 ∷ 0 ∷ 0 ∷ 1 ∷ 0 ∷ 0 ∷ 0 ∷ 1 ∷ 0 ∷ 0 ∷ 0
-    ∷ 0x0F ∷ 0 ∷ 0 ∷ 0 ∷ 0x40 ∷ 0x03 ∷ 0 ∷ 0 ∷ 0x00 ∷ 0x18 ∷ 0 ∷ 0 ∷ 0 ∷ 0 ∷ 0 ∷ 0
-    ∷ 0 ∷ 0 ∷ 0 ∷ 0 ∷ 0 ∷ 0 ∷ 0 ∷ 0 ∷ 0 ∷ 0 ∷ 0 ∷ 0
-    ∷ 0x08 ∷ 0 ∷ 0 ∷ 0x80 ∷ 0 ∷ 0 ∷ 0 ∷ 0 ∷ 0 ∷ 0 ∷ 0 ∷ 0
-    ∷ 0x30 ∷ 0x30 ∷ 0 ∷ 0 ∷ 0x1F ∷ 0xD2 ∷ 0x1E ∷ 0x11 ∷ 0 ∷ 0 ∷ 0 ∷ 0 ∷ 0x07 ∷ 0 ∷ 0x01 ∷ 0
-    ∷ 0 ∷ 0 ∷ 0 ∷ 0 ∷ 0 ∷ 0 ∷ 0 ∷ 0 ∷ 0 ∷ 0 ∷ 0 ∷ 0 ∷ []
-
--- page 0: one entry, 80000008h; all its other bytes 0
-abbrev pub page0 : List ℕ
-page0 =
-    1 ∷ 0 ∷ 0 ∷ 0 ∷ 0 ∷ 0 ∷ 0 ∷ 0 ∷ 0 ∷ 0 ∷ 0 ∷ 0 ∷ 0 ∷ 0 ∷ 0 ∷ 0
-    ∷ 0x08 ∷ 0 ∷ 0 ∷ 0x80 ∷ 0 ∷ 0 ∷ 0 ∷ 0
-    ∷ 0 ∷ 0 ∷ 0 ∷ 0 ∷ 0 ∷ 0 ∷ 0 ∷ 0 ∷ 0 ∷ 0 ∷ 0 ∷ 0 ∷ 0 ∷ 0 ∷ 0 ∷ 0
-    ∷ 0x30 ∷ 0x30 ∷ 0 ∷ 0 ∷ 0x1F ∷ 0xD2 ∷ 0x1E ∷ 0x11 ∷ 0 ∷ 0 ∷ 0 ∷ 0 ∷ 0x07 ∷ 0 ∷ 0x01 ∷ 0
-    ∷ 0 ∷ 0 ∷ 0 ∷ 0 ∷ 0 ∷ 0 ∷ 0 ∷ 0
-    ∷ replicate 4032 0
-
--- page 1: one entry, D.1
-abbrev pub page1 : List ℕ
-page1 =
-    1 ∷ 0 ∷ 0 ∷ 0 ∷ 0 ∷ 0 ∷ 0 ∷ 0 ∷ 0 ∷ 0 ∷ 0 ∷ 0 ∷ 0 ∷ 0 ∷ 0 ∷ 0
-    ∷ 0x0D ∷ 0 ∷ 0 ∷ 0 ∷ 1 ∷ 0 ∷ 0 ∷ 0
-    ∷ 0 ∷ 0 ∷ 0 ∷ 0 ∷ 0 ∷ 0 ∷ 0 ∷ 0 ∷ 0 ∷ 0 ∷ 0 ∷ 0 ∷ 0 ∷ 0 ∷ 0 ∷ 0
-    ∷ 0x0F ∷ 0 ∷ 0 ∷ 0 ∷ 0x40 ∷ 0x03 ∷ 0 ∷ 0 ∷ 0x00 ∷ 0x18 ∷ 0 ∷ 0 ∷ 0 ∷ 0 ∷ 0 ∷ 0
-    ∷ 0 ∷ 0 ∷ 0 ∷ 0 ∷ 0 ∷ 0 ∷ 0 ∷ 0
-    ∷ replicate 4032 0
-
-two-pages : pagesOf (rowsIn twoRows) ≡ page0 ++ page1
-unfolding rowsIn rowAt tabulate pagesOf rowsOn0 rowsOn1 keepIf pageWords entriesWords bytesOfWords
-two-pages = refl
+-- ---- the list of two rows of crates/kvm_pages/specs/TwoRows.antt
 
 two-lawful : listVerdict twoRows ≡ Accepted
 unfolding listVerdict badListLength fieldsLawful allLawful rowsFit rowsIn rowAt rowsOn0 rowsOn1 tabulate keepIf

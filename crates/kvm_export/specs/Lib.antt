@@ -3,3 +3,4 @@ pub mod Pieces
 pub mod RunRowLaws
 pub mod ListLaws
 pub mod AnswerLaws
+pub mod Flags

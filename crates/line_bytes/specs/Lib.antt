@@ -2,3 +2,4 @@ pub mod NumbersInUse
 pub mod NumbersInUseLaws
 pub mod Line
 pub mod LineLaws
+pub mod NumbersNamed

@@ -51,26 +51,26 @@ const NUMBERS: usize = 21;
 // One row a number, from 0 on.
 const NAMES: [Named; NUMBERS] = [
     NOT_IN_USE,
-    NOTHING,
-    NOTHING,
-    LEAF_AND_SUBLEAF,
-    NOTHING,
-    NOTHING,
-    ONLY_S,
-    ONLY_S,
-    NOTHING,
-    NOTHING,
-    NOTHING,
-    NOTHING,
-    NOTHING,
-    NOTHING,
-    NOTHING,
-    NOTHING,
-    NOTHING,
-    ONLY_LEAF,
-    NOTHING,
-    NOTHING,
-    NOTHING,
+    NOTHING, // 1
+    NOTHING, // 2
+    LEAF_AND_SUBLEAF, // 3
+    NOTHING, // 4
+    NOTHING, // 5
+    ONLY_S, // 6
+    ONLY_S, // 7
+    NOTHING, // 8
+    NOTHING, // 9
+    NOTHING, // 10
+    NOTHING, // 11
+    NOTHING, // 12
+    NOTHING, // 13
+    NOTHING, // 14
+    NOTHING, // 15
+    NOTHING, // 16
+    ONLY_LEAF, // 17
+    NOTHING, // 18
+    NOTHING, // 19
+    NOTHING, // 20
 ];
 
 // Which details a number names.

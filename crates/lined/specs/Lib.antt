@@ -1,3 +1,4 @@
 pub mod Lined
 pub mod LinedProof
 pub mod NotBytes
+pub mod RefusedLines

@@ -1,12 +1,13 @@
--- Document 02, P6, for what building gives: each refusal, with its details, is written as a line, the line fits 22 bytes, and reading it gives the refusal
--- back. Nothing more is asked than that the page bytes are bytes, as those of a slice are: the leaf that 17 names is then of 32 bits, as "any leaf and
--- subleaf of 32 bits and any s of 8 bits" wants it, and so are the leaves and subleaves of 3 and the s of 6 and 7.
+-- Document 02, P6, for what building gives: each refusal, with its details, is written as a line, the line fits 22 bytes, and reading it gives the
+-- refusal back. Nothing more is asked than that the page bytes are bytes, as those of a slice are: the leaf that 17 names is then of 32 bits, as "any
+-- leaf and subleaf of 32 bits and any s of 8 bits" wants it, and so are the leaves and subleaves of 3 and the s of 6 and 7.
 use mathlib.Core.Path.{_≡_}
 use mathlib.Core.Bool.{true}
 use mathlib.Core.List.{List, [], _∷_}
-use Prim.Native.Nat.{ℕ, _≤_, _<_}
+use Prim.Native.Nat.{ℕ, _≤_}
 use lib.ListN.{length, getD, take}
 use Rattle.x86defs.specs.Functions.{function}
+use Rattle.pages.specs.Bytes.{AreBytes}
 use Rattle.topology.specs.declared.TopologyError.the-variants.{Hyperthreading, ProcessorCount, ThreadsPerUnit}
 use Rattle.table.specs.declared.Choices.{Choices}
 use Rattle.table.specs.declared.Refusal.{Refusal}
@@ -22,10 +23,6 @@ use Rattle.lines.specs.declared.LineWritten.the-variants.{Line as Answered}
 use Rattle.lines.specs.WriteLine.{writeLine}
 use Rattle.lines.specs.ReadLine.{readLine}
 use Rattle.lines.specs.LinePromises.{lineDetails}
-
--- each element is a byte
-abbrev pub AreBytes : List ℕ → Type 0
-AreBytes s = (k : ℕ) → getD s k 0 < 256
 
 -- the refusal that a number and its details tell
 abbrev pub refusalOf : LineDetails → Refusal

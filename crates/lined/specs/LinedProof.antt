@@ -12,6 +12,7 @@ use Rattle.bits.specs.ChoiceLaws.{and-left, and-right}
 use Rattle.bits.specs.Search.{every}
 use Rattle.bits.specs.SearchLaws.{every-at}
 use Rattle.bits.specs.BitsLaws.{field-lt}
+use Rattle.pages.specs.Bytes.{AreBytes}
 use Rattle.pages.specs.Layout.{wordAt, entryStart, entryAt}
 use Rattle.topology.specs.declared.TopologyError.the-variants.{Hyperthreading, ProcessorCount, ThreadsPerUnit}
 use Rattle.table.specs.declared.Choices.{Choices}
@@ -37,7 +38,7 @@ use Rattle.refusals.specs.Conditions.{Check, Fault}
 use Rattle.refusals.specs.Conditions.Check.{edition, pagesLength, pageCounts, reservedBytes, requiredLeaves, invlpgb, components, saveArea, processorCount, hyperthreading, threadsPerUnit}
 use Rattle.refusals.specs.Exactly.{FirstFault}
 use Rattle.refusals.specs.ExactlyProof.{builds-exactly}
-use Rattle.lined.specs.Lined.{AreBytes, refusalOf, told, Lined, BuildingLined, LinesTell}
+use Rattle.lined.specs.Lined.{refusalOf, told, Lined, BuildingLined, LinesTell}
 
 -- ---- details tell their refusal
 

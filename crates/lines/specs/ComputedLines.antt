@@ -101,3 +101,12 @@ one-short = refl
 pub one-with-leaf : writeLine (told 1 0xD None 0) (7 ∷ []) ≡ leaves NotWritten (7 ∷ [])
 unfolding writeLine writeFront writable line fields names rows digits width sumTo
 one-with-leaf = refl
+
+-- 8 with s, which 7 names and 8 does not
+pub seven-with-s : writeLine (told 7 0 None 3) (9 ∷ 9 ∷ 9 ∷ 9 ∷ []) ≡ leaves (Answered (Bytes 4)) (55 ∷ 32 ∷ 51 ∷ 10 ∷ [])
+unfolding writeLine writeFront writable line fields names rows digits width sumTo
+seven-with-s = refl
+
+pub eight-with-s : writeLine (told 8 0 None 3) (9 ∷ 9 ∷ 9 ∷ 9 ∷ []) ≡ leaves NotWritten (9 ∷ 9 ∷ 9 ∷ 9 ∷ [])
+unfolding writeLine writeFront writable line fields names rows digits width sumTo
+eight-with-s = refl

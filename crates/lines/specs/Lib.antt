@@ -5,4 +5,3 @@ pub mod WriteLineLaws
 pub mod LinePromises
 pub mod ComputedLines
 pub mod LineExactly
-pub mod NumbersNamed

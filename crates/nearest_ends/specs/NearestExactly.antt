@@ -4,9 +4,9 @@ use mathlib.Core.Path.{_≡_}
 use mathlib.Core.Bool.{Bool, true}
 use mathlib.Core.List.{List, [], _∷_, _++_}
 use mathlib.Core.Logic.{_↔_}
-use Prim.Native.Nat.{ℕ, _<_}
-use lib.ListN.{getD}
+use Prim.Native.Nat.{ℕ}
 use Rattle.bits.specs.Lists.{keepIf}
+use Rattle.pages.specs.Bytes.{AreBytes}
 use Rattle.pages.specs.Layout.{entryAt}
 use Rattle.table.specs.declared.Choices.{Choices}
 use Rattle.table.specs.declared.Refusal.{Refusal}
@@ -73,4 +73,4 @@ abbrev pub MissesRequired : Choices → List ℕ → Type 0
 MissesRequired c s = (j : ℕ) × RequiredFault (rowsFor c s) j × (answer c s .verdict ≡ Refused (missingRequired j))
 
 abbrev pub TwentyExactly : Choices → List ℕ → Type 0
-TwentyExactly c s = ((k : ℕ) → getD s k 0 < 256) → (nearest c s ≡ NoBit NothingDecides) ↔ MissesRequired c s
+TwentyExactly c s = AreBytes s → (nearest c s ≡ NoBit NothingDecides) ↔ MissesRequired c s

@@ -1,4 +1,4 @@
--- Not empty words, of P13's order: a page set whose first entry, on page 0, decides nothing, and whose nearest bit stands on page 1; and one whose nearest
+-- Examples of P13's order: a page set whose first entry, on page 0, decides nothing, and whose nearest bit stands on page 1; and one whose nearest
 -- bit stands in the second entry of its page.
 use mathlib.Core.Path.{_≡_, refl, ap₂, _∙_}
 use mathlib.Core.Bool.{Bool, true, false}
@@ -9,6 +9,7 @@ use lib.Dec.{lit<}
 use lib.ListN.{drop}
 use Rattle.bits.specs.ChoiceLaws.{pick-true, pick-false}
 use Rattle.bits.specs.Lists.{tabulate}
+use Rattle.pages.specs.Bytes.{areBytes, bytes-at}
 use Rattle.pages.specs.Layout.{Entry, entryAt, firstEntry, pageSize, entrySize, pagesIn}
 use Rattle.pages.specs.Entries.{entries}
 use Rattle.masking.specs.Kept.{places}
@@ -26,11 +27,10 @@ use Rattle.flip_rows.specs.Changes.{changes}
 use Rattle.nearest.specs.declared.Nearest.the-variants.{Bit}
 use Rattle.nearest.specs.Nearest.{firstThat, frontVerdict, unlessRefused, nearest}
 use Rattle.nearest_ends.specs.OutsideLaws.{Among, not-first}
-use Rattle.page_sets.specs.PageSets.{entry, page, requiredEntries, stateEntries}
+use Rattle.page_sets.specs.PageSets.{entry, page, requiredEntries, stateEntries, withFirst}
 use Rattle.page_sets.specs.Pass.{entryIn, onPagesIn}
 use Rattle.page_sets.specs.PassLaws.{entries-passed, lawful-passed, verdict-passed}
 use Rattle.page_sets.specs.Evaluation.{first, evaluated, passed}
-use Rattle.nearest_examples.specs.AreBytes.{areBytes, bytes-at}
 use Rattle.nearest_examples.specs.NearestPassed.{changes-passed}
 
 -- ---- an entry whose 128 flips change nothing is passed over
@@ -48,7 +48,8 @@ module _ (c : Choices) (s : List ℕ) where
   unfolding nearest flips flipsIn flipsOf
   nearest-second d e es p v n h =
       ap₂ (λ (x : Verdict) (l : List Entry). unlessRefused x (firstThat (changes c s) (flipsIn l))) v p
-      ∙ skipped (changes c s) 128 (λ i. flip (d .page) (d .position) (i / 32) (i % 32)) (flipsIn (e ∷ es)) (λ i l. n (i / 32) (i % 32) (omega arith) (omega arith))
+      ∙ skipped (changes c s) 128 (λ i. flip (d .page) (d .position) (i / 32) (i % 32)) (flipsIn (e ∷ es))
+      (λ i l. n (i / 32) (i % 32) (omega arith) (omega arith))
       ∙ at-once
     where
       at-once : firstThat (changes c s) (flipsIn (e ∷ es)) ≡ Bit (flip (e .page) (e .position) 0 0)
@@ -126,7 +127,7 @@ page-decides = nearest-second first pageSet (entryAt pageSet 0 0) pageEntry page
 -- ---- a later entry: D.0 stands first, on page 0, where a Dh entry does not count
 
 unfoldable pub entrySet : List ℕ
-entrySet = page 23 (entry 0xD 0 0x7 0x340 0x340 0 ++ requiredEntries 0x3ED83203 0x219C07A9 0x3F) ++ page 3 (stateEntries 0x7 0x7 0)
+entrySet = withFirst (entry 0xD 0 0x7 0x340 0x340 0)
 
 pub entry-accepted : answer first entrySet .verdict ≡ Accepted
 unfolding passed entrySet

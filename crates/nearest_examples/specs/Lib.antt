@@ -1,4 +1,3 @@
-pub mod AreBytes
 pub mod NearestPassed
 pub mod NearestBits
 pub mod Later

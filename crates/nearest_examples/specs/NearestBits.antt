@@ -9,6 +9,7 @@ use lib.Dec.{lit<}
 use lib.ListN.{replicate, drop}
 use Rattle.bits.specs.ChoiceLaws.{never-both}
 use Rattle.x86defs.specs.Functions.{function, result, ExtendedStateEnumeration}
+use Rattle.pages.specs.Bytes.{areBytes, bytes-at}
 use Rattle.pages.specs.Layout.{Entry, entryAt, firstEntry, pagesIn}
 use Rattle.pages.specs.Entries.{entries}
 use Rattle.masking.specs.Masks.{applyMask}
@@ -39,7 +40,6 @@ use Rattle.page_sets.specs.PageSets.{word, entry, page, requiredEntries, firstP
 use Rattle.page_sets.specs.Pass.{entryIn, onPagesIn}
 use Rattle.page_sets.specs.PassLaws.{entries-passed, lawful-passed, rows-passed, verdict-passed}
 use Rattle.page_sets.specs.Evaluation.{first, evaluated, passed}
-use Rattle.nearest_examples.specs.AreBytes.{areBytes, bytes-at}
 use Rattle.nearest_examples.specs.NearestPassed.{changes-passed, nearest-first}
 
 -- 15, before 1

@@ -55,6 +55,14 @@ avx512Entries size = entry 0xD 5 0x40 0x340 0 0 ++ entry 0xD 6 size 0x380 0 0 ++
 unfoldable pub serverA : List ℕ
 serverA = firstPage 0x3ED83203 0x219C07A9 0x3F ++ page 3 (stateEntries 0x7 0x7 0)
 
+-- server W: the same without YMM state, and so without D.2
+unfoldable pub serverW : List ℕ
+serverW = firstPage 0x3ED83203 0x219C07A9 0x3F ++ page 2 (entry 0xD 0 0x3 0x340 0x340 0 ++ entry 0xD 1 0x7 0x340 0 0)
+
+-- server A with an entry before its others on page 0
+abbrev pub withFirst : List ℕ → List ℕ
+withFirst e = page 23 (e ++ requiredEntries 0x3ED83203 0x219C07A9 0x3F) ++ page 3 (stateEntries 0x7 0x7 0)
+
 -- server B: AVX-512 and CET state besides, more bits in 1.ECX, 7.0.EBX and 8000001Fh.EAX
 unfoldable pub serverB : List ℕ
 serverB =

@@ -5,10 +5,10 @@ use Prim.Native.Nat.{ℕ}
 use Rattle.table.specs.declared.Refusal.the-variants.{PoolDiffers}
 use Rattle.table.specs.declared.Verdict.the-variants.{Accepted, Refused}
 use Rattle.page_sets.specs.Evaluation.{first}
-use Rattle.page_sets.specs.PageSets.{entry, page, firstPage, serverA}
+use Rattle.page_sets.specs.PageSets.{entry, page, firstPage, serverA, serverW}
 use Rattle.pool.specs.Pool.{pooled}
 use Rattle.pool_examples.specs.PoolPassed.{poolOpened, pool-passed}
-use Rattle.pool_examples.specs.Pools.{two, serverW}
+use Rattle.pool_examples.specs.Pools.{two}
 
 abbrev pub three : List ℕ
 three = 8192 ∷ 8192 ∷ 8192 ∷ []

@@ -1,5 +1,5 @@
 -- What holds of pools, of pools that meet its hypothesis.
-use mathlib.Core.Path.{_≡_, refl, sym, ap, _∙_, subst₂}
+use mathlib.Core.Path.{_≡_, refl, sym, ap, _∙_, subst, subst₂}
 use mathlib.Core.Bool.{Bool, true, false}
 use mathlib.Core.List.{List, [], _∷_, _++_}
 use Prim.Native.Nat.{ℕ, zero, suc, _-_, _≤_}
@@ -13,22 +13,35 @@ use Rattle.build.specs.Build.{answer}
 use Rattle.page_sets.specs.Pass.{passedTable}
 use Rattle.page_sets.specs.PassLaws.{verdict-passed, table-passed}
 use Rattle.page_sets.specs.Evaluation.{first}
-use Rattle.page_sets.specs.PageSets.{serverA}
+use Rattle.page_sets.specs.PageSets.{serverA, serverB, serverW}
+use Rattle.rise.specs.Rise.{RiseHypothesis, TableRises}
+use Rattle.examples.specs.Computed.{serverB-rises, serverB-accepted}
 use Rattle.pool_sets.specs.Sets.{setAt, lawfulSets}
 use Rattle.pool.specs.Pool.{pooled}
 use Rattle.pooled.specs.PoolRight.{serverTable, poolTable, PoolRight, NoneBeyond, SetsAmong, NothingMore}
 use Rattle.pooled.specs.PoolProof.{pool-right, greatest, one-more}
 use Rattle.pooled.specs.OrderProof.{order-free}
+use Rattle.pooled.specs.PoolMoves.{pool-moves}
 use Rattle.pooled.specs.PoolExactly.{DifferFault, ServerFault}
 use Rattle.pooled.specs.ExactlyProof.{pool-exactly}
 use Rattle.pool_examples.specs.PoolPassed.{poolOpened}
-use Rattle.pool_examples.specs.Pools.{two, serverW, a-and-w, own-refusal, own-server}
+use Rattle.pool_examples.specs.Pools.{two, a-and-w, own-refusal, own-server}
 use Rattle.pool_examples.specs.Beyond.{beyondTest, none-beyond}
 use Rattle.pool_examples.specs.Differ.{three, serverD, a-and-d, a-and-d-and-w}
 
 -- A and W: the and of the two, rising to each
 pub of-a-and-w : PoolRight first (serverA ++ serverW) two
 of-a-and-w = pool-right first (serverA ++ serverW) two a-and-w
+
+-- from their table to server B, by way of A
+first-is-a : setAt (serverA ++ serverW) two 0 ≡ serverA
+unfolding poolOpened serverA serverW
+first-is-a = refl
+
+pub of-moves : TableRises (poolTable first (serverA ++ serverW) two) (answer first serverB .table)
+of-moves =
+    pool-moves first (serverA ++ serverW) two a-and-w 0 (lit≤ tt) serverB
+    (subst (λ (s : List ℕ). RiseHypothesis first s serverB) (sym first-is-a) serverB-rises) serverB-accepted
 
 -- A and D differ in a row that both tables have
 pub of-a-and-d : DifferFault first (serverA ++ serverD) two

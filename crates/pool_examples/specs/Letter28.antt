@@ -1,4 +1,4 @@
--- Not empty words, of the greatest table by the letter: two servers without bit 28 of 1.EDX, which is no feature, and server A's table, which has it.
+-- An example of the greatest table by the letter: two servers without bit 28 of 1.EDX, which is no feature, and server A's table, which has it.
 -- Its feature bits and mask lie within both servers', and so it has none beyond the pool's; with bit 28 it would not lie within.
 use mathlib.Core.Path.{_≡_, refl, sym, ap, _∙_, subst₂}
 use mathlib.Core.Bool.{Bool, true, _&&_}

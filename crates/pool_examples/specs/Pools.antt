@@ -6,16 +6,12 @@ use Rattle.table.specs.declared.Refusal.the-variants.{PagesLength, UnknownEditi
 use Rattle.table.specs.declared.Verdict.the-variants.{Accepted, Refused}
 use Rattle.build.specs.Build.{underEdition}
 use Rattle.page_sets.specs.Evaluation.{first}
-use Rattle.page_sets.specs.PageSets.{entry, page, firstPage, serverA}
+use Rattle.page_sets.specs.PageSets.{serverA, serverW}
 use Rattle.pool.specs.Pool.{pooled}
 use Rattle.pool_examples.specs.PoolPassed.{poolOpened, pool-passed, server-passed}
 
 abbrev pub two : List ℕ
 two = 8192 ∷ 8192 ∷ []
-
--- A without YMM state, and so without D.2
-unfoldable pub serverW : List ℕ
-serverW = firstPage 0x3ED83203 0x219C07A9 0x3F ++ page 2 (entry 0xD 0 0x3 0x340 0x340 0 ++ entry 0xD 1 0x7 0x340 0 0)
 
 -- accepted: two servers, the first with more features; its D.2 is not in the pool's table
 pub a-and-w : pooled first (serverA ++ serverW) two .verdict ≡ Accepted

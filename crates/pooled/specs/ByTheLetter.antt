@@ -46,7 +46,8 @@ pub record NoFeatureBeyond (t u : CpuidResults) : Type 0 where
 
 abbrev pub GreatestByTheLetter : Choices → List ℕ → List ℕ → Type 0
 GreatestByTheLetter c pages lengths =
-    (t : CpuidResults) → ((k : ℕ) → k ≤ lastOf lengths → NoFeatureBeyond t (serverTable c pages lengths k)) → NoFeatureBeyond t (poolTable c pages lengths)
+    (t : CpuidResults) → ((k : ℕ) → k ≤ lastOf lengths → NoFeatureBeyond t (serverTable c pages lengths k))
+    → NoFeatureBeyond t (poolTable c pages lengths)
 
 abbrev pub OneMoreByTheLetter : Type 0
 OneMoreByTheLetter = (c : Choices) (pages lengths more moreLengths : List ℕ) → SetsAmong pages lengths more moreLengths
@@ -85,7 +86,8 @@ greatest-by-the-letter c pages lengths accepted t h =
     let r : PoolRight c pages lengths = pool-right c pages lengths accepted in
     record {
       features = λ i l.
-          all-greatest (kindsAt i) _ _ (λ k. rowIn (serverTable c pages lengths k) i .result) (lastOf lengths) (r .features i l) (λ k u. h k u .features i l);
+          all-greatest (kindsAt i) _ _ (λ k. rowIn (serverTable c pages lengths k) i .result) (lastOf lengths) (r .features i l)
+          (λ k u. h k u .features i l);
       mask = within-trans (and-to-greatest _ (lastOf lengths) (λ k u. h k u .mask)) (within-eq (sym (r .mask)));
     }
 

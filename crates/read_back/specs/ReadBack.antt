@@ -5,7 +5,7 @@ use mathlib.Core.Bool.{true}
 use mathlib.Core.List.{List}
 use mathlib.Core.Logic.{_↔_}
 use Prim.Native.Nat.{ℕ, _<_}
-use lib.ListN.{getD}
+use Rattle.pages.specs.Bytes.{AreBytes}
 use Rattle.masking.specs.Kept.{places}
 use Rattle.table.specs.declared.Choices.{Choices}
 use Rattle.table.specs.declared.CpuidResults.{CpuidResults}
@@ -34,4 +34,4 @@ BuiltReadsBack = (chosen : Choices) (s : List ℕ) → answer chosen s .verdict 
 
 -- bytes are read if and only if they are the image of such a table
 abbrev pub OnlyImagesRead : Type 0
-OnlyImagesRead = (s : List ℕ) → ((k : ℕ) → getD s k 0 < 256) → (readImage s .«is_image» ≡ true) ↔ ((t : CpuidResults) × Plain t × (image t ≡ s))
+OnlyImagesRead = (s : List ℕ) → AreBytes s → (readImage s .«is_image» ≡ true) ↔ ((t : CpuidResults) × Plain t × (image t ≡ s))

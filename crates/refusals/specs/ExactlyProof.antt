@@ -1,4 +1,4 @@
--- The proof of demand 1's statements, from what the checks in order come to (StageLaws).
+-- The proof of demand 1's statements: the verdict is that of the first check that fails (StagesSettled.antt).
 use mathlib.Core.Path.{_≡_, refl, ap, _∙_}
 use mathlib.Core.Bool.{Bool, true, false, _||_}
 use mathlib.Core.List.{List}

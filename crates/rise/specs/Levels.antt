@@ -71,8 +71,12 @@ topology-gives i v e =
         record { count = c p; threads = t .1; below = omega (arith, t .2) }
 
     go : (a m c d f g h : Bool) → eqb (i .s) 0 ≡ a → eqb (i .mt) 0 ≡ m → eqb (i .lps) (i .nc + 1) ≡ d
-        → pick a (pick m (pick c (threadsIn 1 (i .t)) (Inconsistent (Hyperthreading (i .s)))) (pick d (threadsIn (i .lps) (i .t)) (Inconsistent (ProcessorCount (i .s)))))
-        (pick f (pick g (pick h (threadsIn (2 ^ i .s) (i .t)) (Inconsistent (Hyperthreading (i .s)))) (Inconsistent (ProcessorCount (i .s)))) (threadsIn (2 ^ i .s) (i .t)))
+        → pick a
+        (pick m (pick c (threadsIn 1 (i .t)) (Inconsistent (Hyperthreading (i .s))))
+        (pick d (threadsIn (i .lps) (i .t)) (Inconsistent (ProcessorCount (i .s)))))
+        (pick f
+        (pick g (pick h (threadsIn (2 ^ i .s) (i .t)) (Inconsistent (Hyperthreading (i .s)))) (Inconsistent (ProcessorCount (i .s))))
+        (threadsIn (2 ^ i .s) (i .t)))
         ≡ Processors v
         → GivenBy i v
     go true true true d f g h x y z q = given 1 q (λ p. one (eqb-true _ 0 x) (eqb-true _ 0 y) p)

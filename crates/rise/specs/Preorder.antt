@@ -135,7 +135,8 @@ module _ (t u v : CpuidResults) (p : TableRises t u) (q : TableRises u v) where
     rows = λ i l e. q .rows i l (p .rows i l e);
     registers = λ i l e. registers-compose (kindsAt i) _ _ _ (p .registers i l e) (q .registers i l (p .rows i l e));
     others = λ i l e.
-        ⊎-elim (λ d. ⊎-elim (λ c. inl c) (λ f. inr (further-composes-first t u v (q .mask) i f)) (p .others i l d)) (λ f. inr (further-composes-second t u v (p .mask) i f)) (q .others i l e);
+        ⊎-elim (λ d. ⊎-elim (λ c. inl c) (λ f. inr (further-composes-first t u v (q .mask) i f)) (p .others i l d))
+        (λ f. inr (further-composes-second t u v (p .mask) i f)) (q .others i l e);
     mask = within-trans (p .mask) (q .mask);
   }
 

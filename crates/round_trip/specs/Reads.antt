@@ -1,8 +1,8 @@
 -- What reading makes: the two pages' counted entries are the list's rows, each where it counts, in list order, and no byte is left open.
 use mathlib.Core.Path.{_≡_}
 use mathlib.Core.List.{List, _++_, map}
-use Prim.Native.Nat.{ℕ, _<_}
-use lib.ListN.{length, getD, drop}
+use Prim.Native.Nat.{ℕ}
+use lib.ListN.{length, drop}
 use Rattle.x86defs.specs.declared.CpuidResult.{CpuidResult}
 use Rattle.pages.specs.Layout.{Entry, countOf}
 use Rattle.pages.specs.Entries.{onPage, counted}
@@ -24,10 +24,6 @@ ofRow r = record { leaf = r .leaf; index = r .index; registers = r .registers }
 
 abbrev pub ofEntry : Entry → LeafRow
 ofEntry e = record { leaf = e .leaf .0; index = e .subleaf; registers = e .registers }
-
--- each element is a byte
-abbrev pub AreBytes : List ℕ → Type 0
-AreBytes l = (k : ℕ) → getD l k 0 < 256
 
 pub record ReadMakes (l buffer : List ℕ) : Type 0 where
   -- 8,192 bytes, each given by the list's rows; lent bytes beyond stay

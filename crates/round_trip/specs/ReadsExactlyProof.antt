@@ -16,6 +16,7 @@ use Rattle.buffer.specs.declared.Written.the-variants.{Bytes, Refused}
 use Rattle.buffer.specs.Front.{writeFront}
 use Rattle.kvm_list.specs.Words.{cut}
 use Rattle.kvm_list.specs.WordsLaws.{cut-small}
+use Rattle.pages.specs.Bytes.{AreBytes}
 use Rattle.pages.specs.Layout.{wordAt}
 use Rattle.x86defs.specs.Functions.{result}
 use Rattle.kvm_list.specs.Format.{ListRow, rowCount, zeroWord, rowAt, rowsIn}
@@ -24,7 +25,7 @@ use Rattle.kvm_checks.specs.ListChecks.{badListLength, rowLawful, allLawful, fi
 use Rattle.kvm_pages.specs.ListPages.{pagesOf}
 use Rattle.kvm_pages.specs.PagesLaws.{pages-length}
 use Rattle.kvm_import.specs.Import.{listVerdict, readList}
-use Rattle.round_trip.specs.Reads.{AreBytes, ReadMakes}
+use Rattle.round_trip.specs.Reads.{ReadMakes}
 use Rattle.round_trip.specs.ReadsExactly.{LengthHolds, RowHolds, FieldsHold, RowsFit, ReadsExactly}
 use Rattle.round_trip.specs.PagesRead.{AllFit, page-0, page-1, all-counted}
 use Rattle.round_trip.specs.PagesLawful.{pages-lawful}

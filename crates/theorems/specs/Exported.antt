@@ -8,11 +8,7 @@ use mathlib.Core.Logic.{_⊎_, inl, inr}
 use Prim.Native.Nat.{ℕ, _≤_, _<_}
 use native.Mathlib.Nat.{le-of-eq}
 use native.Mathlib.Omega.{arith}
-use lib.Dec.{ltb}
-use lib.ListN.{length, List·getD-eq-default, length-replicate}
-use borrow.Author.Tests.{ltb-true, ltb-false}
-use Rattle.bits.specs.Choice.{pick}
-use Rattle.bits.specs.ChoiceLaws.{never-both, pick-true}
+use lib.ListN.{length, length-replicate}
 use Rattle.bits.specs.ListsLaws.{length-tabulate}
 use Rattle.bits.specs.Bits.{Within}
 use Rattle.x86defs.specs.declared.CpuidFunction.{CpuidFunction}
@@ -33,10 +29,7 @@ use Rattle.update.specs.Kinds.{TableAtLeast, Registers, kindsAt}
 use Rattle.table.specs.Table.{rowIn}
 use Rattle.rows_built.specs.RowsBuilt.{tableFor}
 use Rattle.build.specs.Build.{rowsFor, answer, originAt}
-use Rattle.lookup.specs.declared.LeafResult.{LeafResult}
-use Rattle.lookup.specs.declared.LeafResult.the-variants.{Some as Found, None as Nothing}
-use Rattle.lookup.specs.Lookup.{placeAsked, rowResult, lookupOrigin}
-use Rattle.lookup.specs.LookupLaws.{lookup-at}
+use Rattle.lookup.specs.Lookup.{placeAsked, lookupOrigin}
 use Rattle.refusals.specs.Conditions.{Lacking, ComponentFault, AreaFault}
 use Rattle.refusals.specs.ExactlyProof.{builds-exactly}
 use Rattle.rise.specs.Rise.{RiseHypothesis, Outcome, RiseConclusion, Further, TableRises}
@@ -50,12 +43,13 @@ use Rattle.compare.specs.DecidesProof.{decides}
 use Rattle.numbers.specs.Numbers.{numbersOf}
 use Rattle.answers.specs.declared.SnpCpuidBuilt.{SnpCpuidBuilt}
 use Rattle.answers.specs.declared.SnpCpuidFound.{SnpCpuidFound}
-use Rattle.answers.specs.Answers.{builtNumbers, foundWith, foundGiven}
+use Rattle.answers.specs.Answers.{builtNumbers, foundWith}
 use Rattle.compare_answers.specs.ComparedAnswers.{comparedNumbers}
 use Rattle.snp_cpuid.specs.Exports.{foundIn}
 use Rattle.origins.specs.declared.OriginRead.{OriginRead}
 use Rattle.origins.specs.Origin.{originRead, originTold}
 use Rattle.located.specs.LocatedProof.{rows-have-origins}
+use Rattle.theorems.specs.Looked.{looked-present, looked-inside, looked-at, looked-found}
 
 -- what snp_cpuid_build gives a page set, and snp_cpuid_lookup
 abbrev pub built : Choices → List ℕ → SnpCpuidBuilt
@@ -63,10 +57,6 @@ built chosen s = builtNumbers (answer chosen s)
 
 abbrev pub found : Choices → List ℕ → CpuidFunction → Subleaf → Bool → SnpCpuidFound
 found chosen s leaf subleaf enforce = foundIn (answer chosen s) (leaf .0) subleaf enforce
-
--- a lookup's answer as numbers, with the origin at the place that is asked for
-abbrev from : Choices → List ℕ → CpuidFunction → Subleaf → Bool → LeafResult → SnpCpuidFound
-from chosen s leaf subleaf enforce x = foundGiven x (lookupOrigin (answer chosen s .origins) leaf subleaf enforce)
 
 abbrev pub registersOf : SnpCpuidFound → CpuidResult
 registersOf f = result (f .eax) (f .ebx) (f .ecx) (f .edx)
@@ -147,26 +137,23 @@ rise-answers chosen b (missing k f e) = refused-3 k f (rw (builds-exactly chosen
 rise-answers chosen b (overflow n f e) = refused-5 n f (rw (builds-exactly chosen b .empty _ e, e))
 rise-answers chosen b (accepted n f e) = accepted-0 n f (rw e)
 
--- what is found is the row of the place that is asked for
-found-numbers : (n : ℕ) (r : Row) → r .present ≡ true → foundGiven (rowResult r) n ≡ foundWith (r .result) (originRead n)
-found-numbers n r e = ap (λ (x : LeafResult). foundGiven x n) (pick-true _ _ e)
+-- what is found in a page set's table, from what is found in any (Looked.antt)
+module _ (chosen : Choices) (s : List ℕ) (leaf : CpuidFunction) (subleaf : Subleaf) (enforce : Bool) where
+  abbrev asked : Row
+  asked = rowIn (answer chosen s .table) (placeAsked leaf subleaf enforce)
 
-found-present : (n : ℕ) (r : Row) → foundGiven (rowResult r) n .found ≡ 1 → r .present ≡ true
-found-present n r e = go (r .present) e
-  where
-    go : (b : Bool) → foundGiven (pick b (Found (r .result)) Nothing) n .found ≡ 1 → b ≡ true
-    go true e = refl
-    go false e = absurd (omega arith)
+  found-present : found chosen s leaf subleaf enforce .found ≡ 1 → asked .present ≡ true
+  found-present = looked-present (answer chosen s .table) (table-whole chosen s) (answer chosen s .origins) leaf subleaf enforce
 
--- a row that is there stands at one of the 88 places
-present-inside : (chosen : Choices) (s : List ℕ) (i : ℕ) → rowIn (answer chosen s .table) i .present ≡ true → i < places
-present-inside chosen s i e = go (ltb i places) refl
-  where
-    go : (b : Bool) → ltb i places ≡ b → i < places
-    go true f = ltb-true i places f
-    go false f =
-        let h : length (answer chosen s .table .present) ≤ i = omega (arith, table-whole chosen s, ltb-false i places f) in
-        absurd (never-both e (List·getD-eq-default (answer chosen s .table .present) false h))
+  present-inside : asked .present ≡ true → placeAsked leaf subleaf enforce < places
+  present-inside = looked-inside (answer chosen s .table) (table-whole chosen s) (answer chosen s .origins) leaf subleaf enforce
+
+  present-found : asked .present ≡ true → found chosen s leaf subleaf enforce .found ≡ 1
+  present-found = looked-found (answer chosen s .table) (table-whole chosen s) (answer chosen s .origins) leaf subleaf enforce
+
+  found-numbers : asked .present ≡ true
+      → found chosen s leaf subleaf enforce ≡ foundWith (asked .result) (originRead (lookupOrigin (answer chosen s .origins) leaf subleaf enforce))
+  found-numbers = looked-at (answer chosen s .table) (table-whole chosen s) (answer chosen s .origins) leaf subleaf enforce
 
 module _ (chosen : Choices) (a b : List ℕ) (rises : RiseHypothesis chosen a b) where
   risen : RiseConclusion chosen a b
@@ -179,41 +166,21 @@ module _ (chosen : Choices) (a b : List ℕ) (rises : RiseHypothesis chosen a b)
       (registersOf (found chosen b leaf subleaf enforce))
   rowsFound t leaf subleaf enforce e =
       let i : ℕ = placeAsked leaf subleaf enforce in
-      let ra : Row = rowIn (answer chosen a .table) i in
-      let rb : Row = rowIn (answer chosen b .table) i in
-      let fa : from chosen a leaf subleaf enforce (rowResult ra) ≡ found chosen a leaf subleaf enforce =
-      ap (from chosen a leaf subleaf enforce) (lookup-at (answer chosen a .table) (table-whole chosen a) leaf subleaf enforce i refl) in
-      let fb : from chosen b leaf subleaf enforce (rowResult rb) ≡ found chosen b leaf subleaf enforce =
-      ap (from chosen b leaf subleaf enforce) (lookup-at (answer chosen b .table) (table-whole chosen b) leaf subleaf enforce i refl) in
-      let pa : ra .present ≡ true = found-present _ ra (ap (λ (f : SnpCpuidFound). f .found) fa ∙ e) in
-      let l : i < places = present-inside chosen a i pa in
-      let pb : rb .present ≡ true = t .rows i l pa in
-      let na = found-numbers _ ra pa in
-      let nb = found-numbers _ rb pb in (
-        sym (ap (λ (f : SnpCpuidFound). f .found) fb) ∙ ap (λ (f : SnpCpuidFound). f .found) nb,
-        subst₂ (λ (x y : SnpCpuidFound). Registers TableAtLeast (kindsAt i) (registersOf x) (registersOf y)) (sym na ∙ fa) (sym nb ∙ fb)
-            (t .registers i l pa),
+      let pa = found-present chosen a leaf subleaf enforce e in
+      let l = present-inside chosen a leaf subleaf enforce pa in
+      let pb = t .rows i l pa in (
+        present-found chosen b leaf subleaf enforce pb,
+        subst₂ (λ (x y : SnpCpuidFound). Registers TableAtLeast (kindsAt i) (registersOf x) (registersOf y))
+            (sym (found-numbers chosen a leaf subleaf enforce pa)) (sym (found-numbers chosen b leaf subleaf enforce pb)) (t .registers i l pa),
       )
-
-  -- a row that is there is found
-  found-there : (s : List ℕ) (leaf : CpuidFunction) (subleaf : Subleaf) (enforce : Bool)
-      → rowIn (answer chosen s .table) (placeAsked leaf subleaf enforce) .present ≡ true → found chosen s leaf subleaf enforce .found ≡ 1
-  found-there s leaf subleaf enforce p =
-      let i : ℕ = placeAsked leaf subleaf enforce in
-      sym (ap (λ (f : SnpCpuidFound). f .found) (ap (from chosen s leaf subleaf enforce) (lookup-at (answer chosen s .table) (table-whole chosen s) leaf subleaf enforce i refl)))
-      ∙ ap (λ (f : SnpCpuidFound). f .found) (found-numbers _ (rowIn (answer chosen s .table) i) p)
 
   othersFound : TableRises (answer chosen a .table) (answer chosen b .table) → (leaf : CpuidFunction) (subleaf : Subleaf) (enforce : Bool)
       → found chosen b leaf subleaf enforce .found ≡ 1
       → (found chosen a leaf subleaf enforce .found ≡ 1) ⊎ Further (answer chosen a .table) (answer chosen b .table) (placeAsked leaf subleaf enforce)
   othersFound t leaf subleaf enforce e =
-      let i : ℕ = placeAsked leaf subleaf enforce in
-      let rb : Row = rowIn (answer chosen b .table) i in
-      let fb : from chosen b leaf subleaf enforce (rowResult rb) ≡ found chosen b leaf subleaf enforce =
-      ap (from chosen b leaf subleaf enforce) (lookup-at (answer chosen b .table) (table-whole chosen b) leaf subleaf enforce i refl) in
-      let pb : rb .present ≡ true = found-present _ rb (ap (λ (f : SnpCpuidFound). f .found) fb ∙ e) in
-      elim (t .others i (present-inside chosen b i pb) pb) [
-        | inl p ↦ inl (found-there a leaf subleaf enforce p)
+      let p = found-present chosen b leaf subleaf enforce e in
+      elim (t .others (placeAsked leaf subleaf enforce) (present-inside chosen b leaf subleaf enforce p) p) [
+        | inl q ↦ inl (present-found chosen a leaf subleaf enforce q)
         | inr f ↦ inr f
       ]
 
@@ -263,9 +230,6 @@ FoundOrigins = (chosen : Choices) (s : List ℕ) (leaf : CpuidFunction) (subleaf
 
 pub found-origins : FoundOrigins
 found-origins chosen s leaf subleaf enforce built-of e =
-    let i : ℕ = placeAsked leaf subleaf enforce in
-    let r : Row = rowIn (answer chosen s .table) i in
-    let f : from chosen s leaf subleaf enforce (rowResult r) ≡ found chosen s leaf subleaf enforce =
-    ap (from chosen s leaf subleaf enforce) (lookup-at (answer chosen s .table) (table-whole chosen s) leaf subleaf enforce i refl) in
-    let p : r .present ≡ true = found-present _ r (ap (λ (x : SnpCpuidFound). x .found) f ∙ e) in
-    ap originFound (sym f ∙ found-numbers _ r p) ∙ rows-have-origins chosen s built-of i (present-inside chosen s i p) .told
+    let p = found-present chosen s leaf subleaf enforce e in
+    ap originFound (found-numbers chosen s leaf subleaf enforce p)
+    ∙ rows-have-origins chosen s built-of (placeAsked leaf subleaf enforce) (present-inside chosen s leaf subleaf enforce p) .told

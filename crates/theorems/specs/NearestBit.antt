@@ -6,8 +6,9 @@ use mathlib.Core.Bool.{false}
 use mathlib.Core.List.{List, [], _∷_, _++_}
 use mathlib.Core.Logic.{_↔_, _≢_}
 use Prim.Native.Nat.{ℕ, _<_}
-use lib.ListN.{getD, replicate}
+use lib.ListN.{replicate}
 use Rattle.x86defs.specs.Functions.{function, result, ExtendedStateEnumeration}
+use Rattle.pages.specs.Bytes.{AreBytes}
 use Rattle.pages.specs.Layout.{entryAt}
 use Rattle.masking.specs.Masks.{applyMask}
 use Rattle.masking.specs.Kept.{masksAt}
@@ -19,6 +20,7 @@ use Rattle.table.specs.declared.Verdict.the-variants.{Refused}
 use Rattle.build.specs.Build.{underEdition, answer}
 use Rattle.flips.specs.declared.Flip.{Flip}
 use Rattle.flips.specs.Flips.{flip}
+use Rattle.flips.specs.FlipOrder.{someFlips, flips-are}
 use Rattle.flips.specs.OneBit.{oneBit}
 use Rattle.flip_rows.specs.Changes.{changes}
 use Rattle.nearest.specs.declared.Nearest.the-variants.{Bit, NoBit}
@@ -48,9 +50,15 @@ pub twenty-exactly : (chosen : Choices) (s : List ℕ) → TwentyExactly chosen 
 twenty-exactly = Twenty.twenty-exactly
 
 -- of pages that building refuses by 4 it is INVLPGB's own, 80000008h.EBX bit 3. crates/nearest_ends/specs/WithoutInvlpgb.antt
-pub refused-by-4 : (chosen : Choices) (s : List ℕ) → ((k : ℕ) → getD s k 0 < 256) → answer chosen s .verdict ≡ Refused InvlpgbUnavailable
+pub refused-by-4 : (chosen : Choices) (s : List ℕ) → AreBytes s → answer chosen s .verdict ≡ Refused InvlpgbUnavailable
     → InvlpgbNearest chosen s
 refused-by-4 = Invlpgb.refused-by-4
+
+-- the order of the flips, by page, entry, register and bit from 0: some of the 384 of three entries, two on page 0 and one on page 1.
+-- crates/flips/specs/FlipOrder.antt
+pub flips-in-order : someFlips
+    ≡ flip 0 0 0 0 ∷ flip 0 0 0 1 ∷ flip 0 0 1 0 ∷ flip 0 0 3 31 ∷ flip 0 1 0 0 ∷ flip 1 0 0 0 ∷ flip 1 0 3 31 ∷ []
+flips-in-order = flips-are
 
 -- to change nothing is that verdict and table of the two answers are equal. crates/nearest_ends/specs/Meaning.antt
 pub unchanged-exactly : (chosen : Choices) (s : List ℕ) (f : Flip) → (changes chosen s f ≡ false) ↔ Unchanged chosen s f

@@ -10,6 +10,7 @@ use Prim.Native.Nat.{ℕ, _+_, _≤_, _<_, _^_}
 use lib.ListN.{length, replicate, take, drop}
 use Rattle.x86defs.specs.Functions.{function, result, VersionAndFeatures, ExtendedStateEnumeration}
 use Rattle.x86defs.specs.declared.CpuidFunction.{CpuidFunction}
+use Rattle.x86defs.specs.declared.CpuidResult.{CpuidResult}
 use Rattle.table.specs.declared.Choices.{Choices}
 use Rattle.table.specs.declared.Subleaf.{Subleaf}
 use Rattle.table.specs.declared.Subleaf.the-variants.{None, Some}
@@ -21,7 +22,7 @@ use Rattle.table.specs.Table.{emptyTable, rowIn, rowsIn}
 use Rattle.checks.specs.ExtendedState.{saveArea}
 use Rattle.checks.specs.TopologyInputs.{inputsOf}
 use Rattle.table.specs.declared.Verdict.the-variants.{Accepted, Refused}
-use Rattle.bits.specs.Lists.{keepIf}
+use Rattle.bits.specs.Lists.{tabulate, keepIf}
 use Rattle.topology.specs.declared.Topology.the-variants.{Processors}
 use Rattle.topology.specs.Topology.{Inputs, inputs, topologyOf, shiftOf}
 use Rattle.topology.specs.TopologyLaws.{LeastShift, shift-least}
@@ -34,6 +35,7 @@ use Rattle.listed.specs.Builds.{BuildsListed, inputsFor}
 use Rattle.listed.specs.BuildsProof.{builds-listed}
 use Rattle.listed.specs.Writes.{writes-exactly as topologies-write-exactly}
 use Rattle.listed_examples.specs.Topologies as Topologies
+use Rattle.pages.specs.Bytes.{AreBytes}
 use Rattle.pages.specs.Entries.{entries, counted}
 use Rattle.masking.specs.Kept.{places}
 use Rattle.masking.specs.Place
@@ -77,13 +79,14 @@ use Rattle.guest_rise.specs.GuestExactly.{GuestExactly, guest-exactly, guest-wr
 use Rattle.guest_rise.specs.GuestRise.{GuestRise, GuestOutcome, GuestTableRises, compactsIn}
 use Rattle.guest_rise.specs.GuestPreorder.{guest-rises-compose}
 use Rattle.guest_rise.specs.GuestRiseProof as GuestRiseProof
-use Rattle.guest_rise.specs.SeenRises as Seen
-use Rattle.guest_rise.specs.SeenExactly.{SeenExactly, seen-exactly}
+use Rattle.guest.specs.SeenLaws as Seen
+use Rattle.guest.specs.SeenExactly.{SeenExactly, seen-exactly}
 use Rattle.guest_rise.specs.GuestRisen.{GuestRisen, GuestRiseAll, guest-rises-all}
 use Rattle.guest_examples.specs.CompactSizes.{sizes, sizes-are}
 use Rattle.guest_examples.specs.Seen.{processor, figures}
 use Rattle.guest_examples.specs.Views as Views
 use Rattle.guest_examples.specs.Exception as Exception
+use Rattle.guest_examples.specs.Composed as Composed
 use Rattle.table.specs.Refusal.{details}
 use Rattle.buffer.specs.declared.Written.the-variants.{Bytes, Refused as NotWritten}
 use Rattle.line_bytes.specs.declared.LineDetails.{LineDetails}
@@ -96,10 +99,11 @@ use Rattle.lines.specs.ReadLine.{readLine}
 use Rattle.lines.specs.LinePromises as Lines
 use Rattle.lines.specs.LinePromises.{LineOf, lineDetails}
 use Rattle.lines.specs.LineExactly.{LineExactly, Nameable, line-exactly, writable-means}
-use Rattle.lines.specs.NumbersNamed.{NamesExactly, names-exactly}
+use Rattle.line_bytes.specs.NumbersNamed.{NamesExactly, names-exactly}
 use Rattle.line_bytes.specs.NumbersInUse.{names}
 use Rattle.lined.specs.Lined.{BuildingLined, LinesTell}
 use Rattle.lined.specs.LinedProof.{building-lined, lines-tell}
+use Rattle.lined.specs.RefusedLines as RefusedLines
 use Rattle.lines.specs.ComputedLines as ComputedLines
 use Rattle.lines.specs.ComputedLines.{told, longest}
 use Rattle.theorems.specs.Exported.{ExportsRise, ExportsCompare, FoundOrigins, exports-rise, exports-compare, found-origins}
@@ -108,11 +112,13 @@ use Rattle.theorems.specs.GuestExported.{GuestExportsRise, GuestOrigins,
 use Rattle.theorems.specs.PoolExported.{PoolOrigins, pool-origins}
 use Rattle.kvm_list.specs.Words.{bytesOfWords}
 use Rattle.kvm_list.specs.Format.{listBytes}
+use Rattle.kvm_pages.specs.TwoRows as TwoRows
 use Rattle.kvm_import.specs.Import.{readList}
 use Rattle.kvm_export.specs.Export.{plainRow, listRows, listOf}
+use Rattle.kvm_export.specs.Flags.{flags, indexes, flags-are, indexes-are}
 use Rattle.round_trip.specs.RoundTrip.{Returns, RoundTrip, ListWritesExactly}
 use Rattle.round_trip.specs.RoundTripProof.{round-trip, list-writes-exactly}
-use Rattle.round_trip.specs.Reads.{AreBytes, ReadMakes}
+use Rattle.round_trip.specs.Reads.{ReadMakes}
 use Rattle.round_trip.specs.ReadsExactly.{ReadsExactly}
 use Rattle.round_trip.specs.ReadsExactlyProof.{reads-exactly, read-makes}
 use Rattle.round_trip.specs.Ascends.{Ascend, rows-ascend as list-ascends}
@@ -122,6 +128,7 @@ use Rattle.editions.specs.Second.{SecondEdition, FirstEdition}
 use Rattle.editions.specs.SecondProof as Editions
 use Rattle.edition_examples.specs.WithoutYmm as WithoutYmm
 use Rattle.carry.specs.Carry.{carry}
+use Rattle.carry.specs.AbsentRows as AbsentRows
 use Rattle.carried.specs.Carried.{CarryKeeps, CarriesInPlace}
 use Rattle.carried.specs.CarriedLaws.{carry-keeps, carries-in-place}
 use Rattle.carried.specs.CarriedRows as CarriedRows
@@ -147,7 +154,7 @@ use Rattle.located_examples.specs.Origins as Origin
 use Rattle.kvm_examples.specs.KvmLists as KvmLists
 use Rattle.kvm_examples.specs.KvmBytes as KvmBytes
 use Rattle.page_sets.specs.Evaluation.{first}
-use Rattle.page_sets.specs.PageSets.{serverA, serverB, serverWithoutD12, serverWithLargeD6}
+use Rattle.page_sets.specs.PageSets.{serverA, serverB, serverW, serverWithoutD12, serverWithLargeD6}
 use Rattle.examples.specs.Computed as Computed
 use Rattle.examples.specs.Chain as Chain
 use Rattle.compared_examples.specs.Compared as Pairs
@@ -155,7 +162,7 @@ use Rattle.marked_examples.specs.MarkedRows.{marked, marked-rows}
 use Rattle.marked_examples.specs.MarkedRows.Shown.{core, refusal, area, supervisor}
 use Rattle.pool.specs.Pool.{pooled}
 use Rattle.pool_write.specs.WritePool.{writePool}
-use Rattle.pooled.specs.PoolRight.{poolTable, PoolRight, NoneBeyond, Greatest, OneMore, OrderFree, NothingMore}
+use Rattle.pooled.specs.PoolRight.{serverTable, poolTable, PoolRight, NoneBeyond, Greatest, OneMore, OrderFree, NothingMore}
 use Rattle.pooled.specs.PoolProof.{pool-right, greatest, one-more}
 use Rattle.pooled.specs.ByTheLetter.{NoFeatureBeyond, GreatestByTheLetter, OneMoreByTheLetter, greatest-by-the-letter, one-more-by-the-letter}
 use Rattle.pooled.specs.OrderProof.{order-free}
@@ -209,27 +216,43 @@ same-figures-both-ways = same-figures
 pub each-rises-to-itself : (chosen : Choices) (a : List ℕ) → answer chosen a .verdict ≡ Accepted → RiseHypothesis chosen a a
 each-rises-to-itself = rises-itself
 
--- and the moves compose: from A to B and from B to C is from A to C. So the hypothesis is a preorder of the accepted servers, and those that rise to each
--- other have one table. crates/rise/specs/Preorder.antt
+-- and the moves compose: from A to B and from B to C is from A to C. So the hypothesis is a preorder of the accepted servers, and those that rise to
+-- each other have one table. crates/rise/specs/Preorder.antt. Servers W, A and B below meet both hypotheses.
 pub moves-compose : (chosen : Choices) (a b c : List ℕ) → RiseHypothesis chosen a b → RiseHypothesis chosen b c → RiseHypothesis chosen a c
 moves-compose = Preorder.rises-compose
 
--- of tables the same: each rises to itself, rises compose, and two that rise to each other have the same rows and mask
+-- round a ring of three servers every answer is the same but origins. Server A with entries added, A, and A with a page added are such a ring (P9).
+pub around-a-ring : (chosen : Choices) (a b c : List ℕ) → RiseHypothesis chosen a b → RiseHypothesis chosen b c → RiseHypothesis chosen c a
+    → SameButOrigins (answer chosen a) (answer chosen b) × SameButOrigins (answer chosen b) (answer chosen c)
+around-a-ring = Preorder.around-the-same
+
+-- of tables the same: each rises to itself, rises compose, and two rise to each other exactly where they have the same rows and mask
 pub tables-rise-to-themselves : (t : CpuidResults) → TableRises t t
 tables-rise-to-themselves = Preorder.table-rises-itself
 
 pub table-rises-compose : (t u v : CpuidResults) → TableRises t u → TableRises u v → TableRises t v
 table-rises-compose = Preorder.table-rises-compose
 
-pub both-ways-the-same-rows : (t u : CpuidResults) → TableRises t u → TableRises u t → SameRows t u
-both-ways-the-same-rows = Preorder.both-ways-same
+pub both-ways-the-same-rows : (t u : CpuidResults) → (TableRises t u × TableRises u t) ↔ SameRows t u
+both-ways-the-same-rows t u = (λ p. Preorder.both-ways-same t u (p .0) (p .1), Preorder.same-both-ways t u)
 
--- three servers, and the move from the first to the last. crates/examples/specs/Chain.antt
-pub smallest-to-a : RiseHypothesis first Chain.smallest serverA
-smallest-to-a = Chain.smallest-to-a
+-- "the same table" would be too much: of rows that are not there nothing is asked, so two tables without a row rise to each other whatever they hold
+-- there. Tables that building gives have zeros there, and are equal (`same-figures-both-ways`).
+pub absent-rows-are-free : (r s : CpuidResult) → TableRises (Preorder.withoutRows r) (Preorder.withoutRows s)
+absent-rows-are-free = Preorder.without-rows-rise
 
-pub smallest-to-b : RiseHypothesis first Chain.smallest serverB
-smallest-to-b = Chain.smallest-to-b
+pub absent-rows-may-differ : rowIn (Preorder.withoutRows (result 0 0 0 0)) 0 ≡ rowIn (Preorder.withoutRows (result 1 0 0 0)) 0 → ⊥
+absent-rows-may-differ = Preorder.and-differ
+
+-- Examples: servers W, A and B, with combined masks 3, 7 and 18E7h (`b-richer`), and the move from W to B. crates/examples/specs/Chain.antt
+pub w-to-a : RiseHypothesis first serverW serverA
+w-to-a = Chain.w-to-a
+
+pub w-mask : answer first serverW .table .«max_extended_state» ≡ 0x3
+w-mask = Chain.w-mask
+
+pub w-to-b : RiseHypothesis first serverW serverB
+w-to-b = moves-compose first serverW serverA serverB Chain.w-to-a Computed.serverB-rises
 
 -- ---- May a guest of server A move to server B? crates/compare/specs/Compare.antt has the comparison, Means.antt what each answer says.
 
@@ -237,7 +260,7 @@ smallest-to-b = Chain.smallest-to-b
 pub comparison-decides : (chosen : Choices) (a b : List ℕ) → Decides chosen a b (compared chosen a b)
 comparison-decides = decides
 
--- its order: places rise by leaf, then by subleaf. crates/table/specs/Order.antt
+-- the places, which the comparison takes one after another, rise by leaf, then by subleaf, as unsigned numbers. crates/table/specs/Order.antt
 pub comparison-in-order : (i j : ℕ) → i < j → j < places → Precedes i j
 comparison-in-order = places-rise
 
@@ -245,11 +268,12 @@ comparison-in-order = places-rise
 pub comparison-of-exports : (chosen : Choices) (a b : List ℕ) → ExportsCompare chosen a b
 comparison-of-exports = exports-compare
 
--- and it orders servers: yes to oneself exactly where accepted, yes and yes make yes, yes both ways makes one table. crates/theorems/specs/CompareOrder.antt
+-- and it orders servers: yes to oneself exactly where accepted, yes and yes make yes, yes both ways makes one answer but origins.
+-- crates/theorems/specs/CompareOrder.antt. Servers W, A and B meet it, by `w-to-a` and `b-rises`.
 pub comparison-orders : (chosen : Choices) → CompareOrder chosen
 comparison-orders = compare-order
 
--- ---- P7, edition 2 of the AVX rule. crates/update/specs/Finish.antt has the clears of each edition, crates/editions/specs/Second.antt the
+-- ---- P7, edition 2 of the AVX rule. crates/features/specs/Finish.antt has the clears of each edition, crates/editions/specs/Second.antt the
 -- statements. All that is said above and below of `chosen` is said for any edition, the same for A and B, in one argument.
 
 -- what goes without XFEM bit 2, of 1.ECX, 7.0.EBX, 7.0.ECX and 80000001h.ECX, in edition 1 and in edition 2
@@ -291,8 +315,8 @@ no-rise-from-1-to-2 = WithoutYmm.not-from-first
 pub no-third-edition : answer (underEdition 3) [] .verdict ≡ Refused UnknownEdition
 no-third-edition = WithoutYmm.third-refused
 
--- ---- P8, moving a live guest to edition 2. crates/carry/specs/Carry.antt has the table that is carried and the answers, CarryImage.antt the same of a
--- table handed over as its image, in place.
+-- ---- P8, moving a live guest to edition 2. crates/carry/specs/Carry.antt has the table that is carried and the answers,
+-- crates/carry_image/specs/CarryImage.antt the same of a table handed over as its image, in place.
 
 -- 15, 16, 13, 14 and the carried table, of any table: each if and only if its condition holds and no earlier one does
 pub each-carry-exactly : (t : CpuidResults) (from to xcr0 xss : ℕ) → CarryExactly t from to xcr0 xss
@@ -308,12 +332,13 @@ moves-to-edition-2 = moves-to-second
 pub carrying-changes-nothing-else : CarryKeeps
 carrying-changes-nothing-else = carry-keeps
 
--- of any table from 1 to 2: rows 1 and 80000001h lose exactly the three bits where its own D.0.EAX lacks bit 2, absent rows reading as zeros, and every
--- other row is as it was. crates/carried/specs/CarriedRows.antt
+-- of any table from 1 to 2: rows 1 and 80000001h lose exactly the three bits where its own D.0.EAX lacks bit 2, absent rows reading as zeros, and
+-- every other row is as it was. crates/carried/specs/CarriedRows.antt; `without-ymm-moved` below meets it
 pub carrying-clears-exactly : CarriedRows.CarriesRows
 carrying-clears-exactly = CarriedRows.carries-rows
 
--- in place, within one edition: no lent byte changes, whatever is answered
+-- in place, within one edition: no lent byte changes, whatever is answered. Any slice of bytes meets it; of a list with a larger element it is false
+-- (crates/carry_examples/specs/NotBytes.antt)
 pub carried-in-place-within : CarriedRows.StaysWithin
 carried-in-place-within = CarriedRows.stays-within
 
@@ -348,8 +373,13 @@ no-way-back = Moved.goes-back
 pub no-third-edition-to-carry : carry emptyTable 3 1 0 0 .verdict ≡ Refused UnknownEdition
 no-third-edition-to-carry = Moved.no-third
 
--- ---- P3, what one processor's guest sees. crates/guest/specs/Guest.antt has the guest's table, State.antt refusals 13 and 14 and the two
--- sizes, Compact.antt the compacted size; crates/guest_pages/specs/GuestPages.antt the same from pages.
+-- absent rows read as zeros: a table without a row and one with D.0 alone, whose other registers are all ones. 13; 13 for a bit of XSS; given.
+-- crates/carry/specs/AbsentRows.antt
+pub absent-rows-as-zeros : AbsentRows.verdicts ≡ Refused StateBeyondTable ∷ Refused StateBeyondTable ∷ Accepted ∷ []
+absent-rows-as-zeros = AbsentRows.absent-as-zeros
+
+-- ---- P3, what one processor's guest sees. crates/guest/specs/Guest.antt has the guest's table, crates/guest_state/specs/State.antt
+-- refusals 13 and 14 and the two sizes, Compact.antt beside it the compacted size; crates/guest_pages/specs/GuestPages.antt the same from pages.
 
 -- Building's refusals first; then 13, 14 and the view, each if and only if its condition holds.
 pub each-guest-answer-exactly : (chosen : Choices) (s : List ℕ) (v : Processor) → GuestExactly chosen s v
@@ -372,7 +402,7 @@ pub no-other-row-differs : (t : CpuidResults) (v : Processor) (i : ℕ) → i < 
 no-other-row-differs = Seen.elsewhere
 
 -- and of these five exactly the registers and bits that P3 names, each as it says; every other register and bit is the paravisor's.
--- crates/guest_rise/specs/SeenExactly.antt
+-- crates/guest/specs/SeenExactly.antt
 pub no-other-register-differs : (t : CpuidResults) (v : Processor) → SeenExactly t v
 no-other-register-differs = seen-exactly
 
@@ -395,15 +425,17 @@ pub guest-rise-whole : (chosen : Choices) (a b : List ℕ) (v : Processor) → R
 guest-rise-whole = GuestRiseProof.guest-rise-whole
 
 -- The whole of it, B refused or given: by 3 or 5 as in demand 3, by 14 only where A's D.1.EAX has neither bit, or given and risen; never by 13.
--- crates/guest_rise/specs/GuestRisen.antt
+-- crates/guest_rise/specs/GuestRisen.antt. `guest-from-a-to-b` and `exception-outcome` below meet it; so does A's guest on the two servers that are
+-- refused by 3 and by 5 (`without-d12-rises`, `large-d6-rises`).
 pub guest-rise-all : GuestRiseAll
 guest-rise-all = guest-rises-all
 
--- guest tables compose as tables do, the exception included. crates/guest_rise/specs/GuestPreorder.antt
+-- rises of guest tables compose as those of tables do, the exception included. crates/guest_rise/specs/GuestPreorder.antt; `guest-from-w-to-b`
+-- below meets it
 pub guest-tables-compose : (t u v : CpuidResults) → GuestTableRises t u → GuestTableRises u v → GuestTableRises t v
 guest-tables-compose = guest-rises-compose
 
--- the same of what the exported guest functions return. crates/theorems/specs/GuestExported.antt
+-- the same of what the exported guest functions return, for the same servers. crates/theorems/specs/GuestExported.antt
 pub guest-rise-of-exports : (chosen : Choices) (a b : List ℕ) (v : Processor) → RiseHypothesis chosen a b → guestPages chosen a v .verdict ≡ Accepted
     → GuestExportsRise chosen a b v
 guest-rise-of-exports = guest-exports-rise
@@ -412,6 +444,11 @@ guest-rise-of-exports = guest-exports-rise
 -- anew (1.EBX, 1.ECX, B.0.EDX, B.1.EDX, D.0.EBX, D.1.EBX)
 pub guest-of-a : figures (guestPages first serverA Views.viewA .table) ≡ 0x45010000 ∷ 0xBED83203 ∷ 0x12345 ∷ 0x12345 ∷ 832 ∷ 832 ∷ []
 guest-of-a = Views.a-figures
+
+-- its row 1 whole: EAX and EDX are the table's
+pub guest-of-a-row-1 : rowIn (guestPages first serverA Views.viewA .table) Place.versionAndFeatures .result
+    ≡ result 0xA00F11 0x45010000 0xBED83203 0x178BFBFF
+guest-of-a-row-1 = Views.a-version
 
 -- 13, by a bit above 31
 pub guest-of-a-beyond : guestPages first serverA (processor 0 0x100000007 0 true) .verdict ≡ Refused StateBeyondTable
@@ -431,6 +468,10 @@ guest-from-a-to-b = Views.a-to-b
 
 pub guest-of-b : figures (guestPages first serverB (processor 1 0xE7 0x1800 true) .table) ≡ 0x01010000 ∷ 0xFEDA3203 ∷ 1 ∷ 1 ∷ 2432 ∷ 2472 ∷ []
 guest-of-b = Views.b-figures
+
+-- a guest of servers W, A and B, by composing. crates/guest_examples/specs/Composed.antt
+pub guest-from-w-to-b : GuestTableRises (guestPages first serverW Composed.viewW .table) (guestPages first serverB Composed.viewW .table)
+guest-from-w-to-b = guest-tables-compose _ _ _ Composed.w-to-a-risen Composed.a-to-b-risen
 
 -- the exception: a server with neither bit, where D.1.EBX is 0 and D.0.EBX the largest size, and one with bit 1, which refuses by 14.
 -- crates/guest_examples/specs/Exception.antt
@@ -483,7 +524,8 @@ pub missing-leaf-arrives : (answer first Spare.withoutD2 .verdict ≡ Refused (M
 missing-leaf-arrives = (Spare.without-refused, Spare.without-added, Computed.serverA-accepted)
 
 -- ---- P10, reserved bytes of an entry. crates/reserved/specs/Reserved.antt: `allClean` says that the eight reserved bytes of every entry below its
--- page's count are zero. It is part of what lawful pages are (`lawfulVerdict`, crates/build/specs/Build.antt), which demand 3, the comparison and P9 ask.
+-- page's count are zero. It is part of what lawful pages are (`lawfulVerdict`, crates/lawful/specs/Lawful.antt), which demand 3, the comparison and
+-- P9 ask.
 
 -- of clean pages every entry that a reader gives is clean: the entries whose reserved bytes are zero are all of them
 pub reader-gives-clean-entries : (s : List ℕ) (n : ℕ) → length (entries s) ≤ n → allClean s ≡ true
@@ -529,7 +571,8 @@ refused-has-no-origins = refused-has-none
 pub exports-tell-origins : FoundOrigins
 exports-tell-origins = found-origins
 
--- of the guest's lookup, the paravisor's row's; of the pool's, the first server's row's. crates/theorems/specs/GuestExported.antt, PoolExported.antt
+-- with a row that is found, the guest's lookup tells the paravisor's row's origin, and the pool's the first server's row's.
+-- crates/theorems/specs/GuestExported.antt, PoolExported.antt. What they tell is `originAt`, with figures below.
 pub guest-exports-tell-origins : GuestOrigins
 guest-exports-tell-origins = guest-origins
 
@@ -627,13 +670,14 @@ pub nc-255-not-listed : (inputsFor first Topologies.wrappedServer ≡ inputs 0 2
     × (In (inputs 0 255 0 1 0) acceptedInputs → ⊥)
 nc-255-not-listed = (Topologies.wrapped-inputs, Topologies.wrapped-refused, Topologies.wrapped-unlisted)
 
--- of any accepted table, whatever s: B.0 and B.1 by the five inputs, EBX of B.1 is v and EAX the least k with 2^k at least v.
--- crates/rise/specs/Levels.antt
-pub any-levels : (chosen : Choices) (s : List ℕ) → answer chosen s .verdict ≡ Accepted → AcceptedLevels (inputsOf (rowsFor chosen s)) (answer chosen s .table)
+-- of any accepted table, whatever s: B.0 and B.1 by the five inputs. v is 1, lps = nc + 1 or 2^s, EBX of B.1 is v and EAX the least k with 2^k at
+-- least v. crates/rise/specs/Levels.antt
+pub any-levels : (chosen : Choices) (s : List ℕ) → answer chosen s .verdict ≡ Accepted
+    → AcceptedLevels (inputsOf (rowsFor chosen s)) (answer chosen s .table)
 any-levels = accepted-levels
 
--- s = 8, which no list holds: 256 processors. crates/examples/specs/Chain.antt
-pub eight-levels : Chain.coreRow (answer first Chain.eight .table) ≡ result 8 256 0x201 0
+-- an example with s = 8, beyond the list: 256 processors. crates/examples/specs/Chain.antt
+pub eight-levels : Chain.levelsOf (answer first Chain.eight .table) ≡ result 0 1 0x100 0 ∷ result 8 256 0x201 0 ∷ []
 eight-levels = Chain.eight-figures
 
 -- ---- Counts. crates/counts/specs/Counts.antt.
@@ -708,16 +752,24 @@ nothing-lent = KvmLists.nothing-lent
 pub an-empty-list : readList (bytesOfWords (0 ∷ 0 ∷ [])) (replicate 8192 0xA5) .answer ≡ Bytes 8192
 an-empty-list = KvmLists.empty-list
 
--- rows with a subleaf, flag 1, as bytes: B.1 and D.2 of server A; and a list of two rows given as bytes, every byte of its two pages.
--- crates/kvm_examples/specs/KvmBytes.antt
+-- flag 1 where the row has a subleaf, else flag and index 0, over the 88 places: 7.0, Bh and Dh, then 8000001Dh, have subleaves.
+-- crates/kvm_export/specs/Flags.antt
+pub flags-by-place : flags ≡ replicate 3 0 ++ replicate 67 1 ++ replicate 12 0 ++ replicate 4 1 ++ replicate 2 0
+flags-by-place = flags-are
+
+pub indexes-by-place : indexes ≡ replicate 4 0 ++ (0 ∷ 1 ∷ []) ++ tabulate 64 (λ k. k) ++ replicate 12 0 ++ (0 ∷ 1 ∷ 2 ∷ 3 ∷ []) ++ replicate 2 0
+indexes-by-place = indexes-are
+
+-- row D.2 of server A as bytes, with flag 1. crates/kvm_examples/specs/KvmBytes.antt, which has row B.1 too
 pub row-of-d-2-listed : take 40 (drop 328 (listOf (answer first serverA .table)))
     ≡ 0xD ∷ 0 ∷ 0 ∷ 0 ∷ 2 ∷ 0 ∷ 0 ∷ 0 ∷ 1 ∷ 0 ∷ 0 ∷ 0
     ∷ 0 ∷ 0x01 ∷ 0 ∷ 0 ∷ 0x40 ∷ 0x02 ∷ 0 ∷ 0 ∷ 0 ∷ 0 ∷ 0 ∷ 0 ∷ 0 ∷ 0 ∷ 0 ∷ 0
     ∷ 0 ∷ 0 ∷ 0 ∷ 0 ∷ 0 ∷ 0 ∷ 0 ∷ 0 ∷ 0 ∷ 0 ∷ 0 ∷ 0 ∷ []
 row-of-d-2-listed = KvmBytes.row-of-d-2
 
+-- a list of two rows given as bytes, and every byte of its two pages. crates/kvm_pages/specs/TwoRows.antt
 pub two-rows-read : (buffer : List ℕ) → 8192 ≤ length buffer
-    → readList KvmBytes.twoRows buffer ≡ record { answer = Bytes 8192; buffer = (KvmBytes.page0 ++ KvmBytes.page1) ++ drop 8192 buffer }
+    → readList TwoRows.twoRows buffer ≡ record { answer = Bytes 8192; buffer = (TwoRows.page0 ++ TwoRows.page1) ++ drop 8192 buffer }
 two-rows-read = KvmBytes.two-rows-read
 
 -- ---- The page reader in the source's form. crates/reader/specs/Read.antt.
@@ -728,7 +780,7 @@ pub reader-in-order : (s : List ℕ) (n : ℕ) → length (entries s) ≤ n
     → (given s n (firstIndex s) ≡ map parsed (entries s)) × (keepIf countsRead (given s n (firstIndex s)) ≡ map parsed (counted s))
 reader-in-order s n l = (reader-gives s n l, reader-gives-counted s n l)
 
--- ---- Not empty words. crates/page_sets/specs/PageSets.antt has four page sets, byte by byte.
+-- ---- Not empty words. crates/page_sets/specs/PageSets.antt has five page sets, byte by byte.
 
 -- two whole pages
 pub a-whole-set : length serverA ≡ 8192
@@ -776,8 +828,9 @@ from-large-d6 = Pairs.from-large-d6
 pub a-to-none : compared first serverA [] ≡ UnlawfulB PagesLength
 a-to-none = Pairs.a-to-none
 
--- ---- P6: refusals as lines. crates/lines/specs/NumbersInUse.antt has what each number names, Line.antt the line, WriteLine.antt and
--- ReadLine.antt the writer and the reader. `writable d`: the number is in use, names every detail that is set, and s has 8 bits.
+-- ---- P6: refusals as lines. crates/line_bytes/specs/NumbersInUse.antt has what each number names, Line.antt beside it the line;
+-- crates/lines/specs/WriteLine.antt and ReadLine.antt have the writer and the reader. `writable d`: the number is in use, names every detail that is
+-- set, and s has 8 bits.
 
 -- reading what was written gives it back: of every line, and of what the writer left at the front of any lent buffer
 pub line-read-back : (d : LineDetails) → Fits d → writable d ≡ true → readLine (line d) ≡ Says d
@@ -805,22 +858,27 @@ line-at-most-22 = at-most-22
 pub every-refusal-has-a-line : (r : Refusal) → details r .s ≤ mostS → writable (lineDetails (details r)) ≡ true
 every-refusal-has-a-line = Lines.every-refusal
 
--- each refusal that building gives, of page bytes, is written and read back to itself: nothing more is asked. crates/lined/specs/Lined.antt
+-- each refusal that building gives, of page bytes, is written and read back to itself: nothing more is asked. crates/lined/specs/Lined.antt; without
+-- "bytes" it is false (NotBytes.antt beside it). The sets of `line-of-7` and `line-of-8` below meet it.
 pub every-refusal-of-building-is-read-back : BuildingLined
 every-refusal-of-building-is-read-back = building-lined
 
--- two page sets whose refusals have one line are refused by one refusal, details included
+-- two page sets whose refusals have one line are refused by one refusal, details included. The two sets of
+-- `threads-with-an-entry`, both refused by 8, meet it.
 pub lines-tell-refusals : LinesTell
 lines-tell-refusals = lines-tell
 
--- "no such line", then 9, then the line, each if and only if its condition holds; every lent byte. crates/lines/specs/LineExactly.antt
+-- "no such line", then 9, then the line, each if and only if its condition holds; every lent byte. crates/lines/specs/LineExactly.antt, with examples
+-- in ComputedLines.antt beside it
 pub each-line-write-exactly : (d : LineDetails) (buffer : List ℕ) → LineExactly d buffer (writeLine d buffer)
 each-line-write-exactly = line-exactly
 
+-- in words: the number is in use and names every detail that is set, and s has 8 bits
 pub which-have-a-line : (d : LineDetails) → (writable d ≡ true) ↔ Nameable (names (d .number)) d
 which-have-a-line = writable-means
 
--- a number is in use, and names a leaf, a subleaf or s, exactly where some refusal with that number is, or sets one. crates/lines/specs/NumbersNamed.antt
+-- a number is in use exactly where a refusal has it, and names a leaf, a subleaf or s exactly where some refusal with that number sets one.
+-- crates/line_bytes/specs/NumbersNamed.antt
 pub each-number-names-exactly : (n : ℕ) → NamesExactly n
 each-number-names-exactly = names-exactly
 
@@ -844,6 +902,13 @@ missing-8000001f-line = ComputedLines.missing-8000001f
 pub s-of-0-line : line (told 6 0 None 0) ≡ 54 ∷ 32 ∷ 48 ∷ 10 ∷ []
 s-of-0-line = ComputedLines.s-of-0
 
+-- lines of refused page sets: 7 1, which names s, and 8, which does not. crates/lined/specs/RefusedLines.antt
+pub line-of-7 : RefusedLines.lineOf (answer first RefusedLines.sizeOne .verdict) ≡ 55 ∷ 32 ∷ 49 ∷ 10 ∷ []
+line-of-7 = RefusedLines.line-of-7
+
+pub line-of-8 : RefusedLines.lineOf (answer first RefusedLines.twoThreads .verdict) ≡ 56 ∷ 10 ∷ []
+line-of-8 = RefusedLines.line-of-8
+
 -- no line: 01 and a newline
 pub leading-zero-no-line : readLine (48 ∷ 49 ∷ 10 ∷ []) ≡ SaysNothing
 leading-zero-no-line = ComputedLines.leading-zero
@@ -855,6 +920,10 @@ one-short = ComputedLines.one-short
 pub one-with-leaf : writeLine (told 1 0xD None 0) (7 ∷ []) ≡ leaves NoLineWritten (7 ∷ [])
 one-with-leaf = ComputedLines.one-with-leaf
 
+-- and for an s that 8 does not name
+pub eight-with-s : writeLine (told 8 0 None 3) (9 ∷ 9 ∷ 9 ∷ 9 ∷ []) ≡ leaves NoLineWritten (9 ∷ 9 ∷ 9 ∷ 9 ∷ [])
+eight-with-s = ComputedLines.eight-with-s
+
 -- ---- P12, one table for a pool of servers. crates/pool_join/specs/Join.antt has the join and Alike.antt what 19 asks, crates/pool_sets/specs/Sets.antt
 -- the page sets in the slice, crates/pool/specs/Pool.antt the answer.
 
@@ -864,7 +933,7 @@ pub each-pool-answer-exactly : (chosen : Choices) (pages lengths : List ℕ) →
 each-pool-answer-exactly = pool-exactly
 
 -- an accepted pool's rows, Dh subleaves among them, are those that all tables have; its feature registers and combined mask are the and of the servers';
--- and its table rises to every server's. crates/pooled/specs/PoolRight.antt
+-- its table rises to every server's; a row's origin is the first server's. crates/pooled/specs/PoolRight.antt
 pub a-pool-is-the-and : (chosen : Choices) (pages lengths : List ℕ) → pooled chosen pages lengths .verdict ≡ Accepted → PoolRight chosen pages lengths
 a-pool-is-the-and = pool-right
 
@@ -872,7 +941,8 @@ a-pool-is-the-and = pool-right
 pub a-pool-is-the-greatest : (chosen : Choices) (pages lengths : List ℕ) → pooled chosen pages lengths .verdict ≡ Accepted → Greatest chosen pages lengths
 a-pool-is-the-greatest = greatest
 
--- the same by the letter: bit 28 of 1.EDX, which is no feature, is asked of no table. crates/pooled/specs/ByTheLetter.antt
+-- the same by the letter: bit 28 of 1.EDX, which is no feature, is asked of no table and said of none. Neither form follows from the other.
+-- crates/pooled/specs/ByTheLetter.antt; `a-has-none-beyond-by-the-letter` below meets it
 pub a-pool-is-the-greatest-by-the-letter : (chosen : Choices) (pages lengths : List ℕ) → pooled chosen pages lengths .verdict ≡ Accepted
     → GreatestByTheLetter chosen pages lengths
 a-pool-is-the-greatest-by-the-letter = greatest-by-the-letter
@@ -881,14 +951,15 @@ a-pool-is-the-greatest-by-the-letter = greatest-by-the-letter
 pub one-server-more : OneMore
 one-server-more = one-more
 
+-- the same by the letter; `a-server-more-adds-nothing` below meets what both ask
 pub one-server-more-by-the-letter : OneMoreByTheLetter
 one-server-more-by-the-letter = one-more-by-the-letter
 
--- where a guest of one of the pool's servers may move, a guest of the pool's table may. crates/pooled/specs/PoolMoves.antt
+-- where a guest of one of the pool's servers may move, a guest of the pool's table may. crates/pooled/specs/PoolMoves.antt; `pool-to-b` meets it
 pub a-pool-moves-where-its-servers-do : PoolMoves
 a-pool-moves-where-its-servers-do = pool-moves
 
--- the order of the servers beyond the first does not matter: the whole answer is the same
+-- the order of the servers beyond the first does not matter where none is refused by itself: the whole answer is the same
 pub order-of-servers-is-free : OrderFree
 order-of-servers-is-free = order-free
 
@@ -900,13 +971,13 @@ each-pool-write-exactly = pool-writes-exactly
 -- Not empty words: a pool of two; 18 for one set and for lengths that only wrap; 15; the second server's own 1; 19 for bit 28 of 1.EDX and for D.2, and
 -- accepted with a third server that has no D.2, so that one server more gave rows to a pool that was refused; a table within both servers'; another
 -- order. crates/pool_examples
-pub pool-of-a-and-w : PoolRight first (serverA ++ Pools.serverW) Pools.two
+pub pool-of-a-and-w : PoolRight first (serverA ++ serverW) Pools.two
 pool-of-a-and-w = PoolInstances.of-a-and-w
 
 pub one-alone-is-no-pool : pooled (underEdition 3) serverA (8192 ∷ []) .verdict ≡ Refused PoolSets
 one-alone-is-no-pool = Pools.one-alone
 
-pub lengths-do-not-wrap : pooled first (serverA ++ Pools.serverW) (0xFFFFFFFFFFFFFFFF ∷ 16385 ∷ []) .verdict ≡ Refused PoolSets
+pub lengths-do-not-wrap : pooled first (serverA ++ serverW) (0xFFFFFFFFFFFFFFFF ∷ 16385 ∷ []) .verdict ≡ Refused PoolSets
 lengths-do-not-wrap = Pools.wraps
 
 pub no-third-edition-in-a-pool : pooled (underEdition 3) serverA (8192 ∷ 0 ∷ []) .verdict ≡ Refused UnknownEdition
@@ -921,23 +992,31 @@ bit-28-is-no-feature = Bit28.a-and-m
 pub d-2-differs : DifferFault first (serverA ++ Differ.serverD) Pools.two
 d-2-differs = PoolInstances.of-a-and-d
 
-pub a-third-server-lifts-it : pooled first (serverA ++ Differ.serverD ++ Pools.serverW) Differ.three .verdict ≡ Accepted
+pub a-third-server-lifts-it : pooled first (serverA ++ Differ.serverD ++ serverW) Differ.three .verdict ≡ Accepted
 a-third-server-lifts-it = Differ.a-and-d-and-w
 
 pub a-server-more-adds-nothing :
-    NothingMore (poolTable first (serverA ++ Pools.serverW) Pools.two) (poolTable first (serverA ++ Differ.serverD ++ Pools.serverW) Differ.three)
+    NothingMore (poolTable first (serverA ++ serverW) Pools.two) (poolTable first (serverA ++ Differ.serverD ++ serverW) Differ.three)
 a-server-more-adds-nothing = PoolInstances.of-one-more
 
 -- W's table lies within A's and its own; A, D and W pool as A, W and D do
-pub w-has-none-beyond-the-pool : NoneBeyond (answer first Pools.serverW .table) (poolTable first (serverA ++ Pools.serverW) Pools.two)
+pub w-has-none-beyond-the-pool : NoneBeyond (answer first serverW .table) (poolTable first (serverA ++ serverW) Pools.two)
 w-has-none-beyond-the-pool = PoolInstances.of-w-within
 
--- A's table, which has bit 28 of 1.EDX, beside two servers that have not: no feature bit of it lies beyond theirs, nor beyond their pool's
+-- from the pool's table to server B, by way of A
+pub pool-to-b : TableRises (poolTable first (serverA ++ serverW) Pools.two) (answer first serverB .table)
+pool-to-b = PoolInstances.of-moves
+
+-- A's table, which has bit 28 of 1.EDX, beside two servers that have not: no feature bit of it lies beyond theirs, nor beyond their pool's; with bit
+-- 28 it does not lie within. crates/pool_examples/specs/Letter28.antt
 pub a-has-none-beyond-by-the-letter : NoFeatureBeyond (answer first serverA .table) (poolTable first (Bit28.serverM ++ Bit28.serverM) Pools.two)
 a-has-none-beyond-by-the-letter = Letter28.a-has-none-beyond
 
+pub a-lies-beyond-with-bit-28 : NoneBeyond (answer first serverA .table) (serverTable first (Bit28.serverM ++ Bit28.serverM) Pools.two 0) → ⊥
+a-lies-beyond-with-bit-28 = Letter28.not-with-28
+
 pub d-and-w-change-places :
-    pooled first (serverA ++ Differ.serverD ++ Pools.serverW) Differ.three ≡ pooled first (serverA ++ Pools.serverW ++ Differ.serverD) Differ.three
+    pooled first (serverA ++ Differ.serverD ++ serverW) Differ.three ≡ pooled first (serverA ++ serverW ++ Differ.serverD) Differ.three
 d-and-w-change-places = PoolInstances.of-another-order
 
 -- ---- P13: the nearest bit that matters. NearestBit.antt.

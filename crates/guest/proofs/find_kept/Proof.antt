@@ -6,7 +6,7 @@ use Rattle.table.specs.Rows.{row}
 use Rattle.guest_state.specs.State.{saveRegister}
 use Rattle.rows_checked.specs.Checked.{registersIn}
 use Rattle.guest.specs.Guest.{seenAt}
-use Rattle.guest.specs.SeenLaws.{seen-there, seen-absent, seen-past}
+use Rattle.guest.specs.FindLaws.{seen-there, seen-absent, seen-past}
 use Rattle.guest.proofs.find_kept.Statement.{statement}
 use Rattle.guest.proofs.find_kept.Tie as tie
 

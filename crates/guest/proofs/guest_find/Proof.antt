@@ -2,7 +2,7 @@
 use borrow.Author.Needs.{needs}
 use mathlib.Core.Path.{ap, _∙_}
 use Rattle.guest.specs.declared.GuestFound.the-variants.{Looked}
-use Rattle.guest.specs.SeenLaws.{found-refused, kept-found}
+use Rattle.guest.specs.FindLaws.{found-refused, kept-found}
 use Rattle.guest.proofs.guest_find.Statement.{statement}
 use Rattle.guest.proofs.guest_find.Tie as tie
 

@@ -1,5 +1,7 @@
--- `reader::increment` meets its contract: a walk of its MIR, by hand. The borrow of the caller's record is opened, the index copied out, `pages::increment` called on it by value, and its answer stored back.
--- What the pages' slice owns is had twice, for the callee and for the exit; its lifetime's token goes to the callee and comes back, while the record's token holds the borrow open.
+-- `reader::increment` meets its contract: a walk of its MIR, by hand. The borrow of the caller's record is opened, the index copied out,
+-- `walk::increment` called on it by value, and its answer stored back.
+-- What the pages' slice owns is had twice, for the callee and for the exit; its lifetime's token goes to the callee and comes back, while the
+-- record's token holds the borrow open.
 use mathlib.Core.Path.{_≡_, refl}
 use Prim.Native.Nat.{ℕ}
 use mathlib.Core.List.{[], _∷_, List}

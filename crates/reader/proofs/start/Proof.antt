@@ -1,4 +1,5 @@
--- `reader::start` meets its contract: a walk of its MIR, by hand. The reader that `new` returns is held in a local, and its index is copied out. Of `new` the proof knows its contract alone.
+-- `reader::start` meets its contract: a walk of its MIR, by hand. The reader that `new` returns is held in a local, and its index is copied out.
+-- Of `new` the proof knows its contract alone.
 -- In a local MIR erases the lifetime of the reader's type, so the value is shown to have the type at `erased`.
 use mathlib.Core.Path.{_≡_, refl, ap}
 use Prim.Native.Nat.{ℕ}

@@ -1,5 +1,6 @@
--- `reader::take` meets its contract: a walk of its MIR, by hand. A reader is made of the slice and the index passed; its index, a field of a local, is lent to `increment` for a lifetime of the call, and comes back stepped; then `read_at` reads what it stood at.
--- Of both callees the proof knows their contracts alone. In a local MIR erases the lifetime of the reader's type, so its value is shown to have the type at `erased`.
+-- `reader::take` meets its contract: a walk of its MIR, by hand. A reader is made of the slice and the index passed; its index, a field of a local, is
+-- lent to `increment` for a lifetime of the call, and comes back stepped; then `read_at` reads what it stood at. Of both callees the proof knows their
+-- contracts alone. In a local MIR erases the lifetime of the reader's type, so its value is shown to have the type at `erased`.
 use mathlib.Core.Path.{_≡_, refl, sym, ap, subst}
 use Prim.Native.Nat.{ℕ}
 use mathlib.Core.List.{List, [], _∷_}

@@ -1,4 +1,4 @@
--- `pages::next_valid_index` meets its contract: each return is a law of `nextValid`.
+-- `walk::next_valid_index` meets its contract: each return is a law of `nextValid`.
 use mathlib.Core.Path.{sym, ap, _∙_}
 use native.Mathlib.Omega.{arith}
 use borrow.Author.Needs.{needs}

@@ -1,4 +1,4 @@
--- `pages::skip_empty` meets its contract, by the laws of the first entry from a page on. The invariant: from here on the first entry is the
+-- `walk::skip_empty` meets its contract, by the laws of the first entry from a page on. The invariant: from here on the first entry is the
 -- one from `page` on. The measure is how many pages are left.
 use mathlib.Core.Path.{_≡_, refl, sym, ap, _∙_}
 use Prim.Native.Nat.{_-_, _≤_}

@@ -1,4 +1,4 @@
--- The table of numbers (crates/line_bytes/specs/NumbersInUse.antt) against the refusals (crates/table/specs/Refusal.antt): a number is in use exactly
+-- The table of numbers (NumbersInUse.antt) against the refusals (crates/table/specs/Refusal.antt): a number is in use exactly
 -- where a refusal has it, and names a leaf, a subleaf or s exactly where some refusal with that number sets one.
 use mathlib.Core.Path.{_≡_, refl, subst}
 use mathlib.Core.Bool.{Bool, true, false, _&&_, not, false≢true}

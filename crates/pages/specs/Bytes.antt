@@ -1,4 +1,4 @@
--- Whether the elements of a list are bytes, by one pass.
+-- Lists of bytes. The definitions read lists of any numbers; a slice of the code holds bytes, and a statement that needs this says `AreBytes`.
 use mathlib.Core.Path.{_≡_}
 use mathlib.Core.Bool.{Bool, true, _&&_}
 use mathlib.Core.List.{List, [], _∷_}
@@ -8,11 +8,16 @@ use lib.ListN.{getD}
 use borrow.Author.Tests.{ltb-true}
 use Rattle.bits.specs.ChoiceLaws.{and-left, and-right}
 
+-- each element is a byte
+abbrev pub AreBytes : List ℕ → Type 0
+AreBytes l = (k : ℕ) → getD l k 0 < 256
+
+-- the same by one pass over the list, for lists that are written out
 unfoldable pub areBytes : List ℕ → Bool
 areBytes [] = true
 areBytes (n ∷ l) = ltb n 256 && areBytes l
 
-pub bytes-at : (l : List ℕ) → areBytes l ≡ true → (k : ℕ) → getD l k 0 < 256
+pub bytes-at : (l : List ℕ) → areBytes l ≡ true → AreBytes l
 unfolding areBytes
 bytes-at [] e k = lit< tt
 bytes-at (n ∷ l) e zero = ltb-true n 256 (and-left _ _ e)
