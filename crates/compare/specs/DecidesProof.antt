@@ -3,7 +3,6 @@ use mathlib.Core.Path.{_≡_, refl, sym, ap, ap₂, _∙_, subst}
 use mathlib.Core.Bool.{Bool, true, false, _&&_}
 use mathlib.Core.List.{List}
 use Prim.Native.Nat.{ℕ, _<_, zero-le}
-use native.Mathlib.Omega.{arith}
 use Rattle.bits.specs.Choice.{pick}
 use Rattle.bits.specs.ChoiceLaws.{never-both, pick-true, pick-false, and-left, and-right, if-fails}
 use Rattle.bits.specs.Search.{Failing, lowest}
@@ -22,7 +21,7 @@ use Rattle.update.specs.Kinds.{Kinds, EntryAtLeast, Registers, kindsAt, fromEnt
 use Rattle.build.specs.Build.{rowsFor, answer}
 use Rattle.lawful.specs.Lawful.{lawfulVerdict}
 use Rattle.rise.specs.Rise.{EntryRises, RiseHypothesis as Hypothesis}
-use Rattle.rise.specs.Decide.{risesTest, registersTest, placeTest, inTable, test-rises, rises-test, test-fails, place-rises, rises-place}
+use Rattle.rise.specs.Decide.{risesTest, registersTest, placeTest, inTable, test-rises, rises-test, place-rises, rises-place}
 use Rattle.rise.specs.RiseProof.{demand-3}
 use Rattle.register_kinds.specs.declared.Register.{Register}
 use Rattle.register_kinds.specs.declared.Register.the-variants.{Eax, Ebx, Ecx, Edx}
@@ -32,71 +31,33 @@ use Rattle.compare.specs.Compare.{firstRegister, failingAt, firstFailing
 use Rattle.compare.specs.ReturnLaws.{with-verdicts, refused-a}
 use Rattle.compare.specs.Means.{Reached, Means, Decides}
 use Rattle.register_kinds.specs.Registers.{order, valueOf, kindOf, subleafNamed}
+use Rattle.register_kinds.specs.RegistersLaws.{is-false, register-fails, registers-before, first-unique}
 
--- ---- the registers of a row before the first that fails
-
-is-false : (b : Bool) → (b ≡ true → ⊥) → b ≡ false
-is-false true n = absurd (n refl)
-is-false false n = refl
-
--- the first register that fails, by the tests of the three before EDX
-abbrev first : Bool → Bool → Bool → Register
-first p q r = pick p (pick q (pick r Edx Ecx) Ebx) Eax
+-- ---- the registers of a row
 
 module _ (k : Kinds) (a b : CpuidResult) where
   abbrev passes : Register → Bool
   passes q = risesTest (kindOf q k) (valueOf q a) (valueOf q b)
 
-  before-first : (p q r : Bool) → passes Eax ≡ p → passes Ebx ≡ q → passes Ecx ≡ r → (x : Register) → order x < order (first p q r) → passes x ≡ true
-  before-first false q r e f g x l = absurd (omega arith)
-  before-first true false r e f g Eax l = e
-  before-first true false r e f g Ebx l = absurd (omega arith)
-  before-first true false r e f g Ecx l = absurd (omega arith)
-  before-first true false r e f g Edx l = absurd (omega arith)
-  before-first true true false e f g Eax l = e
-  before-first true true false e f g Ebx l = f
-  before-first true true false e f g Ecx l = absurd (omega arith)
-  before-first true true false e f g Edx l = absurd (omega arith)
-  before-first true true true e f g Eax l = e
-  before-first true true true e f g Ebx l = f
-  before-first true true true e f g Ecx l = g
-  before-first true true true e f g Edx l = absurd (omega arith)
+  abbrev AtLeast : Register → Type 0
+  AtLeast q = EntryAtLeast (kindOf q k) (valueOf q a) (valueOf q b)
 
-  first-fails : (p q r s : Bool) → passes Eax ≡ p → passes Ebx ≡ q → passes Ecx ≡ r → passes Edx ≡ s → (p && (q && (r && s))) ≡ false
-      → passes (first p q r) ≡ false
-  first-fails false q r s e f g h n = e
-  first-fails true false r s e f g h n = f
-  first-fails true true false s e f g h n = g
-  first-fails true true true s e f g h n = h ∙ n
+  passed : (q : Register) → passes q ≡ true → AtLeast q
+  passed q e = test-rises (kindOf q k) (valueOf q a) (valueOf q b) e
 
-  register-fails : registersTest k a b ≡ false
-      → EntryAtLeast (kindOf (firstRegister k a b) k) (valueOf (firstRegister k a b) a) (valueOf (firstRegister k a b) b) → ⊥
-  register-fails n =
-      let q : Register = firstRegister k a b in
-      test-fails (kindOf q k) (valueOf q a) (valueOf q b) (first-fails (passes Eax) (passes Ebx) (passes Ecx) (passes Edx) refl refl refl refl n)
+  passing : (q : Register) → AtLeast q → passes q ≡ true
+  passing q h = rises-test (kindOf q k) (valueOf q a) (valueOf q b) h
 
-  registers-before : (x : Register) → order x < order (firstRegister k a b) → EntryAtLeast (kindOf x k) (valueOf x a) (valueOf x b)
-  registers-before x l = test-rises (kindOf x k) (valueOf x a) (valueOf x b) (before-first (passes Eax) (passes Ebx) (passes Ecx) refl refl refl x l)
+  first-fails : registersTest k a b ≡ false → AtLeast (firstRegister k a b) → ⊥
+  first-fails = register-fails passes AtLeast passed passing
 
-  -- a register that fails where those before it pass is the first
-  first-unique : (q : Register) → (EntryAtLeast (kindOf q k) (valueOf q a) (valueOf q b) → ⊥)
-      → ((x : Register) → order x < order q → EntryAtLeast (kindOf x k) (valueOf x a) (valueOf x b)) → firstRegister k a b ≡ q
-  first-unique q f before = go q f before
-    where
-      pass : (x : Register) → EntryAtLeast (kindOf x k) (valueOf x a) (valueOf x b) → passes x ≡ true
-      pass x h = rises-test (kindOf x k) (valueOf x a) (valueOf x b) h
+  before-first : (x : Register) → order x < order (firstRegister k a b) → AtLeast x
+  before-first = registers-before passes AtLeast passed passing
 
-      fail : (x : Register) → (EntryAtLeast (kindOf x k) (valueOf x a) (valueOf x b) → ⊥) → passes x ≡ false
-      fail x n = is-false (passes x) (λ e. n (test-rises (kindOf x k) (valueOf x a) (valueOf x b) e))
+  only-first : (q : Register) → (AtLeast q → ⊥) → ((x : Register) → order x < order q → AtLeast x) → firstRegister k a b ≡ q
+  only-first = first-unique passes AtLeast passed passing
 
-      go : (q : Register) → (EntryAtLeast (kindOf q k) (valueOf q a) (valueOf q b) → ⊥)
-          → ((x : Register) → order x < order q → EntryAtLeast (kindOf x k) (valueOf x a) (valueOf x b)) → firstRegister k a b ≡ q
-      go Eax n h = rw (fail Eax n)
-      go Ebx n h = rw (pass Eax (h Eax (omega arith)), fail Ebx n)
-      go Ecx n h = rw (pass Eax (h Eax (omega arith)), pass Ebx (h Ebx (omega arith)), fail Ecx n)
-      go Edx n h = rw (pass Eax (h Eax (omega arith)), pass Ebx (h Ebx (omega arith)), pass Ecx (h Ecx (omega arith)))
-
-  register-of : Registers EntryAtLeast k a b → (q : Register) → EntryAtLeast (kindOf q k) (valueOf q a) (valueOf q b)
+  register-of : Registers EntryAtLeast k a b → (q : Register) → AtLeast q
   register-of h Eax = h .eax
   register-of h Ebx = h .ebx
   register-of h Ecx = h .ecx
@@ -143,8 +104,8 @@ module _ (chosen : Choices) (a b : List ℕ) where
           place = i;
           reached = reached i h;
           present = e;
-          fails = register-fails (kindsAt i) (A i .result) (B i .result) (rw e at fails);
-          registersBefore = registers-before (kindsAt i) (A i .result) (B i .result);
+          fails = first-fails (kindsAt i) (A i .result) (B i .result) (rw e at fails);
+          registersBefore = before-first (kindsAt i) (A i .result) (B i .result);
         }
         go false e = record { place = i; reached = reached i h; absent = e }
 
@@ -211,7 +172,7 @@ module _ (chosen : Choices) (a b : List ℕ) where
       let k = kindsAt i in
       compared-there i h (λ e. m .fails (register-of k (A i .result) (B i .result) (e .registers) register))
       ∙ pick-true _ _ (m .present)
-      ∙ ap (Differs (leafAt i) (subleafNamed i)) (first-unique k (A i .result) (B i .result) register (m .fails) (m .registersBefore))
+      ∙ ap (Differs (leafAt i) (subleafNamed i)) (only-first k (A i .result) (B i .result) register (m .fails) (m .registersBefore))
       ∙ sym (ap₂ (λ (l : CpuidFunction) (s : Subleaf). Differs l s register) (h .leafAtPlace) (h .subleafAtPlace))
 
   pub decides : Decides chosen a b (compared chosen a b)
