@@ -46,7 +46,8 @@ layout-past r i h =
 found-rows : (avic : Bool) (s : List ℕ) → rowsIn (registersOf (rowsOf avic s)) (foundOrigins s) ≡ rowsOf avic s
 unfolding foundOrigins
 found-rows avic s =
-    sym (rows-in (registersOf (rowsOf avic s)) (foundOrigins s) (layout-length (λ i. rowsOf avic s i .result)) (length-tabulate places (λ i. originNumber (standsAt i (counted s)))))
+    sym (rows-in (registersOf (rowsOf avic s)) (foundOrigins s)
+    (layout-length (λ i. rowsOf avic s i .result)) (length-tabulate places (λ i. originNumber (standsAt i (counted s)))))
     ∙ ap Tables.rowsIn (walked-collected avic s)
     ∙ collected-rows avic s
 

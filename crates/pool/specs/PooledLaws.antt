@@ -149,7 +149,8 @@ module _ (c : Choices) (pages lengths : List ℕ) where
       (then-right (serversVerdict c pages lengths) _ (then-right (setsVerdict pages lengths) _ e))
 
   -- a refusal, case by case
-  refused-with : {r : Refusal} {k : ℕ} → poolVerdict c pages lengths ≡ Refused r → serverNamed c pages lengths ≡ k → refusedPool r k ≡ pooled c pages lengths
+  refused-with : {r : Refusal} {k : ℕ} → poolVerdict c pages lengths ≡ Refused r → serverNamed c pages lengths ≡ k
+      → refusedPool r k ≡ pooled c pages lengths
   refused-with {r} {k} e p =
       ap (λ (o : List ℕ). record { verdict = Refused r; server = k; table = emptyTable; origins = o }) (no-origins (setAt pages lengths 0))
       ∙ sym (pooled-with {v = Refused r} e p)

@@ -18,8 +18,8 @@ ghost use Rattle.pool_sets.specs.Sets.{lawfulSets};
 ghost use Rattle.pool.specs.Pool.{pooled, refusedPool};
 ghost use Rattle.pool.specs.PoolIn.{PoolIn};
 
-// What pooling gives, as specs/Pool.antt has it: accepted with its table and where each row stood in the first server's pages, or refused with an empty
-// one. `server` is the number, from 0, of the server whose own refusal it is, else 0.
+// What pooling gives, as specs/Pool.antt has it: accepted with its table and where each row stood in the first server's pages, or refused with an
+// empty one. `server` is the number, from 0, of the server whose own refusal it is, else 0.
 pub struct Pooled {
     pub verdict: Verdict,
     pub server: usize,
@@ -49,8 +49,8 @@ fn refuse(
     }
 }
 
-// Servers whose sets are lawful, joined in the first one's memory and finished there. 19 is decided over the rows that the finished table has, which are
-// those that all servers' tables have.
+// Servers whose sets are lawful, joined in the first one's memory and finished there. 19 is decided over the rows that the finished table has, which
+// are those that all servers' tables have.
 fn pool_servers(
     pages: &[u8],
     lengths: &[u64],

@@ -1,5 +1,5 @@
--- The join as the code makes it, in the memory of the first server: registers joined where they stand, and a flag a place that says whether the servers
--- so far are like the first there.
+-- The join as the code makes it, in the memory of the first server: registers joined where they stand, and a flag a place that says whether the
+-- servers so far are like the first there.
 use mathlib.Core.Path.{_≡_}
 use mathlib.Core.Bool.{Bool, true, false, _&&_}
 use mathlib.Core.List.{List}

@@ -1,5 +1,5 @@
-// The join of servers' masked first entries, in the memory of the first. The rows so far and those of one server more come in; the rows are joined where
-// they stand, and at which places the two are alike but for features goes out.
+// The join of servers' masked first entries, in the memory of the first. The rows so far and those of one server more come in; the rows are joined
+// where they stand, and at which places the two are alike but for features goes out.
 use masking::PLACES;
 use memory::REGISTERS;
 use memory::is_there;
@@ -43,8 +43,8 @@ fn same_row(masks: RowMasks, a: CpuidResult, b: CpuidResult) -> bool
                 & (a.edx & agreed.edx == b.edx & agreed.edx)))
 }
 
-// One server more, place by place: its registers are joined into those of the servers before it. `alike` has at which places these are like the first;
-// where the further one is too goes out.
+// One server more, place by place: its registers are joined into those of the servers before it. `alike` has at which places these are like the
+// first; where the further one is too goes out.
 pub fn with_server(
     registers: &mut [u32; REGISTERS],
     other: &[u32; REGISTERS],

@@ -25,7 +25,8 @@ use Rattle.pool_sets.specs.Sets.{setAt}
 use Rattle.pool_sets.specs.Servers.{serverVerdict, serverRows, isAccepted, firstRefused, refusedBy, serversVerdict, numberOf, joinedTo, JoinsRest}
 
 -- of a part of the slice that is server k's set
-module _ (c : Choices) (pages lengths : List ℕ) (k : ℕ) {s w o : List ℕ} {v : Verdict} (part : s ≡ setAt pages lengths k) (e : ServerIn c s v w o) where
+module _ (c : Choices) (pages lengths : List ℕ) (k : ℕ) {s w o : List ℕ} {v : Verdict} (part : s ≡ setAt pages lengths k)
+    (e : ServerIn c s v w o) where
   pub part-verdict : {x : Verdict} → v ≡ x → serverVerdict c pages lengths k ≡ x
   part-verdict p = sym (e .verdict ∙ ap (λ (t : List ℕ). answer c t .verdict) part) ∙ p
 
@@ -78,8 +79,8 @@ module _ (c : Choices) (pages lengths : List ℕ) where
       }
 
   -- what was found is what the loop gives
-  joins : {x : Failing} {v : Verdict} {w : List ℕ} {alike : List Bool} → firstRefused c pages lengths ≡ x → v ≡ refusedBy x (serverVerdict c pages lengths)
-      → w ≡ registersOf (pool f (joinedTo x lengths)) → alike ≡ alikeFlags f (joinedTo x lengths)
+  joins : {x : Failing} {v : Verdict} {w : List ℕ} {alike : List Bool} → firstRefused c pages lengths ≡ x
+      → v ≡ refusedBy x (serverVerdict c pages lengths) → w ≡ registersOf (pool f (joinedTo x lengths)) → alike ≡ alikeFlags f (joinedTo x lengths)
       → JoinsRest c pages lengths (record { verdict = v; server = numberOf x; alike = alike }) w
   unfolding serversVerdict
   joins p e r a =

@@ -13,8 +13,8 @@ ghost use Rattle.pool_sets.specs.Sets.{lawfulSets};
 ghost use Rattle.pool_rows.specs.JoinLaws.{registersOf};
 ghost use Rattle.pool_sets.specs.Servers.{serverVerdict, serverRows, JoinsRest};
 
-// What joining gives beside the joined registers: the first server that is refused, or that none is, and the places at which those that were joined are
-// like the first.
+// What joining gives beside the joined registers: the first server that is refused, or that none is, and the places at which those that were
+// joined are like the first.
 pub struct Joined {
     pub verdict: Verdict,
     pub server: usize,
@@ -45,8 +45,8 @@ pub fn sets_fit(pages: &[u8], lengths: &[u64]) -> bool
     left == 0
 }
 
-// The servers after the first, whose registers are in the memory: each is walked once and in order, into memory of its own, and joined, up to one that
-// is refused.
+// The servers after the first, whose registers are in the memory: each is walked once and in order, into memory of its own, and joined, up to one
+// that is refused.
 pub fn join_rest(
     pages: &[u8],
     lengths: &[u64],

@@ -61,7 +61,8 @@ returns-3 c =
 
 returns-4 : tie.Need-returns-4
 returns-4 c =
-    let i = c .before .before .before in let b = i .before .before .before .before in let m = b .before .before .before in let j = m .before .before in
+    let i = c .before .before .before in let b = i .before .before .before .before in
+    let m = b .before .before .before in let j = m .before .before in
     let e = j .before .before in let r = e .before .before in let a = start r .args in
     pool-in
     (pooled-differs (a .choices) (a .pages .now) (a .lengths .now) (start r .pre) (j .join-rest .ensures) (m .enum-told2 .given .1)

@@ -13,7 +13,8 @@ second-fits c = record { eax = omega arith; ebx = omega arith; ecx = omega arith
 
 returns : tie.Need-returns
 returns c =
-    let s = c .before .before .before .before .before .before .before .before .before .before .before .before .before .before .before .before .before in
+    let t = c .before .before .before .before .before .before .before .before in
+    let s = t .before .before .before .before .before .before .before .before .before in
     alike-by-kind (s .args .masks) (s .args .a) (s .args .b) (first-fits s) (second-fits s)
 
 pub same-row-spec : {M : Type 1} → statement M

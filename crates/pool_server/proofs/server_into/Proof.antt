@@ -21,7 +21,8 @@ returns-2 c =
 
 returns-3 : tie.Need-returns-3
 returns-3 c =
-    let v = c .before in let x = v .before .before in let z = x .before .before .before in let n = z .before .before .before in let k = n .before .before in
+    let v = c .before in let x = v .before .before in let z = x .before .before .before in
+    let n = z .before .before .before in let k = n .before .before in
     server-refused _ _ _ _ (known (k .before .before .before)) (k .walk-pages .ensures) (n .enum-told .given .1)
     (z .sized .ensures .0) (z .sized .ensures .1) (x .check-rows .ensures) (v .checked .given .1)
 

@@ -1,4 +1,5 @@
--- `pool_sets::join_rest` meets its contract: before each turn no server passed is refused, their entries are joined, and the next set begins at `start`.
+-- `pool_sets::join_rest` meets its contract: before each turn no server passed is refused, their entries are joined, and the next set
+-- begins at `start`.
 use borrow.Author.Needs.{needs}
 use mathlib.Core.Path.{_≡_}
 use Prim.Native.Nat.{_-_, _≤_}
@@ -57,7 +58,8 @@ with-server-requires c κs =
 
 loop-again : tie.Need-loop-again Inv-loop μ-loop
 loop-again c =
-    let e = c .before .before .before in let r = e .before .before in let l = r .before .before .before .before .before .before in let a = start l .args in
+    let e = c .before .before .before in let r = e .before .before in
+    let l = r .before .before .before .before .before .before in let a = start l .args in
     let part = set-of (a .pages .now) (a .lengths .now) (l .loop .k) (l .loop .start) (l .loop .inv .2) in (
       search needs,
       search needs,
