@@ -56,6 +56,7 @@ pub fn compare(a: &[u8], b: &[u8], choices: Choices) -> Compared
         return Compared::RefusedA(refusal);
     }
     sized(&registers, &origins);
+    // A's entries, before its table takes their place: of the table only the places that have a row are asked
     let entries = registers;
     let verdict = build_rows(&mut registers, &mut origins, choices.edition);
     if let Verdict::Refused(refusal) = verdict {

@@ -27,17 +27,28 @@ keeps-answer-requires c κs =
     let s = b .before .before .before .before .before .before .before .before in
     (s .pre, answer-to _ (b .build-rows .ensures) refl)
 
+-- a turn, and what is found of its bit
+abbrev turned : tie.After-keeps-answer Inv-loop μ-loop → tie.At-loop Inv-loop μ-loop
+turned k = k .before .before .before .before .before .before
+
+abbrev start : tie.After-keeps-answer Inv-loop μ-loop → tie.Start Inv-loop μ-loop
+start k = turned k .before .before .before .before .before .before .before .before .before
+
+found : (k : tie.After-keeps-answer Inv-loop μ-loop) → let a = start k .args in
+    k .keeps-answer .result ≡ keeps (a .edition) (rowsIn (a .registers .now) (a .origins .now)) (a .kept) (a .place) (a .x) (turned k .loop .n)
+found k =
+    let m = k .before .before .before in let f = m .before in
+    keeps-found _ _ _ _ _ (turned k .loop .n) (f .flip-bit .ensures) (m .masked-at .ensures) (k .keeps-answer .ensures)
+
 loop-again : tie.Need-loop-again Inv-loop μ-loop
 loop-again c =
-    let k = c .before in let m = k .before .before .before in let f = m .before in let l = f .before .before in
-    let e = keeps-found _ _ _ _ _ (l .loop .n) (f .flip-bit .ensures) (m .masked-at .ensures) (k .keeps-answer .ensures) in
-    (omega arith, l .loop .inv .1 ∙ bit-passes _ _ _ _ _ (l .loop .n) (f .before .loop-test .taken) (sym e ∙ c .if3 .taken))
+    let k = c .before in let l = turned k in
+    (omega arith, l .loop .inv .1 ∙ bit-passes _ _ _ _ _ (l .loop .n) (omega arith) (sym (found k) ∙ c .if3 .taken))
 
 returns-2 : tie.Need-returns-2 Inv-loop μ-loop
 returns-2 c =
-    let k = c .before in let m = k .before .before .before in let f = m .before in let l = f .before .before in
-    let e = keeps-found _ _ _ _ _ (l .loop .n) (f .flip-bit .ensures) (m .masked-at .ensures) (k .keeps-answer .ensures) in
-    sym (l .loop .inv .1 ∙ bit-stops _ _ _ _ _ (l .loop .n) (f .before .loop-test .taken) (sym e ∙ c .if3 .left))
+    let k = c .before in let l = turned k in
+    sym (l .loop .inv .1 ∙ bit-stops _ _ _ _ _ (l .loop .n) (omega arith) (sym (found k) ∙ c .if3 .left))
 
 returns-3 : tie.Need-returns-3 Inv-loop μ-loop
 returns-3 c = let l = c .before in sym (l .loop .inv .1 ∙ bit-ends _ _ _ _ _ (l .loop .n) (c .loop-test .left))
