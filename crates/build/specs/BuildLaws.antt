@@ -12,7 +12,6 @@ use Rattle.origins.specs.Origin.{isMadeHere, originOf, originNumber, finishedOr
 use Rattle.origins.specs.Origin.Origin.{neither, madeHere}
 use Rattle.origins.specs.OriginLaws.{finished-origins}
 use Rattle.locate.specs.Stands.{standsAt, foundOrigins}
-use Rattle.checks.specs.Checks.{rowsVerdict}
 use Rattle.rows_built.specs.declared.RowsBuilt.{RowsBuilt}
 use Rattle.build.specs.declared.Built.{Built}
 use Rattle.table.specs.declared.Refusal.{Refusal}
@@ -22,12 +21,11 @@ use Rattle.table.specs.declared.Verdict.{Verdict}
 use Rattle.table.specs.declared.Verdict.the-variants.{Accepted, Refused}
 use Rattle.table.specs.declared.CpuidResults.{CpuidResults}
 use Rattle.rows_built.specs.RowsBuilt.{builtFrom}
-use Rattle.build.specs.Built.{withoutOrigins, notBuilt, locatedBuilt}
-use Rattle.table.specs.Table.{emptyTable, rowsIn}
+use Rattle.build.specs.Built.{withoutOrigins, notBuilt}
+use Rattle.table.specs.Table.{emptyTable}
 use Rattle.table.specs.Rows.{Rows}
 use Rattle.table.specs.Edition.{knownEdition}
-use Rattle.rows_built.specs.Stages.{refusedBuilt, builtBy}
-use Rattle.collect.specs.Collect.{collected, collected-rows}
+use Rattle.rows_built.specs.Stages.{builtBy}
 use Rattle.build.specs.Build.{editionVerdict, rowsFor, verdictOf, originsIn, answer}
 use Rattle.lawful.specs.Lawful.{lawfulVerdict}
 
@@ -65,11 +63,6 @@ module _ (c : Choices) (s : List ℕ) where
   unfolding answer verdictOf builtFrom
   answer-of-rows e f = rw (e, f)
 
-  -- what was built without origins, as the answer
-  pub as-answer : {b : RowsBuilt} → b ≡ withoutOrigins (answer c s)
-      → _≡_ {A = Built} (record { verdict = b .verdict; table = b .table; origins = answer c s .origins }) (answer c s)
-  as-answer e = λ k. record { verdict = e k .verdict; table = e k .table; origins = answer c s .origins }
-
   pub answer-unknown : {q : Built} → knownEdition (c .edition) ≡ false → q ≡ notBuilt UnknownEdition → q ≡ answer c s
   answer-unknown k g = refused-with g (unfold verdictOf editionVerdict in rw k)
 
@@ -77,33 +70,3 @@ module _ (c : Choices) (s : List ℕ) where
   module _ (k : knownEdition (c .edition) ≡ true) {v : Verdict} (e : v ≡ lawfulVerdict s) where
     pub answer-unlawful : {r : Refusal} {q : Built} → v ≡ Refused r → q ≡ notBuilt r → q ≡ answer c s
     answer-unlawful f g = refused-with g (unfold verdictOf editionVerdict in rw (k, ← e, f))
-
-    rows-verdict : v ≡ Accepted → verdictOf c s ≡ rowsVerdict m
-    unfolding verdictOf editionVerdict
-    rows-verdict f = rw (k, ← e, f)
-
-    -- what the collected rows are answered, once edition and pages are lawful
-    module _ {t : CpuidResults} (f : v ≡ Accepted) (g : t ≡ collected (c .«secure_avic») s) where
-      rows : rowsIn t ≡ m
-      rows = ap rowsIn g ∙ collected-rows (c .«secure_avic») s
-
-      pub answer-refused : {r : Refusal} {b : RowsBuilt} {q : Built} → b ≡ refusedBuilt r → b ≡ builtFrom (c .edition) (rowsIn t) → q ≡ notBuilt r
-          → q ≡ answer c s
-      unfolding builtFrom
-      answer-refused h i j =
-          refused-with j (rows-verdict f ∙ ap rowsVerdict (sym rows) ∙ ap (λ (x : RowsBuilt). x .verdict) (sym i ∙ h))
-
-      pub answer-collected : {b : RowsBuilt} {o : List ℕ} {q : Built} → o ≡ foundOrigins s → b ≡ builtFrom (c .edition) (rowsIn t)
-          → q ≡ locatedBuilt b o → q ≡ answer c s
-      unfolding builtFrom
-      answer-collected {b} h i j =
-          j
-          ∙ ap (locatedBuilt b) h
-          ∙ ap (λ (o : List ℕ). record { verdict = b .verdict; table = b .table; origins = o }) (located-origins (b .table) s)
-          ∙ ap with-origins (i ∙ ap (builtFrom (c .edition)) rows)
-          ∙ sym (built-with (rows-verdict f))
-
-      pub table-collected : {b : RowsBuilt} → b ≡ builtFrom (c .edition) (rowsIn t) → b ≡ withoutOrigins (answer c s)
-      unfolding builtFrom
-      table-collected i =
-          i ∙ ap (builtFrom (c .edition)) rows ∙ sym (ap withoutOrigins (built-with (rows-verdict f)))

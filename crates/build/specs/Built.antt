@@ -1,10 +1,7 @@
 -- What building gives beside the answer to rows, the origins; and what it is for two answers to be the same.
 use mathlib.Core.Path.{_≡_}
-use mathlib.Core.List.{List}
-use Prim.Native.Nat.{ℕ}
 use lib.ListN.{replicate}
 use Rattle.masking.specs.Kept.{places}
-use Rattle.origins.specs.Origin.{finishedOrigins}
 use Rattle.table.specs.declared.Refusal.{Refusal}
 use Rattle.table.specs.declared.Verdict.the-variants.{Refused}
 use Rattle.table.specs.Table.{emptyTable}
@@ -14,10 +11,6 @@ use Rattle.build.specs.declared.Built.{Built}
 -- a refused answer: an empty table, and no origins
 abbrev pub notBuilt : Refusal → Built
 notBuilt r = record { verdict = Refused r; table = emptyTable; origins = replicate places 0 }
-
--- an answer to rows with origins, from the numbers of where the first entries stand
-abbrev pub locatedBuilt : RowsBuilt → List ℕ → Built
-locatedBuilt b found = record { verdict = b .verdict; table = b .table; origins = finishedOrigins (b .table .present) found }
 
 -- Document 02, P11: "sameness with the Rust, in P2, in P8 and between servers A and B means everything but origins": the verdict, with its refusal
 -- and details, and the table

@@ -1,4 +1,4 @@
-// The checks. Masked first entries of the 88 places come in, whole or in part; the first refusal, or none, goes out.
+// The checks, in specs/; in code, those of one row: the masks of the extended state, and INVLPGB. Crate rows_checked joins them over lent memory.
 use table::Refusal;
 use table::Verdict;
 use x86defs::CpuidResult;
@@ -7,13 +7,9 @@ ghost use mathlib.Core.Path.{_≡_};
 ghost use Rattle.checks.specs.Checks.{invlpgbOf};
 
 mod extended_state;
-mod required;
 
 pub use extended_state::max_extended_state;
 pub use extended_state::max_xss;
-pub use extended_state::process_extended_state_subleaves;
-pub use extended_state::xsave_size;
-pub use required::validate_required;
 
 // A size in bytes, or one that no 32-bit number holds.
 pub enum Size {

@@ -4,4 +4,3 @@ pub mod Walked
 pub mod StoreLaws
 pub mod WalkingLaws
 pub mod CollectedLaws
-pub mod TableLaws

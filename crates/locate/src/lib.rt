@@ -4,14 +4,11 @@ use collect::masked_at;
 use masking::PLACES;
 use memory::REGISTERS;
 use memory::put_row;
-use memory::row_at;
 use reader::Read;
 use reserved::Reserved;
-use table::CpuidResults;
 ghost use mathlib.Core.Path.{_≡_};
 ghost use mathlib.Core.Bool.{true};
 ghost use Rattle.pages.specs.Layout.{countsFit};
-ghost use Rattle.memory.specs.Memory.{tableIn};
 ghost use Rattle.locate.specs.Walked.{Walked};
 
 // The masked first entry of every place and where it stands, from pages whose counts are lawful: what the reader gives, page by page, up to the first
@@ -58,19 +55,4 @@ pub fn collect_into(
         }
     }
     Reserved::Zero
-}
-
-// The table that the two arrays stand for.
-pub fn table_in(registers: &[u32; REGISTERS], origins: &[u64; PLACES]) -> CpuidResults
-    ensures { λ r. ⌜ r ≡ tableIn (now (registers .entry)) (now (origins .entry)) ⌝ }
-{
-    let mut t = table::empty_table();
-    let mut i: usize = 0;
-    while i < PLACES {
-        let row = row_at(registers, i);
-        t.present[i] = origins[i] != 0;
-        t.results[i] = row;
-        i += 1;
-    }
-    t
 }

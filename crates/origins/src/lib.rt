@@ -1,13 +1,11 @@
-// Where rows came from, as numbers. Where the first entries stand and which rows a table has come in; the column of the table's origins goes out.
-use masking::PLACES;
-use masking::place;
+// Where rows came from, as numbers: the number of an entry, and an origin read back from its number.
 ghost use mathlib.Core.Path.{_≡_};
 ghost use Prim.Native.Nat.{_+_, _*_, _^_, _<_};
-ghost use Rattle.origins.specs.Origin.{Origin, originNumber, finishedOrigins, originRead};
+ghost use Rattle.origins.specs.Origin.{Origin, originNumber, originRead};
 
-const NONE: u64 = 0;
+pub const NONE: u64 = 0;
 
-const MADE_HERE: u64 = 1;
+pub const MADE_HERE: u64 = 1;
 
 // The origin of a row that was read from an image, which holds no origins.
 pub const NOT_KNOWN: u64 = 3;
@@ -29,25 +27,6 @@ pub fn entry_number(page: usize, position: usize) -> u64
     ensures { λ r. ⌜ r ≡ originNumber (Origin.entry page position) ⌝ }
 {
     FIRST_ENTRY + MOST_ENTRIES * page as u64 + position as u64
-}
-
-// The origins of a table's rows, from where the first entries stand: four rows are made here, and a row that is not there has none.
-pub fn finish_origins(present: [bool; PLACES], found: [u64; PLACES]) -> [u64; PLACES]
-    ensures { λ r. ⌜ r ≡ finishedOrigins present found ⌝ }
-{
-    let mut out = found;
-    out[place::CORE_LEVEL] = MADE_HERE;
-    out[place::THREAD_LEVEL] = MADE_HERE;
-    out[place::EXTENDED_MAX_FUNCTION] = MADE_HERE;
-    out[place::VENDOR_AND_MAX_FUNCTION] = MADE_HERE;
-    let mut i: usize = 0;
-    while i < PLACES {
-        if present[i] {} else {
-            out[i] = NONE;
-        }
-        i += 1;
-    }
-    out
 }
 
 // Reads an origin's number back.

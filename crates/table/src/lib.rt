@@ -5,7 +5,6 @@ use x86defs::CpuidFunction;
 use x86defs::CpuidResult;
 ghost use mathlib.Core.Path.{_≡_};
 ghost use Rattle.table.specs.Edition.{knownEdition};
-ghost use Rattle.table.specs.Table.{emptyTable};
 
 // What a caller chooses: whether secure AVIC is kept (document 01, "Corners of masking.rs"), and the edition of the AVX rule (document 02, P7).
 pub struct Choices {
@@ -62,22 +61,4 @@ pub struct CpuidResults {
     pub results: [CpuidResult; PLACES],
     pub row_count: usize,
     pub max_extended_state: u64,
-}
-
-// No rows at all.
-pub fn empty_table() -> CpuidResults
-    ensures { λ r. ⌜ r ≡ emptyTable ⌝ }
-{
-    let none = CpuidResult {
-        eax: 0,
-        ebx: 0,
-        ecx: 0,
-        edx: 0,
-    };
-    CpuidResults {
-        present: [false; PLACES],
-        results: [none; PLACES],
-        row_count: 0,
-        max_extended_state: 0,
-    }
 }
