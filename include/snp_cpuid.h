@@ -17,6 +17,11 @@
 #include <stddef.h>
 #include <stdint.h>
 
+/* The version of the library that this header belongs to. */
+#define SNP_CPUID_VERSION_MAJOR 0
+#define SNP_CPUID_VERSION_MINOR 2
+#define SNP_CPUID_VERSION_PATCH 0
+
 #ifdef __cplusplus
 extern "C" {
 #endif

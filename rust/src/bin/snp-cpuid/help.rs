@@ -28,7 +28,7 @@ one line on standard error, and no file is written or changed.
 ";
 
 /// The option that every command has; the command line is read for it before any other.
-const HELP: Opt = Opt::flag(&["-h", "--help"], "print this help");
+pub const HELP: Opt = Opt::flag(&["-h", "--help"], "print this help");
 
 /// The help of the program: a line for each command, with its operands and the file that it writes.
 pub fn of_program(commands: &[Command]) -> String {
