@@ -98,7 +98,8 @@ class Dist(unittest.TestCase):
         """One without the header, one whose command is of another version, one whose manual page is old."""
         make('dist')
         name = f'snp-cpuid-{version()}-x86_64-linux'
-        for damage in 'rm include/snp_cpuid.h', "sed -i s/^Version:.*/Version:\\ 9.9/ lib/pkgconfig/snp_cpuid.pc", 'echo >>share/man/man1/snp-cpuid.1':
+        damages = 'rm include/snp_cpuid.h', 'sed -i s/^Version:.*/Version:/ lib/pkgconfig/snp_cpuid.pc', 'echo >>share/man/man1/snp-cpuid.1'
+        for damage in damages:
             with tempfile.TemporaryDirectory() as folder:
                 shutil.copytree(ROOT / 'target' / 'dist' / name, Path(folder, name))
                 subprocess.run(damage, shell=True, cwd=Path(folder, name), check=True)

@@ -96,7 +96,8 @@ class Shells(unittest.TestCase):
     @needs('zsh')
     def test_zsh(self):
         functions = self.tree.prefix / 'share/zsh/site-functions'
-        self.typed(Terminal(['zsh', '-f', '-i'], self.room, f"unsetopt beep prompt_cr; fpath=('{functions}' $fpath); autoload -U compinit; compinit -u -D"))
+        begin = f"unsetopt beep prompt_cr; fpath=('{functions}' $fpath); autoload -U compinit; compinit -u -D"
+        self.typed(Terminal(['zsh', '-f', '-i'], self.room, begin))
 
     @needs('bash')
     def test_bash_knows_every_command_and_option(self):
@@ -124,10 +125,10 @@ class Shells(unittest.TestCase):
             ran = subprocess.run(['fish', '--no-config', '-c', ask], cwd=self.room, env=environment, capture_output=True, text=True, check=True)
             return [{line.split('\t')[0] for line in part.splitlines()} for part in ran.stdout.split('=\n')[:-1]]
 
-        one, two, three, four, five = asked('snp-cpuid ', 'snp-cpuid help t', 'snp-cpuid table ep', 'snp-cpuid image x -o ep', 'snp-cpuid completion ')
+        one, two, *others = asked(*(f'snp-cpuid {words}' for words in ('', 'help t', 'table ep', 'image x -o ep', 'completion ')))
         self.assertEqual(one, set(self.commands))
         self.assertEqual(two, {name for name in self.commands if name.startswith('t')})
-        self.assertEqual((three, four, five), ({FILE}, {FILE}, {'bash', 'zsh', 'fish'}))
+        self.assertEqual(others, [{FILE}, {FILE}, {'bash', 'zsh', 'fish'}])
         plain = [command for command in self.commands if command != 'help']
         for command, found in zip(plain, asked(*(f'snp-cpuid {command} -' for command in plain)), strict=True):
             self.assertEqual(found, self.options(command), command)

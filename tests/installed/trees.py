@@ -13,7 +13,8 @@ def make(*words, path=None):
     """A run of make with these words, under another PATH where one is given; the library is the repository's own unless a word names another."""
     environment = {**os.environ, **({'PATH': path} if path else {})}
     environment.pop('SNP_CPUID_LIB', None)
-    return subprocess.run(['make', '--silent', '--no-print-directory', *words], cwd=ROOT, env=environment, capture_output=True, text=True, check=False)
+    command = ['make', '--silent', '--no-print-directory', *words]
+    return subprocess.run(command, cwd=ROOT, env=environment, capture_output=True, text=True, check=False)
 
 
 def files(folder):
