@@ -27,6 +27,7 @@ class Gate(unittest.TestCase):
             tests = Path(folder, 'repository', 'tests')
             bin_folder.mkdir()
             tests.mkdir(parents=True)
+            tests.with_name('differential').mkdir()
             for name, script in commands.items():
                 (bin_folder / name).write_text(f'#!/bin/sh\n{script}\n')
                 (bin_folder / name).chmod(0o755)

@@ -1,5 +1,5 @@
-//! Lays the three files of cvm_cpuid beside the stub, as oracle/build.rs does, and makes the edits of docs/OPENHCL.md to mod.rs: the blocks of Rust there
-//! take the places that its headings name.
+//! Lays the three files of cvm_cpuid beside the stub, as oracle/build.rs does, and makes the edits of docs/OPENHCL.md to mod.rs: the blocks of Rust
+//! there, in order, take the places of the items below.
 
 use std::env;
 use std::fs;
@@ -53,9 +53,7 @@ fn with(source: &str, head: &str, by: &str) -> String {
     assert_eq!(source.matches(head).count(), 1, "mod.rs no longer has this once: {head}");
     let (before, item) = source.split_once(head).unwrap();
     let (_, after) = item.split_once("\n}\n").expect("an item ends");
-    let kept = before.trim_end_matches('\n').len();
-    let above: usize =
-        before[..kept].lines().rev().take_while(|line| line.starts_with("///") || line.starts_with("#[")).map(|line| line.len() + 1).sum();
-    let start = if kept + 1 == before.len() { before.len() - above } else { before.len() };
-    format!("{}{by}{after}", &before[..start])
+    let belongs = |line: &&str| line.starts_with("///") || line.starts_with("#[");
+    let above: usize = before.lines().rev().take_while(belongs).map(|line| line.len() + 1).sum();
+    format!("{}{by}{after}", &before[..before.len() - above])
 }

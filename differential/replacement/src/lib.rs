@@ -1,5 +1,5 @@
-//! The SNP path of OpenHCL's `cvm_cpuid` over the proved library, under the same names. The five leaves of the hypervisor are handed in: they say what
-//! the paravisor offers, not what the server has.
+//! The SNP path of OpenHCL's `cvm_cpuid` over the proved library, under the same names. The five leaves of the hypervisor are handed in: they say
+//! what the paravisor offers, not what the server has.
 
 use core::arch::x86_64::CpuidResult;
 use snp_cpuid::Options;
