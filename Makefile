@@ -1,6 +1,7 @@
 # make            prove the program, build the library and the command, and print the table of the shipped page set
 # make install    put the command, the header, the library with its pkg-config file, the manual page and the completions below PREFIX, in DESTDIR
 # make uninstall  remove exactly these files
+# make ring0      the library for ring 0, in target/ring0 (docs/EMBEDDING.md)
 # make dist       an archive of the same with the documents, tried out from an empty folder
 # make proved     print what is proved
 # make test       the whole gate: proofs from nothing, must-fail edits, programs, and the tests in tests/
@@ -8,7 +9,7 @@
 # make bench-rust against the Rust too, with overflow checks and without; OPENVMM_CVM_CPUID names its folder (differential/README.md)
 #
 # SNP_CPUID_LIB=FOLDER takes libsnp_cpuid.a from there, and the Rattle kit is not needed: nothing is proved then.
-.PHONY: all command stage staged install uninstall dist proved test bench bench-rust clean
+.PHONY: all command stage staged install uninstall ring0 dist proved test bench bench-rust clean
 
 .DEFAULT_GOAL = all
 PREFIX = /usr/local
@@ -86,6 +87,9 @@ install: $(if $(call found,cargo),stage,staged)
 
 uninstall:
 	@for file in $(INSTALLED); do rm -f '$(DESTDIR)$(PREFIX)'/$$file || exit 1; done
+
+ring0: target/staticlib/libsnp_cpuid.a
+	$(kit)@install/ring0
 
 dist: stage
 	@rm -rf target/dist && mkdir -p target/dist/$(ARCHIVE)/share/doc/snp-cpuid

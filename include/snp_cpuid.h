@@ -5,8 +5,8 @@
  *
  * Inside a kernel or a paravisor (docs/EMBEDDING.md has it all): the library needs memcpy and memset and nothing else, keeps no state, allocates
  * nothing, never recurses and always returns. Any number of threads may call at once. Buffers of bytes may stand at any address. A call takes at most
- * SNP_CPUID_MOST_STACK_BYTES of stack, whatever the pages are. It uses XMM registers and in one place the red zone: in ring 0, call it where the
- * extended state is saved and no interrupt comes on the same stack.
+ * SNP_CPUID_MOST_STACK_BYTES of stack, whatever the pages are. It uses XMM registers and in places the red zone: for ring 0, `make ring0` builds a
+ * library without either; or call it where the extended state is saved and no interrupt comes on the same stack.
  *
  * Pages are the CPUID pages of the SEV-SNP firmware, 4,096 bytes each, end to end. A pointer may be null where its length is 0.
  *

@@ -25,9 +25,9 @@ def exported():
     return re.findall(r'^struct snp_cpuid_\w+ (snp_cpuid_\w+)\(', text, re.MULTILINE)
 
 
-def measured():
+def measured(library=LIBRARY):
     """For each of them the bound from the object code."""
-    bounds = object_code.bounds(object_code.functions(LIBRARY))
+    bounds = object_code.bounds(object_code.functions(library))
     return {name: bounds[name] for name in exported()}
 
 

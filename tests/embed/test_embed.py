@@ -16,45 +16,54 @@ PAGES = ROOT / 'tests' / 'epyc-milan.pages'
 IMAGE = ROOT / 'crates' / 'snp_cpuid_image' / 'stdout'
 STRICT = ['-O2', '-Wall', '-Wextra', '-Wpedantic', '-Werror', '-I', ROOT / 'include']
 BARE = ['-nostdlib', '-ffreestanding', '-fno-stack-protector', '-fcf-protection=none']
-WHOLE = ['-Wl,--whole-archive', LIBRARY, '-Wl,--no-whole-archive']
 
 
 def said(*words):
     return subprocess.run(words, capture_output=True, text=True, check=True).stdout
 
 
+def whole(library):
+    """The words that link all of a library, called or not."""
+    return ['-Wl,--whole-archive', library, '-Wl,--no-whole-archive']
+
+
 class ObjectCode(unittest.TestCase):
+    library = LIBRARY
+    beyond_general = {'xmm'}
+
     def test_it_needs_memcpy_and_memset_alone(self):
-        self.assertEqual(set(re.findall(r' [Uvw] (\S+)', said('nm', '-u', LIBRARY))), {'memcpy', 'memset'})
+        self.assertEqual(set(re.findall(r' [Uvw] (\S+)', said('nm', '-u', self.library))), {'memcpy', 'memset'})
 
     def test_it_exports_what_the_header_declares(self):
-        names = [line.split()[-1] for line in said('nm', '-g', '--defined-only', LIBRARY).splitlines() if ' T ' in line]
+        names = [line.split()[-1] for line in said('nm', '-g', '--defined-only', self.library).splitlines() if ' T ' in line]
         self.assertEqual(sorted(names), sorted(stack.exported()))
         self.assertGreaterEqual(len(names), 18)
 
     def test_it_keeps_no_state(self):
         """No section that can be written holds a byte, and none runs before or after main."""
         table = re.compile(r'\] (\.\S+) +(\w+) +[0-9a-f]+ [0-9a-f]+ ([0-9a-f]+) [0-9a-f]+ +([WAXMSILOGTCxoEDlp]*) ')
-        sections = table.findall(said('readelf', '-SW', LIBRARY))
+        sections = table.findall(said('readelf', '-SW', self.library))
         self.assertTrue(any(name.startswith('.text.') for name, *_ in sections))
         self.assertEqual([name for name, _, size, flags in sections if 'W' in flags and int(size, 16)], [])
         self.assertEqual([name for name, kind, *_ in sections if kind in ('INIT_ARRAY', 'FINI_ARRAY', 'PREINIT_ARRAY')], [])
 
     def test_its_registers_are_the_general_ones_and_sse(self):
-        names = {name for function in object_code.functions(LIBRARY).values() for _, operands, _ in function.code.values()
+        names = {name for function in object_code.functions(self.library).values() for _, operands, _ in function.code.values()
                  for name in re.findall(r'%([a-z]+)', operands)}
-        self.assertIn('xmm', names)
         general = {'rax', 'rbx', 'rcx', 'rdx', 'rsi', 'rdi', 'rbp', 'rsp', 'rip', 'eax', 'ebx', 'ecx', 'edx', 'esi', 'edi', 'ebp', 'esp', 'eip',
                    'ax', 'bx', 'cx', 'dx', 'si', 'di', 'bp', 'sp', 'al', 'bl', 'cl', 'dl', 'sil', 'dil', 'bpl', 'spl', 'ah', 'bh', 'ch', 'dh', 'r'}
-        self.assertEqual(names - general, {'xmm'})
+        # string instructions name two segments
+        self.assertEqual(names - general - {'ds', 'es'}, self.beyond_general)
 
     def test_no_instruction_is_privileged_or_reads_the_machine(self):
-        used = {mnemonic for function in object_code.functions(LIBRARY).values() for mnemonic, *_ in function.code.values()}
+        used = {mnemonic for function in object_code.functions(self.library).values() for mnemonic, *_ in function.code.values()}
         never = 'syscall sysenter int cpuid rdtsc rdtscp rdrand rdmsr wrmsr in out hlt cli sti ldmxcsr std vzeroupper emms ud2'
         self.assertEqual(used & set(never.split()), set())
 
 
 class Stack(unittest.TestCase):
+    library = LIBRARY
+
     def test_the_page_states_every_function(self):
         self.assertEqual(list(stack.stated()), stack.exported())
 
@@ -72,7 +81,7 @@ class Stack(unittest.TestCase):
         cls.program = Path(folder.name, 'stack')
         # -static: a call of memcpy that the loader has to bind first would take the loader's stack too
         subprocess.run(['gcc', '-std=gnu11', '-O2', '-Wall', '-Wextra', '-Werror', '-static', '-I', ROOT / 'include', '-o', cls.program,
-                        ROOT / 'tests' / 'embed' / 'stack.c', LIBRARY], check=True)
+                        ROOT / 'tests' / 'embed' / 'stack.c', cls.library], check=True)
 
     def run_on(self, sizes):
         words = [f'{name}={size}' for name, size in sizes.items()]
@@ -96,6 +105,8 @@ class Stack(unittest.TestCase):
 
 
 class Linked(unittest.TestCase):
+    library = LIBRARY
+
     def setUp(self):
         folder = tempfile.TemporaryDirectory()
         self.addCleanup(folder.cleanup)
@@ -116,26 +127,26 @@ class Linked(unittest.TestCase):
         self.assertEqual((refused.returncode, refused.stdout), (1, b''))
 
     def test_without_a_c_library(self):
-        self.gives_the_image(self.built('gcc', '-std=c11', *BARE, '-static', self.source, *WHOLE))
+        self.gives_the_image(self.built('gcc', '-std=c11', *BARE, '-static', self.source, *whole(self.library)))
 
     def test_at_any_address_without_relocation(self):
-        program = self.built('gcc', '-std=c11', *BARE, '-fPIE', '-static-pie', self.source, *WHOLE)
+        program = self.built('gcc', '-std=c11', *BARE, '-fPIE', '-static-pie', self.source, *whole(self.library))
         self.assertIn('no relocations', said('readelf', '-r', program))
         self.gives_the_image(program)
 
     def test_as_a_shared_object(self):
         shared = self.folder / 'libsnp_cpuid.so'
-        subprocess.run(['gcc', '-shared', '-Wl,-z,defs', '-o', shared, *WHOLE, '-lc'], check=True)
+        subprocess.run(['gcc', '-shared', '-Wl,-z,defs', '-o', shared, *whole(self.library), '-lc'], check=True)
         # no relocation of its text
         self.assertNotIn('TEXTREL', said('readelf', '-d', shared))
         self.gives_the_image(self.built('gcc', '-std=c11', '-DHOSTED', self.source, shared), LD_LIBRARY_PATH=str(self.folder))
 
     def test_from_c_plus_plus(self):
-        self.gives_the_image(self.built('g++', '-std=c++11', '-x', 'c++', '-DHOSTED', self.source, '-x', 'none', LIBRARY))
+        self.gives_the_image(self.built('g++', '-std=c++11', '-x', 'c++', '-DHOSTED', self.source, '-x', 'none', self.library))
 
     @unittest.skipUnless(shutil.which('clang') and shutil.which('ld.lld'), 'clang and lld are not installed (apt-get install clang lld)')
     def test_by_clang_and_lld(self):
-        self.gives_the_image(self.built('clang', '-std=c11', *BARE, '-static', '-fuse-ld=lld', self.source, *WHOLE))
+        self.gives_the_image(self.built('clang', '-std=c11', *BARE, '-static', '-fuse-ld=lld', self.source, *whole(self.library)))
 
 
 if __name__ == '__main__':
