@@ -135,12 +135,12 @@ class Missing(unittest.TestCase):
         self.assertIn('there is no /nowhere/libsnp_cpuid.a', self.one_line(make('SNP_CPUID_LIB=/nowhere')))
 
     def test_without_cargo(self):
-        said = self.one_line(make('command', f'SNP_CPUID_LIB={ROOT}/target/stage/lib', path=self.only()))
+        said = self.one_line(make('command', f'SNP_CPUID_LIB={ROOT}/target/staticlib', path=self.only()))
         self.assertIn("no 'cargo'", said)
 
     def test_a_given_library_needs_no_kit(self):
         with tempfile.TemporaryDirectory() as folder:
-            shutil.copy(ROOT / 'target' / 'stage' / 'lib' / 'libsnp_cpuid.a', folder)
+            shutil.copy(ROOT / 'target' / 'staticlib' / 'libsnp_cpuid.a', folder)
             path = os.pathsep.join(part for part in os.environ['PATH'].split(os.pathsep) if not Path(part, 'rt').exists())
             ran = make(f'SNP_CPUID_LIB={folder}', path=path)
         self.assertEqual((ran.returncode, ran.stderr), (0, ''))
