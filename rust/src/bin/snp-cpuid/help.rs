@@ -34,9 +34,14 @@ pub const HELP: Opt = Opt::flag(&["-h", "--help"], "print this help");
 pub fn of_program(commands: &[Command]) -> String {
     let line = |command: &Command| {
         let files = command.options().filter(|option| option.value.is_file()).map(Opt::usage);
-        wrapped(&format!("  {:27}", synopsis(command, files)), command.summary)
+        listed(&synopsis(command, files), command.summary)
     };
     HEAD.to_string() + &commands.iter().map(line).collect::<String>() + TAIL
+}
+
+/// A line of the list of commands: the words stand behind the label, or below it where it is too long.
+fn listed(label: &str, words: &str) -> String {
+    if label.len() < 27 { wrapped(&format!("  {label:27}"), words) } else { format!("  {label}\n") + &wrapped(&" ".repeat(29), words) }
 }
 
 /// The help of a command.

@@ -25,8 +25,7 @@ Exit status: 0 printed, 2 bad usage or a file that cannot be written.
 
 fn run(arguments: &Arguments) -> Result<(), Failure> {
     let shell = &arguments.operands[0];
-    match shell.to_str().and_then(shells::named) {
-        Some(script) => output::write(arguments, script(ALL).as_bytes()),
-        None => Err(Failure::usage(COMMAND.name, &format!("there is no script for the shell '{}'", shown(shell)))),
-    }
+    let wrong = || Failure::usage(COMMAND.name, &format!("there is no script for the shell '{}'", shown(shell)));
+    let script = shell.to_str().and_then(shells::named).ok_or_else(wrong)?(ALL);
+    output::write_or_print(arguments, script.as_bytes(), &script)
 }

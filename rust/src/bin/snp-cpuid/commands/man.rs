@@ -22,5 +22,6 @@ Exit status: 0 printed, 2 bad usage or a file that cannot be written.
 };
 
 fn run(arguments: &Arguments) -> Result<(), Failure> {
-    output::write(arguments, manual::page(ALL).as_bytes())
+    let page = manual::page(ALL);
+    output::write_or_print(arguments, page.as_bytes(), &page)
 }
