@@ -126,7 +126,7 @@ class Missing(unittest.TestCase):
 
     def test_without_the_kit(self):
         # a source that is newer than any library asks for the kit; -W says so to make and changes nothing
-        for target in 'all', 'test', 'install', 'dist', 'bench':
+        for target in 'all', 'test', 'install', 'dist', 'ring0', 'bench', 'bench-rust':
             said = self.one_line(make(target, '-W', 'crates.txt', path=self.only('cargo')))
             self.assertIn("no Rattle kit: 'rt' is not on the PATH", said)
             self.assertIn('SNP_CPUID_LIB=FOLDER', said)
