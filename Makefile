@@ -95,6 +95,10 @@ dist: stage
 	@rm -rf target/dist && mkdir -p target/dist/$(ARCHIVE)/share/doc/snp-cpuid
 	@cp -r $(STAGE)/. install/README.md target/dist/$(ARCHIVE)
 	@cp $(DOCUMENTS) target/dist/$(ARCHIVE)/share/doc/snp-cpuid
+	@mkdir -p target/dist/$(ARCHIVE)/share/snp-cpuid/rust
+	@cp -r rust/Cargo.toml rust/build.rs rust/src target/dist/$(ARCHIVE)/share/snp-cpuid/rust
+	@rm -r target/dist/$(ARCHIVE)/share/snp-cpuid/rust/src/bin
+	@cp -r differential/replacement target/dist/$(ARCHIVE)/share/snp-cpuid/snp_cvm_cpuid
 	@chmod -R u=rwX,go=rX target/dist/$(ARCHIVE)
 	@tar -C target/dist --sort=name --owner=0 --group=0 --numeric-owner -czf target/dist/$(ARCHIVE).tar.gz $(ARCHIVE)
 	@install/smoke target/dist/$(ARCHIVE).tar.gz

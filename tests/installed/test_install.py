@@ -87,16 +87,18 @@ class Install(unittest.TestCase):
 
 
 class Dist(unittest.TestCase):
+    @classmethod
+    def setUpClass(cls):
+        cls.ran = make('dist')
+
     def test_the_archive_is_tried_out(self):
-        ran = make('dist')
-        self.assertEqual(ran.returncode, 0, ran.stderr)
-        said, name = ran.stdout.splitlines()
-        self.assertRegex(said, rf'^snp-cpuid {re.escape(version())}: \d\d rows, from the shell and from C$')
+        self.assertEqual(self.ran.returncode, 0, self.ran.stderr)
+        said, name = self.ran.stdout.splitlines()
+        self.assertRegex(said, rf'^snp-cpuid {re.escape(version())}: \d\d rows, from the shell, from C, from Rust$')
         self.assertTrue((ROOT / name).is_file(), name)
 
     def test_a_broken_archive_is_found(self):
         """One without the header, one whose command is of another version, one whose manual page is old."""
-        make('dist')
         name = f'snp-cpuid-{version()}-x86_64-linux'
         damages = 'rm include/snp_cpuid.h', 'sed -i s/^Version:.*/Version:/ lib/pkgconfig/snp_cpuid.pc', 'echo >>share/man/man1/snp-cpuid.1'
         for damage in damages:

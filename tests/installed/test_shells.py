@@ -79,6 +79,11 @@ class Shells(unittest.TestCase):
         labels = [line.strip().split('  ')[0] for line in lines if line.startswith('  -')]
         return {word.strip(',') for label in labels for word in label.split() if word.startswith('-')}
 
+    def program_options(self):
+        """The options of the program itself, by its help."""
+        lines = self.tree.run('help').split('\nOptions:\n')[1].split('\n\n')[0].splitlines()
+        return {word.strip(',') for line in lines for word in line.split('   ')[0].split() if word.startswith('-')}
+
     def typed(self, terminal):
         self.addCleanup(terminal.close)
         self.assertEqual(terminal.complete('snp-cpuid expl', 1), ['explain'])
@@ -108,7 +113,7 @@ class Shells(unittest.TestCase):
             return set(subprocess.run(['bash', '-c', ask, script, 'snp-cpuid', *words], capture_output=True, text=True, check=True).stdout.split())
 
         self.assertEqual(asked(''), set(self.commands))
-        self.assertEqual(asked('-'), {'-h', '--help', '-V', '--version'})
+        self.assertEqual(asked('-'), self.program_options())
         for command in self.commands:
             if command != 'help':
                 self.assertEqual(asked(command, '-'), self.options(command), command)
@@ -125,17 +130,18 @@ class Shells(unittest.TestCase):
             ran = subprocess.run(['fish', '--no-config', '-c', ask], cwd=self.room, env=environment, capture_output=True, text=True, check=True)
             return [{line.split('\t')[0] for line in part.splitlines()} for part in ran.stdout.split('=\n')[:-1]]
 
-        one, two, *others = asked(*(f'snp-cpuid {words}' for words in ('', 'help t', 'table ep', 'image x -o ep', 'completion ')))
+        one, none, two, *others = asked(*(f'snp-cpuid {words}' for words in ('', '-', 'help t', 'table ep', 'image x -o ep', 'completion ')))
         self.assertEqual(one, set(self.commands))
+        self.assertEqual(none, self.program_options())
         self.assertEqual(two, {name for name in self.commands if name.startswith('t')})
         self.assertEqual(others, [{FILE}, {FILE}, {'bash', 'zsh', 'fish'}])
         plain = [command for command in self.commands if command != 'help']
         for command, found in zip(plain, asked(*(f'snp-cpuid {command} -' for command in plain)), strict=True):
             self.assertEqual(found, self.options(command), command)
 
-    @needs('zsh')
     def test_zsh_knows_every_option(self):
         text = (self.tree.prefix / 'share/zsh/site-functions/_snp-cpuid').read_text()
+        self.assertEqual(set(re.search(r'compadd -- (-.*?);', text)[1].split()), self.program_options())
         for command in self.commands:
             if command != 'help':
                 arm = text.split(f'    {command})\n')[1].split(' ;;\n')[0]
