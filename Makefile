@@ -12,6 +12,8 @@
 .PHONY: all command stage staged install uninstall ring0 dist proved test bench bench-rust clean
 
 .DEFAULT_GOAL = all
+# the manual page does not depend on the width of a terminal
+unexport COLUMNS
 PREFIX = /usr/local
 VERSION := $(shell sed -n 's/^version = "\(.*\)"/\1/p' rust/Cargo.toml)
 PAGES = tests/epyc-milan.pages
