@@ -49,12 +49,12 @@ static uint8_t lent[ROOM];
 struct call {
     const char *name;
     void (*function)(void);
-    size_t answer; /* the size of its struct; one above 16 bytes is written where the first argument points */
+    size_t answer; /* the size of what it returns; above 16 bytes it is written where the first argument points */
     uint64_t words[MOST_WORDS];
 };
 
 #define AT(pointer) ((uint64_t)(uintptr_t)(pointer))
-#define CALL(name, answer, ...) {#name, (void (*)(void))name, sizeof(struct answer), {__VA_ARGS__}}
+#define CALL(name, answer, ...) {#name, (void (*)(void))name, sizeof(answer), {__VA_ARGS__}}
 #define CHOICES 1, edition
 #define BUFFER AT(lent), sizeof lent
 #define POOL AT(pages), length, AT(lengths), 16
@@ -70,24 +70,24 @@ static uint64_t fresh_image(void) {
 /* The calls: one line for each exported function. */
 static size_t make_calls(struct call *out, uint32_t edition) {
     struct call calls[] = {
-        CALL(snp_cpuid_build, snp_cpuid_built, AT(pages), length, CHOICES),
-        CALL(snp_cpuid_lookup, snp_cpuid_found, AT(pages), length, CHOICES, ROW),
-        CALL(snp_cpuid_write_image, snp_cpuid_written, AT(pages), length, CHOICES, BUFFER),
-        CALL(snp_cpuid_write_kvm, snp_cpuid_written, AT(pages), length, CHOICES, BUFFER),
-        CALL(snp_cpuid_read_kvm, snp_cpuid_written, AT(list), list_length, BUFFER),
-        CALL(snp_cpuid_guest_build, snp_cpuid_built, AT(pages), length, CHOICES, PROCESSOR),
-        CALL(snp_cpuid_guest_lookup, snp_cpuid_found, AT(pages), length, CHOICES, PROCESSOR, ROW),
-        CALL(snp_cpuid_write_guest_image, snp_cpuid_written, AT(pages), length, CHOICES, PROCESSOR, BUFFER),
-        CALL(snp_cpuid_compare, snp_cpuid_compared, AT(pages), length, AT(pages), length, CHOICES),
-        CALL(snp_cpuid_first_entry, snp_cpuid_first, AT(pages), length, 0x8000001F, 0),
-        CALL(snp_cpuid_carry, snp_cpuid_carried, fresh_image(), image_length, 1, edition, 7, 0x800),
-        CALL(snp_cpuid_pool, snp_cpuid_pooled, POOL, CHOICES),
-        CALL(snp_cpuid_pool_lookup, snp_cpuid_found, POOL, CHOICES, ROW),
-        CALL(snp_cpuid_write_pool_image, snp_cpuid_written, POOL, CHOICES, BUFFER),
-        CALL(snp_cpuid_write_line, snp_cpuid_line_written, 3, 0xD, 1, 0xFFFFFFFF, 0, BUFFER),
-        CALL(snp_cpuid_read_line, snp_cpuid_line_read, AT(line), line_length),
-        CALL(snp_cpuid_nearest, snp_cpuid_nearest, AT(pages), length, CHOICES),
-        CALL(snp_cpuid_write_topologies, snp_cpuid_written, BUFFER),
+        CALL(snp_cpuid_build, struct snp_cpuid_built, AT(pages), length, CHOICES),
+        CALL(snp_cpuid_lookup, struct snp_cpuid_found, AT(pages), length, CHOICES, ROW),
+        CALL(snp_cpuid_write_image, struct snp_cpuid_written, AT(pages), length, CHOICES, BUFFER),
+        CALL(snp_cpuid_write_kvm, struct snp_cpuid_written, AT(pages), length, CHOICES, BUFFER),
+        CALL(snp_cpuid_read_kvm, struct snp_cpuid_written, AT(list), list_length, BUFFER),
+        CALL(snp_cpuid_guest_build, struct snp_cpuid_built, AT(pages), length, CHOICES, PROCESSOR),
+        CALL(snp_cpuid_guest_lookup, struct snp_cpuid_found, AT(pages), length, CHOICES, PROCESSOR, ROW),
+        CALL(snp_cpuid_write_guest_image, struct snp_cpuid_written, AT(pages), length, CHOICES, PROCESSOR, BUFFER),
+        CALL(snp_cpuid_compare, struct snp_cpuid_compared, AT(pages), length, AT(pages), length, CHOICES),
+        CALL(snp_cpuid_first_entry, struct snp_cpuid_first, AT(pages), length, 0x8000001F, 0),
+        CALL(snp_cpuid_carry, struct snp_cpuid_carried, fresh_image(), image_length, 1, edition, 7, 0x800),
+        CALL(snp_cpuid_pool, struct snp_cpuid_pooled, POOL, CHOICES),
+        CALL(snp_cpuid_pool_lookup, struct snp_cpuid_found, POOL, CHOICES, ROW),
+        CALL(snp_cpuid_write_pool_image, struct snp_cpuid_written, POOL, CHOICES, BUFFER),
+        CALL(snp_cpuid_write_line, struct snp_cpuid_line_written, 3, 0xD, 1, 0xFFFFFFFF, 0, BUFFER),
+        CALL(snp_cpuid_read_line, struct snp_cpuid_line_read, AT(line), line_length),
+        CALL(snp_cpuid_nearest, struct snp_cpuid_nearest, AT(pages), length, CHOICES),
+        CALL(snp_cpuid_write_topologies, struct snp_cpuid_written, BUFFER),
     };
     memcpy(out, calls, sizeof calls);
     return sizeof calls / sizeof *calls;

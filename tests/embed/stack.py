@@ -22,7 +22,7 @@ STEP = 256
 def exported():
     """The functions that the header declares, in its order."""
     text = re.sub(r'/\*.*?\*/', '', HEADER.read_text(), flags=re.DOTALL)
-    return re.findall(r'^struct snp_cpuid_\w+ (snp_cpuid_\w+)\(', text, re.MULTILINE)
+    return re.findall(r'^\w[\w ]*[ *](snp_cpuid_\w+)\(', text, re.MULTILINE)
 
 
 def measured(library=LIBRARY):

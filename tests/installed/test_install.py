@@ -143,8 +143,10 @@ class Missing(unittest.TestCase):
     def test_a_given_library_needs_no_kit(self):
         with tempfile.TemporaryDirectory() as folder:
             shutil.copy(ROOT / 'target' / 'staticlib' / 'libsnp_cpuid.a', folder)
-            path = os.pathsep.join(part for part in os.environ['PATH'].split(os.pathsep) if not Path(part, 'rt').exists())
-            ran = make(f'SNP_CPUID_LIB={folder}', path=path)
+            # a kit that does not work, before any other
+            Path(folder, 'rt').write_text('#!/bin/sh\necho rt was called >&2\nexit 1\n')
+            Path(folder, 'rt').chmod(0o755)
+            ran = make(f'SNP_CPUID_LIB={folder}', path=f'{folder}{os.pathsep}{os.environ["PATH"]}')
         self.assertEqual((ran.returncode, ran.stderr), (0, ''))
         self.assertTrue(ran.stdout.startswith('leaf '), ran.stdout)
 
