@@ -36,11 +36,11 @@ ifdef SNP_CPUID_LIB
 LIBRARY = $(SNP_CPUID_LIB)/libsnp_cpuid.a
 $(LIBRARY):
 	$(error there is no $(LIBRARY), where SNP_CPUID_LIB says that it is)
-all: command
+all: stage
 else
 LIBRARY = target/staticlib/libsnp_cpuid.a
 # what the proved program writes is what the command writes
-all: command
+all: stage
 	$(kit)@rt check snp_cpuid_image | grep '^rt: '
 	@target/bin/snp_cpuid_image < $(PAGES) > target/epyc-milan.image
 	@$(COMMAND) image $(PAGES) -o - | cmp - target/epyc-milan.image

@@ -140,6 +140,14 @@ class Missing(unittest.TestCase):
         said = self.one_line(make('command', f'SNP_CPUID_LIB={ROOT}/target/staticlib', path=self.only()))
         self.assertIn("no 'cargo'", said)
 
+    def test_what_was_built_is_installed_without_cargo(self):
+        """As by `make` and then `sudo make install`, where root has no cargo."""
+        make('stage')
+        with tempfile.TemporaryDirectory() as folder:
+            ran = make('install', f'DESTDIR={folder}', 'PREFIX=/usr', path=self.only('install'))
+            self.assertEqual((ran.returncode, ran.stdout, ran.stderr), (0, '', ''))
+            self.assertEqual(files(Path(folder, 'usr')), FILES)
+
     def test_a_given_library_needs_no_kit(self):
         with tempfile.TemporaryDirectory() as folder:
             shutil.copy(ROOT / 'target' / 'staticlib' / 'libsnp_cpuid.a', folder)
