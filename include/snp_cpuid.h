@@ -1,8 +1,12 @@
-/* snp_cpuid.h: the proved CPUID table of SEV-SNP guests, from C.
+/* snp_cpuid.h: the proved CPUID table of SEV-SNP guests, from C and C++ on x86-64.
  *
- * Link with target/staticlib/libsnp_cpuid.a (`rt staticlib snp_cpuid`). Every function may be called with any arguments that fit its
- * types: there is nothing that a caller must establish first. The functions keep no state, allocate nothing and may be called from
- * several threads at once. How much stack a call takes does not depend on the pages.
+ * Link with libsnp_cpuid.a: `pkg-config --cflags --libs snp_cpuid`. Every function may be called with any arguments that fit its types. Pointers must
+ * be good for their lengths, and what a call writes must not overlap what it reads; nothing else is asked of a caller.
+ *
+ * Inside a kernel or a paravisor (docs/EMBEDDING.md has it all): the library needs memcpy and memset and nothing else, keeps no state, allocates
+ * nothing, never recurses and always returns. Any number of threads may call at once. Buffers of bytes may stand at any address. A call takes at most
+ * SNP_CPUID_MOST_STACK_BYTES of stack, whatever the pages are. It uses XMM registers and in places the red zone: for ring 0, `make ring0` builds a
+ * library without either; or call it where the extended state is saved and no interrupt comes on the same stack.
  *
  * Pages are the CPUID pages of the SEV-SNP firmware, 4,096 bytes each, end to end. A pointer may be null where its length is 0.
  *
@@ -16,6 +20,11 @@
 #include <stdbool.h>
 #include <stddef.h>
 #include <stdint.h>
+
+/* The version of the library that this header belongs to. */
+#define SNP_CPUID_VERSION_MAJOR 0
+#define SNP_CPUID_VERSION_MINOR 2
+#define SNP_CPUID_VERSION_PATCH 0
 
 #ifdef __cplusplus
 extern "C" {
@@ -169,6 +178,9 @@ struct snp_cpuid_first {
 
 /* The bytes of the list of topologies. */
 #define SNP_CPUID_TOPOLOGIES_BYTES 5095
+
+/* Enough stack for any function: docs/EMBEDDING.md has the figure of each. */
+#define SNP_CPUID_MOST_STACK_BYTES 32768
 
 /* Builds the table of the given pages. */
 struct snp_cpuid_built snp_cpuid_build(const uint8_t *pages, size_t length, bool secure_avic, uint32_t edition);

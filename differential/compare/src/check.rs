@@ -1,4 +1,5 @@
-//! One page set, through the Rust and through the port under both editions of the AVX rule. Any disagreement is an `Err` that says which.
+//! One page set, through the Rust, through the port under both editions of the AVX rule, and through the Rust with the edits of docs/OPENHCL.md. Any
+//! disagreement is an `Err` that says which.
 
 use oracle::Answer;
 use oracle::Refusal;
@@ -18,9 +19,11 @@ pub struct Port {
     pub build: fn(&[u8], Options) -> Built,
     pub lookup: fn(&[u8], Options, Asked) -> Found,
     pub write_image: fn(&[u8], Options, &mut [u8]) -> Written,
+    /// The whole answer by OpenHCL's own interface.
+    pub replaced: fn(&[u8], bool) -> Answer,
 }
 
-pub const PORT: Port = Port { build: port::build, lookup: port::lookup, write_image: port::write_image };
+pub const PORT: Port = Port { build: port::build, lookup: port::lookup, write_image: port::write_image, replaced: replaced::answer };
 
 /// How much is asked besides the answer and one image.
 #[derive(Clone, Copy, Default)]
@@ -76,6 +79,7 @@ pub fn check(port: &Port, case: &Case) -> Result<Seen, String> {
         },
         ..Seen::default()
     };
+    same("the edited cvm_cpuid", &answer, &(port.replaced)(&case.pages, case.secure_avic))?;
     let second = with_the_clears_of_edition_2(&answer);
     seen.hidden = second != answer;
     for (edition, answer) in [(1, &answer), (2, &second)] {

@@ -81,6 +81,22 @@ fn two_rows_of_the_image_exchanged() {
     assert!(difference.to_string().contains("stands before"), "{difference}");
 }
 
+/// The unchanged Rust in the place of the edited one: its shift is another, and it reads no reserved byte.
+#[test]
+fn edits_that_were_not_made() {
+    let port = Port { replaced: oracle::answer, ..PORT };
+    assert!(found(port).to_string().contains("the edited cvm_cpuid"));
+    assert!(found_unclean(port).to_string().contains("number: 11"), "17 in hexadecimal");
+}
+
+#[test]
+fn edits_that_forget_the_callers_choice() {
+    fn replaced(pages: &[u8], _: bool) -> Answer {
+        replaced::answer(pages, false)
+    }
+    assert!(found(Port { replaced, ..PORT }).case.secure_avic);
+}
+
 #[test]
 fn the_shift_of_the_rust() {
     fn lookup(pages: &[u8], options: Options, asked: Asked) -> Found {

@@ -6,11 +6,7 @@
 
 mod panics;
 
-use tree::cvm_cpuid::CpuidResultsError;
-use tree::cvm_cpuid::CpuidResultsIsolationType;
-use tree::cvm_cpuid::TopologyError;
 use virt::CpuidLeafSet;
-use x86defs::cpuid::CpuidFunction;
 
 /// The three files, and the lines on which they panic. What only other callers use is unused here.
 #[allow(unused)]
@@ -47,43 +43,47 @@ pub enum Answer {
     Unknown(String),
 }
 
+/// The lines that ask a module `cvm_cpuid` for the leaves of a page set, whichever module it is. The answer to a further error of it may be given.
+#[macro_export]
+macro_rules! asks {
+    ($($module:ident)::+ $(, $error:ident($value:ident) => $refusal:expr)?) => {
+        /// `CpuidResults::new` is private to its module; `build` calls it, then `to_leaves`.
+        fn leaves(pages: &[u8], secure_avic: bool) -> Result<virt::CpuidLeafSet, $crate::Refusal> {
+            use $($module)::+::CpuidResultsError;
+            use $($module)::+::CpuidResultsIsolationType;
+            use $($module)::+::TopologyError;
+            let built = CpuidResultsIsolationType::Snp {
+                cpuid_pages: pages,
+                access_vsm: false,
+                // any but 0 (document 01, first paragraph)
+                vtom: 1 << 46,
+                secure_avic,
+            }
+            .build();
+            let numbered = |number| $crate::Refusal { number, ..$crate::Refusal::default() };
+            let topology = |number, s: u8| $crate::Refusal { s: s.into(), ..numbered(number) };
+            built.map_err(|error| match error {
+                CpuidResultsError::MissingRequiredResult(leaf, subleaf) => $crate::Refusal { leaf: leaf.0, subleaf, ..numbered(3) },
+                CpuidResultsError::InvlpgbUnavailable => numbered(4),
+                CpuidResultsError::TopologyInconsistent(TopologyError::Hyperthreading(s)) => topology(6, s),
+                CpuidResultsError::TopologyInconsistent(TopologyError::ProcessorCount(s)) => topology(7, s),
+                CpuidResultsError::TopologyInconsistent(TopologyError::ThreadsPerUnit) => numbered(8),
+                $(CpuidResultsError::$error($value) => $refusal,)?
+            })
+        }
+    };
+}
+
+asks!(tree::cvm_cpuid);
+
 /// What the Rust answers for these pages.
 pub fn answer(pages: &[u8], secure_avic: bool) -> Answer {
-    match panics::caught(|| build(pages, secure_avic)) {
+    match panics::caught(|| leaves(pages, secure_avic)) {
         Ok(Ok(leaves)) => table(&leaves),
-        Ok(Err(error)) => Answer::Refusal(refusal(error)),
+        Ok(Err(refusal)) => Answer::Refusal(refusal),
         Err(panics::Place::Processors) => processors_overflowed(pages, secure_avic),
         Err(panics::Place::Other(text)) => Answer::Unknown(text),
-        Err(place) => Answer::Refusal(numbered(place.number())),
-    }
-}
-
-/// `CpuidResults::new` is private to its module; `build` calls it, then `to_leaves`.
-fn build(pages: &[u8], secure_avic: bool) -> Result<CpuidLeafSet, CpuidResultsError> {
-    CpuidResultsIsolationType::Snp {
-        cpuid_pages: pages,
-        access_vsm: false,
-        // any but 0 (document 01, first paragraph)
-        vtom: 1 << 46,
-        secure_avic,
-    }
-    .build()
-}
-
-fn numbered(number: u32) -> Refusal {
-    Refusal { number, ..Refusal::default() }
-}
-
-fn refusal(error: CpuidResultsError) -> Refusal {
-    let topology = |number, s: u8| Refusal { s: s.into(), ..numbered(number) };
-    match error {
-        CpuidResultsError::MissingRequiredResult(CpuidFunction(leaf), subleaf) => Refusal { leaf, subleaf, ..numbered(3) },
-        CpuidResultsError::InvlpgbUnavailable => numbered(4),
-        CpuidResultsError::TopologyInconsistent(error) => match error {
-            TopologyError::Hyperthreading(s) => topology(6, s),
-            TopologyError::ProcessorCount(s) => topology(7, s),
-            TopologyError::ThreadsPerUnit => numbered(8),
-        },
+        Err(place) => Answer::Refusal(Refusal { number: place.number(), ..Refusal::default() }),
     }
 }
 
@@ -106,7 +106,7 @@ fn processors_overflowed(pages: &[u8], secure_avic: bool) -> Answer {
 }
 
 /// The rows but the five of the hypervisor.
-fn table(leaves: &CpuidLeafSet) -> Answer {
+pub fn table(leaves: &CpuidLeafSet) -> Answer {
     let all = leaves.leaves();
     let mut rows: Vec<Row> = all
         .iter()
@@ -139,5 +139,5 @@ pub unsafe extern "C" fn oracle_rows(pages: *const u8, length: usize) -> usize {
     // SAFETY: the caller's promise
     let pages = unsafe { std::slice::from_raw_parts(pages, length) };
     // five of the leaves are the hypervisor's
-    build(pages, false).map_or(0, |leaves| leaves.leaves().len() - 5)
+    leaves(pages, false).map_or(0, |leaves| leaves.leaves().len() - 5)
 }

@@ -17,6 +17,7 @@ mod page_sets;
 mod pool;
 mod refusals;
 mod run;
+mod shells;
 mod table;
 mod topologies;
 mod usage;

@@ -6,7 +6,7 @@ use crate::run::{EPYC, Folder, run};
 use std::collections::BTreeMap;
 use std::fs;
 
-/// Rows of an image, each as the line that tests/show_image prints and with its registers.
+/// Rows of an image, each as the line that the command prints and with its registers.
 fn rows_of_image(image: &[u8]) -> Vec<(String, [u32; 4])> {
     let (mut rows, mut at) = (vec![], 0);
     let number = |at: usize| u32::from_le_bytes(image[at..at + 4].try_into().unwrap());

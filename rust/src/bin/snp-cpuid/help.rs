@@ -28,15 +28,20 @@ one line on standard error, and no file is written or changed.
 ";
 
 /// The option that every command has; the command line is read for it before any other.
-const HELP: Opt = Opt::flag(&["-h", "--help"], "print this help");
+pub const HELP: Opt = Opt::flag(&["-h", "--help"], "print this help");
 
 /// The help of the program: a line for each command, with its operands and the file that it writes.
 pub fn of_program(commands: &[Command]) -> String {
     let line = |command: &Command| {
         let files = command.options().filter(|option| option.value.is_file()).map(Opt::usage);
-        wrapped(&format!("  {:27}", synopsis(command, files)), command.summary)
+        listed(&synopsis(command, files), command.summary)
     };
     HEAD.to_string() + &commands.iter().map(line).collect::<String>() + TAIL
+}
+
+/// A line of the list of commands: the words stand behind the label, or below it where it is too long.
+fn listed(label: &str, words: &str) -> String {
+    if label.len() < 27 { wrapped(&format!("  {label:27}"), words) } else { format!("  {label}\n") + &wrapped(&" ".repeat(29), words) }
 }
 
 /// The help of a command.

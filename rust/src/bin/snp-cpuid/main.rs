@@ -14,6 +14,7 @@ mod features;
 mod fields;
 mod help;
 mod input;
+mod manual;
 mod numbers;
 mod option;
 mod output;
@@ -21,6 +22,7 @@ mod pages;
 mod parse;
 mod print;
 mod processor;
+mod shells;
 mod words;
 mod wrap;
 

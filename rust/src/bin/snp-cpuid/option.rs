@@ -66,7 +66,7 @@ impl Opt {
 
 impl Value {
     /// Its name in the help.
-    fn name(&self) -> Option<&'static str> {
+    pub fn name(&self) -> Option<&'static str> {
         match self {
             Value::None => None,
             Value::File(name) | Value::Number(name) | Value::Decimal(name) => Some(name),

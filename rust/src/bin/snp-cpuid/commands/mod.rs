@@ -2,12 +2,14 @@
 
 mod carry;
 mod compare;
+mod completion;
 mod explain;
 mod from_dump;
 mod from_kvm;
 mod guest;
 mod image;
 mod lookup;
+mod man;
 mod nearest;
 mod pool;
 mod table;
@@ -34,4 +36,6 @@ pub const ALL: &[Command] = &[
     nearest::COMMAND,
     topologies::COMMAND,
     explain::COMMAND,
+    completion::COMMAND,
+    man::COMMAND,
 ];

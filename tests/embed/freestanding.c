@@ -1,0 +1,48 @@
+/* A program without a C library: its own start, memcpy and memset, and three system calls. It writes the image of the pages on standard input to
+ * standard output. As C++ it is the same program; HOSTED leaves out what a C library has. */
+#include <snp_cpuid.h>
+
+/* read, write and exit are 0, 1 and 60 */
+static long call_system(long number, long first, const void *second, long third) {
+    long answer;
+    __asm__ volatile("syscall" : "=a"(answer) : "a"(number), "D"(first), "S"(second), "d"(third) : "rcx", "r11", "memory");
+    return answer;
+}
+
+static int image_of_input(void) {
+    static uint8_t pages[2 * 4096], image[SNP_CPUID_MOST_IMAGE_BYTES];
+    long length = call_system(0, 0, pages, sizeof pages);
+    struct snp_cpuid_written written = snp_cpuid_write_image(pages, length < 0 ? 0 : (size_t)length, false, 1, image, sizeof image);
+    if (written.number) return (int)written.number;
+    return call_system(1, 1, image, (long)written.length) == (long)written.length ? 0 : 100;
+}
+
+#ifdef HOSTED
+int main(void) {
+    return image_of_input();
+}
+#else
+#ifdef __cplusplus
+extern "C" {
+#endif
+void *memcpy(void *to, const void *from, size_t count) {
+    void *start = to;
+    __asm__ volatile("rep movsb" : "+D"(to), "+S"(from), "+c"(count) : : "memory");
+    return start;
+}
+
+void *memset(void *to, int byte, size_t count) {
+    void *start = to;
+    __asm__ volatile("rep stosb" : "+D"(to), "+c"(count) : "a"(byte) : "memory");
+    return start;
+}
+
+__attribute__((used)) void begin(void) {
+    call_system(60, image_of_input(), 0, 0);
+}
+#ifdef __cplusplus
+}
+#endif
+/* the stack is aligned to 16 where the kernel starts a program */
+__asm__(".globl _start\n_start:\n    xor %ebp, %ebp\n    call begin\n");
+#endif
