@@ -2,6 +2,7 @@
 
 mod carry;
 mod compare;
+mod entries;
 mod explain;
 mod from_dump;
 mod from_kvm;
@@ -33,5 +34,6 @@ pub const ALL: &[Command] = &[
     pool::COMMAND,
     nearest::COMMAND,
     topologies::COMMAND,
+    entries::COMMAND,
     explain::COMMAND,
 ];
