@@ -13,6 +13,7 @@ mod dump;
 mod edition;
 mod entries;
 mod guest;
+mod images;
 #[path = "json.rs"]
 mod json_text;
 mod kvm;
