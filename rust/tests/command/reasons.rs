@@ -157,7 +157,7 @@ fn lengths_counts_and_reserved_bytes() {
     counted[4096..4100].copy_from_slice(&[65, 1, 0, 0]);
     assert_eq!(notes(&folder, &counted)[0], "page 1 counts 321");
     let told = notes(&folder, &unclean(&epyc(), 1, 2, 3));
-    assert_eq!(told, ["in its last eight bytes page 1 entry 2 (leaf 0000000D) has 00 00 00 01 00 00 00 00", "accepted with zeros in those bytes"]);
+    assert_eq!(told, ["page 1 entry 2 (leaf 0000000D) has 00 00 00 01 00 00 00 00 in its last eight bytes", "accepted with zeros in those bytes"]);
 }
 
 /// 19 names the servers, leaves and registers; with the first server's values in those registers the pool is accepted.

@@ -99,8 +99,8 @@ fn count(standing: &Standing) -> Reason {
 fn reserved(standing: &Standing) -> Reason {
     let unclean: Vec<&Place> = standing.places.iter().filter(|place| place.below_count && place.reserved != [0; 8]).collect();
     let told = |place: &&Place| format!("{} (leaf {}) has {}", place.name(), row_name(place.leaf, None), hex_bytes(&place.reserved));
-    let told: Vec<String> = unclean.iter().map(told).collect();
-    Reason::new(format!("in its last eight bytes {}", told.join("; ")), "zeros in those bytes")
+    let (told, whose) = (unclean.iter().map(told).collect::<Vec<_>>(), if unclean.len() == 1 { "its" } else { "their" });
+    Reason::new(format!("{} in {whose} last eight bytes", told.join(", ")), "zeros in those bytes")
 }
 
 /// Bytes in hexadecimal, spaces between.
