@@ -82,7 +82,7 @@ fn the_rule_is_named_where_both_counts_are_equal() {
     let mut entries = epyc();
     topology(&mut entries, 6, 31, 32, 1, 1);
     let told = notes(&folder, &set(&entries));
-    assert!(told[0].starts_with("1.EBX bits 16-23 give 32 logical processors and must give 2^6 = 64, as APIC core id size is 6 "), "{told:?}");
+    assert!(told[0].starts_with("1.EBX bits 16-23 give 32 logical processors and must give 2^6 = 64, for APIC core id size 6 "), "{told:?}");
     assert!(told[1].starts_with("accepted with 00000001.EBX at 00400800 (size 6, processors 32, logical processors 64, "), "{told:?}");
     topology(&mut entries, 6, 99, 64, 1, 1);
     let told = notes(&folder, &set(&entries));
