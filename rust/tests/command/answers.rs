@@ -75,7 +75,7 @@ fn compare_both_ways() {
     let folder = Folder::new("answers_compare");
     let less = folder.file("less", set(&with(1, 0, 2, |ecx| ecx & !(1 << 12))));
     let same = folder.file("same", set(&epyc()));
-    let members = "answer edition equal a b differences a_to_b b_to_a";
+    let members = "answer edition equal words a b differences a_to_b b_to_a";
     let filter =
         "[.answer, .equal, (.differences[0] | [.leaf, .register, .bit, .name, .a, .b, .in_the_way]), .a_to_b.by_entries, .b_to_a.by_entries]";
     let Some(read) = asked(&["compare", &same, &less], members, filter) else { return };
@@ -85,6 +85,8 @@ fn compare_both_ways() {
     let first = asked(&["compare", &same, &less], members, ".a_to_b | [.leaf, .subleaf, .register, .bit, .name, .from, .to, .hidden]").unwrap();
     assert_eq!(first, "[\"00000001\",null,\"ECX\",12,\"FMA\",\"7EDA3203\",\"7EDA2203\",false]");
     assert_eq!(asked(&["compare", &same, &same], members, "[.answer, .equal, .differences]").unwrap(), "[\"yes\",true,[]]");
+    let words = asked(&["compare", &same, &less], members, ".words").unwrap();
+    assert_eq!(words, "\"no: a guest of A may not move to B. B lacks FMA, leaf 00000001 ECX bit 12.\"");
     // a refused server: its refusal stands beside it
     let refused = folder.file("refused", set(&without(0xD, 2)));
     let filter = "[.answer, .b.accepted, .b.refusal.line, .b.refusal.missing, .a.refusal, .a_to_b.leaf, .a_to_b.subleaf, .b_to_a.refused_by]";

@@ -8,7 +8,7 @@ use crate::numbers::decimal;
 use crate::option::Opt;
 use crate::output;
 use crate::reasons::{self, Reason};
-use snp_cpuid::{Bit, Comparison, MOST_KVM_BYTES, NotPooled, Options, Origin, PAGE_BYTES, Processor, Refusal, Table};
+use snp_cpuid::{Bit, Comparison, KVM_PAGES_BYTES, MOST_KVM_BYTES, NotPooled, Options, Origin, PAGE_BYTES, Processor, Refusal, Table};
 use std::ffi::OsStr;
 use std::fmt::Display;
 
@@ -75,6 +75,21 @@ impl Building {
     /// Whether a guest of one server may move to another.
     pub fn compare(&self, from: &[u8], to: &[u8]) -> Comparison {
         snp_cpuid::compare(from, to, self.options)
+    }
+
+    /// Whether the table of one server is at least another's: the same question asked of pages that have the tables' own rows. Both must be accepted.
+    ///
+    /// Read as pages, a table's list for KVM gives that table again (document 02, P2), and its entries are the table's rows. So the answer is yes exactly
+    /// where the second table has every row of the first, at least its features, a save area no smaller, and everything else equal.
+    pub fn compare_tables(&self, from: &[u8], to: &[u8]) -> Result<Comparison, Refusal> {
+        Ok(self.compare(&self.rows_as_pages(from)?, &self.rows_as_pages(to)?))
+    }
+
+    fn rows_as_pages(&self, pages: &[u8]) -> Result<[u8; KVM_PAGES_BYTES], Refusal> {
+        let (mut list, mut rows) = ([0; MOST_KVM_BYTES], [0; KVM_PAGES_BYTES]);
+        let length = snp_cpuid::write_kvm(pages, self.options, &mut list)?;
+        snp_cpuid::read_kvm(&list[..length], &mut rows)?;
+        Ok(rows)
     }
 
     /// The table of a pool of servers.
