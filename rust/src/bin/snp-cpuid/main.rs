@@ -27,6 +27,7 @@ mod parse;
 mod print;
 mod processor;
 mod reasons;
+mod source;
 mod standing;
 mod suggest;
 mod topology;

@@ -6,20 +6,21 @@ use crate::command::Command;
 use crate::differences::{Difference, HTT, Tables, differences, lines};
 use crate::failure::Failure;
 use crate::features::{self, REGISTERS};
-use crate::input::{read, shown};
 use crate::json::{self, Json, array, hex, object};
 use crate::masks::kept;
 use crate::print::{place, place_json};
+use crate::source::compare_tables;
 use crate::standing::Standing;
 use crate::wrap::wrapped;
 use crate::{output, words};
 use snp_cpuid::{Comparison, Refusal, Register, Table};
 
-/// One of the two, under the name that the report gives it.
+/// One of the two, under the name that the report gives it: its pages, or the image of its table.
 struct Server {
     name: &'static str,
     file: String,
     pages: Vec<u8>,
+    is_image: bool,
     standing: Standing,
     table: Result<Table, Refusal>,
 }
@@ -33,7 +34,9 @@ impl Server {
     /// Its line under the answer.
     fn line(&self) -> String {
         let answer = match &self.table {
-            Ok(table) => format!("accepted, {}", words::counted(table.rows().count() as u32, "row")),
+            Ok(table) => {
+                format!("{}, {}", if self.is_image { "an image" } else { "accepted" }, words::counted(table.rows().count() as u32, "row"))
+            }
             Err(refusal) => told(*refusal),
         };
         wrapped(&format!("{}  ", self.name), &format!("{}: {answer}", self.file))
@@ -41,7 +44,8 @@ impl Server {
 
     fn json(&self, building: Building) -> Json {
         let refusal = self.table.as_ref().err().map(|refusal| refusal_json(*refusal, &building.reason(*refusal, &self.pages)));
-        object([("file", self.file.as_str().into()), ("accepted", self.table.is_ok().into()), ("refusal", refusal.into())])
+        let answer = [("accepted", self.table.is_ok().into()), ("image", self.is_image.into()), ("refusal", refusal.into())];
+        object([("file", self.file.as_str().into())]).with(answer)
     }
 }
 
@@ -64,7 +68,8 @@ equal in all others but D.0.ECX and the rows of leaf B. It can be said before B'
 and it promises that B's table is at least A's under either edition of the AVX rule. Entries may
 differ where a rule makes the tables agree. The library decides both by a proved function.
 
-Give the pages that the servers have, or both from dumps of the same kind: pages made from the text
+A or B may be an image: then its table is compared, and of entries nothing is said. Give the pages
+that the servers have, or both from dumps of the same kind: pages made from the text
 of to-dump hold what the table's rules have set and cleared, such as BTC_NO.
 ",
     status: "\
@@ -80,12 +85,15 @@ fn run(arguments: &Arguments) -> Result<(), Failure> {
     }
     let building = Building::of(arguments, COMMAND.name)?;
     let server = |name, place: usize| {
-        let pages = read(&arguments.operands[place])?;
-        let (table, standing) = (building.build(&pages), Standing::of(&pages));
-        Ok(Server { name, file: shown(&arguments.operands[place]), pages, standing, table })
+        let source = building.source(&arguments.operands[place])?;
+        let (table, standing) = (source.table(), Standing::of(&source.pages));
+        Ok(Server { name, file: source.file, is_image: source.image.is_some(), pages: source.pages, standing, table })
     };
     let (a, b): (Server, Server) = (server("A", 0)?, server("B", 1)?);
-    let tables = building.compare_tables(&a.pages, &b.pages).ok();
+    let tables = match (&a.table, &b.table) {
+        (Ok(from), Ok(to)) => Some(compare_tables(from, to)),
+        _ => None,
+    };
     let report = Report { tables, rises: Direction::new(&a, &b, building), falls: Direction::new(&b, &a, building), building };
     output::print(if building.json() { report.json().to_string() } else { report.text() })?;
     let refused = |server: &Server, refusal| {
@@ -154,8 +162,8 @@ impl Report<'_> {
 
     fn text(&self) -> String {
         let (a, b) = self.servers();
-        let edition = self.building.edition();
-        let mut text = wrapped("", &self.verdict()) + "\n" + &a.line() + &b.line() + &format!("under edition {edition} of the AVX rule\n\n");
+        let edition = self.edition().map_or(String::new(), |edition| format!("under edition {edition} of the AVX rule\n"));
+        let mut text = wrapped("", &self.verdict()) + "\n" + &a.line() + &b.line() + &edition + "\n";
         let all = self.differences();
         for (heading, blocks) in [("In the way from A to B:", true), ("Not in the way from A to B:", false)] {
             let lines = lines(&NAMES, all.iter().filter(|difference| difference.blocks() == blocks));
@@ -163,21 +171,31 @@ impl Report<'_> {
                 text += &format!("{heading}\n{lines}\n");
             }
         }
+        if a.is_image || b.is_image {
+            return text + "Of an image nobody knows the entries.\n";
+        }
         text + "By the entries, before the other table is built:\n" + &self.rises.told() + &self.falls.told()
+    }
+
+    /// The edition, where it made a table here.
+    fn edition(&self) -> Option<u32> {
+        let (a, b) = self.servers();
+        (!a.is_image || !b.is_image).then_some(self.building.edition())
     }
 
     fn json(&self) -> Json {
         let (a, b) = self.servers();
+        let direction = |direction: &Direction| if a.is_image || b.is_image { Json::Null } else { direction.json() };
         object([
             ("answer", self.answer().into()),
-            ("edition", self.building.edition().into()),
+            ("edition", self.edition().into()),
             ("equal", self.equal().into()),
             ("words", self.verdict().into()),
             ("a", a.json(self.building)),
             ("b", b.json(self.building)),
             ("differences", array(self.differences().iter().map(Difference::json))),
-            ("a_to_b", self.rises.json()),
-            ("b_to_a", self.falls.json()),
+            ("a_to_b", direction(&self.rises)),
+            ("b_to_a", direction(&self.falls)),
         ])
     }
 }
