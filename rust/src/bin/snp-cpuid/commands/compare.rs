@@ -39,7 +39,7 @@ impl Server {
             }
             Err(refusal) => told(*refusal),
         };
-        wrapped(&format!("{}  ", self.name), &format!("{}: {answer}", self.file))
+        format!("{}  {}: {answer}\n", self.name, self.file)
     }
 
     fn json(&self, building: Building) -> Json {
