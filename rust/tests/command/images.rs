@@ -166,6 +166,9 @@ fn tables_that_building_does_not_give() {
     let ran = run(&[&["guest", &changed], &processor[..]].concat());
     let why = format!("{changed}: no pages give the table of this image");
     assert_eq!((ran.status, ran.line()), (1, why.as_str()));
+    if let Some(read) = jq(&run(&["compare", &changed, EPYC, "--json"]).out, "[.answer, .file, .words]") {
+        assert_eq!(read, format!("[\"no\",\"{changed}\",\"no pages give the table of this image\"]"));
+    }
     for arguments in [["compare", &changed, EPYC], ["compare", EPYC, &changed], ["pool", EPYC, &changed], ["pool", &changed, EPYC]] {
         let ran = run(&arguments);
         assert_eq!((ran.status, ran.line()), (1, why.as_str()));
