@@ -4,6 +4,7 @@ use std::fs;
 use std::io::Write;
 use std::path::{Path, PathBuf};
 use std::process::{Command, Stdio};
+use std::sync::atomic::{AtomicUsize, Ordering};
 
 /// The shipped page set.
 pub const EPYC: &str = "../tests/epyc-milan.pages";
@@ -37,6 +38,7 @@ pub const READING: &[&[&str]] = &[
     &["compare", "PAGES", EPYC],
     &["compare", EPYC, "PAGES"],
     &["nearest", "PAGES"],
+    &["entries", "PAGES"],
 ];
 
 /// A run of these lists with its files.
@@ -62,17 +64,31 @@ impl Ran {
         std::str::from_utf8(&self.out).expect("text")
     }
 
-    /// The one line on standard error, without the command's name; nothing stands on standard output.
+    /// The line on standard error, without the command's name; nothing stands on standard output.
     pub fn line(&self) -> &str {
         assert!(self.out.is_empty(), "{self:?}");
-        let line = self.err.strip_suffix('\n').expect("a line");
-        assert!(!line.contains('\n'), "more than one line: {line}");
+        self.failure()
+    }
+
+    /// The first line on standard error, without the command's name; all others are notes.
+    pub fn failure(&self) -> &str {
+        let (line, notes) = self.err.split_once('\n').expect("a line");
+        assert!(notes.is_empty() || notes.ends_with('\n'));
+        assert!(notes.lines().all(|note| note.starts_with("snp-cpuid: note: ")), "more than one line: {}", self.err);
         line.strip_prefix("snp-cpuid: ").expect("the command names itself")
+    }
+
+    /// The notes on standard error.
+    pub fn notes(&self) -> Vec<&str> {
+        self.err.lines().filter_map(|line| line.strip_prefix("snp-cpuid: note: ")).collect()
     }
 }
 
 pub fn command() -> Command {
-    Command::new(env!("CARGO_BIN_EXE_snp-cpuid"))
+    let mut command = Command::new(env!("CARGO_BIN_EXE_snp-cpuid"));
+    // lines of the usual width, whatever terminal the tests run in
+    command.env_remove("COLUMNS");
+    command
 }
 
 /// Runs a command; no panic may show.
@@ -95,12 +111,14 @@ pub fn run_on(input: &[u8], arguments: &[&str]) -> Ran {
     Ran { status: output.status.code().expect("no signal"), out: output.stdout, err: String::from_utf8(output.stderr).expect("text") }
 }
 
-/// A new empty folder.
+/// A new empty folder, which no other test has.
 pub struct Folder(PathBuf);
 
 impl Folder {
     pub fn new(name: &str) -> Folder {
-        let path = Path::new(env!("CARGO_TARGET_TMPDIR")).join(name);
+        static MADE: AtomicUsize = AtomicUsize::new(0);
+        let number = MADE.fetch_add(1, Ordering::Relaxed);
+        let path = Path::new(env!("CARGO_TARGET_TMPDIR")).join(format!("{name}-{number}"));
         let _ = fs::remove_dir_all(&path);
         fs::create_dir_all(&path).expect("a folder");
         Folder(path)
@@ -121,5 +139,14 @@ impl Folder {
         let mut names: Vec<String> = fs::read_dir(&self.0).expect("read").map(|entry| entry.unwrap().file_name().into_string().unwrap()).collect();
         names.sort();
         names
+    }
+}
+
+/// Leaves nothing behind where the test passed.
+impl Drop for Folder {
+    fn drop(&mut self) {
+        if !std::thread::panicking() {
+            let _ = fs::remove_dir_all(&self.0);
+        }
     }
 }

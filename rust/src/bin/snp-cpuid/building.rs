@@ -1,12 +1,16 @@
-//! What every command that builds a table has in common: its options, the table of a file, and the words of a refusal.
+//! What every command that builds a table has in common: its options, the table of a file, and how a refusal is told.
 
 use crate::arguments::Arguments;
 use crate::failure::Failure;
 use crate::input::{read, shown};
+use crate::json::{self, Json, object};
 use crate::numbers::decimal;
 use crate::option::Opt;
 use crate::output;
-use snp_cpuid::{Bit, Comparison, MOST_KVM_BYTES, NotPooled, Options, Processor, Refusal, Table};
+use crate::reasons::{self, Reason};
+use crate::source::Source;
+pub use crate::source::image;
+use snp_cpuid::{Bit, Comparison, MOST_KVM_BYTES, NotPooled, Options, Origin, Processor, Refusal, Table};
 use std::ffi::OsStr;
 use std::fmt::Display;
 
@@ -27,6 +31,9 @@ pub const OPTIONS_BUT_EDITION: &[Opt] = &[SECURE_AVIC, LINE];
 pub struct Building {
     options: Options,
     line: bool,
+    json: bool,
+    /// whether an option was given that an image, whose table is made, cannot heed
+    of_pages: bool,
 }
 
 impl Building {
@@ -39,12 +46,27 @@ impl Building {
     pub fn by(edition: &Opt, arguments: &Arguments, command: &str) -> Result<Building, Failure> {
         let options = Options::new().secure_avic(arguments.has(&SECURE_AVIC));
         let options = self::edition(edition, arguments, command)?.map_or(options, |given| options.edition(given));
-        Ok(Building { options, line: arguments.has(&LINE) })
+        let (line, json) = (arguments.has(&LINE), json::asked(arguments));
+        if line && json {
+            return Err(Failure::usage(command, "--line and --json both go to standard output: the JSON of a refusal has its line"));
+        }
+        let of_pages = arguments.has(&EDITION) || arguments.has(&SECURE_AVIC);
+        Ok(Building { options, line, json, of_pages })
     }
 
     /// The edition of the AVX rule.
     pub fn edition(&self) -> u32 {
         self.options.edition
+    }
+
+    /// Whether the secure-AVIC bit is kept.
+    pub fn secure_avic(&self) -> bool {
+        self.options.secure_avic
+    }
+
+    /// Whether JSON was asked for.
+    pub fn json(&self) -> bool {
+        self.json
     }
 
     /// The table of pages.
@@ -58,7 +80,7 @@ impl Building {
     }
 
     /// The table of a pool of servers.
-    pub fn pool(&self, sets: &[Vec<u8>]) -> Result<Table, NotPooled> {
+    pub fn pool(&self, sets: &[impl AsRef<[u8]>]) -> Result<Table, NotPooled> {
         snp_cpuid::pool(sets, self.options)
     }
 
@@ -67,34 +89,92 @@ impl Building {
         snp_cpuid::nearest(pages, self.options)
     }
 
-    /// The list for KVM of a file of pages.
+    /// What a file gives. Pages are told by their length, a multiple of 4,096.
+    pub fn source(&self, file: &OsStr) -> Result<Source, Failure> {
+        let bytes = read(file)?;
+        let table = image(&bytes);
+        Ok(Source { file: shown(file), pages: bytes, image: table, options: self.options })
+    }
+
+    /// The same of one file, where no option was given that an image cannot heed.
+    fn heeding(&self, file: &OsStr) -> Result<Source, Failure> {
+        let source = self.source(file)?;
+        self.heeded_by(std::slice::from_ref(&source))?;
+        Ok(source)
+    }
+
+    /// Bad usage where an option was given that is for pages, and all files are images.
+    pub fn heeded_by(&self, sources: &[Source]) -> Result<(), Failure> {
+        match sources {
+            [first, ..] if self.of_pages && sources.iter().all(|source| source.image.is_some()) => {
+                Err(Failure::Bad(format!("{} is an image, whose table is made: --edition and --secure-avic are for pages", first.file)))
+            }
+            _ => Ok(()),
+        }
+    }
+
+    /// The list for KVM of a file.
     pub fn kvm_list(&self, file: &OsStr) -> Result<Vec<u8>, Failure> {
+        let source = self.heeding(file)?.into_pages(self)?;
         let mut list = vec![0; MOST_KVM_BYTES];
-        let length = snp_cpuid::write_kvm(&read(file)?, self.options, &mut list).map_err(|refusal| self.refused(shown(file), refusal))?;
-        list.truncate(length);
+        let written = snp_cpuid::write_kvm(&source.pages, source.options, &mut list);
+        list.truncate(written.map_err(|refusal| self.pages_refused(file, refusal, &source.pages))?);
         Ok(list)
     }
 
-    /// The table of a file of pages.
+    /// The table of a file.
     pub fn table(&self, file: &OsStr) -> Result<Table, Failure> {
-        self.build(&read(file)?).map_err(|refusal| self.refused(shown(file), refusal))
+        let source = self.heeding(file)?;
+        source.table().map_err(|refusal| self.pages_refused(file, refusal, &source.pages))
     }
 
-    /// The table of a file of pages as a processor's guest sees it; as the paravisor has it where no processor is given.
+    /// The table of a file as a processor's guest sees it; as the paravisor has it where no processor is given.
     pub fn seen(&self, file: &OsStr, processor: Option<Processor>) -> Result<Table, Failure> {
-        match processor {
-            None => self.table(file),
-            Some(processor) => snp_cpuid::guest(&read(file)?, self.options, processor).map_err(|refusal| self.refused(shown(file), refusal)),
+        let Some(processor) = processor else { return self.table(file) };
+        let source = self.heeding(file)?.into_pages(self)?;
+        let seen = snp_cpuid::guest(&source.pages, source.options, processor).map_err(|refusal| match source.table() {
+            Ok(table) => self.refused(shown(file), refusal, &reasons::of_guest(refusal, &table, processor.xcr0, processor.xss)),
+            Err(_) => self.pages_refused(file, refusal, &source.pages),
+        })?;
+        // the entries are those of pages made here, where the file is an image
+        Ok(if source.image.is_some() { Table::try_from(seen.image()).expect("a guest's table has an image") } else { seen })
+    }
+
+    /// Why a file of pages was refused.
+    pub fn reason(&self, refusal: Refusal, pages: &[u8]) -> Reason {
+        match refusal {
+            Refusal::UnknownEdition => reasons::of_edition(self.edition()),
+            _ => reasons::of_pages(refusal, pages),
         }
     }
 
-    /// The refusal of a page set in words; its line goes to standard output where that was asked for.
-    pub fn refused(&self, name: impl Display, refusal: Refusal) -> Failure {
-        match self.line.then(|| output::print(refusal.line())) {
-            Some(Err(failure)) => failure,
-            _ => Failure::No(format!("{name}: {}", told(refusal))),
-        }
+    /// The refusal of a file of pages.
+    pub fn pages_refused(&self, file: &OsStr, refusal: Refusal, pages: &[u8]) -> Failure {
+        self.refused(shown(file), refusal, &self.reason(refusal, pages))
     }
+
+    /// A refusal in words; its line, or its JSON, goes to standard output where that was asked for.
+    pub fn refused(&self, name: impl Display, refusal: Refusal, reason: &Reason) -> Failure {
+        let printed = if self.json { output::print(refused(&name.to_string(), refusal, reason).to_string()) } else { self.print_line(refusal) };
+        let failure = Failure::No { line: format!("{name}: {}", told(refusal)), notes: reason.notes() };
+        printed.err().unwrap_or(failure)
+    }
+
+    /// The refusal's line to standard output, where it was asked for.
+    pub fn print_line(&self, refusal: Refusal) -> Result<(), Failure> {
+        if self.line { output::print(refusal.line()) } else { Ok(()) }
+    }
+
+    /// The refusal's line after a report, where it was asked for, and the refusal in words.
+    pub fn refused_after_report(&self, name: impl Display, refusal: Refusal, reason: &Reason) -> Failure {
+        Building { json: false, ..*self }.refused(name, refusal, reason)
+    }
+}
+
+/// The edition under which a table was made here, for an object; null where it was read from an image.
+pub fn edition_json(table: &Table, edition: u32) -> Json {
+    let read = table.rows().any(|row| row.origin == Origin::Unknown);
+    (!read).then_some(edition).into()
 }
 
 /// The edition that an option gives; none where it is not given.
@@ -106,10 +186,27 @@ pub fn edition(option: &Opt, arguments: &Arguments, command: &str) -> Result<Opt
     arguments.value(option.name()).map(number).transpose()
 }
 
-/// A refusal's number, words, and what it carries. "Those not named are 0 or none" (document 01).
+/// A refusal's number and words, which name all that it carries.
 pub fn told(refusal: Refusal) -> String {
-    let carried = refusal.details();
-    let subleaf = carried.subleaf.map_or("none".into(), |subleaf| format!("{subleaf:X}"));
-    let details = format!("(leaf {:08X}, subleaf {subleaf}, s {})", carried.leaf, carried.s);
-    format!("refusal {}: {refusal} {details}", refusal.number())
+    format!("refusal {}: {refusal}", refusal.number())
+}
+
+/// The object of a refused file.
+pub fn refused(name: &str, refusal: Refusal, reason: &Reason) -> Json {
+    object([("answer", "refused".into()), ("file", name.into()), ("refusal", refusal_json(refusal, reason))])
+}
+
+/// A refusal as an object: its number, what it names beside that, its line and words, and the reason. What it does not name is null.
+pub fn refusal_json(refusal: Refusal, reason: &Reason) -> Json {
+    let (details, number) = (refusal.details(), refusal.number());
+    let line = refusal.line();
+    object([
+        ("number", number.into()),
+        ("leaf", if matches!(number, 3 | 17) { json::hex(details.leaf) } else { Json::Null }),
+        ("subleaf", details.subleaf.into()),
+        ("s", matches!(number, 6 | 7).then_some(u32::from(details.s)).into()),
+        ("line", line.trim_end().into()),
+        ("words", refusal.to_string().into()),
+    ])
+    .with(reason.json())
 }

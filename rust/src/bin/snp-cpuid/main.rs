@@ -5,6 +5,7 @@
 
 mod arguments;
 mod building;
+mod caches;
 mod command;
 mod commands;
 mod components;
@@ -14,7 +15,11 @@ mod features;
 mod fields;
 mod help;
 mod input;
+mod json;
+mod machine;
 mod manual;
+mod masks;
+mod meanings;
 mod numbers;
 mod option;
 mod output;
@@ -22,7 +27,12 @@ mod pages;
 mod parse;
 mod print;
 mod processor;
+mod reasons;
 mod shells;
+mod source;
+mod standing;
+mod suggest;
+mod topology;
 mod words;
 mod wrap;
 
@@ -36,7 +46,11 @@ const VERSION: &str = concat!("snp-cpuid ", env!("CARGO_PKG_VERSION"), "\n");
 /// The command of a name.
 fn command(name: &OsStr) -> Result<&'static Command, Failure> {
     let found = commands::ALL.iter().find(|command| name == command.name);
-    found.ok_or_else(|| Failure::Bad(format!("no command '{}' (see 'snp-cpuid --help')", input::shown(name))))
+    found.ok_or_else(|| {
+        let near = suggest::nearest(&name.to_string_lossy(), commands::ALL.iter().map(|command| command.name));
+        let meant = near.map_or(String::new(), |near| format!(", did you mean '{near}'?"));
+        Failure::Bad(format!("no command '{}'{meant} (see 'snp-cpuid --help')", input::shown(name)))
+    })
 }
 
 /// Does what the command line asks for, the program's own name left out.
@@ -65,7 +79,7 @@ fn main() -> ExitCode {
     match run(std::env::args_os().skip(1)) {
         Ok(()) => ExitCode::SUCCESS,
         Err(failure) => {
-            failure.line().into_iter().for_each(output::say);
+            failure.lines().iter().for_each(|line| output::say(line));
             ExitCode::from(failure.status())
         }
     }

@@ -1,8 +1,10 @@
 //! The commands: one file each, with its name, operands, options, help and `run`, and its line in the list.
 
+mod capture;
 mod carry;
 mod compare;
 mod completion;
+mod entries;
 mod explain;
 mod from_dump;
 mod from_kvm;
@@ -27,6 +29,7 @@ pub const ALL: &[Command] = &[
     lookup::COMMAND,
     guest::COMMAND,
     carry::COMMAND,
+    capture::COMMAND,
     from_dump::COMMAND,
     to_dump::COMMAND,
     from_kvm::COMMAND,
@@ -35,6 +38,7 @@ pub const ALL: &[Command] = &[
     pool::COMMAND,
     nearest::COMMAND,
     topologies::COMMAND,
+    entries::COMMAND,
     explain::COMMAND,
     completion::COMMAND,
     man::COMMAND,
