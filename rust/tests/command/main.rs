@@ -8,6 +8,8 @@ mod documents;
 mod dump;
 mod edition;
 mod guest;
+#[path = "json.rs"]
+mod json_text;
 mod kvm;
 mod lookup;
 mod names;
@@ -21,13 +23,22 @@ mod table;
 mod topologies;
 mod usage;
 
-// the command's own tables: names, and the rows that go into pages
+// the command's own tables and writers: names, the rows that go into pages, JSON
+#[allow(dead_code)]
+#[path = "../../src/bin/snp-cpuid/arguments.rs"]
+mod arguments;
 #[allow(dead_code)]
 #[path = "../../src/bin/snp-cpuid/features.rs"]
 mod features;
 #[allow(dead_code)]
 #[path = "../../src/bin/snp-cpuid/fields.rs"]
 mod fields;
+#[allow(dead_code)]
+#[path = "../../src/bin/snp-cpuid/json.rs"]
+mod json;
+#[allow(dead_code)]
+#[path = "../../src/bin/snp-cpuid/option.rs"]
+mod option;
 #[allow(dead_code)]
 #[path = "../../src/bin/snp-cpuid/pages.rs"]
 mod pages;

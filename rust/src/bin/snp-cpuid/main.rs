@@ -14,6 +14,8 @@ mod features;
 mod fields;
 mod help;
 mod input;
+#[allow(dead_code)]
+mod json;
 mod numbers;
 mod option;
 mod output;
