@@ -19,6 +19,9 @@ const LINE: Opt = Opt::flag(&["--line"], "where the pages are refused, print the
 /// The options of every command that builds under one edition.
 pub const OPTIONS: &[Opt] = &[SECURE_AVIC, EDITION, LINE];
 
+/// The options of one that goes on where pages are refused.
+pub const OPTIONS_BUT_LINE: &[Opt] = &[SECURE_AVIC, EDITION];
+
 /// The options of one that names its editions itself.
 pub const OPTIONS_BUT_EDITION: &[Opt] = &[SECURE_AVIC, LINE];
 
@@ -47,6 +50,11 @@ impl Building {
         self.options.edition
     }
 
+    /// Whether the secure-AVIC bit is kept.
+    pub fn secure_avic(&self) -> bool {
+        self.options.secure_avic
+    }
+
     /// The table of pages.
     pub fn build(&self, pages: &[u8]) -> Result<Table, Refusal> {
         snp_cpuid::build(pages, self.options)
@@ -58,7 +66,7 @@ impl Building {
     }
 
     /// The table of a pool of servers.
-    pub fn pool(&self, sets: &[Vec<u8>]) -> Result<Table, NotPooled> {
+    pub fn pool(&self, sets: &[impl AsRef<[u8]>]) -> Result<Table, NotPooled> {
         snp_cpuid::pool(sets, self.options)
     }
 

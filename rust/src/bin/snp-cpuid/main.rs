@@ -12,12 +12,14 @@ mod differences;
 mod failure;
 mod features;
 mod fields;
+mod fleet;
 mod help;
 mod input;
 #[allow(dead_code)]
 mod json;
 mod numbers;
 mod option;
+mod order;
 mod output;
 mod pages;
 mod parse;

@@ -3,7 +3,8 @@
 mod carry;
 mod compare;
 mod explain;
-mod from_dump;
+mod fleet;
+pub mod from_dump;
 mod from_kvm;
 mod guest;
 mod image;
@@ -31,6 +32,7 @@ pub const ALL: &[Command] = &[
     to_kvm::COMMAND,
     compare::COMMAND,
     pool::COMMAND,
+    fleet::COMMAND,
     nearest::COMMAND,
     topologies::COMMAND,
     explain::COMMAND,

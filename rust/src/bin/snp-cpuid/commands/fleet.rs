@@ -1,0 +1,49 @@
+//! `fleet`: any number of servers at a glance.
+
+use crate::arguments::Arguments;
+use crate::building::{self, Building};
+use crate::command::Command;
+use crate::failure::Failure;
+use crate::fleet::{Fleet, data, source, text};
+use crate::{json, output};
+
+pub const COMMAND: Command = Command {
+    name: "fleet",
+    operands: &["PAGES.."],
+    options: &[&[json::OPTION], building::OPTIONS_BUT_LINE],
+    summary: "tell which of any number of servers are alike, and where a guest may go",
+    about: "\
+Tells of any number of servers which are accepted, which give a guest the same table, and where a
+guest may go. PAGES is a file of CPUID pages, an image that 'image' or 'pool' wrote, a list for KVM,
+or the text of 'cpuid -r', told apart by what it holds; or a folder, whose files and folders are
+read, but for hidden ones. The report has:
+
+  classes    servers that give one table; a class is a letter and a number, A1
+  groups     the letter: classes that differ in features only; no guest leaves its group
+  moves      from a class to those whose table has every row of its own, at least its features, a
+             save area no smaller and all else equal; elsewhere, what stands in the way
+  pools      the greatest sets of classes for which 'pool' makes one table, and what each costs
+  features   those that some classes have and some have not
+  refused    servers without a table, by the reason
+
+The order of moves is that of tables. 'compare' of two page sets asks more, as its promise holds
+before the other server is built; a note names the moves that it does not promise.
+",
+    status: "\
+Exit status: 0 where every server is accepted, 1 where one is refused or its file holds nothing that
+can be read as pages, 2 bad usage, a file that cannot be opened, or no file at all.
+",
+    run,
+};
+
+fn run(arguments: &Arguments) -> Result<(), Failure> {
+    let building = Building::of(arguments, COMMAND.name)?;
+    let sources = source::sources(&arguments.operands, &building)?;
+    let fleet = Fleet::of(sources, building);
+    if json::asked(arguments) {
+        output::print(data::of(&fleet).to_string())?;
+    } else {
+        output::print(text::of(&fleet))?;
+    }
+    if fleet.accepted() == fleet.servers.len() { Ok(()) } else { Err(Failure::AnswerNo) }
+}

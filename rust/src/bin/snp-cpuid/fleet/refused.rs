@@ -1,0 +1,46 @@
+//! Servers without a table, those of one reason together.
+
+use super::{Answer, Server};
+use crate::building::Building;
+use snp_cpuid::Refusal;
+use std::collections::BTreeMap;
+
+/// Servers that have no table for one reason.
+pub struct Refused {
+    /// the places of the servers
+    pub servers: Vec<usize>,
+    /// the refusal; none where the file gives no pages
+    pub refusal: Option<Refusal>,
+    pub told: Told,
+}
+
+/// The reason in words.
+#[derive(PartialEq, Eq, PartialOrd, Ord)]
+pub struct Told {
+    /// the refusal's number, or 0
+    pub number: u32,
+    /// the refusal
+    pub words: String,
+    /// the numbers that it rests on
+    pub numbers: String,
+    /// what would be accepted
+    pub change: String,
+}
+
+/// The servers without a table, in the order of the refusals' numbers and words.
+pub fn together(servers: &[Server], building: &Building) -> Vec<Refused> {
+    let mut reasons: BTreeMap<Told, (Vec<usize>, Option<Refusal>)> = BTreeMap::new();
+    for (place, server) in servers.iter().enumerate() {
+        let (told, refusal) = match &server.answer {
+            Answer::Class(_) => continue,
+            Answer::Refused(refusal) => (told(*refusal, server.pages(), building), Some(*refusal)),
+            Answer::Unread(why) => (Told { number: 0, words: why.clone(), numbers: String::new(), change: String::new() }, None),
+        };
+        reasons.entry(told).or_insert((vec![], refusal)).0.push(place);
+    }
+    reasons.into_iter().map(|(told, (servers, refusal))| Refused { servers, refusal, told }).collect()
+}
+
+fn told(refusal: Refusal, _pages: &[u8], _building: &Building) -> Told {
+    Told { number: refusal.number(), words: refusal.to_string(), numbers: String::new(), change: String::new() }
+}

@@ -1,0 +1,151 @@
+//! The files of a fleet, each by its content: CPUID pages, a table's image, a list for KVM, or the text of a dump.
+
+use crate::building::Building;
+use crate::commands::from_dump;
+use crate::failure::Failure;
+use crate::input::{read, reason, shown};
+use crate::pages::{Entry, read_by_table, two_pages};
+use snp_cpuid::{KVM_PAGES_BYTES, PAGE_BYTES, read_kvm};
+use std::collections::HashSet;
+use std::ffi::{OsStr, OsString};
+use std::fs;
+use std::path::Path;
+
+/// What a file holds.
+#[derive(Clone, Copy, Debug, PartialEq, Eq)]
+pub enum Kind {
+    Pages,
+    Image,
+    List,
+    Dump,
+}
+
+impl Kind {
+    pub fn name(self) -> &'static str {
+        match self {
+            Kind::Pages => "pages",
+            Kind::Image => "image",
+            Kind::List => "list",
+            Kind::Dump => "dump",
+        }
+    }
+}
+
+/// One server's file: its short name, the file as it was given, what it holds, and its pages or why there are none.
+pub struct Source {
+    pub name: String,
+    pub file: String,
+    pub kind: Kind,
+    pub pages: Result<Vec<u8>, String>,
+}
+
+/// The files that are given, and those below the folders that are given, in the order of their names.
+pub fn sources(operands: &[OsString], building: &Building) -> Result<Vec<Source>, Failure> {
+    let mut files = vec![];
+    for operand in operands {
+        walk(operand, &mut files)?;
+    }
+    if files.is_empty() {
+        return Err(Failure::Bad(format!("{}: no file in it", shown(&operands[0]))));
+    }
+    files.sort();
+    let names = short_names(&files.iter().map(|file| shown(file)).collect::<Vec<_>>());
+    let source = |(file, name): (&OsString, String)| {
+        let bytes = read(file)?;
+        let kind = kind(&bytes);
+        Ok(Source { name, file: shown(file), kind, pages: pages(kind, bytes, building) })
+    };
+    files.iter().zip(names).map(source).collect()
+}
+
+/// A file, or those of a folder and of the folders in it; hidden ones, whose names begin with a dot, are left out.
+fn walk(name: &OsStr, files: &mut Vec<OsString>) -> Result<(), Failure> {
+    let fail = |error| Failure::Bad(format!("{}: {}", shown(name), reason(&error)));
+    if name == "-" || !Path::new(name).is_dir() {
+        files.push(name.to_os_string());
+        return Ok(());
+    }
+    for entry in fs::read_dir(name).map_err(fail)? {
+        let entry = entry.map_err(fail)?;
+        if !entry.file_name().as_encoded_bytes().starts_with(b".") {
+            walk(entry.path().as_os_str(), files)?;
+        }
+    }
+    Ok(())
+}
+
+/// The names by which a report calls the files: without folder and usual ending where no two are alike then, without folder alone, or as they are.
+fn short_names(files: &[String]) -> Vec<String> {
+    let bare = |file: &String| file.rsplit('/').next().unwrap_or(file).to_string();
+    let stem = |file: &String| {
+        let bare = bare(file);
+        let ends = [".pages", ".image", ".list", ".dump", ".txt", ".bin"];
+        ends.iter().find_map(|end| bare.strip_suffix(end)).filter(|stem| !stem.is_empty()).unwrap_or(&bare).to_string()
+    };
+    let unlike = |names: &Vec<String>| names.iter().collect::<HashSet<_>>().len() == files.len();
+    let stems: Vec<String> = files.iter().map(stem).collect();
+    let bares: Vec<String> = files.iter().map(bare).collect();
+    [stems, bares].into_iter().find(unlike).unwrap_or_else(|| files.to_vec())
+}
+
+/// Text has no zero byte, and a page always has one: its count is at most 64. An image and a list have their rows to the last byte.
+fn kind(bytes: &[u8]) -> Kind {
+    if !bytes.is_empty() && !bytes.contains(&0) {
+        Kind::Dump
+    } else if bytes.len().is_multiple_of(PAGE_BYTES) {
+        Kind::Pages
+    } else if image_rows(bytes).is_some() {
+        Kind::Image
+    } else if word(bytes, 0).is_some_and(|count| bytes.len() as u64 == 8 + 40 * u64::from(count)) {
+        Kind::List
+    } else {
+        Kind::Pages
+    }
+}
+
+fn word(bytes: &[u8], at: usize) -> Option<u32> {
+    Some(u32::from_le_bytes(*bytes.get(at..)?.first_chunk()?))
+}
+
+/// The rows of an image: for each byte 1, leaf and four registers, or byte 2, leaf, subleaf and the four.
+fn image_rows(mut bytes: &[u8]) -> Option<Vec<Entry>> {
+    let mut rows = vec![];
+    while let Some((&kind, rest)) = bytes.split_first() {
+        let numbers = match kind {
+            1 => 5,
+            2 => 6,
+            _ => return None,
+        };
+        let number = |index: usize| word(rest, 4 * index);
+        let registers = [number(numbers - 4)?, number(numbers - 3)?, number(numbers - 2)?, number(numbers - 1)?];
+        rows.push(Entry { leaf: number(0)?, subleaf: if kind == 2 { number(1)? } else { 0 }, registers });
+        bytes = &rest[4 * numbers..];
+    }
+    Some(rows)
+}
+
+/// The pages of a file's bytes.
+fn pages(kind: Kind, bytes: Vec<u8>, building: &Building) -> Result<Vec<u8>, String> {
+    match kind {
+        Kind::Pages => Ok(bytes),
+        Kind::Dump => from_dump::taken(&bytes).map(|taken| taken.pages),
+        Kind::List => {
+            let mut pages = vec![0; KVM_PAGES_BYTES];
+            read_kvm(&bytes, &mut pages).map_err(|refusal| refusal.to_string())?;
+            Ok(pages)
+        }
+        Kind::Image => {
+            let pages = pages_of_rows(image_rows(&bytes).unwrap_or_default())?;
+            // an image is a table under the choices that made it: building from its rows gives it again
+            if building.build(&pages).is_ok_and(|table| table.image() == bytes) { Ok(pages) } else { Err(OTHER_CHOICES.into()) }
+        }
+    }
+}
+
+const OTHER_CHOICES: &str = "building from its rows does not give this image again: it is damaged, or made with another --edition or --secure-avic";
+
+/// Pages with the rows of a table, but for those that no page gives.
+pub fn pages_of_rows(rows: impl IntoIterator<Item = Entry>) -> Result<Vec<u8>, String> {
+    let rows: Vec<Entry> = rows.into_iter().filter(|row| read_by_table(row.leaf, row.subleaf)).collect();
+    two_pages(&rows)
+}
