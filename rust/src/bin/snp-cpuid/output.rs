@@ -61,7 +61,7 @@ pub fn print(data: impl AsRef<[u8]>) -> Result<(), Failure> {
 }
 
 /// Bytes to a file, or to standard output for `-`.
-fn to_file(name: &OsStr, bytes: &[u8]) -> Result<(), Failure> {
+pub fn to_file(name: &OsStr, bytes: &[u8]) -> Result<(), Failure> {
     if name == "-" {
         return print(bytes);
     }

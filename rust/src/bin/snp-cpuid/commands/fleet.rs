@@ -4,13 +4,21 @@ use crate::arguments::Arguments;
 use crate::building::{self, Building};
 use crate::command::Command;
 use crate::failure::Failure;
-use crate::fleet::{Fleet, data, source, text};
+use crate::fleet::{Fleet, data, page, source, text};
+use crate::option::{Opt, Value};
 use crate::{json, output};
+
+const HTML: Opt = Opt {
+    names: &["--html"],
+    value: Value::File("FILE"),
+    required: false,
+    help: "write the report as a page for a browser too: one file, which loads nothing",
+};
 
 pub const COMMAND: Command = Command {
     name: "fleet",
     operands: &["PAGES.."],
-    options: &[&[json::OPTION], building::OPTIONS_BUT_LINE],
+    options: &[&[HTML, json::OPTION], building::OPTIONS_BUT_LINE],
     summary: "tell which of any number of servers are alike, and where a guest may go",
     about: "\
 Tells of any number of servers which are accepted, which give a guest the same table, and where a
@@ -40,9 +48,12 @@ fn run(arguments: &Arguments) -> Result<(), Failure> {
     let building = Building::of(arguments, COMMAND.name)?;
     let sources = source::sources(&arguments.operands, &building)?;
     let fleet = Fleet::of(sources, building);
+    if let Some(file) = arguments.value(HTML.name()) {
+        output::to_file(file, page::of(&fleet).as_bytes())?;
+    }
     if json::asked(arguments) {
         output::print(data::of(&fleet).to_string())?;
-    } else {
+    } else if arguments.value(HTML.name()).is_none_or(|file| file != "-") {
         output::print(text::of(&fleet))?;
     }
     if fleet.accepted() == fleet.servers.len() { Ok(()) } else { Err(Failure::AnswerNo) }

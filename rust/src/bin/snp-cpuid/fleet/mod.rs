@@ -5,6 +5,7 @@ pub mod data;
 mod differing;
 mod groups;
 mod moves;
+pub mod page;
 mod pools;
 mod refused;
 pub mod source;

@@ -9,8 +9,6 @@ use std::collections::BTreeMap;
 pub struct Refused {
     /// the places of the servers
     pub servers: Vec<usize>,
-    /// the refusal; none where the file gives no pages
-    pub refusal: Option<Refusal>,
     pub told: Told,
 }
 
@@ -29,16 +27,16 @@ pub struct Told {
 
 /// The servers without a table, in the order of the refusals' numbers and words.
 pub fn together(servers: &[Server], building: &Building) -> Vec<Refused> {
-    let mut reasons: BTreeMap<Told, (Vec<usize>, Option<Refusal>)> = BTreeMap::new();
+    let mut reasons: BTreeMap<Told, Vec<usize>> = BTreeMap::new();
     for (place, server) in servers.iter().enumerate() {
-        let (told, refusal) = match &server.answer {
+        let told = match &server.answer {
             Answer::Class(_) => continue,
-            Answer::Refused(refusal) => (told(*refusal, server.pages(), building), Some(*refusal)),
-            Answer::Unread(why) => (Told { number: 0, words: why.clone(), numbers: String::new(), change: String::new() }, None),
+            Answer::Refused(refusal) => told(*refusal, server.pages(), building),
+            Answer::Unread(why) => Told { number: 0, words: why.clone(), numbers: String::new(), change: String::new() },
         };
-        reasons.entry(told).or_insert((vec![], refusal)).0.push(place);
+        reasons.entry(told).or_default().push(place);
     }
-    reasons.into_iter().map(|(told, (servers, refusal))| Refused { servers, refusal, told }).collect()
+    reasons.into_iter().map(|(told, servers)| Refused { servers, told }).collect()
 }
 
 fn told(refusal: Refusal, _pages: &[u8], _building: &Building) -> Told {
