@@ -107,7 +107,11 @@ const TABLE: &[Line] = &[
     Line {
         number: 7,
         name: |d| Refusal::TopologyInconsistent(TopologyError::ProcessorCount(d.s)),
-        words: |d| format!("1.EBX and 80000008h.ECX give different processor counts (APIC core id size {})", d.s),
+        words: |d| match d.s {
+            0 => "1.EBX bits 16-23 must be 80000008h.ECX bits 0-7 plus 1 (APIC core id size 0)".into(),
+            s @ 1..8 => format!("1.EBX bits 16-23 must be 2^{s} = {}, and 80000008h.ECX bits 0-7 plus 1 no more (APIC core id size {s})", 1 << s),
+            s => format!("the processor counts of 1.EBX and 80000008h.ECX disagree (APIC core id size {s})"),
+        },
     },
     Line {
         number: 8,

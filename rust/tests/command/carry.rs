@@ -64,7 +64,6 @@ fn large() -> Entries {
 fn refusals_in_their_order() {
     let folder = Folder::new("carry_refused");
     let (out, pages) = (folder.path("out"), folder.file("pages", set(&large())));
-    let none = "(leaf 00000000, subleaf none, s 0)";
     let words = [
         (13, "XCR0 lacks bit 0 (x87) or has a bit that D.0.EAX lacks, or XSS has a bit that D.1.ECX lacks"),
         (14, "the size of the compacted save area of XCR0 and XSS (D.1.EBX) does not fit 32 bits"),
@@ -87,12 +86,12 @@ fn refusals_in_their_order() {
         let arguments = ["--from", from, "--to", to, "--xcr0", xcr0, "--xss", "0"];
         let (ran, written) = carried(&pages, &out, &arguments);
         let (_, why) = words.into_iter().find(|(told, _)| *told == number).unwrap();
-        assert_eq!((ran.status, ran.line()), (1, format!("{pages}: refusal {number}: {why} {none}").as_str()));
+        assert_eq!((ran.status, ran.line()), (1, format!("{pages}: refusal {number}: {why}").as_str()));
         assert_eq!(written, None);
         let (line, written) = carried(&pages, &out, &[&arguments[..], &["--line"]].concat());
         assert_eq!((line.status, line.text(), &line.err), (1, format!("{number}\n").as_str(), &ran.err));
         assert_eq!(written, None);
-        assert_eq!(run(&["explain", &number.to_string()]).text(), format!("refusal {number}: {why} {none}\n"));
+        assert!(run(&["explain", &number.to_string()]).text().starts_with(&format!("refusal {number}: {why}\n\n")));
     }
 }
 

@@ -9,40 +9,58 @@ use std::fs;
 fn compare(folder: &Folder, a: &[u8], b: &[u8], flags: &[&str]) -> Ran {
     let (a, b) = (folder.file("a", a), folder.file("b", b));
     let ran = run(&[&["compare", &a, &b], flags].concat());
-    assert!(ran.text().starts_with(&format!("A  {a}\nB  {b}\nunder edition 1 of the AVX rule\n\n")));
-    assert!(ran.text().lines().skip(4).all(|line| line.len() <= 100 && line.is_ascii() && !line.ends_with(' ')));
+    let (verdict, rest) = ran.text().split_once("\n\n").expect("the answer comes first");
+    assert!(verdict.starts_with(if ran.status == 0 { "yes: " } else { "no: " }), "{verdict}");
+    let (servers, rest) = rest.split_once("\n\n").expect("the two servers");
+    assert!(servers.starts_with(&format!("A  {a}: ")) && servers.contains(&format!("\nB  {b}: ")), "{servers}");
+    assert!(servers.ends_with("\nunder edition 1 of the AVX rule"), "{servers}");
+    assert!(verdict.lines().chain(rest.lines()).all(|line| line.len() <= 100 && line.is_ascii() && !line.ends_with(' ')));
     ran
 }
 
-/// The verdict, the differences, and the two directions, each on one line.
-fn parts(ran: &Ran) -> (String, Vec<String>, String, String) {
-    let mut blocks: Vec<&str> = ran.text().trim_end().split("\n\n").skip(1).collect();
-    let directions = blocks.pop().expect("two directions").replace("\n        ", " ");
-    let (there, back) = directions.split_once('\n').expect("two directions");
-    let verdict = blocks.remove(0).to_string();
-    (verdict, blocks.iter().flat_map(|block| block.lines()).map(String::from).collect(), there.into(), back.into())
+/// The verdict, the differences in the way and those that are not, and the two directions, each on one line.
+#[derive(Debug, PartialEq, Eq)]
+struct Parts {
+    verdict: String,
+    in_the_way: Vec<String>,
+    free: Vec<String>,
+    there: String,
+    back: String,
 }
 
-/// What the theorem promises, with what came of it.
-fn yes(from: &str, to: &str, here: &str) -> String {
-    format!(
-        "{from} to {to}  yes: {to} is refused only by 3, for a leaf Dh subleaf that its own mask needs and that has no entry, or by 5 ({here}); \
-         accepted, its table has every row of {from}'s, at least {from}'s bits in every feature register, a save area no smaller, and every \
-         other register equal."
-    )
+fn parts(ran: &Ran) -> Parts {
+    let blocks: Vec<&str> = ran.text().trim_end().split("\n\n").collect();
+    let directions = blocks.last().expect("two directions").replace("\n        ", " ");
+    let (there, back) = directions.split_once('\n').expect("two directions");
+    let under = |heading: &str| {
+        let block = blocks.iter().find_map(|block| block.strip_prefix(&format!("{heading} from A to B:\n")));
+        block.map_or(vec![], |block| block.lines().map(String::from).collect())
+    };
+    let verdict = blocks[0].replace('\n', " ");
+    Parts { verdict, in_the_way: under("In the way"), free: under("Not in the way"), there: there.into(), back: back.into() }
+}
+
+/// What the table of the one has where the library says yes.
+fn promise(from: &str, to: &str) -> String {
+    format!("{to}'s table has every row of {from}'s, at least {from}'s features, a save area no smaller, and everything else equal.")
+}
+
+fn yes(from: &str, to: &str) -> String {
+    format!("{from} to {to}  yes: {}", promise(from, to))
 }
 
 fn no(from: &str, to: &str, why: &str) -> String {
-    format!("{from} to {to}  no: {why}, so nothing is promised.")
+    format!("{from} to {to}  no: {why}.")
 }
 
-/// The first place where the hypothesis fails, of two sets that have their entries in the same places.
-fn fails_at(from: &str, to: &str, place: &str, register: &str, at: &str) -> String {
-    format!("the hypothesis fails first at leaf {place} {register}, in {from}'s {at} and {to}'s {at}")
+/// A feature bit that goes, of two sets that have their entries in the same places.
+fn lacks(from: &str, to: &str, name: &str, place: &str, bit: u32, at: &str) -> String {
+    format!("{to} lacks {name}, leaf {place} bit {bit}: {from} has it at {at}, {to} has not at {at}")
 }
 
-const ACCEPTED: &str = "it is accepted here";
-const BOTH_WAYS: &str = "The tables are equal, as they must be where each server is at least the other.";
+const MAY: &str = "yes: a guest of A may move to B. ";
+const MAY_NOT: &str = "no: a guest of A may not move to B. ";
+const EQUAL: &str = "yes: a guest of A may move to B. The tables are equal: B's has every row of A's, with the same registers.";
 
 fn texts(lines: &[&str]) -> Vec<String> {
     lines.iter().map(|line| line.to_string()).collect()
@@ -53,10 +71,10 @@ fn a_set_and_itself() {
     let folder = Folder::new("compare_same");
     let ran = compare(&folder, &set(&epyc()), &set(&epyc()), &[]);
     assert_eq!((ran.status, ran.err.as_str()), (0, ""));
-    assert_eq!(parts(&ran), (BOTH_WAYS.into(), vec![], yes("A", "B", ACCEPTED), yes("B", "A", ACCEPTED)));
+    assert_eq!(parts(&ran), Parts { verdict: EQUAL.into(), in_the_way: vec![], free: vec![], there: yes("A", "B"), back: yes("B", "A") });
     let pages = fs::read(EPYC).unwrap();
     let piped = run_on(&pages, &["compare", "-", EPYC]);
-    assert!(piped.text().starts_with(&format!("A  standard input\nB  {EPYC}\nunder edition 1 of the AVX rule\n\n{BOTH_WAYS}\n")));
+    assert!(piped.text().contains(&format!("\nA  standard input: accepted, 29 rows\nB  {EPYC}: accepted, 29 rows\n")), "{}", piped.text());
 }
 
 #[test]
@@ -67,16 +85,29 @@ fn one_bit_fewer() {
     let falls = compare(&folder, &full, &less, &[]);
     assert_eq!((falls.status, falls.err.as_str()), (1, ""));
     let at = position(&full, 1, 0);
-    let (entries, here) = (format!("00000001    A {at}, B {at}"), "00000001    ECX  FMA (bit 12): A has it, B has not");
-    let first = |from, to| fails_at(from, to, "00000001", "ECX", &at);
-    assert_eq!(parts(&falls), ("A is at least B.".into(), texts(&[&entries, here]), no("A", "B", &first("A", "B")), yes("B", "A", ACCEPTED)));
+    let entries = format!("00000001    A {at}, B {at}");
+    let first = |from, to| lacks(from, to, "FMA", "00000001 ECX", 12, &at);
+    let expected = Parts {
+        verdict: format!("{MAY_NOT}{}.", first("A", "B")),
+        in_the_way: texts(&[&entries, "00000001    ECX  FMA (bit 12): A has it, B has not"]),
+        free: vec![],
+        there: no("A", "B", &first("A", "B")),
+        back: yes("B", "A"),
+    };
+    assert_eq!(parts(&falls), expected);
     let rises = compare(&folder, &less, &full, &[]);
     assert_eq!((rises.status, rises.err.as_str()), (0, ""));
-    let here = "00000001    ECX  FMA (bit 12): B has it, A has not";
-    assert_eq!(parts(&rises), ("B is at least A.".into(), texts(&[&entries, here]), yes("A", "B", ACCEPTED), no("B", "A", &first("B", "A"))));
+    let expected = Parts {
+        verdict: format!("{MAY}{}", promise("A", "B")),
+        in_the_way: vec![],
+        free: texts(&[&entries, "00000001    ECX  FMA (bit 12): B has it, A has not"]),
+        there: yes("A", "B"),
+        back: no("B", "A", &first("B", "A")),
+    };
+    assert_eq!(parts(&rises), expected);
 }
 
-/// Every feature bit that a server may lack: fewer in a register of demand 3 is "A is at least B", and the bit is named.
+/// Every feature bit that a server may lack stands in the way and is named; the other way round nothing does.
 #[test]
 fn every_feature_bit_by_name() {
     let folder = Folder::new("compare_every_bit");
@@ -88,9 +119,13 @@ fn every_feature_bit_by_name() {
             let mut less = rich();
             less.get_mut(&(f.leaf, f.subleaf.unwrap_or(0))).unwrap()[f.register] &= !(1 << bit);
             let ran = compare(&folder, &set(&rich()), &set(&less), &["--secure-avic"]);
-            let (verdict, lines, ..) = parts(&ran);
-            assert_eq!((ran.status, verdict.as_str()), (1, "A is at least B."), "{name}");
+            let Parts { verdict, in_the_way: lines, free, back, .. } = parts(&ran);
+            assert_eq!((ran.status, free, back), (1, vec![], yes("B", "A")), "{name}");
             let place = f.subleaf.map_or(format!("{:08X}", f.leaf), |k| format!("{:08X}.{k:X}", f.leaf));
+            // the answer names the bit
+            let at = position(&set(&rich()), f.leaf, f.subleaf.unwrap_or(0));
+            let first = lacks("A", "B", name, &format!("{place} {}", REGISTERS[f.register]), *bit, &at);
+            assert_eq!(verdict, format!("{MAY_NOT}{first}."));
             let line = format!("{place:12}{}  {name} (bit {bit}): A has it, B has not", REGISTERS[f.register]);
             assert!(lines.contains(&line), "{line}: {lines:?}");
             // with it go the features that hang on it: IBRS and STIBP on IBPB, in the same row, RDTSCP and RDPID on the TSC_AUX bit, in two others; a
@@ -101,7 +136,6 @@ fn every_feature_bit_by_name() {
                 _ => 1 + 1,
             };
             assert_eq!(lines.len(), differ, "{lines:?}");
-            let at = position(&set(&rich()), f.leaf, f.subleaf.unwrap_or(0));
             assert!(lines.contains(&format!("{place:12}A {at}, B {at}")), "{lines:?}");
             tried += 1;
         }
@@ -119,8 +153,8 @@ fn bits_of_states() {
         less.remove(&(0xD, entry));
     }
     let ran = compare(&folder, &set(&less), &set(&rich()), &[]);
-    let (verdict, lines, ..) = parts(&ran);
-    assert_eq!((ran.status, verdict.as_str()), (0, "B is at least A."));
+    let Parts { verdict, in_the_way, free: lines, .. } = parts(&ran);
+    assert_eq!((ran.status, verdict, in_the_way), (0, format!("{MAY}{}", promise("A", "B")), vec![]));
     for line in [
         "00000007.0  EBX  AVX512F (bit 16): B has it, A has not",
         "00000007.0  EDX  AVX512_FP16 (bit 23): B has it, A has not",
@@ -133,14 +167,13 @@ fn bits_of_states() {
         "0000000D.5  a row of B alone, page 1 entry 3",
         "0000000D.6  a row of B alone, page 1 entry 4",
         "0000000D.7  a row of B alone, page 1 entry 5",
-        "combined mask    A 00001807, B 000018E7",
     ] {
         assert!(lines.contains(&line.to_string()), "{line}: {lines:?}");
     }
     // document 01: 7.0.EBX D0230000h, 7.0.ECX 5842h, 7.0.EDX 800100h
     let cleared = [0xD023_0000u32, 0x5842, 0x80_0100].map(u32::count_ones).iter().sum::<u32>() as usize;
-    // and the entries of 7.0 and D.0
-    assert_eq!(lines.len(), cleared + 8 + 2);
+    // and the entries of 7.0 and D.0; three states, their rows, and a larger save area
+    assert_eq!(lines.len(), cleared + 7 + 2);
 }
 
 /// Every register that is no feature register must be equal; D.0.ECX and the rows of leaf Bh are free.
@@ -156,14 +189,24 @@ fn other_registers_by_value() {
     ] {
         let ran = compare(&folder, &set(&epyc()), &set(&with(leaf, subleaf, register, |value| value ^ 1)), &[]);
         let (place, at) = (line.split(' ').next().unwrap(), position(&set(&epyc()), leaf, subleaf));
-        let first = |from, to| no(from, to, &fails_at(from, to, place, REGISTERS[register], &at));
-        let verdict = "Neither is at least the other by its entries.".to_string();
+        let (a, b) = line.split_once("  A ").unwrap().1.split_once(", B ").unwrap();
+        let first = |from, to, own: &str, other: &str| {
+            let register = REGISTERS[register];
+            format!("leaf {place} {register} must be equal: {from} has {own} at {at}, {to} {other} at {at}, first unlike at bit 0")
+        };
         assert_eq!((ran.status, ran.err.as_str()), (1, ""));
-        assert_eq!(parts(&ran), (verdict, texts(&[&format!("{place:12}A {at}, B {at}"), line]), first("A", "B"), first("B", "A")));
+        let expected = Parts {
+            verdict: format!("{MAY_NOT}L{}.", &first("A", "B", a, b)[1..]),
+            in_the_way: texts(&[&format!("{place:12}A {at}, B {at}"), line]),
+            free: vec![],
+            there: no("A", "B", &first("A", "B", a, b)),
+            back: no("B", "A", &first("B", "A", b, a)),
+        };
+        assert_eq!(parts(&ran), expected);
     }
     for (leaf, subleaf, register) in [(0xB, 0, 0), (0xB, 1, 3), (0xD, 0, 2)] {
         let ran = compare(&folder, &set(&epyc()), &set(&with(leaf, subleaf, register, |value| value ^ 1)), &[]);
-        assert_eq!((ran.status, parts(&ran).0.as_str()), (0, BOTH_WAYS));
+        assert_eq!((ran.status, parts(&ran).verdict.as_str()), (0, EQUAL));
     }
 }
 
@@ -177,12 +220,15 @@ fn hyperthreading_must_be_equal() {
         set(&entries)
     });
     let ran = compare(&folder, &sets[0], &sets[1], &[]);
-    let (verdict, lines, there, back) = parts(&ran);
-    assert_eq!((ran.status, verdict.as_str()), (1, "Neither is at least the other by its entries."));
+    let Parts { in_the_way, free, there, back, .. } = parts(&ran);
     let at = position(&sets[0], 1, 0);
-    assert_eq!(lines, [&format!("00000001    A {at}, B {at}"), "00000001    EDX  HTT (bit 28): A has it, B has not"]);
-    let first = |from, to| no(from, to, &fails_at(from, to, "00000001", "EDX", &at));
-    assert_eq!((there, back), (first("A", "B"), first("B", "A")));
+    assert_eq!((ran.status, free), (1, vec![]));
+    assert_eq!(in_the_way, [&format!("00000001    A {at}, B {at}"), "00000001    EDX  HTT (bit 28): A has it, B has not"]);
+    let more = format!("A has HTT, leaf 00000001 EDX bit 28, at {at}, which B has not at {at}, and it must be equal");
+    assert_eq!((there, back), (no("A", "B", &lacks("A", "B", "HTT", "00000001 EDX", 28, &at)), no("B", "A", &more)));
+    // in the way from either side
+    let turned = parts(&compare(&folder, &sets[1], &sets[0], &[]));
+    assert_eq!((turned.in_the_way.len(), turned.free), (2, vec![]));
 }
 
 #[test]
@@ -190,27 +236,28 @@ fn secure_avic_is_compared_where_it_is_kept() {
     let folder = Folder::new("compare_avic");
     let mut less = rich();
     less.get_mut(&(0x8000_001F, 0)).unwrap()[0] &= !(1 << 26);
-    assert_eq!(parts(&compare(&folder, &set(&rich()), &set(&less), &[])).0, BOTH_WAYS);
+    assert_eq!(parts(&compare(&folder, &set(&rich()), &set(&less), &[])).verdict, EQUAL);
     let at = position(&set(&rich()), 0x8000_001F, 0);
-    let first = |from, to| no(from, to, &fails_at(from, to, "8000001F", "EAX", &at));
+    let first = |from, to| no(from, to, &lacks(from, to, "SecureAvic", "8000001F EAX", 26, &at));
     let entries = format!("8000001F    A {at}, B {at}");
     let falls = parts(&compare(&folder, &set(&rich()), &set(&less), &["--secure-avic"]));
-    let line = "8000001F    EAX  SecureAvic (bit 26): A has it, B has not";
-    assert_eq!(falls, ("A is at least B.".into(), texts(&[&entries, line]), first("A", "B"), yes("B", "A", ACCEPTED)));
+    assert_eq!(falls.in_the_way, texts(&[&entries, "8000001F    EAX  SecureAvic (bit 26): A has it, B has not"]));
+    assert_eq!((falls.there, falls.back), (first("A", "B"), yes("B", "A")));
     let rises = parts(&compare(&folder, &set(&less), &set(&rich()), &["--secure-avic"]));
-    let line = "8000001F    EAX  SecureAvic (bit 26): B has it, A has not";
-    assert_eq!(rises, ("B is at least A.".into(), texts(&[&entries, line]), yes("A", "B", ACCEPTED), first("B", "A")));
+    assert_eq!(rises.free, texts(&[&entries, "8000001F    EAX  SecureAvic (bit 26): B has it, A has not"]));
+    assert_eq!((rises.there, rises.back), (yes("A", "B"), first("B", "A")));
 }
 
-/// Tables that agree where the entries do not: AVX512F without its states is cleared. Equal tables are status 0, and nothing is promised.
+/// Tables that agree where the entries do not: AVX512F without its states is cleared. Equal tables are yes; by the entries alone it is no.
 #[test]
 fn equal_tables_of_different_entries() {
     let folder = Folder::new("compare_entries");
     let more = set(&with(0x7, 0, 1, |ebx| ebx | 1 << 16));
     let ran = compare(&folder, &more, &set(&epyc()), &[]);
-    let first = fails_at("A", "B", "00000007.0", "EBX", &position(&more, 7, 0)) + ", which the tables do not show";
+    let first = lacks("A", "B", "AVX512F", "00000007.0 EBX", 16, &position(&more, 7, 0)) + ", which the tables do not show";
     assert_eq!(ran.status, 0);
-    assert_eq!(parts(&ran), ("The tables are equal.".into(), vec![], no("A", "B", &first), yes("B", "A", ACCEPTED)));
+    let expected = Parts { verdict: EQUAL.into(), in_the_way: vec![], free: vec![], there: no("A", "B", &first), back: yes("B", "A") };
+    assert_eq!(parts(&ran), expected);
 }
 
 /// Document 02, P11: the two entries are named by their own places, and it is the first of B's that counts. Rows that are made here have none.
@@ -224,18 +271,19 @@ fn entries_in_other_places() {
     let moved = [page([]), page(state.into_iter().chain(fifth)), page(others.into_iter().rev())].concat();
     let ran = compare(&folder, &set(&one), &moved, &[]);
     let entries = format!("A {}, B page 1 entry {state_count}", position(&set(&one), 5, 0));
-    let (_, lines, there, back) = parts(&ran);
-    assert_eq!(lines, [&format!("00000005    {entries}"), "00000005    EAX  A 00000040, B 00000041"]);
-    let first = "the hypothesis fails first at leaf 00000005 EAX, in ";
-    let (a, b) = (format!("A's {}", position(&set(&one), 5, 0)), format!("B's page 1 entry {state_count}"));
-    assert_eq!((there, back), (no("A", "B", &format!("{first}{a} and {b}")), no("B", "A", &format!("{first}{b} and {a}"))));
+    let Parts { in_the_way, there, back, .. } = parts(&ran);
+    assert_eq!(in_the_way, [&format!("00000005    {entries}"), "00000005    EAX  A 00000040, B 00000041"]);
+    let (a, b) = (position(&set(&one), 5, 0), format!("page 1 entry {state_count}"));
+    let first = |from, own, to, other| format!("leaf 00000005 EAX must be equal: {from} has {own}, {to} {other}, first unlike at bit 0");
+    assert_eq!(there, no("A", "B", &first("A", format!("00000040 at {a}"), "B", format!("00000041 at {b}"))));
+    assert_eq!(back, no("B", "A", &first("B", format!("00000041 at {b}"), "A", format!("00000040 at {a}"))));
 
     let three = |t| {
         let mut entries = epyc();
         topology(&mut entries, 7, 127, 128, 1, t);
         set(&entries)
     };
-    let (_, lines, ..) = parts(&compare(&folder, &three(0), &three(1), &[]));
+    let lines = parts(&compare(&folder, &three(0), &three(1), &[])).in_the_way;
     assert_eq!(lines[..3], ["0000000B.0  made here", "0000000B.0  EAX  A 00000000, B 00000001", "0000000B.0  EBX  A 00000001, B 00000002"]);
 }
 
@@ -250,34 +298,39 @@ fn refused_sets_are_status_1_with_the_refusal() {
     for (b, number) in [(missing, 3), (large, 5)] {
         let ran = compare(&folder, &set(&epyc()), &set(&b), &[]);
         assert_eq!(ran.status, 1);
-        assert!(ran.err.starts_with(&format!("snp-cpuid: {}: refusal {number}: ", folder.path("b"))) && ran.err.lines().count() == 1, "{}", ran.err);
-        let (verdict, lines, there, back) = parts(&ran);
-        assert_eq!((verdict.as_str(), lines), ("B is refused.", vec![]));
-        assert_eq!(there, yes("A", "B", &format!("it is refused here, by {number}")));
-        assert_eq!(back, no("B", "A", &format!("B is refused, by {number}")));
+        assert!(ran.failure().starts_with(&format!("{}: refusal {number}: ", folder.path("b"))), "{}", ran.err);
+        let expected = Parts {
+            verdict: format!("no: B is refused, by {number}."),
+            in_the_way: vec![],
+            free: vec![],
+            there: format!("A to B  B has at least A's entries, but B is refused, by {number}, which only a state that A lacks can cause."),
+            back: no("B", "A", &format!("B is refused, by {number}")),
+        };
+        assert_eq!(parts(&ran), expected);
     }
     let mut counted = set(&epyc());
     counted[0] = 65;
     for (b, why) in [
-        (vec![], "{to}'s length or counts are not lawful, refusal 1"),
-        (counted, "{to}'s length or counts are not lawful, refusal 2"),
-        (unclean(&without(0x5, 0), 1, 0, 3), "{to}'s entry for leaf 0000000D has a reserved byte that is not zero, refusal 17"),
+        (vec![], "{to}'s pages cannot be read: refusal 1"),
+        (counted, "{to}'s pages cannot be read: refusal 2"),
+        (unclean(&without(0x5, 0), 1, 0, 3), "{to}'s pages cannot be read: refusal 17"),
         (set(&without(0x5, 0)), "{to} has no entry for leaf 00000005, which {from} has at {5}"),
         (set(&without(0x8000_001D, 2)), "{to} has no entry for leaf 8000001D.2, which {from} has at {1D}"),
-        (set(&with(0x8000_0008, 0, 1, |ebx| ebx & !8)), "the hypothesis fails first at leaf 80000008 EBX, in {from}'s {8} and {to}'s {8}"),
+        (set(&with(0x8000_0008, 0, 1, |ebx| ebx & !8)), "{to} lacks INVLPGB, leaf 80000008 EBX bit 3: {from} has it at {8}, {to} has not at {8}"),
     ] {
         let places = [("{5}", 0x5, 0), ("{1D}", 0x8000_001D, 2), ("{8}", 0x8000_0008, 0)];
         let at = |text: &str, (name, leaf, subleaf): (&str, u32, u32)| text.replace(name, &position(&set(&epyc()), leaf, subleaf));
         let why = places.into_iter().fold(why.to_string(), |text, place| at(&text, place));
         let ran = compare(&folder, &set(&epyc()), &b, &[]);
-        assert_eq!((ran.status, parts(&ran).0.as_str()), (1, "B is refused."));
-        assert_eq!(parts(&ran).2, no("A", "B", &why.replace("{from}", "A").replace("{to}", "B")));
+        assert_eq!((ran.status, parts(&ran).verdict.starts_with("no: B is refused, by ")), (1, true));
+        assert_eq!(parts(&ran).there, no("A", "B", &why.replace("{from}", "A").replace("{to}", "B")));
         // the other way round A is refused, and its line comes
         let turned = compare(&folder, &b, &set(&epyc()), &[]);
-        assert_eq!((turned.status, parts(&turned).0.as_str()), (1, "A is refused."));
-        assert!(turned.err.starts_with(&format!("snp-cpuid: {}: refusal ", folder.path("a"))) && turned.err.lines().count() == 1);
-        assert_eq!(parts(&turned).3, no("B", "A", &why.replace("{from}", "B").replace("{to}", "A")));
+        assert_eq!((turned.status, parts(&turned).verdict.ends_with(", so it has no guest.")), (1, true));
+        assert!(turned.failure().starts_with(&format!("{}: refusal ", folder.path("a"))));
+        assert_eq!(parts(&turned).back, no("B", "A", &why.replace("{from}", "B").replace("{to}", "A")));
     }
     let both = compare(&folder, &[], &[], &[]);
-    assert_eq!((both.status, parts(&both).0.as_str(), both.err.lines().count()), (1, "A and B are refused.", 1));
+    assert_eq!((both.status, parts(&both).verdict.as_str()), (1, "no: A is refused, by 1, and B, by 1."));
+    assert!(both.failure().starts_with(&format!("{}: refusal 1: ", folder.path("a"))));
 }

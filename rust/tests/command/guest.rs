@@ -46,17 +46,24 @@ fn lookup_takes_the_same_options() {
         assert_eq!(run(&with(&["lookup", EPYC, leaf], &own)), run(&["lookup", EPYC, leaf]));
     }
     let absent = run(&with(&["lookup", EPYC, "D.9"], PROCESSOR));
-    assert_eq!((absent.status, absent.line()), (1, "leaf 0000000D.9 is not in the table: leaf 0000000D has subleaves 0, 1, 2, B, C"));
+    assert_eq!((absent.status, absent.line()), (3, "leaf 0000000D.9 is not in the table: leaf 0000000D has subleaves 0, 1, 2, B, C"));
 }
 
 #[test]
 fn refusal_13() {
-    let why = "XCR0 lacks bit 0 (x87) or has a bit that D.0.EAX lacks, or XSS has a bit that D.1.ECX lacks (leaf 00000000, subleaf none, s 0)";
-    for (xcr0, xss) in [("6", "0"), ("E7", "0"), ("100000007", "0"), ("7", "2000"), ("7", "0x8000000000000800")] {
+    let why = "XCR0 lacks bit 0 (x87) or has a bit that D.0.EAX lacks, or XSS has a bit that D.1.ECX lacks";
+    for (xcr0, xss, numbers_told, change) in [
+        ("6", "0", "XCR0 6 lacks bit 0 (x87)", "XCR0 7 and XSS 0"),
+        ("E7", "0", "XCR0 E7 has bits 5 (opmask), 6 (ZMM_Hi256), 7 (Hi16_ZMM) beyond D.0.EAX 7", "XCR0 7 and XSS 0"),
+        ("100000007", "0", "XCR0 100000007 has bit 32 beyond D.0.EAX 7", "XCR0 7 and XSS 0"),
+        ("7", "2000", "XSS 2000 has bit 13 beyond the table's XSS 1800", "XCR0 7 and XSS 0"),
+        ("7", "0x8000000000000800", "XSS 8000000000000800 has bit 63 beyond the table's XSS 1800", "XCR0 7 and XSS 800"),
+    ] {
         let numbers = ["--apic", "0", "--xcr0", xcr0, "--xss", xss];
         for start in [&["guest", EPYC][..], &["lookup", EPYC, "1"]] {
             let ran = run(&with(start, &numbers));
             assert_eq!((ran.status, ran.line()), (1, format!("{EPYC}: refusal 13: {why}").as_str()));
+            assert_eq!(ran.notes(), [numbers_told, &format!("accepted with {change}")]);
         }
     }
 }

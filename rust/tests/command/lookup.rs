@@ -20,7 +20,11 @@ fn found() {
         (&["1.0"], one),
         (&["0x1.0x9"], one),
         (&["1.ffffffff"], one),
+        (&["1h"], one),
+        (&["00000001H.5h"], one),
         (&["d.b"], state),
+        (&["Dh.Bh"], state),
+        (&["Dh.0xb"], state),
         (&["0xD.0xB", "--enforce"], state),
         (&["D.0B"], state),
         (&["8000001d.3"], "8000001D.3  0003C163 03C0003F 00007FFF 00000001"),
@@ -41,18 +45,33 @@ fn the_words_are_those_of_the_table() {
     assert!(row.contains("\n    EBX  CLZERO InstRetCntMsr "));
 }
 
+/// A leaf with subleaves that is asked for without one: all its rows, as the table has them.
+#[test]
+fn all_rows_of_a_leaf() {
+    let table = run(&["table", EPYC, "--origins"]);
+    for (leaf, name, rows) in
+        [("D", "0000000D", 5), ("Dh", "0000000D", 5), ("0xb", "0000000B", 2), ("8000001Dh", "8000001D", 4), ("7", "00000007", 1)]
+    {
+        let ran = run(&["lookup", EPYC, leaf, "--origins"]);
+        assert_eq!((ran.status, ran.err.as_str()), (0, ""));
+        let (heading, found) = ran.text().split_once('\n').unwrap();
+        assert!(table.text().starts_with(heading) && table.text().contains(found), "{found}");
+        assert_eq!(found.lines().filter(|line| line.starts_with(name)).count(), rows);
+        assert_eq!(found.lines().filter(|line| !line.starts_with(' ')).count(), rows);
+    }
+}
+
 #[test]
 fn not_found() {
     for (arguments, line) in [
         (&["6"][..], "leaf 00000006 is not in the table"),
         (&["40000000.1"], "leaf 40000000.1 is not in the table"),
         (&["1.0", "--enforce"], "leaf 00000001.0 is not in the table: leaf 00000001 has no subleaves"),
-        (&["D"], "leaf 0000000D must be asked for by subleaf: leaf 0000000D has subleaves 0, 1, 2, B, C"),
         (&["D", "--enforce"], "leaf 0000000D must be asked for by subleaf: leaf 0000000D has subleaves 0, 1, 2, B, C"),
         (&["D.9"], "leaf 0000000D.9 is not in the table: leaf 0000000D has subleaves 0, 1, 2, B, C"),
         (&["7.1"], "leaf 00000007.1 is not in the table: leaf 00000007 has subleaves 0"),
     ] {
         let ran = run(&[&["lookup", EPYC], arguments].concat());
-        assert_eq!((ran.status, ran.line()), (1, line));
+        assert_eq!((ran.status, ran.line()), (3, line));
     }
 }

@@ -12,6 +12,8 @@ mod guest;
 mod json_text;
 mod kvm;
 mod lookup;
+#[path = "masks.rs"]
+mod masks_held;
 mod names;
 mod nearest;
 mod origins;
@@ -36,6 +38,9 @@ mod fields;
 #[allow(dead_code)]
 #[path = "../../src/bin/snp-cpuid/json.rs"]
 mod json;
+#[allow(dead_code)]
+#[path = "../../src/bin/snp-cpuid/masks.rs"]
+mod masks;
 #[allow(dead_code)]
 #[path = "../../src/bin/snp-cpuid/option.rs"]
 mod option;

@@ -3,7 +3,7 @@
 use crate::page_sets::{Entries, page, rich, set, topology, unclean, with, without};
 use crate::run::{EPYC, Folder, run};
 
-const INVLPGB_GONE: &str = "refusal 4: INVLPGB (80000008h.EBX bit 3) is required but unavailable (leaf 00000000, subleaf none, s 0)";
+const INVLPGB_GONE: &str = "refusal 4: INVLPGB (80000008h.EBX bit 3) is required but unavailable";
 
 /// What is printed, where a bit decides.
 fn told(pages: &[u8], words: &[&str]) -> String {
@@ -41,7 +41,6 @@ fn names_of_features_and_fields() {
     assert!(text.starts_with("page 1, entry 0, EAX bit 2\nleaf 0000000D.0 EAX bit 2, AVX: set\n\n"), "{text}");
     assert!(text.contains("\n00000001    ECX  AVX (bit 28): as it stands has it, flipped has not\n"), "{text}");
     assert!(text.contains("\n0000000D.2  a row of as it stands alone\n"), "{text}");
-    assert!(text.ends_with("\ncombined mask    as it stands 000018E7, flipped 000018E3\n"), "{text}");
     // 8000001Fh.EAX bit 0
     let text = told(&led_by(&rich(), 0x8000_001F, 0), &[]);
     assert!(text.starts_with("page 1, entry 0, EAX bit 0\nleaf 8000001F EAX bit 0, SME: set\n\n"), "{text}");
@@ -85,7 +84,7 @@ fn no_bit() {
         let file = folder.file("pages", pages);
         let ran = run(&[&["nearest", &file, "--line"], words].concat());
         assert_eq!((ran.status, ran.text()), (1, line));
-        assert!(ran.err.contains(said) && ran.err.lines().count() == 1, "{}", ran.err);
+        assert!(ran.failure().contains(said), "{}", ran.err);
     }
 }
 

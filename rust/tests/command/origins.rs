@@ -62,7 +62,7 @@ fn the_row_that_was_found() {
     assert_eq!(rows(&["lookup", EPYC, "1.9"]), [("00000001".to_string(), "page 0 entry 1".to_string())]);
     assert_eq!(rows(&["lookup", EPYC, "0.1"]), [("00000000".to_string(), "made here".to_string())]);
     let ran = run(&["lookup", EPYC, "D.5", "--origins"]);
-    assert_eq!((ran.status, ran.out.len()), (1, 0));
+    assert_eq!((ran.status, ran.out.len()), (3, 0));
 }
 
 /// P2: after reading a list the origins are those of the two pages that were read.

@@ -1,47 +1,55 @@
 //! Every refusal that a page set can have: its line, its status, and nothing written.
 
+use crate::json_text::jq;
 use crate::page_sets::{epyc, set, unclean, with, without};
 use crate::run::{BUILDING, EPYC, Folder, run, run_on, with_files};
 use std::fs;
 
-/// Page sets with the number, leaf, subleaf and s that document 01 gives them.
+/// Page sets with the number, leaf, subleaf and s that document 01 gives them, as JSON has them.
 fn cases() -> Vec<(Vec<u8>, &'static str, &'static str)> {
     let shipped = set(&epyc());
     let mut counted = shipped.clone();
     counted[4096] = 65;
     vec![
-        (vec![], "1", "(leaf 00000000, subleaf none, s 0)"),
-        (shipped[1..].to_vec(), "1", "(leaf 00000000, subleaf none, s 0)"),
-        (counted, "2", "(leaf 00000000, subleaf none, s 0)"),
-        (set(&without(0x8000_001A, 0)), "3", "(leaf 8000001A, subleaf none, s 0)"),
-        (set(&without(0x8000_001D, 3)), "3", "(leaf 8000001D, subleaf 3, s 0)"),
-        (set(&without(0xD, 11)), "3", "(leaf 0000000D, subleaf B, s 0)"),
-        (set(&with(0x8000_0008, 0, 1, |ebx| ebx & !8)), "4", "(leaf 00000000, subleaf none, s 0)"),
-        (set(&with(0xD, 2, 0, |_| u32::MAX)), "5", "(leaf 00000000, subleaf none, s 0)"),
+        (vec![], "1", "[null,null,null]"),
+        (shipped[1..].to_vec(), "1", "[null,null,null]"),
+        (counted, "2", "[null,null,null]"),
+        (set(&without(0x8000_001A, 0)), "3", r#"["8000001A",null,null]"#),
+        (set(&without(0x8000_001D, 3)), "3", r#"["8000001D",3,null]"#),
+        (set(&without(0xD, 11)), "3", r#"["0000000D",11,null]"#),
+        (set(&with(0x8000_0008, 0, 1, |ebx| ebx & !8)), "4", "[null,null,null]"),
+        (set(&with(0xD, 2, 0, |_| u32::MAX)), "5", "[null,null,null]"),
         // T7: s = 7, no hyperthreading
-        (set(&with(0x1, 0, 3, |edx| edx & !(1 << 28))), "6", "(leaf 00000000, subleaf none, s 7)"),
+        (set(&with(0x1, 0, 3, |edx| edx & !(1 << 28))), "6", "[null,null,7]"),
         // T6: more processors than 2^s
-        (set(&with(0x8000_0008, 0, 2, |ecx| ecx | 0x80)), "7", "(leaf 00000000, subleaf none, s 7)"),
-        (set(&with(0x8000_001E, 0, 1, |ebx| ebx | 0xFF00)), "8", "(leaf 00000000, subleaf none, s 0)"),
+        (set(&with(0x8000_0008, 0, 2, |ecx| ecx | 0x80)), "7", "[null,null,7]"),
+        (set(&with(0x8000_001E, 0, 1, |ebx| ebx | 0xFF00)), "8", "[null,null,null]"),
         // leaf 0, which no table reads, and the second entry of leaf Dh; leaf 1 is missing besides
-        (unclean(&epyc(), 0, 0, 0), "17", "(leaf 00000000, subleaf none, s 0)"),
-        (unclean(&without(0x1, 0), 1, 1, 7), "17", "(leaf 0000000D, subleaf none, s 0)"),
+        (unclean(&epyc(), 0, 0, 0), "17", r#"["00000000",null,null]"#),
+        (unclean(&without(0x1, 0), 1, 1, 7), "17", r#"["0000000D",null,null]"#),
     ]
 }
 
 #[test]
-fn each_is_one_line_with_all_it_carries() {
+fn each_is_one_line_and_its_notes() {
     let folder = Folder::new("refusals");
     for (pages, number, carries) in cases() {
         let file = folder.file("pages", &pages);
         let ran = run(&["table", &file]);
         assert_eq!(ran.status, 1);
-        let line = ran.line();
-        assert!(line.starts_with(&format!("{file}: refusal {number}: ")), "{line}");
-        assert!(line.ends_with(carries), "{line}");
+        assert!(ran.line().starts_with(&format!("{file}: refusal {number}: ")), "{}", ran.err);
+        // the numbers behind it, and what would be accepted
+        assert!(ran.notes().len() == 2 && ran.notes()[1].starts_with("accepted with "), "{}", ran.err);
+        assert!(!ran.err.contains("none"), "nothing is said of what is not named: {}", ran.err);
         // every command that builds says the same
         for arguments in BUILDING {
             assert_eq!(run(&with_files(arguments, &file, &folder.path("out"))), ran);
+        }
+        // JSON says all that it carries, and standard error is as before
+        let told = run(&["table", &file, "--json"]);
+        assert_eq!((told.status, &told.err), (1, &ran.err));
+        if let Some(read) = jq(&told.out, "[.answer, .refusal.number, (.refusal | [.leaf, .subleaf, .s])]") {
+            assert_eq!(read, format!("[\"refused\",{number},{carries}]"));
         }
     }
 }
@@ -68,7 +76,8 @@ fn each_has_a_line_on_standard_output() {
             // and back into the words of the refusal
             let explained = run(&["explain", expected.trim_end()]);
             assert_eq!((explained.status, explained.err.as_str()), (0, ""));
-            assert_eq!(format!("snp-cpuid: {file}: {}", explained.text()), ran.err);
+            let words = explained.text().lines().next().unwrap();
+            assert_eq!(format!("{file}: {words}"), ran.failure());
             assert_eq!(run_on(expected.as_bytes(), &["explain", "-"]), explained);
         }
     }
@@ -92,7 +101,7 @@ fn compare_gives_the_line_after_its_report() {
 #[test]
 fn what_is_no_line_is_not_explained() {
     for line in
-        ["", "0", "01", "21", "17", "17 0000000D 0", "3", "3 0000000d", "3 0000000D 02", "3  0000000D", "6", "6 256", "1 ", " 1", "1\n", "1\r", "one"]
+        ["", "0", "01", "21", "17 0000000D 0", "3 0000000d", "3 0000000D 02", "3  0000000D", "6 256", "07", "+7", "1 ", " 1", "1\n", "1\r", "one"]
     {
         let ran = run(&["explain", line]);
         assert_eq!((ran.status, ran.line().ends_with(": no such line")), (1, true), "{line:?}");
@@ -100,6 +109,29 @@ fn what_is_no_line_is_not_explained() {
     for input in ["1", "1\n\n", "1\r\n", ""] {
         assert_eq!(run_on(input.as_bytes(), &["explain", "-"]).line(), "standard input: no such line", "{input:?}");
     }
+}
+
+/// A number alone has its meaning, whether or not it is a line too; each of the twenty has one of its own.
+#[test]
+fn a_number_is_explained_in_general() {
+    let mut meanings = std::collections::BTreeSet::new();
+    for number in 1..=20 {
+        let ran = run(&["explain", &number.to_string()]);
+        assert_eq!((ran.status, ran.err.as_str()), (0, ""));
+        let (first, meaning) = ran.text().split_once("\n\n").unwrap();
+        let is_line = ![3, 6, 7, 17].contains(&number);
+        assert_eq!(first.starts_with(&format!("refusal {number}: ")), is_line, "{first}");
+        assert!(is_line || first == format!("refusal {number}"));
+        assert!(ran.text().lines().skip(1).all(|line| line.len() <= 100 && line.is_ascii()));
+        meanings.insert(meaning.to_string());
+        if let Some(read) = jq(&run(&["explain", &number.to_string(), "--json"]).out, "[.number, (.meaning | length), .refusal.number]") {
+            let length = meaning.replace('\n', " ").trim_end().len();
+            assert_eq!(read, format!("[{number},{length},{}]", if is_line { number.to_string() } else { "null".into() }));
+        }
+    }
+    assert_eq!(meanings.len(), 20);
+    let line = run(&["explain", "7 6"]);
+    assert!(line.text().starts_with("refusal 7: the topology leaves disagree: 1.EBX bits 16-23 must be 2^6 = 64, and "), "{}", line.text());
 }
 
 #[test]
@@ -122,7 +154,7 @@ fn nothing_is_written() {
 fn the_words_of_a_missing_state_name_the_page() {
     let folder = Folder::new("refusal_words");
     let file = folder.file("pages", set(&without(0xD, 2)));
-    let words = "refusal 3: no entry for leaf Dh subleaf 2h on page 1, where the entries of Dh must stand (leaf 0000000D, subleaf 2, s 0)";
+    let words = "refusal 3: no entry for leaf Dh subleaf 2h on page 1, where the entries of Dh must stand";
     assert_eq!(run(&["table", &file]).line(), format!("{file}: {words}"));
 }
 

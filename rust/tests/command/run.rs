@@ -37,6 +37,7 @@ pub const READING: &[&[&str]] = &[
     &["compare", "PAGES", EPYC],
     &["compare", EPYC, "PAGES"],
     &["nearest", "PAGES"],
+    &["entries", "PAGES"],
 ];
 
 /// A run of these lists with its files.
@@ -62,12 +63,23 @@ impl Ran {
         std::str::from_utf8(&self.out).expect("text")
     }
 
-    /// The one line on standard error, without the command's name; nothing stands on standard output.
+    /// The line on standard error, without the command's name; nothing stands on standard output.
     pub fn line(&self) -> &str {
         assert!(self.out.is_empty(), "{self:?}");
-        let line = self.err.strip_suffix('\n').expect("a line");
-        assert!(!line.contains('\n'), "more than one line: {line}");
+        self.failure()
+    }
+
+    /// The first line on standard error, without the command's name; all others are notes.
+    pub fn failure(&self) -> &str {
+        let (line, notes) = self.err.split_once('\n').expect("a line");
+        assert!(notes.is_empty() || notes.ends_with('\n'));
+        assert!(notes.lines().all(|note| note.starts_with("snp-cpuid: note: ")), "more than one line: {}", self.err);
         line.strip_prefix("snp-cpuid: ").expect("the command names itself")
+    }
+
+    /// The notes on standard error.
+    pub fn notes(&self) -> Vec<&str> {
+        self.err.lines().filter_map(|line| line.strip_prefix("snp-cpuid: note: ")).collect()
     }
 }
 

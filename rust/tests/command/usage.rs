@@ -56,7 +56,7 @@ const SHARED: [&str; 3] = [
 #[test]
 fn shared_options_are_told_alike() {
     for name in commands() {
-        let builds = ["compare", "nearest"].contains(&name.as_str()) || BUILDING.iter().any(|run| run[0] == name);
+        let builds = ["compare", "nearest", "entries"].contains(&name.as_str()) || BUILDING.iter().any(|run| run[0] == name);
         let ran = run(&[name.as_str(), "--help"]);
         for told in SHARED {
             let (option, _) = told.split_once(' ').unwrap();
@@ -82,7 +82,7 @@ fn bad_usage_is_status_2_and_one_line() {
         (&["image", EPYC, "-o"], "-o needs a file name"),
         (&["image", EPYC, "-o", "a", "-o", "b"], "-o is given twice"),
         (&["lookup", EPYC], "LEAF[.SUB] is missing"),
-        (&["lookup", EPYC, "80000008h"], "'80000008h' is no LEAF[.SUB]"),
+        (&["lookup", EPYC, "80000008hh"], "'80000008hh' is no LEAF[.SUB]"),
         (&["from-dump", EPYC], "-o FILE is missing"),
         (&["from-dump", EPYC, "-o", "x", "--secure-avic"], "no option '--secure-avic'"),
         (&["compare", EPYC], "B is missing"),
@@ -101,7 +101,7 @@ fn bad_usage_is_status_2_and_one_line() {
 
 #[test]
 fn numbers_that_are_none() {
-    for wrong in ["", ".", "1.", ".1", "0x", "g", "-1", "+1", "1.2.3", "100000000", "1.-1", "0x1.+2", "D,1"] {
+    for wrong in ["", ".", "1.", ".1", "0x", "g", "-1", "+1", "1.2.3", "h", "1.h", "0x1h", "100000000", "1.-1", "0x1.+2", "D,1"] {
         let ran = run(&["lookup", EPYC, "--", wrong]);
         assert_eq!(ran.status, 2, "{wrong}");
         assert!(ran.line().contains("LEAF[.SUB]"));

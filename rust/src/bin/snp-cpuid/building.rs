@@ -1,11 +1,13 @@
-//! What every command that builds a table has in common: its options, the table of a file, and the words of a refusal.
+//! What every command that builds a table has in common: its options, the table of a file, and how a refusal is told.
 
 use crate::arguments::Arguments;
 use crate::failure::Failure;
 use crate::input::{read, shown};
+use crate::json::{self, Json, object};
 use crate::numbers::decimal;
 use crate::option::Opt;
 use crate::output;
+use crate::reasons::{self, Reason};
 use snp_cpuid::{Bit, Comparison, MOST_KVM_BYTES, NotPooled, Options, Processor, Refusal, Table};
 use std::ffi::OsStr;
 use std::fmt::Display;
@@ -30,6 +32,7 @@ pub const OPTIONS_BUT_EDITION: &[Opt] = &[SECURE_AVIC, LINE];
 pub struct Building {
     options: Options,
     line: bool,
+    json: bool,
 }
 
 impl Building {
@@ -42,7 +45,11 @@ impl Building {
     pub fn by(edition: &Opt, arguments: &Arguments, command: &str) -> Result<Building, Failure> {
         let options = Options::new().secure_avic(arguments.has(&SECURE_AVIC));
         let options = self::edition(edition, arguments, command)?.map_or(options, |given| options.edition(given));
-        Ok(Building { options, line: arguments.has(&LINE) })
+        let (line, json) = (arguments.has(&LINE), json::asked(arguments));
+        if line && json {
+            return Err(Failure::usage(command, "--line and --json both go to standard output: the JSON of a refusal has its line"));
+        }
+        Ok(Building { options, line, json })
     }
 
     /// The edition of the AVX rule.
@@ -53,6 +60,11 @@ impl Building {
     /// Whether the secure-AVIC bit is kept.
     pub fn secure_avic(&self) -> bool {
         self.options.secure_avic
+    }
+
+    /// Whether JSON was asked for.
+    pub fn json(&self) -> bool {
+        self.json
     }
 
     /// The table of pages.
@@ -77,31 +89,55 @@ impl Building {
 
     /// The list for KVM of a file of pages.
     pub fn kvm_list(&self, file: &OsStr) -> Result<Vec<u8>, Failure> {
-        let mut list = vec![0; MOST_KVM_BYTES];
-        let length = snp_cpuid::write_kvm(&read(file)?, self.options, &mut list).map_err(|refusal| self.refused(shown(file), refusal))?;
+        let (pages, mut list) = (read(file)?, vec![0; MOST_KVM_BYTES]);
+        let length = snp_cpuid::write_kvm(&pages, self.options, &mut list).map_err(|refusal| self.pages_refused(file, refusal, &pages))?;
         list.truncate(length);
         Ok(list)
     }
 
     /// The table of a file of pages.
     pub fn table(&self, file: &OsStr) -> Result<Table, Failure> {
-        self.build(&read(file)?).map_err(|refusal| self.refused(shown(file), refusal))
+        let pages = read(file)?;
+        self.build(&pages).map_err(|refusal| self.pages_refused(file, refusal, &pages))
     }
 
     /// The table of a file of pages as a processor's guest sees it; as the paravisor has it where no processor is given.
     pub fn seen(&self, file: &OsStr, processor: Option<Processor>) -> Result<Table, Failure> {
-        match processor {
-            None => self.table(file),
-            Some(processor) => snp_cpuid::guest(&read(file)?, self.options, processor).map_err(|refusal| self.refused(shown(file), refusal)),
+        let Some(processor) = processor else { return self.table(file) };
+        let pages = read(file)?;
+        snp_cpuid::guest(&pages, self.options, processor).map_err(|refusal| match self.build(&pages) {
+            Ok(table) => self.refused(shown(file), refusal, &reasons::of_guest(refusal, &table, processor.xcr0, processor.xss)),
+            Err(_) => self.pages_refused(file, refusal, &pages),
+        })
+    }
+
+    /// Why a file of pages was refused.
+    pub fn reason(&self, refusal: Refusal, pages: &[u8]) -> Reason {
+        match refusal {
+            Refusal::UnknownEdition => reasons::of_edition(self.edition()),
+            _ => reasons::of_pages(refusal, pages),
         }
     }
 
-    /// The refusal of a page set in words; its line goes to standard output where that was asked for.
-    pub fn refused(&self, name: impl Display, refusal: Refusal) -> Failure {
-        match self.line.then(|| output::print(refusal.line())) {
-            Some(Err(failure)) => failure,
-            _ => Failure::No(format!("{name}: {}", told(refusal))),
-        }
+    /// The refusal of a file of pages.
+    pub fn pages_refused(&self, file: &OsStr, refusal: Refusal, pages: &[u8]) -> Failure {
+        self.refused(shown(file), refusal, &self.reason(refusal, pages))
+    }
+
+    /// A refusal in words; its line, or its JSON, goes to standard output where that was asked for.
+    pub fn refused(&self, name: impl Display, refusal: Refusal, reason: &Reason) -> Failure {
+        let printed = if self.json {
+            output::print(refused(&name.to_string(), refusal, reason).to_string())
+        } else {
+            self.line.then(|| output::print(refusal.line())).unwrap_or(Ok(()))
+        };
+        let failure = Failure::No { line: format!("{name}: {}", told(refusal)), notes: reason.notes() };
+        printed.err().unwrap_or(failure)
+    }
+
+    /// The refusal's line after a report, where it was asked for, and the refusal in words.
+    pub fn refused_after_report(&self, name: impl Display, refusal: Refusal, reason: &Reason) -> Failure {
+        Building { json: false, ..*self }.refused(name, refusal, reason)
     }
 }
 
@@ -114,10 +150,27 @@ pub fn edition(option: &Opt, arguments: &Arguments, command: &str) -> Result<Opt
     arguments.value(option.name()).map(number).transpose()
 }
 
-/// A refusal's number, words, and what it carries. "Those not named are 0 or none" (document 01).
+/// A refusal's number and words, which name all that it carries.
 pub fn told(refusal: Refusal) -> String {
-    let carried = refusal.details();
-    let subleaf = carried.subleaf.map_or("none".into(), |subleaf| format!("{subleaf:X}"));
-    let details = format!("(leaf {:08X}, subleaf {subleaf}, s {})", carried.leaf, carried.s);
-    format!("refusal {}: {refusal} {details}", refusal.number())
+    format!("refusal {}: {refusal}", refusal.number())
+}
+
+/// The object of a refused file.
+pub fn refused(name: &str, refusal: Refusal, reason: &Reason) -> Json {
+    object([("answer", "refused".into()), ("file", name.into()), ("refusal", refusal_json(refusal, reason))])
+}
+
+/// A refusal as an object: its number, what it names beside that, its line and words, and the reason. What it does not name is null.
+pub fn refusal_json(refusal: Refusal, reason: &Reason) -> Json {
+    let (details, number) = (refusal.details(), refusal.number());
+    let line = refusal.line();
+    object([
+        ("number", number.into()),
+        ("leaf", if matches!(number, 3 | 17) { json::hex(details.leaf) } else { Json::Null }),
+        ("subleaf", details.subleaf.into()),
+        ("s", matches!(number, 6 | 7).then_some(u32::from(details.s)).into()),
+        ("line", line.trim_end().into()),
+        ("words", refusal.to_string().into()),
+    ])
+    .with(reason.json())
 }

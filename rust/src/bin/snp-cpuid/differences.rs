@@ -1,6 +1,8 @@
 //! What two tables differ in: rows, feature bits by name, and other registers by value.
 
-use crate::features::{self, REGISTERS};
+use crate::features::{self, ECX, EDX, REGISTERS};
+use crate::json::{Json, hex, object};
+use crate::print::place_json;
 use crate::{print, words};
 use snp_cpuid::{Origin, Row, Table};
 
@@ -12,25 +14,39 @@ pub struct Tables<'a> {
     pub origins: bool,
 }
 
-/// For each row that differs a line on where it came from, if asked, and one for each difference, and an empty line after the last; nothing where the
-/// tables are equal.
-pub fn differences(told: &Tables, a: &Table, b: &Table) -> String {
-    let [first, second] = told.names;
-    let alone = |name: &str, row: &Row| format!("a row of {name} alone{}", if told.origins { format!(", {}", row.origin) } else { String::new() });
-    let mut lines = vec![];
+/// One difference. Where a row is of one table alone, the other origin is none.
+pub struct Difference {
+    leaf: u32,
+    subleaf: Option<u32>,
+    origins: [Option<Origin>; 2],
+    what: What,
+}
+
+enum What {
+    /// a feature bit that the first has and the second has not, or the other way round
+    Bit { register: usize, bit: u32, name: &'static str, first: bool },
+    /// a register that is no feature register
+    Value { register: usize, values: [u32; 2] },
+    /// a row of one table alone
+    Alone { first: bool },
+}
+
+/// 1.EDX bit 28, which tells a topology and is no feature.
+pub const HTT: (u32, usize, u32) = (0x1, EDX, 28);
+
+/// What two tables differ in, rows in order.
+pub fn differences(a: &Table, b: &Table) -> Vec<Difference> {
+    let mut found = vec![];
     for (leaf, subleaf) in places(a, b) {
-        let place = format!("{:12}", print::place(leaf, subleaf));
-        match (a.find(leaf, subleaf), b.find(leaf, subleaf)) {
-            (Some(a), Some(b)) => lines.extend(of_rows(told, &a, &b).into_iter().map(|line| place.clone() + &line)),
-            (Some(a), None) => lines.push(place + &alone(first, &a)),
-            (None, Some(b)) => lines.push(place + &alone(second, &b)),
-            (None, None) => {}
-        }
+        let rows = [a.find(leaf, subleaf), b.find(leaf, subleaf)];
+        let origins = rows.map(|row| row.map(|row| row.origin));
+        let what = match rows {
+            [Some(a), Some(b)] => of_rows(&a, &b),
+            [a, _] => vec![What::Alone { first: a.is_some() }],
+        };
+        found.extend(what.into_iter().map(|what| Difference { leaf, subleaf, origins, what }));
     }
-    if a.max_extended_state() != b.max_extended_state() {
-        lines.push(format!("combined mask    {first} {:08X}, {second} {:08X}", a.max_extended_state(), b.max_extended_state()));
-    }
-    if lines.is_empty() { String::new() } else { lines.join("\n") + "\n\n" }
+    found
 }
 
 /// The places of either table, in order.
@@ -41,30 +57,83 @@ fn places(a: &Table, b: &Table) -> Vec<(u32, Option<u32>)> {
     places
 }
 
-fn of_rows(told: &Tables, a: &Row, b: &Row) -> Vec<String> {
-    let [first, second] = told.names;
-    let mut lines = vec![];
-    for (register, (in_a, in_b)) in words::registers(a).into_iter().zip(words::registers(b)).enumerate() {
-        let name = REGISTERS[register];
+fn of_rows(a: &Row, b: &Row) -> Vec<What> {
+    let mut found = vec![];
+    for (register, values) in words::registers(a).into_iter().zip(words::registers(b)).enumerate() {
         match features::find(a.leaf, a.subleaf, register) {
             Some(feature) => {
-                for (bit, feature) in feature.bits.iter().filter(|(bit, _)| (in_a ^ in_b) >> bit & 1 == 1) {
-                    let (has, lacks) = if in_a >> bit & 1 == 1 { (first, second) } else { (second, first) };
-                    lines.push(format!("{name}  {feature} (bit {bit}): {has} has it, {lacks} has not"));
-                }
+                let differ = feature.bits.iter().filter(|(bit, _)| (values.0 ^ values.1) >> bit & 1 == 1);
+                found.extend(differ.map(|&(bit, name)| What::Bit { register, bit, name, first: values.0 >> bit & 1 == 1 }));
             }
-            None if in_a != in_b => lines.push(format!("{name}  {first} {in_a:08X}, {second} {in_b:08X}")),
+            None if values.0 != values.1 => found.push(What::Value { register, values: values.into() }),
             None => {}
         }
     }
-    if told.origins && !lines.is_empty() {
-        lines.insert(0, origins(told.names, a.origin, b.origin));
-    }
-    lines
+    found
 }
 
-/// The entries of two rows; the rows of leaf Bh have none.
-fn origins(names: [&str; 2], a: Origin, b: Origin) -> String {
-    let [first, second] = names;
-    if a == Origin::MadeHere { a.to_string() } else { format!("{first} {a}, {second} {b}") }
+impl Difference {
+    /// Whether it stands in the way of a guest that moves from the first table to the second: the second must have every row of the first, every
+    /// feature bit and a save area, D.0.ECX, no smaller, and be equal elsewhere.
+    pub fn blocks(&self) -> bool {
+        match self.what {
+            What::Bit { register, bit, first, .. } => first || (self.leaf, register, bit) == HTT,
+            What::Value { register: ECX, values: [a, b] } if (self.leaf, self.subleaf) == (0xD, Some(0)) => b < a,
+            What::Value { .. } => true,
+            What::Alone { first } => first,
+        }
+    }
+
+    /// In words.
+    fn told(&self, told: &Tables) -> String {
+        let [a, b] = told.names;
+        match self.what {
+            What::Bit { register, bit, name, first } => {
+                let (has, lacks) = if first { (a, b) } else { (b, a) };
+                format!("{}  {name} (bit {bit}): {has} has it, {lacks} has not", REGISTERS[register])
+            }
+            What::Value { register, values: [in_a, in_b] } => format!("{}  {a} {in_a:08X}, {b} {in_b:08X}", REGISTERS[register]),
+            What::Alone { first } => {
+                let origin = self.origins[usize::from(!first)].filter(|_| told.origins);
+                format!("a row of {} alone{}", if first { a } else { b }, origin.map_or(String::new(), |origin| format!(", {origin}")))
+            }
+        }
+    }
+
+    /// The entries of a row that both tables have; the rows of leaf Bh have none.
+    fn entries(&self, told: &Tables) -> Option<String> {
+        let ([a, b], [first, second]) = (told.names, self.origins);
+        let (first, second) = (first?, second?);
+        let entries = if first == Origin::MadeHere { first.to_string() } else { format!("{a} {first}, {b} {second}") };
+        told.origins.then_some(entries)
+    }
+
+    /// As an object.
+    pub fn json(&self) -> Json {
+        let what = match self.what {
+            What::Bit { register, bit, name, first } => {
+                let of = [("register", REGISTERS[register].into()), ("bit", bit.into()), ("name", name.into())];
+                object(of).with([("a", first.into()), ("b", (!first).into())])
+            }
+            What::Value { register, values: [a, b] } => object([("register", REGISTERS[register].into()), ("a", hex(a)), ("b", hex(b))]),
+            What::Alone { first } => object([("row_of", if first { "a" } else { "b" }.into())]),
+        };
+        let Json::Object(what) = what else { return Json::Null };
+        object(place_json(self.leaf, self.subleaf)).with([("in_the_way", self.blocks().into())]).with(what)
+    }
+}
+
+/// A line for each difference and, if asked, one before those of a row on where it came from.
+pub fn lines<'a>(told: &Tables, differences: impl Iterator<Item = &'a Difference>) -> String {
+    let (mut text, mut last) = (String::new(), None);
+    for difference in differences {
+        let row = (difference.leaf, difference.subleaf);
+        let place = format!("{:12}", print::place(row.0, row.1));
+        if last != Some(row) {
+            text += &difference.entries(told).map_or(String::new(), |entries| format!("{place}{entries}\n"));
+            last = Some(row);
+        }
+        text += &format!("{place}{}\n", difference.told(told));
+    }
+    text
 }

@@ -1,14 +1,16 @@
-//! How a command fails: with one line and an exit status.
+//! How a command fails: with a line, notes under it, and an exit status.
 
 /// A failure with its line.
 #[derive(Debug)]
 pub enum Failure {
-    /// Exit status 1: the answer is a refusal or no.
-    No(String),
+    /// Exit status 1: the answer is a refusal or no. Notes say why.
+    No { line: String, notes: Vec<String> },
     /// Exit status 1: the answer is no, and standard output has it.
     AnswerNo,
     /// Exit status 2: bad usage, or input or output that cannot be read, parsed or written.
     Bad(String),
+    /// Exit status 3: what was asked for is not there.
+    NotFound(String),
 }
 
 impl Failure {
@@ -20,16 +22,18 @@ impl Failure {
     /// The exit status.
     pub fn status(&self) -> u8 {
         match self {
-            Failure::No(_) | Failure::AnswerNo => 1,
+            Failure::No { .. } | Failure::AnswerNo => 1,
             Failure::Bad(_) => 2,
+            Failure::NotFound(_) => 3,
         }
     }
 
-    /// What goes to standard error.
-    pub fn line(&self) -> Option<&str> {
+    /// What goes to standard error: the line, then the notes.
+    pub fn lines(&self) -> Vec<String> {
         match self {
-            Failure::No(line) | Failure::Bad(line) => Some(line),
-            Failure::AnswerNo => None,
+            Failure::No { line, notes } => [line.clone()].into_iter().chain(notes.iter().map(|note| format!("note: {note}"))).collect(),
+            Failure::Bad(line) | Failure::NotFound(line) => vec![line.clone()],
+            Failure::AnswerNo => vec![],
         }
     }
 }

@@ -73,7 +73,24 @@ pub fn find(leaf: u32, subleaf: Option<u32>, register: usize) -> Option<&'static
     FEATURES.iter().find(|f| (f.leaf, f.subleaf, f.register) == (leaf, subleaf, register))
 }
 
+/// A feature bit with its register's place.
+#[derive(Clone, Copy, Debug, PartialEq, Eq)]
+pub struct FeatureBit {
+    pub leaf: u32,
+    pub subleaf: Option<u32>,
+    pub register: usize,
+    pub bit: u32,
+    pub name: &'static str,
+}
+
 impl FeatureRegister {
+    /// The bits that are set in a value.
+    pub fn bits_of(&self, value: u32) -> impl Iterator<Item = FeatureBit> {
+        let FeatureRegister { leaf, subleaf, register, bits } = *self;
+        let set = bits.iter().filter(move |(bit, _)| value >> bit & 1 == 1);
+        set.map(move |&(bit, name)| FeatureBit { leaf, subleaf, register, bit, name })
+    }
+
     /// The names of the bits that are set in a value.
     pub fn names(&self, value: u64) -> Vec<&'static str> {
         self.bits.iter().filter(|(bit, _)| value >> bit & 1 == 1).map(|(_, name)| *name).collect()

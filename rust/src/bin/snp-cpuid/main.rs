@@ -15,8 +15,9 @@ mod fields;
 mod fleet;
 mod help;
 mod input;
-#[allow(dead_code)]
 mod json;
+mod masks;
+mod meanings;
 mod numbers;
 mod option;
 mod order;
@@ -25,6 +26,9 @@ mod pages;
 mod parse;
 mod print;
 mod processor;
+mod reasons;
+mod standing;
+mod topology;
 mod words;
 mod wrap;
 
@@ -67,7 +71,7 @@ fn main() -> ExitCode {
     match run(std::env::args_os().skip(1)) {
         Ok(()) => ExitCode::SUCCESS,
         Err(failure) => {
-            failure.line().into_iter().for_each(output::say);
+            failure.lines().iter().for_each(|line| output::say(line));
             ExitCode::from(failure.status())
         }
     }

@@ -3,6 +3,7 @@
 use crate::arguments::Arguments;
 use crate::failure::Failure;
 use crate::input::{reason, shown};
+use crate::json::{self, Json};
 use crate::option::{Opt, Value};
 use std::ffi::OsStr;
 use std::fs::{self, File, OpenOptions};
@@ -28,6 +29,19 @@ pub const fn file_or_standard_output(name: &'static str) -> Opt {
 pub const fn bytes_to_file(name: &'static str) -> Opt {
     let help = "write bytes to a file; it is replaced as a whole, and only where all went well";
     Opt { names: NAMES, value: Value::File(name), required: false, help }
+}
+
+/// Bad usage where both the bytes of `-o` and JSON would go to standard output.
+pub fn json_apart(arguments: &Arguments, command: &str) -> Result<(), Failure> {
+    match arguments.value(NAMES[0]) {
+        Some(name) if name == "-" && json::asked(arguments) => Err(Failure::usage(command, "-o - and --json both go to standard output")),
+        _ => Ok(()),
+    }
+}
+
+/// The file that `-o` names, for an object.
+pub fn file_json(arguments: &Arguments) -> Json {
+    arguments.value(NAMES[0]).map(shown).into()
 }
 
 /// Bytes to the file that `-o` names; where it is not given, text to standard output.

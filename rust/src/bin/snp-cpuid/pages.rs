@@ -1,5 +1,6 @@
 //! Rows into CPUID pages (SEV-SNP firmware ABI; document 01, "Page bytes").
 
+use crate::masks::kept;
 use snp_cpuid::PAGE_BYTES;
 
 /// The entries that a page holds.
@@ -14,16 +15,9 @@ pub struct Entry {
     pub registers: [u32; 4],
 }
 
-/// Whether the table reads entries of this leaf and subleaf (document 01, "Corners of masking.rs": kept).
+/// Whether the table reads entries of this leaf and subleaf.
 pub fn read_by_table(leaf: u32, subleaf: u32) -> bool {
-    match leaf {
-        0x1 | 0x5 | 0x8000_0001..=0x8000_0008 | 0x8000_000A | 0x8000_0019 | 0x8000_001A | 0x8000_001E | 0x8000_001F => true,
-        0x7 => subleaf == 0,
-        0xB => subleaf <= 1,
-        STATE => subleaf <= 63,
-        0x8000_001D => subleaf <= 3,
-        _ => false,
-    }
+    kept(leaf, subleaf).is_some()
 }
 
 /// Two pages: leaf Dh on page 1, where alone it counts, and all others on page 0, each in the order given.

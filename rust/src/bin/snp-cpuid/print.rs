@@ -1,11 +1,12 @@
-//! Rows as lines.
+//! Rows as lines, and as JSON.
 
 use crate::arguments::Arguments;
-use crate::features::REGISTERS;
+use crate::features::{FeatureBit, REGISTERS};
+use crate::json::{Json, array, hex, object};
 use crate::option::Opt;
 use crate::words;
 use crate::wrap::wrapped;
-use snp_cpuid::Row;
+use snp_cpuid::{Origin, Row};
 
 /// The option of a command that prints rows.
 pub const ORIGINS: Opt = Opt::flag(&["--origins"], "say on each row's line where it came from: its page and entry, each from 0, or made here");
@@ -42,4 +43,38 @@ impl Form {
 /// A leaf and subleaf as rows have them.
 pub fn place(leaf: u32, subleaf: Option<u32>) -> String {
     subleaf.map_or(format!("{leaf:08X}"), |subleaf| format!("{leaf:08X}.{subleaf:X}"))
+}
+
+/// A leaf and subleaf as members of an object.
+pub fn place_json(leaf: u32, subleaf: Option<u32>) -> [(&'static str, Json); 2] {
+    [("leaf", hex(leaf)), ("subleaf", subleaf.into())]
+}
+
+/// A feature bit as an object.
+pub fn bit_json(bit: &FeatureBit) -> Json {
+    let named = [("register", REGISTERS[bit.register].into()), ("bit", bit.bit.into()), ("name", bit.name.into())];
+    object(place_json(bit.leaf, bit.subleaf)).with(named)
+}
+
+/// Four registers as members of an object.
+pub fn registers_json(registers: [u32; 4]) -> [(&'static str, Json); 4] {
+    let [eax, ebx, ecx, edx] = registers.map(hex);
+    [("eax", eax), ("ebx", ebx), ("ecx", ecx), ("edx", edx)]
+}
+
+/// Where a row came from; page and entry are null where no entry is known.
+pub fn origin_json(origin: Origin) -> [(&'static str, Json); 3] {
+    let (kind, page, entry) = match origin {
+        Origin::MadeHere => ("made here", None, None),
+        Origin::Entry { page, entry } => ("entry", Some(page), Some(entry)),
+    };
+    [("origin", kind.into()), ("page", page.into()), ("entry", entry.into())]
+}
+
+/// A row as an object: its place, registers, origin, and the names of its feature bits.
+pub fn row_json(row: &Row) -> Json {
+    object(place_json(row.leaf, row.subleaf))
+        .with(registers_json(words::registers(row)))
+        .with(origin_json(row.origin))
+        .with([("features", array(words::features(row)))])
 }

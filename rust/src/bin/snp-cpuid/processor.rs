@@ -3,6 +3,7 @@
 use crate::arguments::Arguments;
 use crate::failure::Failure;
 use crate::input::shown;
+use crate::json::{Json, hex, object};
 use crate::numbers::wide;
 use crate::option::Opt;
 use snp_cpuid::Processor;
@@ -36,6 +37,13 @@ pub fn of(arguments: &Arguments, command: &str) -> Result<Option<Processor>, Fai
     let x2apic = number(&OPTIONAL[0], u32::MAX.into(), arguments, command)? as u32;
     let (xcr0, xss) = states(arguments, command)?;
     Ok(Some(Processor { x2apic, xcr0, xss, osxsave: arguments.has(&OSXSAVE) }))
+}
+
+/// The processor as an object.
+pub fn json(processor: Processor) -> Json {
+    let wide = |number: u64| format!("{number:X}").into();
+    let states = [("xcr0", wide(processor.xcr0)), ("xss", wide(processor.xss)), ("osxsave", processor.osxsave.into())];
+    object([("x2apic", hex(processor.x2apic))]).with(states)
 }
 
 /// XCR0 and XSS.

@@ -23,6 +23,12 @@ pub fn of_row(row: &Row) -> Vec<(usize, String)> {
     lines
 }
 
+/// The names of a row's feature bits that are set, registers in order.
+pub fn features(row: &Row) -> Vec<&'static str> {
+    let names = |(register, value): (usize, u32)| find(row.leaf, row.subleaf, register).map(|feature| feature.names(value.into()));
+    registers(row).into_iter().enumerate().filter_map(names).flatten().collect()
+}
+
 /// The registers to which document 01 or the manual gives a meaning other than feature bits.
 fn fields(row: &Row) -> Vec<(usize, String)> {
     let r = &row.result;

@@ -4,11 +4,14 @@ use crate::arguments::Arguments;
 use crate::building::{self, Building};
 use crate::command::Command;
 use crate::failure::Failure;
-use crate::features;
+use crate::features::{self, FeatureBit};
 use crate::input::shown;
+use crate::json::{self, array, object};
 use crate::option::Opt;
+use crate::print::bit_json;
+use crate::reasons::{self, Reason};
 use crate::{output, processor, words};
-use snp_cpuid::Table;
+use snp_cpuid::{Refusal, Table};
 
 const FROM: Opt = Opt::decimal(&["--from"], "E", true, "edition of the AVX rule under which the table runs");
 
@@ -17,7 +20,7 @@ const TO: Opt = Opt::decimal(&["--to"], "E", true, "edition of the AVX rule that
 pub const COMMAND: Command = Command {
     name: "carry",
     operands: &["PAGES"],
-    options: &[&[FROM, TO], processor::STATES, &[output::file("IMAGE")], building::OPTIONS_BUT_EDITION],
+    options: &[&[FROM, TO], processor::STATES, &[output::file("IMAGE"), json::OPTION], building::OPTIONS_BUT_EDITION],
     summary: "take a running table from one edition of the AVX rule to another",
     about: "\
 Builds the table of the pages under the edition that it runs under, takes it to another for a
@@ -37,25 +40,39 @@ read or written.
 
 fn run(arguments: &Arguments) -> Result<(), Failure> {
     let building = Building::by(&FROM, arguments, COMMAND.name)?;
+    output::json_apart(arguments, COMMAND.name)?;
     let (from, to) = (building.edition(), building::edition(&TO, arguments, COMMAND.name)?.expect("it is required"));
     let (xcr0, xss) = processor::states(arguments, COMMAND.name)?;
     let file = &arguments.operands[0];
     let running = building.table(file)?;
-    let carried = running.carry(from, to, xcr0, xss).map_err(|refusal| building.refused(shown(file), refusal))?;
+    let carried = running.carry(from, to, xcr0, xss).map_err(|refusal| {
+        let reason = match refusal {
+            Refusal::UnknownEdition => reasons::of_edition(to),
+            Refusal::EditionBack => Reason::default(),
+            _ => reasons::of_guest(refusal, &running, xcr0, xss),
+        };
+        building.refused(shown(file), refusal, &reason)
+    })?;
     output::write(arguments, carried.image())?;
-    let went = gone(&running, &carried);
+    let gone = gone(&running, &carried);
+    if building.json() {
+        let answer = object([("answer", "carried".into()), ("file", shown(file).into()), ("from", from.into()), ("to", to.into())]);
+        let more = [("gone", array(gone.iter().map(bit_json))), ("image", output::file_json(arguments))];
+        return output::print(answer.with(more).to_string());
+    }
+    let went: Vec<&str> = gone.iter().map(|bit| bit.name).collect();
     let went = if went.is_empty() { "no bit went".into() } else { format!("{} went", went.join(", ")) };
     output::say(&format!("note: from edition {from} to {to}: {went}"));
     Ok(())
 }
 
-/// The names of the feature bits that a table has and another, with the same rows, has not.
-fn gone(old: &Table, new: &Table) -> Vec<&'static str> {
-    let mut names = vec![];
+/// The feature bits that a table has and another, with the same rows, has not.
+fn gone(old: &Table, new: &Table) -> Vec<FeatureBit> {
+    let mut bits = vec![];
     for (old, new) in old.rows().zip(new.rows()) {
         for (register, (was, is)) in words::registers(&old).into_iter().zip(words::registers(&new)).enumerate() {
-            names.extend(features::find(old.leaf, old.subleaf, register).into_iter().flat_map(|feature| feature.names((was & !is).into())));
+            bits.extend(features::find(old.leaf, old.subleaf, register).into_iter().flat_map(|feature| feature.bits_of(was & !is)));
         }
     }
-    names
+    bits
 }

@@ -1,55 +1,77 @@
-//! `compare`: the tables of two servers, and what the theorem on them promises in either direction.
+//! `compare`: whether a guest of one server may move to another, why not, and what their tables differ in.
 
 use crate::arguments::Arguments;
-use crate::building::{self, Building};
+use crate::building::{self, Building, refusal_json, told};
 use crate::command::Command;
-use crate::differences::{Tables, differences};
+use crate::differences::{Difference, HTT, Tables, differences, lines};
 use crate::failure::Failure;
-use crate::features::REGISTERS;
+use crate::features::{self, REGISTERS};
 use crate::input::{read, shown};
+use crate::json::{self, Json, array, hex, object};
+use crate::masks::kept;
+use crate::print::{place, place_json};
+use crate::standing::Standing;
 use crate::wrap::wrapped;
-use crate::{output, print, words};
-use snp_cpuid::{Comparison, Refusal, Register, Table, first_entry};
+use crate::{output, words};
+use snp_cpuid::{Comparison, Refusal, Register, Table};
 
 /// One of the two, under the name that the report gives it.
 struct Server {
     name: &'static str,
     file: String,
     pages: Vec<u8>,
+    standing: Standing,
     table: Result<Table, Refusal>,
 }
 
 impl Server {
     /// Where its entry for a leaf and subleaf stands.
     fn entry(&self, leaf: u32, subleaf: Option<u32>) -> String {
-        let first = first_entry(&self.pages, leaf, subleaf.unwrap_or(0));
-        first.ok().flatten().expect("the library has compared this entry").to_string()
+        self.standing.first(leaf, subleaf).expect("the library has compared this entry").name()
+    }
+
+    /// Its line under the answer.
+    fn line(&self) -> String {
+        let answer = match &self.table {
+            Ok(table) => format!("accepted, {}", words::counted(table.rows().count() as u32, "row")),
+            Err(refusal) => told(*refusal),
+        };
+        wrapped(&format!("{}  ", self.name), &format!("{}: {answer}", self.file))
+    }
+
+    fn json(&self, building: Building) -> Json {
+        let refusal = self.table.as_ref().err().map(|refusal| refusal_json(*refusal, &building.reason(*refusal, &self.pages)));
+        object([("file", self.file.as_str().into()), ("accepted", self.table.is_ok().into()), ("refusal", refusal.into())])
     }
 }
 
 pub const COMMAND: Command = Command {
     name: "compare",
     operands: &["A", "B"],
-    options: &[building::OPTIONS],
-    summary: "print how the tables of two servers differ, and what is promised",
+    options: &[&[json::OPTION], building::OPTIONS],
+    summary: "say whether a guest of server A may move to server B, and why not",
     about: "\
-Compares the page sets of two servers: whether their tables are equal, B is at least A, A is at
-least B, or neither. Then, for each row that differs, the page and entry of A's and of B's, both
-counted from 0, every feature bit that one table has and the other has not, by name, and every other
-register that differs, by value; and for a guest that moves from A to B, and from B to A, what the
-theorem promises of this pair, or which entries stand in the way. B is at least A where it is
-accepted and meets the theorem's hypothesis: for every row of A's table but 0 and 80000000 B has a
-first entry with at least the bits of A's in feature registers, and equal in all others but D.0.ECX
-and the rows of leaf B, which are free. The library decides that by a proved function. Both tables
-are made under the same edition of the AVX rule, which the report names; what is promised holds
-under either.
+Compares the page sets of two servers. The first line says whether a guest of A may move to B: 'yes'
+where the tables are equal or B is at least A, else 'no' and the first bit or register that stands
+in the way. Then come the differences of the two tables: first those in the way from A to B, each
+feature bit by name, each other register by value and each row that B lacks, with the page and entry
+of A's and B's, counted from 0; then those that are not, where B has more. The last lines say of
+each direction what the library promises by the entries alone, before the other server's table is
+built.
+
+B is at least A where for every row of A's table but 0 and 80000000 B has a first entry with at
+least the bits of A's in feature registers, and equal in all others but D.0.ECX and the rows of leaf
+B, which are free. The library decides that by a proved function; where it says yes and B is
+accepted, B's table has every row of A's, at least A's features, a save area no smaller, and
+everything else equal. Both tables are made under the same edition of the AVX rule; what is promised
+holds under either.
 
 Give the pages that the servers have, or both from dumps of the same kind: pages made from the text
 of to-dump hold what the table's rules have set and cleared, such as BTC_NO.
 ",
     status: "\
-Exit status: 0 where the tables are equal or B is at least A, 1 otherwise (also where one of them
-is refused, which a line on standard error says), 2 bad usage or a file that cannot be read.
+Exit status: 0 yes, where the tables are equal or B is at least A; 1 no, also where one of them is
+refused, which standard error says; 2 bad usage or a file that cannot be read.
 ",
     run,
 };
@@ -61,112 +83,230 @@ fn run(arguments: &Arguments) -> Result<(), Failure> {
     let building = Building::of(arguments, COMMAND.name)?;
     let server = |name, place: usize| {
         let pages = read(&arguments.operands[place])?;
-        Ok(Server { name, file: shown(&arguments.operands[place]), table: building.build(&pages), pages })
+        let (table, standing) = (building.build(&pages), Standing::of(&pages));
+        Ok(Server { name, file: shown(&arguments.operands[place]), pages, standing, table })
     };
     let (a, b): (Server, Server) = (server("A", 0)?, server("B", 1)?);
-    let rises = Direction::new(&a, &b, building);
-    let falls = Direction::new(&b, &a, building);
-    let equal = a.table.is_ok() && a.table == b.table;
-
-    let edition = building.edition();
-    let mut report = format!("A  {}\nB  {}\nunder edition {edition} of the AVX rule\n\n{}\n\n", a.file, b.file, verdict(equal, &rises, &falls));
-    if let (Ok(table_a), Ok(table_b)) = (&a.table, &b.table) {
-        report += &differences(&Tables { names: ["A", "B"], origins: true }, table_a, table_b);
-    }
-    report += &(rises.told() + &falls.told());
-    output::print(report)?;
+    let report = Report { rises: Direction::new(&a, &b, building), falls: Direction::new(&b, &a, building), building };
+    output::print(if building.json() { report.json().to_string() } else { report.text() })?;
+    let refused = |server: &Server, refusal| {
+        let reason = building.reason(refusal, &server.pages);
+        Err(building.refused_after_report(&server.file, refusal, &reason))
+    };
     match (&a.table, &b.table) {
-        (Err(refusal), _) => Err(building.refused(a.file, *refusal)),
-        (_, Err(refusal)) => Err(building.refused(b.file, *refusal)),
-        _ if equal || rises.holds() => Ok(()),
+        (Err(refusal), _) => refused(&a, *refusal),
+        (_, Err(refusal)) => refused(&b, *refusal),
+        _ if report.answer() == "yes" => Ok(()),
         _ => Err(Failure::AnswerNo),
     }
 }
 
-fn verdict(equal: bool, rises: &Direction, falls: &Direction) -> &'static str {
-    match (&rises.from.table, &rises.to.table) {
-        (Err(_), Err(_)) => "A and B are refused.",
-        (Err(_), Ok(_)) => "A is refused.",
-        (Ok(_), Err(_)) => "B is refused.",
-        // crates/rise/specs/Same.antt
-        _ if rises.holds() && falls.holds() => "The tables are equal, as they must be where each server is at least the other.",
-        _ if equal => "The tables are equal.",
-        _ if rises.holds() => "B is at least A.",
-        _ if falls.holds() => "A is at least B.",
-        _ => "Neither is at least the other by its entries.",
+/// Both directions, and the answer for the first.
+struct Report<'a> {
+    rises: Direction<'a>,
+    falls: Direction<'a>,
+    building: Building,
+}
+
+impl Report<'_> {
+    fn servers(&self) -> (&Server, &Server) {
+        (self.rises.from, self.rises.to)
+    }
+
+    fn equal(&self) -> bool {
+        let (a, b) = self.servers();
+        a.table.is_ok() && a.table == b.table
+    }
+
+    /// Whether a guest of A may move to B.
+    fn answer(&self) -> &'static str {
+        match (&self.rises.from.table, &self.rises.to.table) {
+            (Err(_), _) | (_, Err(_)) => "refused",
+            _ if self.equal() || self.rises.holds() => "yes",
+            _ => "no",
+        }
+    }
+
+    /// The answer in words, with the reason.
+    fn verdict(&self) -> String {
+        match (&self.rises.from.table, &self.rises.to.table) {
+            (Err(a), Err(b)) => format!("no: A is refused, by {}, and B, by {}.", a.number(), b.number()),
+            (Err(refusal), Ok(_)) => format!("no: A is refused, by {}, so it has no guest.", refusal.number()),
+            (Ok(_), Err(refusal)) => format!("no: B is refused, by {}.", refusal.number()),
+            _ if self.equal() => "yes: a guest of A may move to B. The tables are equal: B's has every row of A's, with the same registers.".into(),
+            _ if self.rises.holds() => format!("yes: a guest of A may move to B. {}.", self.rises.promise()),
+            _ => format!("no: a guest of A may not move to B. {}.", capital(&self.rises.obstacle())),
+        }
+    }
+
+    fn differences(&self) -> Vec<Difference> {
+        match self.servers() {
+            (Server { table: Ok(a), .. }, Server { table: Ok(b), .. }) => differences(a, b),
+            _ => vec![],
+        }
+    }
+
+    fn text(&self) -> String {
+        let (a, b) = self.servers();
+        let edition = self.building.edition();
+        let mut text = wrapped("", &self.verdict()) + "\n" + &a.line() + &b.line() + &format!("under edition {edition} of the AVX rule\n\n");
+        let (all, names) = (self.differences(), Tables { names: ["A", "B"], origins: true });
+        for (heading, blocks) in [("In the way from A to B:", true), ("Not in the way from A to B:", false)] {
+            let lines = lines(&names, all.iter().filter(|difference| difference.blocks() == blocks));
+            if !lines.is_empty() {
+                text += &format!("{heading}\n{lines}\n");
+            }
+        }
+        text + &self.rises.told() + &self.falls.told()
+    }
+
+    fn json(&self) -> Json {
+        let (a, b) = self.servers();
+        object([
+            ("answer", self.answer().into()),
+            ("edition", self.building.edition().into()),
+            ("equal", self.equal().into()),
+            ("a", a.json(self.building)),
+            ("b", b.json(self.building)),
+            ("differences", array(self.differences().iter().map(Difference::json))),
+            ("a_to_b", self.rises.json()),
+            ("b_to_a", self.falls.json()),
+        ])
     }
 }
 
-/// What the library says of a guest that moves from one server to the other.
+fn capital(text: &str) -> String {
+    let mut letters = text.chars();
+    letters.next().map_or(String::new(), |first| first.to_uppercase().chain(letters).collect())
+}
+
+/// What the library says of a guest that moves from one server to the other, by their entries.
 struct Direction<'a> {
     from: &'a Server,
     to: &'a Server,
     answer: Comparison,
+    secure_avic: bool,
+}
+
+/// The first register of two entries that stands in the way, by the entries as masked.
+struct Failing {
+    register: usize,
+    bit: u32,
+    name: Option<&'static str>,
+    values: [u32; 2],
 }
 
 impl Direction<'_> {
     fn new<'a>(from: &'a Server, to: &'a Server, building: Building) -> Direction<'a> {
-        Direction { from, to, answer: building.compare(&from.pages, &to.pages) }
+        Direction { from, to, answer: building.compare(&from.pages, &to.pages), secure_avic: building.secure_avic() }
     }
 
-    /// Whether the hypothesis holds.
+    /// Whether the library says yes.
     fn holds(&self) -> bool {
         matches!(self.answer, Comparison::Rises)
     }
 
-    /// What the theorem promises.
+    /// The line of this direction.
     fn told(&self) -> String {
-        let (from, to) = (self.from.name, self.to.name);
-        let why = match self.answer {
-            Comparison::Rises => return self.promise(),
-            Comparison::RefusedA(refusal) => format!("{from} is refused, by {}", refusal.number()),
-            Comparison::UnlawfulB(Refusal::ReservedBytes { leaf }) => {
-                format!("{to}'s entry for leaf {} has a reserved byte that is not zero, refusal 17", print::place(leaf, None))
-            }
-            Comparison::UnlawfulB(refusal) => format!("{to}'s length or counts are not lawful, refusal {}", refusal.number()),
-            Comparison::NoEntry { leaf, subleaf } => {
-                format!("{to} has no entry for leaf {}, which {from} has at {}", print::place(leaf, subleaf), self.from.entry(leaf, subleaf))
-            }
-            Comparison::Differs { leaf, subleaf, register } => self.differs(leaf, subleaf, register),
+        let label = format!("{} to {}  ", self.from.name, self.to.name);
+        let told = match (self.holds(), &self.to.table) {
+            (true, Ok(_)) => format!("yes: {}.", self.promise()),
+            (true, Err(refusal)) => format!(
+                "{to} has at least {from}'s entries, but {to} is refused, by {}, which only a state that {from} lacks can cause.",
+                refusal.number(),
+                from = self.from.name,
+                to = self.to.name
+            ),
+            (false, _) => format!("no: {}.", self.obstacle()),
         };
-        wrapped(&self.label(), &format!("no: {why}, so nothing is promised."))
+        wrapped(&label, &told)
     }
 
-    fn label(&self) -> String {
-        format!("{} to {}  ", self.from.name, self.to.name)
-    }
-
+    /// What a table has where the library says yes.
     fn promise(&self) -> String {
         let (from, to) = (self.from.name, self.to.name);
-        let here = match &self.to.table {
-            Ok(_) => "it is accepted here".to_string(),
-            Err(refusal) => format!("it is refused here, by {}", refusal.number()),
-        };
-        wrapped(
-            &self.label(),
-            &format!(
-                "yes: {to} is refused only by 3, for a leaf Dh subleaf that its own mask needs and that has no entry, or by 5 ({here}); \
-                 accepted, its table has every row of {from}'s, at least {from}'s bits in every feature register, a save area no smaller, \
-                 and every other register equal."
-            ),
-        )
+        format!("{to}'s table has every row of {from}'s, at least {from}'s features, a save area no smaller, and everything else equal")
     }
 
-    /// The first register at which the hypothesis fails. The tables may agree there, where a rule clears what the entries differ in.
+    /// The first thing in the way.
+    fn obstacle(&self) -> String {
+        let (from, to) = (self.from.name, self.to.name);
+        match self.answer {
+            Comparison::Rises => "nothing".into(),
+            Comparison::RefusedA(refusal) => format!("{from} is refused, by {}", refusal.number()),
+            Comparison::UnlawfulB(refusal) => format!("{to}'s pages cannot be read: refusal {}", refusal.number()),
+            Comparison::NoEntry { leaf, subleaf } => {
+                format!("{to} has no entry for leaf {}, which {from} has at {}", place(leaf, subleaf), self.from.entry(leaf, subleaf))
+            }
+            Comparison::Differs { leaf, subleaf, register } => self.differs(leaf, subleaf, register),
+        }
+    }
+
+    /// The first bit or register in the way. The tables may agree there, where a rule clears what the entries differ in.
     fn differs(&self, leaf: u32, subleaf: Option<u32>, register: Register) -> String {
-        let index = match register {
-            Register::Eax => 0,
-            Register::Ebx => 1,
-            Register::Ecx => 2,
-            Register::Edx => 3,
-        };
+        let (from, to) = (self.from.name, self.to.name);
+        let Failing { register, bit, name, values: [has, lacks] } = self.failing(leaf, subleaf, register);
+        let at = [self.from, self.to].map(|server| server.entry(leaf, subleaf));
+        let hidden = if self.hidden(leaf, subleaf, register) { ", which the tables do not show" } else { "" };
+        let place = format!("leaf {} {}", place(leaf, subleaf), REGISTERS[register]);
+        match name {
+            Some(name) if has >> bit & 1 == 1 => {
+                format!("{to} lacks {name}, {place} bit {bit}: {from} has it at {}, {to} has not at {}{hidden}", at[0], at[1])
+            }
+            Some(name) => {
+                format!("{to} has {name}, {place} bit {bit}, at {}, which {from} has not at {}, and it must be equal{hidden}", at[1], at[0])
+            }
+            None => {
+                format!("{place} must be equal: {from} has {has:08X} at {}, {to} {lacks:08X} at {}, first unlike at bit {bit}{hidden}", at[0], at[1])
+            }
+        }
+    }
+
+    /// The masked values of the register, and its first bit in the way: a feature bit that goes, or any bit where both must be equal.
+    fn failing(&self, leaf: u32, subleaf: Option<u32>, register: Register) -> Failing {
+        let register = register as usize;
         let value = |server: &Server| {
-            let row = server.table.as_ref().ok()?.find(leaf, subleaf)?;
-            Some(words::registers(&row)[index])
+            let kept = kept(leaf, subleaf.unwrap_or(0)).expect("the library compares kept entries");
+            let entry = server.standing.first(leaf, subleaf).expect("the library has compared this entry");
+            // D.0.EAX has bits 0 and 1 in every table
+            let always = if (leaf, subleaf, register) == (0xD, Some(0), 0) { 3 } else { 0 };
+            kept.masked(entry.registers, self.secure_avic)[register] | always
         };
-        let (from, to) = (value(self.from), value(self.to));
-        let hidden = if from.is_some() && from == to { ", which the tables do not show" } else { "" };
-        let entries = [self.from, self.to].map(|server| format!("{}'s {}", server.name, server.entry(leaf, subleaf))).join(" and ");
-        format!("the hypothesis fails first at leaf {} {}, in {entries}{hidden}", print::place(leaf, subleaf), REGISTERS[index])
+        let values = [value(self.from), value(self.to)];
+        let feature = features::find(leaf, subleaf, register);
+        let must_be_equal = match feature {
+            Some(_) if (leaf, register) == (HTT.0, HTT.1) => 1 << HTT.2,
+            Some(_) => 0,
+            None => u32::MAX,
+        };
+        let wrong = values[0] & !values[1] | (values[0] ^ values[1]) & must_be_equal;
+        let bit = wrong.trailing_zeros();
+        let name = feature.and_then(|feature| feature.bits.iter().find(|(own, _)| *own == bit)).map(|(_, name)| *name);
+        Failing { register, bit, name, values }
+    }
+
+    /// Whether the two tables agree in a register.
+    fn hidden(&self, leaf: u32, subleaf: Option<u32>, register: usize) -> bool {
+        let value = |server: &Server| Some(words::registers(&server.table.as_ref().ok()?.find(leaf, subleaf)?)[register]);
+        value(self.from).is_some() && value(self.from) == value(self.to)
+    }
+
+    fn json(&self) -> Json {
+        let base = object([("by_entries", if self.holds() { "yes" } else { "no" }.into())]);
+        match self.answer {
+            Comparison::Rises => base,
+            Comparison::RefusedA(refusal) | Comparison::UnlawfulB(refusal) => base.with([("refused_by", refusal.number().into())]),
+            Comparison::NoEntry { leaf, subleaf } => base.with(place_json(leaf, subleaf)),
+            Comparison::Differs { leaf, subleaf, register } => {
+                let Failing { register, bit, name, values: [from, to] } = self.failing(leaf, subleaf, register);
+                let where_at = [("register", REGISTERS[register].into()), ("bit", bit.into()), ("name", name.into())];
+                base.with(place_json(leaf, subleaf)).with(where_at).with([
+                    ("from", hex(from)),
+                    ("to", hex(to)),
+                    ("hidden", self.hidden(leaf, subleaf, register).into()),
+                ])
+            }
+        }
+        .with([("words", self.obstacle().into())])
     }
 }

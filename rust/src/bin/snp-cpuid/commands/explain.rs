@@ -1,24 +1,32 @@
-//! `explain`: a refusal's line in words.
+//! `explain`: a refusal's line, or its number, in words.
 
 use crate::arguments::Arguments;
-use crate::building::told;
+use crate::building::{refusal_json, told};
 use crate::command::Command;
 use crate::failure::Failure;
 use crate::input::{read, shown};
+use crate::json::{self, object};
+use crate::meanings::meaning;
+use crate::numbers::decimal;
 use crate::output;
+use crate::reasons::Reason;
+use crate::wrap::wrapped;
 use snp_cpuid::Refusal;
+use std::ffi::OsStr;
 
 pub const COMMAND: Command = Command {
     name: "explain",
     operands: &["LINE"],
-    options: &[],
-    summary: "put a refusal's line into words",
+    options: &[&[json::OPTION]],
+    summary: "say what a refusal's line, or its number, means",
     about: "\
-Puts a refusal's line, as --line of the other commands prints it, into words. The newline that ends
-it is left out of LINE. '-' reads the line from standard input, newline included.
+Puts a refusal's line, as --line of the other commands prints it, into words, and says what its
+number means in general: when it is given, and what to do. A number alone, as in 'explain 7', gives
+the general meaning. The newline that ends a line is left out of LINE. '-' reads the line from
+standard input, newline included.
 ",
     status: "\
-Exit status: 0 where it is a refusal's line, 1 no such line, 2 bad usage.
+Exit status: 0 where it is a refusal's line or number, 1 no such line, 2 bad usage.
 ",
     run,
 };
@@ -26,8 +34,21 @@ Exit status: 0 where it is a refusal's line, 1 no such line, 2 bad usage.
 fn run(arguments: &Arguments) -> Result<(), Failure> {
     let operand = &arguments.operands[0];
     let line = if operand == "-" { read(operand)? } else { [operand.as_encoded_bytes(), b"\n"].concat() };
-    match Refusal::from_line(&line) {
-        Ok(refusal) => output::print(told(refusal) + "\n"),
-        Err(no_such_line) => Err(Failure::No(format!("{}: {no_such_line}", shown(operand)))),
+    let refusal = Refusal::from_line(&line);
+    let number = refusal.as_ref().map(Refusal::number).ok().or_else(|| number(operand));
+    let Some((number, meaning)) = number.and_then(|number| Some((number, meaning(number)?))) else {
+        return Err(Failure::No { line: format!("{}: no such line", shown(operand)), notes: vec![] });
+    };
+    if json::asked(arguments) {
+        let refusal = refusal.ok().map(|refusal| refusal_json(refusal, &Reason::default()));
+        let answer = object([("answer", "explained".into()), ("number", number.into()), ("meaning", meaning.into()), ("refusal", refusal.into())]);
+        return output::print(answer.to_string());
     }
+    let first = refusal.map_or(format!("refusal {number}\n"), |refusal| told(refusal) + "\n");
+    output::print(format!("{first}\n{}", wrapped("", meaning)))
+}
+
+/// A number alone: no sign, no leading zero.
+fn number(operand: &OsStr) -> Option<u32> {
+    operand.to_str().filter(|text| !text.starts_with('0')).and_then(decimal)
 }

@@ -7,8 +7,11 @@ use crate::failure::Failure;
 use crate::input::{read, shown};
 use crate::output;
 use crate::pages::read_by_table;
+use crate::reasons;
+use crate::standing::word;
 use crate::words::counted;
-use snp_cpuid::KVM_PAGES_BYTES;
+use snp_cpuid::{KVM_PAGES_BYTES, Refusal};
+use std::ffi::OsStr;
 
 pub const COMMAND: Command = Command {
     name: "from-kvm",
@@ -18,31 +21,51 @@ pub const COMMAND: Command = Command {
     about: "\
 Makes two CPUID pages from a struct kvm_cpuid2, as KVM_GET_SUPPORTED_CPUID and KVM_GET_CPUID2 give
 it and 'to-kvm' writes it: rows of leaf Dh on page 1 and all others on page 0, in list order,
-function as EAX_IN and index as ECX_IN. All rows go in; a note on standard error says how many of
-them the table reads: leaves 1, 5, 7.0, B.0, B.1, D.0 to D.3F, 80000001 to 80000008, 8000000A,
-80000019, 8000001A, 8000001D.0 to .3, 8000001E and 8000001F.
+function as EAX_IN and index as ECX_IN. All rows go in where there is room for them; a note on
+standard error says how many of them the table reads: leaves 1, 5, 7.0, B.0, B.1, D.0 to D.3F,
+80000001 to 80000008, 8000000A, 80000019, 8000001A, 8000001D.0 to .3, 8000001E and 8000001F. A page
+holds 64 entries: where the list has more rows for one, those that no table reads are left out, and
+the note says so.
 ",
     status: "\
 Exit status: 0 written, 1 refused (10 its length, 12 a flag other than 0 or 1 or padding that is not
-zero, 11 more than 64 rows for a page), 2 bad usage or a file that cannot be read or written.
+zero, 11 more than 64 rows for a page that a table reads), 2 bad usage or a file that cannot be read
+or written.
 ",
     run,
 };
 
 fn run(arguments: &Arguments) -> Result<(), Failure> {
     let file = &arguments.operands[0];
-    let list = read(file)?;
-    let mut pages = [0; KVM_PAGES_BYTES];
-    let building = Building::of(arguments, COMMAND.name)?;
-    snp_cpuid::read_kvm(&list, &mut pages).map_err(|refusal| building.refused(shown(file), refusal))?;
+    let (pages, note) = pages_of(&read(file)?, file, Building::of(arguments, COMMAND.name)?)?;
     output::write(arguments, &pages)?;
-    // the list was read: its length is 8 + 40 × rows
-    let rows = list[8..].chunks_exact(40);
-    let (all, read) = (rows.len() as u32, rows.filter(|row| read_by_table(word(row, 0), word(row, 4))).count());
-    output::say(&format!("note: {}, of which the table reads {read}", counted(all, "row")));
+    output::say(&format!("note: {note}"));
     Ok(())
 }
 
-fn word(row: &[u8], at: usize) -> u32 {
-    u32::from_le_bytes([row[at], row[at + 1], row[at + 2], row[at + 3]])
+/// The pages of a list, and what is to be said of its rows. Where a page has no room for all rows, those go in that a table reads.
+pub fn pages_of(list: &[u8], file: &OsStr, building: Building) -> Result<([u8; KVM_PAGES_BYTES], String), Failure> {
+    let mut pages = [0; KVM_PAGES_BYTES];
+    let read = |list: &[u8], pages: &mut [u8]| snp_cpuid::read_kvm(list, pages);
+    let refused = |refusal| building.refused(shown(file), refusal, &reasons::of_list(refusal, list));
+    let left_out = match read(list, &mut pages) {
+        Ok(_) => false,
+        Err(Refusal::ListRows) => read(&only_read(list), &mut pages).map(|_| true).map_err(refused)?,
+        Err(refusal) => return Err(refused(refusal)),
+    };
+    // the list was read: its length is 8 + 40 × rows
+    let rows = list[8..].chunks_exact(40);
+    let (all, kept) = (rows.len() as u32, rows.filter(|row| is_read(row)).count());
+    let others = if left_out { format!("; the {} others are left out, as a page holds 64", all - kept as u32) } else { String::new() };
+    Ok((pages, format!("{}, of which the table reads {kept}{others}", counted(all, "row"))))
+}
+
+/// The list with the rows that a table reads.
+fn only_read(list: &[u8]) -> Vec<u8> {
+    let rows: Vec<&[u8]> = list[8..].chunks_exact(40).filter(|row| is_read(row)).collect();
+    [&(rows.len() as u32).to_le_bytes()[..], &[0; 4], &rows.concat()].concat()
+}
+
+fn is_read(row: &[u8]) -> bool {
+    read_by_table(word(row, 0), word(row, 4))
 }

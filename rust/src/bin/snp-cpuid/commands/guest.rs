@@ -5,13 +5,15 @@ use crate::arguments::Arguments;
 use crate::building::{self, Building};
 use crate::command::Command;
 use crate::failure::Failure;
+use crate::input::shown;
+use crate::json;
 use crate::print::{self, Form};
 use crate::{output, processor};
 
 pub const COMMAND: Command = Command {
     name: "guest",
     operands: &["PAGES"],
-    options: &[processor::ALWAYS, &[print::ORIGINS], building::OPTIONS],
+    options: &[processor::ALWAYS, &[print::ORIGINS, json::OPTION], building::OPTIONS],
     summary: "print the table that one processor's guest sees, in the same words",
     about: "\
 Prints the table of the pages as the guest of one processor sees it, in the form of 'table'. It
@@ -21,13 +23,20 @@ the compacted area of XCR0 and XSS. N and X are hexadecimal, with or without 0x.
 where the rows that 'table' prints came from.
 ",
     status: "\
-Exit status: 0 accepted, 1 refused (the line on standard error has the refusal's number, leaf,
-subleaf and s; 13 and 14 are the guest's), 2 bad usage or a file that cannot be read.
+Exit status: 0 accepted, 1 refused (13 and 14 are the guest's), 2 bad usage or a file that cannot be
+read.
 ",
     run,
 };
 
 fn run(arguments: &Arguments) -> Result<(), Failure> {
     let seen = processor::of(arguments, COMMAND.name)?;
-    output::print(table::text(&Building::of(arguments, COMMAND.name)?.seen(&arguments.operands[0], seen)?, Form::of(arguments)))
+    let building = Building::of(arguments, COMMAND.name)?;
+    let file = &arguments.operands[0];
+    let table = building.seen(file, seen)?;
+    if building.json() {
+        let of = seen.map(processor::json);
+        return output::print(table::accepted(&shown(file), building.edition(), &table).with([("processor", of.into())]).to_string());
+    }
+    output::print(table::text(&table, Form::of(arguments)))
 }

@@ -1,15 +1,16 @@
-//! `lookup`: the row of one leaf.
+//! `lookup`: the row of one leaf, or all rows of a leaf with subleaves.
 
 use crate::arguments::Arguments;
 use crate::building::{self, Building};
 use crate::command::Command;
 use crate::failure::Failure;
 use crate::input::shown;
+use crate::json::{self, Json, object};
 use crate::numbers::{digits, prefixed};
 use crate::option::Opt;
-use crate::print::{self, Form};
+use crate::print::{self, Form, place_json, row_json};
 use crate::{output, processor};
-use snp_cpuid::Table;
+use snp_cpuid::{Row, Table};
 use std::ffi::OsStr;
 
 const ENFORCE: Opt = Opt::flag(&["--enforce"], "take the subleaf by the letter");
@@ -17,19 +18,20 @@ const ENFORCE: Opt = Opt::flag(&["--enforce"], "take the subleaf by the letter")
 pub const COMMAND: Command = Command {
     name: "lookup",
     operands: &["PAGES", "LEAF[.SUB]"],
-    options: &[&[ENFORCE, print::ORIGINS], processor::SOMETIMES, building::OPTIONS],
+    options: &[&[ENFORCE, print::ORIGINS, json::OPTION], processor::SOMETIMES, building::OPTIONS],
     summary: "print the row of one leaf",
     about: "\
-Prints the row of one leaf, and subleaf where one is given, as leaf_result_ref of OpenHCL finds it.
-Both numbers are hexadecimal, with or without 0x: 80000008 and 0x80000008 are the same leaf, D.B is
-leaf Dh subleaf 11. A leaf with subleaves is found only under a subleaf that the table has; one
-without is found under any subleaf, and with --enforce only where none is given. With --apic, --xcr0
+Prints the row of one leaf, and subleaf where one is given, as leaf_result_ref of OpenHCL finds it;
+of a leaf with subleaves all rows where none is given. Both numbers are hexadecimal, alone, after 0x
+or before h: 80000008, 0x80000008 and 80000008h are the same leaf, D.B is leaf Dh subleaf 11. A leaf
+without subleaves is found under any subleaf. With --enforce a leaf with subleaves is found only
+under a subleaf that the table has, and one without only where none is given. With --apic, --xcr0
 and --xss it is the row that the guest of that processor sees, as 'guest' prints it. With --origins
 the row's line ends in the page and entry that it is of, as 'table' has it.
 ",
     status: "\
-Exit status: 0 found, 1 not found or the pages are refused, 2 bad usage or a file that cannot be
-read.
+Exit status: 0 found, 1 the pages are refused, 2 bad usage or a file that cannot be read, 3 the
+table has no such row.
 ",
     run,
 };
@@ -37,29 +39,46 @@ read.
 fn run(arguments: &Arguments) -> Result<(), Failure> {
     let (leaf, subleaf) = asked(&arguments.operands[1])?;
     let seen = processor::of(arguments, COMMAND.name)?;
-    let table = Building::of(arguments, COMMAND.name)?.seen(&arguments.operands[0], seen)?;
-    let found = table.lookup(leaf, subleaf, arguments.has(&ENFORCE));
-    // the row that was found: a leaf without subleaves answers under any
-    match found.and_then(|_| table.find(leaf, subleaf).or_else(|| table.find(leaf, None))) {
-        Some(row) => {
-            let form = Form::of(arguments);
-            output::print(form.heading().to_string() + &form.row(&row))
-        }
-        None => Err(Failure::No(absent(&table, leaf, subleaf))),
+    let building = Building::of(arguments, COMMAND.name)?;
+    let file = &arguments.operands[0];
+    let table = building.seen(file, seen)?;
+    let rows = found(&table, leaf, subleaf, arguments.has(&ENFORCE));
+    let absent = rows.is_empty().then(|| Failure::NotFound(absent(&table, leaf, subleaf)));
+    if building.json() {
+        let answer = if absent.is_some() { "not found" } else { "found" };
+        let asked = object([("answer", answer.into()), ("file", shown(file).into()), ("edition", building.edition().into())])
+            .with(place_json(leaf, subleaf))
+            .with([("processor", seen.map(processor::json).into())]);
+        output::print(asked.with([("rows", Json::Array(rows.iter().map(row_json).collect()))]).to_string())?;
+    } else if absent.is_none() {
+        let form = Form::of(arguments);
+        output::print(form.heading().to_string() + &rows.iter().map(|row| form.row(row)).collect::<String>())?;
+    }
+    absent.map_or(Ok(()), Err)
+}
+
+/// The row that `leaf_result_ref` finds. Unless the subleaf is enforced, a leaf with subleaves that is asked for without one gives all its rows.
+fn found(table: &Table, leaf: u32, subleaf: Option<u32>, enforce: bool) -> Vec<Row> {
+    match table.lookup(leaf, subleaf, enforce) {
+        // a leaf without subleaves answers under any
+        Some(_) => table.find(leaf, subleaf).or_else(|| table.find(leaf, None)).into_iter().collect(),
+        None if subleaf.is_none() && !enforce => table.rows().filter(|row| row.leaf == leaf).collect(),
+        None => vec![],
     }
 }
 
-/// LEAF or LEAF.SUB, hexadecimal with or without 0x.
+/// LEAF or LEAF.SUB, hexadecimal, alone, after 0x or before h.
 fn asked(operand: &OsStr) -> Result<(u32, Option<u32>), Failure> {
     let text = operand.to_str().unwrap_or_default();
-    let number = |text| digits(text).or_else(|| prefixed(text));
+    let before_h = |text: &str| text.strip_suffix(['h', 'H']).filter(|digits| !digits.is_empty()).and_then(digits);
+    let number = |text| digits(text).or_else(|| prefixed(text)).or_else(|| before_h(text));
     let numbers = match text.split_once('.') {
         None => number(text).map(|leaf| (leaf, None)),
         Some((leaf, subleaf)) => number(leaf).zip(number(subleaf)).map(|(leaf, subleaf)| (leaf, Some(subleaf))),
     };
     numbers.ok_or_else(|| {
         let given = shown(operand);
-        Failure::usage(COMMAND.name, &format!("'{given}' is no LEAF[.SUB], hexadecimal numbers as in 80000008 or 0xD.1"))
+        Failure::usage(COMMAND.name, &format!("'{given}' is no LEAF[.SUB], hexadecimal numbers as in 80000008, 80000008h or 0xD.1"))
     })
 }
 

@@ -2,6 +2,7 @@
 
 mod carry;
 mod compare;
+mod entries;
 mod explain;
 mod fleet;
 pub mod from_dump;
@@ -35,5 +36,6 @@ pub const ALL: &[Command] = &[
     fleet::COMMAND,
     nearest::COMMAND,
     topologies::COMMAND,
+    entries::COMMAND,
     explain::COMMAND,
 ];

@@ -1,20 +1,24 @@
 //! `nearest`: the first result bit that decides over the answer, and what its flip turns the answer into.
 
 use crate::arguments::Arguments;
-use crate::building::{self, Building, told};
+use crate::building::{self, Building, refusal_json, told};
 use crate::command::Command;
-use crate::differences::{Tables, differences};
+use crate::differences::{Tables, differences, lines};
 use crate::failure::Failure;
 use crate::features::{self, REGISTERS};
 use crate::fields::FIELDS;
 use crate::input::{read, shown};
+use crate::json::{self, Json, array, object};
+use crate::masks::kept;
+use crate::print::place_json;
+use crate::standing::word;
 use crate::{output, print, words};
 use snp_cpuid::{Bit, Refusal, Table};
 
 pub const COMMAND: Command = Command {
     name: "nearest",
     operands: &["PAGES"],
-    options: &[building::OPTIONS],
+    options: &[&[json::OPTION], building::OPTIONS],
     summary: "print the first reported bit that decides over the table",
     about: "\
 Prints the first result bit of the pages whose flip alone changes the table, the refusal or its
@@ -36,23 +40,64 @@ fn run(arguments: &Arguments) -> Result<(), Failure> {
     let building = Building::of(arguments, COMMAND.name)?;
     let file = &arguments.operands[0];
     let pages = read(file)?;
-    let bit = building.nearest(&pages).map_err(|refusal| building.refused(shown(file), refusal))?;
+    let bit = building.nearest(&pages).map_err(|refusal| building.pages_refused(file, refusal, &pages))?;
     let mut flipped = pages.clone();
     bit.flip(&mut flipped);
-    let place = format!("page {}, entry {}, {} bit {}", bit.page, bit.entry, REGISTERS[bit.register as usize], bit.bit);
-    let answers = changed(&building.build(&pages), &building.build(&flipped));
-    output::print(format!("{place}\n{}\n\n{answers}", named(&bit, &pages)))
+    let decides = Deciding::of(bit, &pages);
+    let (before, after) = (building.build(&pages), building.build(&flipped));
+    if building.json() {
+        let answer = object([("answer", "found".into()), ("file", shown(file).into()), ("edition", building.edition().into())]);
+        let answers = [("as_it_stands", answer_json(&before, building, &pages)), ("flipped", answer_json(&after, building, &flipped))];
+        let differences = match (&before, &after) {
+            (Ok(before), Ok(after)) => differences(before, after),
+            _ => vec![],
+        };
+        let differences = array(differences.iter().map(|difference| difference.json()));
+        return output::print(answer.with(decides.json()).with(answers).with([("differences", differences)]).to_string());
+    }
+    output::print(format!("{}\n{}", decides.told(), changed(&before, &after)))
 }
 
-/// The leaf of the bit's entry, the bit's name, and whether it is set.
-fn named(bit: &Bit, pages: &[u8]) -> String {
-    let word = |at: usize| u32::from_le_bytes(pages[at..at + 4].try_into().expect("four bytes"));
-    let (start, register) = (bit.entry_start(), bit.register as usize);
-    let leaf = word(start);
-    // a leaf without subleaves takes its first entry for any ECX_IN
-    let subleaf = matches!(leaf, 0x7 | 0xB | 0xD | 0x8000_001D).then(|| word(start + 4));
-    let state = if word(start + 24 + 4 * register) >> bit.bit & 1 == 1 { "set" } else { "clear" };
-    format!("leaf {} {} bit {}, {}: {state}", print::place(leaf, subleaf), REGISTERS[register], bit.bit, name(leaf, subleaf, register, bit.bit))
+/// The bit with its leaf and name.
+struct Deciding {
+    bit: Bit,
+    leaf: u32,
+    /// the subleaf; none for a leaf without, which takes its first entry for any ECX_IN
+    subleaf: Option<u32>,
+    name: String,
+    set: bool,
+}
+
+impl Deciding {
+    fn of(bit: Bit, pages: &[u8]) -> Deciding {
+        let (start, register) = (bit.entry_start(), bit.register as usize);
+        let leaf = word(pages, start);
+        let subleaf = kept(leaf, word(pages, start + 4)).and_then(|kept| kept.subleaf);
+        let set = word(pages, start + 24 + 4 * register) >> bit.bit & 1 == 1;
+        Deciding { bit, leaf, subleaf, name: name(leaf, subleaf, register, bit.bit), set }
+    }
+
+    /// Its place, and under it its leaf, its name, and whether it is set.
+    fn told(&self) -> String {
+        let Bit { page, entry, bit, .. } = self.bit;
+        let (register, state) = (REGISTERS[self.bit.register as usize], if self.set { "set" } else { "clear" });
+        let row = print::place(self.leaf, self.subleaf);
+        format!("page {page}, entry {entry}, {register} bit {bit}\nleaf {row} {register} bit {bit}, {}: {state}\n", self.name)
+    }
+
+    fn json(&self) -> Vec<(&'static str, Json)> {
+        let Bit { page, entry, bit, .. } = self.bit;
+        let place = [("page", page.into()), ("entry", entry.into())].into_iter().chain(place_json(self.leaf, self.subleaf));
+        let register = REGISTERS[self.bit.register as usize];
+        place.chain([("register", register.into()), ("bit", bit.into()), ("name", self.name.as_str().into()), ("set", self.set.into())]).collect()
+    }
+}
+
+fn answer_json(answer: &Result<Table, Refusal>, building: Building, pages: &[u8]) -> Json {
+    match answer {
+        Ok(table) => object([("answer", "accepted".into()), ("rows", table.rows().count().into())]),
+        Err(refusal) => object([("answer", "refused".into()), ("refusal", refusal_json(*refusal, &building.reason(*refusal, pages)))]),
+    }
 }
 
 /// A feature's name, or the field that the bit is of.
@@ -72,7 +117,8 @@ fn changed(before: &Result<Table, Refusal>, after: &Result<Table, Refusal>) -> S
     let answers = format!("as it stands  {}\nflipped       {}\n", said(before), said(after));
     match (before, after) {
         (Ok(before), Ok(after)) => {
-            answers + "\n" + differences(&Tables { names: ["as it stands", "flipped"], origins: false }, before, after).trim_end_matches('\n') + "\n"
+            let names = Tables { names: ["as it stands", "flipped"], origins: false };
+            answers + "\n" + &lines(&names, differences(before, after).iter())
         }
         _ => answers,
     }

@@ -4,19 +4,22 @@ use crate::arguments::Arguments;
 use crate::building::{self, Building};
 use crate::command::Command;
 use crate::failure::Failure;
-use crate::features::{FEATURES, FeatureRegister, REGISTERS};
+use crate::features::{FEATURES, FeatureBit, FeatureRegister, REGISTERS};
 use crate::input::{read, shown};
+use crate::json::{self, Json, array, object};
 use crate::option::Opt;
-use crate::print::{self, Form};
+use crate::print::{self, Form, bit_json};
+use crate::reasons::{self, Reason};
 use crate::{output, words};
-use snp_cpuid::{NotPooled, Table};
+use snp_cpuid::{NotPooled, Refusal, Table};
+use std::collections::BTreeMap;
 
 const IMAGE: Opt = output::file_or_standard_output("IMAGE");
 
 pub const COMMAND: Command = Command {
     name: "pool",
     operands: &["PAGES.."],
-    options: &[&[IMAGE, print::ORIGINS], building::OPTIONS],
+    options: &[&[IMAGE, print::ORIGINS, json::OPTION], building::OPTIONS],
     summary: "print or write one table for a pool of 2 to 16 servers",
     about: "\
 Makes one table of the page sets of 2 to 16 servers, for a guest that moves between them: a feature
@@ -27,13 +30,13 @@ the first server's pages.
 
 Notes on standard error say which feature bits each server cost the pool: those that the tables of
 all other servers have and its own has not. A bit that more than one server lacks is no single
-server's cost; a last note names such bits, where some server has them.
+server's cost; further notes name such bits with the servers that lack them.
 ",
     status: "\
 Exit status: 0 accepted, 1 refused (18 fewer than 2 page sets or more than 16; then the first server
 that is refused by itself, under its file's name; then 19 the servers differ, in a row that all
-their tables have, elsewhere than in feature bits or D.0.ECX, and 'compare' of two of them says
-where), 2 bad usage or a file that cannot be read or written.
+their tables have, elsewhere than in feature bits or D.0.ECX, and notes name the server, leaf and
+register), 2 bad usage or a file that cannot be read or written.
 ",
     run,
 };
@@ -43,55 +46,106 @@ fn run(arguments: &Arguments) -> Result<(), Failure> {
     if files.iter().filter(|file| *file == "-").count() > 1 {
         return Err(Failure::usage(COMMAND.name, "standard input can be the pages of one server only"));
     }
+    output::json_apart(arguments, COMMAND.name)?;
     let building = Building::of(arguments, COMMAND.name)?;
     let sets = files.iter().map(|file| read(file)).collect::<Result<Vec<_>, _>>()?;
-    let table = building.pool(&sets).map_err(|NotPooled { refusal, server }| {
-        let name = server.map_or("the pool".into(), |server| shown(&files[server]));
-        building.refused(name, refusal)
-    })?;
+    let names: Vec<String> = files.iter().map(|file| shown(file)).collect();
+    let table = building.pool(&sets).map_err(|not| refused(building, &names, &sets, not))?;
+    let tables: Vec<Table> = sets.iter().map(|pages| building.build(pages).expect("a pool's servers are accepted")).collect();
+    let servers = Servers { names, tables };
     if arguments.has(&IMAGE) {
         output::write(arguments, table.image())?;
-    } else {
+    }
+    if building.json() {
+        let answer = object([("answer", "accepted".into()), ("edition", building.edition().into()), ("image", output::file_json(arguments))]);
+        return output::print(answer.with(servers.json()).with(super::table::members(&table)).to_string());
+    }
+    if !arguments.has(&IMAGE) {
         output::print(super::table::text(&table, Form::of(arguments)))?;
     }
-    let servers: Vec<Table> = sets.iter().map(|pages| building.build(pages).expect("a pool's servers are accepted")).collect();
-    for (place, file) in files.iter().enumerate() {
-        let cost = named(|register| cost(&values(&servers, register), place));
-        let cost = if cost.is_empty() { "no feature bit".into() } else { cost };
-        output::say(&format!("note: {} cost the pool {cost}", shown(file)));
-    }
-    let several = named(|register| lacked_by_several(&values(&servers, register)));
-    if !several.is_empty() {
-        output::say(&format!("note: more than one server lacks {several}"));
-    }
+    servers.notes().iter().for_each(|note| output::say(&format!("note: {note}")));
     Ok(())
 }
 
-/// The bits that all other servers have and this one has not.
-fn cost(values: &[u32], place: usize) -> u32 {
-    let others = values.iter().enumerate().filter(|(other, _)| *other != place);
-    others.fold(u32::MAX, |all, (_, value)| all & value) & !values[place]
+/// A server's own refusal under its name, or the pool's.
+fn refused(building: Building, names: &[String], sets: &[Vec<u8>], NotPooled { refusal, server }: NotPooled) -> Failure {
+    match (server, refusal) {
+        (Some(server), _) => building.refused(&names[server], refusal, &building.reason(refusal, &sets[server])),
+        (None, Refusal::PoolSets) => building.refused("the pool", refusal, &reasons::of_pool_size(sets.len())),
+        (None, _) => building.refused("the pool", refusal, &unlike(building, names, sets)),
+    }
 }
 
-/// The bits that some server has and two or more have not.
-fn lacked_by_several(values: &[u32]) -> u32 {
-    let some = values.iter().fold(0, |any, value| any | value);
-    let all = values.iter().fold(u32::MAX, |all, value| all & value);
-    (0..values.len()).fold(some & !all, |several, place| several & !cost(values, place))
+/// Where the servers of a pool that is refused by 19 differ from the first.
+fn unlike(building: Building, names: &[String], sets: &[Vec<u8>]) -> Reason {
+    let tables: Vec<Table> = sets.iter().filter_map(|pages| building.build(pages).ok()).collect();
+    reasons::of_pool(names, sets, &tables, building.secure_avic())
 }
 
-/// A feature register in each server's table.
-fn values(servers: &[Table], register: &FeatureRegister) -> Vec<u32> {
-    let of = |table: &Table| table.find(register.leaf, register.subleaf).map_or(0, |row| words::registers(&row)[register.register]);
-    servers.iter().map(of).collect()
+/// The servers of a pool.
+struct Servers {
+    names: Vec<String>,
+    tables: Vec<Table>,
 }
 
-/// The names of bits of the feature registers, each register's before its name.
-fn named(bits: impl Fn(&FeatureRegister) -> u32) -> String {
-    let of = |register: &FeatureRegister| {
-        let names = register.names(bits(register).into());
-        let place = print::place(register.leaf, register.subleaf);
-        (!names.is_empty()).then(|| format!("{} ({place} {})", names.join(" "), REGISTERS[register.register]))
+impl Servers {
+    /// The feature bits that some server has and another has not, each with the servers that lack it.
+    fn lacking(&self) -> Vec<(FeatureBit, Vec<usize>)> {
+        let of_register = |register: &'static FeatureRegister| {
+            let values: Vec<u32> = self.tables.iter().map(|table| value(table, register)).collect();
+            let some = values.iter().fold(0, |any, value| any | value);
+            let lackers = move |bit: u32| values.iter().enumerate().filter(|(_, value)| *value >> bit & 1 == 0).map(|(place, _)| place).collect();
+            register.bits_of(some).map(move |bit| (bit, lackers(bit.bit)))
+        };
+        FEATURES.iter().flat_map(of_register).filter(|(_, lackers): &(_, Vec<usize>)| !lackers.is_empty()).collect()
+    }
+
+    /// The bits by the servers that lack them.
+    fn by_servers(&self) -> BTreeMap<Vec<usize>, Vec<FeatureBit>> {
+        let mut groups: BTreeMap<Vec<usize>, Vec<FeatureBit>> = BTreeMap::new();
+        self.lacking().into_iter().for_each(|(bit, lackers)| groups.entry(lackers).or_default().push(bit));
+        groups
+    }
+
+    /// What each server cost the pool alone, and then what several lack.
+    fn notes(&self) -> Vec<String> {
+        let groups = self.by_servers();
+        let cost = |place: usize| groups.get(&vec![place]).map_or("no feature bit".into(), |bits| named(bits));
+        let alone = self.names.iter().enumerate().map(|(place, name)| format!("{name} cost the pool {}", cost(place)));
+        let several = groups.iter().filter(|(lackers, _)| lackers.len() > 1);
+        alone.chain(several.map(|(lackers, bits)| format!("{} lack {}", self.listed(lackers), named(bits)))).collect()
+    }
+
+    fn listed(&self, places: &[usize]) -> String {
+        let names: Vec<&str> = places.iter().map(|place| self.names[*place].as_str()).collect();
+        let (last, before) = names.split_last().expect("servers that lack something");
+        format!("{} and {last}", before.join(", "))
+    }
+
+    fn json(&self) -> [(&'static str, Json); 2] {
+        let groups = self.by_servers();
+        let bits = |places: &[usize]| array(groups.get(places).into_iter().flatten().map(bit_json));
+        let server = |(place, name): (usize, &String)| object([("file", name.as_str().into()), ("cost", bits(&[place]))]);
+        let lacked = |(lackers, bits): (&Vec<usize>, &Vec<FeatureBit>)| {
+            let servers = array(lackers.iter().map(|place| self.names[*place].as_str()));
+            object([("servers", servers), ("bits", array(bits.iter().map(bit_json)))])
+        };
+        let several = groups.iter().filter(|(lackers, _)| lackers.len() > 1).map(lacked);
+        [("servers", array(self.names.iter().enumerate().map(server))), ("lacked_by_several", array(several))]
+    }
+}
+
+/// A feature register in a table.
+fn value(table: &Table, register: &FeatureRegister) -> u32 {
+    table.find(register.leaf, register.subleaf).map_or(0, |row| words::registers(&row)[register.register])
+}
+
+/// The names of feature bits in their order, each register's before its place.
+fn named(bits: &[FeatureBit]) -> String {
+    let place = |bit: &FeatureBit| (bit.leaf, bit.subleaf, bit.register);
+    let of = |bits: &[FeatureBit]| {
+        let names: Vec<&str> = bits.iter().map(|bit| bit.name).collect();
+        format!("{} ({} {})", names.join(" "), print::place(bits[0].leaf, bits[0].subleaf), REGISTERS[bits[0].register])
     };
-    FEATURES.iter().filter_map(of).collect::<Vec<_>>().join(", ")
+    bits.chunk_by(|a, b| place(a) == place(b)).map(of).collect::<Vec<_>>().join(", ")
 }

@@ -6,8 +6,10 @@ use crate::command::Command;
 use crate::components;
 use crate::failure::Failure;
 use crate::fields::cut;
+use crate::input::shown;
+use crate::json::{self, Json, array, hex, object};
 use crate::output;
-use crate::print::{self, Form};
+use crate::print::{self, Form, row_json};
 use crate::words::counted;
 use crate::wrap::wrapped;
 use snp_cpuid::Table;
@@ -15,7 +17,7 @@ use snp_cpuid::Table;
 pub const COMMAND: Command = Command {
     name: "table",
     operands: &["PAGES"],
-    options: &[&[print::ORIGINS], building::OPTIONS],
+    options: &[&[print::ORIGINS, json::OPTION], building::OPTIONS],
     summary: "print the table, its features and its topology in words",
     about: "\
 Prints the table of the pages: for each row its leaf, subleaf and registers in hexadecimal, under it
@@ -25,14 +27,42 @@ ends in the page and entry that it is of, both counted from 0, or in 'made here'
 and the two rows of leaf B.
 ",
     status: "\
-Exit status: 0 accepted, 1 refused (the line on standard error has the refusal's number, leaf,
-subleaf and s), 2 bad usage or a file that cannot be read. An empty page file is refusal 1.
+Exit status: 0 accepted, 1 refused (standard error has the refusal's number, the numbers that it
+rests on, and what change would be accepted), 2 bad usage or a file that cannot be read. An empty
+page file is refusal 1.
 ",
     run,
 };
 
 fn run(arguments: &Arguments) -> Result<(), Failure> {
-    output::print(text(&Building::of(arguments, COMMAND.name)?.table(&arguments.operands[0])?, Form::of(arguments)))
+    let building = Building::of(arguments, COMMAND.name)?;
+    let file = &arguments.operands[0];
+    let table = building.table(file)?;
+    if building.json() {
+        return output::print(accepted(&shown(file), building.edition(), &table).to_string());
+    }
+    output::print(text(&table, Form::of(arguments)))
+}
+
+/// The object of an accepted table.
+pub fn accepted(file: &str, edition: u32, table: &Table) -> Json {
+    object([("answer", "accepted".into()), ("file", file.into()), ("edition", edition.into())]).with(members(table))
+}
+
+/// What an object says of a table.
+pub fn members(table: &Table) -> [(&'static str, Json); 5] {
+    let mask = table.max_extended_state();
+    let topology = levels(table).map(|[(threads, thread_shift), (processors, core_shift)]| {
+        let counts = [("threads_per_core", threads.into()), ("logical_processors", processors.into())];
+        object(counts).with([("thread_shift", thread_shift.into()), ("core_shift", core_shift.into())])
+    });
+    [
+        ("rows", array(table.rows().map(|row| row_json(&row)))),
+        ("combined_mask", hex(mask as u32)),
+        ("states", array(components::names(mask))),
+        ("save_area_bytes", table.row(0xD, Some(0)).map(|first| first.ecx).into()),
+        ("topology", topology.into()),
+    ]
 }
 
 /// A table in words: its rows, and what a reader asks of the whole.
@@ -52,14 +82,17 @@ fn summary(table: &Table) -> String {
     text + &wrapped(&format!("{:15}", "topology"), &topology(table))
 }
 
-/// The two levels of leaf Bh.
-fn topology(table: &Table) -> String {
+/// The processors and the APIC id shift of the two levels of leaf Bh; an accepted table has both.
+fn levels(table: &Table) -> Option<[(u32, u32); 2]> {
     let level = |subleaf| {
         let row = table.find(0xB, Some(subleaf))?;
         Some((cut(&row, "num-lps"), cut(&row, "x2-apic-shift")))
     };
-    // an accepted table has both rows
-    let (Some((threads, thread_shift)), Some((processors, core_shift))) = (level(0), level(1)) else { return "none".into() };
+    Some([level(0)?, level(1)?])
+}
+
+fn topology(table: &Table) -> String {
+    let Some([(threads, thread_shift), (processors, core_shift)]) = levels(table) else { return "none".into() };
     format!(
         "{} per core (APIC id shift {thread_shift}), {} (APIC id shift {core_shift})",
         counted(threads, "thread"),

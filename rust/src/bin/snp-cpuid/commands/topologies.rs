@@ -3,13 +3,14 @@
 use crate::arguments::Arguments;
 use crate::command::Command;
 use crate::failure::Failure;
+use crate::json::{self, Json, array, object};
 use crate::output;
 use snp_cpuid::{TOPOLOGIES_BYTES, Topology, topologies, write_topologies};
 
 pub const COMMAND: Command = Command {
     name: "topologies",
     operands: &[],
-    options: &[&[output::bytes_to_file("FILE")]],
+    options: &[&[output::bytes_to_file("FILE"), json::OPTION]],
     summary: "list every topology that is accepted, up to size seven",
     about: "\
 Lists every topology that is accepted with s from 0 to 7, by the five numbers that pages tell it by:
@@ -27,7 +28,20 @@ Exit status: 0 listed, 2 bad usage or a file that cannot be written.
 fn run(arguments: &Arguments) -> Result<(), Failure> {
     let mut bytes = [0; TOPOLOGIES_BYTES];
     write_topologies(&mut bytes).expect("there is room for the list");
-    output::write_or_print(arguments, &bytes, &lines(&topologies()))
+    output::json_apart(arguments, COMMAND.name)?;
+    let list = topologies();
+    if json::asked(arguments) {
+        output::write_or_print(arguments, &bytes, "")?;
+        let answer = object([("answer", "listed".into()), ("topologies", array(list.iter().map(topology)))]);
+        return output::print(answer.to_string());
+    }
+    output::write_or_print(arguments, &bytes, &lines(&list))
+}
+
+fn topology(numbers: &Topology) -> Json {
+    let Topology { s, nc, lps, mt, t } = *numbers;
+    let [s, nc, lps, mt, t] = [s, nc, lps, mt.into(), t].map(|number| Json::from(u32::from(number)));
+    object([("s", s), ("nc", nc), ("lps", lps), ("mt", mt), ("t", t)])
 }
 
 /// A heading, and a line for each.

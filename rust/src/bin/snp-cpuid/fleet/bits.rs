@@ -1,6 +1,6 @@
 //! The feature bits of tables: which one has and another has not, by name.
 
-use crate::features::{FEATURES, FeatureRegister, REGISTERS};
+use crate::features::{FEATURES, FeatureBit, FeatureRegister, REGISTERS};
 use crate::{print, words};
 use snp_cpuid::Table;
 
@@ -12,10 +12,9 @@ pub struct Bits {
 }
 
 impl Bits {
-    /// Their numbers and names, rising.
-    pub fn named(&self) -> impl Iterator<Item = (u32, &'static str)> {
-        let value = self.value;
-        self.register.bits.iter().copied().filter(move |(bit, _)| value >> bit & 1 == 1)
+    /// Each of them, rising.
+    pub fn each(&self) -> impl Iterator<Item = FeatureBit> {
+        self.register.bits_of(self.value)
     }
 
     /// Their names.

@@ -7,10 +7,12 @@ use super::moves::{Way, by_pages, index};
 use super::pools::{Lost, Pool};
 use super::text::servers_of;
 use super::{Answer, Class, Fleet, Group, Server};
+use crate::building::refusal_json;
 use crate::features::REGISTERS;
 use crate::json::{Json, array, hex, object};
 use crate::order::Compared;
-use snp_cpuid::{Comparison, Refusal, Register};
+use crate::print::{bit_json, place_json};
+use snp_cpuid::{Comparison, Register};
 
 /// Beyond so many classes the moves are not listed pair by pair.
 const MOST_LISTED: usize = 100;
@@ -44,13 +46,12 @@ fn server(fleet: &Fleet, server: &Server) -> Json {
     let named = object([("name", source.name.as_str().into()), ("file", source.file.as_str().into()), ("kind", source.kind.name().into())]);
     named.with(match &server.answer {
         Answer::Class(class) => vec![("answer", "accepted".into()), ("class", fleet.classes[*class].name.as_str().into())],
-        Answer::Refused(refusal) => vec![("answer", "refused".into()), ("refusal", refused(*refusal))],
+        Answer::Refused(refusal) => {
+            let reason = fleet.building.reason(*refusal, server.pages());
+            vec![("answer", "refused".into()), ("refusal", refusal_json(*refusal, &reason))]
+        }
         Answer::Unread(why) => vec![("answer", "not read".into()), ("why", why.as_str().into())],
     })
-}
-
-fn refused(refusal: Refusal) -> Json {
-    object([("number", refusal.number().into()), ("line", refusal.line().trim_end().into()), ("words", refusal.to_string().into())])
 }
 
 fn group(fleet: &Fleet, group: &Group) -> Json {
@@ -79,11 +80,6 @@ fn class(fleet: &Fleet, place: usize) -> Json {
         ("lacks", array(bits::names(&differing::lacks(fleet, place)))),
         ("may_go_to", fleet.moves.rises[place].as_ref().map_or(Json::Null, |to| names(fleet, to))),
     ])
-}
-
-/// A register by its place.
-fn register(leaf: u32, subleaf: Option<u32>, register: usize) -> Json {
-    object([("leaf", hex(leaf)), ("subleaf", subleaf.into()), ("register", REGISTERS[register].into())])
 }
 
 /// Every ordered pair of classes.
@@ -116,9 +112,8 @@ fn one_move(from: &Class, to: &Class) -> Json {
 
 fn pool(fleet: &Fleet, pool: &Pool) -> Json {
     let lost = |lost: &Lost| {
-        let (f, (bit, name)) = (lost.bits.register, lost.bits.named().next().unwrap_or_default());
-        let lacking = ("lacking", names(fleet, &lost.lacking));
-        register(f.leaf, f.subleaf, f.register).with([("bit", bit.into()), ("name", name.into()), lacking])
+        let bit = lost.bits.each().next().expect("one bit");
+        bit_json(&bit).with([("lacking", names(fleet, &lost.lacking))])
     };
     let costs = pool.classes.iter().map(|class| {
         let cost = array(bits::names(&pool.cost(*class)));
@@ -135,18 +130,15 @@ fn pool(fleet: &Fleet, pool: &Pool) -> Json {
 }
 
 fn feature(fleet: &Fleet, feature: &Feature) -> Vec<Json> {
-    let f = feature.bits.register;
     let having: Vec<usize> = (0..feature.has.len()).filter(|class| feature.has[*class]).collect();
-    let of = |(bit, name): (u32, &str)| {
-        register(f.leaf, f.subleaf, f.register).with([("bit", bit.into()), ("name", name.into()), ("classes", names(fleet, &having))])
-    };
-    feature.bits.named().map(of).collect()
+    feature.bits.each().map(|bit| bit_json(&bit).with([("classes", names(fleet, &having))])).collect()
 }
 
 fn apart(fleet: &Fleet, apart: &Apart) -> Json {
     let values =
         fleet.groups.iter().zip(&apart.values).map(|(group, value)| object([("group", group.letter.as_str().into()), ("value", hex(*value))]));
-    register(apart.leaf, apart.subleaf, apart.register).with([("values", array(values))])
+    let register = ("register", REGISTERS[apart.register].into());
+    object(place_json(apart.leaf, apart.subleaf)).with([register, ("values", array(values))])
 }
 
 fn unpromised(from: &str, to: &str, why: &Comparison) -> Json {

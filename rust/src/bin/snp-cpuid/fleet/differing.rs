@@ -3,6 +3,7 @@
 use super::bits::{self, Bits};
 use super::groups::joins;
 use super::{Class, Fleet, Group};
+use crate::features::FeatureBit;
 use crate::words;
 use snp_cpuid::Table;
 
@@ -20,7 +21,7 @@ pub fn features(classes: &[Class]) -> Vec<Feature> {
     for bits in bits::differing(&tables) {
         let values: Vec<u32> = tables.iter().map(|table| bits::value(table, bits.register)).collect();
         let start = rows.len();
-        for (bit, _) in bits.named() {
+        for FeatureBit { bit, .. } in bits.each() {
             let has: Vec<bool> = values.iter().map(|value| value >> bit & 1 == 1).collect();
             match rows[start..].iter_mut().find(|row| row.has == has) {
                 Some(row) => row.bits.value |= 1 << bit,

@@ -130,8 +130,8 @@ impl Way {
 }
 
 /// Bits by name and number: SHA (bit 29).
-pub fn numbered(bits: &Bits) -> String {
-    let told: Vec<String> = bits.named().map(|(bit, name)| format!("{name} (bit {bit})")).collect();
+fn numbered(bits: &Bits) -> String {
+    let told: Vec<String> = bits.each().map(|bit| format!("{} (bit {})", bit.name, bit.bit)).collect();
     if told.is_empty() { format!("bits {:08X}", bits.value) } else { told.join(", ") }
 }
 

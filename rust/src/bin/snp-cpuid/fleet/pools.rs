@@ -108,8 +108,8 @@ fn greatest<'a>(group: &Group, classes: &[Class], pages: &impl Fn(usize) -> &'a 
 fn lost(tables: &[&Table], classes: &[usize]) -> Vec<Lost> {
     let mut lost = vec![];
     for bits in bits::differing(tables) {
-        for (bit, _) in bits.named() {
-            let one = Bits { value: 1 << bit, ..bits };
+        for bit in bits.each() {
+            let one = Bits { value: 1 << bit.bit, ..bits };
             let lacks = |table: &Table| bits::value(table, one.register) & one.value == 0;
             let lacking = classes.iter().zip(tables).filter(|(_, table)| lacks(table)).map(|(class, _)| *class).collect();
             lost.push(Lost { bits: one, lacking });

@@ -39,6 +39,7 @@ pub fn together(servers: &[Server], building: &Building) -> Vec<Refused> {
     reasons.into_iter().map(|(told, servers)| Refused { servers, told }).collect()
 }
 
-fn told(refusal: Refusal, _pages: &[u8], _building: &Building) -> Told {
-    Told { number: refusal.number(), words: refusal.to_string(), numbers: String::new(), change: String::new() }
+fn told(refusal: Refusal, pages: &[u8], building: &Building) -> Told {
+    let reason = building.reason(refusal, pages);
+    Told { number: refusal.number(), words: refusal.to_string(), numbers: reason.numbers, change: reason.change }
 }

@@ -5,7 +5,7 @@ use super::super::bits::{self, Bits, register_name};
 use super::super::differing::{self, Feature};
 use super::html::{column, details, folded, mark, table};
 use super::{link, links};
-use crate::features::{FEATURES, FeatureRegister};
+use crate::features::{FEATURES, FeatureBit, FeatureRegister};
 use snp_cpuid::Table;
 
 /// So many classes stand side by side; of more, those without the feature are listed.
@@ -15,8 +15,8 @@ const ACROSS: usize = 16;
 pub fn named(bits: &Bits) -> String {
     let f = bits.register;
     let register = register_name(f.leaf, f.subleaf, f.register);
-    let one = |(bit, name): (u32, &str)| format!("<span class=\"o\"><b>{name}</b> <small>{register} bit {bit}</small></span>");
-    bits.named().map(one).collect::<Vec<_>>().join(" ")
+    let one = |bit: FeatureBit| format!("<span class=\"o\"><b>{}</b> <small>{register} bit {}</small></span>", bit.name, bit.bit);
+    bits.each().map(one).collect::<Vec<_>>().join(" ")
 }
 
 pub fn of(fleet: &Fleet) -> String {
@@ -26,7 +26,7 @@ pub fn of(fleet: &Fleet) -> String {
     }
     let few = fleet.classes.len() <= ACROSS;
     let legend = format!("<p class=\"leg\"><span>{} has it</span> <span>{} has it not</span></p>\n", mark("has", ""), mark("not", ""));
-    let bits: usize = rows.iter().map(|row| row.bits.named().count()).sum();
+    let bits: usize = rows.iter().map(|row| row.bits.each().count()).sum();
     let words = format!(
         "<p>Bits of one register that the same classes have share a row. {bits} bits differ; every other one is the same in all classes.</p>\n"
     );
@@ -46,7 +46,7 @@ pub fn of(fleet: &Fleet) -> String {
 fn feature(fleet: &Fleet, row: &Feature, few: bool) -> String {
     let f = row.bits.register;
     let register = register_name(f.leaf, f.subleaf, f.register);
-    let names: String = row.bits.named().map(|(bit, name)| format!("<span class=\"o\"><b>{name}</b> <small>{bit}</small></span> ")).collect();
+    let names: String = row.bits.each().map(|bit| format!("<span class=\"o\"><b>{}</b> <small>{}</small></span> ", bit.name, bit.bit)).collect();
     let cells: String = if few {
         let cell = |(class, has): (usize, &bool)| {
             let data = format!("data-class=\"{}\"", fleet.classes[class].name);

@@ -1,0 +1,343 @@
+//! Why something was refused: the numbers that the refusal rests on, and what change would be accepted. The refusal itself is the library's.
+
+use crate::components;
+use crate::differences::HTT;
+use crate::features::{self, EAX, EBX, ECX, EDX, REGISTERS};
+use crate::json::{self, Json, array, object};
+use crate::masks::required;
+use crate::print::place as row_name;
+use crate::standing::{Place, Standing, word};
+use crate::topology::{self, Numbers};
+use snp_cpuid::{Refusal, Table, TopologyError};
+
+/// The numbers behind a refusal, and what would be accepted.
+#[derive(Default)]
+pub struct Reason {
+    /// the numbers, in words
+    pub numbers: String,
+    /// what would be accepted, in words; empty where nothing is to be said
+    pub change: String,
+    /// registers of first entries with which the pages get beyond this refusal
+    pub registers: Vec<Register>,
+    /// the rows that the pages have no entry for
+    pub missing: Vec<(u32, Option<u32>)>,
+}
+
+/// A register with the value that would be accepted.
+pub struct Register {
+    pub leaf: u32,
+    pub subleaf: Option<u32>,
+    pub register: usize,
+    pub value: u32,
+}
+
+impl Reason {
+    fn new(numbers: String, change: impl Into<String>) -> Reason {
+        Reason { numbers, change: change.into(), ..Reason::default() }
+    }
+
+    /// The notes after a refusal's line.
+    pub fn notes(&self) -> Vec<String> {
+        let change = if self.change.is_empty() { String::new() } else { format!("accepted with {}", self.change) };
+        [self.numbers.clone(), change].into_iter().filter(|note| !note.is_empty()).collect()
+    }
+
+    /// Its members of a refusal's object.
+    pub fn json(&self) -> Vec<(&'static str, Json)> {
+        let register = |r: &Register| {
+            let name = REGISTERS[r.register];
+            object([("leaf", json::hex(r.leaf)), ("subleaf", r.subleaf.into()), ("register", name.into()), ("value", json::hex(r.value))])
+        };
+        let missing = |(leaf, subleaf): &(u32, Option<u32>)| object([("leaf", json::hex(*leaf)), ("subleaf", (*subleaf).into())]);
+        vec![
+            ("numbers", self.numbers.as_str().into()),
+            ("change", self.change.as_str().into()),
+            ("registers", array(self.registers.iter().map(register))),
+            ("missing", array(self.missing.iter().map(missing))),
+        ]
+    }
+}
+
+/// Why building refused pages: 1 to 8 and 17. Nothing where the refusal is not the pages'.
+pub fn of_pages(refusal: Refusal, pages: &[u8]) -> Reason {
+    let standing = Standing::of(pages);
+    match refusal {
+        Refusal::PagesLength => length(pages.len()),
+        Refusal::PageCount => count(&standing),
+        Refusal::ReservedBytes { .. } => reserved(&standing),
+        Refusal::MissingRequiredResult(..) => missing(&standing),
+        Refusal::InvlpgbUnavailable => invlpgb(&standing),
+        Refusal::SaveAreaOverflow => overflow(&standing),
+        Refusal::TopologyInconsistent(why) => topology(why, &standing),
+        Refusal::NothingDecides => missing(&standing),
+        _ => Reason::default(),
+    }
+}
+
+/// Why an edition of the AVX rule is refused.
+pub fn of_edition(edition: u32) -> Reason {
+    Reason::new(format!("edition {edition} was asked for"), "--edition 1 or --edition 2")
+}
+
+fn length(bytes: usize) -> Reason {
+    let over = bytes % snp_cpuid::PAGE_BYTES;
+    let change = "whole pages of 4,096 bytes; 'from-kvm' and 'from-dump' make pages of a list and of a dump";
+    match bytes {
+        0 => Reason::new("it has no bytes".into(), change),
+        _ => Reason::new(format!("it has {bytes} bytes: {} of 4,096 and {over} over", counted(bytes / snp_cpuid::PAGE_BYTES, "page")), change),
+    }
+}
+
+fn count(standing: &Standing) -> Reason {
+    let wrong = standing.counts.iter().enumerate().filter(|(_, count)| **count > 64);
+    let told: Vec<String> = wrong.map(|(page, count)| format!("page {page} counts {count}")).collect();
+    Reason::new(told.join(", "), "a count of at most 64 in the first four bytes of each page")
+}
+
+fn reserved(standing: &Standing) -> Reason {
+    let unclean: Vec<&Place> = standing.places.iter().filter(|place| place.below_count && place.reserved != [0; 8]).collect();
+    let told = |place: &&Place| format!("{} (leaf {}) has {}", place.name(), row_name(place.leaf, None), hex_bytes(&place.reserved));
+    let told: Vec<String> = unclean.iter().map(told).collect();
+    Reason::new(format!("in its last eight bytes {}", told.join("; ")), "zeros in those bytes")
+}
+
+/// Bytes in hexadecimal, spaces between.
+pub fn hex_bytes(bytes: &[u8]) -> String {
+    bytes.iter().map(|byte| format!("{byte:02X}")).collect::<Vec<_>>().join(" ")
+}
+
+/// A number of things: 1 page, 2 pages.
+fn counted(number: usize, thing: &str) -> String {
+    crate::words::counted(number as u32, thing)
+}
+
+/// All rows without an entry, not only the first; entries for them that do not count.
+fn missing(standing: &Standing) -> Reason {
+    let always: Vec<_> = required().filter(|(leaf, subleaf)| standing.first(*leaf, *subleaf).is_none()).collect();
+    // without D.0 and D.1 nobody knows which states are wanted
+    let wanted = States::of(standing);
+    let known = !always.iter().any(|(leaf, subleaf)| *leaf == 0xD && subleaf.is_some_and(|k| k < 2));
+    let states = wanted.needed().filter(|k| known && standing.first(0xD, Some(*k)).is_none());
+    let missing: Vec<_> = always.iter().copied().chain(states.map(|k| (0xD, Some(k)))).collect();
+    let names: Vec<String> = missing.iter().map(|(leaf, subleaf)| row_name(*leaf, *subleaf)).collect();
+    let mut numbers = format!("no entry for {}", names.join(", "));
+    if missing.len() > always.len() {
+        numbers += &format!("; D.0.EAX {:08X} and XSS {:08X} ask for the states {}", wanted.xfem, wanted.xss, wanted.told());
+    }
+    let idle = standing.places.iter().filter(|place| !place.counts() && missing.contains(&(place.leaf, place.kept().and_then(|kept| kept.subleaf))));
+    for place in idle {
+        let why = if place.below_count { "leaf Dh counts on page 1 alone" } else { "it is above its page's count" };
+        numbers += &format!("; {} has {}, but {why}", place.name(), row_name(place.leaf, Some(place.subleaf)));
+    }
+    let which = if missing.len() == 1 { "it" } else { "each of them" };
+    let page = if missing.iter().any(|(leaf, _)| *leaf == 0xD) { ", of leaf Dh on page 1" } else { "" };
+    let mut reason = Reason::new(numbers, format!("an entry for {which} below its page's count{page}"));
+    if always.is_empty() {
+        let without = missing.iter().filter_map(|(_, subleaf)| *subleaf).fold(0, |bits, k| bits | 1 << k);
+        reason.registers = wanted.without(without, standing);
+        let told: Vec<String> = reason.registers.iter().map(value_told).collect();
+        reason.change += &format!("; or with {}", told.join(" and "));
+    }
+    reason.missing = missing;
+    reason
+}
+
+/// The states of D.0 and D.1, by document 01, "Corners of mod.rs".
+struct States {
+    xfem: u32,
+    xss: u32,
+}
+
+impl States {
+    fn of(standing: &Standing) -> States {
+        let [xfem, ..] = standing.masked(0xD, Some(0));
+        let [features, _, xss, _] = standing.masked(0xD, Some(1));
+        States { xfem: xfem | 3, xss: if features & 0b1010 == 0b1010 { xss } else { 0 } }
+    }
+
+    /// The subleaves that they need.
+    fn needed(&self) -> impl Iterator<Item = u32> + use<> {
+        let mask = self.xfem | self.xss;
+        (2..32).filter(move |k| mask >> k & 1 == 1)
+    }
+
+    fn told(&self) -> String {
+        self.needed().map(|k| format!("{} (D.{k:X})", components::name(k).unwrap_or("unknown"))).collect::<Vec<_>>().join(", ")
+    }
+
+    /// D.0.EAX and D.1.ECX, where they have one of these bits, without them.
+    fn without(&self, bits: u32, standing: &Standing) -> Vec<Register> {
+        let at = [(0, EAX, self.xfem), (1, ECX, self.xss)];
+        let have = at.into_iter().filter(|(_, _, states)| states & bits != 0);
+        let register = |(subleaf, register, _): (u32, usize, u32)| {
+            let old = standing.first(0xD, Some(subleaf))?.registers[register];
+            Some(Register { leaf: 0xD, subleaf: Some(subleaf), register, value: old & !bits })
+        };
+        have.filter_map(register).collect()
+    }
+}
+
+/// A register as messages name it, with where it stands: "80000008.EBX is 01000000 (page 0 entry 12)".
+fn standing_at(standing: &Standing, leaf: u32, subleaf: Option<u32>, register: usize) -> String {
+    let name = format!("{}.{}", row_name(leaf, subleaf), REGISTERS[register]);
+    standing.first(leaf, subleaf).map_or(name.clone(), |place| format!("{name} is {:08X} ({})", place.registers[register], place.name()))
+}
+
+fn value_told(r: &Register) -> String {
+    format!("{}.{} at {:08X}", row_name(r.leaf, r.subleaf), REGISTERS[r.register], r.value)
+}
+
+fn invlpgb(standing: &Standing) -> Reason {
+    let leaf = 0x8000_0008;
+    let old = standing.first(leaf, None).map_or(0, |place| place.registers[EBX]);
+    let register = Register { leaf, subleaf: None, register: EBX, value: old | 8 };
+    let change = format!("{}, which only a server that has INVLPGB may say", value_told(&register));
+    Reason { registers: vec![register], ..Reason::new(format!("{}: its bit 3 is clear", standing_at(standing, leaf, None, EBX)), change) }
+}
+
+fn overflow(standing: &Standing) -> Reason {
+    let states = States::of(standing);
+    let (mut numbers, mut registers) = (vec![], vec![]);
+    for k in (2..32).filter(|k| states.xfem >> k & 1 == 1) {
+        let Some(place) = standing.first(0xD, Some(k)) else { continue };
+        let [size, offset, ..] = place.registers;
+        let sum = u64::from(size) + u64::from(offset);
+        if sum > u64::from(u32::MAX) {
+            numbers.push(format!("D.{k:X} ({}): EAX {size:08X} + EBX {offset:08X} = {sum:X}, over FFFFFFFF", place.name()));
+            registers.push(Register { leaf: 0xD, subleaf: Some(k), register: EAX, value: u32::MAX - offset });
+        }
+    }
+    let told: Vec<String> = registers.iter().map(|r| format!("{} or less", value_told(r))).collect();
+    Reason { registers, ..Reason::new(numbers.join("; "), told.join(" and ")) }
+}
+
+/// The five numbers of the topology in the masked first entries, and the nearest that are accepted.
+fn topology(why: TopologyError, standing: &Standing) -> Reason {
+    let numbers = Numbers::of(|leaf| standing.masked(leaf, None));
+    let registers: Vec<Register> = numbers
+        .accepted()
+        .registers(|leaf| standing.first(leaf, None).map_or([0; 4], |place| place.registers))
+        .into_iter()
+        .map(|(leaf, register, value)| Register { leaf, subleaf: None, register, value })
+        .filter(|r| standing.first(r.leaf, None).is_some_and(|place| place.registers[r.register] != r.value))
+        .collect();
+    let at = [(0x1, EBX), (0x1, EDX), (0x8000_0008, ECX), (0x8000_001E, EBX)];
+    let told = at.map(|(leaf, register)| standing_at(standing, leaf, None, register)).join(", ");
+    let change = registers.iter().map(value_told).collect::<Vec<_>>().join(" and ");
+    let change = format!("{change} ({})", numbers.accepted().told());
+    Reason { registers, ..Reason::new(format!("{}: {told}", topology::why(why, numbers)), change) }
+}
+
+/// Why a guest is refused: 13 and 14, of a processor with these states.
+pub fn of_guest(refusal: Refusal, table: &Table, xcr0: u64, xss: u64) -> Reason {
+    let row = |subleaf| table.row(0xD, Some(subleaf)).unwrap_or_default();
+    // the table's D.1.ECX is its XSS: building clears it where XSAVEC or XSAVES is missing
+    let (own_xcr0, own_xss) = (u64::from(row(0).eax), u64::from(row(1).ecx));
+    match refusal {
+        Refusal::StateBeyondTable => {
+            let beyond = |name: &str, given: u64, own: u64, of: &str| {
+                let bits = given & !own;
+                (bits != 0).then(|| format!("{name} {given:X} has {} beyond {of} {own:X}", bits_told(bits)))
+            };
+            let lacks = (xcr0 & 1 == 0).then(|| format!("XCR0 {xcr0:X} lacks bit 0 (x87)"));
+            let parts = [lacks, beyond("XCR0", xcr0, own_xcr0, "D.0.EAX"), beyond("XSS", xss, own_xss, "the table's XSS")];
+            let change = format!("XCR0 {:X} and XSS {:X}", xcr0 & own_xcr0 | 1, xss & own_xss);
+            Reason::new(parts.into_iter().flatten().collect::<Vec<_>>().join("; "), change)
+        }
+        Refusal::CompactSizeTooLarge => {
+            let sizes: Vec<String> = table
+                .rows()
+                .filter(|row| row.leaf == 0xD && row.subleaf.is_some_and(|k| k >= 2 && (xcr0 | xss) >> k & 1 == 1))
+                .map(|row| format!("D.{:X} {:X}", row.subleaf.unwrap_or(0), row.result.eax))
+                .collect();
+            Reason::new(format!("the sizes in EAX are {}, after 240", sizes.join(", ")), "fewer states on, or smaller ones")
+        }
+        _ => Reason::default(),
+    }
+}
+
+/// Why a pool of so many servers is refused.
+pub fn of_pool_size(servers: usize) -> Reason {
+    Reason::new(format!("{} given", counted(servers, "page set")), "2 to 16; 'fleet' takes any number")
+}
+
+/// Where servers of a pool differ from the first, by their masked entries: all that 19 rests on. Their tables are all there.
+pub fn of_pool(names: &[String], sets: &[Vec<u8>], tables: &[Table], secure_avic: bool) -> Reason {
+    let standings: Vec<Standing> = sets.iter().map(|pages| Standing::of(pages)).collect();
+    // rows that all tables have; 0, 80000000 and leaf Bh are made here
+    let shared: Vec<_> = required()
+        .chain((2..64).map(|k| (0xD, Some(k))))
+        .filter(|(leaf, subleaf)| *leaf != 0xB && tables.iter().all(|t| t.find(*leaf, *subleaf).is_some()))
+        .collect();
+    let mut told = vec![];
+    for (server, standing) in standings.iter().enumerate().skip(1) {
+        let at = shared.iter().flat_map(|(leaf, subleaf)| unlike(&standings[0], standing, *leaf, *subleaf, secure_avic));
+        let at: Vec<String> = at.collect();
+        if !at.is_empty() {
+            told.push(format!("{} differs from {} in {}", names[server], names[0], at.join(", ")));
+        }
+    }
+    Reason::new(told.join("; "), "the same values there, or without the servers that differ")
+}
+
+/// The registers of a row in which two servers differ where they must not.
+fn unlike(first: &Standing, other: &Standing, leaf: u32, subleaf: Option<u32>, secure_avic: bool) -> Vec<String> {
+    let masked = |standing: &Standing| {
+        let place = standing.first(leaf, subleaf)?;
+        place.kept().map(|kept| kept.masked(place.registers, secure_avic))
+    };
+    let (Some(first), Some(other)) = (masked(first), masked(other)) else { return vec![] };
+    let must_be_equal = |register: usize| match features::find(leaf, subleaf, register) {
+        Some(_) if (leaf, register) == (HTT.0, HTT.1) => 1 << HTT.2,
+        Some(_) => 0,
+        None if (leaf, subleaf, register) == (0xD, Some(0), ECX) => 0,
+        None => u32::MAX,
+    };
+    let differs = |register: &usize| (first[*register] ^ other[*register]) & must_be_equal(*register) != 0;
+    let told = |register: usize| format!("{}.{} ({:08X}, {:08X})", row_name(leaf, subleaf), REGISTERS[register], other[register], first[register]);
+    (0..4).filter(differs).map(told).collect()
+}
+
+/// Bits by number and, where they are states, by name.
+fn bits_told(bits: u64) -> String {
+    let told = (0..64).filter(|bit| bits >> bit & 1 == 1).map(|bit| match components::name(bit) {
+        Some(name) => format!("{bit} ({name})"),
+        None => bit.to_string(),
+    });
+    let told: Vec<String> = told.collect();
+    format!("bit{} {}", if told.len() == 1 { "" } else { "s" }, told.join(", "))
+}
+
+/// Why a list for KVM is refused: 10 to 12.
+pub fn of_list(refusal: Refusal, list: &[u8]) -> Reason {
+    match refusal {
+        Refusal::ListLength if list.len() < 8 => Reason::new(format!("it has {} bytes", list.len()), "at least the 8 of a count and a zero word"),
+        Refusal::ListLength => {
+            let count = u64::from(word(list, 0));
+            Reason::new(format!("it has {} bytes and counts {count} rows", list.len()), format!("{} bytes", 8 + 40 * count))
+        }
+        Refusal::ListRows => {
+            let rows = list[8..].chunks_exact(40);
+            let state = rows.clone().filter(|row| word(row, 0) == 0xD).count();
+            let others = rows.len() - state;
+            Reason::new(format!("{state} rows of leaf Dh and {others} of all others"), "at most 64 of each that a table reads")
+        }
+        Refusal::ListFields => Reason::new(fields(list), "flags 0 or 1, and zeros in the head's second word and in the last three words of a row"),
+        _ => Reason::default(),
+    }
+}
+
+/// The first word of a list that must be otherwise.
+fn fields(list: &[u8]) -> String {
+    let head = (word(list, 4) != 0).then(|| format!("the second word of its head is {:08X}", word(list, 4)));
+    let wrong = |(number, row): (usize, &[u8])| {
+        let padding = [28, 32, 36].into_iter().find(|at| word(row, *at) != 0);
+        let what = match (word(row, 8) > 1, padding) {
+            (true, _) => format!("has flags {:08X}", word(row, 8)),
+            (false, Some(at)) => format!("has {:08X} where a zero word must stand", word(row, at)),
+            (false, None) => return None,
+        };
+        Some(format!("row {number}, counted from 0, of leaf {} {what}", row_name(word(row, 0), None)))
+    };
+    head.or_else(|| list[8..].chunks_exact(40).enumerate().find_map(wrong)).unwrap_or_default()
+}
