@@ -31,7 +31,7 @@ pub fn of(fleet: &Fleet) -> Json {
         ("moves", if fleet.classes.len() > MOST_LISTED { Json::Null } else { array(moves(fleet)) }),
         ("pools", array(fleet.pools.iter().map(|each| pool(fleet, each)))),
         ("features", array(differing::features(&fleet.classes).iter().flat_map(|each| feature(fleet, each)))),
-        ("apart", array(differing::apart(&fleet.groups, &fleet.classes).iter().map(|each| apart(fleet, each)))),
+        ("apart", array(differing::apart(&fleet.groups.iter().collect::<Vec<_>>(), &fleet.classes).iter().map(|each| apart(fleet, each)))),
         ("unpromised", array(fleet.moves.unpromised.iter().map(|(from, to, why)| unpromised(place(from), place(to), why)))),
         ("unlike", array(fleet.moves.unlike.iter().map(|(server, why)| unlike(fleet, *server, why)))),
     ])

@@ -35,10 +35,8 @@ pub fn features(classes: &[Class]) -> Vec<Feature> {
 /// The features that a class lacks and another of its group has.
 pub fn lacks(fleet: &Fleet, class: usize) -> Vec<Bits> {
     let class = &fleet.classes[class];
-    let group = &fleet.classes[fleet.groups[class.group].classes.clone()];
-    let tables: Vec<&Table> = group.iter().map(|class| &class.table).collect();
-    let own = |bits: Bits| Bits { value: bits.value & !bits::value(&class.table, bits.register), ..bits };
-    bits::differing(&tables).into_iter().map(own).filter(|bits| bits.value != 0).collect()
+    let own = |bits: &Bits| Bits { value: bits.value & !bits::value(&class.table, bits.register), ..*bits };
+    fleet.groups[class.group].differing.iter().map(own).filter(|bits| bits.value != 0).collect()
 }
 
 /// A register that keeps groups apart, with its value in each.
@@ -50,7 +48,7 @@ pub struct Apart {
 }
 
 /// The registers, features and what hangs on them left out, in which these groups differ.
-pub fn apart(groups: &[Group], classes: &[Class]) -> Vec<Apart> {
+pub fn apart(groups: &[&Group], classes: &[Class]) -> Vec<Apart> {
     let tables: Vec<&Table> = groups.iter().map(|group| &classes[group.classes.start].table).collect();
     let mut found = vec![];
     for row in tables.first().iter().flat_map(|table| table.rows()) {

@@ -1,7 +1,7 @@
 //! Groups: classes whose tables differ in features only.
 
 use super::Class;
-use super::bits;
+use super::bits::{self, Bits};
 use crate::features::{self, ECX, EDX};
 use crate::fields::cut;
 use crate::words;
@@ -17,6 +17,8 @@ pub struct Group {
     pub classes: Range<usize>,
     /// how many servers they have
     pub servers: usize,
+    /// the feature bits that some of them have and some have not
+    pub differing: Vec<Bits>,
 }
 
 /// Equal tables with their servers into named classes, and these into groups: the group of most servers first, and in it the class of most features.
@@ -37,7 +39,8 @@ pub fn named(tables: Vec<(Vec<usize>, Table)>) -> (Vec<Class>, Vec<Group>) {
             Class { name, group: place, servers, table }
         });
         classes.extend(named);
-        groups.push(Group { letter, classes: first..classes.len(), servers });
+        let tables: Vec<&Table> = classes[first..].iter().map(|class: &Class| &class.table).collect();
+        groups.push(Group { letter, classes: first..classes.len(), servers, differing: bits::differing(&tables) });
     }
     (classes, groups)
 }

@@ -22,6 +22,7 @@ pub struct Pool {
 /// A feature bit that the pool lost, and the classes that lack it.
 pub struct Lost {
     pub bits: Bits,
+    /// in order
     pub lacking: Vec<usize>,
 }
 
@@ -33,7 +34,7 @@ impl Pool {
 
     /// How many bits the servers of a class give up.
     pub fn given_up(&self, class: usize) -> usize {
-        self.lost.iter().filter(|lost| !lost.lacking.contains(&class)).count()
+        self.lost.iter().filter(|lost| lost.lacking.binary_search(&class).is_err()).count()
     }
 }
 

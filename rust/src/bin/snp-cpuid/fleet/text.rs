@@ -166,8 +166,7 @@ fn between_groups(fleet: &Fleet) -> String {
     let Some((first, others)) = fleet.groups.split_first().filter(|(_, others)| !others.is_empty()) else { return String::new() };
     let mut text = "   From group to group no guest may go:\n".to_string();
     for other in others.iter().take(CLASSES) {
-        let pair = [first, other].map(|group| Group { letter: group.letter.clone(), classes: group.classes.clone(), servers: group.servers });
-        let apart = differing::apart(&pair, &fleet.classes);
+        let apart = differing::apart(&[first, other], &fleet.classes);
         let told = |a: &Apart| format!("{} ({:08X}, {:08X})", register_name(a.leaf, a.subleaf, a.register), a.values[0], a.values[1]);
         let mut words = apart.iter().take(3).map(told).collect::<Vec<_>>().join(", ");
         if apart.len() > 3 {
@@ -262,7 +261,9 @@ fn refused(fleet: &Fleet) -> String {
         let lines = [number + &refused.told.words, refused.told.numbers.clone(), accepted_with(&refused.told.change)];
         names + &lines.iter().filter(|line| !line.is_empty()).map(|line| wrapped("      ", line)).collect::<String>()
     };
-    "Refused\n".to_string() + &fleet.refused.iter().map(told).collect::<String>()
+    let more: usize = fleet.refused.iter().skip(CLASSES).map(|refused| refused.servers.len()).sum();
+    let more = if more == 0 { String::new() } else { format!("   and {} more, which --json has\n", many(more, "server")) };
+    "Refused\n".to_string() + &fleet.refused.iter().take(CLASSES).map(told).collect::<String>() + &more
 }
 
 /// What would be accepted, as a sentence's part.

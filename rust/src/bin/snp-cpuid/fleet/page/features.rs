@@ -3,7 +3,7 @@
 use super::super::Fleet;
 use super::super::bits::{self, Bits, register_name};
 use super::super::differing::{self, Feature};
-use super::html::{column, details, folded, mark, table};
+use super::html::{column, details, mark, table};
 use super::{link, links};
 use crate::features::{FEATURES, FeatureBit, FeatureRegister};
 use snp_cpuid::Table;
@@ -59,7 +59,7 @@ fn feature(fleet: &Fleet, row: &Feature, few: bool) -> String {
         row.has.iter().enumerate().map(cell).collect()
     } else {
         let without: Vec<usize> = (0..row.has.len()).filter(|class| !row.has[*class]).collect();
-        format!("<td>{}</td>", folded(&links(fleet, &without)))
+        format!("<td>{}</td>", links(fleet, &without))
     };
     let bits = row.bits.names().join(" ");
     format!(

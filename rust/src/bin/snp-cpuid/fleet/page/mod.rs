@@ -18,6 +18,10 @@ const STYLE: &str = include_str!("page.css");
 /// So many classes of a group stand in the table of classes; the others are folded.
 const CLASSES: usize = 40;
 
+/// So many classes of a group are on the page at all, and so many links in one cell.
+const MOST_CLASSES: usize = 1000;
+const MOST_LINKS: usize = 100;
+
 /// The page.
 pub fn of(fleet: &Fleet) -> String {
     let title = sentence(fleet);
@@ -51,8 +55,10 @@ fn link(fleet: &Fleet, class: usize) -> String {
     format!("<a href=\"#{name}\">{name}</a>")
 }
 
-fn links(fleet: &Fleet, classes: &[usize]) -> Vec<String> {
-    classes.iter().map(|class| link(fleet, *class)).collect()
+/// Links to classes, those after the eighth folded; where they are more than a page should hold, counted.
+fn links(fleet: &Fleet, classes: &[usize]) -> String {
+    let links = |classes: &[usize]| classes.iter().map(|class| link(fleet, *class)).collect::<Vec<_>>();
+    if classes.len() <= MOST_LINKS { folded(&links(classes)) } else { format!("{} and {} more", links(&classes[..8]).join(" "), classes.len() - 8) }
 }
 
 /// The answers, a sentence each.
@@ -152,12 +158,14 @@ fn group_rows(fleet: &Fleet, group: &Group) -> String {
         escaped(&described(group, &fleet.classes)),
         groups::save_area(table)
     );
-    let (open, more) = (group.classes.clone().take(CLASSES), group.classes.clone().skip(CLASSES));
-    text += &open.map(|class| class_row(fleet, class)).collect::<String>();
-    let more: Vec<String> = more.map(|class| format!("<tr><td>{}</td></tr>", more_class(fleet, class))).collect();
-    if !more.is_empty() {
-        let folded = details(&format!("and {} more classes", more.len()), &format!("<table>{}</table>", more.concat()));
-        text += &format!("<tr><td colspan=\"4\">{folded}</td></tr>\n");
+    text += &group.classes.clone().take(CLASSES).map(|class| class_row(fleet, class)).collect::<String>();
+    let more = group.classes.len().saturating_sub(CLASSES);
+    if more > 0 {
+        let rows = group.classes.clone().skip(CLASSES).take(MOST_CLASSES).map(|class| format!("<tr><td>{}</td></tr>", more_class(fleet, class)));
+        let left = more.saturating_sub(MOST_CLASSES);
+        let left = if left == 0 { String::new() } else { format!("<p>and {left} more, which --json has</p>") };
+        let inside = format!("<table>{}</table>{left}", rows.collect::<String>());
+        text += &format!("<tr><td colspan=\"4\">{}</td></tr>\n", details(&format!("and {more} more classes"), &inside));
     }
     text + "</tbody>\n"
 }
@@ -209,9 +217,14 @@ fn refused(fleet: &Fleet) -> String {
         return String::new();
     }
     let head = ["Servers", "Why"].map(column).concat();
-    let body: String = fleet.refused.iter().map(row).collect();
+    let rows: Vec<String> = fleet.refused.iter().map(row).collect();
+    let (open, more) = rows.split_at(rows.len().min(CLASSES));
+    let inside = format!("<table class=\"f rf\">{}</table>", more.concat());
+    let more = if more.is_empty() { String::new() } else { details(&format!("and {} more reasons", more.len()), &inside) };
     let words = "<p>These servers have no table. What would be accepted speaks of pages, not of what the machine can do.</p>\n";
-    words.to_string() + &table("c-refused", "f rf", "Servers without a table, by the reason", &head, &format!("<tbody>{body}</tbody>"))
+    words.to_string()
+        + &table("c-refused", "f rf", "Servers without a table, by the reason", &head, &format!("<tbody>{}</tbody>", open.concat()))
+        + &more
 }
 
 fn made(fleet: &Fleet) -> String {

@@ -47,7 +47,7 @@ pub fn ways(fleet: &Fleet) -> String {
 fn from_each(fleet: &Fleet, group: &Group) -> String {
     let row = |class: usize| {
         let rises = fleet.moves.rises[class].as_deref().unwrap_or_default();
-        let to = if rises.is_empty() { "<span class=\"d\">no other class</span>".into() } else { folded(&links(fleet, rises)) };
+        let to = if rises.is_empty() { "<span class=\"d\">no other class</span>".into() } else { links(fleet, rises) };
         let not: Vec<String> = blocked(fleet, class)
             .into_iter()
             .map(|(why, to)| format!("<div>{} {}: <b>{}</b></div>", mark("no", "not to"), listed_folded(&to), escaped(&why)))
@@ -85,8 +85,8 @@ fn apart(fleet: &Fleet) -> String {
     if fleet.groups.len() < 2 {
         return String::new();
     }
-    let groups = &fleet.groups[..fleet.groups.len().min(MOST_APART)];
-    let registers = differing::apart(groups, &fleet.classes);
+    let groups: Vec<&Group> = fleet.groups.iter().take(MOST_APART).collect();
+    let registers = differing::apart(&groups, &fleet.classes);
     let row = |a: &Apart| {
         let mark = |value: &u32| if *value == a.values[0] { "" } else { " class=\"ne\"" };
         let cells: String = a.values.iter().map(|value| format!("<td{}><code>{value:08X}</code></td>", mark(value))).collect();
@@ -175,7 +175,7 @@ fn matrix(fleet: &Fleet, classes: &[usize], id: &str, caption: &str) -> String {
     let border = |class: usize| if fleet.groups[fleet.classes[class].group].classes.start == class { " class=\"gl\"" } else { "" };
     let head: String = classes.iter().map(|class| format!("<th scope=\"col\"{}>{}</th>", border(*class), fleet.classes[*class].name)).collect();
     let row = |from: &usize| {
-        let cells: String = classes.iter().map(|to| cell(fleet, *from, *to)).collect();
+        let cells: String = classes.iter().map(|to| cell(fleet, *from, *to, classes.len() <= OPEN_MATRIX)).collect();
         let top = if border(*from).is_empty() { "" } else { " class=\"gt\"" };
         format!("<tr{top}><th scope=\"row\">{}</th>{cells}</tr>\n", link(fleet, *from))
     };
@@ -184,7 +184,7 @@ fn matrix(fleet: &Fleet, classes: &[usize], id: &str, caption: &str) -> String {
     table(&format!("c-matrix-{id}"), "x", caption, &format!("{corner}{head}"), &format!("<tbody>{rows}</tbody>"))
 }
 
-fn cell(fleet: &Fleet, from: usize, to: usize) -> String {
+fn cell(fleet: &Fleet, from: usize, to: usize, words: bool) -> String {
     let (a, b) = (&fleet.classes[from], &fleet.classes[to]);
     let line = if fleet.groups[b.group].classes.start == to { " gl" } else { "" };
     if from == to {
@@ -199,5 +199,7 @@ fn cell(fleet: &Fleet, from: usize, to: usize) -> String {
         (false, _) => ("no", format!("{}<small>{}</small>", mark("no", "no: "), escaped(&way.short()))),
     };
     let data = format!("data-from=\"{}\" data-to=\"{}\" data-answer=\"{answer}\"", a.name, b.name);
-    format!("<td class=\"{answer}{line}\" {data} title=\"{} to {}: {}\">{inside}</td>", a.name, b.name, escaped(&way.long()))
+    // in a large matrix the words would be most of the page
+    let title = if words { format!(" title=\"{} to {}: {}\"", a.name, b.name, escaped(&way.long())) } else { String::new() };
+    format!("<td class=\"{answer}{line}\" {data}{title}>{inside}</td>")
 }

@@ -78,7 +78,7 @@ fn row(fleet: &Fleet, pool: &Pool, lost: &Lost) -> String {
 
 /// Whom to leave out, with how many servers.
 fn left_out(fleet: &Fleet, lacking: &[usize]) -> String {
-    format!("{} <small>({})</small>", folded(&links(fleet, lacking)), many(servers_of(fleet, lacking), "server"))
+    format!("{} <small>({})</small>", links(fleet, lacking), many(servers_of(fleet, lacking), "server"))
 }
 
 /// A row for the features that the same classes lack.
