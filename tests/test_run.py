@@ -56,9 +56,11 @@ class Gate(unittest.TestCase):
             self.assertEqual((status, lines[-1]), (1, last))
 
     def test_tests_passed_over_are_named(self):
-        _, lines = self.run_gate(said=MANY + ', 4 passed over')
+        skipped = "skipped: Debian's cpuid is not installed\n" * 4 + ".skipped: Debian's jq is not installed\n" * 2
+        _, lines = self.run_gate(said=skipped + MANY + ', 6 passed over', jq='echo "jq: not today" >&2; exit 1')
         self.assertTrue(lines[-2].startswith(
-            "7 passed over: 4 tests that decode dumps, as Debian's cpuid is there and fails: cpuid: no such device; 3 comparisons"), lines[-2])
+            "9 passed over: 4 tests that decode dumps, as Debian's cpuid is there and fails: cpuid: no such device; "
+            "2 tests that read JSON, as Debian's jq is there and fails: jq: not today; 3 comparisons"), lines[-2])
 
     def test_without_kvm(self):
         status, lines = self.run_gate(kvm=False)

@@ -32,6 +32,8 @@ pub enum Origin {
         /// the entry's position on its page, from 0
         entry: usize,
     },
+    /// Nobody knows: the table was read from an image, which does not say.
+    Unknown,
 }
 
 impl fmt::Display for Origin {
@@ -39,6 +41,7 @@ impl fmt::Display for Origin {
         match self {
             Origin::MadeHere => f.write_str("made here"),
             Origin::Entry { page, entry } => write!(f, "page {page} entry {entry}"),
+            Origin::Unknown => f.write_str("unknown"),
         }
     }
 }

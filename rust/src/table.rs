@@ -57,13 +57,18 @@ impl Table {
         max_extended_state: u64,
         found: impl Fn(u32, Option<u32>) -> Option<Found>,
     ) -> Table {
-        let mut table = Table { image, length, max_extended_state, origins: [Origin::MadeHere; MOST_ROWS] };
+        let mut table = Table::whole(image, length, max_extended_state, [Origin::MadeHere; MOST_ROWS]);
         let mut origins = table.origins;
         for (origin, row) in origins.iter_mut().zip(table.rows()) {
             *origin = found(row.leaf, row.subleaf).expect("the library finds each row of its image").origin;
         }
         table.origins = origins;
         table
+    }
+
+    /// The table of an image, its mask and where its rows came from.
+    pub(crate) fn whole(image: [u8; MOST_IMAGE_BYTES], length: usize, max_extended_state: u64, origins: [Origin; MOST_ROWS]) -> Table {
+        Table { image, length, max_extended_state, origins }
     }
 
     /// The image: for each row byte 1, leaf, EAX, EBX, ECX, EDX, or byte 2, leaf, subleaf and the four, each number 4 bytes little-endian.

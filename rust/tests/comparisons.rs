@@ -43,7 +43,7 @@ fn entries(a: &[u8], b: &[u8], answer: Comparison) -> String {
     let (Comparison::NoEntry { leaf, subleaf } | Comparison::Differs { leaf, subleaf, .. }) = answer else { return String::new() };
     let [a, b] = [a, b].map(|pages| match first_entry(pages, leaf, subleaf.unwrap_or(0)).expect("compared pages are lawful") {
         Some(Origin::Entry { page, entry }) => format!("{page}:{entry}"),
-        Some(Origin::MadeHere) => panic!("an entry is made by none"),
+        Some(other) => panic!("{other} is no entry"),
         None => "-".into(),
     });
     format!("{a} {b}")

@@ -118,17 +118,21 @@ pub fn installed() -> Option<String> {
     }
 }
 
-/// The lines `words = value` under each heading.
-fn decoded(pages: &[u8], folder: &str) -> BTreeMap<(String, String), String> {
-    let folder = Folder::new(folder);
-    let dump = folder.path("dump");
-    let ran = run(&["to-dump", &folder.file("pages", pages), "-o", &dump]);
+/// What it decodes of the table of a file.
+pub fn text(file: &str) -> String {
+    let dump = format!("{file}.dump");
+    let ran = run(&["to-dump", file, "-o", &dump]);
     assert_eq!(ran.status, 0, "{}", ran.err);
     let output = Command::new("cpuid").args(["-f", &dump]).output().expect("cpuid runs");
     assert!(output.status.success() && output.stderr.is_empty(), "{output:?}");
-    let (mut lines, mut heading) = (BTreeMap::new(), String::new());
     // its name string has bytes that are no text where every bit is set
-    for line in String::from_utf8_lossy(&output.stdout).lines() {
+    String::from_utf8_lossy(&output.stdout).into_owned()
+}
+
+/// The lines `words = value` under each heading.
+fn decoded(pages: &[u8], folder: &str) -> BTreeMap<(String, String), String> {
+    let (mut lines, mut heading) = (BTreeMap::new(), String::new());
+    for line in text(&Folder::new(folder).file("pages", pages)).lines() {
         if let Some(title) = line.strip_suffix(':') {
             heading = title.trim().to_string();
         } else if let Some((words, value)) = line.split_once(" = ") {

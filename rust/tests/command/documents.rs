@@ -36,8 +36,13 @@ fn every_line_is_true(document: &str, folder: &str, least: usize) {
         if command.starts_with("cpuid ") && debian::installed().is_none() {
             continue;
         }
-        let output =
-            Command::new("sh").args(["-c", &format!("{{ {command}; }} 2>&1")]).current_dir(folder.path("")).env("PATH", &path).output().unwrap();
+        let output = Command::new("sh")
+            .args(["-c", &format!("{{ {command}; }} 2>&1")])
+            .current_dir(folder.path(""))
+            .env("PATH", &path)
+            .env_remove("COLUMNS")
+            .output()
+            .unwrap();
         // the empty line that ends a block is the document's
         assert_eq!(String::from_utf8_lossy(&output.stdout).trim_end(), expected.trim_end(), "{command}");
     }

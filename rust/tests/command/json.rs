@@ -1,6 +1,7 @@
 //! The JSON writer, read back by Debian's `jq`.
 
 use crate::json::{Json, array, hex, object};
+use std::cell::Cell;
 use std::io::Write;
 use std::process::{Command, Stdio};
 
@@ -8,14 +9,22 @@ use std::process::{Command, Stdio};
 pub fn jq(text: &[u8], filter: &str) -> Option<String> {
     let started = Command::new("jq").args(["-c", filter]).stdin(Stdio::piped()).stdout(Stdio::piped()).stderr(Stdio::piped()).spawn();
     let Ok(mut child) = started else {
-        // not by eprintln!, which a test that passes keeps to itself
-        let _ = writeln!(std::io::stderr(), "skipped: Debian's jq is not installed (apt-get install jq)");
+        say_skipped();
         return None;
     };
     child.stdin.take().expect("a pipe").write_all(text).expect("it reads");
     let output = child.wait_with_output().expect("it ends");
     assert!(output.status.success(), "{}\n{}", String::from_utf8_lossy(&output.stderr), String::from_utf8_lossy(text));
     Some(String::from_utf8(output.stdout).expect("text").trim_end().to_string())
+}
+
+/// Says once for each test, which has a thread of its own, that it was passed over.
+fn say_skipped() {
+    thread_local!(static SAID: Cell<bool> = const { Cell::new(false) });
+    if !SAID.replace(true) {
+        // not by eprintln!, which a test that passes keeps to itself
+        let _ = writeln!(std::io::stderr(), "skipped: Debian's jq is not installed (apt-get install jq)");
+    }
 }
 
 #[test]

@@ -1,7 +1,7 @@
 //! `to-kvm` and `from-kvm`.
 
 use crate::run::{EPYC, Folder, run, run_on};
-use snp_cpuid::{KVM_PAGES_BYTES, MOST_KVM_BYTES, Options, build, read_kvm, write_kvm};
+use snp_cpuid::{KVM_PAGES_BYTES, MOST_KVM_BYTES, Options, Refusal, build, read_kvm, write_kvm};
 use std::fs;
 
 /// The list of the shipped set, as the library writes it.
@@ -38,6 +38,29 @@ fn rows_that_the_table_does_not_read_go_in_and_are_told() {
     let ran = run_on(&listed(&rows), &["from-kvm", "-", "-o", "-"]);
     assert_eq!((ran.status, ran.err.as_str(), ran.out.as_slice()), (0, "snp-cpuid: note: 7 rows, of which the table reads 2\n", pages.as_slice()));
     assert_eq!(run_on(&listed(&rows[3..4]), &["from-kvm", "-", "-o", "-"]).err, "snp-cpuid: note: 1 row, of which the table reads 1\n");
+}
+
+/// A page holds 64 entries. Where a list has more for one, the rows that no table reads are left out, and the note says so; the library refuses it.
+#[test]
+fn a_long_list_loses_rows_that_no_table_reads() {
+    // the shipped table and 40 rows of a hypervisor's leaves, which stand first
+    let rows = epyc_list(Options::new());
+    let more = listed(&[[0x4000_0000, 0, 0, 1]; 40]);
+    let long = [&69u32.to_le_bytes()[..], &[0; 4], &more[8..], &rows[8..]].concat();
+    let mut pages = [0; KVM_PAGES_BYTES];
+    assert_eq!(read_kvm(&long, &mut pages), Ok(KVM_PAGES_BYTES), "24 of the shipped rows are not of leaf Dh");
+    let longer = [&70u32.to_le_bytes()[..], &[0; 4], &more[8..48], &more[8..], &rows[8..]].concat();
+    assert_eq!(read_kvm(&longer, &mut pages), Err(Refusal::ListRows));
+    for (list, note) in [(long, ""), (longer, "; the 43 others are left out, as a page holds 64")] {
+        let ran = run_on(&list, &["from-kvm", "-", "-o", "-"]);
+        let count = (list.len() - 8) / 40;
+        assert_eq!((ran.status, ran.err), (0, format!("snp-cpuid: note: {count} rows, of which the table reads 27{note}\n")));
+        assert_eq!(build(&ran.out, Options::new()), build(&fs::read(EPYC).unwrap(), Options::new()));
+    }
+    // rows that tables read stay, and are too many: 64 of leaf Dh fit, and no more
+    let states = |count: u32| listed(&(0..count).map(|k| [0xD, k % 64, 1, 0]).collect::<Vec<_>>());
+    assert_eq!(run_on(&states(64), &["from-kvm", "-", "-o", "-"]).status, 0);
+    assert!(run_on(&states(65), &["from-kvm", "-", "-o", "/dev/null"]).line().starts_with("standard input: refusal 11: "));
 }
 
 #[test]

@@ -1,13 +1,19 @@
 //! The command `snp-cpuid`, run as a user runs it. Expected answers come from the model of document 01 (its image of the shipped set, and
 //! document 01's own rows), the public database of bits, the specification, and Debian's `cpuid`.
 
+mod answers;
+#[path = "caches.rs"]
+mod cache_words;
+mod capture;
 mod carry;
 mod compare;
 mod debian;
 mod documents;
 mod dump;
 mod edition;
+mod entries;
 mod guest;
+mod images;
 #[path = "json.rs"]
 mod json_text;
 mod kvm;
@@ -19,6 +25,7 @@ mod nearest;
 mod origins;
 mod page_sets;
 mod pool;
+mod reasons;
 mod refusals;
 mod run;
 mod table;
@@ -29,6 +36,12 @@ mod usage;
 #[allow(dead_code)]
 #[path = "../../src/bin/snp-cpuid/arguments.rs"]
 mod arguments;
+#[allow(dead_code)]
+#[path = "../../src/bin/snp-cpuid/caches.rs"]
+mod caches;
+#[allow(dead_code)]
+#[path = "../../src/bin/snp-cpuid/components.rs"]
+mod components;
 #[allow(dead_code)]
 #[path = "../../src/bin/snp-cpuid/features.rs"]
 mod features;
@@ -47,3 +60,6 @@ mod option;
 #[allow(dead_code)]
 #[path = "../../src/bin/snp-cpuid/pages.rs"]
 mod pages;
+#[allow(dead_code)]
+#[path = "../../src/bin/snp-cpuid/words.rs"]
+mod words;

@@ -67,7 +67,7 @@ fn bits_are_those_that_the_library_keeps() {
 }
 
 /// Short names of the public database by leaf, subleaf, register, lowest and highest bit.
-fn database() -> BTreeMap<(u32, u32, String, u32, u32), String> {
+pub fn database() -> BTreeMap<(u32, u32, String, u32, u32), String> {
     let text = fs::read_to_string("../tests/cpuid-bits.csv").expect("the public database");
     let number = |text: &str| text.strip_prefix("0x").map_or_else(|| text.parse(), |hex| u32::from_str_radix(hex, 16)).unwrap();
     let mut lines = BTreeMap::new();

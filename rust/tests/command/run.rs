@@ -84,7 +84,10 @@ impl Ran {
 }
 
 pub fn command() -> Command {
-    Command::new(env!("CARGO_BIN_EXE_snp-cpuid"))
+    let mut command = Command::new(env!("CARGO_BIN_EXE_snp-cpuid"));
+    // lines of the usual width, whatever terminal the tests run in
+    command.env_remove("COLUMNS");
+    command
 }
 
 /// Runs a command; no panic may show.

@@ -99,6 +99,75 @@ fn bad_usage_is_status_2_and_one_line() {
     }
 }
 
+/// A command or option with a letter wrong, missing, too many or swapped, or cut off, is named; one that is near none is not.
+#[test]
+fn a_mistyped_word_gets_a_suggestion() {
+    for (given, meant) in [
+        (&["tabel", EPYC][..], "table"),
+        (&["tables", EPYC], "table"),
+        (&["lokup", EPYC, "1"], "lookup"),
+        (&["help", "compar"], "compare"),
+        (&["fromdump", "-", "-o", "x"], "from-dump"),
+        (&["to_kvm", EPYC], "to-kvm"),
+        (&["topo"], "topologies"),
+        (&["table", EPYC, "--edtion", "1"], "--edition"),
+        (&["table", EPYC, "--edtion=1"], "--edition"),
+        (&["guest", EPYC, "--xcr", "1"], "--xcr0"),
+        (&["table", EPYC, "--jsno"], "--json"),
+    ] {
+        let ran = run(given);
+        assert_eq!(ran.status, 2);
+        assert!(ran.line().contains(&format!("', did you mean '{meant}'? (see 'snp-cpuid ")), "{}", ran.line());
+    }
+    for given in [&["frobnicate"][..], &["x"], &[""], &["table", EPYC, "--frobnicate"], &["table", EPYC, "-x"]] {
+        let ran = run(given);
+        assert!(ran.status == 2 && !ran.line().contains("did you mean"), "{}", ran.line());
+    }
+}
+
+/// COLUMNS is heard by words and help; names and rows are not cut.
+#[test]
+fn lines_are_as_wide_as_columns_says() {
+    for (columns, most) in [("60", 60), ("80", 80), ("72", 72), ("250", 250), ("1", 40), ("0", 100), ("", 100), ("wide", 100), ("-5", 100)] {
+        for arguments in [&["--help"][..], &["help", "compare"], &["help", "lookup"], &["explain", "3"]] {
+            let ran = finish(command().args(arguments).env("COLUMNS", columns));
+            let widest = ran.text().lines().filter(|line| line.contains(' ')).map(str::len).max().unwrap();
+            // the labels of the help alone take 30 columns and more
+            assert!(widest <= most.max(62), "{columns}: {widest} columns of {arguments:?}");
+            assert!(widest + 12 > most || arguments[0] == "explain" || most > 100, "{columns}: {widest} of {arguments:?}");
+        }
+        let table = finish(command().args(["table", EPYC]).env("COLUMNS", columns));
+        let words = |ran: &crate::run::Ran| ran.text().split_whitespace().map(String::from).collect::<Vec<_>>();
+        assert_eq!(words(&table), words(&run(&["table", EPYC])), "the same words");
+        assert!(table.text().lines().all(|line| line.len() <= most.max(60)), "{columns}");
+    }
+}
+
+/// A terminal by util-linux's `script`: bytes do not go there, text does.
+#[test]
+fn bytes_do_not_go_to_a_terminal() {
+    let binary = env!("CARGO_BIN_EXE_snp-cpuid");
+    let folder = Folder::new("terminal");
+    let on_terminal = |words: &str| {
+        let script = Command::new("script").args(["-q", "-e", "-c", &format!("{binary} {words}"), "/dev/null"]).stdin(Stdio::null()).output();
+        let output = script.expect("script runs (util-linux)");
+        (output.status.code().unwrap(), String::from_utf8_lossy(&output.stdout).replace('\r', ""))
+    };
+    for words in [
+        "image ../tests/epyc-milan.pages -o -",
+        "to-kvm ../tests/epyc-milan.pages -o -",
+        "topologies -o -",
+        "pool ../tests/epyc-milan.pages ../tests/epyc-milan.pages -o -",
+    ] {
+        let (status, text) = on_terminal(words);
+        assert_eq!(status, 2, "{text}");
+        assert!(text.starts_with("snp-cpuid: standard output is a terminal, and these are bytes, not text: "), "{text}");
+    }
+    let (status, text) = on_terminal("to-dump ../tests/epyc-milan.pages -o -");
+    assert_eq!((status, text.as_bytes()), (0, &run(&["to-dump", EPYC]).out[..]));
+    assert_eq!(on_terminal(&format!("image ../tests/epyc-milan.pages -o {}", folder.path("image"))), (0, String::new()));
+}
+
 #[test]
 fn numbers_that_are_none() {
     for wrong in ["", ".", "1.", ".1", "0x", "g", "-1", "+1", "1.2.3", "h", "1.h", "0x1h", "100000000", "1.-1", "0x1.+2", "D,1"] {

@@ -8,7 +8,7 @@ use crate::numbers::decimal;
 use crate::option::Opt;
 use crate::output;
 use crate::reasons::{self, Reason};
-use snp_cpuid::{Bit, Comparison, MOST_KVM_BYTES, NotPooled, Options, Processor, Refusal, Table};
+use snp_cpuid::{Bit, Comparison, MOST_KVM_BYTES, NotPooled, Options, Origin, PAGE_BYTES, Processor, Refusal, Table};
 use std::ffi::OsStr;
 use std::fmt::Display;
 
@@ -33,6 +33,8 @@ pub struct Building {
     options: Options,
     line: bool,
     json: bool,
+    /// whether an option was given that an image, whose table is made, cannot heed
+    of_pages: bool,
 }
 
 impl Building {
@@ -49,7 +51,8 @@ impl Building {
         if line && json {
             return Err(Failure::usage(command, "--line and --json both go to standard output: the JSON of a refusal has its line"));
         }
-        Ok(Building { options, line, json })
+        let of_pages = arguments.has(&EDITION) || arguments.has(&SECURE_AVIC);
+        Ok(Building { options, line, json, of_pages })
     }
 
     /// The edition of the AVX rule.
@@ -95,10 +98,14 @@ impl Building {
         Ok(list)
     }
 
-    /// The table of a file of pages.
+    /// The table of a file of pages, or of an image. Pages are told by their length, a multiple of 4,096.
     pub fn table(&self, file: &OsStr) -> Result<Table, Failure> {
-        let pages = read(file)?;
-        self.build(&pages).map_err(|refusal| self.pages_refused(file, refusal, &pages))
+        let bytes = read(file)?;
+        match image(&bytes) {
+            Some(_) if self.of_pages => Err(Failure::Bad(format!("{} is an image, whose table is made: {IMAGE_OPTIONS}", shown(file)))),
+            Some(table) => Ok(table),
+            None => self.build(&bytes).map_err(|refusal| self.pages_refused(file, refusal, &bytes)),
+        }
     }
 
     /// The table of a file of pages as a processor's guest sees it; as the paravisor has it where no processor is given.
@@ -139,6 +146,19 @@ impl Building {
     pub fn refused_after_report(&self, name: impl Display, refusal: Refusal, reason: &Reason) -> Failure {
         Building { json: false, ..*self }.refused(name, refusal, reason)
     }
+}
+
+const IMAGE_OPTIONS: &str = "--edition and --secure-avic are for pages";
+
+/// The table of bytes that are an image and no pages.
+pub fn image(bytes: &[u8]) -> Option<Table> {
+    if bytes.len() % PAGE_BYTES == 0 { None } else { Table::try_from(bytes).ok() }
+}
+
+/// The edition under which a table was made here, for an object; null where it was read from an image.
+pub fn edition_json(table: &Table, edition: u32) -> Json {
+    let read = table.rows().any(|row| row.origin == Origin::Unknown);
+    (!read).then_some(edition).into()
 }
 
 /// The edition that an option gives; none where it is not given.

@@ -5,6 +5,7 @@
 
 mod arguments;
 mod building;
+mod caches;
 mod command;
 mod commands;
 mod components;
@@ -16,6 +17,7 @@ mod fleet;
 mod help;
 mod input;
 mod json;
+mod machine;
 mod masks;
 mod meanings;
 mod numbers;
@@ -28,6 +30,7 @@ mod print;
 mod processor;
 mod reasons;
 mod standing;
+mod suggest;
 mod topology;
 mod words;
 mod wrap;
@@ -42,7 +45,11 @@ const VERSION: &str = concat!("snp-cpuid ", env!("CARGO_PKG_VERSION"), "\n");
 /// The command of a name.
 fn command(name: &OsStr) -> Result<&'static Command, Failure> {
     let found = commands::ALL.iter().find(|command| name == command.name);
-    found.ok_or_else(|| Failure::Bad(format!("no command '{}' (see 'snp-cpuid --help')", input::shown(name))))
+    found.ok_or_else(|| {
+        let near = suggest::nearest(&name.to_string_lossy(), commands::ALL.iter().map(|command| command.name));
+        let meant = near.map_or(String::new(), |near| format!(", did you mean '{near}'?"));
+        Failure::Bad(format!("no command '{}'{meant} (see 'snp-cpuid --help')", input::shown(name)))
+    })
 }
 
 /// Does what the command line asks for, the program's own name left out.

@@ -7,7 +7,7 @@ use crate::json::{self, Json};
 use crate::option::{Opt, Value};
 use std::ffi::OsStr;
 use std::fs::{self, File, OpenOptions};
-use std::io::{self, ErrorKind, Write};
+use std::io::{self, ErrorKind, IsTerminal, Write};
 use std::path::{Path, PathBuf};
 use std::process;
 
@@ -52,11 +52,16 @@ pub fn write_or_print(arguments: &Arguments, bytes: &[u8], text: &str) -> Result
     }
 }
 
-/// Bytes to the file that `-o` names, and to standard output where it is not given.
+/// Bytes to the file that `-o` names.
 pub fn write(arguments: &Arguments, bytes: &[u8]) -> Result<(), Failure> {
+    to_file(arguments.value(NAMES[0]).expect("it is required"), bytes)
+}
+
+/// Text to the file that `-o` names, and to standard output where it is not given.
+pub fn write_text(arguments: &Arguments, text: &str) -> Result<(), Failure> {
     match arguments.value(NAMES[0]) {
-        Some(name) => to_file(name, bytes),
-        None => print(bytes),
+        Some(name) if name != "-" => to_file(name, text.as_bytes()),
+        _ => print(text),
     }
 }
 
@@ -74,10 +79,13 @@ pub fn print(data: impl AsRef<[u8]>) -> Result<(), Failure> {
     }
 }
 
-/// Bytes to a file, or to standard output for `-`.
+/// Bytes to a file, or to standard output for `-`, unless that is a terminal.
 pub fn to_file(name: &OsStr, bytes: &[u8]) -> Result<(), Failure> {
     if name == "-" {
-        return print(bytes);
+        // a terminal would take bytes for commands of its own
+        let terminal = io::stdout().is_terminal();
+        let why = "standard output is a terminal, and these are bytes, not text: give -o a file, or pipe them into 'od -A d -t x1'";
+        return if terminal { Err(Failure::Bad(why.into())) } else { print(bytes) };
     }
     let fail = |error: io::Error| Failure::Bad(format!("{}: cannot be written: {}", shown(name), reason(&error)));
     match fs::metadata(name) {

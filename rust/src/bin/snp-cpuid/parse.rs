@@ -5,6 +5,7 @@ use crate::command::{Command, MORE};
 use crate::failure::Failure;
 use crate::input::shown;
 use crate::option::Opt;
+use crate::suggest::nearest;
 use std::ffi::OsString;
 
 /// What was given to a command; none where its help is asked for.
@@ -21,12 +22,19 @@ pub fn parse(command: &'static Command, mut given: impl Iterator<Item = OsString
         } else if text == "-h" || text == "--help" {
             return Ok(None);
         } else {
-            let (option, value) = find(command, text).ok_or_else(|| usage(format!("no option '{}'", shown(&argument))))?;
+            let (option, value) = find(command, text).ok_or_else(|| usage(unknown(command, text, &shown(&argument))))?;
             take(&mut arguments, option, text, value, &mut given).map_err(usage)?;
         }
     }
     whole(command, &arguments).map_err(usage)?;
     Ok(Some(arguments))
+}
+
+/// What is said of an option that the command has not.
+fn unknown(command: &'static Command, text: &str, shown: &str) -> String {
+    let names = command.options().flat_map(|option| option.names.iter().copied()).filter(|name| name.starts_with("--"));
+    let near = nearest(text.split('=').next().unwrap_or_default(), names);
+    format!("no option '{shown}'{}", near.map_or(String::new(), |near| format!(", did you mean '{near}'?")))
 }
 
 /// The option that is written so, and the value of `--option=VALUE`.

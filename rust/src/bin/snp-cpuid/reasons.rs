@@ -1,5 +1,6 @@
 //! Why something was refused: the numbers that the refusal rests on, and what change would be accepted. The refusal itself is the library's.
 
+use crate::building::image;
 use crate::components;
 use crate::differences::HTT;
 use crate::features::{self, EAX, EBX, ECX, EDX, REGISTERS};
@@ -62,6 +63,7 @@ impl Reason {
 pub fn of_pages(refusal: Refusal, pages: &[u8]) -> Reason {
     let standing = Standing::of(pages);
     match refusal {
+        Refusal::PagesLength if image(pages).is_some() => Reason::new("it is the image of a table".into(), "the pages that it was made of"),
         Refusal::PagesLength => length(pages.len()),
         Refusal::PageCount => count(&standing),
         Refusal::ReservedBytes { .. } => reserved(&standing),

@@ -1,8 +1,8 @@
 //! A row in words: its feature bits by name, and its fields.
 
-use crate::components;
 use crate::features::{EAX, EBX, ECX, EDX, find};
 use crate::fields::cut;
+use crate::{caches, components};
 use snp_cpuid::Row;
 
 /// The four registers of a row by their place.
@@ -51,7 +51,7 @@ fn fields(row: &Row) -> Vec<(usize, String)> {
         (0x8000_000A, None) => vec![(EAX, format!("SVM revision {}", cut(row, "svm-rev")))],
         (0x8000_001E, None) => vec![(EBX, format!("threads per unit {}", cut(row, "threads-per-compute-unit") + 1))],
         (0x8000_001F, None) => vec![(EBX, encryption(row))],
-        _ => vec![],
+        _ => caches::words(row),
     }
 }
 
@@ -117,7 +117,7 @@ fn encryption(row: &Row) -> String {
 }
 
 /// Registers as text, up to the first zero byte; a byte that is no printable ASCII is a question mark.
-fn text(registers: &[u32]) -> String {
+pub fn text(registers: &[u32]) -> String {
     let bytes = registers.iter().flat_map(|r| r.to_le_bytes()).take_while(|byte| *byte != 0);
     let shown: String = bytes.map(|byte| if matches!(byte, b' '..=b'~') { byte as char } else { '?' }).collect();
     format!("\"{shown}\"")

@@ -28,7 +28,8 @@ processor with this XCR0 and XSS, and writes the result as bytes, in the form of
 2, F16C, XOP and FMA4 go where the table has no YMM state, bit 2 of D.0.EAX, which gives the table
 that edition 2 makes of the pages; nothing else changes, so the save sizes of a guest that runs stay
 what they were. Within one edition nothing changes. A note on standard error says which bits went.
-An edition E is decimal, X hexadecimal, with or without 0x.
+An edition E is decimal, X hexadecimal, with or without 0x. PAGES may be the running table's image:
+then --from says which edition made it.
 ",
     status: "\
 Exit status: 0 carried and written, 1 refused (building's refusals first, then 15 no such edition,

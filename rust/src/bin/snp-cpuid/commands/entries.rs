@@ -17,12 +17,12 @@ pub const COMMAND: Command = Command {
     name: "entries",
     operands: &["PAGES"],
     options: &[&[json::OPTION], building::OPTIONS],
-    summary: "print every entry of the pages as it stands, also where they are refused",
+    summary: "print every entry of the pages as it stands, refused or not",
     about: "\
 Prints every entry of the pages, whether or not they give a table: its place on its page, its leaf
 and subleaf, the four registers as they stand, and what comes of it. Where a table keeps the leaf,
-the line under it has the registers as masked. 'first' is the entry that the table takes for its
-row; 'later' one behind it, which is not read; 'not kept' one of a leaf that no table reads; 'not
+the line under it has the registers as masked. 'first' is the entry that a table takes for its row;
+'later' one behind it, which is not read; 'not kept' one of a leaf that no table reads; 'not
 counted' one at or above its page's count, printed where it is not all zeros, or of leaf Dh on
 another page than 1. XCR0_IN, XSS_IN and reserved bytes are printed where they are not zero. The
 first line has the answer to the pages, and after a refusal come the numbers that it rests on and
@@ -121,11 +121,28 @@ impl Report {
         text
     }
 
+    /// Why an accepted table has no row of a first entry.
+    fn unused(&self, entry: &Place) -> &'static str {
+        match (&self.answer, entry.leaf) {
+            (Ok(_), 0xB) => ", but the builder makes this row",
+            (Ok(_), _) if !self.in_table(entry) => ", but the table does not have its state",
+            _ => "",
+        }
+    }
+
+    /// Whether a row of the table came from it.
+    fn in_table(&self, entry: &Place) -> bool {
+        let own = Origin::Entry { page: entry.page, entry: entry.entry };
+        matches!(&self.answer, Ok(table) if table.rows().any(|row| row.origin == own))
+    }
+
     /// An entry's lines: as it stands, as masked, and what else is not zero.
     fn lines(&self, entry: &Place) -> String {
         let values = |registers: [u32; 4]| registers.map(|value| format!("{value:08X}")).join(" ");
         let name = place(entry.leaf, Some(entry.subleaf));
-        let mut text = format!("{:5}  {name:12}{}  {}\n", entry.entry, values(entry.registers), self.used(entry).told());
+        let used = self.used(entry);
+        let unused = if matches!(used, Use::First) { self.unused(entry) } else { "" };
+        let mut text = format!("{:5}  {name:12}{}  {}{unused}\n", entry.entry, values(entry.registers), used.told());
         if let Some(masked) = self.masked(entry) {
             text += &format!("       masked      {}\n", values(masked));
         }
@@ -153,12 +170,10 @@ impl Report {
     fn entry_json(&self, entry: &Place) -> Json {
         let used = self.used(entry);
         let masked = self.masked(entry).map(|masked| object(registers_json(masked)));
-        let in_table =
-            matches!(&self.answer, Ok(table) if table.rows().any(|row| row.origin == Origin::Entry { page: entry.page, entry: entry.entry }));
         object([("page", entry.page.into()), ("entry", entry.entry.into())])
             .with(place_json(entry.leaf, Some(entry.subleaf)))
             .with([("use", used.name().into()), ("counted", entry.counts().into()), ("kept", entry.kept().is_some().into())])
-            .with([("first", matches!(used, Use::First).into()), ("in_table", in_table.into())])
+            .with([("first", matches!(used, Use::First).into()), ("in_table", self.in_table(entry).into())])
             .with(registers_json(entry.registers))
             .with([("masked", masked.into()), ("xcr0_in", wide(entry.xcr0)), ("xss_in", wide(entry.xss))])
             .with([("reserved", hex_bytes(&entry.reserved).into())])

@@ -48,13 +48,16 @@ fn run(arguments: &Arguments) -> Result<(), Failure> {
     let building = Building::of(arguments, COMMAND.name)?;
     let sources = source::sources(&arguments.operands, &building)?;
     let fleet = Fleet::of(sources, building);
-    if let Some(file) = arguments.value(HTML.name()) {
-        output::to_file(file, page::of(&fleet).as_bytes())?;
+    match arguments.value(HTML.name()) {
+        Some(file) if file == "-" => return output::print(page::of(&fleet)).and_then(|()| answered(&fleet)),
+        Some(file) => output::to_file(file, page::of(&fleet).as_bytes())?,
+        None => {}
     }
-    if json::asked(arguments) {
-        output::print(data::of(&fleet).to_string())?;
-    } else if arguments.value(HTML.name()).is_none_or(|file| file != "-") {
-        output::print(text::of(&fleet))?;
-    }
+    output::print(if building.json() { data::of(&fleet).to_string() } else { text::of(&fleet) })?;
+    answered(&fleet)
+}
+
+/// Whether every server was accepted.
+fn answered(fleet: &Fleet) -> Result<(), Failure> {
     if fleet.accepted() == fleet.servers.len() { Ok(()) } else { Err(Failure::AnswerNo) }
 }

@@ -1,7 +1,7 @@
 //! `lookup`: the row of one leaf, or all rows of a leaf with subleaves.
 
 use crate::arguments::Arguments;
-use crate::building::{self, Building};
+use crate::building::{self, Building, edition_json};
 use crate::command::Command;
 use crate::failure::Failure;
 use crate::input::shown;
@@ -46,7 +46,7 @@ fn run(arguments: &Arguments) -> Result<(), Failure> {
     let absent = rows.is_empty().then(|| Failure::NotFound(absent(&table, leaf, subleaf)));
     if building.json() {
         let answer = if absent.is_some() { "not found" } else { "found" };
-        let asked = object([("answer", answer.into()), ("file", shown(file).into()), ("edition", building.edition().into())])
+        let asked = object([("answer", answer.into()), ("file", shown(file).into()), ("edition", edition_json(&table, building.edition()))])
             .with(place_json(leaf, subleaf))
             .with([("processor", seen.map(processor::json).into())]);
         output::print(asked.with([("rows", Json::Array(rows.iter().map(row_json).collect()))]).to_string())?;

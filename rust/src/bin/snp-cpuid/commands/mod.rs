@@ -1,5 +1,6 @@
 //! The commands: one file each, with its name, operands, options, help and `run`, and its line in the list.
 
+mod capture;
 mod carry;
 mod compare;
 mod entries;
@@ -27,6 +28,7 @@ pub const ALL: &[Command] = &[
     lookup::COMMAND,
     guest::COMMAND,
     carry::COMMAND,
+    capture::COMMAND,
     from_dump::COMMAND,
     to_dump::COMMAND,
     from_kvm::COMMAND,

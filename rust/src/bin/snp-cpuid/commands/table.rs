@@ -1,7 +1,7 @@
 //! `table`: the table in words.
 
 use crate::arguments::Arguments;
-use crate::building::{self, Building};
+use crate::building::{self, Building, edition_json};
 use crate::command::Command;
 use crate::components;
 use crate::failure::Failure;
@@ -23,8 +23,8 @@ pub const COMMAND: Command = Command {
 Prints the table of the pages: for each row its leaf, subleaf and registers in hexadecimal, under it
 the feature bits that are set, by the AMD manual's names, and fields in words; then the combined
 mask of extended states, the size of their save area, and the topology. With --origins a row's line
-ends in the page and entry that it is of, both counted from 0, or in 'made here', for 0, 80000000
-and the two rows of leaf B.
+ends in its source entry, by page and entry, both counted from 0, or in 'made here', for 0, 80000000
+and the two rows of leaf B, or in 'unknown' where PAGES is an image.
 ",
     status: "\
 Exit status: 0 accepted, 1 refused (standard error has the refusal's number, the numbers that it
@@ -46,7 +46,7 @@ fn run(arguments: &Arguments) -> Result<(), Failure> {
 
 /// The object of an accepted table.
 pub fn accepted(file: &str, edition: u32, table: &Table) -> Json {
-    object([("answer", "accepted".into()), ("file", file.into()), ("edition", edition.into())]).with(members(table))
+    object([("answer", "accepted".into()), ("file", file.into()), ("edition", edition_json(table, edition))]).with(members(table))
 }
 
 /// What an object says of a table.

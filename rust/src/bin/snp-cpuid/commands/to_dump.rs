@@ -25,7 +25,7 @@ Exit status: 0 accepted, 1 refused, 2 bad usage or a file that cannot be read or
 fn run(arguments: &Arguments) -> Result<(), Failure> {
     let table = Building::of(arguments, COMMAND.name)?.table(&arguments.operands[0])?;
     let rows: String = table.rows().map(|row| line(&row)).collect();
-    output::write(arguments, format!("CPU 0:\n{rows}").as_bytes())
+    output::write_text(arguments, &format!("CPU 0:\n{rows}"))
 }
 
 fn line(row: &Row) -> String {

@@ -1,0 +1,74 @@
+//! `capture`, against Debian's `cpuid` on the same processor, and against KVM's own list read by another program.
+
+use crate::debian;
+use crate::run::{Folder, finish, run, run_on};
+use std::process::Command;
+
+/// Runs a command on processor 0 alone (util-linux's taskset).
+fn on_first_processor(program: &str, arguments: &[&str]) -> Command {
+    let mut command = Command::new("taskset");
+    command.args(["-c", "0", program]).args(arguments);
+    command
+}
+
+/// The rows that `cpuid` reads by the same instruction on the same processor give the same pages, in the order of the dump.
+#[test]
+fn what_the_processor_reports_is_what_debians_cpuid_reads() {
+    if debian::installed().is_none() {
+        return;
+    }
+    let folder = Folder::new("capture");
+    let (own, dumped) = (folder.path("own"), folder.path("dumped"));
+    let ran = finish(&mut on_first_processor(env!("CARGO_BIN_EXE_snp-cpuid"), &["capture", "-o", &own]));
+    assert_eq!(ran.status, 0, "{}", ran.err);
+    assert!(ran.err.contains(" rows of processor 0, \""), "{}", ran.err);
+    // -i: by the instruction
+    let dump = on_first_processor("cpuid", &["-1", "-r", "-i"]).output().expect("cpuid runs");
+    assert!(dump.status.success());
+    assert_eq!(run_on(&dump.stdout, &["from-dump", "-", "-o", &dumped]).status, 0);
+    let rows = |file: &str| {
+        let ran = run(&["entries", file]);
+        let rows = ran.text().lines().filter(|line| line.ends_with("  first") || line.contains("  first, "));
+        let mut rows: Vec<String> = rows.map(|line| line[7..55].to_string()).collect();
+        rows.sort();
+        rows
+    };
+    let (own, dumped) = (rows(&own), rows(&dumped));
+    assert!(own.len() > 10, "{own:?}");
+    // cpuid stops at the last subleaf that it knows of
+    assert!(dumped.iter().filter(|row| !row.ends_with("00000000 00000000 00000000 00000000")).all(|row| own.contains(row)), "{own:#?}\n{dumped:#?}");
+    let extra: Vec<&String> = own.iter().filter(|row| !dumped.contains(row)).collect();
+    assert!(extra.iter().all(|row| row.starts_with("0000000B.1") || row.starts_with("0000000D.") || row.starts_with("8000001D.")), "{extra:?}");
+}
+
+/// What KVM supports, where it can be opened: read by the C program of the gate's KVM test it is the same list; here it must be pages.
+#[test]
+fn what_kvm_supports() {
+    let folder = Folder::new("capture_kvm");
+    let out = folder.path("pages");
+    let ran = run(&["capture", "--kvm", "-o", &out]);
+    match std::fs::File::options().read(true).write(true).open("/dev/kvm") {
+        Ok(_) => {
+            assert_eq!(ran.status, 0, "{}", ran.err);
+            assert!(ran.err.starts_with("snp-cpuid: note: /dev/kvm: ") && ran.err.contains(" rows, of which the table reads "), "{}", ran.err);
+            assert_eq!(std::fs::read(&out).unwrap().len(), 8192);
+        }
+        Err(_) => {
+            assert_eq!(ran.status, 2);
+            assert!(ran.line().starts_with("/dev/kvm: "), "{}", ran.err);
+            assert_eq!(folder.names(), [""; 0]);
+        }
+    }
+}
+
+#[test]
+fn bad_usage() {
+    for (arguments, words) in [
+        (&["capture"][..], "capture: -o FILE is missing"),
+        (&["capture", "x", "-o", "y"], "capture: one operand too many, 'x'"),
+        (&["capture", "-o", "no/such/file"], "no/such/file: cannot be written: "),
+    ] {
+        let ran = run(arguments);
+        assert!(ran.status == 2 && ran.line().starts_with(words), "{}", ran.err);
+    }
+}

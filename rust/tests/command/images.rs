@@ -1,0 +1,95 @@
+//! An image in the place of pages: what one command writes goes into the next.
+
+use crate::json_text::jq;
+use crate::page_sets::{epyc, set, stated, with};
+use crate::run::{EPYC, Folder, run, run_on};
+use std::fs;
+
+/// The image of a page set, in a file.
+fn image(folder: &Folder, name: &str, pages: &str, words: &[&str]) -> String {
+    let out = folder.path(name);
+    let ran = run(&[&["image", pages, "-o", &out], words].concat());
+    assert_eq!(ran.status, 0, "{}", ran.err);
+    out
+}
+
+#[test]
+fn the_commands_that_need_no_more_than_a_table() {
+    let folder = Folder::new("images");
+    let image = image(&folder, "image", EPYC, &[]);
+    for words in [&["table"][..], &["to-dump"], &["lookup"]] {
+        let leaf: &[&str] = if words[0] == "lookup" { &["8000001D"] } else { &[] };
+        assert_eq!(run(&[words, &[image.as_str()], leaf].concat()), run(&[words, &[EPYC], leaf].concat()));
+    }
+    assert_eq!(run(&["image", &image, "-o", "-"]).out, fs::read(&image).unwrap());
+    assert_eq!(run_on(&fs::read(&image).unwrap(), &["table", "-"]), run(&["table", EPYC]));
+    assert_eq!(run(&["lookup", &image, "D.9"]).status, 3);
+}
+
+/// No row of an image is said to be an entry's or made here.
+#[test]
+fn nobody_knows_where_its_rows_came_from() {
+    let folder = Folder::new("image_origins");
+    let image = image(&folder, "image", EPYC, &[]);
+    let ran = run(&["table", &image, "--origins"]);
+    let rows: Vec<&str> = ran.text().lines().skip(1).take_while(|line| !line.is_empty()).filter(|line| !line.starts_with(' ')).collect();
+    assert!(rows.len() == 29 && rows.iter().all(|row| row.ends_with("  unknown")), "{rows:?}");
+    let filter = "[.edition, ([.rows[] | [.origin, .page, .entry]] | unique)]";
+    if let Some(read) = jq(&run(&["table", &image, "--json"]).out, filter) {
+        assert_eq!(read, "[null,[[\"unknown\",null,null]]]");
+        assert_eq!(jq(&run(&["lookup", &image, "1", "--json"]).out, "[.edition, .rows[0].origin]").unwrap(), "[null,\"unknown\"]");
+    }
+}
+
+/// A pool's image goes into `table` and `carry`; a carried image into `to-dump`.
+#[test]
+fn what_one_command_writes_the_next_reads() {
+    let folder = Folder::new("image_chain");
+    let (pages, less) = (folder.file("pages", stated(3)), folder.file("less", set(&with(1, 0, 2, |ecx| ecx & !(1 << 12)))));
+    let pooled = folder.path("pooled");
+    let pool = run(&["pool", EPYC, &less, "-o", &pooled]);
+    assert_eq!((pool.status, run(&["table", &pooled])), (0, run(&["table", &less])));
+    let (carried, again) = (folder.path("carried"), folder.path("again"));
+    let states = ["--from", "1", "--to", "2", "--xcr0", "3", "--xss", "0", "-o"];
+    assert_eq!(run(&[&["carry", pages.as_str()][..], &states, &[carried.as_str()]].concat()).status, 0);
+    let first = image(&folder, "first", &pages, &[]);
+    let ran = run(&[&["carry", first.as_str()][..], &states, &[again.as_str()]].concat());
+    assert_eq!((ran.status, ran.err.as_str()), (0, "snp-cpuid: note: from edition 1 to 2: F16C, XOP, FMA4 went\n"));
+    assert_eq!(fs::read(&again).unwrap(), fs::read(&carried).unwrap());
+    assert_eq!(run(&["to-dump", &again]), run(&["to-dump", &pages, "--edition", "2"]));
+}
+
+#[test]
+fn options_of_pages_are_not_for_an_image() {
+    let folder = Folder::new("image_options");
+    let image = image(&folder, "image", EPYC, &[]);
+    for words in [&["--edition", "2"][..], &["--edition", "1"], &["--secure-avic"]] {
+        let ran = run(&[&["table", image.as_str()], words].concat());
+        let why = format!("{image} is an image, whose table is made: --edition and --secure-avic are for pages");
+        assert_eq!((ran.status, ran.line()), (2, why.as_str()));
+    }
+}
+
+/// The others need the pages, and say so; what is neither pages nor image is refused by its length.
+#[test]
+fn commands_that_need_pages_say_so() {
+    let folder = Folder::new("image_refused");
+    let image = image(&folder, "image", EPYC, &[]);
+    for arguments in [
+        &["guest", &image, "--apic", "1", "--xcr0", "1", "--xss", "0"][..],
+        &["to-kvm", &image, "-o", &folder.path("out")],
+        &["nearest", &image],
+        &["pool", EPYC, &image],
+        &["lookup", &image, "1", "--apic", "1", "--xcr0", "1", "--xss", "0"],
+    ] {
+        let ran = run(arguments);
+        assert!(ran.status == 1 && ran.line().starts_with(&format!("{image}: refusal 1: ")), "{}", ran.err);
+        assert_eq!(ran.notes(), ["it is the image of a table", "accepted with the pages that it was made of"]);
+    }
+    let bytes = fs::read(&image).unwrap();
+    let neither = folder.file("neither", &bytes[1..]);
+    assert!(run(&["table", &neither]).notes()[0].starts_with(&format!("it has {} bytes: 0 pages of 4,096 and ", bytes.len() - 1)));
+    // pages stay pages, whatever is on them
+    let pages = folder.file("pages", set(&epyc()));
+    assert!(run(&["table", &pages, "--origins"]).text().contains("  page 0 entry 1\n"));
+}
