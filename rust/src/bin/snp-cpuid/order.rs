@@ -1,7 +1,6 @@
 //! The order of tables: whether a guest of one table finds all of it in another (crates/rise/specs/Rise.antt, `TableRises`).
 
 use crate::features::{self, ECX};
-use crate::words;
 use snp_cpuid::{Register, Row, Table};
 
 const STATE: u32 = 0xD;
@@ -54,10 +53,13 @@ fn differing(a: &Row, b: &Row) -> Option<Register> {
     if a.result == b.result {
         return None;
     }
-    let registers = [Register::Eax, Register::Ebx, Register::Ecx, Register::Edx];
-    let values = words::registers(a).into_iter().zip(words::registers(b));
+    let values = registers(a).into_iter().zip(registers(b));
     let fails = |(register, (a_value, b_value))| !at_least(a, register, a_value, b_value);
-    values.enumerate().position(fails).map(|index| registers[index])
+    values.enumerate().position(fails).map(|index| [Register::Eax, Register::Ebx, Register::Ecx, Register::Edx][index])
+}
+
+fn registers(row: &Row) -> [u32; 4] {
+    [row.result.eax, row.result.ebx, row.result.ecx, row.result.edx]
 }
 
 /// Whether a register of B's is at least A's: in a feature register every bit of A's, in D.0.ECX, the save area, no smaller, elsewhere equal. Bit 28

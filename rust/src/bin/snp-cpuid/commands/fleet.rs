@@ -45,19 +45,24 @@ can be read as pages, 2 bad usage, a file that cannot be opened, or no file at a
 };
 
 fn run(arguments: &Arguments) -> Result<(), Failure> {
+    if arguments.operands.iter().filter(|file| *file == "-").count() > 1 {
+        return Err(Failure::usage(COMMAND.name, "standard input can be one server only"));
+    }
     let building = Building::of(arguments, COMMAND.name)?;
+    let to_output = arguments.value(HTML.name()).is_some_and(|file| file == "-");
+    if to_output && building.json() {
+        return Err(Failure::usage(COMMAND.name, "--html - and --json both go to standard output"));
+    }
     let sources = source::sources(&arguments.operands, &building)?;
     let fleet = Fleet::of(sources, building);
     match arguments.value(HTML.name()) {
-        Some(file) if file == "-" => return output::print(page::of(&fleet)).and_then(|()| answered(&fleet)),
-        Some(file) => output::to_file(file, page::of(&fleet).as_bytes())?,
-        None => {}
+        Some(file) if !to_output => output::to_file(file, page::of(&fleet).as_bytes())?,
+        _ => {}
     }
-    output::print(if building.json() { data::of(&fleet).to_string() } else { text::of(&fleet) })?;
-    answered(&fleet)
-}
-
-/// Whether every server was accepted.
-fn answered(fleet: &Fleet) -> Result<(), Failure> {
+    output::print(match (to_output, building.json()) {
+        (true, _) => page::of(&fleet),
+        (_, true) => data::of(&fleet).to_string(),
+        _ => text::of(&fleet),
+    })?;
     if fleet.accepted() == fleet.servers.len() { Ok(()) } else { Err(Failure::AnswerNo) }
 }

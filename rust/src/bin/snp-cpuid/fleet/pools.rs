@@ -4,8 +4,6 @@ use super::bits::{self, Bits};
 use super::source::pages_of_rows;
 use super::{Class, Group};
 use crate::building::Building;
-use crate::pages::Entry;
-use crate::words;
 use snp_cpuid::Table;
 
 /// How many page sets the library pools at once.
@@ -61,7 +59,7 @@ impl Set {
     /// Takes a class in, if the library pools it with the table so far.
     fn take(&mut self, class: usize, pages: &[u8], building: &Building) -> bool {
         let Ok(table) = building.pool(&[self.pages.as_slice(), pages]) else { return false };
-        self.pages = pages_of_table(&table);
+        self.pages = pages_of_rows(&table);
         self.table = table;
         self.classes.push(class);
         true
@@ -76,12 +74,6 @@ impl Set {
         let lost = lost(&tables, &self.classes);
         Pool { classes: self.classes, table, lost }
     }
-}
-
-/// The pages of a table's own rows: building gives the table again.
-fn pages_of_table(table: &Table) -> Vec<u8> {
-    let entry = |row: snp_cpuid::Row| Entry { leaf: row.leaf, subleaf: row.subleaf.unwrap_or(0), registers: words::registers(&row) };
-    pages_of_rows(table.rows().map(entry)).expect("a table has at most 32 rows")
 }
 
 /// The greatest sets of a group. A class of few states comes first: where it lacks a state, the others need not agree on that state's row.

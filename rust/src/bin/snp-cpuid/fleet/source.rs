@@ -1,11 +1,12 @@
 //! The files of a fleet, each by its content: CPUID pages, a table's image, a list for KVM, or the text of a dump.
 
-use crate::building::Building;
+use crate::building::{Building, image};
 use crate::commands::from_dump;
 use crate::failure::Failure;
 use crate::input::{read, reason, shown};
 use crate::pages::{Entry, read_by_table, two_pages};
-use snp_cpuid::{KVM_PAGES_BYTES, PAGE_BYTES, read_kvm};
+use crate::words;
+use snp_cpuid::{KVM_PAGES_BYTES, PAGE_BYTES, Row, Table, read_kvm};
 use std::collections::HashSet;
 use std::ffi::{OsStr, OsString};
 use std::fs;
@@ -55,7 +56,9 @@ pub fn sources(operands: &[OsString], building: &Building) -> Result<Vec<Source>
         let kind = kind(&bytes);
         Ok(Source { name, file: shown(file), kind, pages: pages(kind, bytes, building) })
     };
-    files.iter().zip(names).map(source).collect()
+    let mut sources: Vec<Source> = files.iter().zip(names).map(source).collect::<Result<_, _>>()?;
+    sources.sort_by(|a, b| (&a.name, &a.file).cmp(&(&b.name, &b.file)));
+    Ok(sources)
 }
 
 /// A file, or those of a folder and of the folders in it; hidden ones, whose names begin with a dot, are left out.
@@ -88,13 +91,13 @@ fn short_names(files: &[String]) -> Vec<String> {
     [stems, bares].into_iter().find(unlike).unwrap_or_else(|| files.to_vec())
 }
 
-/// Text has no zero byte, and a page always has one: its count is at most 64. An image and a list have their rows to the last byte.
+/// Text has no zero byte, and a page always has one: its count is at most 64. A list has its rows to the last byte.
 fn kind(bytes: &[u8]) -> Kind {
     if !bytes.is_empty() && !bytes.contains(&0) {
         Kind::Dump
     } else if bytes.len().is_multiple_of(PAGE_BYTES) {
         Kind::Pages
-    } else if image_rows(bytes).is_some() {
+    } else if image(bytes).is_some() {
         Kind::Image
     } else if word(bytes, 0).is_some_and(|count| bytes.len() as u64 == 8 + 40 * u64::from(count)) {
         Kind::List
@@ -105,23 +108,6 @@ fn kind(bytes: &[u8]) -> Kind {
 
 fn word(bytes: &[u8], at: usize) -> Option<u32> {
     Some(u32::from_le_bytes(*bytes.get(at..)?.first_chunk()?))
-}
-
-/// The rows of an image: for each byte 1, leaf and four registers, or byte 2, leaf, subleaf and the four.
-fn image_rows(mut bytes: &[u8]) -> Option<Vec<Entry>> {
-    let mut rows = vec![];
-    while let Some((&kind, rest)) = bytes.split_first() {
-        let numbers = match kind {
-            1 => 5,
-            2 => 6,
-            _ => return None,
-        };
-        let number = |index: usize| word(rest, 4 * index);
-        let registers = [number(numbers - 4)?, number(numbers - 3)?, number(numbers - 2)?, number(numbers - 1)?];
-        rows.push(Entry { leaf: number(0)?, subleaf: if kind == 2 { number(1)? } else { 0 }, registers });
-        bytes = &rest[4 * numbers..];
-    }
-    Some(rows)
 }
 
 /// The pages of a file's bytes.
@@ -135,17 +121,19 @@ fn pages(kind: Kind, bytes: Vec<u8>, building: &Building) -> Result<Vec<u8>, Str
             Ok(pages)
         }
         Kind::Image => {
-            let pages = pages_of_rows(image_rows(&bytes).unwrap_or_default())?;
+            let table = image(&bytes).ok_or("no image")?;
+            let pages = pages_of_rows(&table);
             // an image is a table under the choices that made it: building from its rows gives it again
-            if building.build(&pages).is_ok_and(|table| table.image() == bytes) { Ok(pages) } else { Err(OTHER_CHOICES.into()) }
+            if building.build(&pages).as_ref() == Ok(&table) { Ok(pages) } else { Err(OTHER_CHOICES.into()) }
         }
     }
 }
 
-const OTHER_CHOICES: &str = "building from its rows does not give this image again: it is damaged, or made with another --edition or --secure-avic";
+const OTHER_CHOICES: &str = "building from its rows does not give this image again: it was made with another --edition or --secure-avic";
 
-/// Pages with the rows of a table, but for those that no page gives.
-pub fn pages_of_rows(rows: impl IntoIterator<Item = Entry>) -> Result<Vec<u8>, String> {
-    let rows: Vec<Entry> = rows.into_iter().filter(|row| read_by_table(row.leaf, row.subleaf)).collect();
-    two_pages(&rows)
+/// Pages with the rows of a table, but for those that no page gives. Building gives the table again.
+pub fn pages_of_rows(table: &Table) -> Vec<u8> {
+    let entry = |row: Row| Entry { leaf: row.leaf, subleaf: row.subleaf.unwrap_or(0), registers: words::registers(&row) };
+    let rows: Vec<Entry> = table.rows().map(entry).filter(|row| read_by_table(row.leaf, row.subleaf)).collect();
+    two_pages(&rows).expect("a table has at most 32 rows")
 }

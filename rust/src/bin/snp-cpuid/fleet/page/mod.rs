@@ -39,7 +39,7 @@ pub fn of(fleet: &Fleet) -> String {
     let sections: String = parts.iter().map(|(id, title, inside)| section(id, title, inside)).collect();
     format!(
         "<!doctype html>\n<html lang=\"en\">\n<head>\n<meta charset=\"utf-8\">\n\
-         <meta http-equiv=\"Content-Security-Policy\" content=\"default-src 'none'; style-src 'unsafe-inline'\">\n\
+         <meta http-equiv=\"Content-Security-Policy\" content=\"default-src 'none'; style-src 'unsafe-inline'; img-src data:\">\n\
          <meta name=\"viewport\" content=\"width=device-width, initial-scale=1\">\n<meta name=\"color-scheme\" content=\"light dark\">\n\
          <link rel=\"icon\" href=\"data:,\">\n<title>{title}</title>\n<style>\n{STYLE}</style>\n</head>\n<body>\n{SYMBOLS}\
          <header>\n<p class=\"k\">CPUID tables of AMD SEV-SNP servers, {}</p>\n<h1>{title}</h1>\n{}<nav aria-label=\"Parts of this page\">{links}</nav>\n\
