@@ -246,7 +246,7 @@ struct Labels {
 
 impl Labels {
     fn put(&mut self, words: &str, from: [f64; 2], to: [f64; 2]) {
-        let half = words.len() as f64 * 3.4 + 3.0;
+        let half = words.len() as f64 * 4.0 + 3.0;
         for share in [0.5, 0.3, 0.68] {
             // the arrow is a curve: across it is where its middle is
             let across = share * share * (3.0 - 2.0 * share);
