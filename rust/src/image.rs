@@ -9,8 +9,8 @@ use std::fmt;
 pub struct NotAnImage;
 
 /// The table of an image, as [`Table::image`] gives it and [`write_image`](crate::write_image) and
-/// [`write_pool_image`](crate::write_pool_image) write it. The library decides what is an image. Where the rows came from stands in none, so that it is
-/// [`Origin::Unknown`] of all of them. Its combined mask is what its rows D.0 and D.1 say.
+/// [`write_pool_image`](crate::write_pool_image) write it. The library decides what is an image. An image does not say where its rows came from: all
+/// have [`Origin::Unknown`]. Its combined mask is what its rows D.0 and D.1 say.
 ///
 /// ```
 /// use snp_cpuid::{NotAnImage, Options, Origin, Table, build};

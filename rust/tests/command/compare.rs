@@ -60,7 +60,7 @@ fn lacks(from: &str, to: &str, name: &str, place: &str, bit: u32, at: &str) -> S
 
 const MAY: &str = "yes: a guest of A may move to B. ";
 const MAY_NOT: &str = "no: a guest of A may not move to B. ";
-const EQUAL: &str = "yes: a guest of A may move to B. The tables are equal: B's has every row of A's, with the same registers.";
+const EQUAL: &str = "yes: a guest of A may move to B. The tables are equal, row for row.";
 
 fn texts(lines: &[&str]) -> Vec<String> {
     lines.iter().map(|line| line.to_string()).collect()

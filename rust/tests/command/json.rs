@@ -18,6 +18,11 @@ pub fn jq(text: &[u8], filter: &str) -> Option<String> {
     Some(String::from_utf8(output.stdout).expect("text").trim_end().to_string())
 }
 
+/// Whether `jq` is there; where it is not, a word on it.
+pub fn installed() -> bool {
+    jq(b"null", ".").is_some()
+}
+
 /// Says once for each test, which has a thread of its own, that it was passed over.
 fn say_skipped() {
     thread_local!(static SAID: Cell<bool> = const { Cell::new(false) });

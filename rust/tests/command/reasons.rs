@@ -82,7 +82,7 @@ fn the_rule_is_named_where_both_counts_are_equal() {
     let mut entries = epyc();
     topology(&mut entries, 6, 31, 32, 1, 1);
     let told = notes(&folder, &set(&entries));
-    assert!(told[0].starts_with("1.EBX bits 16-23 give 32 logical processors and must give 2^6 = 64, as APIC core id size is 6 "), "{told:?}");
+    assert!(told[0].starts_with("1.EBX bits 16-23 give 32 logical processors and must give 2^6 = 64, for APIC core id size 6 "), "{told:?}");
     assert!(told[1].starts_with("accepted with 00000001.EBX at 00400800 (size 6, processors 32, logical processors 64, "), "{told:?}");
     topology(&mut entries, 6, 99, 64, 1, 1);
     let told = notes(&folder, &set(&entries));
@@ -157,7 +157,7 @@ fn lengths_counts_and_reserved_bytes() {
     counted[4096..4100].copy_from_slice(&[65, 1, 0, 0]);
     assert_eq!(notes(&folder, &counted)[0], "page 1 counts 321");
     let told = notes(&folder, &unclean(&epyc(), 1, 2, 3));
-    assert_eq!(told, ["in its last eight bytes page 1 entry 2 (leaf 0000000D) has 00 00 00 01 00 00 00 00", "accepted with zeros in those bytes"]);
+    assert_eq!(told, ["page 1 entry 2 (leaf 0000000D) has 00 00 00 01 00 00 00 00 in its last eight bytes", "accepted with zeros in those bytes"]);
 }
 
 /// 19 names the servers, leaves and registers; with the first server's values in those registers the pool is accepted.

@@ -92,15 +92,22 @@ fn length(bytes: usize) -> Reason {
 
 fn count(standing: &Standing) -> Reason {
     let wrong = standing.counts.iter().enumerate().filter(|(_, count)| **count > 64);
-    let told: Vec<String> = wrong.map(|(page, count)| format!("page {page} counts {count}")).collect();
-    Reason::new(told.join(", "), "a count of at most 64 in the first four bytes of each page")
+    let told = wrong.map(|(page, count)| format!("page {page} counts {count}"));
+    Reason::new(few(told.collect()), "a count of at most 64 in the first four bytes of each page")
 }
 
 fn reserved(standing: &Standing) -> Reason {
     let unclean: Vec<&Place> = standing.places.iter().filter(|place| place.below_count && place.reserved != [0; 8]).collect();
     let told = |place: &&Place| format!("{} (leaf {}) has {}", place.name(), row_name(place.leaf, None), hex_bytes(&place.reserved));
-    let told: Vec<String> = unclean.iter().map(told).collect();
-    Reason::new(format!("in its last eight bytes {}", told.join("; ")), "zeros in those bytes")
+    let whose = if unclean.len() == 1 { "its" } else { "their" };
+    Reason::new(format!("{} in {whose} last eight bytes", few(unclean.iter().map(told).collect())), "zeros in those bytes")
+}
+
+/// The first of a list that may be long, and how many more there are.
+fn few(list: Vec<String>) -> String {
+    const MOST: usize = 8;
+    let more = if list.len() > MOST { format!("; and {} more", list.len() - MOST) } else { String::new() };
+    list.iter().take(MOST).map(String::as_str).collect::<Vec<_>>().join("; ") + &more
 }
 
 /// Bytes in hexadecimal, spaces between.
@@ -127,10 +134,11 @@ fn missing(standing: &Standing) -> Reason {
         numbers += &format!("; D.0.EAX {:08X} and XSS {:08X} ask for the states {}", wanted.xfem, wanted.xss, wanted.told());
     }
     let idle = standing.places.iter().filter(|place| !place.counts() && missing.contains(&(place.leaf, place.kept().and_then(|kept| kept.subleaf))));
-    for place in idle {
+    let idle = idle.map(|place| {
         let why = if place.below_count { "leaf Dh counts on page 1 alone" } else { "it is above its page's count" };
-        numbers += &format!("; {} has {}, but {why}", place.name(), row_name(place.leaf, Some(place.subleaf)));
-    }
+        format!("{} has {}, but {why}", place.name(), row_name(place.leaf, Some(place.subleaf)))
+    });
+    let numbers = few([numbers].into_iter().chain(idle).collect());
     let which = if missing.len() == 1 { "it" } else { "each of them" };
     let page = if missing.iter().any(|(leaf, _)| *leaf == 0xD) { ", of leaf Dh on page 1" } else { "" };
     let mut reason = Reason::new(numbers, format!("an entry for {which} below its page's count{page}"));
@@ -246,16 +254,25 @@ pub fn of_guest(refusal: Refusal, table: &Table, xcr0: u64, xss: u64) -> Reason 
             let change = format!("XCR0 {:X} and XSS {:X}", xcr0 & own_xcr0 | 1, xss & own_xss);
             Reason::new(parts.into_iter().flatten().collect::<Vec<_>>().join("; "), change)
         }
-        Refusal::CompactSizeTooLarge => {
-            let sizes: Vec<String> = table
-                .rows()
-                .filter(|row| row.leaf == 0xD && row.subleaf.is_some_and(|k| k >= 2 && (xcr0 | xss) >> k & 1 == 1))
-                .map(|row| format!("D.{:X} {:X}", row.subleaf.unwrap_or(0), row.result.eax))
-                .collect();
-            Reason::new(format!("the sizes in EAX are {}, after 240", sizes.join(", ")), "fewer states on, or smaller ones")
-        }
+        Refusal::CompactSizeTooLarge => compacted(table, xcr0 | xss),
         _ => Reason::default(),
     }
+}
+
+/// The compacted save area of some states: 576 bytes, then each state, at a multiple of 64 where bit 1 of its ECX says so.
+fn compacted(table: &Table, states: u64) -> Reason {
+    let (mut end, mut told) = (576u64, vec![]);
+    for row in table.rows().filter(|row| row.leaf == 0xD && row.subleaf.is_some_and(|k| k >= 2 && states >> k & 1 == 1)) {
+        let start = if row.result.ecx & 2 == 0 { end } else { end.next_multiple_of(64) };
+        end = start + u64::from(row.result.eax);
+        told.push(format!("D.{:X} from {start:X} to {end:X}", row.subleaf.unwrap_or(0)));
+    }
+    Reason::new(format!("after the 240 bytes of x87 and SSE state stand {}, over FFFFFFFF", told.join(", ")), "fewer states on, or smaller ones")
+}
+
+/// Why a table is not taken back to edition 1.
+pub fn of_edition_back() -> Reason {
+    Reason::new(String::new(), "--to 2, which changes nothing")
 }
 
 /// Why a pool of so many servers is refused.

@@ -3,6 +3,7 @@
 use crate::masks::{Kept, kept};
 use crate::pages::PAGE_ENTRIES;
 use snp_cpuid::{Origin, PAGE_BYTES, first_entry};
+use std::collections::{BTreeMap, BTreeSet};
 
 /// One of the 64 places of a page.
 pub struct Place {
@@ -31,26 +32,37 @@ pub struct Standing {
     pub places: Vec<Place>,
     /// how many bytes are left over after the last whole page
     pub over: usize,
-    /// the pages as the library reads them for first entries: whole pages, no count above 64, no reserved byte
-    readable: Vec<u8>,
+    /// the first entry of each row that has one, by its place in the list
+    firsts: BTreeMap<(u32, Option<u32>), usize>,
 }
 
 impl Standing {
     pub fn of(pages: &[u8]) -> Standing {
-        let mut standing = Standing { counts: vec![], places: vec![], over: pages.len() % PAGE_BYTES, readable: vec![] };
+        let mut standing = Standing { counts: vec![], places: vec![], over: pages.len() % PAGE_BYTES, firsts: BTreeMap::new() };
+        let mut whole = vec![];
         for (number, page) in pages.chunks_exact(PAGE_BYTES).enumerate() {
             let count = word(page, 0);
             standing.counts.push(count);
             standing.places.extend((0..PAGE_ENTRIES).map(|entry| place(number, entry, page)).filter(|place| place.below_count || place.is_used()));
-            standing.readable.extend(readable(page, count));
+            whole.extend(readable(page, count));
         }
+        standing.find_firsts(&whole);
         standing
+    }
+
+    /// Asks the library for the first entry of each row that an entry is of, in pages that it reads.
+    fn find_firsts(&mut self, pages: &[u8]) {
+        let rows: BTreeSet<_> = self.places.iter().filter_map(Place::kept).map(|kept| (kept.leaf, kept.subleaf)).collect();
+        for (leaf, subleaf) in rows {
+            let Ok(Some(Origin::Entry { page, entry })) = first_entry(pages, leaf, subleaf.unwrap_or(0)) else { continue };
+            let at = self.places.binary_search_by_key(&(page, entry), |place| (place.page, place.entry));
+            self.firsts.extend(at.ok().map(|at| ((leaf, subleaf), at)));
+        }
     }
 
     /// The first entry for a row, which the table takes: the library's answer.
     pub fn first(&self, leaf: u32, subleaf: Option<u32>) -> Option<&Place> {
-        let Ok(Some(Origin::Entry { page, entry })) = first_entry(&self.readable, leaf, subleaf.unwrap_or(0)) else { return None };
-        self.places.iter().find(|place| (place.page, place.entry) == (page, entry))
+        self.firsts.get(&(leaf, subleaf)).map(|at| &self.places[*at])
     }
 
     /// The first entry's registers as the table's rules find them; zeros where there is none.
@@ -98,7 +110,7 @@ fn place(page: usize, entry: usize, bytes: &[u8]) -> Place {
     }
 }
 
-/// A page whose entries the library reads: a count above 64 is taken for 64, and reserved bytes are zeros.
+/// A page whose entries the library reads, for the first ones: a count above 64 is taken for 64, and reserved bytes are zeros.
 fn readable(page: &[u8], count: u32) -> Vec<u8> {
     let mut copy = page.to_vec();
     copy[..4].copy_from_slice(&count.min(PAGE_ENTRIES as u32).to_le_bytes());

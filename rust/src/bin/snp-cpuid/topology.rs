@@ -1,5 +1,5 @@
-//! The five numbers that a server tells its topology by: why a refusal was given for them, and the nearest that are accepted. tests/command/reasons.rs
-//! sends what stands here through the library, for every size.
+//! The five numbers that a server tells its topology by: why a refusal was given for them, and the nearest that are accepted. The tests send
+//! these through the library, for every size (tests/command/reasons.rs).
 
 use crate::features::{EBX, ECX, EDX};
 use snp_cpuid::TopologyError;
@@ -90,7 +90,7 @@ pub fn why(refusal: TopologyError, numbers: Numbers) -> String {
             nc + 1
         ),
         (TopologyError::ProcessorCount(_), _) => format!(
-            "1.EBX bits 16-23 give {lps} logical processors and must give 2^{s} = {processors}, as APIC core id size is {s} (80000008h.ECX bits 12-15)"
+            "1.EBX bits 16-23 give {lps} logical processors and must give 2^{s} = {processors}, for APIC core id size {s} (80000008h.ECX bits 12-15)"
         ),
         (TopologyError::ThreadsPerUnit, _) if t > 1 => format!("8000001Eh.EBX bits 8-15 plus 1 are {} threads per unit, more than 2", t + 1),
         (TopologyError::ThreadsPerUnit, _) => format!("8000001Eh.EBX bits 8-15 plus 1 are {} threads per unit of {processors} processor", t + 1),

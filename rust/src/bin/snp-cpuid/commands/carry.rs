@@ -9,7 +9,7 @@ use crate::input::shown;
 use crate::json::{self, array, object};
 use crate::option::Opt;
 use crate::print::bit_json;
-use crate::reasons::{self, Reason};
+use crate::reasons;
 use crate::{output, processor, words};
 use snp_cpuid::{Refusal, Table};
 
@@ -49,7 +49,7 @@ fn run(arguments: &Arguments) -> Result<(), Failure> {
     let carried = running.carry(from, to, xcr0, xss).map_err(|refusal| {
         let reason = match refusal {
             Refusal::UnknownEdition => reasons::of_edition(to),
-            Refusal::EditionBack => Reason::default(),
+            Refusal::EditionBack => reasons::of_edition_back(),
             _ => reasons::of_guest(refusal, &running, xcr0, xss),
         };
         building.refused(shown(file), refusal, &reason)

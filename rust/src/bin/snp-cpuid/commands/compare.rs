@@ -133,7 +133,7 @@ impl Report<'_> {
             (Err(a), Err(b)) => format!("no: A is refused, by {}, and B, by {}.", a.number(), b.number()),
             (Err(refusal), Ok(_)) => format!("no: A is refused, by {}, so it has no guest.", refusal.number()),
             (Ok(_), Err(refusal)) => format!("no: B is refused, by {}.", refusal.number()),
-            _ if self.equal() => "yes: a guest of A may move to B. The tables are equal: B's has every row of A's, with the same registers.".into(),
+            _ if self.equal() => "yes: a guest of A may move to B. The tables are equal, row for row.".into(),
             _ if self.rises.holds() => format!("yes: a guest of A may move to B. {}.", self.rises.promise()),
             _ => format!("no: a guest of A may not move to B. {}.", capital(&self.rises.obstacle())),
         }

@@ -110,10 +110,12 @@ impl Report {
                 format!("{}: {}\n", self.file, told(*refusal)) + &notes.iter().map(|note| format!("{note}\n")).collect::<String>()
             }
         };
+        let mut entries = self.standing.places.iter().peekable();
         for (page, count) in self.standing.counts.iter().enumerate() {
-            text += &format!("\npage {page}, count {count}\n");
-            text += "entry  leaf        EAX      EBX      ECX      EDX\n";
-            text += &self.standing.places.iter().filter(|entry| entry.page == page).map(|entry| self.lines(entry)).collect::<String>();
+            text += &format!("\npage {page}, count {count}\nentry  leaf        EAX      EBX      ECX      EDX\n");
+            while let Some(entry) = entries.next_if(|entry| entry.page == page) {
+                text += &self.lines(entry);
+            }
         }
         if self.standing.over > 0 {
             text += &format!("\n{} after the last whole page\n", counted(self.standing.over as u32, "byte"));
