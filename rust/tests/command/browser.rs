@@ -1,5 +1,5 @@
-//! The page of `fleet --html` in a browser, Debian's `chromium` without a window: it has what `--json` has, and nothing on it is broken. Where chromium is
-//! not installed the tests say so.
+//! The page of `fleet --html` in a browser, Debian's `chromium` without a window: it has what `--json` has, and nothing on it is broken. Where
+//! chromium is not installed the tests say so.
 
 use crate::fleet::small;
 use crate::json_text::jq;
@@ -109,12 +109,15 @@ fn the_page_has_what_the_library_answered() {
 const MEASURE: &str = r##"<script>
 const all = selector => [...document.querySelectorAll(selector)];
 const colour = text => { const n = text.match(/[\d.]+/g).map(Number); return text.startsWith("color") ? n.map((v, i) => i < 3 ? 255 * v : v) : n };
-const light = c => { const [r, g, b] = c.map(v => (v /= 255) <= .03928 ? v / 12.92 : ((v + .055) / 1.055) ** 2.4); return .2126 * r + .7152 * g + .0722 * b };
-const ground = e => { for (; e; e = e.parentElement) { const c = colour(getComputedStyle(e).backgroundColor); if (c.length < 4 || c[3] > 0) return c } return [255, 255, 255] };
+const linear = v => (v /= 255) <= .03928 ? v / 12.92 : ((v + .055) / 1.055) ** 2.4;
+const light = c => { const [r, g, b] = c.map(linear); return .2126 * r + .7152 * g + .0722 * b };
+const own = e => colour(getComputedStyle(e).backgroundColor);
+const ground = e => { for (; e; e = e.parentElement) { const c = own(e); if (c.length < 4 || c[3] > 0) return c } return [255, 255, 255] };
 const contrast = (a, b) => { const [x, y] = [light(a.slice(0, 3)), light(b.slice(0, 3))].sort((p, q) => q - p); return (x + .05) / (y + .05) };
 const texts = all("body *").filter(e => !e.closest("script, .v, title, desc") && [...e.childNodes].some(n => n.nodeType == 3 && n.data.trim()));
 const ink = e => colour(e.closest("svg") ? getComputedStyle(e).fill : getComputedStyle(e).color);
-const over = (a, b) => { const [p, q] = [a.getBoundingClientRect(), b.getBoundingClientRect()]; return p.left < q.right && q.left < p.right && p.top < q.bottom && q.top < p.bottom };
+const apart = (p, q) => p.left >= q.right || q.left >= p.right || p.top >= q.bottom || q.top >= p.bottom;
+const over = (a, b) => !apart(a.getBoundingClientRect(), b.getBoundingClientRect());
 const words = all(".gain");
 document.body.dataset.measured = [
   document.documentElement.scrollWidth - document.documentElement.clientWidth,

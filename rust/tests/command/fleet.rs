@@ -86,7 +86,7 @@ fn the_same_as_json() {
     small(&folder);
     let path = folder.path("");
     for (filter, expected) in [
-        ("[.edition, .secure_avic, .accepted, .refused, (.servers | length)]", "[1,false,7,2,9]"),
+        ("[.answer, .edition, .secure_avic, .accepted, .refused, (.servers | length)]", r#"["some refused",1,false,7,2,9]"#),
         ("[.servers[] | .class]", r#"["A1","A1","A2","A3","A4","B1","B1",null,null]"#),
         ("[.servers[7:][] | [.answer, .refusal.number, .refusal.line]]", r#"[["refused",4,"4"],["refused",3,"3 0000000B 0"]]"#),
         ("[.classes[] | .lacks]", r#"[[],["FMA"],["SHA"],["FMA","SHA"],[]]"#),
@@ -222,7 +222,7 @@ fn a_class_without_a_state_joins_the_others() {
     let mut poor = rich();
     poor.get_mut(&(0xD, 0)).unwrap()[0] = 7;
     folder.file("c.pages", set(&poor));
-    if let Some(read) = found(&folder.path(""), "[.pools[] | .servers, .save_area]") {
+    if let Some(read) = found(&folder.path(""), "[.pools[] | .servers, .save_area_bytes]") {
         assert_eq!(read, "[3,832]");
     }
 }

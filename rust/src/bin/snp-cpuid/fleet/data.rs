@@ -20,7 +20,13 @@ const MOST_LISTED: usize = 100;
 /// The report.
 pub fn of(fleet: &Fleet) -> Json {
     let place = |class: &usize| fleet.classes[*class].name.as_str();
+    let answer = match fleet.accepted() {
+        0 => "all refused",
+        accepted if accepted == fleet.servers.len() => "accepted",
+        _ => "some refused",
+    };
     object([
+        ("answer", answer.into()),
         ("edition", fleet.building.edition().into()),
         ("secure_avic", fleet.building.secure_avic().into()),
         ("accepted", fleet.accepted().into()),
@@ -61,7 +67,7 @@ fn group(fleet: &Fleet, group: &Group) -> Json {
         ("name", group.letter.as_str().into()),
         ("processor", groups::processor(table).into()),
         ("signature", groups::signature(table).into()),
-        ("processors", processors.into()),
+        ("logical_processors", processors.into()),
         ("threads_per_core", threads.into()),
         ("servers", group.servers.into()),
         ("classes", names(fleet, &group.classes.clone().collect::<Vec<_>>())),
@@ -74,9 +80,9 @@ fn class(fleet: &Fleet, place: usize) -> Json {
         ("name", name.as_str().into()),
         ("group", fleet.groups[*group].letter.as_str().into()),
         ("servers", array(servers.iter().map(|server| fleet.servers[*server].source.name.as_str()))),
-        ("rows", table.rows().count().into()),
-        ("combined_mask", format!("{:016X}", table.max_extended_state()).into()),
-        ("save_area", groups::save_area(table).into()),
+        ("row_count", table.rows().count().into()),
+        ("combined_mask", format!("{:08X}", table.max_extended_state()).into()),
+        ("save_area_bytes", groups::save_area(table).into()),
         ("lacks", array(bits::names(&differing::lacks(fleet, place)))),
         ("may_go_to", fleet.moves.rises[place].as_ref().map_or(Json::Null, |to| names(fleet, to))),
     ])
@@ -122,8 +128,8 @@ fn pool(fleet: &Fleet, pool: &Pool) -> Json {
     object([
         ("classes", names(fleet, &pool.classes)),
         ("servers", servers_of(fleet, &pool.classes).into()),
-        ("rows", pool.table.rows().count().into()),
-        ("save_area", groups::save_area(&pool.table).into()),
+        ("row_count", pool.table.rows().count().into()),
+        ("save_area_bytes", groups::save_area(&pool.table).into()),
         ("costs", array(costs)),
         ("lost", array(pool.lost.iter().map(lost))),
     ])

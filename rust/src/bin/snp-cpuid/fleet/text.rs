@@ -297,5 +297,5 @@ fn notes(fleet: &Fleet) -> String {
 }
 
 /// Why there are notes.
-pub const NOTE: &str = "Note: the tables allow these moves, and a guest sees no difference. 'compare' looks at the pages too, before the other server \
-                        is built, and does not promise them:";
+pub const NOTE: &str = "Note: the tables allow these moves, and a guest sees no difference. 'compare' looks at the pages too, before the other \
+                        server is built, and does not promise them:";

@@ -63,7 +63,8 @@ fn feature(fleet: &Fleet, row: &Feature, few: bool) -> String {
     };
     let bits = row.bits.names().join(" ");
     format!(
-        "<tr data-bits=\"{bits}\"><th scope=\"row\" class=\"rg\">{register}</th><td class=\"fh\"><small class=\"ph\">{register}</small> {names}</td>{cells}</tr>\n"
+        "<tr data-bits=\"{bits}\"><th scope=\"row\" class=\"rg\">{register}</th>\
+         <td class=\"fh\"><small class=\"ph\">{register}</small> {names}</td>{cells}</tr>\n"
     )
 }
 

@@ -42,7 +42,8 @@ pub fn of(fleet: &Fleet) -> String {
          <meta http-equiv=\"Content-Security-Policy\" content=\"default-src 'none'; style-src 'unsafe-inline'; img-src data:\">\n\
          <meta name=\"viewport\" content=\"width=device-width, initial-scale=1\">\n<meta name=\"color-scheme\" content=\"light dark\">\n\
          <link rel=\"icon\" href=\"data:,\">\n<title>{title}</title>\n<style>\n{STYLE}</style>\n</head>\n<body>\n{SYMBOLS}\
-         <header>\n<p class=\"k\">CPUID tables of AMD SEV-SNP servers, {}</p>\n<h1>{title}</h1>\n{}<nav aria-label=\"Parts of this page\">{links}</nav>\n\
+         <header>\n<p class=\"k\">CPUID tables of AMD SEV-SNP servers, {}</p>\n<h1>{title}</h1>\n{}\
+         <nav aria-label=\"Parts of this page\">{links}</nav>\n\
          </header>\n<main>\n{sections}</main>\n</body>\n</html>\n",
         choices(fleet),
         answers(fleet)
@@ -141,8 +142,8 @@ fn classes(fleet: &Fleet) -> String {
     if fleet.classes.is_empty() {
         return String::new();
     }
-    let words = "<p>All servers of a class give a guest the same table, so a program that asks CPUID what to use does the same on each of them. The letter \
-                 is the group: classes that differ in features only. Number 1 has most features.</p>\n";
+    let words = "<p>All servers of a class give a guest the same table, so a program that asks CPUID what to use does the same on each of them. \
+                 The letter is the group: classes that differ in features only. Number 1 has most features.</p>\n";
     let head = ["Class", "Servers", "Names", "Without, of what its group has"].map(column).concat();
     let body: String = fleet.groups.iter().map(|group| group_rows(fleet, group)).collect();
     words.to_string() + &table("c-classes", "f", "Accepted servers by class", &head, &body)
@@ -179,7 +180,8 @@ fn class_row(fleet: &Fleet, place: usize) -> String {
     let lacks: Vec<String> = differing::lacks(fleet, place).iter().map(features::named).collect();
     let lacks = if lacks.is_empty() { "<span class=\"d\">nothing</span>".into() } else { folded(&lacks) };
     format!(
-        "<tr id=\"{name}\" data-class=\"{name}\" data-servers=\"{many}\"><th scope=\"row\">{name}</th><td class=\"r\">{many}</td><td>{}</td><td>{lacks}</td></tr>\n",
+        "<tr id=\"{name}\" data-class=\"{name}\" data-servers=\"{many}\"><th scope=\"row\">{name}</th>\
+         <td class=\"r\">{many}</td><td>{}</td><td>{lacks}</td></tr>\n",
         folded(&server_names(fleet, &class.servers)),
         name = class.name,
         many = class.servers.len()
@@ -229,8 +231,8 @@ fn refused(fleet: &Fleet) -> String {
 
 fn made(fleet: &Fleet) -> String {
     format!(
-        "<p>Every answer is that of the proved library behind <code>snp-cpuid {}</code>, under {}: it builds each server once, compares the tables of \
-         classes, and makes the pools. The words are the command's. <code>snp-cpuid fleet --json</code> gives the same answers to a program, and \
+        "<p>Every answer is that of the proved library behind <code>snp-cpuid {}</code>, under {}: it builds each server once, compares the \
+         tables of classes, and makes the pools. The words are the command's. <code>snp-cpuid fleet --json</code> gives the same answers to a program, and \
          <code>snp-cpuid compare</code> and <code>snp-cpuid pool</code> give those of single servers again.</p>\n",
         env!("CARGO_PKG_VERSION"),
         choices(fleet)

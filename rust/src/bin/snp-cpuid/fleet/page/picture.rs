@@ -218,7 +218,8 @@ impl<'a> Picture<'a> {
             let (name, servers) = (&class.name, many(class.servers.len(), "server"));
             let [left, top] = [node.x - BOX[0] / 2.0, self.top(place)];
             format!(
-                "<a href=\"#{name}\" aria-label=\"{name}, {servers}\"><rect class=\"box\" x=\"{left:.1}\" y=\"{top:.1}\" width=\"{}\" height=\"{}\" rx=\"4\"/>\
+                "<a href=\"#{name}\" aria-label=\"{name}, {servers}\">\
+                 <rect class=\"box\" x=\"{left:.1}\" y=\"{top:.1}\" width=\"{}\" height=\"{}\" rx=\"4\"/>\
                  <text class=\"n1\" x=\"{:.1}\" y=\"{:.1}\">{name}</text><text class=\"n2\" x=\"{:.1}\" y=\"{:.1}\">{servers}</text></a>\n",
                 BOX[0],
                 BOX[1],

@@ -14,8 +14,8 @@ pub fn of(fleet: &Fleet) -> String {
     if fleet.pools.is_empty() {
         return String::new();
     }
-    let words = "<p>A pool is one table for several servers: the features that all of them have. A guest with that table may go to each of them. No further \
-                 class can join the pools that stand here, and one server of each class stands for all of its class.</p>\n";
+    let words = "<p>A pool is one table for several servers: the features that all of them have. A guest with that table may go to each of them. \
+                 No further class can join the pools that stand here, and one server of each class stands for all of its class.</p>\n";
     words.to_string() + &fleet.pools.iter().enumerate().map(|(place, pool)| one(fleet, place, pool)).collect::<String>()
 }
 
