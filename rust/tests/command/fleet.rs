@@ -62,9 +62,9 @@ fn a_small_fleet_by_hand() {
             ],
         ),
         (1, &["   B1       2  d1 d2"]),
-        (2, &["   A1    to no other class; not to A2 (FMA), A3 (SHA), A4 (FMA SHA)\n", "   A2    to A1; not to A3 and A4 (SHA)\n"]),
+        (2, &["   A2    to A1; not to A3 and A4 (7.0 EBX SHA)\n", "   A3    to A1; not to A2 and A4 (1 ECX FMA)\n"]),
         (2, &["   A4    to A1, A2 and A3\n", "   A and B: 1 EAX (00A00F11, 00A00F12), 80000001 EAX (00A00F11, 00A00F12)"]),
-        (3, &["   A     5 servers in 4 classes, without FMA SHA\n", "         A2 and A4 (2 servers) together cost FMA\n"]),
+        (3, &["   A     5 servers in 4 classes, without FMA SHA\n", "         A2 and A4 (b1 c1) together cost FMA\n"]),
         (4, &["   1 ECX           +   -   +   -   +  FMA\n", "   7.0 EBX         +   +   -   -   +  SHA"]),
         (5, &[refused, "e2\n      refusal 3: no entry for leaf Bh subleaf 0h, which every guest needs\n"]),
     ] {

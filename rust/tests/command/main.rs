@@ -9,6 +9,8 @@ mod capture;
 mod carry;
 mod compare;
 mod debian;
+#[path = "differences.rs"]
+mod differences_held;
 mod documents;
 mod dump;
 mod edition;
@@ -47,6 +49,9 @@ mod caches;
 #[path = "../../src/bin/snp-cpuid/components.rs"]
 mod components;
 #[allow(dead_code)]
+#[path = "../../src/bin/snp-cpuid/differences.rs"]
+mod differences;
+#[allow(dead_code)]
 #[path = "../../src/bin/snp-cpuid/features.rs"]
 mod features;
 #[allow(dead_code)]
@@ -68,5 +73,11 @@ mod order;
 #[path = "../../src/bin/snp-cpuid/pages.rs"]
 mod pages;
 #[allow(dead_code)]
+#[path = "../../src/bin/snp-cpuid/print.rs"]
+mod print;
+#[allow(dead_code)]
 #[path = "../../src/bin/snp-cpuid/words.rs"]
 mod words;
+#[allow(dead_code)]
+#[path = "../../src/bin/snp-cpuid/wrap.rs"]
+mod wrap;

@@ -89,6 +89,15 @@ fn an_accepted_table_has_no_line() {
 }
 
 #[test]
+fn entries_gives_the_line_after_its_report() {
+    let folder = Folder::new("entries_line");
+    let file = folder.file("pages", set(&without(0xD, 2)));
+    let ran = run(&["entries", &file, "--line"]);
+    assert_eq!((ran.status, ran.text()), (0, format!("{}3 0000000D 2\n", run(&["entries", &file]).text()).as_str()));
+    assert_eq!(run(&["entries", EPYC, "--line"]), run(&["entries", EPYC]));
+}
+
+#[test]
 fn compare_gives_the_line_after_its_report() {
     let folder = Folder::new("compare_line");
     let file = folder.file("pages", set(&without(0xD, 2)));

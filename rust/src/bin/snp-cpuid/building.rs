@@ -133,13 +133,14 @@ impl Building {
 
     /// A refusal in words; its line, or its JSON, goes to standard output where that was asked for.
     pub fn refused(&self, name: impl Display, refusal: Refusal, reason: &Reason) -> Failure {
-        let printed = if self.json {
-            output::print(refused(&name.to_string(), refusal, reason).to_string())
-        } else {
-            self.line.then(|| output::print(refusal.line())).unwrap_or(Ok(()))
-        };
+        let printed = if self.json { output::print(refused(&name.to_string(), refusal, reason).to_string()) } else { self.print_line(refusal) };
         let failure = Failure::No { line: format!("{name}: {}", told(refusal)), notes: reason.notes() };
         printed.err().unwrap_or(failure)
+    }
+
+    /// The refusal's line to standard output, where it was asked for.
+    pub fn print_line(&self, refusal: Refusal) -> Result<(), Failure> {
+        if self.line { output::print(refusal.line()) } else { Ok(()) }
     }
 
     /// The refusal's line after a report, where it was asked for, and the refusal in words.

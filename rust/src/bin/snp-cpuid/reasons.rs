@@ -3,7 +3,7 @@
 use crate::building::image;
 use crate::components;
 use crate::differences::HTT;
-use crate::features::{self, EAX, EBX, ECX, EDX, REGISTERS};
+use crate::features::{self, EAX, EBX, ECX, REGISTERS};
 use crate::json::{self, Json, array, object};
 use crate::masks::required;
 use crate::print::place as row_name;
@@ -231,8 +231,8 @@ fn topology(why: TopologyError, standing: &Standing) -> Reason {
         .map(|(leaf, register, value)| Register { leaf, subleaf: None, register, value })
         .filter(|r| standing.first(r.leaf, None).is_some_and(|place| place.registers[r.register] != r.value))
         .collect();
-    let at = [(0x1, EBX), (0x1, EDX), (0x8000_0008, ECX), (0x8000_001E, EBX)];
-    let told = at.map(|(leaf, register)| standing_at(standing, leaf, None, register)).join(", ");
+    let told: Vec<String> = topology::read_by(why, numbers).iter().map(|(leaf, register)| standing_at(standing, *leaf, None, *register)).collect();
+    let told = told.join(", ");
     let change = registers.iter().map(value_told).collect::<Vec<_>>().join(" and ");
     let change = format!("{change} ({})", numbers.accepted().told());
     Reason { registers, ..Reason::new(format!("{}: {told}", topology::why(why, numbers)), change) }

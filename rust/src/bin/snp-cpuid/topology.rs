@@ -70,6 +70,17 @@ impl Numbers {
     }
 }
 
+/// The registers, by leaf, whose numbers a refusal rests on.
+pub fn read_by(refusal: TopologyError, numbers: Numbers) -> Vec<(u32, usize)> {
+    let (logical, flags, sizes, units) = ((0x1, EBX), (0x1, EDX), (0x8000_0008, ECX), (0x8000_001E, EBX));
+    match refusal {
+        TopologyError::Hyperthreading(_) => vec![flags, logical, sizes],
+        TopologyError::ProcessorCount(_) => vec![logical, sizes],
+        TopologyError::ThreadsPerUnit if numbers.t > 1 => vec![units],
+        TopologyError::ThreadsPerUnit => vec![units, logical, flags, sizes],
+    }
+}
+
 /// What is wrong with the numbers.
 pub fn why(refusal: TopologyError, numbers: Numbers) -> String {
     let Numbers { s, nc, lps, mt, t } = numbers;

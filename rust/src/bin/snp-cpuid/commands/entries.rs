@@ -52,7 +52,8 @@ fn run(arguments: &Arguments) -> Result<(), Failure> {
     let pages = read(file)?;
     let (standing, answer) = (Standing::of(&pages), building.build(&pages));
     let report = Report { file: shown(file), building, pages, standing, answer };
-    output::print(if building.json() { report.json().to_string() } else { report.text() })
+    output::print(if building.json() { report.json().to_string() } else { report.text() })?;
+    report.answer.err().map_or(Ok(()), |refusal| building.print_line(refusal))
 }
 
 /// What comes of an entry.

@@ -19,8 +19,8 @@ pub const COMMAND: Command = Command {
 Prints the table of the pages as the guest of one processor sees it, in the form of 'table'. It
 differs from what 'table' prints in the processor's number (1.EBX bits 24-31, B.0.EDX, B.1.EDX), in
 1.ECX bit 27 (OSXSAVE), in D.0.EBX, the size of the save area of XCR0, and in D.1.EBX, the size of
-the compacted area of XCR0 and XSS. N and X are hexadecimal, with or without 0x. Rows came from
-where the rows that 'table' prints came from.
+the compacted area of XCR0 and XSS. N and X are hexadecimal, with or without 0x. Rows have the
+origins that 'table' gives them.
 ",
     status: "\
 Exit status: 0 accepted, 1 refused (13 and 14 are the guest's), 2 bad usage or a file that cannot be

@@ -27,7 +27,7 @@ or before h: 80000008, 0x80000008 and 80000008h are the same leaf, D.B is leaf D
 without subleaves is found under any subleaf. With --enforce a leaf with subleaves is found only
 under a subleaf that the table has, and one without only where none is given. With --apic, --xcr0
 and --xss it is the row that the guest of that processor sees, as 'guest' prints it. With --origins
-the row's line ends in the page and entry that it is of, as 'table' has it.
+the row's line ends in its source entry, as 'table' has it.
 ",
     status: "\
 Exit status: 0 found, 1 the pages are refused, 2 bad usage or a file that cannot be read, 3 the

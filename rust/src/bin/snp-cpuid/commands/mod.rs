@@ -7,7 +7,7 @@ mod entries;
 mod explain;
 mod fleet;
 pub mod from_dump;
-mod from_kvm;
+pub mod from_kvm;
 mod guest;
 mod image;
 mod lookup;

@@ -1,6 +1,6 @@
 //! A fleet of servers: which of them give a guest the same table, where a guest may go, what they share, and why some give none.
 
-mod bits;
+pub mod bits;
 pub mod data;
 mod differing;
 mod groups;

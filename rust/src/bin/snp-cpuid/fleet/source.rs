@@ -1,12 +1,12 @@
 //! The files of a fleet, each by its content: CPUID pages, a table's image, a list for KVM, or the text of a dump.
 
-use crate::building::{Building, image};
-use crate::commands::from_dump;
+use crate::building::{Building, image, told};
+use crate::commands::{from_dump, from_kvm};
 use crate::failure::Failure;
 use crate::input::{read, reason, shown};
 use crate::pages::{Entry, read_by_table, two_pages};
-use crate::words;
-use snp_cpuid::{KVM_PAGES_BYTES, PAGE_BYTES, Row, Table, read_kvm};
+use crate::{reasons, words};
+use snp_cpuid::{PAGE_BYTES, Row, Table};
 use std::collections::HashSet;
 use std::ffi::{OsStr, OsString};
 use std::fs;
@@ -116,9 +116,8 @@ fn pages(kind: Kind, bytes: Vec<u8>, building: &Building) -> Result<Vec<u8>, Str
         Kind::Pages => Ok(bytes),
         Kind::Dump => from_dump::taken(&bytes).map(|taken| taken.pages),
         Kind::List => {
-            let mut pages = vec![0; KVM_PAGES_BYTES];
-            read_kvm(&bytes, &mut pages).map_err(|refusal| refusal.to_string())?;
-            Ok(pages)
+            let refused = |refusal| [vec![told(refusal)], reasons::of_list(refusal, &bytes).notes()].concat().join("; ");
+            from_kvm::taken(&bytes).map(|(pages, _)| pages.to_vec()).map_err(refused)
         }
         Kind::Image => {
             let table = image(&bytes).ok_or("no image")?;

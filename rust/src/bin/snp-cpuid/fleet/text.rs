@@ -1,6 +1,6 @@
 //! The report as text, in lines of 80 columns.
 
-use super::bits::{self, register_name};
+use super::bits::{self, Bits, register_name};
 use super::differing::{self, Apart};
 use super::groups;
 use super::moves::{MOST_COMPARED, Way, by_pages};
@@ -8,12 +8,15 @@ use super::pools::{AT_ONCE, Pool};
 use super::refused::Refused;
 use super::{Class, Fleet, Group};
 use crate::wrap::wrapped_in;
-use std::collections::BTreeMap;
+use std::collections::{BTreeMap, HashMap};
 
 const COLUMNS: usize = 80;
 
 /// So many names are told; what is left is counted.
 const NAMES: usize = 8;
+
+/// So many servers of a pool are named beside what they cost.
+const NAMED: usize = 4;
 
 /// So many classes of a group are told one by one.
 const CLASSES: usize = 24;
@@ -139,24 +142,34 @@ fn from(fleet: &Fleet, class: usize) -> String {
     let label = format!("   {:6}", fleet.classes[class].name);
     let rises = fleet.moves.rises[class].as_deref().unwrap_or_default();
     let to = if rises.is_empty() { "to no other class".into() } else { format!("to {}", folded_list(&class_names(fleet, rises))) };
-    let blocked: Vec<String> = blocked(fleet, class).into_iter().map(|(why, to)| format!("{} ({why})", folded_list(&to))).collect();
+    let blocked: Vec<String> = blocked(fleet, class).iter().map(|(why, to)| format!("{} ({})", folded_list(to), told(why))).collect();
     let not = if blocked.is_empty() { String::new() } else { format!("; not to {}", blocked.join(", ")) };
     wrapped(&label, &(to + &not))
 }
 
+/// What is in the way: the features that are lacking by register, or what else is first.
+fn told(way: &Way) -> String {
+    let many: usize = way.lacks.iter().map(|bits| bits.each().count()).sum();
+    let told =
+        |bits: &Bits| format!("{} {}", register_name(bits.register.leaf, bits.register.subleaf, bits.register.register), bits.names().join(" "));
+    match many {
+        0 => way.short(),
+        1..=NAMES => way.lacks.iter().map(told).collect::<Vec<_>>().join(", "),
+        _ => format!("{} and more, {many} features", told(&way.lacks[0])),
+    }
+}
+
 /// The classes of the group to which a guest may not go, by what is in the way.
-pub fn blocked(fleet: &Fleet, class: usize) -> Vec<(String, Vec<String>)> {
+pub fn blocked(fleet: &Fleet, class: usize) -> Vec<(Way, Vec<String>)> {
     let rises = fleet.moves.rises[class].as_deref().unwrap_or_default();
-    let mut reasons: Vec<(String, Vec<String>)> = vec![];
+    let (mut reasons, mut places): (Vec<(Way, Vec<String>)>, HashMap<String, usize>) = Default::default();
     for other in fleet.groups[fleet.classes[class].group].classes.clone().filter(|other| *other != class && !rises.contains(other)) {
         let way = Way::of(&fleet.classes[class].table, &fleet.classes[other].table);
-        let names: Vec<String> = bits::names(&way.lacks).into_iter().map(String::from).collect();
-        let why = if names.is_empty() { way.short() } else { folded(&names) };
-        let name = fleet.classes[other].name.clone();
-        match reasons.iter_mut().find(|(told, _)| *told == why) {
-            Some((_, classes)) => classes.push(name),
-            None => reasons.push((why, vec![name])),
+        let place = *places.entry(told(&way)).or_insert(reasons.len());
+        if place == reasons.len() {
+            reasons.push((way, vec![]));
         }
+        reasons[place].1.push(fleet.classes[other].name.clone());
     }
     reasons
 }
@@ -214,7 +227,8 @@ fn pooled(fleet: &Fleet, pool: &Pool) -> String {
     let mut text = wrapped(&format!("   {:6}", pool_name(fleet, pool)), &format!("{servers} in {classes}, {without}"));
     for (lacking, names) in losses(pool).iter().take(CLASSES) {
         let cost = if lacking.len() == 1 { "costs" } else { "together cost" };
-        let servers = many(servers_of(fleet, lacking), "server");
+        let servers: Vec<usize> = lacking.iter().flat_map(|class| fleet.classes[*class].servers.iter().copied()).collect();
+        let servers = if servers.len() <= NAMED { server_names(fleet, &servers).join(" ") } else { many(servers.len(), "server") };
         text += &wrapped("         ", &format!("{} ({servers}) {cost} {}", folded_list(&class_names(fleet, lacking)), folded(names)));
     }
     if pool.classes.len() > AT_ONCE {

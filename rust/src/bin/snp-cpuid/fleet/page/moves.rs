@@ -5,6 +5,7 @@ use super::super::differing::{self, Apart};
 use super::super::moves::{MOST_COMPARED, Way, by_pages};
 use super::super::text::{NOTE, blocked, listed, many};
 use super::super::{Fleet, Group};
+use super::features::named;
 use super::html::{column, details, escaped, folded, mark, name, table};
 use super::picture::{MOST_DRAWN, figure};
 use super::{link, links};
@@ -48,10 +49,8 @@ fn from_each(fleet: &Fleet, group: &Group) -> String {
     let row = |class: usize| {
         let rises = fleet.moves.rises[class].as_deref().unwrap_or_default();
         let to = if rises.is_empty() { "<span class=\"d\">no other class</span>".into() } else { links(fleet, rises) };
-        let not: Vec<String> = blocked(fleet, class)
-            .into_iter()
-            .map(|(why, to)| format!("<div>{} {}: <b>{}</b></div>", mark("no", "not to"), listed_folded(&to), escaped(&why)))
-            .collect();
+        let told = |(way, to): &(Way, Vec<String>)| format!("<div>{} {}: {}</div>", mark("no", "not to"), listed_folded(to), in_the_way(way));
+        let not: Vec<String> = blocked(fleet, class).iter().map(told).collect();
         format!("<tr><th scope=\"row\">{}</th><td>{to}</td><td>{}</td></tr>\n", link(fleet, class), blocks(&not))
     };
     let head = ["From", "May go to", "Elsewhere in the group, what its table lacks"].map(column).concat();
@@ -67,15 +66,21 @@ fn from_each(fleet: &Fleet, group: &Group) -> String {
     if group.classes.len() <= OPEN_MATRIX { table } else { details(&format!("Group {letter}: from each class"), &table) }
 }
 
+/// The features that are lacking, or what else is first in the way.
+fn in_the_way(way: &Way) -> String {
+    if way.lacks.is_empty() { format!("<b>{}</b>", escaped(&way.short())) } else { folded(&way.lacks.iter().map(named).collect::<Vec<_>>()) }
+}
+
 fn listed_folded(names: &[String]) -> String {
     if names.len() <= 9 { listed(names) } else { format!("{} and {} more", names[..8].join(", "), names.len() - 8) }
 }
 
-/// Lines, those after the eighth folded.
+/// Lines, those after the eighth folded; where they are more than a page should hold, counted.
 fn blocks(lines: &[String]) -> String {
     match lines {
         [] => "<span class=\"d\">nothing</span>".into(),
         lines if lines.len() <= 9 => lines.concat(),
+        lines if lines.len() > MOST_MATRIX => format!("{}<div>and {} more</div>", lines[..8].concat(), lines.len() - 8),
         lines => lines[..8].concat() + &details(&format!("and {} more", lines.len() - 8), &lines[8..].concat()),
     }
 }
