@@ -132,25 +132,52 @@ document.body.dataset.measured = [
 ].join(" ");
 </script>"##;
 
+/// What the browser measures on the page of a fleet. The page lets no script run: the copy that is measured does.
+fn measured(folder: &Folder, fleet: &str, options: &[&str]) -> String {
+    let page = folder.path("page.html");
+    assert_eq!(run(&["fleet", fleet, "--html", &page]).err, "");
+    let text = fs::read_to_string(&page).unwrap();
+    let policy = "<meta http-equiv=\"Content-Security-Policy\" content=\"default-src 'none'; style-src 'unsafe-inline'; img-src data:\">\n";
+    assert!(text.contains(policy) && !text.contains("<script"));
+    let copy = folder.file("measured.html", text.replace(policy, "").replace("</body>", &format!("{MEASURE}</body>")));
+    let (document, console) = browsed(folder, &copy, options);
+    assert_eq!(console, [""; 0]);
+    attributes(&document, &["data-measured"]).concat().concat()
+}
+
+const NOTHING_WRONG: &str = "0 0 0 0 0 0 0 0 0";
+
 #[test]
 fn it_fits_a_phone_and_can_be_read_in_the_dark() {
     if !installed() {
         return;
     }
     let folder = Folder::new("fleet_measured");
-    let (fleet, page) = (shown_fleet(&folder), folder.path("page.html"));
-    assert_eq!(run(&["fleet", &fleet, "--html", &page]).status, 1);
-    // the page lets no script run: the copy that is measured does
-    let text = fs::read_to_string(&page).unwrap();
-    let policy = "<meta http-equiv=\"Content-Security-Policy\" content=\"default-src 'none'; style-src 'unsafe-inline'; img-src data:\">\n";
-    assert!(text.contains(policy) && !text.contains("<script"));
-    let copy = folder.file("measured.html", text.replace(policy, "").replace("</body>", &format!("{MEASURE}</body>")));
+    let fleet = shown_fleet(&folder);
     for width in ["390", "1280"] {
         for scheme in ["0", "1"] {
             let options = [format!("--window-size={width},900"), format!("--blink-settings=preferredColorScheme={scheme}")];
-            let (document, console) = browsed(&folder, &copy, &options.each_ref().map(String::as_str));
-            assert_eq!(console, [""; 0]);
-            assert_eq!(attributes(&document, &["data-measured"]), [["0 0 0 0 0 0 0 0 0"]], "{width} wide, scheme {scheme}");
+            assert_eq!(measured(&folder, &fleet, &options.each_ref().map(String::as_str)), NOTHING_WRONG, "{width} wide, scheme {scheme}");
         }
+    }
+}
+
+/// A fleet of one server, of equal servers, of refused servers alone, and of a name that is longer than a line.
+#[test]
+fn small_fleets_have_no_broken_page() {
+    if !installed() {
+        return;
+    }
+    let folder = Folder::new("fleet_small_pages");
+    let long = "x".repeat(200);
+    for (place, files) in
+        [&[("one", set(&epyc()))][..], &[("a", set(&epyc())), (&long, set(&epyc()))], &[("a", vec![]), (&long, vec![])]].iter().enumerate()
+    {
+        let fleet = folder.path(&format!("fleet-{place}"));
+        fs::create_dir(&fleet).unwrap();
+        for (name, pages) in *files {
+            fs::write(format!("{fleet}/{name}"), pages).unwrap();
+        }
+        assert_eq!(measured(&folder, &fleet, &["--window-size=390,900"]), NOTHING_WRONG, "fleet {place}");
     }
 }

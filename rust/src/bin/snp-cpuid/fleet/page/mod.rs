@@ -46,7 +46,7 @@ pub fn of(fleet: &Fleet) -> String {
          <nav aria-label=\"Parts of this page\">{links}</nav>\n\
          </header>\n<main>\n{sections}</main>\n</body>\n</html>\n",
         choices(fleet),
-        answers(fleet)
+        answers(fleet, &parts.iter().map(|(id, ..)| *id).collect::<Vec<_>>())
     )
 }
 
@@ -62,16 +62,17 @@ fn links(fleet: &Fleet, classes: &[usize]) -> String {
     if classes.len() <= MOST_LINKS { folded(&links(classes)) } else { format!("{} and {} more", links(&classes[..8]).join(" "), classes.len() - 8) }
 }
 
-/// The answers, a sentence each.
-fn answers(fleet: &Fleet) -> String {
+/// The answers, a sentence each, with links to the parts that are there.
+fn answers(fleet: &Fleet, there: &[&str]) -> String {
     let parts = [
         ("classes", "Same table", same(fleet)),
         ("moves", "Moves", may_move(fleet)),
         ("pools", "Pools", pooled(fleet)),
         ("refused", "Refused", why(fleet)),
     ];
+    let titled = |id: &str, title: &str| if there.contains(&id) { format!("<a href=\"#{id}\">{title}</a>") } else { title.to_string() };
     let told = parts.iter().filter(|(.., words)| !words.is_empty());
-    let lines: String = told.map(|(id, title, words)| format!("<div><dt><a href=\"#{id}\">{title}</a></dt><dd>{words}</dd></div>\n")).collect();
+    let lines: String = told.map(|(id, title, words)| format!("<div><dt>{}</dt><dd>{words}</dd></div>\n", titled(id, title))).collect();
     format!("<dl>\n{lines}</dl>\n")
 }
 
@@ -101,6 +102,7 @@ fn may_move(fleet: &Fleet) -> String {
     let letters: Vec<String> = fleet.groups.iter().take(6).map(|group| format!("{} ({})", group.letter, group.servers)).collect();
     let groups = match fleet.groups.len() {
         0 => return String::new(),
+        1 if fleet.classes.len() == 1 && fleet.accepted() == 1 => return String::new(),
         1 if fleet.classes.len() == 1 => return "A guest may move between any two of them.".into(),
         1 => "All classes differ in features only.".into(),
         number if number > 6 => format!("No guest leaves its group, and there are {number}; the largest are {}.", listed(&letters)),
