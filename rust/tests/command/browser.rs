@@ -1,7 +1,7 @@
 //! The page of `fleet --html` in a browser, Debian's `chromium` without a window: it has what `--json` has, and nothing on it is broken. Where
 //! chromium is not installed the tests say so.
 
-use crate::fleet::small;
+use crate::fleet::{less, small};
 use crate::json_text::jq;
 use crate::page_sets::{epyc, rich, set, with};
 use crate::run::{Folder, run};
@@ -160,6 +160,28 @@ fn it_fits_a_phone_and_can_be_read_in_the_dark() {
             assert_eq!(measured(&folder, &fleet, &options.each_ref().map(String::as_str)), NOTHING_WRONG, "{width} wide, scheme {scheme}");
         }
     }
+}
+
+/// All choices of four features are sixteen classes in five rows, with 32 arrows and words on them.
+#[test]
+fn nothing_lies_over_another_in_the_picture() {
+    if !installed() {
+        return;
+    }
+    let folder = Folder::new("fleet_picture");
+    fs::create_dir(folder.path("fleet")).unwrap();
+    // FMA, MOVBE, AVX2 and SHA
+    let bits = [(1, 2, 12), (1, 2, 22), (7, 1, 5), (7, 1, 29)];
+    for choice in 0..16 {
+        let chosen = bits.iter().enumerate().filter(|(place, _)| choice >> place & 1 == 1);
+        let entries = chosen.fold(epyc(), |entries, (_, (leaf, register, bit))| less(&entries, *leaf, *register, *bit));
+        folder.file(&format!("fleet/{choice:02}"), set(&entries));
+    }
+    let fleet = folder.path("fleet");
+    assert_eq!(measured(&folder, &fleet, &["--window-size=390,900"]), NOTHING_WRONG);
+    let page = fs::read_to_string(folder.path("page.html")).unwrap();
+    assert_eq!((page.matches("class=\"box\"").count(), page.matches("class=\"way\"").count()), (16, 32));
+    assert!(page.matches("class=\"gain\"").count() >= 24, "most arrows have their words");
 }
 
 /// A fleet of one server, of equal servers, of refused servers alone, and of a name that is longer than a line.

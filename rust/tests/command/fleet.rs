@@ -6,7 +6,7 @@ use crate::run::{EPYC, Folder, run, run_on};
 use std::fs;
 
 /// Entries without a bit of a register; 0 is EAX.
-fn less(entries: &Entries, leaf: u32, register: usize, bit: u32) -> Entries {
+pub fn less(entries: &Entries, leaf: u32, register: usize, bit: u32) -> Entries {
     let mut entries = entries.clone();
     let value = &mut entries.get_mut(&(leaf, 0)).expect("the set has this entry")[register];
     assert_eq!(*value >> bit & 1, 1);

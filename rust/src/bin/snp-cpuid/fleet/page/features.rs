@@ -76,7 +76,7 @@ fn every(fleet: &Fleet) -> String {
         let (all, some) = (values().fold(u32::MAX, |all, value| all & value), values().fold(0, |some, value| some | value));
         let names = |value: u32| register.names(value.into()).join(" ");
         let [all, differ, none] = [all, some & !all, !some].map(names);
-        let differ = if differ.is_empty() { String::new() } else { format!("{}<b>{differ}</b>", mark("half", "")) };
+        let differ = if differ.is_empty() { String::new() } else { format!("{} <b>{differ}</b>", mark("half", "")) };
         let name = register_name(register.leaf, register.subleaf, register.register);
         format!("<tr><th scope=\"row\" class=\"rg\">{name}</th><td>{all}</td><td>{differ}</td><td class=\"d\">{none}</td></tr>\n")
     };

@@ -164,10 +164,10 @@ fn group_rows(fleet: &Fleet, group: &Group) -> String {
     text += &group.classes.clone().take(CLASSES).map(|class| class_row(fleet, class)).collect::<String>();
     let more = group.classes.len().saturating_sub(CLASSES);
     if more > 0 {
-        let rows = group.classes.clone().skip(CLASSES).take(MOST_CLASSES).map(|class| format!("<tr><td>{}</td></tr>", more_class(fleet, class)));
+        let rows = group.classes.clone().skip(CLASSES).take(MOST_CLASSES).map(|class| format!("<div>{}</div>", more_class(fleet, class)));
         let left = more.saturating_sub(MOST_CLASSES);
         let left = if left == 0 { String::new() } else { format!("<p>and {left} more, which --json has</p>") };
-        let inside = format!("<table>{}</table>{left}", rows.collect::<String>());
+        let inside = rows.collect::<String>() + &left;
         text += &format!("<tr><td colspan=\"4\">{}</td></tr>\n", details(&format!("and {more} more classes"), &inside));
     }
     text + "</tbody>\n"
