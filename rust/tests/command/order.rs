@@ -2,7 +2,7 @@
 
 use crate::features::FEATURES;
 use crate::order::{Compared, compared};
-use crate::page_sets::{Entries, epyc, rich, set};
+use crate::page_sets::{Entries, epyc, rich, set, topology};
 use snp_cpuid::{Comparison, Options, Register, Table, build, compare, pool};
 
 /// A generator of numbers, the same in every run (Marsaglia, "Xorshift RNGs", 2003).
@@ -108,6 +108,15 @@ fn the_first_place_that_fails() {
     let larger = table(&with(0xD, 7, 0, 1024 ^ 2048));
     assert_eq!(compared(&full, &larger), Compared::Differs { leaf: 0xD, subleaf: Some(7), register: Register::Eax });
     assert_eq!(compared(&larger, &full), Compared::Differs { leaf: 0xD, subleaf: Some(0), register: Register::Ecx });
+    // hyperthreading must be equal; with s from 8 on it is not compared with the counts
+    let [on, off] = [1, 0].map(|mt| {
+        let mut entries = epyc();
+        topology(&mut entries, 8, 127, 128, mt, 1);
+        table(&entries)
+    });
+    for (a, b) in [(&on, &off), (&off, &on)] {
+        assert_eq!(compared(a, b), Compared::Differs { leaf: 0x1, subleaf: None, register: Register::Edx });
+    }
     // further states and their rows are no obstacle
     assert_eq!(compared(&table(&with(0xD, 0, 0, 0xE0)), &full), Compared::Rises);
     assert_eq!(compared(&table(&with(0xD, 1, 2, 0x1000)), &full), Compared::Rises);
