@@ -10,7 +10,7 @@ use crate::{json, output};
 
 const HTML: Opt = Opt {
     names: &["--html"],
-    value: Value::File("FILE"),
+    value: Value::File("OUT"),
     required: false,
     help: "write the report as a page for a browser too: one file, which loads nothing",
 };
