@@ -31,6 +31,7 @@ struct Parts {
 fn parts(ran: &Ran) -> Parts {
     let blocks: Vec<&str> = ran.text().trim_end().split("\n\n").collect();
     let directions = blocks.last().expect("two directions").replace("\n        ", " ");
+    let directions = directions.strip_prefix("By the entries, before the other table is built:\n").expect("their heading");
     let (there, back) = directions.split_once('\n').expect("two directions");
     let under = |heading: &str| {
         let block = blocks.iter().find_map(|block| block.strip_prefix(&format!("{heading} from A to B:\n")));
@@ -88,7 +89,7 @@ fn one_bit_fewer() {
     let entries = format!("00000001    A {at}, B {at}");
     let first = |from, to| lacks(from, to, "FMA", "00000001 ECX", 12, &at);
     let expected = Parts {
-        verdict: format!("{MAY_NOT}{}.", first("A", "B")),
+        verdict: format!("{MAY_NOT}B lacks FMA, leaf 00000001 ECX bit 12."),
         in_the_way: texts(&[&entries, "00000001    ECX  FMA (bit 12): A has it, B has not"]),
         free: vec![],
         there: no("A", "B", &first("A", "B")),
@@ -119,13 +120,18 @@ fn every_feature_bit_by_name() {
             let mut less = rich();
             less.get_mut(&(f.leaf, f.subleaf.unwrap_or(0))).unwrap()[f.register] &= !(1 << bit);
             let ran = compare(&folder, &set(&rich()), &set(&less), &["--secure-avic"]);
-            let Parts { verdict, in_the_way: lines, free, back, .. } = parts(&ran);
+            let Parts { verdict, in_the_way: lines, free, there, back } = parts(&ran);
             assert_eq!((ran.status, free, back), (1, vec![], yes("B", "A")), "{name}");
             let place = f.subleaf.map_or(format!("{:08X}", f.leaf), |k| format!("{:08X}.{k:X}", f.leaf));
-            // the answer names the bit
+            // the answer names the bit, or one in a leaf before it that hangs on it; by the entries it is the bit itself
             let at = position(&set(&rich()), f.leaf, f.subleaf.unwrap_or(0));
-            let first = lacks("A", "B", name, &format!("{place} {}", REGISTERS[f.register]), *bit, &at);
-            assert_eq!(verdict, format!("{MAY_NOT}{first}."));
+            let first = if *name == "TscAuxVirtualization" {
+                "RDPID, leaf 00000007.0 ECX bit 22"
+            } else {
+                &format!("{name}, leaf {place} {} bit {bit}", REGISTERS[f.register])
+            };
+            assert_eq!(verdict, format!("{MAY_NOT}B lacks {first}."));
+            assert_eq!(there, no("A", "B", &lacks("A", "B", name, &format!("{place} {}", REGISTERS[f.register]), *bit, &at)));
             let line = format!("{place:12}{}  {name} (bit {bit}): A has it, B has not", REGISTERS[f.register]);
             assert!(lines.contains(&line), "{line}: {lines:?}");
             // with it go the features that hang on it: IBRS and STIBP on IBPB, in the same row, RDTSCP and RDPID on the TSC_AUX bit, in two others; a
@@ -196,7 +202,7 @@ fn other_registers_by_value() {
         };
         assert_eq!((ran.status, ran.err.as_str()), (1, ""));
         let expected = Parts {
-            verdict: format!("{MAY_NOT}L{}.", &first("A", "B", a, b)[1..]),
+            verdict: format!("{MAY_NOT}Leaf {place} {} must be equal: A has {a}, B {b}.", REGISTERS[register]),
             in_the_way: texts(&[&format!("{place:12}A {at}, B {at}"), line]),
             free: vec![],
             there: no("A", "B", &first("A", "B", a, b)),
@@ -258,6 +264,34 @@ fn equal_tables_of_different_entries() {
     assert_eq!(ran.status, 0);
     let expected = Parts { verdict: EQUAL.into(), in_the_way: vec![], free: vec![], there: no("A", "B", &first), back: yes("B", "A") };
     assert_eq!(parts(&ran), expected);
+}
+
+/// The tables' answer comes first: B has what A's table shows and more, though its entry lacks RDPID, which both tables hide.
+#[test]
+fn a_table_may_rise_where_entries_do_not() {
+    let folder = Folder::new("compare_tables");
+    // without the TSC_AUX bit of 8000001Fh.EAX no table shows RDPID
+    let hide = |entries: &mut crate::page_sets::Entries| entries.get_mut(&(0x8000_001F, 0)).unwrap()[0] &= !(1 << 9);
+    let (mut a, mut b) = (rich(), rich());
+    hide(&mut a);
+    hide(&mut b);
+    b.get_mut(&(0x7, 0)).unwrap()[2] &= !(1 << 22);
+    let ran = compare(&folder, &set(&a), &set(&b), &[]);
+    let at = position(&set(&a), 7, 0);
+    let hidden = lacks("A", "B", "RDPID", "00000007.0 ECX", 22, &at) + ", which the tables do not show";
+    assert_eq!((parts(&ran).verdict.as_str(), parts(&ran).there), (EQUAL, no("A", "B", &hidden)));
+    // and B has one feature more
+    a.get_mut(&(0x1, 0)).unwrap()[2] &= !(1 << 12);
+    let ran = compare(&folder, &set(&a), &set(&b), &[]);
+    let entries = format!("00000001    A {0}, B {0}", position(&set(&a), 1, 0));
+    let expected = Parts {
+        verdict: format!("{MAY}{}", promise("A", "B")),
+        in_the_way: vec![],
+        free: texts(&[&entries, "00000001    ECX  FMA (bit 12): B has it, A has not"]),
+        there: no("A", "B", &hidden),
+        back: no("B", "A", &lacks("B", "A", "FMA", "00000001 ECX", 12, &position(&set(&a), 1, 0))),
+    };
+    assert_eq!((ran.status, parts(&ran)), (0, expected));
 }
 
 /// Document 02, P11: the two entries are named by their own places, and it is the first of B's that counts. Rows that are made here have none.

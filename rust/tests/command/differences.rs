@@ -2,7 +2,7 @@
 
 use crate::differences::differences;
 use crate::page_sets::{Entries, REQUIRED, epyc, rich, set};
-use snp_cpuid::{Comparison, Options, Table, build, compare};
+use snp_cpuid::{Comparison, KVM_PAGES_BYTES, MOST_KVM_BYTES, Options, Table, build, compare, read_kvm, write_kvm};
 
 /// Numbers that look random and are the same in every run (xorshift).
 struct Numbers(u64);
@@ -25,6 +25,14 @@ fn server(base: &Entries, numbers: &mut Numbers) -> Vec<u8> {
         entries.get_mut(&place).unwrap()[register] ^= 1 << bit;
     }
     set(&entries)
+}
+
+/// A table's rows as pages, by the library.
+fn as_pages(pages: &[u8]) -> Vec<u8> {
+    let (mut list, mut rows) = ([0; MOST_KVM_BYTES], [0; KVM_PAGES_BYTES]);
+    let length = write_kvm(pages, Options::new(), &mut list).unwrap();
+    read_kvm(&list[..length], &mut rows).unwrap();
+    rows.to_vec()
 }
 
 /// Every row of the first, at least its features, a save area no smaller and all else equal; beyond it only subleaves of leaf Dh.
@@ -57,6 +65,10 @@ fn nothing_is_in_the_way_where_the_library_says_yes() {
         let in_the_way = all.iter().any(|difference| difference.blocks());
         assert_eq!(all.is_empty(), table_a == table_b);
         assert_eq!(!in_the_way, table_rises(&table_a, &table_b));
+        // the same by the library, on pages that have the tables' rows; where it says no, the place that it names is in the way
+        let answer = compare(&as_pages(&a), &as_pages(&b), Options::new());
+        assert_eq!(answer == Comparison::Rises, !in_the_way, "{answer:?}");
+        assert_eq!(all.iter().any(|difference| difference.blocks() && difference.is_named_by(answer)), in_the_way, "{answer:?}");
         match compare(&a, &b, Options::new()) {
             Comparison::Rises => {
                 assert!(!in_the_way);

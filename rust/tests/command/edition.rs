@@ -105,7 +105,8 @@ fn compare_says_under_which() {
     let (a, b) = (folder.file("a", stated(3)), folder.file("b", set(&less)));
     let compared = |edition| run(&["compare", &a, &b, "--edition", edition]);
     let rows = "accepted, 28 rows";
-    for (edition, status, verdict) in [("1", 1, "no: a guest of A may not move to B. B lacks F16C, "), ("2", 0, "yes: a guest of A may move to B. ")]
+    for (edition, status, verdict) in
+        [("1", 1, "no: a guest of A may not move to B. B lacks F16C, leaf 00000001 ECX bit 29."), ("2", 0, "yes: a guest of A may move to B. ")]
     {
         let ran = compared(edition);
         assert_eq!((ran.status, ran.err.as_str()), (status, ""));
@@ -118,7 +119,7 @@ fn compare_says_under_which() {
     assert!(compared("2").text().replace("\n        ", " ").contains(entries));
     let unknown = compared("3");
     assert!(unknown.text().starts_with("no: A is refused, by 15, and B, by 15.\n\n"), "{}", unknown.text());
-    assert!(unknown.text().ends_with("A to B  no: A is refused, by 15.\nB to A  no: B is refused, by 15.\n"));
+    assert!(unknown.text().ends_with("is built:\nA to B  no: A is refused, by 15.\nB to A  no: B is refused, by 15.\n"));
     assert_eq!((unknown.status, unknown.notes()), (1, vec!["edition 3 was asked for", "accepted with --edition 1 or --edition 2"]));
     assert!(unknown.failure().starts_with(&format!("{a}: refusal 15: ")));
 }

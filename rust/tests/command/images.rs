@@ -1,7 +1,7 @@
 //! An image in the place of pages: what one command writes goes into the next.
 
 use crate::json_text::jq;
-use crate::page_sets::{epyc, set, stated, with};
+use crate::page_sets::{epyc, rich, set, stated, with};
 use crate::run::{EPYC, Folder, run, run_on};
 use std::fs;
 
@@ -59,12 +59,83 @@ fn what_one_command_writes_the_next_reads() {
     assert_eq!(run(&["to-dump", &again]), run(&["to-dump", &pages, "--edition", "2"]));
 }
 
+/// The guest's view and the list for KVM of an image are those of its pages, under whichever choices these were built; origins are unknown.
+#[test]
+fn what_the_library_answers_of_pages_with_its_rows() {
+    let folder = Folder::new("image_rows");
+    let processor = ["--apic", "5", "--xcr0", "3", "--xss", "800", "--osxsave"];
+    let (every_bit, no_state) = (folder.file("every_bit", set(&rich())), folder.file("no_state", stated(3)));
+    for pages in [EPYC, &every_bit, &no_state] {
+        for words in [&[][..], &["--edition", "2"], &["--secure-avic"], &["--edition", "2", "--secure-avic"]] {
+            let image = image(&folder, "image", pages, words);
+            assert_eq!(run(&[&["guest", &image], &processor[..]].concat()), run(&[&["guest", pages], &processor[..], words].concat()));
+            let one = |file: &str, words: &[&str]| run(&[&["lookup", file, "B.1"], &processor[..], words].concat());
+            assert_eq!(one(&image, &[]), one(pages, words));
+            let list = |file: &str, words: &[&str]| run(&[&["to-kvm", file, "-o", "-"], words].concat());
+            assert_eq!(list(&image, &[]), list(pages, words));
+            let compared = run(&[&["compare", &image, pages], words].concat());
+            assert_eq!(compared.status, 0, "{}", compared.text());
+            assert!(compared.text().starts_with("yes: a guest of A may move to B. The tables are equal, row for row.\n"));
+            assert!(compared.text().ends_with("\n\nOf an image nobody knows the entries.\n"));
+        }
+    }
+    let image = image(&folder, "image", EPYC, &[]);
+    let seen = run(&[&["guest", &image, "--origins"], &processor[..]].concat());
+    assert_eq!(seen.text().lines().filter(|line| line.ends_with("  unknown")).count(), 29);
+    // 13 as before
+    assert!(run(&["guest", &image, "--apic", "0", "--xcr0", "e7", "--xss", "0"]).line().starts_with(&format!("{image}: refusal 13: ")));
+}
+
+/// Two tables of which one lacks a bit, as images, in all four ways.
+#[test]
+fn images_compared() {
+    let folder = Folder::new("image_compared");
+    let less = folder.file("less", set(&with(1, 0, 2, |ecx| ecx & !(1 << 12))));
+    let images = [image(&folder, "full.image", EPYC, &[]), image(&folder, "less.image", &less, &[])];
+    let no = "no: a guest of A may not move to B. B lacks FMA, leaf 00000001 ECX bit 12.\n\n";
+    for (a, b, answer) in [(&images[0], &images[1], false), (&images[1], &images[0], true), (&images[0], &less, false), (&less, &images[0], true)] {
+        let ran = run(&["compare", a, b]);
+        assert_eq!(
+            (ran.status, ran.text().starts_with(no), ran.text().starts_with("yes: ")),
+            (i32::from(!answer), !answer, answer),
+            "{}",
+            ran.text()
+        );
+    }
+    let ran = run(&["compare", &images[0], &images[1]]);
+    assert!(ran.text().contains("\n00000001    A unknown, B unknown\n") && !ran.text().contains("edition"), "{}", ran.text());
+    if let Some(read) = jq(&run(&["compare", &images[0], &images[1], "--json"]).out, "[.answer, .edition, .a.image, .a_to_b, .b_to_a]") {
+        assert_eq!(read, "[\"no\",null,true,null,null]");
+    }
+}
+
+/// An image of rows that no pages give: only what needs no more than a table is answered.
+#[test]
+fn tables_that_building_does_not_give() {
+    let folder = Folder::new("image_other");
+    let first = fs::read(image(&folder, "image", EPYC, &[])).unwrap();
+    // without its last row, and with 1.EAX bit 31, which is masked
+    let short = folder.file("short", &first[..first.len() - 21]);
+    let mut changed = first.clone();
+    changed[21 + 5 + 3] |= 0x80;
+    let changed = folder.file("changed", &changed);
+    let processor = ["--apic", "1", "--xcr0", "1", "--xss", "0"];
+    for file in [&short, &changed] {
+        assert_eq!(run(&["table", file]).status, 0);
+    }
+    let ran = run(&[&["guest", &short], &processor[..]].concat());
+    assert!(ran.status == 1 && ran.line().starts_with(&format!("{short}: refusal 3: no entry for leaf 8000001Fh")), "{}", ran.err);
+    let ran = run(&[&["guest", &changed], &processor[..]].concat());
+    assert_eq!((ran.status, ran.line()), (1, format!("{changed}: no pages give the table of this image").as_str()));
+}
+
 #[test]
 fn options_of_pages_are_not_for_an_image() {
     let folder = Folder::new("image_options");
     let image = image(&folder, "image", EPYC, &[]);
-    for words in [&["--edition", "2"][..], &["--edition", "1"], &["--secure-avic"]] {
-        let ran = run(&[&["table", image.as_str()], words].concat());
+    for words in [&["--edition", "2"][..], &["--edition", "1"], &["--secure-avic"], &["--secure-avic", "--apic", "1", "--xcr0", "1", "--xss", "0"]] {
+        let command = if words.len() > 2 { "guest" } else { "table" };
+        let ran = run(&[&[command, image.as_str()], words].concat());
         let why = format!("{image} is an image, whose table is made: --edition and --secure-avic are for pages");
         assert_eq!((ran.status, ran.line()), (2, why.as_str()));
     }
@@ -75,13 +146,7 @@ fn options_of_pages_are_not_for_an_image() {
 fn commands_that_need_pages_say_so() {
     let folder = Folder::new("image_refused");
     let image = image(&folder, "image", EPYC, &[]);
-    for arguments in [
-        &["guest", &image, "--apic", "1", "--xcr0", "1", "--xss", "0"][..],
-        &["to-kvm", &image, "-o", &folder.path("out")],
-        &["nearest", &image],
-        &["pool", EPYC, &image],
-        &["lookup", &image, "1", "--apic", "1", "--xcr0", "1", "--xss", "0"],
-    ] {
+    for arguments in [&["nearest", &image][..], &["pool", EPYC, &image]] {
         let ran = run(arguments);
         assert!(ran.status == 1 && ran.line().starts_with(&format!("{image}: refusal 1: ")), "{}", ran.err);
         assert_eq!(ran.notes(), ["it is the image of a table", "accepted with the pages that it was made of"]);

@@ -8,7 +8,9 @@ use crate::numbers::decimal;
 use crate::option::Opt;
 use crate::output;
 use crate::reasons::{self, Reason};
-use snp_cpuid::{Bit, Comparison, MOST_KVM_BYTES, NotPooled, Options, Origin, PAGE_BYTES, Processor, Refusal, Table};
+use crate::source::Source;
+pub use crate::source::image;
+use snp_cpuid::{Bit, Comparison, MOST_KVM_BYTES, NotPooled, Options, Origin, Processor, Refusal, Table};
 use std::ffi::OsStr;
 use std::fmt::Display;
 
@@ -90,32 +92,48 @@ impl Building {
         snp_cpuid::nearest(pages, self.options)
     }
 
-    /// The list for KVM of a file of pages.
-    pub fn kvm_list(&self, file: &OsStr) -> Result<Vec<u8>, Failure> {
-        let (pages, mut list) = (read(file)?, vec![0; MOST_KVM_BYTES]);
-        let length = snp_cpuid::write_kvm(&pages, self.options, &mut list).map_err(|refusal| self.pages_refused(file, refusal, &pages))?;
-        list.truncate(length);
-        Ok(list)
+    /// What a file gives. Pages are told by their length, a multiple of 4,096.
+    pub fn source(&self, file: &OsStr) -> Result<Source, Failure> {
+        let bytes = read(file)?;
+        let table = image(&bytes);
+        Ok(Source { file: shown(file), pages: bytes, image: table, options: self.options })
     }
 
-    /// The table of a file of pages, or of an image. Pages are told by their length, a multiple of 4,096.
-    pub fn table(&self, file: &OsStr) -> Result<Table, Failure> {
-        let bytes = read(file)?;
-        match image(&bytes) {
-            Some(_) if self.of_pages => Err(Failure::Bad(format!("{} is an image, whose table is made: {IMAGE_OPTIONS}", shown(file)))),
-            Some(table) => Ok(table),
-            None => self.build(&bytes).map_err(|refusal| self.pages_refused(file, refusal, &bytes)),
+    /// The same, where no option was given that an image cannot heed.
+    fn heeding(&self, file: &OsStr) -> Result<Source, Failure> {
+        match self.source(file)? {
+            Source { file, image: Some(_), .. } if self.of_pages => {
+                Err(Failure::Bad(format!("{file} is an image, whose table is made: --edition and --secure-avic are for pages")))
+            }
+            source => Ok(source),
         }
     }
 
-    /// The table of a file of pages as a processor's guest sees it; as the paravisor has it where no processor is given.
+    /// The list for KVM of a file.
+    pub fn kvm_list(&self, file: &OsStr) -> Result<Vec<u8>, Failure> {
+        let source = self.heeding(file)?.as_pages(self)?;
+        let mut list = vec![0; MOST_KVM_BYTES];
+        let written = snp_cpuid::write_kvm(&source.pages, source.options, &mut list);
+        list.truncate(written.map_err(|refusal| self.pages_refused(file, refusal, &source.pages))?);
+        Ok(list)
+    }
+
+    /// The table of a file.
+    pub fn table(&self, file: &OsStr) -> Result<Table, Failure> {
+        let source = self.heeding(file)?;
+        source.table().map_err(|refusal| self.pages_refused(file, refusal, &source.pages))
+    }
+
+    /// The table of a file as a processor's guest sees it; as the paravisor has it where no processor is given.
     pub fn seen(&self, file: &OsStr, processor: Option<Processor>) -> Result<Table, Failure> {
         let Some(processor) = processor else { return self.table(file) };
-        let pages = read(file)?;
-        snp_cpuid::guest(&pages, self.options, processor).map_err(|refusal| match self.build(&pages) {
+        let source = self.heeding(file)?.as_pages(self)?;
+        let seen = snp_cpuid::guest(&source.pages, source.options, processor).map_err(|refusal| match source.table() {
             Ok(table) => self.refused(shown(file), refusal, &reasons::of_guest(refusal, &table, processor.xcr0, processor.xss)),
-            Err(_) => self.pages_refused(file, refusal, &pages),
-        })
+            Err(_) => self.pages_refused(file, refusal, &source.pages),
+        })?;
+        // the entries are those of pages made here, where the file is an image
+        Ok(if source.image.is_some() { Table::try_from(seen.image()).expect("a guest's table has an image") } else { seen })
     }
 
     /// Why a file of pages was refused.
@@ -147,13 +165,6 @@ impl Building {
     pub fn refused_after_report(&self, name: impl Display, refusal: Refusal, reason: &Reason) -> Failure {
         Building { json: false, ..*self }.refused(name, refusal, reason)
     }
-}
-
-const IMAGE_OPTIONS: &str = "--edition and --secure-avic are for pages";
-
-/// The table of bytes that are an image and no pages.
-pub fn image(bytes: &[u8]) -> Option<Table> {
-    if bytes.len() % PAGE_BYTES == 0 { None } else { Table::try_from(bytes).ok() }
 }
 
 /// The edition under which a table was made here, for an object; null where it was read from an image.

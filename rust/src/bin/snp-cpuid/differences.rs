@@ -4,7 +4,7 @@ use crate::features::{self, ECX, EDX, REGISTERS};
 use crate::json::{Json, hex, object};
 use crate::print::place_json;
 use crate::{print, words};
-use snp_cpuid::{Origin, Row, Table};
+use snp_cpuid::{Comparison, Origin, Row, Table};
 
 /// The two tables that are held against each other.
 pub struct Tables<'a> {
@@ -81,6 +81,34 @@ impl Difference {
             What::Value { register: ECX, values: [a, b] } if (self.leaf, self.subleaf) == (0xD, Some(0)) => b < a,
             What::Value { .. } => true,
             What::Alone { first } => first,
+        }
+    }
+
+    /// Whether it is of the place that a comparison of the two tables names.
+    pub fn is_named_by(&self, answer: Comparison) -> bool {
+        let register = match self.what {
+            What::Bit { register, .. } | What::Value { register, .. } => Some(register),
+            What::Alone { .. } => None,
+        };
+        match answer {
+            Comparison::NoEntry { leaf, subleaf } => (self.leaf, self.subleaf, register) == (leaf, subleaf, None),
+            Comparison::Differs { leaf, subleaf, register: own } => (self.leaf, self.subleaf, register) == (leaf, subleaf, Some(own as usize)),
+            _ => false,
+        }
+    }
+
+    /// Why a guest of the first table cannot move to the second, where it is in the way.
+    pub fn obstacle(&self, told: &Tables) -> String {
+        let ([a, b], leaf) = (told.names, print::place(self.leaf, self.subleaf));
+        match self.what {
+            What::Bit { register, bit, name, first: true } => format!("{b} lacks {name}, leaf {leaf} {} bit {bit}", REGISTERS[register]),
+            What::Bit { register, bit, name, first: false } => {
+                format!("{b} has {name}, leaf {leaf} {} bit {bit}, which {a} has not and which must be equal", REGISTERS[register])
+            }
+            What::Value { register, values: [in_a, in_b] } => {
+                format!("Leaf {leaf} {} must be equal: {a} has {in_a:08X}, {b} {in_b:08X}", REGISTERS[register])
+            }
+            What::Alone { .. } => format!("{b} has no row for leaf {leaf}"),
         }
     }
 

@@ -29,6 +29,7 @@ mod parse;
 mod print;
 mod processor;
 mod reasons;
+mod source;
 mod standing;
 mod suggest;
 mod topology;

@@ -1,12 +1,12 @@
 //! Why something was refused: the numbers that the refusal rests on, and what change would be accepted. The refusal itself is the library's.
 
-use crate::building::image;
 use crate::components;
 use crate::differences::HTT;
 use crate::features::{self, EAX, EBX, ECX, REGISTERS};
 use crate::json::{self, Json, array, object};
 use crate::masks::required;
 use crate::print::place as row_name;
+use crate::source::image;
 use crate::standing::{Place, Standing, word};
 use crate::topology::{self, Numbers};
 use snp_cpuid::{Refusal, Table, TopologyError};

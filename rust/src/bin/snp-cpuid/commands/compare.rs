@@ -6,20 +6,21 @@ use crate::command::Command;
 use crate::differences::{Difference, HTT, Tables, differences, lines};
 use crate::failure::Failure;
 use crate::features::{self, REGISTERS};
-use crate::input::{read, shown};
 use crate::json::{self, Json, array, hex, object};
 use crate::masks::kept;
 use crate::print::{place, place_json};
+use crate::source::compare_tables;
 use crate::standing::Standing;
 use crate::wrap::wrapped;
 use crate::{output, words};
 use snp_cpuid::{Comparison, Refusal, Register, Table};
 
-/// One of the two, under the name that the report gives it.
+/// One of the two, under the name that the report gives it: its pages, or the image of its table.
 struct Server {
     name: &'static str,
     file: String,
     pages: Vec<u8>,
+    is_image: bool,
     standing: Standing,
     table: Result<Table, Refusal>,
 }
@@ -33,7 +34,9 @@ impl Server {
     /// Its line under the answer.
     fn line(&self) -> String {
         let answer = match &self.table {
-            Ok(table) => format!("accepted, {}", words::counted(table.rows().count() as u32, "row")),
+            Ok(table) => {
+                format!("{}, {}", if self.is_image { "an image" } else { "accepted" }, words::counted(table.rows().count() as u32, "row"))
+            }
             Err(refusal) => told(*refusal),
         };
         wrapped(&format!("{}  ", self.name), &format!("{}: {answer}", self.file))
@@ -41,7 +44,8 @@ impl Server {
 
     fn json(&self, building: Building) -> Json {
         let refusal = self.table.as_ref().err().map(|refusal| refusal_json(*refusal, &building.reason(*refusal, &self.pages)));
-        object([("file", self.file.as_str().into()), ("accepted", self.table.is_ok().into()), ("refusal", refusal.into())])
+        let answer = [("accepted", self.table.is_ok().into()), ("image", self.is_image.into()), ("refusal", refusal.into())];
+        object([("file", self.file.as_str().into())]).with(answer)
     }
 }
 
@@ -51,27 +55,26 @@ pub const COMMAND: Command = Command {
     options: &[&[json::OPTION], building::OPTIONS],
     summary: "say whether a guest of server A may move to server B, and why not",
     about: "\
-Compares the page sets of two servers. The first line says whether a guest of A may move to B: 'yes'
-where the tables are equal or B is at least A, else 'no' and the first bit or register that stands
-in the way. Then come the differences of the two tables: first those in the way from A to B, each
-feature bit by name, each other register by value and each row that B lacks, with the page and entry
-of A's and B's, counted from 0; then those that are not, where B has more. The last lines say of
-each direction what the library promises by the entries alone, before the other server's table is
-built.
+Compares two servers. The first line says whether a guest of A may move to B: 'yes' where B's table
+has every row of A's, at least A's features, a save area no smaller, and everything else equal; else
+'no' and the first bit, register or row in the way. Then come the differences of the two tables:
+first those in the way from A to B, each feature bit by name, each other register by value and each
+row that B lacks, with the page and entry of A's and B's, counted from 0; then those that are not,
+where B has more.
 
-B is at least A where for every row of A's table but 0 and 80000000 B has a first entry with at
-least the bits of A's in feature registers, and equal in all others but D.0.ECX and the rows of leaf
-B, which are free. The library decides that by a proved function; where it says yes and B is
-accepted, B's table has every row of A's, at least A's features, a save area no smaller, and
-everything else equal. Both tables are made under the same edition of the AVX rule; what is promised
-holds under either.
+The last lines compare the entries, in both directions. There 'yes' says more: for every row of A's
+table but 0 and 80000000 B has a first entry with at least the bits of A's in feature registers, and
+equal in all others but D.0.ECX and the rows of leaf B. It can be said before B's table is built,
+and it promises that B's table is at least A's under either edition of the AVX rule. Entries may
+differ where a rule makes the tables agree. The library decides both by a proved function.
 
-Give the pages that the servers have, or both from dumps of the same kind: pages made from the text
+A or B may be an image: then its table is compared, and of entries nothing is said. Give the pages
+that the servers have, or both from dumps of the same kind: pages made from the text
 of to-dump hold what the table's rules have set and cleared, such as BTC_NO.
 ",
     status: "\
-Exit status: 0 yes, where the tables are equal or B is at least A; 1 no, also where one of them is
-refused, which standard error says; 2 bad usage or a file that cannot be read.
+Exit status: 0 yes, 1 no, also where one of them is refused, which standard error says; 2 bad usage
+or a file that cannot be read.
 ",
     run,
 };
@@ -82,12 +85,16 @@ fn run(arguments: &Arguments) -> Result<(), Failure> {
     }
     let building = Building::of(arguments, COMMAND.name)?;
     let server = |name, place: usize| {
-        let pages = read(&arguments.operands[place])?;
-        let (table, standing) = (building.build(&pages), Standing::of(&pages));
-        Ok(Server { name, file: shown(&arguments.operands[place]), pages, standing, table })
+        let source = building.source(&arguments.operands[place])?;
+        let (table, standing) = (source.table(), Standing::of(&source.pages));
+        Ok(Server { name, file: source.file, is_image: source.image.is_some(), pages: source.pages, standing, table })
     };
     let (a, b): (Server, Server) = (server("A", 0)?, server("B", 1)?);
-    let report = Report { rises: Direction::new(&a, &b, building), falls: Direction::new(&b, &a, building), building };
+    let tables = match (&a.table, &b.table) {
+        (Ok(from), Ok(to)) => Some(compare_tables(from, to)),
+        _ => None,
+    };
+    let report = Report { tables, rises: Direction::new(&a, &b, building), falls: Direction::new(&b, &a, building), building };
     output::print(if building.json() { report.json().to_string() } else { report.text() })?;
     let refused = |server: &Server, refusal| {
         let reason = building.reason(refusal, &server.pages);
@@ -101,8 +108,9 @@ fn run(arguments: &Arguments) -> Result<(), Failure> {
     }
 }
 
-/// Both directions, and the answer for the first.
+/// The answer of the tables for the first direction, where both are there, and both directions by the entries.
 struct Report<'a> {
+    tables: Option<Comparison>,
     rises: Direction<'a>,
     falls: Direction<'a>,
     building: Building,
@@ -120,10 +128,10 @@ impl Report<'_> {
 
     /// Whether a guest of A may move to B.
     fn answer(&self) -> &'static str {
-        match (&self.rises.from.table, &self.rises.to.table) {
-            (Err(_), _) | (_, Err(_)) => "refused",
-            _ if self.equal() || self.rises.holds() => "yes",
-            _ => "no",
+        match self.tables {
+            None => "refused",
+            Some(Comparison::Rises) => "yes",
+            Some(_) => "no",
         }
     }
 
@@ -134,9 +142,15 @@ impl Report<'_> {
             (Err(refusal), Ok(_)) => format!("no: A is refused, by {}, so it has no guest.", refusal.number()),
             (Ok(_), Err(refusal)) => format!("no: B is refused, by {}.", refusal.number()),
             _ if self.equal() => "yes: a guest of A may move to B. The tables are equal, row for row.".into(),
-            _ if self.rises.holds() => format!("yes: a guest of A may move to B. {}.", self.rises.promise()),
-            _ => format!("no: a guest of A may not move to B. {}.", capital(&self.rises.obstacle())),
+            _ if self.answer() == "yes" => format!("yes: a guest of A may move to B. {}.", self.rises.promise()),
+            _ => format!("no: a guest of A may not move to B. {}.", self.obstacle().unwrap_or_default()),
         }
+    }
+
+    /// The first thing in the way, by the tables.
+    fn obstacle(&self) -> Option<String> {
+        let answer = self.tables?;
+        self.differences().iter().find(|difference| difference.blocks() && difference.is_named_by(answer)).map(|first| first.obstacle(&NAMES))
     }
 
     fn differences(&self) -> Vec<Difference> {
@@ -148,37 +162,46 @@ impl Report<'_> {
 
     fn text(&self) -> String {
         let (a, b) = self.servers();
-        let edition = self.building.edition();
-        let mut text = wrapped("", &self.verdict()) + "\n" + &a.line() + &b.line() + &format!("under edition {edition} of the AVX rule\n\n");
-        let (all, names) = (self.differences(), Tables { names: ["A", "B"], origins: true });
+        let edition = self.edition().map_or(String::new(), |edition| format!("under edition {edition} of the AVX rule\n"));
+        let mut text = wrapped("", &self.verdict()) + "\n" + &a.line() + &b.line() + &edition + "\n";
+        let all = self.differences();
         for (heading, blocks) in [("In the way from A to B:", true), ("Not in the way from A to B:", false)] {
-            let lines = lines(&names, all.iter().filter(|difference| difference.blocks() == blocks));
+            let lines = lines(&NAMES, all.iter().filter(|difference| difference.blocks() == blocks));
             if !lines.is_empty() {
                 text += &format!("{heading}\n{lines}\n");
             }
         }
-        text + &self.rises.told() + &self.falls.told()
+        if a.is_image || b.is_image {
+            return text + "Of an image nobody knows the entries.\n";
+        }
+        text + "By the entries, before the other table is built:\n" + &self.rises.told() + &self.falls.told()
+    }
+
+    /// The edition, where it made a table here.
+    fn edition(&self) -> Option<u32> {
+        let (a, b) = self.servers();
+        (!a.is_image || !b.is_image).then_some(self.building.edition())
     }
 
     fn json(&self) -> Json {
         let (a, b) = self.servers();
+        let direction = |direction: &Direction| if a.is_image || b.is_image { Json::Null } else { direction.json() };
         object([
             ("answer", self.answer().into()),
-            ("edition", self.building.edition().into()),
+            ("edition", self.edition().into()),
             ("equal", self.equal().into()),
+            ("words", self.verdict().into()),
             ("a", a.json(self.building)),
             ("b", b.json(self.building)),
             ("differences", array(self.differences().iter().map(Difference::json))),
-            ("a_to_b", self.rises.json()),
-            ("b_to_a", self.falls.json()),
+            ("a_to_b", direction(&self.rises)),
+            ("b_to_a", direction(&self.falls)),
         ])
     }
 }
 
-fn capital(text: &str) -> String {
-    let mut letters = text.chars();
-    letters.next().map_or(String::new(), |first| first.to_uppercase().chain(letters).collect())
-}
+/// What lines call the two.
+const NAMES: Tables = Tables { names: ["A", "B"], origins: true };
 
 /// What the library says of a guest that moves from one server to the other, by their entries.
 struct Direction<'a> {

@@ -1,0 +1,59 @@
+//! What a file gives: pages, or the image of a table, which can be turned into pages.
+
+use crate::building::Building;
+use crate::failure::Failure;
+use crate::pages::{Entry, two_pages};
+use crate::{reasons, words};
+use snp_cpuid::{Comparison, Options, PAGE_BYTES, Refusal, Table, build, compare};
+
+/// The options that change nothing in pages of a table's rows: they keep the secure-AVIC bit where it is set, and clear no more than the table did.
+const MADE: Options = Options::new().secure_avic(true);
+
+/// A file.
+pub struct Source {
+    /// its name, as messages have it
+    pub file: String,
+    /// its bytes; of an image, once that was asked for, pages that have its rows
+    pub pages: Vec<u8>,
+    /// the table, where it is an image
+    pub image: Option<Table>,
+    /// the options under which the pages are built
+    pub options: Options,
+}
+
+/// The table of bytes that are an image and no pages.
+pub fn image(bytes: &[u8]) -> Option<Table> {
+    if bytes.len() % PAGE_BYTES == 0 { None } else { Table::try_from(bytes).ok() }
+}
+
+impl Source {
+    /// Its table.
+    pub fn table(&self) -> Result<Table, Refusal> {
+        self.image.clone().map_or_else(|| build(&self.pages, self.options), Ok)
+    }
+
+    /// Pages in the place of an image, where the library makes the image's table of them.
+    pub fn as_pages(self, building: &Building) -> Result<Source, Failure> {
+        let Some(table) = &self.image else { return Ok(self) };
+        let pages = pages_of(table);
+        match build(&pages, MADE) {
+            Ok(again) if again == *table => Ok(Source { pages, options: MADE, ..self }),
+            Ok(_) => Err(Failure::No { line: format!("{}: no pages give the table of this image", self.file), notes: vec![] }),
+            Err(refusal) => Err(building.refused(&self.file, refusal, &reasons::of_pages(refusal, &pages))),
+        }
+    }
+}
+
+/// Two pages whose entries are a table's rows.
+fn pages_of(table: &Table) -> Vec<u8> {
+    let entry = |row: snp_cpuid::Row| Entry { leaf: row.leaf, subleaf: row.subleaf.unwrap_or(0), registers: words::registers(&row) };
+    two_pages(&table.rows().map(entry).collect::<Vec<_>>()).expect("a table has at most 32 rows")
+}
+
+/// Whether one table is at least another: whether a guest of pages that have the rows of the first may move to pages that have those of the second.
+///
+/// Such pages give the table again, and their entries are its rows. So the answer is yes exactly where the second table has every row of the first,
+/// at least its features, a save area no smaller, and everything else equal.
+pub fn compare_tables(from: &Table, to: &Table) -> Comparison {
+    compare(&pages_of(from), &pages_of(to), MADE)
+}
