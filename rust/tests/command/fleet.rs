@@ -1,5 +1,6 @@
 //! `fleet`: what it tells is counted here from the entries that the tests change; JSON is read by Debian's `jq`.
 
+use crate::answers::{documented, members};
 use crate::json_text::jq;
 use crate::page_sets::{Entries, epyc, rich, set, topology, with, without};
 use crate::run::{EPYC, Folder, run, run_on};
@@ -111,6 +112,40 @@ fn the_same_as_json() {
             assert_eq!(read, expected, "{filter}");
         }
     }
+}
+
+/// Every object has the members that docs/COMMAND.md gives it.
+#[test]
+fn shapes_are_documented() {
+    let folder = Folder::new("fleet_shapes");
+    small(&folder);
+    folder.file("notes", "nothing");
+    folder.file("u1.pages", set(&with(7, 0, 1, |ebx| ebx | 1 << 16)));
+    folder.file("t1.pages", set(&stepping(&less(&with(7, 0, 1, |ebx| ebx | 1 << 16), 1, 2, 12))));
+    let out = run(&["fleet", &folder.path(""), "--json"]).out;
+    if jq(&out, ".").is_none() {
+        return;
+    }
+    for (filter, shape) in [
+        (".", "fleet"),
+        (".servers[0]", "a server of a fleet"),
+        (".servers[] | select(.why)", "a server of a fleet"),
+        (".servers[] | select(.refusal.number == 4)", "a server of a fleet"),
+        (".servers[] | select(.refusal.number == 4) | .refusal", "a refusal"),
+        (".groups[0]", "a group"),
+        (".classes[0]", "a class"),
+        (".moves[0]", "a move"),
+        (".pools[0]", "a pool of a fleet"),
+        (".pools[0].costs[0]", "a cost"),
+        (".pools[0].lost[0]", "a lost bit"),
+        (".features[0]", "a feature that differs"),
+        (".apart[0]", "a register that keeps groups apart"),
+        (".unpromised[0]", "a move that is not promised"),
+        (".unlike[0]", "a server unlike the first of its class"),
+    ] {
+        assert_eq!(members(&out, filter), documented(shape), "{filter}");
+    }
+    assert_eq!(jq(&out, ".unlike | map(.server)").unwrap(), r#"["u1"]"#);
 }
 
 /// Pages, their image, a list for KVM and a dump are one class; a file of anything else is not read, and the others are.

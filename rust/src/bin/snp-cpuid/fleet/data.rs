@@ -49,15 +49,23 @@ fn names(fleet: &Fleet, classes: &[usize]) -> Json {
 
 fn server(fleet: &Fleet, server: &Server) -> Json {
     let source = &server.source;
-    let named = object([("name", source.name.as_str().into()), ("file", source.file.as_str().into()), ("kind", source.kind.name().into())]);
-    named.with(match &server.answer {
-        Answer::Class(class) => vec![("answer", "accepted".into()), ("class", fleet.classes[*class].name.as_str().into())],
+    let (answer, class, refusal, why) = match &server.answer {
+        Answer::Class(class) => ("accepted", fleet.classes[*class].name.as_str().into(), Json::Null, Json::Null),
         Answer::Refused(refusal) => {
             let reason = fleet.building.reason(*refusal, server.pages());
-            vec![("answer", "refused".into()), ("refusal", refusal_json(*refusal, &reason))]
+            ("refused", Json::Null, refusal_json(*refusal, &reason), Json::Null)
         }
-        Answer::Unread(why) => vec![("answer", "not read".into()), ("why", why.as_str().into())],
-    })
+        Answer::Unread(why) => ("not read", Json::Null, Json::Null, why.as_str().into()),
+    };
+    object([
+        ("name", source.name.as_str().into()),
+        ("file", source.file.as_str().into()),
+        ("kind", source.kind.name().into()),
+        ("answer", answer.into()),
+        ("class", class),
+        ("refusal", refusal),
+        ("why", why),
+    ])
 }
 
 fn group(fleet: &Fleet, group: &Group) -> Json {
