@@ -302,7 +302,8 @@ fn hyperthreading_keeps_groups_apart() {
         folder.file(name, set(&entries));
     }
     let ran = run(&["fleet", &folder.path("")]);
-    assert!(ran.text().contains("\nB  ") && ran.text().contains("  HTT\n"), "{}", ran.text());
+    let apart = "   A and B: 1 EDX (";
+    assert!(ran.text().contains(apart) && ran.text().contains("10000000") && ran.text().contains("  HTT\n"), "{}", ran.text());
     assert!(!ran.text().contains("Pools"));
 }
 

@@ -1,7 +1,7 @@
 //! What classes differ in: feature bits by class, and the registers that keep groups apart.
 
 use super::bits::{self, Bits};
-use super::groups::joins;
+use super::groups::fixed;
 use super::{Class, Fleet, Group};
 use crate::features::FeatureBit;
 use crate::words;
@@ -52,9 +52,9 @@ pub fn apart(groups: &[&Group], classes: &[Class]) -> Vec<Apart> {
     let tables: Vec<&Table> = groups.iter().map(|group| &classes[group.classes.start].table).collect();
     let mut found = vec![];
     for row in tables.first().iter().flat_map(|table| table.rows()) {
-        for register in (0..4).filter(|register| !joins(&row, *register)) {
-            let value = |table: &&Table| table.find(row.leaf, row.subleaf).map_or(0, |row| words::registers(&row)[register]);
-            let values: Vec<u32> = tables.iter().map(value).collect();
+        for register in 0..4 {
+            let value = |table: &&Table| table.find(row.leaf, row.subleaf).and_then(|row| fixed(&row, register, words::registers(&row)[register]));
+            let values: Vec<u32> = tables.iter().map(|table| value(table).unwrap_or(0)).collect();
             if values.iter().any(|value| *value != values[0]) {
                 found.push(Apart { leaf: row.leaf, subleaf: row.subleaf, register, values });
             }

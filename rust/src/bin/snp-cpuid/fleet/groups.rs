@@ -51,25 +51,20 @@ fn letter(place: usize) -> String {
     if place < 26 { last.to_string() } else { format!("{}{last}", letter(place / 26 - 1)) }
 }
 
-/// Whether a register may differ inside a group: a feature register, the save area, and the rows of states. `pool` joins these and no others.
-pub fn joins(row: &Row, register: usize) -> bool {
-    let state = row.leaf == 0xD && row.subleaf.is_some_and(|component| component >= 2);
-    state || (row.leaf, row.subleaf, register) == (0xD, Some(0), ECX) || features::find(row.leaf, row.subleaf, register).is_some()
+/// The part of a register that is equal inside a group; none where it may differ there: in a feature register, the save area, and the rows of states.
+/// `pool` joins these and no others. Bit 28 of 1.EDX, hyperthreading, is no feature.
+pub fn fixed(row: &Row, register: usize, value: u32) -> Option<u32> {
+    match (row.leaf, row.subleaf, register) {
+        (0x1, None, EDX) => Some(value & 1 << 28),
+        (0xD, Some(0), ECX) | (0xD, Some(2..), _) => None,
+        (leaf, subleaf, register) => features::find(leaf, subleaf, register).is_none().then_some(value),
+    }
 }
 
-/// All that must be equal inside a group: every other register, and bit 28 of 1.EDX, hyperthreading.
+/// All that is equal inside a group.
 fn beyond_features(table: &Table) -> Vec<u32> {
-    let mut values = vec![];
-    for row in table.rows() {
-        for (register, value) in words::registers(&row).into_iter().enumerate() {
-            match (row.leaf, register) {
-                (0x1, EDX) => values.push(value & 1 << 28),
-                _ if joins(&row, register) => {}
-                _ => values.push(value),
-            }
-        }
-    }
-    values
+    let of_row = |row: Row| (0..4).filter_map(move |register| fixed(&row, register, words::registers(&row)[register]));
+    table.rows().flat_map(of_row).collect()
 }
 
 /// The processor's name, as leaves 80000002 to 80000004 spell it.

@@ -5,9 +5,13 @@ use super::source::pages_of_rows;
 use super::{Class, Group};
 use crate::building::Building;
 use snp_cpuid::Table;
+use std::collections::HashSet;
 
 /// How many page sets the library pools at once.
 pub const AT_ONCE: usize = 16;
+
+/// So many sets of a group are looked for: where states differ in size, there may be as many as classes.
+const MOST_SETS: usize = 16;
 
 /// Classes with one table for all their servers. No further class of their group can join them.
 pub struct Pool {
@@ -82,15 +86,19 @@ fn greatest<'a>(group: &Group, classes: &[Class], pages: &impl Fn(usize) -> &'a 
     order.sort_by_key(|class| classes[*class].table.max_extended_state().count_ones());
     let mut sets: Vec<Set> = vec![];
     for &class in &order {
-        if !sets.iter_mut().any(|set| set.take(class, pages(class), building)) {
+        if !sets.iter_mut().any(|set| set.take(class, pages(class), building)) && sets.len() < MOST_SETS {
             sets.push(Set { classes: vec![class], table: classes[class].table.clone(), pages: pages(class).to_vec() });
         }
     }
-    // a class that another set has taken may join this one too
+    // a class that another set has taken may join this one too, and make room for a further one
     for set in &mut sets {
-        for &class in &order {
-            if !set.classes.contains(&class) {
-                set.take(class, pages(class), building);
+        let inside: HashSet<usize> = set.classes.iter().copied().collect();
+        let mut outside: Vec<usize> = order.iter().copied().filter(|class| !inside.contains(class)).collect();
+        loop {
+            let before = outside.len();
+            outside.retain(|class| !set.take(*class, pages(*class), building));
+            if outside.len() == before {
+                break;
             }
         }
     }

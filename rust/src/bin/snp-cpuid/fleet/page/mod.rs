@@ -233,8 +233,8 @@ fn refused(fleet: &Fleet) -> String {
 
 fn made(fleet: &Fleet) -> String {
     format!(
-        "<p>Every answer is that of the proved library behind <code>snp-cpuid {}</code>, under {}: it builds each server once, compares the \
-         tables of classes, and makes the pools. The words are the command's. <code>snp-cpuid fleet --json</code> gives the same answers to a program, and \
+        "<p>The tables, the pools and the refusals are the answers of the proved library behind <code>snp-cpuid {}</code>, under {}. Each server is \
+         built once, and the tables of classes are compared. <code>snp-cpuid fleet --json</code> gives the same answers to a program, and \
          <code>snp-cpuid compare</code> and <code>snp-cpuid pool</code> give those of single servers again.</p>\n",
         env!("CARGO_PKG_VERSION"),
         choices(fleet)
