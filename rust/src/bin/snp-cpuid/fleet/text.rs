@@ -102,7 +102,7 @@ fn classes(fleet: &Fleet) -> String {
         return String::new();
     }
     let mut text = "Classes: all servers of a class give a guest the same table\n".to_string();
-    for group in &fleet.groups {
+    for group in fleet.groups.iter().take(CLASSES) {
         let name = groups::processor(&fleet.classes[group.classes.start].table);
         text += &wrapped(&format!("{:3}", group.letter), &format!("{name}: {}", described(group, &fleet.classes)));
         for place in group.classes.clone().take(CLASSES) {
@@ -113,7 +113,12 @@ fn classes(fleet: &Fleet) -> String {
         }
         text += &more_classes(group);
     }
-    text
+    text + &more_groups(fleet.groups.len())
+}
+
+fn more_groups(groups: usize) -> String {
+    let more = groups.saturating_sub(CLASSES);
+    if more == 0 { String::new() } else { format!("and {} more, which --json has\n", many(more, "group")) }
 }
 
 fn more_classes(group: &Group) -> String {
@@ -126,7 +131,7 @@ fn moves(fleet: &Fleet) -> String {
         return String::new();
     }
     let mut text = "Moves: a guest may go to a class that has at least its own table\n".to_string();
-    for group in fleet.groups.iter().filter(|group| group.classes.len() > 1) {
+    for group in fleet.groups.iter().take(CLASSES).filter(|group| group.classes.len() > 1) {
         if group.classes.len() > MOST_COMPARED {
             text += &format!("   {}    more than {MOST_COMPARED} classes are not compared\n", group.letter);
             continue;
@@ -187,7 +192,7 @@ fn between_groups(fleet: &Fleet) -> String {
         }
         text += &wrapped(&format!("   {} and {}: ", first.letter, other.letter), &words);
     }
-    if others.len() > CLASSES { text + &format!("   and {} more groups\n", others.len() - CLASSES) } else { text }
+    text + &more_groups(others.len())
 }
 
 fn pools(fleet: &Fleet) -> String {
@@ -195,7 +200,7 @@ fn pools(fleet: &Fleet) -> String {
         return String::new();
     }
     let head = "Pools: several classes with one table, of what all of them have\n".to_string();
-    head + &fleet.pools.iter().map(|pool| pooled(fleet, pool)).collect::<String>()
+    head + &fleet.pools.iter().take(CLASSES).map(|pool| pooled(fleet, pool)).collect::<String>()
 }
 
 /// How many servers classes have.

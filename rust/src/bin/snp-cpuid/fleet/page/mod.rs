@@ -18,7 +18,8 @@ const STYLE: &str = include_str!("page.css");
 /// So many classes of a group stand in the table of classes; the others are folded.
 const CLASSES: usize = 40;
 
-/// So many classes of a group are on the page at all, and so many links in one cell.
+/// So many groups and so many classes of each are on the page at all, and so many links in one cell.
+const MOST_GROUPS: usize = 200;
 const MOST_CLASSES: usize = 1000;
 const MOST_LINKS: usize = 100;
 
@@ -50,10 +51,11 @@ pub fn of(fleet: &Fleet) -> String {
     )
 }
 
-/// A link to a class.
+/// A link to a class; its name alone where it is not on the page.
 fn link(fleet: &Fleet, class: usize) -> String {
-    let name = &fleet.classes[class].name;
-    format!("<a href=\"#{name}\">{name}</a>")
+    let (name, group) = (&fleet.classes[class].name, fleet.classes[class].group);
+    let there = group < MOST_GROUPS && class - fleet.groups[group].classes.start < MOST_CLASSES;
+    if there { format!("<a href=\"#{name}\">{name}</a>") } else { name.clone() }
 }
 
 /// Links to classes, those after the eighth folded; where they are more than a page should hold, counted.
@@ -147,8 +149,10 @@ fn classes(fleet: &Fleet) -> String {
     let words = "<p>All servers of a class give a guest the same table, so a program that asks CPUID what to use does the same on each of them. \
                  The letter is the group: classes that differ in features only. Number 1 has most features.</p>\n";
     let head = ["Class", "Servers", "Names", "Without, of what its group has"].map(column).concat();
-    let body: String = fleet.groups.iter().map(|group| group_rows(fleet, group)).collect();
-    words.to_string() + &table("c-classes", "f", "Accepted servers by class", &head, &body)
+    let body: String = fleet.groups.iter().take(MOST_GROUPS).map(|group| group_rows(fleet, group)).collect();
+    let more = fleet.groups.len().saturating_sub(MOST_GROUPS);
+    let more = if more == 0 { String::new() } else { format!("<p>and {more} more groups, which --json has</p>\n") };
+    words.to_string() + &table("c-classes", "f", "Accepted servers by class", &head, &body) + &more
 }
 
 fn group_rows(fleet: &Fleet, group: &Group) -> String {
@@ -164,8 +168,8 @@ fn group_rows(fleet: &Fleet, group: &Group) -> String {
     text += &group.classes.clone().take(CLASSES).map(|class| class_row(fleet, class)).collect::<String>();
     let more = group.classes.len().saturating_sub(CLASSES);
     if more > 0 {
-        let rows = group.classes.clone().skip(CLASSES).take(MOST_CLASSES).map(|class| format!("<div>{}</div>", more_class(fleet, class)));
-        let left = more.saturating_sub(MOST_CLASSES);
+        let rows = group.classes.clone().take(MOST_CLASSES).skip(CLASSES).map(|class| format!("<div>{}</div>", more_class(fleet, class)));
+        let left = group.classes.len().saturating_sub(MOST_CLASSES);
         let left = if left == 0 { String::new() } else { format!("<p>and {left} more, which --json has</p>") };
         let inside = rows.collect::<String>() + &left;
         text += &format!("<tr><td colspan=\"4\">{}</td></tr>\n", details(&format!("and {more} more classes"), &inside));

@@ -8,7 +8,7 @@ use super::super::{Fleet, Group};
 use super::features::named;
 use super::html::{column, details, escaped, folded, mark, name, table};
 use super::picture::{MOST_DRAWN, figure};
-use super::{link, links};
+use super::{MOST_GROUPS, link, links};
 use snp_cpuid::Comparison;
 
 /// A matrix of more classes is folded, and beyond the second number there is none.
@@ -23,7 +23,7 @@ pub fn ways(fleet: &Fleet) -> String {
     if fleet.classes.len() < 2 {
         return String::new();
     }
-    let groups = || fleet.groups.iter().filter(|group| group.classes.len() > 1);
+    let groups = || fleet.groups.iter().take(MOST_GROUPS).filter(|group| group.classes.len() > 1);
     let figures: String = groups().filter(|group| group.classes.len() <= MOST_DRAWN).map(|group| figure(fleet, group)).collect();
     let mut text = "<p>A guest may go to a class whose table has every row of its own, at least its features, a save area no smaller, and all else \
                     equal."
@@ -146,7 +146,7 @@ pub fn matrices(fleet: &Fleet) -> String {
     let tables = if all.len() <= OPEN_MATRIX {
         matrix(fleet, &all, "all", "Rows: where a guest runs. Columns: where it would go.")
     } else {
-        fleet.groups.iter().map(|group| of_group(fleet, group)).collect()
+        fleet.groups.iter().take(MOST_GROUPS).map(|group| of_group(fleet, group)).collect()
     };
     if tables.is_empty() {
         return String::new();
@@ -203,8 +203,11 @@ fn cell(fleet: &Fleet, from: usize, to: usize, words: bool) -> String {
         (true, Some((.., why))) => ("yes", format!("{}<small>{}</small>", mark("half", "yes, not promised: "), escaped(&by_pages(why)))),
         (false, _) => ("no", format!("{}<small>{}</small>", mark("no", "no: "), escaped(&way.short()))),
     };
-    let data = format!("data-from=\"{}\" data-to=\"{}\" data-answer=\"{answer}\"", a.name, b.name);
-    // in a large matrix the words would be most of the page
-    let title = if words { format!(" title=\"{} to {}: {}\"", a.name, b.name, escaped(&way.long())) } else { String::new() };
-    format!("<td class=\"{answer}{line}\" {data}{title}>{inside}</td>")
+    // in a large matrix these would be most of the page
+    let further = || {
+        let (from, to) = (&a.name, &b.name);
+        format!(" data-from=\"{from}\" data-to=\"{to}\" data-answer=\"{answer}\" title=\"{from} to {to}: {}\"", escaped(&way.long()))
+    };
+    let further = if words { further() } else { String::new() };
+    format!("<td class=\"{answer}{line}\"{further}>{inside}</td>")
 }

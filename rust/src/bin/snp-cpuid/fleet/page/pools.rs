@@ -5,7 +5,7 @@ use super::super::text::{larger, listed, losses, many, pool_name, servers_of};
 use super::super::{Fleet, groups};
 use super::features::{class_columns, named};
 use super::html::{column, escaped, folded, mark, table};
-use super::{link, links};
+use super::{MOST_GROUPS, link, links};
 
 /// So many classes stand side by side; of more, those that lack a feature are listed.
 const ACROSS: usize = 12;
@@ -16,7 +16,7 @@ pub fn of(fleet: &Fleet) -> String {
     }
     let words = "<p>A pool is one table for several servers: the features that all of them have. A guest with that table may go to each of them. \
                  No further class can join the pools that stand here, and one server of each class stands for all of its class.</p>\n";
-    words.to_string() + &fleet.pools.iter().enumerate().map(|(place, pool)| one(fleet, place, pool)).collect::<String>()
+    words.to_string() + &fleet.pools.iter().take(MOST_GROUPS).enumerate().map(|(place, pool)| one(fleet, place, pool)).collect::<String>()
 }
 
 fn one(fleet: &Fleet, place: usize, pool: &Pool) -> String {
