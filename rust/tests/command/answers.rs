@@ -7,7 +7,7 @@ use snp_cpuid::{Options, Origin, build};
 use std::fs;
 
 /// The members that docs/COMMAND.md gives a shape, in their order: the words in backquotes, those in brackets apart.
-fn documented(shape: &str) -> String {
+pub fn documented(shape: &str) -> String {
     let text = fs::read_to_string("../docs/COMMAND.md").expect("the document");
     let line = text.lines().find_map(|line| line.strip_prefix(&format!("| {shape} | "))).unwrap_or_else(|| panic!("no shape of {shape}"));
     let (mut depth, mut outside) = (0, String::new());
@@ -30,7 +30,7 @@ fn asked(arguments: &[&str], filter: &str) -> Option<String> {
 }
 
 /// The members of the object that a filter gives.
-fn members(text: &[u8], filter: &str) -> String {
+pub fn members(text: &[u8], filter: &str) -> String {
     jq(text, &format!("{filter} | keys_unsorted | join(\" \")")).expect("jq is there").trim_matches('"').to_string()
 }
 

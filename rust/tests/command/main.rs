@@ -2,6 +2,7 @@
 //! document 01's own rows), the public database of bits, the specification, and Debian's `cpuid`.
 
 mod answers;
+mod browser;
 #[path = "caches.rs"]
 mod cache_words;
 mod capture;
@@ -14,6 +15,7 @@ mod documents;
 mod dump;
 mod edition;
 mod entries;
+mod fleet;
 mod guest;
 mod images;
 #[path = "json.rs"]
@@ -24,6 +26,8 @@ mod lookup;
 mod masks_held;
 mod names;
 mod nearest;
+#[path = "order.rs"]
+mod order_of_tables;
 mod origins;
 mod page_sets;
 mod pool;
@@ -63,6 +67,9 @@ mod masks;
 #[allow(dead_code)]
 #[path = "../../src/bin/snp-cpuid/option.rs"]
 mod option;
+#[allow(dead_code)]
+#[path = "../../src/bin/snp-cpuid/order.rs"]
+mod order;
 #[allow(dead_code)]
 #[path = "../../src/bin/snp-cpuid/pages.rs"]
 mod pages;

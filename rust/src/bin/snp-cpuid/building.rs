@@ -23,6 +23,9 @@ const LINE: Opt = Opt::flag(&["--line"], "where the pages are refused, print the
 /// The options of every command that builds under one edition.
 pub const OPTIONS: &[Opt] = &[SECURE_AVIC, EDITION, LINE];
 
+/// The options of one that goes on where pages are refused.
+pub const OPTIONS_BUT_LINE: &[Opt] = &[SECURE_AVIC, EDITION];
+
 /// The options of one that names its editions itself.
 pub const OPTIONS_BUT_EDITION: &[Opt] = &[SECURE_AVIC, LINE];
 

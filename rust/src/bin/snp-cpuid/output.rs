@@ -80,7 +80,7 @@ pub fn print(data: impl AsRef<[u8]>) -> Result<(), Failure> {
 }
 
 /// Bytes to a file, or to standard output for `-`, unless that is a terminal.
-fn to_file(name: &OsStr, bytes: &[u8]) -> Result<(), Failure> {
+pub fn to_file(name: &OsStr, bytes: &[u8]) -> Result<(), Failure> {
     if name == "-" {
         // a terminal would take bytes for commands of its own
         let terminal = io::stdout().is_terminal();

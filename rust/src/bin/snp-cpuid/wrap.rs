@@ -8,23 +8,29 @@ const USUAL: usize = 100;
 const FEWEST: usize = 40;
 const MOST: usize = 1000;
 
-/// The most columns of a line.
-fn columns() -> usize {
-    static COLUMNS: OnceLock<usize> = OnceLock::new();
+/// The columns that COLUMNS asks for.
+fn asked() -> Option<usize> {
+    static COLUMNS: OnceLock<Option<usize>> = OnceLock::new();
     *COLUMNS.get_or_init(|| {
         let given = env::var("COLUMNS").ok().and_then(|text| text.parse::<usize>().ok()).filter(|columns| *columns > 0);
-        given.map_or(USUAL, |columns| columns.clamp(FEWEST, MOST))
+        given.map(|columns| columns.clamp(FEWEST, MOST))
     })
 }
 
 /// Words behind a label, on as many lines as they need, the later ones set in under the first.
 pub fn wrapped(label: &str, words: &str) -> String {
+    wrapped_in(USUAL, label, words)
+}
+
+/// The same in lines of so many columns where COLUMNS does not say.
+pub fn wrapped_in(usual: usize, label: &str, words: &str) -> String {
+    let columns = asked().unwrap_or(usual);
     let mut lines = vec![label.to_string()];
     for word in words.split(' ') {
         let line = lines.last_mut().expect("there is a line");
         if line.len() == label.len() {
             line.push_str(word);
-        } else if line.len() + 1 + word.len() <= columns() {
+        } else if line.len() + 1 + word.len() <= columns {
             line.push(' ');
             line.push_str(word);
         } else {

@@ -37,17 +37,30 @@ heading, has more than the 64 rows that a page holds, or cannot be read or writt
 
 fn run(arguments: &Arguments) -> Result<(), Failure> {
     let name = shown(&arguments.operands[0]);
-    let dump = parse(&read(&arguments.operands[0])?).map_err(|why| Failure::Bad(format!("{name}: {why}")))?;
-    let (kept, left): (Vec<Entry>, Vec<Entry>) = dump.rows.into_iter().partition(|row| read_by_table(row.leaf, row.subleaf));
-    let pages = two_pages(&kept).map_err(|why| Failure::Bad(format!("{name}: {why}")))?;
-    output::write(arguments, &pages)?;
-    if dump.cpus > 1 {
-        output::say(&format!("note: {name} has {} CPUs, the first is taken", dump.cpus));
+    let taken = taken(&read(&arguments.operands[0])?).map_err(|why| Failure::Bad(format!("{name}: {why}")))?;
+    output::write(arguments, &taken.pages)?;
+    if taken.cpus > 1 {
+        output::say(&format!("note: {name} has {} CPUs, the first is taken", taken.cpus));
     }
-    if !left.is_empty() {
-        output::say(&format!("note: {} that the table does not read left out, {} taken", counted(left.len() as u32, "row"), kept.len()));
+    if taken.left > 0 {
+        output::say(&format!("note: {} that the table does not read left out, {} taken", counted(taken.left as u32, "row"), taken.kept));
     }
     Ok(())
+}
+
+/// The pages of a dump: how many CPUs it has, and how many rows of the first were taken and left out.
+pub struct Taken {
+    pub pages: Vec<u8>,
+    cpus: usize,
+    kept: usize,
+    left: usize,
+}
+
+/// The pages of the text of a dump.
+pub fn taken(text: &[u8]) -> Result<Taken, String> {
+    let dump = parse(text)?;
+    let (kept, left): (Vec<Entry>, Vec<Entry>) = dump.rows.into_iter().partition(|row| read_by_table(row.leaf, row.subleaf));
+    Ok(Taken { pages: two_pages(&kept)?, cpus: dump.cpus, kept: kept.len(), left: left.len() })
 }
 
 /// The rows of a dump's first CPU, and how many CPUs it has.

@@ -45,19 +45,23 @@ fn run(arguments: &Arguments) -> Result<(), Failure> {
 
 /// The pages of a list, and what is to be said of its rows. Where a page has no room for all rows, those go in that a table reads.
 pub fn pages_of(list: &[u8], file: &OsStr, building: Building) -> Result<([u8; KVM_PAGES_BYTES], String), Failure> {
-    let mut pages = [0; KVM_PAGES_BYTES];
-    let read = |list: &[u8], pages: &mut [u8]| snp_cpuid::read_kvm(list, pages);
     let refused = |refusal| building.refused(shown(file), refusal, &reasons::of_list(refusal, list));
-    let left_out = match read(list, &mut pages) {
-        Ok(_) => false,
-        Err(Refusal::ListRows) => read(&only_read(list), &mut pages).map(|_| true).map_err(refused)?,
-        Err(refusal) => return Err(refused(refusal)),
-    };
+    let (pages, left_out) = taken(list).map_err(refused)?;
     // the list was read: its length is 8 + 40 × rows
     let rows = list[8..].chunks_exact(40);
     let (all, kept) = (rows.len() as u32, rows.filter(|row| is_read(row)).count());
     let others = if left_out { format!("; the {} others are left out, as a page holds 64", all - kept as u32) } else { String::new() };
     Ok((pages, format!("{}, of which the table reads {kept}{others}", counted(all, "row"))))
+}
+
+/// The pages of a list, and whether rows that no table reads were left out to make room.
+pub fn taken(list: &[u8]) -> Result<([u8; KVM_PAGES_BYTES], bool), Refusal> {
+    let mut pages = [0; KVM_PAGES_BYTES];
+    match snp_cpuid::read_kvm(list, &mut pages) {
+        Ok(_) => Ok((pages, false)),
+        Err(Refusal::ListRows) => snp_cpuid::read_kvm(&only_read(list), &mut pages).map(|_| (pages, true)),
+        Err(refusal) => Err(refusal),
+    }
 }
 
 /// The list with the rows that a table reads.

@@ -6,8 +6,9 @@ mod compare;
 mod completion;
 mod entries;
 mod explain;
-mod from_dump;
-mod from_kvm;
+mod fleet;
+pub mod from_dump;
+pub mod from_kvm;
 mod guest;
 mod image;
 mod lookup;
@@ -36,6 +37,7 @@ pub const ALL: &[Command] = &[
     to_kvm::COMMAND,
     compare::COMMAND,
     pool::COMMAND,
+    fleet::COMMAND,
     nearest::COMMAND,
     topologies::COMMAND,
     entries::COMMAND,

@@ -5,13 +5,14 @@ use crate::building::{self, Building};
 use crate::command::Command;
 use crate::failure::Failure;
 use crate::features::{FEATURES, FeatureBit, FeatureRegister, REGISTERS};
+use crate::fleet::bits::value;
 use crate::json::{self, Json, array, object};
 use crate::option::Opt;
+use crate::output;
 use crate::print::{self, Form, bit_json};
 use crate::reasons::{self, Reason};
 use crate::source::{Source, pool_tables};
 use crate::standing::Standing;
-use crate::{output, words};
 use snp_cpuid::{NotPooled, Refusal, Table};
 use std::collections::BTreeMap;
 use std::ops::RangeInclusive;
@@ -155,11 +156,6 @@ impl Servers {
         let several = groups.iter().filter(|(lackers, _)| lackers.len() > 1).map(lacked);
         [("servers", array(self.names.iter().enumerate().map(server))), ("lacked_by_several", array(several))]
     }
-}
-
-/// A feature register in a table.
-fn value(table: &Table, register: &FeatureRegister) -> u32 {
-    table.find(register.leaf, register.subleaf).map_or(0, |row| words::registers(&row)[register.register])
 }
 
 /// The names of feature bits in their order, each register's before its place.

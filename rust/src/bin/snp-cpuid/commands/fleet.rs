@@ -1,0 +1,68 @@
+//! `fleet`: any number of servers at a glance.
+
+use crate::arguments::Arguments;
+use crate::building::{self, Building};
+use crate::command::Command;
+use crate::failure::Failure;
+use crate::fleet::{Fleet, data, page, source, text};
+use crate::option::{Opt, Value};
+use crate::{json, output};
+
+const HTML: Opt = Opt {
+    names: &["--html"],
+    value: Value::File("OUT"),
+    required: false,
+    help: "write the report as a page for a browser too: one file, which loads nothing",
+};
+
+pub const COMMAND: Command = Command {
+    name: "fleet",
+    operands: &["PAGES.."],
+    options: &[&[HTML, json::OPTION], building::OPTIONS_BUT_LINE],
+    summary: "tell which of any number of servers are alike, and where a guest may go",
+    about: "\
+Tells of any number of servers which are accepted, which give a guest the same table, and where a
+guest may go. PAGES is a file of CPUID pages, an image that 'image' or 'pool' wrote, a list for KVM,
+or the text of 'cpuid -r', told apart by what it holds; or a folder, whose files and folders are
+read, but for hidden ones. The report has:
+
+  classes    servers that give one table; a class is a letter and a number, A1
+  groups     the letter: classes that differ in features only; no guest leaves its group
+  moves      from a class to those whose table has every row of its own, at least its features, a
+             save area no smaller and all else equal; elsewhere, what stands in the way
+  pools      the greatest sets of classes for which 'pool' makes one table, and what each costs
+  features   those that some classes have and some have not
+  refused    servers without a table, by the reason
+
+The order of moves is that of tables. 'compare' of two page sets asks more, as its promise holds
+before the other server is built; a note names the moves that it does not promise.
+",
+    status: "\
+Exit status: 0 where every server is accepted, 1 where one is refused or its file holds nothing that
+can be read as pages, 2 bad usage, a file that cannot be opened, or no file at all.
+",
+    run,
+};
+
+fn run(arguments: &Arguments) -> Result<(), Failure> {
+    if arguments.operands.iter().filter(|file| *file == "-").count() > 1 {
+        return Err(Failure::usage(COMMAND.name, "standard input can be one server only"));
+    }
+    let building = Building::of(arguments, COMMAND.name)?;
+    let to_output = arguments.value(HTML.name()).is_some_and(|file| file == "-");
+    if to_output && building.json() {
+        return Err(Failure::usage(COMMAND.name, "--html - and --json both go to standard output"));
+    }
+    let sources = source::sources(&arguments.operands, &building)?;
+    let fleet = Fleet::of(sources, building);
+    match arguments.value(HTML.name()) {
+        Some(file) if !to_output => output::to_file(file, page::of(&fleet).as_bytes())?,
+        _ => {}
+    }
+    output::print(match (to_output, building.json()) {
+        (true, _) => page::of(&fleet),
+        (_, true) => data::of(&fleet).to_string(),
+        _ => text::of(&fleet),
+    })?;
+    if fleet.accepted() == fleet.servers.len() { Ok(()) } else { Err(Failure::AnswerNo) }
+}

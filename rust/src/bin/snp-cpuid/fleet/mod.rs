@@ -1,0 +1,113 @@
+//! A fleet of servers: which of them give a guest the same table, where a guest may go, what they share, and why some give none.
+
+pub mod bits;
+pub mod data;
+mod differing;
+mod groups;
+mod moves;
+pub mod page;
+mod pools;
+mod refused;
+pub mod source;
+pub mod text;
+
+use crate::building::Building;
+use groups::Group;
+use moves::Moves;
+use pools::Pool;
+use refused::Refused;
+use snp_cpuid::{Refusal, Table};
+use source::Source;
+use std::collections::HashMap;
+
+/// What came of a server.
+pub enum Answer {
+    /// accepted: the place of its class
+    Class(usize),
+    /// refused by the library
+    Refused(Refusal),
+    /// its file gives no pages
+    Unread(String),
+}
+
+/// One server of the fleet.
+pub struct Server {
+    pub source: Source,
+    pub answer: Answer,
+}
+
+/// Servers that give one table: the same rows and the same combined mask.
+pub struct Class {
+    /// the letter of its group, and its number there
+    pub name: String,
+    /// the place of its group
+    pub group: usize,
+    /// the places of its servers
+    pub servers: Vec<usize>,
+    pub table: Table,
+}
+
+/// All that a report says. Servers stand in the order of their files' names: the same files in another order give the same report.
+pub struct Fleet {
+    pub building: Building,
+    pub servers: Vec<Server>,
+    pub groups: Vec<Group>,
+    pub classes: Vec<Class>,
+    pub moves: Moves,
+    pub pools: Vec<Pool>,
+    pub refused: Vec<Refused>,
+}
+
+impl Fleet {
+    /// Builds each server once, puts equal tables together, and compares these.
+    pub fn of(sources: Vec<Source>, building: Building) -> Fleet {
+        let (tables, refusals) = built(&sources, &building);
+        let (classes, groups) = groups::named(tables);
+        let mut servers: Vec<Server> = sources.into_iter().zip(refusals).map(|(source, answer)| Server { source, answer }).collect();
+        for (place, class) in classes.iter().enumerate() {
+            class.servers.iter().for_each(|server| servers[*server].answer = Answer::Class(place));
+        }
+        let pages = |class: usize| servers[classes[class].servers[0]].pages();
+        let pools = pools::of(&groups, &classes, pages, &building);
+        let moves = Moves::of(&groups, &classes, &servers, &building);
+        let refused = refused::together(&servers, &building);
+        Fleet { building, groups, moves, pools, refused, classes, servers }
+    }
+
+    /// How many servers are accepted.
+    pub fn accepted(&self) -> usize {
+        self.groups.iter().map(|group| group.servers).sum()
+    }
+}
+
+impl Server {
+    /// Its pages; none where its file gives none.
+    pub fn pages(&self) -> &[u8] {
+        self.source.pages.as_deref().unwrap_or_default()
+    }
+}
+
+/// The tables that there are, each with its servers, and what came of the others. Equal images are equal tables
+/// (crates/images/specs/Images.antt, `EqualImages`).
+fn built(sources: &[Source], building: &Building) -> (Vec<(Vec<usize>, Table)>, Vec<Answer>) {
+    let (mut tables, mut places): (Vec<(Vec<usize>, Table)>, HashMap<Vec<u8>, usize>) = Default::default();
+    let mut answers = vec![];
+    for (server, source) in sources.iter().enumerate() {
+        let table = match &source.pages {
+            Ok(pages) => building.build(pages).map_err(Answer::Refused),
+            Err(why) => Err(Answer::Unread(why.clone())),
+        };
+        answers.push(match table {
+            Ok(table) => {
+                let place = *places.entry(table.image().to_vec()).or_insert(tables.len());
+                if place == tables.len() {
+                    tables.push((vec![], table));
+                }
+                tables[place].0.push(server);
+                Answer::Class(place)
+            }
+            Err(answer) => answer,
+        });
+    }
+    (tables, answers)
+}

@@ -1,0 +1,155 @@
+//! Where a guest may go: from a class to those that have at least its table, and what stands in the way elsewhere.
+
+use super::bits::{self, Bits, register_name, short_place};
+use super::source::Kind;
+use super::{Class, Group, Server};
+use crate::building::Building;
+use crate::components;
+use crate::features::{self, ECX};
+use crate::order::{Compared, compared};
+use crate::words;
+use snp_cpuid::{Comparison, Register, Table};
+
+/// A group of more classes is not compared: that would take more than a second.
+pub const MOST_COMPARED: usize = 1000;
+
+/// Beyond so many classes in a group the pages are not compared either.
+const MOST_BY_PAGES: usize = 100;
+
+/// Where the guests of each class may go, and what is no more than a note: what the comparison of pages says, which asks more.
+pub struct Moves {
+    /// for each class the others of its group to whose tables its own rises; none where they were not compared
+    pub rises: Vec<Option<Vec<usize>>>,
+    /// moves from class to class that the tables allow and the pages of the classes' first servers do not promise
+    pub unpromised: Vec<(usize, usize, Comparison)>,
+    /// servers between which and the first of their class the pages do not promise a move, to and fro
+    pub unlike: Vec<(usize, [Comparison; 2])>,
+}
+
+impl Moves {
+    pub fn of(groups: &[Group], classes: &[Class], servers: &[Server], building: &Building) -> Moves {
+        let rises: Vec<_> = classes.iter().enumerate().map(|(place, class)| rises(place, &groups[class.group], classes)).collect();
+        // an image has no pages of its own
+        let read = |server: &usize| servers[*server].source.kind != Kind::Image;
+        let first = |class: usize| classes[class].servers.iter().find(|server| read(server)).map(|server| servers[*server].pages());
+        let few = |class: &usize| groups[classes[*class].group].classes.len() <= MOST_BY_PAGES;
+        let allowed = rises.iter().enumerate().filter(|(class, _)| few(class));
+        let pairs = allowed.flat_map(|(from, to)| to.iter().flatten().map(move |to| (from, *to)));
+        let asked = |(from, to)| Some((from, to, building.compare(first(from)?, first(to)?)));
+        let unpromised = pairs.filter_map(asked).filter(|(.., answer)| no(answer)).collect();
+        let members = classes.iter().enumerate().flat_map(|(place, class)| class.servers.iter().map(move |server| (place, *server)));
+        let both = |(place, server): (usize, usize)| {
+            let (first, other) = (first(place)?, servers[server].pages());
+            Some((server, [building.compare(first, other), building.compare(other, first)]))
+        };
+        let unlike = members.filter(|(_, server)| read(server)).filter_map(both).filter(|(_, answers)| answers.iter().any(no)).collect();
+        Moves { rises, unpromised, unlike }
+    }
+}
+
+fn no(answer: &Comparison) -> bool {
+    *answer != Comparison::Rises
+}
+
+fn rises(class: usize, group: &Group, classes: &[Class]) -> Option<Vec<usize>> {
+    let to = |other: &usize| *other != class && compared(&classes[class].table, &classes[*other].table) == Compared::Rises;
+    (group.classes.len() <= MOST_COMPARED).then(|| group.classes.clone().filter(to).collect())
+}
+
+/// What stands in the way of a guest that would go from table A to table B.
+pub struct Way {
+    /// the first place that fails
+    pub first: Compared,
+    /// that register in A's table and in B's
+    pub values: [u32; 2],
+    /// the features of A's that B's has not, all of them
+    pub lacks: Vec<Bits>,
+}
+
+impl Way {
+    pub fn of(a: &Table, b: &Table) -> Way {
+        let first = compared(a, b);
+        let values = match first {
+            Compared::Differs { leaf, subleaf, register } => {
+                let value = |table: &Table| table.find(leaf, subleaf).map_or(0, |row| words::registers(&row)[index(register)]);
+                [value(a), value(b)]
+            }
+            _ => [0; 2],
+        };
+        Way { first, values, lacks: bits::lacked(a, b) }
+    }
+
+    /// The feature bits that are first in the way; none where it is something else.
+    pub fn bits(&self) -> Option<Bits> {
+        let Compared::Differs { leaf, subleaf, register } = self.first else { return None };
+        let register = features::find(leaf, subleaf, index(register))?;
+        let [a, b] = self.values;
+        // hyperthreading must be equal: A may be the one without it
+        let value = if a & !b != 0 { a & !b } else { a ^ b };
+        Some(Bits { register, value })
+    }
+
+    /// What is first in the way, in a few words.
+    pub fn short(&self) -> String {
+        match (self.first, self.bits()) {
+            (_, Some(bits)) => match bits.names()[..] {
+                [] => register_name(bits.register.leaf, bits.register.subleaf, bits.register.register),
+                [one] => one.to_string(),
+                [one, ref more @ ..] => format!("{one} +{}", more.len()),
+            },
+            (Compared::Rises, _) => "yes".into(),
+            (Compared::NoRow { leaf, subleaf }, _) => format!("no row {}", short_place(leaf, subleaf)),
+            (Compared::Beyond { leaf, subleaf }, _) => format!("row {} more", short_place(leaf, subleaf)),
+            (Compared::MaskLacks, _) => "states".into(),
+            (Compared::Differs { leaf: 0xD, subleaf: Some(0), register: Register::Ecx }, _) => "save area".into(),
+            (Compared::Differs { leaf, subleaf, register }, _) => register_name(leaf, subleaf, index(register)),
+        }
+    }
+
+    /// What is first in the way, with the leaf, the register and the bits or values.
+    pub fn long(&self) -> String {
+        let [a, b] = self.values;
+        match (self.first, self.bits()) {
+            (Compared::Rises, _) => "a guest may move".into(),
+            (Compared::NoRow { leaf: 0xD, subleaf: Some(component) }, _) => {
+                format!("no row D.{component:X}, the {} state", components::name(component).unwrap_or("unknown"))
+            }
+            (Compared::NoRow { leaf, subleaf }, _) => format!("no row {}", short_place(leaf, subleaf)),
+            (Compared::Beyond { leaf, subleaf }, _) => format!("a row {} besides", short_place(leaf, subleaf)),
+            (Compared::MaskLacks, _) => "a state of the combined mask is missing".into(),
+            (Compared::Differs { leaf, subleaf, register }, bits) => {
+                let name = register_name(leaf, subleaf, index(register));
+                match bits {
+                    Some(bits) => format!("{name}: {}", numbered(&bits)),
+                    None if (leaf, subleaf, index(register)) == (0xD, Some(0), ECX) => format!("{name}: the save area of {a} bytes is but {b}"),
+                    None => format!("{name}: {a:08X}, there {b:08X}"),
+                }
+            }
+        }
+    }
+}
+
+/// Bits by name and number: SHA (bit 29).
+fn numbered(bits: &Bits) -> String {
+    let told: Vec<String> = bits.each().map(|bit| format!("{} (bit {})", bit.name, bit.bit)).collect();
+    if told.is_empty() { format!("bits {:08X}", bits.value) } else { told.join(", ") }
+}
+
+/// The place of a register in a result.
+pub fn index(register: Register) -> usize {
+    match register {
+        Register::Eax => 0,
+        Register::Ebx => 1,
+        Register::Ecx => 2,
+        Register::Edx => 3,
+    }
+}
+
+/// Where the comparison of pages stops, in a few words.
+pub fn by_pages(answer: &Comparison) -> String {
+    match *answer {
+        Comparison::NoEntry { leaf, subleaf } => format!("no entry {}", short_place(leaf, subleaf)),
+        Comparison::Differs { leaf, subleaf, register } => register_name(leaf, subleaf, index(register)),
+        ref other => other.to_string(),
+    }
+}
