@@ -65,6 +65,7 @@ struct snp_cpuid_built {
  *   0 nothing was found
  *   1 the row is made here: leaves 0 and 80000000h, and B.0 and B.1, whether or not the pages have entries for them
  *   2 it is an entry's, which page and entry tell
+ *   3 nobody knows: the table was read from an image, which has no origins
  * Where origin is not 2, page and entry are 0. */
 struct snp_cpuid_found {
     uint32_t found;
@@ -296,6 +297,209 @@ struct snp_cpuid_nearest snp_cpuid_nearest(const uint8_t *pages, size_t length, 
  * and there are 1,019. Pages whose inputs are on the list are refused by none of 6, 7 and 8; other pages with s up to 7 are never accepted. Number 9,
  * where room is below SNP_CPUID_TOPOLOGIES_BYTES, leaves out as it was; bytes beyond the list are as they were. */
 struct snp_cpuid_written snp_cpuid_write_topologies(uint8_t *out, size_t room);
+
+/* ---- a table that the caller keeps
+ *
+ * Build a table once, keep it, and answer every CPUID exit from it. The functions below take the two arrays of a struct snp_cpuid_table. They ask
+ * nothing of what the arrays hold: memory of any content is a table, and each function says what it makes of it. A table that a function only reads may
+ * be read by any number of threads at once. */
+
+/* A table in the caller's own memory: 2,112 bytes without a pointer inside, so it may be copied with memcpy. registers has EAX, EBX, ECX and EDX of each
+ * of 88 places, by rising leaf and subleaf. origins says of each place where its row came from: 0 there is no row, 1 the builder made it, 3 nobody
+ * knows, else 4 + 64 * page + entry. A place has a row exactly where its origin is not 0. */
+struct snp_cpuid_table {
+    uint32_t registers[352];
+    uint64_t origins[88];
+};
+
+/* How many rows a table has, and its combined mask: D.0.EAX, and D.1.ECX where D.1.EAX has bits 1 and 3. */
+struct snp_cpuid_counts {
+    uint64_t row_count;
+    uint64_t max_extended_state;
+};
+
+/* What reading an image gives: is_image 1 with the counts of its table, or all zeros. */
+struct snp_cpuid_read {
+    uint32_t is_image;
+    uint64_t row_count;
+    uint64_t max_extended_state;
+};
+
+/* What a processor's guest reads at a CPUID exit: number 13 or 14 and zeros, or number 0 and what a lookup gives. */
+struct snp_cpuid_guest_found {
+    uint32_t number;
+    uint32_t found;
+    uint32_t eax;
+    uint32_t ebx;
+    uint32_t ecx;
+    uint32_t edx;
+    uint32_t origin;
+    uint64_t page;
+    uint32_t entry;
+};
+
+/* Whether a table gives a state: number 13 or 14 and size 0, or number 0 and the size of the compacted save area. */
+struct snp_cpuid_state {
+    uint32_t number;
+    uint32_t size;
+};
+
+/* What comparing two tables gives. answer:
+ *   0 the second table is at least the first
+ *   1 the second has no row for the leaf, and subleaf where the leaf has them
+ *   2 the register of its row lacks a feature bit of the first's, is a smaller save area (D.0.ECX), or else differs
+ *   3 it has a row that the first lacks, and that is no subleaf of leaf Dh of a mask bit that the second has beyond the first
+ *   4 its combined mask lacks a bit of the first's; this is never so of a table that was built, pooled or read
+ * Of 1, 2 and 3 it is the first, by rising leaf, subleaf and register. What the answer does not name is 0. */
+struct snp_cpuid_tables_compared {
+    uint32_t answer;
+    uint32_t leaf;
+    uint32_t has_subleaf;
+    uint32_t subleaf;
+    uint32_t register_index; /* 0 to 3: EAX, EBX, ECX, EDX */
+};
+
+/* Builds the table of the given pages, as snp_cpuid_build does. A refusal leaves a table without rows, all zeros. */
+struct snp_cpuid_built snp_cpuid_table_build(const uint8_t *pages, size_t length, bool secure_avic, uint32_t edition, uint32_t *registers,
+                                             uint64_t *origins);
+
+/* Builds one table for a pool of servers, as snp_cpuid_pool does; origins are the first server's. A refusal leaves a table without rows. */
+struct snp_cpuid_pooled snp_cpuid_table_pool(const uint8_t *pages, size_t length, const uint64_t *lengths, size_t servers, bool secure_avic,
+                                             uint32_t edition, uint32_t *registers, uint64_t *origins);
+
+/* Reads an image, as snp_cpuid_carry reads one. The rows' origins are 3, as an image has none. Bytes that are no image leave a table without rows. */
+struct snp_cpuid_read snp_cpuid_table_read_image(const uint8_t *image, size_t length, uint32_t *registers, uint64_t *origins);
+
+/* Looks a row up, as snp_cpuid_lookup does. */
+struct snp_cpuid_found snp_cpuid_table_find(const uint32_t *registers, const uint64_t *origins, uint32_t leaf, bool has_subleaf, uint32_t subleaf,
+                                            bool enforce_subleaf);
+
+/* Looks a row up as the guest of a processor sees it, as snp_cpuid_guest_lookup does: 13 and 14 first, then one row. */
+struct snp_cpuid_guest_found snp_cpuid_table_guest_find(const uint32_t *registers, const uint64_t *origins, uint32_t x2apic, uint64_t xcr0,
+                                                        uint64_t xss, bool osxsave, uint32_t leaf, bool has_subleaf, uint32_t subleaf,
+                                                        bool enforce_subleaf);
+
+/* Whether the table gives this XCR0 and XSS. The answer stays true until either changes, or the table does: keep the size, and ask
+ * snp_cpuid_table_guest_find_kept at each exit in between. */
+struct snp_cpuid_state snp_cpuid_table_state(const uint32_t *registers, const uint64_t *origins, uint64_t xcr0, uint64_t xss);
+
+/* Looks a row up as the guest of a processor sees it, with `size` for D.1.EBX. With the size that snp_cpuid_table_state gave for the same table, XCR0 and
+ * XSS it finds what snp_cpuid_table_guest_find finds; any other size changes D.1.EBX and nothing else. */
+struct snp_cpuid_found snp_cpuid_table_guest_find_kept(const uint32_t *registers, const uint64_t *origins, uint32_t x2apic, uint64_t xcr0,
+                                                       uint64_t xss, bool osxsave, uint32_t size, uint32_t leaf, bool has_subleaf,
+                                                       uint32_t subleaf, bool enforce_subleaf);
+
+/* Makes the table what the guest of a processor sees, in place; origins stay. A refusal by 13 or 14 leaves a table without rows: copy the table first
+ * where the paravisor's is still needed. */
+struct snp_cpuid_built snp_cpuid_table_guest(uint32_t *registers, uint64_t *origins, uint32_t x2apic, uint64_t xcr0, uint64_t xss, bool osxsave);
+
+/* Writes the table's image at the front of out, as snp_cpuid_write_image does. A table of any content may have 88 rows: 2,132 bytes. */
+struct snp_cpuid_written snp_cpuid_table_write_image(const uint32_t *registers, const uint64_t *origins, uint8_t *out, size_t room);
+
+/* Writes the table as struct kvm_cpuid2 at the front of out, as snp_cpuid_write_kvm does. A table of any content may have 88 rows: 3,528 bytes. */
+struct snp_cpuid_written snp_cpuid_table_write_kvm(const uint32_t *registers, const uint64_t *origins, uint8_t *out, size_t room);
+
+/* Whether the second table has every row of the first, at least its features, a save area no smaller and all else equal, and beyond it only subleaves of
+ * leaf Dh of further mask bits; or the first thing in the way. Ask it before a guest that runs on a table of A moves to a table of B. */
+struct snp_cpuid_tables_compared snp_cpuid_table_compare(const uint32_t *a_registers, const uint64_t *a_origins, const uint32_t *b_registers,
+                                                         const uint64_t *b_origins);
+
+/* How many rows the table has, and its combined mask. */
+struct snp_cpuid_counts snp_cpuid_table_counts(const uint32_t *registers, const uint64_t *origins);
+
+/* Takes the table from one edition to another in place, as snp_cpuid_carry does: 0, or 15, 16, 13 or 14 and the table as it was. Origins are only read. */
+uint32_t snp_cpuid_table_carry(uint32_t *registers, const uint64_t *origins, uint32_t from, uint32_t to, uint64_t xcr0, uint64_t xss);
+
+/* ---- the same with structs: define SNP_CPUID_NO_INLINE to leave these out */
+#ifndef SNP_CPUID_NO_INLINE
+
+/* What building is told. */
+struct snp_cpuid_options {
+    bool secure_avic;
+    uint32_t edition;
+};
+
+/* One processor of a guest. */
+struct snp_cpuid_processor {
+    uint32_t x2apic;
+    uint64_t xcr0;
+    uint64_t xss;
+    bool osxsave;
+};
+
+/* The numbers of the refusals, by name. */
+enum snp_cpuid_number {
+    SNP_CPUID_ACCEPTED = 0,
+    SNP_CPUID_PAGES_LENGTH = 1,
+    SNP_CPUID_PAGE_COUNT = 2,
+    SNP_CPUID_MISSING_REQUIRED_RESULT = 3,
+    SNP_CPUID_INVLPGB_UNAVAILABLE = 4,
+    SNP_CPUID_SAVE_AREA_OVERFLOW = 5,
+    SNP_CPUID_HYPERTHREADING = 6,
+    SNP_CPUID_PROCESSOR_COUNT = 7,
+    SNP_CPUID_THREADS_PER_UNIT = 8,
+    SNP_CPUID_BUFFER_TOO_SHORT = 9,
+    SNP_CPUID_LIST_LENGTH = 10,
+    SNP_CPUID_LIST_ROWS = 11,
+    SNP_CPUID_LIST_WORDS = 12,
+    SNP_CPUID_STATE_BEYOND_TABLE = 13,
+    SNP_CPUID_COMPACT_SIZE_TOO_LARGE = 14,
+    SNP_CPUID_UNKNOWN_EDITION = 15,
+    SNP_CPUID_EDITION_BACK = 16,
+    SNP_CPUID_RESERVED_BYTES = 17,
+    SNP_CPUID_POOL_SETS = 18,
+    SNP_CPUID_POOL_DIFFERS = 19,
+    SNP_CPUID_NOTHING_DECIDES = 20
+};
+
+/* What a number means, in English. */
+static inline const char *snp_cpuid_words(uint32_t number)
+{
+    switch (number) {
+    case SNP_CPUID_ACCEPTED: return "accepted";
+    case SNP_CPUID_PAGES_LENGTH: return "the pages' length is 0 or no multiple of 4096";
+    case SNP_CPUID_PAGE_COUNT: return "a page's count is above 64";
+    case SNP_CPUID_MISSING_REQUIRED_RESULT: return "a required result is missing";
+    case SNP_CPUID_INVLPGB_UNAVAILABLE: return "INVLPGB is unavailable";
+    case SNP_CPUID_SAVE_AREA_OVERFLOW: return "a save area's size does not fit 32 bits";
+    case SNP_CPUID_HYPERTHREADING: return "topology: hyperthreading is inconsistent";
+    case SNP_CPUID_PROCESSOR_COUNT: return "topology: the processor counts are inconsistent";
+    case SNP_CPUID_THREADS_PER_UNIT: return "topology: the threads per unit are inconsistent";
+    case SNP_CPUID_BUFFER_TOO_SHORT: return "the buffer is shorter than what would be written";
+    case SNP_CPUID_LIST_LENGTH: return "the list's length does not fit its count";
+    case SNP_CPUID_LIST_ROWS: return "the list has more than 64 rows for one page";
+    case SNP_CPUID_LIST_WORDS: return "a flag of the list is not 0 or 1, or a word that must be zero is not";
+    case SNP_CPUID_STATE_BEYOND_TABLE: return "XCR0 or XSS is beyond the table";
+    case SNP_CPUID_COMPACT_SIZE_TOO_LARGE: return "the compacted save area's size does not fit 32 bits";
+    case SNP_CPUID_UNKNOWN_EDITION: return "the edition of the AVX rule is neither 1 nor 2";
+    case SNP_CPUID_EDITION_BACK: return "a table cannot go from edition 2 back to 1";
+    case SNP_CPUID_RESERVED_BYTES: return "a reserved byte of an entry is not zero";
+    case SNP_CPUID_POOL_SETS: return "a pool takes 2 to 16 page sets, whose lengths sum to the bytes";
+    case SNP_CPUID_POOL_DIFFERS: return "the pool's servers differ elsewhere than in features";
+    case SNP_CPUID_NOTHING_DECIDES: return "no single bit of the results decides";
+    default: return "no such number";
+    }
+}
+
+static inline struct snp_cpuid_built snp_cpuid_build_into(struct snp_cpuid_table *table, const uint8_t *pages, size_t length,
+                                                          struct snp_cpuid_options options)
+{
+    return snp_cpuid_table_build(pages, length, options.secure_avic, options.edition, table->registers, table->origins);
+}
+
+static inline struct snp_cpuid_found snp_cpuid_find(const struct snp_cpuid_table *table, uint32_t leaf, uint32_t subleaf)
+{
+    return snp_cpuid_table_find(table->registers, table->origins, leaf, true, subleaf, false);
+}
+
+static inline struct snp_cpuid_guest_found snp_cpuid_guest_find(const struct snp_cpuid_table *table, struct snp_cpuid_processor processor,
+                                                                uint32_t leaf, uint32_t subleaf)
+{
+    return snp_cpuid_table_guest_find(table->registers, table->origins, processor.x2apic, processor.xcr0, processor.xss, processor.osxsave, leaf,
+                                      true, subleaf, false);
+}
+
+#endif /* SNP_CPUID_NO_INLINE */
 
 #ifdef __cplusplus
 }

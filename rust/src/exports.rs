@@ -117,6 +117,59 @@ pub struct Pooled {
     pub max_extended_state: u64,
 }
 
+#[repr(C)]
+#[derive(Clone, Copy, Debug, PartialEq, Eq)]
+pub struct Table {
+    pub registers: [u32; 352],
+    pub origins: [u64; 88],
+}
+
+#[repr(C)]
+#[derive(Clone, Copy, Debug, Default, PartialEq, Eq)]
+pub struct Counts {
+    pub row_count: u64,
+    pub max_extended_state: u64,
+}
+
+#[repr(C)]
+#[derive(Clone, Copy, Debug, Default, PartialEq, Eq)]
+pub struct Read {
+    pub is_image: u32,
+    pub row_count: u64,
+    pub max_extended_state: u64,
+}
+
+#[repr(C)]
+#[derive(Clone, Copy, Debug, Default, PartialEq, Eq)]
+pub struct GuestFound {
+    pub number: u32,
+    pub found: u32,
+    pub eax: u32,
+    pub ebx: u32,
+    pub ecx: u32,
+    pub edx: u32,
+    pub origin: u32,
+    pub page: u64,
+    pub entry: u32,
+}
+
+#[repr(C)]
+#[derive(Clone, Copy, Debug, Default, PartialEq, Eq)]
+pub struct State {
+    pub number: u32,
+    pub size: u32,
+}
+
+#[repr(C)]
+#[derive(Clone, Copy, Debug, Default, PartialEq, Eq)]
+pub struct TablesCompared {
+    pub answer: u32,
+    pub leaf: u32,
+    pub has_subleaf: u32,
+    pub subleaf: u32,
+    pub register_index: u32,
+}
+
 unsafe extern "C" {
     pub fn snp_cpuid_build(pages: *const u8, length: usize, secure_avic: bool, edition: u32) -> Built;
     pub fn snp_cpuid_lookup(
@@ -198,4 +251,68 @@ unsafe extern "C" {
     ) -> Written;
     pub fn snp_cpuid_nearest(pages: *const u8, length: usize, secure_avic: bool, edition: u32) -> Nearest;
     pub fn snp_cpuid_write_topologies(out: *mut u8, room: usize) -> Written;
+    pub fn snp_cpuid_table_build(
+        pages: *const u8,
+        length: usize,
+        secure_avic: bool,
+        edition: u32,
+        registers: *mut u32,
+        origins: *mut u64,
+    ) -> Built;
+    pub fn snp_cpuid_table_pool(
+        pages: *const u8,
+        length: usize,
+        lengths: *const u64,
+        servers: usize,
+        secure_avic: bool,
+        edition: u32,
+        registers: *mut u32,
+        origins: *mut u64,
+    ) -> Pooled;
+    pub fn snp_cpuid_table_read_image(image: *const u8, length: usize, registers: *mut u32, origins: *mut u64) -> Read;
+    pub fn snp_cpuid_table_find(
+        registers: *const u32,
+        origins: *const u64,
+        leaf: u32,
+        has_subleaf: bool,
+        subleaf: u32,
+        enforce_subleaf: bool,
+    ) -> Found;
+    pub fn snp_cpuid_table_guest_find(
+        registers: *const u32,
+        origins: *const u64,
+        x2apic: u32,
+        xcr0: u64,
+        xss: u64,
+        osxsave: bool,
+        leaf: u32,
+        has_subleaf: bool,
+        subleaf: u32,
+        enforce_subleaf: bool,
+    ) -> GuestFound;
+    pub fn snp_cpuid_table_state(registers: *const u32, origins: *const u64, xcr0: u64, xss: u64) -> State;
+    pub fn snp_cpuid_table_guest_find_kept(
+        registers: *const u32,
+        origins: *const u64,
+        x2apic: u32,
+        xcr0: u64,
+        xss: u64,
+        osxsave: bool,
+        size: u32,
+        leaf: u32,
+        has_subleaf: bool,
+        subleaf: u32,
+        enforce_subleaf: bool,
+    ) -> Found;
+    pub fn snp_cpuid_table_guest(registers: *mut u32, origins: *mut u64, x2apic: u32, xcr0: u64, xss: u64, osxsave: bool) -> Built;
+    pub fn snp_cpuid_table_write_image(registers: *const u32, origins: *const u64, out: *mut u8, room: usize) -> Written;
+    pub fn snp_cpuid_table_write_kvm(registers: *const u32, origins: *const u64, out: *mut u8, room: usize) -> Written;
+    pub fn snp_cpuid_table_compare(
+        a_registers: *const u32,
+        a_origins: *const u64,
+        b_registers: *const u32,
+        b_origins: *const u64,
+    ) -> TablesCompared;
+    pub fn snp_cpuid_table_counts(registers: *const u32, origins: *const u64) -> Counts;
+    pub fn snp_cpuid_table_carry(registers: *mut u32, origins: *const u64, from: u32, to: u32, xcr0: u64, xss: u64) -> u32;
 }

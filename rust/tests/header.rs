@@ -21,6 +21,10 @@ fn without_comments(c: &str) -> String {
 /// "const uint8_t *pages" is the name "pages" with the type "const uint8_t *".
 fn c_pair(declaration: &str) -> (String, String) {
     let declaration = declaration.trim();
+    let (declaration, count) = match declaration.split_once('[') {
+        Some((plain, rest)) => (plain, Some(rest.trim_end_matches(']'))),
+        None => (declaration, None),
+    };
     let at = declaration.rfind([' ', '*']).expect("a type and a name") + 1;
     let kind = declaration[..at].trim();
     let rust = match kind {
@@ -31,9 +35,13 @@ fn c_pair(declaration: &str) -> (String, String) {
         "const uint8_t *" => "*const u8",
         "const uint64_t *" => "*const u64",
         "uint8_t *" => "*mut u8",
+        "const uint32_t *" => "*const u32",
+        "uint32_t *" => "*mut u32",
+        "uint64_t *" => "*mut u64",
         other => panic!("a type that this test does not know: {other}"),
     };
-    (declaration[at..].to_string(), rust.to_string())
+    let rust = count.map_or(rust.to_string(), |count| format!("[{rust}; {count}]"));
+    (declaration[at..].to_string(), rust)
 }
 
 /// "snp_cpuid_built" is `Built` in Rust, and each further word begins with a capital too.
@@ -44,7 +52,16 @@ fn rust_name(c: &str) -> String {
 
 fn of_header() -> Declarations {
     let text = without_comments(&read("../include/snp_cpuid.h"));
+    // what follows is C alone: structs and inline functions over the declarations before it
+    let text = &text[..text.find("#ifndef SNP_CPUID_NO_INLINE").expect("the inline functions stand last")];
     let mut all = Declarations::new();
+    for part in text.split("\nuint32_t ").skip(1) {
+        let (name, parameters) = part.split_once('(').expect("a function");
+        let parameters = &parameters[..parameters.find(')').expect("a function ends")];
+        let mut pairs: Vec<_> = parameters.split(',').map(c_pair).collect();
+        pairs.push(("returns".into(), "u32".into()));
+        all.insert(name.trim().to_string(), pairs);
+    }
     for part in text.split("struct ").skip(1) {
         let (head, rest) = part.split_at(part.find(['{', '(', ';']).expect("a struct or a function"));
         if let Some(fields) = rest.strip_prefix('{') {
