@@ -1,7 +1,7 @@
 //! An image in the place of pages: what one command writes goes into the next.
 
 use crate::json_text::jq;
-use crate::page_sets::{epyc, rich, set, stated, with};
+use crate::page_sets::{epyc, rich, set, stated, with, without};
 use crate::run::{EPYC, Folder, run, run_on};
 use std::fs;
 
@@ -109,6 +109,44 @@ fn images_compared() {
     }
 }
 
+/// A pool of images is the pool of their servers, and a pool of pools that of all servers.
+#[test]
+fn images_pooled() {
+    let folder = Folder::new("image_pooled");
+    let servers = [epyc(), with(1, 0, 2, |ecx| ecx & !(1 << 12)), with(7, 0, 1, |ebx| ebx & !(1 << 18)), with(0xD, 0, 0, |_| 3)];
+    let pages: Vec<String> = servers.iter().enumerate().map(|(place, entries)| folder.file(&format!("{place}.pages"), set(entries))).collect();
+    let images: Vec<String> = pages.iter().enumerate().map(|(place, pages)| image(&folder, &format!("{place}.image"), pages, &[])).collect();
+    let pooled = |files: &[&String], name: &str| {
+        let out = folder.path(name);
+        let ran = run(&[&["pool"], &files.iter().map(|file| file.as_str()).collect::<Vec<_>>()[..], &["-o", &out]].concat());
+        assert_eq!(ran.status, 0, "{}", ran.err);
+        (out.clone(), fs::read(&out).unwrap(), ran.err)
+    };
+    let all = pooled(&pages.iter().collect::<Vec<_>>(), "all.image");
+    let of_images = pooled(&images.iter().collect::<Vec<_>>(), "of-images.image");
+    assert_eq!((&of_images.1, of_images.2.replace(".image", ".pages")), (&all.1, all.2));
+    let mixed = pooled(&[&pages[0], &images[1], &pages[2], &images[3]], "mixed.image");
+    assert_eq!(mixed.1, all.1);
+    let (left, right) = (pooled(&[&pages[0], &pages[1]], "left.image").0, pooled(&[&pages[2], &pages[3]], "right.image").0);
+    assert_eq!(pooled(&[&left, &right], "pools.image").1, all.1);
+    let origins = run(&["pool", &left, &pages[3], "--origins"]);
+    assert_eq!(origins.text().lines().filter(|line| line.ends_with("  unknown")).count(), 28);
+    // refusals as of pages: 18, a server's own, 19
+    let other = folder.file("other", set(&with(5, 0, 0, |eax| eax + 1)));
+    let refused = folder.file("refused", set(&without(5, 0)));
+    for (files, line) in [
+        (&["pool", &left][..], "the pool: refusal 18: "),
+        (&["pool", &left, &refused, &other], &format!("{refused}: refusal 3: ")),
+        (&["pool", &left, &other], "the pool: refusal 19: "),
+    ] {
+        let ran = run(files);
+        assert!(ran.status == 1 && ran.line().starts_with(line), "{}", ran.err);
+    }
+    assert_eq!(run(&["pool", &left, &other]).notes()[0], format!("{other} differs from {left} in 00000005.EAX (00000041, 00000040)"));
+    assert_eq!(run(&["pool", &left, &right, "--edition", "2"]).status, 2);
+    assert_eq!(run(&["compare", &left, &right, "--edition", "2"]).status, 2);
+}
+
 /// An image of rows that no pages give: only what needs no more than a table is answered.
 #[test]
 fn tables_that_building_does_not_give() {
@@ -126,7 +164,17 @@ fn tables_that_building_does_not_give() {
     let ran = run(&[&["guest", &short], &processor[..]].concat());
     assert!(ran.status == 1 && ran.line().starts_with(&format!("{short}: refusal 3: no entry for leaf 8000001Fh")), "{}", ran.err);
     let ran = run(&[&["guest", &changed], &processor[..]].concat());
-    assert_eq!((ran.status, ran.line()), (1, format!("{changed}: no pages give the table of this image").as_str()));
+    let why = format!("{changed}: no pages give the table of this image");
+    assert_eq!((ran.status, ran.line()), (1, why.as_str()));
+    for arguments in [["compare", &changed, EPYC], ["compare", EPYC, &changed], ["pool", EPYC, &changed], ["pool", &changed, EPYC]] {
+        let ran = run(&arguments);
+        assert_eq!((ran.status, ran.line()), (1, why.as_str()));
+    }
+    for arguments in [["compare", &short, EPYC], ["compare", EPYC, &short], ["pool", EPYC, &short]] {
+        let ran = run(&arguments);
+        assert!(ran.status == 1 && ran.line().starts_with(&format!("{short}: refusal 3: ")), "{}", ran.err);
+        assert_eq!(ran.notes()[0], "no entry for 8000001F");
+    }
 }
 
 #[test]
@@ -146,7 +194,7 @@ fn options_of_pages_are_not_for_an_image() {
 fn commands_that_need_pages_say_so() {
     let folder = Folder::new("image_refused");
     let image = image(&folder, "image", EPYC, &[]);
-    for arguments in [&["nearest", &image][..], &["pool", EPYC, &image]] {
+    for arguments in [&["nearest", &image][..], &["nearest", &image, "--secure-avic"]] {
         let ran = run(arguments);
         assert!(ran.status == 1 && ran.line().starts_with(&format!("{image}: refusal 1: ")), "{}", ran.err);
         assert_eq!(ran.notes(), ["it is the image of a table", "accepted with the pages that it was made of"]);

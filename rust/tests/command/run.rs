@@ -4,6 +4,7 @@ use std::fs;
 use std::io::Write;
 use std::path::{Path, PathBuf};
 use std::process::{Command, Stdio};
+use std::sync::atomic::{AtomicUsize, Ordering};
 
 /// The shipped page set.
 pub const EPYC: &str = "../tests/epyc-milan.pages";
@@ -110,12 +111,14 @@ pub fn run_on(input: &[u8], arguments: &[&str]) -> Ran {
     Ran { status: output.status.code().expect("no signal"), out: output.stdout, err: String::from_utf8(output.stderr).expect("text") }
 }
 
-/// A new empty folder.
+/// A new empty folder, which no other test has.
 pub struct Folder(PathBuf);
 
 impl Folder {
     pub fn new(name: &str) -> Folder {
-        let path = Path::new(env!("CARGO_TARGET_TMPDIR")).join(name);
+        static MADE: AtomicUsize = AtomicUsize::new(0);
+        let number = MADE.fetch_add(1, Ordering::Relaxed);
+        let path = Path::new(env!("CARGO_TARGET_TMPDIR")).join(format!("{name}-{number}"));
         let _ = fs::remove_dir_all(&path);
         fs::create_dir_all(&path).expect("a folder");
         Folder(path)
@@ -136,5 +139,14 @@ impl Folder {
         let mut names: Vec<String> = fs::read_dir(&self.0).expect("read").map(|entry| entry.unwrap().file_name().into_string().unwrap()).collect();
         names.sort();
         names
+    }
+}
+
+/// Leaves nothing behind where the test passed.
+impl Drop for Folder {
+    fn drop(&mut self) {
+        if !std::thread::panicking() {
+            let _ = fs::remove_dir_all(&self.0);
+        }
     }
 }

@@ -130,7 +130,8 @@ fn family_and_model_of_other_processors() {
 
 /// The lines after the rows.
 fn summary(pages: &[u8]) -> String {
-    let file = Folder::new("summary").file("pages", pages);
+    let folder = Folder::new("summary");
+    let file = folder.file("pages", pages);
     let ran = run(&["table", &file]);
     assert_eq!(ran.status, 0, "{}", ran.err);
     ran.text().split_once("\n\n").expect("an empty line").1.to_string()
@@ -169,7 +170,8 @@ fn mask_save_area_and_topology_in_words() {
 
 #[test]
 fn secure_avic_shows_its_bit() {
-    let file = Folder::new("secure_avic").file("pages", set(&rich()));
+    let folder = Folder::new("secure_avic");
+    let file = folder.file("pages", set(&rich()));
     let eax = |arguments: &[&str]| words(run(arguments).text())["8000001F EAX"].clone();
     let without = eax(&["table", &file]);
     assert_eq!(without, "SME SEV PageFlushMsr SEV-ES SEV-SNP VMPL RMPQUERY TscAuxVirtualization");

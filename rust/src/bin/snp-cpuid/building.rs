@@ -99,19 +99,26 @@ impl Building {
         Ok(Source { file: shown(file), pages: bytes, image: table, options: self.options })
     }
 
-    /// The same, where no option was given that an image cannot heed.
+    /// The same of one file, where no option was given that an image cannot heed.
     fn heeding(&self, file: &OsStr) -> Result<Source, Failure> {
-        match self.source(file)? {
-            Source { file, image: Some(_), .. } if self.of_pages => {
-                Err(Failure::Bad(format!("{file} is an image, whose table is made: --edition and --secure-avic are for pages")))
+        let source = self.source(file)?;
+        self.heeded_by(std::slice::from_ref(&source))?;
+        Ok(source)
+    }
+
+    /// Bad usage where an option was given that is for pages, and all files are images.
+    pub fn heeded_by(&self, sources: &[Source]) -> Result<(), Failure> {
+        match sources {
+            [first, ..] if self.of_pages && sources.iter().all(|source| source.image.is_some()) => {
+                Err(Failure::Bad(format!("{} is an image, whose table is made: --edition and --secure-avic are for pages", first.file)))
             }
-            source => Ok(source),
+            _ => Ok(()),
         }
     }
 
     /// The list for KVM of a file.
     pub fn kvm_list(&self, file: &OsStr) -> Result<Vec<u8>, Failure> {
-        let source = self.heeding(file)?.as_pages(self)?;
+        let source = self.heeding(file)?.into_pages(self)?;
         let mut list = vec![0; MOST_KVM_BYTES];
         let written = snp_cpuid::write_kvm(&source.pages, source.options, &mut list);
         list.truncate(written.map_err(|refusal| self.pages_refused(file, refusal, &source.pages))?);
@@ -127,7 +134,7 @@ impl Building {
     /// The table of a file as a processor's guest sees it; as the paravisor has it where no processor is given.
     pub fn seen(&self, file: &OsStr, processor: Option<Processor>) -> Result<Table, Failure> {
         let Some(processor) = processor else { return self.table(file) };
-        let source = self.heeding(file)?.as_pages(self)?;
+        let source = self.heeding(file)?.into_pages(self)?;
         let seen = snp_cpuid::guest(&source.pages, source.options, processor).map_err(|refusal| match source.table() {
             Ok(table) => self.refused(shown(file), refusal, &reasons::of_guest(refusal, &table, processor.xcr0, processor.xss)),
             Err(_) => self.pages_refused(file, refusal, &source.pages),

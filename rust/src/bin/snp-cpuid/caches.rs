@@ -129,7 +129,7 @@ fn four_bits(value: u32) -> String {
     let ways = match value {
         0 => return "off".into(),
         1 => return "direct mapped".into(),
-        2 | 3 | 4 => value,
+        2..=4 => value,
         5 => 6,
         6 => 8,
         8 => 16,

@@ -22,9 +22,8 @@ const OTHERS: [(&str, &str); 4] = [
 
 const TAIL: &str = "
 PAGES is a file of CPUID pages as the SEV-SNP firmware lays them out, 4,096 bytes each, end to end.
-'table', 'lookup', 'guest', 'carry', 'compare', 'to-dump', 'to-kvm' and 'image' take an image too,
-as 'image', 'carry' and 'pool' write it: the table is then the image's, and nobody knows where its
-rows came from.
+All commands but 'nearest' and 'entries' take an image too, as 'image', 'carry' and 'pool' write it:
+the table is then the image's, and nobody knows where its rows came from.
 '-' is standard input, and after -o standard output, but never a terminal. A file of more than 64
 MiB is not read.
 

@@ -280,20 +280,18 @@ pub fn of_pool_size(servers: usize) -> Reason {
     Reason::new(format!("{} given", counted(servers, "page set")), "2 to 16; 'fleet' takes any number")
 }
 
-/// Where servers of a pool differ from the first, by their masked entries: all that 19 rests on. Their tables are all there.
-pub fn of_pool(names: &[String], sets: &[Vec<u8>], tables: &[Table], secure_avic: bool) -> Reason {
-    let standings: Vec<Standing> = sets.iter().map(|pages| Standing::of(pages)).collect();
-    // rows that all tables have; 0, 80000000 and leaf Bh are made here
-    let shared: Vec<_> = required()
-        .chain((2..64).map(|k| (0xD, Some(k))))
-        .filter(|(leaf, subleaf)| *leaf != 0xB && tables.iter().all(|t| t.find(*leaf, *subleaf).is_some()))
-        .collect();
+/// Where servers of a pool differ from the first, by their masked entries: all that 19 rests on. Each is a name, its entries and its table.
+pub fn of_pool(servers: &[(&str, Standing, Table)], secure_avic: bool) -> Reason {
+    let in_all = |(leaf, subleaf): &(u32, Option<u32>)| servers.iter().all(|(_, _, table)| table.find(*leaf, *subleaf).is_some());
+    // 0, 80000000 and leaf Bh are made here
+    let shared: Vec<_> = required().chain((2..64).map(|k| (0xD, Some(k)))).filter(|row| row.0 != 0xB && in_all(row)).collect();
     let mut told = vec![];
-    for (server, standing) in standings.iter().enumerate().skip(1) {
-        let at = shared.iter().flat_map(|(leaf, subleaf)| unlike(&standings[0], standing, *leaf, *subleaf, secure_avic));
-        let at: Vec<String> = at.collect();
-        if !at.is_empty() {
-            told.push(format!("{} differs from {} in {}", names[server], names[0], at.join(", ")));
+    if let Some(((first, own, _), others)) = servers.split_first() {
+        for (name, standing, _) in others {
+            let at: Vec<String> = shared.iter().flat_map(|(leaf, subleaf)| unlike(own, standing, *leaf, *subleaf, secure_avic)).collect();
+            if !at.is_empty() {
+                told.push(format!("{name} differs from {first} in {}", at.join(", ")));
+            }
         }
     }
     Reason::new(told.join("; "), "the same values there, or without the servers that differ")

@@ -4,7 +4,7 @@ use crate::building::Building;
 use crate::failure::Failure;
 use crate::pages::{Entry, two_pages};
 use crate::{reasons, words};
-use snp_cpuid::{Comparison, Options, PAGE_BYTES, Refusal, Table, build, compare};
+use snp_cpuid::{Comparison, NotPooled, Options, PAGE_BYTES, Refusal, Table, build, compare, pool};
 
 /// The options that change nothing in pages of a table's rows: they keep the secure-AVIC bit where it is set, and clear no more than the table did.
 const MADE: Options = Options::new().secure_avic(true);
@@ -33,7 +33,7 @@ impl Source {
     }
 
     /// Pages in the place of an image, where the library makes the image's table of them.
-    pub fn as_pages(self, building: &Building) -> Result<Source, Failure> {
+    pub fn into_pages(self, building: &Building) -> Result<Source, Failure> {
         let Some(table) = &self.image else { return Ok(self) };
         let pages = pages_of(table);
         match build(&pages, MADE) {
@@ -48,6 +48,12 @@ impl Source {
 fn pages_of(table: &Table) -> Vec<u8> {
     let entry = |row: snp_cpuid::Row| Entry { leaf: row.leaf, subleaf: row.subleaf.unwrap_or(0), registers: words::registers(&row) };
     two_pages(&table.rows().map(entry).collect::<Vec<_>>()).expect("a table has at most 32 rows")
+}
+
+/// The pool of tables, by pages that have their rows. An image among them does not say where its rows came from, so nobody knows of the pool's.
+pub fn pool_tables(tables: &[Table]) -> Result<Table, NotPooled> {
+    let pooled = pool(&tables.iter().map(pages_of).collect::<Vec<_>>(), MADE)?;
+    Ok(Table::try_from(pooled.image()).expect("a pool's table has an image"))
 }
 
 /// Whether one table is at least another: whether a guest of pages that have the rows of the first may move to pages that have those of the second.

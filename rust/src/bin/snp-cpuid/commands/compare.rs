@@ -9,7 +9,7 @@ use crate::features::{self, REGISTERS};
 use crate::json::{self, Json, array, hex, object};
 use crate::masks::kept;
 use crate::print::{place, place_json};
-use crate::source::compare_tables;
+use crate::source::{Source, compare_tables};
 use crate::standing::Standing;
 use crate::wrap::wrapped;
 use crate::{output, words};
@@ -39,7 +39,7 @@ impl Server {
             }
             Err(refusal) => told(*refusal),
         };
-        wrapped(&format!("{}  ", self.name), &format!("{}: {answer}", self.file))
+        format!("{}  {}: {answer}\n", self.name, self.file)
     }
 
     fn json(&self, building: Building) -> Json {
@@ -84,12 +84,15 @@ fn run(arguments: &Arguments) -> Result<(), Failure> {
         return Err(Failure::usage(COMMAND.name, "A and B cannot both be standard input"));
     }
     let building = Building::of(arguments, COMMAND.name)?;
-    let server = |name, place: usize| {
-        let source = building.source(&arguments.operands[place])?;
+    let server = |name, source: Source| {
         let (table, standing) = (source.table(), Standing::of(&source.pages));
-        Ok(Server { name, file: source.file, is_image: source.image.is_some(), pages: source.pages, standing, table })
+        Server { name, file: source.file, is_image: source.image.is_some(), pages: source.pages, standing, table }
     };
-    let (a, b): (Server, Server) = (server("A", 0)?, server("B", 1)?);
+    let source = |place: usize| building.source(&arguments.operands[place])?.into_pages(&building);
+    let sources = [source(0)?, source(1)?];
+    building.heeded_by(&sources)?;
+    let [a, b] = sources;
+    let (a, b) = (server("A", a), server("B", b));
     let tables = match (&a.table, &b.table) {
         (Ok(from), Ok(to)) => Some(compare_tables(from, to)),
         _ => None,

@@ -53,7 +53,7 @@ fn run(arguments: &Arguments) -> Result<(), Failure> {
     if to_output && building.json() {
         return Err(Failure::usage(COMMAND.name, "--html - and --json both go to standard output"));
     }
-    let sources = source::sources(&arguments.operands, &building)?;
+    let sources = source::sources(&arguments.operands)?;
     let fleet = Fleet::of(sources, building);
     match arguments.value(HTML.name()) {
         Some(file) if !to_output => output::to_file(file, page::of(&fleet).as_bytes())?,

@@ -6,16 +6,21 @@ use crate::command::Command;
 use crate::failure::Failure;
 use crate::features::{FEATURES, FeatureBit, FeatureRegister, REGISTERS};
 use crate::fleet::bits::value;
-use crate::input::{read, shown};
 use crate::json::{self, Json, array, object};
 use crate::option::Opt;
 use crate::output;
 use crate::print::{self, Form, bit_json};
 use crate::reasons::{self, Reason};
+use crate::source::{Source, pool_tables};
+use crate::standing::Standing;
 use snp_cpuid::{NotPooled, Refusal, Table};
 use std::collections::BTreeMap;
+use std::ops::RangeInclusive;
 
 const IMAGE: Opt = output::file_or_standard_output("IMAGE");
+
+/// How many servers make a pool.
+const POOL: RangeInclusive<usize> = 2..=16;
 
 pub const COMMAND: Command = Command {
     name: "pool",
@@ -27,7 +32,8 @@ Makes one table of the page sets of 2 to 16 servers, for a guest that moves betw
 bit or an extended state is in it where every server's table has it, the save area is that of the
 states that are left, and all else is the first server's. With -o the table is written as bytes, in
 the form of 'image'; without, it is printed as by 'table', and --origins says where a row stands in
-the first server's pages.
+the first server's pages. PAGES may be an image too, also that of another pool: then the tables are
+pooled, and nobody knows where the pool's rows came from.
 
 Notes on standard error say which feature bits each server cost the pool: those that the tables of
 all other servers have and its own has not. A bit that more than one server lacks is no single
@@ -49,10 +55,11 @@ fn run(arguments: &Arguments) -> Result<(), Failure> {
     }
     output::json_apart(arguments, COMMAND.name)?;
     let building = Building::of(arguments, COMMAND.name)?;
-    let sets = files.iter().map(|file| read(file)).collect::<Result<Vec<_>, _>>()?;
-    let names: Vec<String> = files.iter().map(|file| shown(file)).collect();
-    let table = building.pool(&sets).map_err(|not| refused(building, &names, &sets, not))?;
-    let tables: Vec<Table> = sets.iter().map(|pages| building.build(pages).expect("a pool's servers are accepted")).collect();
+    let sources = files.iter().map(|file| building.source(file)?.into_pages(&building)).collect::<Result<Vec<_>, _>>()?;
+    building.heeded_by(&sources)?;
+    let table = pooled(building, &sources)?;
+    let tables: Vec<Table> = sources.iter().map(|source| source.table().expect("a pool's servers are accepted")).collect();
+    let names = sources.into_iter().map(|source| source.file).collect();
     let servers = Servers { names, tables };
     if arguments.has(&IMAGE) {
         output::write(arguments, table.image())?;
@@ -68,19 +75,34 @@ fn run(arguments: &Arguments) -> Result<(), Failure> {
     Ok(())
 }
 
+/// The table of the pool: of the servers' pages, or, where one of them is an image, of pages that have the rows of their tables.
+fn pooled(building: Building, sources: &[Source]) -> Result<Table, Failure> {
+    let refused = |not: NotPooled| refused(building, sources, not);
+    if sources.iter().all(|source| source.image.is_none()) {
+        return building.pool(&sources.iter().map(|source| &source.pages).collect::<Vec<_>>()).map_err(refused);
+    }
+    if !POOL.contains(&sources.len()) {
+        return Err(refused(NotPooled { refusal: Refusal::PoolSets, server: None }));
+    }
+    let own = |(server, source): (usize, &Source)| source.table().map_err(|refusal| refused(NotPooled { refusal, server: Some(server) }));
+    let tables = sources.iter().enumerate().map(own).collect::<Result<Vec<_>, _>>()?;
+    pool_tables(&tables).map_err(refused)
+}
+
 /// A server's own refusal under its name, or the pool's.
-fn refused(building: Building, names: &[String], sets: &[Vec<u8>], NotPooled { refusal, server }: NotPooled) -> Failure {
-    match (server, refusal) {
-        (Some(server), _) => building.refused(&names[server], refusal, &building.reason(refusal, &sets[server])),
-        (None, Refusal::PoolSets) => building.refused("the pool", refusal, &reasons::of_pool_size(sets.len())),
-        (None, _) => building.refused("the pool", refusal, &unlike(building, names, sets)),
+fn refused(building: Building, sources: &[Source], NotPooled { refusal, server }: NotPooled) -> Failure {
+    match (server.map(|server| &sources[server]), refusal) {
+        (Some(source), _) => building.refused(&source.file, refusal, &building.reason(refusal, &source.pages)),
+        (None, Refusal::PoolSets) => building.refused("the pool", refusal, &reasons::of_pool_size(sources.len())),
+        (None, _) => building.refused("the pool", refusal, &unlike(building, sources)),
     }
 }
 
 /// Where the servers of a pool that is refused by 19 differ from the first.
-fn unlike(building: Building, names: &[String], sets: &[Vec<u8>]) -> Reason {
-    let tables: Vec<Table> = sets.iter().filter_map(|pages| building.build(pages).ok()).collect();
-    reasons::of_pool(names, sets, &tables, building.secure_avic())
+fn unlike(building: Building, sources: &[Source]) -> Reason {
+    let servers: Vec<(&str, Standing, Table)> =
+        sources.iter().filter_map(|source| Some((source.file.as_str(), Standing::of(&source.pages), source.table().ok()?))).collect();
+    reasons::of_pool(&servers, building.secure_avic())
 }
 
 /// The servers of a pool.

@@ -31,7 +31,7 @@ pub fn together(servers: &[Server], building: &Building) -> Vec<Refused> {
     for (place, server) in servers.iter().enumerate() {
         let told = match &server.answer {
             Answer::Class(_) => continue,
-            Answer::Refused(refusal) => told(*refusal, server.pages(), building),
+            Answer::Refused(refusal) => told(*refusal, server.pages().unwrap_or_default(), building),
             Answer::Unread(why) => Told { number: 0, words: why.clone(), numbers: String::new(), change: String::new() },
         };
         reasons.entry(told).or_default().push(place);
