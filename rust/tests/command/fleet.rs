@@ -230,8 +230,19 @@ fn a_pool_of_twenty_classes() {
             assert_eq!(read, expected, "{filter}");
         }
     }
+    // as it is told: sixteen, then the image of these with the others
+    let (first, rest): (Vec<_>, Vec<_>) =
+        folder.names().into_iter().map(|name| folder.path(&name)).partition(|path| path.as_str() < folder.path("16").as_str());
+    assert_eq!((first.len(), rest.len()), (16, 4));
+    let out = Folder::new("fleet_twenty_images");
+    let pooled = |files: &[String], image: &str| {
+        assert_eq!(run(&[&["pool".to_string()], files, &["-o".to_string(), out.path(image)]].concat()).status, 0);
+        out.path(image)
+    };
+    let image = pooled(&[vec![pooled(&first, "first")], rest].concat(), "second");
     // a server with just what all have is below them all, and costs nothing more
-    folder.file("20.pages", set(&all));
+    let least = folder.file("20.pages", set(&all));
+    assert_eq!(fs::read(image).unwrap(), run(&["image", &least, "-o", "-"]).out);
     assert!(run(&["fleet", &path]).text().contains("   A21   to A1, A2, A3, A4, A5, A6, A7, A8 and 12 more\n"));
     if let Some(read) = found(&path, "[.pools[] | (.classes | length), ([.lost[] | .lacking | length] | unique), .costs[20].gives_up]") {
         assert_eq!(read, "[21,[2],0]");

@@ -244,7 +244,7 @@ fn pooled(fleet: &Fleet, pool: &Pool) -> String {
 
 /// How a pool of more than 16 classes is made.
 pub fn larger() -> String {
-    format!("made class by class: the library pools {AT_ONCE} servers at once, and the table so far stands for those it has")
+    format!("'pool' takes {AT_ONCE} at once: pool {AT_ONCE} of the classes, then the image of that with {} more, and so on", AT_ONCE - 1)
 }
 
 fn features(fleet: &Fleet) -> String {
