@@ -36,6 +36,9 @@ pub struct Server {
     pub answer: Answer,
 }
 
+/// Tables, each with the places of the servers that give it.
+type Tables = Vec<(Vec<usize>, Table)>;
+
 /// Servers that give one table: the same rows and the same combined mask.
 pub struct Class {
     /// the letter of its group, and its number there
@@ -88,8 +91,9 @@ impl Server {
 
 /// The tables that there are, each with its servers, and what came of the others. Equal images are equal tables
 /// (crates/images/specs/Images.antt, `EqualImages`).
-fn built(sources: &[Source], building: &Building) -> (Vec<(Vec<usize>, Table)>, Vec<Answer>) {
-    let (mut tables, mut places): (Vec<(Vec<usize>, Table)>, HashMap<Vec<u8>, usize>) = Default::default();
+fn built(sources: &[Source], building: &Building) -> (Tables, Vec<Answer>) {
+    let mut tables = Tables::new();
+    let mut places: HashMap<Vec<u8>, usize> = HashMap::new();
     let mut answers = vec![];
     for (server, source) in sources.iter().enumerate() {
         let table = match &source.given {

@@ -105,7 +105,7 @@ fn short_names(files: &[String]) -> Vec<String> {
 fn kind(bytes: &[u8]) -> Kind {
     if !bytes.is_empty() && !bytes.contains(&0) {
         Kind::Dump
-    } else if bytes.len().is_multiple_of(PAGE_BYTES) {
+    } else if bytes.len() % PAGE_BYTES == 0 {
         Kind::Pages
     } else if image(bytes).is_some() {
         Kind::Image

@@ -167,7 +167,8 @@ fn told(way: &Way) -> String {
 /// The classes of the group to which a guest may not go, by what is in the way.
 pub fn blocked(fleet: &Fleet, class: usize) -> Vec<(Way, Vec<String>)> {
     let rises = fleet.moves.rises[class].as_deref().unwrap_or_default();
-    let (mut reasons, mut places): (Vec<(Way, Vec<String>)>, HashMap<String, usize>) = Default::default();
+    let mut reasons: Vec<(Way, Vec<String>)> = vec![];
+    let mut places: HashMap<String, usize> = HashMap::new();
     for other in fleet.groups[fleet.classes[class].group].classes.clone().filter(|other| *other != class && !rises.contains(other)) {
         let way = Way::of(&fleet.classes[class].table, &fleet.classes[other].table);
         let place = *places.entry(told(&way)).or_insert(reasons.len());
