@@ -4,10 +4,17 @@ use crate::debian;
 use crate::run::{Folder, finish, run, run_on};
 use std::process::Command;
 
-/// Runs a command on processor 0 alone (util-linux's taskset).
+/// The first processor that this process may run on.
+fn first_processor() -> String {
+    let status = std::fs::read_to_string("/proc/self/status").expect("Linux");
+    let list = status.lines().find_map(|line| line.strip_prefix("Cpus_allowed_list:")).expect("a list of processors");
+    list.trim().split(['-', ',']).next().expect("a processor").to_string()
+}
+
+/// Runs a command on that processor alone (util-linux's taskset).
 fn on_first_processor(program: &str, arguments: &[&str]) -> Command {
     let mut command = Command::new("taskset");
-    command.args(["-c", "0", program]).args(arguments);
+    command.args(["-c", &first_processor(), program]).args(arguments);
     command
 }
 
@@ -21,7 +28,7 @@ fn what_the_processor_reports_is_what_debians_cpuid_reads() {
     let (own, dumped) = (folder.path("own"), folder.path("dumped"));
     let ran = finish(&mut on_first_processor(env!("CARGO_BIN_EXE_snp-cpuid"), &["capture", "-o", &own]));
     assert_eq!(ran.status, 0, "{}", ran.err);
-    assert!(ran.err.contains(" rows of processor 0, \""), "{}", ran.err);
+    assert!(ran.err.contains(&format!(" rows of processor {}, \"", first_processor())), "{}", ran.err);
     // -i: by the instruction
     let dump = on_first_processor("cpuid", &["-1", "-r", "-i"]).output().expect("cpuid runs");
     assert!(dump.status.success());

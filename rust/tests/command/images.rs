@@ -166,6 +166,9 @@ fn tables_that_building_does_not_give() {
     let ran = run(&[&["guest", &changed], &processor[..]].concat());
     let why = format!("{changed}: no pages give the table of this image");
     assert_eq!((ran.status, ran.line()), (1, why.as_str()));
+    if let Some(read) = jq(&run(&["compare", &changed, EPYC, "--json"]).out, "[.answer, .file, .words]") {
+        assert_eq!(read, format!("[\"no\",\"{changed}\",\"no pages give the table of this image\"]"));
+    }
     for arguments in [["compare", &changed, EPYC], ["compare", EPYC, &changed], ["pool", EPYC, &changed], ["pool", &changed, EPYC]] {
         let ran = run(&arguments);
         assert_eq!((ran.status, ran.line()), (1, why.as_str()));
@@ -197,7 +200,7 @@ fn commands_that_need_pages_say_so() {
     for arguments in [&["nearest", &image][..], &["nearest", &image, "--secure-avic"]] {
         let ran = run(arguments);
         assert!(ran.status == 1 && ran.line().starts_with(&format!("{image}: refusal 1: ")), "{}", ran.err);
-        assert_eq!(ran.notes(), ["it is the image of a table", "accepted with the pages that it was made of"]);
+        assert_eq!(ran.notes(), ["it is the image of a table", "needs the pages that it was made of"]);
     }
     let bytes = fs::read(&image).unwrap();
     let neither = folder.file("neither", &bytes[1..]);

@@ -5,20 +5,23 @@ use crate::differences::HTT;
 use crate::features::{self, EAX, EBX, ECX, REGISTERS};
 use crate::json::{self, Json, array, object};
 use crate::masks::required;
+use crate::pages::PAGE_ENTRIES;
 use crate::print::place as row_name;
 use crate::source::image;
-use crate::standing::{Place, Standing, word};
+use crate::standing::{Place, Standing, start, word};
 use crate::topology::{self, Numbers};
-use snp_cpuid::{Refusal, Table, TopologyError};
+use snp_cpuid::{Options, Refusal, Table, TopologyError};
 
 /// The numbers behind a refusal, and what would be accepted.
 #[derive(Default)]
 pub struct Reason {
     /// the numbers, in words
     pub numbers: String,
-    /// what would be accepted, in words; empty where nothing is to be said
+    /// what is wanted, in words: without it there is no other answer, and with it another refusal may come
+    pub needs: String,
+    /// the change with which the library accepts the pages, in words; empty where none was found
     pub change: String,
-    /// registers of first entries with which the pages get beyond this refusal
+    /// the registers of first entries that are to be changed
     pub registers: Vec<Register>,
     /// the rows that the pages have no entry for
     pub missing: Vec<(u32, Option<u32>)>,
@@ -32,15 +35,36 @@ pub struct Register {
     pub value: u32,
 }
 
+impl Register {
+    fn place(&self) -> (u32, Option<u32>, usize) {
+        (self.leaf, self.subleaf, self.register)
+    }
+
+    /// Writes its value into the first entry of its row.
+    fn put(&self, standing: &Standing, pages: &mut [u8]) {
+        if let Some(place) = standing.first(self.leaf, self.subleaf) {
+            let at = place.page * snp_cpuid::PAGE_BYTES + start(place.entry) + 24 + 4 * self.register;
+            pages[at..at + 4].copy_from_slice(&self.value.to_le_bytes());
+        }
+    }
+}
+
 impl Reason {
-    fn new(numbers: String, change: impl Into<String>) -> Reason {
-        Reason { numbers, change: change.into(), ..Reason::default() }
+    fn new(numbers: String, needs: impl Into<String>) -> Reason {
+        Reason { numbers, needs: needs.into(), ..Reason::default() }
+    }
+
+    /// One that registers of first entries mend.
+    fn of_registers(numbers: String, registers: Vec<Register>) -> Reason {
+        Reason { numbers, registers, ..Reason::default() }
     }
 
     /// The notes after a refusal's line.
     pub fn notes(&self) -> Vec<String> {
-        let change = if self.change.is_empty() { String::new() } else { format!("accepted with {}", self.change) };
-        [self.numbers.clone(), change].into_iter().filter(|note| !note.is_empty()).collect()
+        let otherwise = if self.needs.is_empty() { "" } else { "or " };
+        let accepted = format!("{otherwise}accepted with ");
+        let notes = [("", &self.numbers), ("needs ", &self.needs), (accepted.as_str(), &self.change)];
+        notes.into_iter().filter(|(_, words)| !words.is_empty()).map(|(start, words)| format!("{start}{words}")).collect()
     }
 
     /// Its members of a refusal's object.
@@ -52,6 +76,7 @@ impl Reason {
         let missing = |(leaf, subleaf): &(u32, Option<u32>)| object([("leaf", json::hex(*leaf)), ("subleaf", (*subleaf).into())]);
         vec![
             ("numbers", self.numbers.as_str().into()),
+            ("needs", self.needs.as_str().into()),
             ("change", self.change.as_str().into()),
             ("registers", array(self.registers.iter().map(register))),
             ("missing", array(self.missing.iter().map(missing))),
@@ -61,19 +86,75 @@ impl Reason {
 
 /// Why building refused pages: 1 to 8 and 17. Nothing where the refusal is not the pages'.
 pub fn of_pages(refusal: Refusal, pages: &[u8]) -> Reason {
-    let standing = Standing::of(pages);
     match refusal {
         Refusal::PagesLength if image(pages).is_some() => Reason::new("it is the image of a table".into(), "the pages that it was made of"),
         Refusal::PagesLength => length(pages.len()),
-        Refusal::PageCount => count(&standing),
-        Refusal::ReservedBytes { .. } => reserved(&standing),
-        Refusal::MissingRequiredResult(..) => missing(&standing),
-        Refusal::InvlpgbUnavailable => invlpgb(&standing),
-        Refusal::SaveAreaOverflow => overflow(&standing),
-        Refusal::TopologyInconsistent(why) => topology(why, &standing),
-        Refusal::NothingDecides => missing(&standing),
+        Refusal::ReservedBytes { .. } => tried(reserved(&Standing::of(pages)), &without_reserved(pages), Some("zeros in those bytes")),
+        _ => tried(of_entries(refusal, &Standing::of(pages)), pages, None),
+    }
+}
+
+/// Why building refused these entries.
+fn of_entries(refusal: Refusal, standing: &Standing) -> Reason {
+    match refusal {
+        Refusal::PageCount => count(standing),
+        Refusal::MissingRequiredResult(..) => missing(standing),
+        Refusal::InvlpgbUnavailable => invlpgb(standing),
+        Refusal::SaveAreaOverflow => overflow(standing),
+        Refusal::TopologyInconsistent(why) => topology(why, standing),
+        Refusal::NothingDecides => missing(standing),
         _ => Reason::default(),
     }
+}
+
+/// Makes the change that a reason names in a copy of the pages and asks the library again, and so on with what the next refusal names, until the
+/// pages are accepted or there is nothing to change. `first` is what was changed already, in words.
+fn tried(mut reason: Reason, pages: &[u8], first: Option<&str>) -> Reason {
+    let (mut pages, mut done, mut next) = (pages.to_vec(), vec![], std::mem::take(&mut reason.registers));
+    if next.is_empty() && first.is_none() {
+        return reason;
+    }
+    // at most four refusals can follow one another: 3 for a state, 5, one of 6 and 7, 4
+    let answer = (0..8).find_map(|_| {
+        let standing = Standing::of(&pages);
+        for register in next.drain(..) {
+            register.put(&standing, &mut pages);
+            done.retain(|old: &Register| old.place() != register.place());
+            done.push(register);
+        }
+        let refusal = snp_cpuid::build(&pages, Options::new()).err();
+        next = refusal.map_or(vec![], |refusal| of_entries(refusal, &Standing::of(&pages)).registers);
+        next.is_empty().then_some(refusal)
+    });
+    let told = changed(first, &done, &Standing::of(&pages));
+    match answer.flatten() {
+        None => reason.change = told,
+        Some(refusal) => reason.needs = format!("{told}; then comes refusal {}: {refusal}", refusal.number()),
+    }
+    reason.registers = done;
+    reason
+}
+
+/// A change in words, with what its figures mean.
+fn changed(first: Option<&str>, registers: &[Register], after: &Standing) -> String {
+    let register = |r: &Register| match (r.leaf, r.register) {
+        (0x8000_0008, EBX) => format!("{} (only a server that has INVLPGB may say so)", value_told(r)),
+        _ => value_told(r),
+    };
+    let text = first.map(String::from).into_iter().chain(registers.iter().map(register)).collect::<Vec<_>>().join(" and ");
+    match registers.iter().any(|r| topology::is_of(r.leaf, r.register)) {
+        true => format!("{text} ({})", Numbers::of(|leaf| after.masked(leaf, None)).told()),
+        false => text,
+    }
+}
+
+/// The pages with zeros in the reserved bytes of all entries.
+fn without_reserved(pages: &[u8]) -> Vec<u8> {
+    let mut copy = pages.to_vec();
+    for page in copy.chunks_exact_mut(snp_cpuid::PAGE_BYTES) {
+        (0..PAGE_ENTRIES).for_each(|entry| page[start(entry) + 40..start(entry) + 48].fill(0));
+    }
+    copy
 }
 
 /// Why an edition of the AVX rule is refused.
@@ -100,7 +181,7 @@ fn reserved(standing: &Standing) -> Reason {
     let unclean: Vec<&Place> = standing.places.iter().filter(|place| place.below_count && place.reserved != [0; 8]).collect();
     let told = |place: &&Place| format!("{} (leaf {}) has {}", place.name(), row_name(place.leaf, None), hex_bytes(&place.reserved));
     let whose = if unclean.len() == 1 { "its" } else { "their" };
-    Reason::new(format!("{} in {whose} last eight bytes", few(unclean.iter().map(told).collect())), "zeros in those bytes")
+    Reason::of_registers(format!("{} in {whose} last eight bytes", few(unclean.iter().map(told).collect())), vec![])
 }
 
 /// The first of a list that may be long, and how many more there are.
@@ -145,8 +226,6 @@ fn missing(standing: &Standing) -> Reason {
     if always.is_empty() {
         let without = missing.iter().filter_map(|(_, subleaf)| *subleaf).fold(0, |bits, k| bits | 1 << k);
         reason.registers = wanted.without(without, standing);
-        let told: Vec<String> = reason.registers.iter().map(value_told).collect();
-        reason.change += &format!("; or with {}", told.join(" and "));
     }
     reason.missing = missing;
     reason
@@ -201,8 +280,7 @@ fn invlpgb(standing: &Standing) -> Reason {
     let leaf = 0x8000_0008;
     let old = standing.first(leaf, None).map_or(0, |place| place.registers[EBX]);
     let register = Register { leaf, subleaf: None, register: EBX, value: old | 8 };
-    let change = format!("{}, which only a server that has INVLPGB may say", value_told(&register));
-    Reason { registers: vec![register], ..Reason::new(format!("{}: its bit 3 is clear", standing_at(standing, leaf, None, EBX)), change) }
+    Reason::of_registers(format!("{}: its bit 3 is clear", standing_at(standing, leaf, None, EBX)), vec![register])
 }
 
 fn overflow(standing: &Standing) -> Reason {
@@ -217,8 +295,7 @@ fn overflow(standing: &Standing) -> Reason {
             registers.push(Register { leaf: 0xD, subleaf: Some(k), register: EAX, value: u32::MAX - offset });
         }
     }
-    let told: Vec<String> = registers.iter().map(|r| format!("{} or less", value_told(r))).collect();
-    Reason { registers, ..Reason::new(numbers.join("; "), told.join(" and ")) }
+    Reason::of_registers(numbers.join("; "), registers)
 }
 
 /// The five numbers of the topology in the masked first entries, and the nearest that are accepted.
@@ -232,10 +309,7 @@ fn topology(why: TopologyError, standing: &Standing) -> Reason {
         .filter(|r| standing.first(r.leaf, None).is_some_and(|place| place.registers[r.register] != r.value))
         .collect();
     let told: Vec<String> = topology::read_by(why, numbers).iter().map(|(leaf, register)| standing_at(standing, *leaf, None, *register)).collect();
-    let told = told.join(", ");
-    let change = registers.iter().map(value_told).collect::<Vec<_>>().join(" and ");
-    let change = format!("{change} ({})", numbers.accepted().told());
-    Reason { registers, ..Reason::new(format!("{}: {told}", topology::why(why, numbers)), change) }
+    Reason::of_registers(format!("{}: {}", topology::why(why, numbers), told.join(", ")), registers)
 }
 
 /// Why a guest is refused: 13 and 14, of a processor with these states.
@@ -277,7 +351,7 @@ pub fn of_edition_back() -> Reason {
 
 /// Why a pool of so many servers is refused.
 pub fn of_pool_size(servers: usize) -> Reason {
-    Reason::new(format!("{} given", counted(servers, "page set")), "2 to 16; 'fleet' takes any number")
+    Reason::new(format!("{} given", counted(servers, "page set")), "2 to 16")
 }
 
 /// Where servers of a pool differ from the first, by their masked entries: all that 19 rests on. Each is a name, its entries and its table.
@@ -294,7 +368,7 @@ pub fn of_pool(servers: &[(&str, Standing, Table)], secure_avic: bool) -> Reason
             }
         }
     }
-    Reason::new(told.join("; "), "the same values there, or without the servers that differ")
+    Reason::new(told.join("; "), "the same values there, or a pool without the servers that differ")
 }
 
 /// The registers of a row in which two servers differ where they must not.

@@ -2,8 +2,9 @@
 
 use crate::building::Building;
 use crate::failure::Failure;
+use crate::json::object;
 use crate::pages::{Entry, two_pages};
-use crate::{reasons, words};
+use crate::{output, reasons, words};
 use snp_cpuid::{Comparison, NotPooled, Options, PAGE_BYTES, Refusal, Table, build, compare, pool};
 
 /// The options that change nothing in pages of a table's rows: they keep the secure-AVIC bit where it is set, and clear no more than the table did.
@@ -38,7 +39,12 @@ impl Source {
         let pages = pages_of(table);
         match build(&pages, MADE) {
             Ok(again) if again == *table => Ok(Source { pages, options: MADE, ..self }),
-            Ok(_) => Err(Failure::No { line: format!("{}: no pages give the table of this image", self.file), notes: vec![] }),
+            Ok(_) => {
+                let words = "no pages give the table of this image";
+                let answer = object([("answer", "no".into()), ("file", self.file.as_str().into()), ("words", words.into())]);
+                let printed = if building.json() { output::print(answer.to_string()) } else { Ok(()) };
+                printed.and(Err(Failure::No { line: format!("{}: {words}", self.file), notes: vec![] }))
+            }
             Err(refusal) => Err(building.refused(&self.file, refusal, &reasons::of_pages(refusal, &pages))),
         }
     }

@@ -278,17 +278,12 @@ fn refused(fleet: &Fleet) -> String {
     let told = |refused: &Refused| {
         let names = wrapped("   ", &folded(&server_names(fleet, &refused.servers)));
         let number = if refused.told.number == 0 { "not read: ".into() } else { format!("refusal {}: ", refused.told.number) };
-        let lines = [number + &refused.told.words, refused.told.numbers.clone(), accepted_with(&refused.told.change)];
-        names + &lines.iter().filter(|line| !line.is_empty()).map(|line| wrapped("      ", line)).collect::<String>()
+        let lines = [number + &refused.told.words].into_iter().chain(refused.told.notes.iter().cloned());
+        names + &lines.map(|line| wrapped("      ", &line)).collect::<String>()
     };
     let more: usize = fleet.refused.iter().skip(CLASSES).map(|refused| refused.servers.len()).sum();
     let more = if more == 0 { String::new() } else { format!("   and {} more, which --json has\n", many(more, "server")) };
     "Refused\n".to_string() + &fleet.refused.iter().take(CLASSES).map(told).collect::<String>() + &more
-}
-
-/// What would be accepted, as a sentence's part.
-pub fn accepted_with(change: &str) -> String {
-    if change.is_empty() { String::new() } else { format!("accepted with {change}") }
 }
 
 /// What the comparison of pages says beyond the tables.
@@ -317,5 +312,5 @@ fn notes(fleet: &Fleet) -> String {
 }
 
 /// Why there are notes.
-pub const NOTE: &str = "Note: the tables allow these moves, and a guest sees no difference. 'compare' looks at the pages too, before the other \
-                        server is built, and does not promise them:";
+pub const NOTE: &str = "Note: the tables allow these moves, and a guest sees no difference. By the entries of the pages, before the other server is \
+                        built, they are not promised; 'compare' says more:";
