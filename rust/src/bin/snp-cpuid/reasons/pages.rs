@@ -1,88 +1,15 @@
-//! Why something was refused: the numbers that the refusal rests on, and what change would be accepted. The refusal itself is the library's.
+//! Why building refused pages, and a change with which it accepts them: 1 to 8 and 17.
 
+use super::{Reason, Register, counted, few, hex_bytes};
 use crate::components;
-use crate::differences::HTT;
-use crate::features::{self, EAX, EBX, ECX, REGISTERS};
-use crate::json::{self, Json, array, object};
+use crate::features::{EAX, EBX, ECX, REGISTERS};
 use crate::masks::required;
 use crate::pages::PAGE_ENTRIES;
 use crate::print::place as row_name;
 use crate::source::image;
-use crate::standing::{Place, Standing, start, word};
+use crate::standing::{Place, Standing, start};
 use crate::topology::{self, Numbers};
-use snp_cpuid::{Options, Refusal, Table, TopologyError};
-
-/// The numbers behind a refusal, and what would be accepted.
-#[derive(Default)]
-pub struct Reason {
-    /// the numbers, in words
-    pub numbers: String,
-    /// what is wanted, in words: without it there is no other answer, and with it another refusal may come
-    pub needs: String,
-    /// the change with which the library accepts the pages, in words; empty where none was found
-    pub change: String,
-    /// the registers of first entries that are to be changed
-    pub registers: Vec<Register>,
-    /// the rows that the pages have no entry for
-    pub missing: Vec<(u32, Option<u32>)>,
-}
-
-/// A register with the value that would be accepted.
-pub struct Register {
-    pub leaf: u32,
-    pub subleaf: Option<u32>,
-    pub register: usize,
-    pub value: u32,
-}
-
-impl Register {
-    fn place(&self) -> (u32, Option<u32>, usize) {
-        (self.leaf, self.subleaf, self.register)
-    }
-
-    /// Writes its value into the first entry of its row.
-    fn put(&self, standing: &Standing, pages: &mut [u8]) {
-        if let Some(place) = standing.first(self.leaf, self.subleaf) {
-            let at = place.page * snp_cpuid::PAGE_BYTES + start(place.entry) + 24 + 4 * self.register;
-            pages[at..at + 4].copy_from_slice(&self.value.to_le_bytes());
-        }
-    }
-}
-
-impl Reason {
-    fn new(numbers: String, needs: impl Into<String>) -> Reason {
-        Reason { numbers, needs: needs.into(), ..Reason::default() }
-    }
-
-    /// One that registers of first entries mend.
-    fn of_registers(numbers: String, registers: Vec<Register>) -> Reason {
-        Reason { numbers, registers, ..Reason::default() }
-    }
-
-    /// The notes after a refusal's line.
-    pub fn notes(&self) -> Vec<String> {
-        let otherwise = if self.needs.is_empty() { "" } else { "or " };
-        let accepted = format!("{otherwise}accepted with ");
-        let notes = [("", &self.numbers), ("needs ", &self.needs), (accepted.as_str(), &self.change)];
-        notes.into_iter().filter(|(_, words)| !words.is_empty()).map(|(start, words)| format!("{start}{words}")).collect()
-    }
-
-    /// Its members of a refusal's object.
-    pub fn json(&self) -> Vec<(&'static str, Json)> {
-        let register = |r: &Register| {
-            let name = REGISTERS[r.register];
-            object([("leaf", json::hex(r.leaf)), ("subleaf", r.subleaf.into()), ("register", name.into()), ("value", json::hex(r.value))])
-        };
-        let missing = |(leaf, subleaf): &(u32, Option<u32>)| object([("leaf", json::hex(*leaf)), ("subleaf", (*subleaf).into())]);
-        vec![
-            ("numbers", self.numbers.as_str().into()),
-            ("needs", self.needs.as_str().into()),
-            ("change", self.change.as_str().into()),
-            ("registers", array(self.registers.iter().map(register))),
-            ("missing", array(self.missing.iter().map(missing))),
-        ]
-    }
-}
+use snp_cpuid::{Options, Refusal, TopologyError};
 
 /// Why building refused pages: 1 to 8 and 17. Nothing where the refusal is not the pages'.
 pub fn of_pages(refusal: Refusal, pages: &[u8]) -> Reason {
@@ -157,11 +84,6 @@ fn without_reserved(pages: &[u8]) -> Vec<u8> {
     copy
 }
 
-/// Why an edition of the AVX rule is refused.
-pub fn of_edition(edition: u32) -> Reason {
-    Reason::new(format!("edition {edition} was asked for"), "--edition 1 or --edition 2")
-}
-
 fn length(bytes: usize) -> Reason {
     let over = bytes % snp_cpuid::PAGE_BYTES;
     let change = "whole pages of 4,096 bytes; 'from-kvm' and 'from-dump' make pages of a list and of a dump";
@@ -182,23 +104,6 @@ fn reserved(standing: &Standing) -> Reason {
     let told = |place: &&Place| format!("{} (leaf {}) has {}", place.name(), row_name(place.leaf, None), hex_bytes(&place.reserved));
     let whose = if unclean.len() == 1 { "its" } else { "their" };
     Reason::of_registers(format!("{} in {whose} last eight bytes", few(unclean.iter().map(told).collect())), vec![])
-}
-
-/// The first of a list that may be long, and how many more there are.
-fn few(list: Vec<String>) -> String {
-    const MOST: usize = 8;
-    let more = if list.len() > MOST { format!("; and {} more", list.len() - MOST) } else { String::new() };
-    list.iter().take(MOST).map(String::as_str).collect::<Vec<_>>().join("; ") + &more
-}
-
-/// Bytes in hexadecimal, spaces between.
-pub fn hex_bytes(bytes: &[u8]) -> String {
-    bytes.iter().map(|byte| format!("{byte:02X}")).collect::<Vec<_>>().join(" ")
-}
-
-/// A number of things: 1 page, 2 pages.
-fn counted(number: usize, thing: &str) -> String {
-    crate::words::counted(number as u32, thing)
 }
 
 /// All rows without an entry, not only the first; entries for them that do not count.
@@ -310,125 +215,4 @@ fn topology(why: TopologyError, standing: &Standing) -> Reason {
         .collect();
     let told: Vec<String> = topology::read_by(why, numbers).iter().map(|(leaf, register)| standing_at(standing, *leaf, None, *register)).collect();
     Reason::of_registers(format!("{}: {}", topology::why(why, numbers), told.join(", ")), registers)
-}
-
-/// Why a guest is refused: 13 and 14, of a processor with these states.
-pub fn of_guest(refusal: Refusal, table: &Table, xcr0: u64, xss: u64) -> Reason {
-    let row = |subleaf| table.row(0xD, Some(subleaf)).unwrap_or_default();
-    // the table's D.1.ECX is its XSS: building clears it where XSAVEC or XSAVES is missing
-    let (own_xcr0, own_xss) = (u64::from(row(0).eax), u64::from(row(1).ecx));
-    match refusal {
-        Refusal::StateBeyondTable => {
-            let beyond = |name: &str, given: u64, own: u64, of: &str| {
-                let bits = given & !own;
-                (bits != 0).then(|| format!("{name} {given:X} has {} beyond {of} {own:X}", bits_told(bits)))
-            };
-            let lacks = (xcr0 & 1 == 0).then(|| format!("XCR0 {xcr0:X} lacks bit 0 (x87)"));
-            let parts = [lacks, beyond("XCR0", xcr0, own_xcr0, "D.0.EAX"), beyond("XSS", xss, own_xss, "the table's XSS")];
-            let change = format!("XCR0 {:X} and XSS {:X}", xcr0 & own_xcr0 | 1, xss & own_xss);
-            Reason::new(parts.into_iter().flatten().collect::<Vec<_>>().join("; "), change)
-        }
-        Refusal::CompactSizeTooLarge => compacted(table, xcr0 | xss),
-        _ => Reason::default(),
-    }
-}
-
-/// The compacted save area of some states: 576 bytes, then each state, at a multiple of 64 where bit 1 of its ECX says so.
-fn compacted(table: &Table, states: u64) -> Reason {
-    let (mut end, mut told) = (576u64, vec![]);
-    for row in table.rows().filter(|row| row.leaf == 0xD && row.subleaf.is_some_and(|k| k >= 2 && states >> k & 1 == 1)) {
-        let start = if row.result.ecx & 2 == 0 { end } else { end.next_multiple_of(64) };
-        end = start + u64::from(row.result.eax);
-        told.push(format!("D.{:X} from {start:X} to {end:X}", row.subleaf.unwrap_or(0)));
-    }
-    Reason::new(format!("after the 240 bytes of x87 and SSE state stand {}, over FFFFFFFF", told.join(", ")), "fewer states on, or smaller ones")
-}
-
-/// Why a table is not taken back to edition 1.
-pub fn of_edition_back() -> Reason {
-    Reason::new(String::new(), "--to 2, which changes nothing")
-}
-
-/// Why a pool of so many servers is refused.
-pub fn of_pool_size(servers: usize) -> Reason {
-    Reason::new(format!("{} given", counted(servers, "page set")), "2 to 16")
-}
-
-/// Where servers of a pool differ from the first, by their masked entries: all that 19 rests on. Each is a name, its entries and its table.
-pub fn of_pool(servers: &[(&str, Standing, Table)], secure_avic: bool) -> Reason {
-    let in_all = |(leaf, subleaf): &(u32, Option<u32>)| servers.iter().all(|(_, _, table)| table.find(*leaf, *subleaf).is_some());
-    // 0, 80000000 and leaf Bh are made here
-    let shared: Vec<_> = required().chain((2..64).map(|k| (0xD, Some(k)))).filter(|row| row.0 != 0xB && in_all(row)).collect();
-    let mut told = vec![];
-    if let Some(((first, own, _), others)) = servers.split_first() {
-        for (name, standing, _) in others {
-            let at: Vec<String> = shared.iter().flat_map(|(leaf, subleaf)| unlike(own, standing, *leaf, *subleaf, secure_avic)).collect();
-            if !at.is_empty() {
-                told.push(format!("{name} differs from {first} in {}", at.join(", ")));
-            }
-        }
-    }
-    Reason::new(told.join("; "), "the same values there, or a pool without the servers that differ")
-}
-
-/// The registers of a row in which two servers differ where they must not.
-fn unlike(first: &Standing, other: &Standing, leaf: u32, subleaf: Option<u32>, secure_avic: bool) -> Vec<String> {
-    let masked = |standing: &Standing| {
-        let place = standing.first(leaf, subleaf)?;
-        place.kept().map(|kept| kept.masked(place.registers, secure_avic))
-    };
-    let (Some(first), Some(other)) = (masked(first), masked(other)) else { return vec![] };
-    let must_be_equal = |register: usize| match features::find(leaf, subleaf, register) {
-        Some(_) if (leaf, register) == (HTT.0, HTT.1) => 1 << HTT.2,
-        Some(_) => 0,
-        None if (leaf, subleaf, register) == (0xD, Some(0), ECX) => 0,
-        None => u32::MAX,
-    };
-    let differs = |register: &usize| (first[*register] ^ other[*register]) & must_be_equal(*register) != 0;
-    let told = |register: usize| format!("{}.{} ({:08X}, {:08X})", row_name(leaf, subleaf), REGISTERS[register], other[register], first[register]);
-    (0..4).filter(differs).map(told).collect()
-}
-
-/// Bits by number and, where they are states, by name.
-fn bits_told(bits: u64) -> String {
-    let told = (0..64).filter(|bit| bits >> bit & 1 == 1).map(|bit| match components::name(bit) {
-        Some(name) => format!("{bit} ({name})"),
-        None => bit.to_string(),
-    });
-    let told: Vec<String> = told.collect();
-    format!("bit{} {}", if told.len() == 1 { "" } else { "s" }, told.join(", "))
-}
-
-/// Why a list for KVM is refused: 10 to 12.
-pub fn of_list(refusal: Refusal, list: &[u8]) -> Reason {
-    match refusal {
-        Refusal::ListLength if list.len() < 8 => Reason::new(format!("it has {} bytes", list.len()), "at least the 8 of a count and a zero word"),
-        Refusal::ListLength => {
-            let count = u64::from(word(list, 0));
-            Reason::new(format!("it has {} bytes and counts {count} rows", list.len()), format!("{} bytes", 8 + 40 * count))
-        }
-        Refusal::ListRows => {
-            let rows = list[8..].chunks_exact(40);
-            let state = rows.clone().filter(|row| word(row, 0) == 0xD).count();
-            let others = rows.len() - state;
-            Reason::new(format!("{state} rows of leaf Dh and {others} of all others"), "at most 64 of each that a table reads")
-        }
-        Refusal::ListFields => Reason::new(fields(list), "flags 0 or 1, and zeros in the head's second word and in the last three words of a row"),
-        _ => Reason::default(),
-    }
-}
-
-/// The first word of a list that must be otherwise.
-fn fields(list: &[u8]) -> String {
-    let head = (word(list, 4) != 0).then(|| format!("the second word of its head is {:08X}", word(list, 4)));
-    let wrong = |(number, row): (usize, &[u8])| {
-        let padding = [28, 32, 36].into_iter().find(|at| word(row, *at) != 0);
-        let what = match (word(row, 8) > 1, padding) {
-            (true, _) => format!("has flags {:08X}", word(row, 8)),
-            (false, Some(at)) => format!("has {:08X} where a zero word must stand", word(row, at)),
-            (false, None) => return None,
-        };
-        Some(format!("row {number}, counted from 0, of leaf {} {what}", row_name(word(row, 0), None)))
-    };
-    head.or_else(|| list[8..].chunks_exact(40).enumerate().find_map(wrong)).unwrap_or_default()
 }
