@@ -65,10 +65,11 @@ fn tried(mut reason: Reason, pages: &[u8], first: Option<&str>) -> Reason {
 /// A change in words, with what its figures mean.
 fn changed(first: Option<&str>, registers: &[Register], after: &Standing) -> String {
     let register = |r: &Register| match (r.leaf, r.register) {
-        (0x8000_0008, EBX) => format!("{} (only a server that has INVLPGB may say so)", value_told(r)),
+        (0x8000_0008, EBX) => format!("{}, which only a server that has INVLPGB may say", value_told(r)),
         _ => value_told(r),
     };
     let text = first.map(String::from).into_iter().chain(registers.iter().map(register)).collect::<Vec<_>>().join(" and ");
+    let text = text.replace("may say and", "may say, and");
     match registers.iter().any(|r| topology::is_of(r.leaf, r.register)) {
         true => format!("{text} ({})", Numbers::of(|leaf| after.masked(leaf, None)).told()),
         false => text,
