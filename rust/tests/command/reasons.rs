@@ -86,7 +86,7 @@ fn a_change_goes_on_until_the_pages_are_accepted() {
     assert_eq!(build(&pages, Options::new()), Err(Refusal::InvlpgbUnavailable));
     let told = notes(&folder, &pages);
     let change =
-        "(only a server that has INVLPGB may say so) and 0000000D.0.EAX at 00000207 and 00000001.EBX at 00400800 and 8000001E.EBX at 00000100";
+        ", which only a server that has INVLPGB may say, and 0000000D.0.EAX at 00000207 and 00000001.EBX at 00400800 and 8000001E.EBX at 00000100";
     assert!(told.len() == 2 && told[1].starts_with("accepted with 80000008.EBX at ") && told[1].contains(change), "{told:?}");
     let Some(registers) = registers(&folder, &pages) else { return };
     assert_eq!(registers.len(), 4);
