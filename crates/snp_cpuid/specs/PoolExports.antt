@@ -22,9 +22,9 @@ abbrev pub PooledIn : Pooled → List ℕ → List ℕ → Type 0
 PooledIn p w o = PoolIn p (record { verdict = p .verdict; server = p .server }) w o
 
 -- the numbers of a pool whose table stands in memory
-pub pooled-in : (p : Pooled) (v : PoolVerdict) (w o : List ℕ) {rows mask : ℕ} → PoolIn p v w o → rows ≡ heldIn w o .«row_count» → mask ≡ maskHeld w
-    → pooledGiven (v .verdict) (v .server) rows mask ≡ pooledNumbers p
-pooled-in p v w o k e f =
-    let n = e ∙ ap (λ (t : CpuidResults). t .«row_count») (k .table) in
+pub pooled-in : {p : Pooled} {v : PoolVerdict} {w o : List ℕ} {rows mask : ℕ} → PoolIn p v w o → ((x : List ℕ) → rows ≡ heldIn x o .«row_count»)
+    → mask ≡ maskHeld w → pooledGiven (v .verdict) (v .server) rows mask ≡ pooledNumbers p
+pooled-in {p} {v} {w} {o} k e f =
+    let n = e w ∙ ap (λ (t : CpuidResults). t .«row_count») (k .table) in
     let m = f ∙ sym (mask-held w o) ∙ ap (λ (t : CpuidResults). t .«max_extended_state») (k .table) in
     λ i. pooledGiven (k .verdict i) (k .server i) (n i) (m i)

@@ -3,3 +3,4 @@ pub mod MovesProof
 pub mod AnyMemory
 pub mod MaskFollows
 pub mod OrderProof
+pub mod BuiltIn

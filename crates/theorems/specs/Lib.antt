@@ -5,3 +5,4 @@ pub mod GuestExported
 pub mod PoolExported
 pub mod Theorems
 pub mod NearestBit
+pub mod KeptTable

@@ -10,7 +10,7 @@ use Rattle.snp_cpuid.proofs.pool_exports.snp_cpuid_pool_lookup.Tie as t
 
 returns : tie.Need-returns
 returns c =
-    let n = c .before .before .before in let k = n .before in let b = k .pool-into .ensures in let a = k .before .before .before .before .args in
+    let n = c .before .before .before in let k = n .before in let b = k .pool-into .ensures in let a = k .before .before .before .before .before .args in
     rw (← n .subleaf-of .ensures)
     (c .found-at .ensures
     ∙ ap₂ (λ (t : CpuidResults) (o : List ℕ). foundAt t o (a .leaf) (n .subleaf-of .result) (a .enforce-subleaf)) (b .table) (b .origins))

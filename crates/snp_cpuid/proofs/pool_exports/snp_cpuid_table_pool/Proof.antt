@@ -9,13 +9,13 @@ use Rattle.snp_cpuid.proofs.pool_exports.snp_cpuid_table_pool.Tie as ti
 
 pooled-numbers-requires : tie.Need-pooled-numbers-requires
 pooled-numbers-requires c κs =
-    let k = c .before .before .before .pool-into .ensures in
+    let k = c .before .before .before .before .pool-into .ensures in
     subst (λ (n : ℕ). n < 16) (sym (k .server)) (server-below _ _ _)
 
 returns : tie.Need-returns
 returns c =
     let m = c .before in let n = m .before .before in let k = n .before .before .pool-into .ensures in (
-      c .pooled-numbers .ensures ∙ pooled-in _ _ _ _ k (n .row-count .ensures _) (m .combined-mask .ensures),
+      c .pooled-numbers .ensures ∙ pooled-in k (n .row-count .ensures) (m .combined-mask .ensures),
       record { verdict = refl; server = refl; registers = k .registers; origins = k .origins; table = k .table },
     )
 
