@@ -1,5 +1,5 @@
 -- What is proved, statement by statement: the page to open first. Each names the file where its words are defined. The contracts tie the
--- code to the definition: `build::build` promises `answer`, and every other entry point an equation with a definition over it.
+-- code to the definition: `build::build_into` promises `answer`, and every other entry point an equation with a definition over it.
 -- `answer chosen s` is the answer of the definition (crates/build/specs/Build.antt) to the page bytes s under what the caller chooses: secure
 -- AVIC or not, and the edition of the AVX rule.
 use mathlib.Core.Path.{_≡_}
