@@ -140,7 +140,7 @@ impl Building {
             Err(_) => self.pages_refused(file, refusal, &source.pages),
         })?;
         // the entries are those of pages made here, where the file is an image
-        Ok(if source.image.is_some() { Table::try_from(seen.image()).expect("a guest's table has an image") } else { seen })
+        Ok(if source.image.is_some() { Table::try_from(&seen.image()[..]).expect("a guest's table has an image") } else { seen })
     }
 
     /// Why a file of pages was refused.

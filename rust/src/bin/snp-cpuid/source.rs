@@ -59,7 +59,7 @@ fn pages_of(table: &Table) -> Vec<u8> {
 /// The pool of tables, by pages that have their rows. An image among them does not say where its rows came from, so nobody knows of the pool's.
 pub fn pool_tables(tables: &[Table]) -> Result<Table, NotPooled> {
     let pooled = pool(&tables.iter().map(pages_of).collect::<Vec<_>>(), MADE)?;
-    Ok(Table::try_from(pooled.image()).expect("a pool's table has an image"))
+    Ok(Table::try_from(&pooled.image()[..]).expect("a pool's table has an image"))
 }
 
 /// Whether one table is at least another: whether a guest of pages that have the rows of the first may move to pages that have those of the second.

@@ -265,6 +265,7 @@ impl Direction<'_> {
                 format!("{to} has no entry for leaf {}, which {from} has at {}", place(leaf, subleaf), self.from.entry(leaf, subleaf))
             }
             Comparison::Differs { leaf, subleaf, register } => self.differs(leaf, subleaf, register),
+            other => other.to_string(),
         }
     }
 
@@ -332,6 +333,7 @@ impl Direction<'_> {
                     ("hidden", self.hidden(leaf, subleaf, register).into()),
                 ])
             }
+            _ => base,
         }
         .with([("words", self.obstacle().into())])
     }
