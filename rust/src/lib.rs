@@ -24,6 +24,7 @@ mod answer;
 mod carry;
 mod comparison;
 pub mod exports;
+pub mod features;
 mod guest;
 mod image;
 mod kvm;
