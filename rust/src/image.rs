@@ -1,6 +1,7 @@
 //! A table as bytes, and read back from them; and as a list for KVM.
 
 use crate::answer::Answer;
+use crate::table::Made;
 use crate::{PLACES, Refusal, Table, exports};
 use core::error::Error;
 use core::fmt;
@@ -100,11 +101,13 @@ impl TryFrom<&[u8]> for Table {
     type Error = NotAnImage;
 
     fn try_from(image: &[u8]) -> Result<Table, NotAnImage> {
-        let mut table = Table::EMPTY;
-        let (registers, origins) = table.arrays_mut();
-        // SAFETY: the first pointer and length are those of a slice, which the function only reads; the two arrays are the table's own
-        let read = unsafe { exports::snp_cpuid_table_read_image(image.as_ptr(), image.len(), registers, origins) };
-        if read.is_image == 1 { Ok(table) } else { Err(NotAnImage) }
+        let mut made = Made::new();
+        let (registers, origins) = made.arrays();
+        // SAFETY: the first pointer and length are those of a slice, which the function only reads; it writes the whole of the two arrays
+        unsafe {
+            let read = exports::snp_cpuid_table_read_image(image.as_ptr(), image.len(), registers, origins);
+            if read.is_image == 1 { Ok(made.table()) } else { Err(NotAnImage) }
+        }
     }
 }
 

@@ -3,6 +3,7 @@
 #[cfg(feature = "std")]
 use crate::Found;
 use crate::answer::Answer;
+use crate::table::Made;
 use crate::{Options, Refusal, Table, exports};
 use core::error::Error;
 use core::fmt;
@@ -58,14 +59,15 @@ impl Table {
     /// The table of a pool, as [`pool`](crate::pool) gives it, of page sets that stand end to end in `pages`, with the bytes of each in `lengths`.
     pub fn pool(pages: &[u8], lengths: &[u64], options: Options) -> Result<Table, NotPooled> {
         let Options { secure_avic, edition } = options;
-        let mut table = Table::EMPTY;
-        let (registers, origins) = table.arrays_mut();
+        let mut made = Made::new();
+        let (registers, origins) = made.arrays();
         let (length, servers) = (pages.len(), lengths.len());
-        // SAFETY: the first pointers and lengths are those of slices, which the function only reads; the two arrays are the table's own
+        // SAFETY: the first pointers and lengths are those of slices, which the function only reads; it writes the whole of the two arrays
         let pooled =
             unsafe { exports::snp_cpuid_table_pool(pages.as_ptr(), length, lengths.as_ptr(), servers, secure_avic, edition, registers, origins) };
         match pooled.accepted() {
-            Ok(_) => Ok(table),
+            // SAFETY: as above
+            Ok(_) => Ok(unsafe { made.table() }),
             Err(refusal) => {
                 let of_the_pool = matches!(refusal, Refusal::PoolSets | Refusal::PoolDiffers);
                 Err(NotPooled { refusal, server: (!of_the_pool).then_some(pooled.server as usize) })

@@ -6,6 +6,7 @@ use crate::{Found, Options, Origin, PLACES, Refusal, TableComparison, places};
 use core::fmt;
 use core::hash::{Hash, Hasher};
 use core::iter::FusedIterator;
+use core::mem::MaybeUninit;
 
 /// The four registers of a CPUID result.
 #[derive(Clone, Copy, Debug, Default, PartialEq, Eq, Hash)]
@@ -59,17 +60,40 @@ pub struct Table {
 }
 
 impl Table {
-    /// A table without rows.
-    pub(crate) const EMPTY: Table = Table { memory: exports::Table { registers: [0; 4 * PLACES], origins: [0; PLACES] } };
+    /// A table without rows, for [`Table::rebuild`].
+    pub const fn new() -> Table {
+        Table { memory: exports::Table { registers: [0; 4 * PLACES], origins: [0; PLACES] } }
+    }
 
     /// Builds the table of CPUID pages that stand end to end: one call of the library. [`build`](crate::build) is the same.
     pub fn build(pages: &[u8], options: Options) -> Result<Table, Refusal> {
         let Options { secure_avic, edition } = options;
-        let mut table = Table::EMPTY;
-        let (registers, origins) = table.arrays_mut();
+        let mut made = Made::new();
+        let (registers, origins) = made.arrays();
+        // SAFETY: the first pointer and length are those of a slice, which the function only reads; it writes the whole of the two arrays
+        unsafe {
+            exports::snp_cpuid_table_build(pages.as_ptr(), pages.len(), secure_avic, edition, registers, origins).accepted()?;
+            Ok(made.table())
+        }
+    }
+
+    /// Builds in this table's place, without a copy on the stack. A refusal leaves a table without rows.
+    ///
+    /// ```
+    /// use snp_cpuid::{Options, Refusal, Table};
+    ///
+    /// let pages = std::fs::read("../tests/epyc-milan.pages").unwrap();
+    /// let mut table = Box::new(Table::new());
+    /// table.rebuild(&pages, Options::new()).unwrap();
+    /// assert_eq!(*table, Table::build(&pages, Options::new()).unwrap());
+    /// assert_eq!(table.rebuild(&[], Options::new()), Err(Refusal::PagesLength));
+    /// assert_eq!(*table, Table::new());
+    /// ```
+    pub fn rebuild(&mut self, pages: &[u8], options: Options) -> Result<(), Refusal> {
+        let Options { secure_avic, edition } = options;
+        let (registers, origins) = self.arrays_mut();
         // SAFETY: the first pointer and length are those of a slice, which the function only reads; the two arrays are the table's own
-        let built = unsafe { exports::snp_cpuid_table_build(pages.as_ptr(), pages.len(), secure_avic, edition, registers, origins) };
-        built.accepted().map(|_| table)
+        unsafe { exports::snp_cpuid_table_build(pages.as_ptr(), pages.len(), secure_avic, edition, registers, origins) }.accepted().map(|_| ())
     }
 
     /// The memory, as the library has it.
@@ -158,6 +182,38 @@ impl Table {
         let ((a_registers, a_origins), (b_registers, b_origins)) = (self.arrays(), other.arrays());
         // SAFETY: the arrays are those of the two tables, and the function only reads them
         TableComparison::from_numbers(unsafe { exports::snp_cpuid_table_compare(a_registers, a_origins, b_registers, b_origins) })
+    }
+}
+
+/// Memory in which the library makes a table. It asks nothing of what was there, so nobody has to write it first.
+pub(crate) struct Made(MaybeUninit<exports::Table>);
+
+impl Made {
+    pub(crate) fn new() -> Made {
+        Made(MaybeUninit::uninit())
+    }
+
+    /// The two arrays, for the library to write.
+    pub(crate) fn arrays(&mut self) -> (*mut u32, *mut u64) {
+        let memory = self.0.as_mut_ptr();
+        // SAFETY: the fields' addresses are within the memory, and nothing is read
+        unsafe { ((&raw mut (*memory).registers).cast(), (&raw mut (*memory).origins).cast()) }
+    }
+
+    /// The table.
+    ///
+    /// # Safety
+    ///
+    /// The library has written the two arrays.
+    pub(crate) unsafe fn table(self) -> Table {
+        // SAFETY: both arrays were written, and there is nothing else
+        Table { memory: unsafe { self.0.assume_init() } }
+    }
+}
+
+impl Default for Table {
+    fn default() -> Table {
+        Table::new()
     }
 }
 
