@@ -78,7 +78,7 @@ fn lookup_and_guest() {
     assert_eq!(read.unwrap(), "[{\"x2apic\":\"00000005\",\"xcr0\":\"7\",\"xss\":\"800\",\"osxsave\":true},\"00000350\"]");
     let one = asked(&[&["lookup", EPYC, "B.1"][..], &processor].concat(), "[.processor.xss, .rows[0].edx]");
     assert_eq!(one.unwrap(), "[\"800\",\"00000005\"]");
-    let beyond = asked(&["guest", EPYC, "--apic", "5", "--xcr0", "e7", "--xss", "0"], "[.answer, .refusal.number, .refusal.change]");
+    let beyond = asked(&["guest", EPYC, "--apic", "5", "--xcr0", "e7", "--xss", "0"], "[.answer, .refusal.number, .refusal.needs]");
     assert_eq!(beyond.unwrap(), "[\"refused\",13,\"XCR0 7 and XSS 0\"]");
 }
 

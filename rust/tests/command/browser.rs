@@ -58,7 +58,7 @@ fn shown_fleet(folder: &Folder) -> String {
     folder.file("fleet/f1.pages", set(&rich()));
     folder.file("fleet/f2.pages", set(&poor));
     folder.file("fleet/<b>&amp;\"g\".pages", set(&with(7, 0, 1, |ebx| ebx | 1 << 16)));
-    folder.file("fleet/h", set(&epyc())[1..].to_vec());
+    folder.file("fleet/h", &set(&epyc())[1..]);
     folder.path("fleet")
 }
 

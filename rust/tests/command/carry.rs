@@ -88,10 +88,10 @@ fn refusals_in_their_order() {
         let (_, why) = words.into_iter().find(|(told, _)| *told == number).unwrap();
         assert_eq!((ran.status, ran.line()), (1, format!("{pages}: refusal {number}: {why}").as_str()));
         let told = match number {
-            13 => "accepted with XCR0 ",
+            13 => "needs XCR0 ",
             14 => "after the 240 bytes of x87 and SSE state stand D.2 from 240 to ",
             15 => "edition ",
-            _ => "accepted with --to 2, which changes nothing",
+            _ => "needs --to 2, which changes nothing",
         };
         assert!(ran.notes().iter().any(|note| note.starts_with(told)), "{}", ran.err);
         assert_eq!(written, None);

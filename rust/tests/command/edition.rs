@@ -120,6 +120,6 @@ fn compare_says_under_which() {
     let unknown = compared("3");
     assert!(unknown.text().starts_with("no: A is refused, by 15, and B, by 15.\n\n"), "{}", unknown.text());
     assert!(unknown.text().ends_with("is built:\nA to B  no: A is refused, by 15.\nB to A  no: B is refused, by 15.\n"));
-    assert_eq!((unknown.status, unknown.notes()), (1, vec!["edition 3 was asked for", "accepted with --edition 1 or --edition 2"]));
+    assert_eq!((unknown.status, unknown.notes()), (1, vec!["edition 3 was asked for", "needs --edition 1 or --edition 2"]));
     assert!(unknown.failure().starts_with(&format!("{a}: refusal 15: ")));
 }

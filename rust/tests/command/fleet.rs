@@ -167,15 +167,15 @@ fn every_kind_of_file() {
     folder.file("e.pages", set(&less(&epyc(), 1, 2, 12)));
     assert_eq!(run(&["pool", EPYC, &folder.path("e.pages"), "-o", &folder.path("f.image")]).status, 0);
     assert!(run(&["fleet", &folder.path("")]).text().contains("   A2       2  e f; without FMA\n"));
-    // under the other edition the image of a server without YMM state is not what its rows give
+    // an image is a table that is made, under whichever edition: that of a server without YMM state keeps F16C under the other
     let mut none = rich();
     none.get_mut(&(0xD, 0)).unwrap()[0] = 3;
     let (pages, image) = (folder.file("g.pages", set(&none)), folder.path("h.image"));
     assert_eq!(run(&["image", &pages, "-o", &image]).status, 0);
     assert_eq!(run(&["fleet", &pages, &image]).status, 0);
     let other = run(&["fleet", &pages, &image, "--edition", "2"]);
-    assert_eq!(other.status, 1);
-    assert!(other.text().contains("   h\n      not read: building from its rows does not give this image again"), "{}", other.text());
+    assert_eq!(other.status, 0);
+    assert!(other.text().contains("   A1       1  h\n   A2       1  g; without F16C XOP FMA4\n"), "{}", other.text());
     let text = run(&["fleet", EPYC, &folder.file("notes.txt", "nothing\n")]);
     assert_eq!((text.status, text.text().contains("   notes\n      not read: line 1 is no CPUID row and no heading: 'nothing'")), (1, true));
     let empty = run(&["fleet", &folder.file("empty", "")]);
@@ -230,8 +230,19 @@ fn a_pool_of_twenty_classes() {
             assert_eq!(read, expected, "{filter}");
         }
     }
+    // as it is told: sixteen, then the image of these with the others
+    let (first, rest): (Vec<_>, Vec<_>) =
+        folder.names().into_iter().map(|name| folder.path(&name)).partition(|path| path.as_str() < folder.path("16").as_str());
+    assert_eq!((first.len(), rest.len()), (16, 4));
+    let out = Folder::new("fleet_twenty_images");
+    let pooled = |files: &[String], image: &str| {
+        assert_eq!(run(&[&["pool".to_string()], files, &["-o".to_string(), out.path(image)]].concat()).status, 0);
+        out.path(image)
+    };
+    let image = pooled(&[vec![pooled(&first, "first")], rest].concat(), "second");
     // a server with just what all have is below them all, and costs nothing more
-    folder.file("20.pages", set(&all));
+    let least = folder.file("20.pages", set(&all));
+    assert_eq!(fs::read(image).unwrap(), run(&["image", &least, "-o", "-"]).out);
     assert!(run(&["fleet", &path]).text().contains("   A21   to A1, A2, A3, A4, A5, A6, A7, A8 and 12 more\n"));
     if let Some(read) = found(&path, "[.pools[] | (.classes | length), ([.lost[] | .lacking | length] | unique), .costs[20].gives_up]") {
         assert_eq!(read, "[21,[2],0]");

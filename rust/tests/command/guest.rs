@@ -63,7 +63,7 @@ fn refusal_13() {
         for start in [&["guest", EPYC][..], &["lookup", EPYC, "1"]] {
             let ran = run(&with(start, &numbers));
             assert_eq!((ran.status, ran.line()), (1, format!("{EPYC}: refusal 13: {why}").as_str()));
-            assert_eq!(ran.notes(), [numbers_told, &format!("accepted with {change}")]);
+            assert_eq!(ran.notes(), [numbers_told, &format!("needs {change}")]);
         }
     }
 }

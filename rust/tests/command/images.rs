@@ -207,7 +207,7 @@ fn commands_that_need_pages_say_so() {
     for arguments in [&["nearest", &image][..], &["nearest", &image, "--secure-avic"]] {
         let ran = run(arguments);
         assert!(ran.status == 1 && ran.line().starts_with(&format!("{image}: refusal 1: ")), "{}", ran.err);
-        assert_eq!(ran.notes(), ["it is the image of a table", "accepted with the pages that it was made of"]);
+        assert_eq!(ran.notes(), ["it is the image of a table", "needs the pages that it was made of"]);
     }
     let bytes = fs::read(&image).unwrap();
     let neither = folder.file("neither", &bytes[1..]);

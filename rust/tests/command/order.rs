@@ -2,7 +2,7 @@
 
 use crate::features::FEATURES;
 use crate::page_sets::{Entries, epyc, rich, set, topology};
-use snp_cpuid::{Comparison, Options, Register, Table, TableComparison, build, compare, pool};
+use snp_cpuid::{Comparison, Options, Register, Row, Table, TableComparison, build, compare, pool};
 
 /// A generator of numbers, the same in every run (Marsaglia, "Xorshift RNGs", 2003).
 struct Numbers(u64);
@@ -37,6 +37,12 @@ fn servers(base: &Entries, many: usize, numbers: &mut Numbers) -> Vec<(Vec<u8>, 
     pages.filter_map(|pages| build(&pages, Options::new()).ok().map(|table| (pages, table))).take(many).collect()
 }
 
+/// Pages with a table's rows.
+fn rows(table: &Table) -> Vec<u8> {
+    let entry = |row: Row| ((row.leaf, row.subleaf.unwrap_or(0)), [row.result.eax, row.result.ebx, row.result.ecx, row.result.edx]);
+    set(&table.rows().map(entry).collect())
+}
+
 /// A's table rises to B's exactly where the pool of the two is A's table; and it does where the pages promise it.
 #[test]
 fn as_the_pool_and_the_comparison_of_pages_say() {
@@ -56,6 +62,8 @@ fn as_the_pool_and_the_comparison_of_pages_say() {
                 if let Ok(pooled) = pooled {
                     assert_eq!((pooled.compare(table_a), pooled.compare(table_b)), (TableComparison::Rises, TableComparison::Rises));
                 }
+                // pages with a table's own rows promise what the tables allow
+                assert_eq!(answer == TableComparison::Rises, compare(&rows(table_a), &rows(table_b), Options::new()) == Comparison::Rises);
                 rises += usize::from(answer == TableComparison::Rises);
                 pairs += 1;
             }

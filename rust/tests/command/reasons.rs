@@ -75,6 +75,30 @@ fn a_refused_topology_and_its_change() {
     assert!(tried > 100 && numbers.iter().all(|count| *count > 5), "{tried} {numbers:?}");
 }
 
+/// Several refusals after one another: the change is all that is to be done, or says what comes next.
+#[test]
+fn a_change_goes_on_until_the_pages_are_accepted() {
+    let folder = Folder::new("reasons_chain");
+    let mut entries = with(0x8000_0008, 0, 1, |ebx| ebx & !8);
+    topology(&mut entries, 6, 31, 32, 1, 3);
+    entries.get_mut(&(0xD, 0)).unwrap()[0] |= 0x20;
+    let pages = set(&entries);
+    assert_eq!(build(&pages, Options::new()), Err(Refusal::InvlpgbUnavailable));
+    let told = notes(&folder, &pages);
+    let change =
+        ", which only a server that has INVLPGB may say, and 0000000D.0.EAX at 00000207 and 00000001.EBX at 00400800 and 8000001E.EBX at 00000100";
+    assert!(told.len() == 2 && told[1].starts_with("accepted with 80000008.EBX at ") && told[1].contains(change), "{told:?}");
+    let Some(registers) = registers(&folder, &pages) else { return };
+    assert_eq!(registers.len(), 4);
+    assert!(build(&set(&changed(&entries, &registers)), Options::new()).is_ok());
+    // reserved bytes, and behind them the rest; at last a row that no change of registers brings
+    let unclean_pages = unclean(&entries, 0, 1, 2);
+    assert!(notes(&folder, &unclean_pages)[1].starts_with("accepted with zeros in those bytes and 80000008.EBX at "));
+    entries.remove(&(0x5, 0));
+    let told = notes(&folder, &unclean(&entries, 0, 1, 2));
+    assert_eq!(told[1], "needs zeros in those bytes; then comes refusal 3: no entry for leaf 5h, which every guest needs");
+}
+
 /// The figures of issue and rule: 32 processors where size 6 asks for 64.
 #[test]
 fn the_rule_is_named_where_both_counts_are_equal() {
@@ -219,7 +243,7 @@ fn lists_for_kvm() {
         ran.notes().into_iter().map(String::from).collect()
     };
     assert_eq!(told(&[1, 0, 0])[0], "it has 3 bytes");
-    assert_eq!(told(&listed(&[[0; 10]])[..40]), ["it has 40 bytes and counts 1 rows", "accepted with 48 bytes"]);
+    assert_eq!(told(&listed(&[[0; 10]])[..40]), ["it has 40 bytes and counts 1 rows", "needs 48 bytes"]);
     let mut head = listed(&[[0; 10]]);
     head[4] = 9;
     assert_eq!(told(&head)[0], "the second word of its head is 00000009");

@@ -30,16 +30,20 @@ fn cases() -> Vec<(Vec<u8>, &'static str, &'static str)> {
     ]
 }
 
+/// Whether registers or reserved bytes alone mend the cases; a missing leaf they do not, and in the last leaf 1 is missing besides.
+const MENDED: [bool; 13] = [false, false, false, false, false, true, true, true, true, true, true, true, false];
+
 #[test]
 fn each_is_one_line_and_its_notes() {
     let folder = Folder::new("refusals");
-    for (pages, number, carries) in cases() {
+    for ((pages, number, carries), mended) in cases().into_iter().zip(MENDED) {
         let file = folder.file("pages", &pages);
         let ran = run(&["table", &file]);
         assert_eq!(ran.status, 1);
         assert!(ran.line().starts_with(&format!("{file}: refusal {number}: ")), "{}", ran.err);
         // the numbers behind it, and what would be accepted
-        assert!(ran.notes().len() == 2 && ran.notes()[1].starts_with("accepted with "), "{}", ran.err);
+        let told = |start: &str| ran.notes()[1..].iter().any(|note| note.starts_with(start));
+        assert_eq!((told("accepted with ") || told("or accepted with "), told("needs ")), (mended, !mended || number == "3"), "{}", ran.err);
         assert!(!ran.err.contains("none"), "nothing is said of what is not named: {}", ran.err);
         // every command that builds says the same
         for arguments in BUILDING {

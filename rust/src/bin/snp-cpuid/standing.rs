@@ -119,7 +119,7 @@ fn readable(page: &[u8], count: u32) -> Vec<u8> {
 }
 
 /// Where an entry begins on its page.
-fn start(entry: usize) -> usize {
+pub fn start(entry: usize) -> usize {
     16 + 48 * entry
 }
 

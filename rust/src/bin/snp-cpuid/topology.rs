@@ -70,6 +70,11 @@ impl Numbers {
     }
 }
 
+/// Whether a register of a leaf has one of the numbers.
+pub fn is_of(leaf: u32, register: usize) -> bool {
+    PLACES.iter().any(|(own, place, _)| (*own, *place) == (leaf, register))
+}
+
 /// The registers, by leaf, whose numbers a refusal rests on.
 pub fn read_by(refusal: TopologyError, numbers: Numbers) -> Vec<(u32, usize)> {
     let (logical, flags, sizes, units) = ((0x1, EBX), (0x1, EDX), (0x8000_0008, ECX), (0x8000_001E, EBX));

@@ -34,8 +34,8 @@ read, but for hidden ones. The report has:
   features   those that some classes have and some have not
   refused    servers without a table, by the reason
 
-The order of moves is that of tables. 'compare' of two page sets asks more, as its promise holds
-before the other server is built; a note names the moves that it does not promise.
+The order of moves is that of tables. The entries of pages promise less, before the other server is
+built, as 'compare' tells; a note names the moves that they do not promise.
 ",
     status: "\
 Exit status: 0 where every server is accepted, 1 where one is refused or its file holds nothing that
@@ -53,7 +53,7 @@ fn run(arguments: &Arguments) -> Result<(), Failure> {
     if to_output && building.json() {
         return Err(Failure::usage(COMMAND.name, "--html - and --json both go to standard output"));
     }
-    let sources = source::sources(&arguments.operands, &building)?;
+    let sources = source::sources(&arguments.operands)?;
     let fleet = Fleet::of(sources, building);
     match arguments.value(HTML.name()) {
         Some(file) if !to_output => output::to_file(file, page::of(&fleet).as_bytes())?,

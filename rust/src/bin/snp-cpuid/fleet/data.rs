@@ -51,7 +51,7 @@ fn server(fleet: &Fleet, server: &Server) -> Json {
     let (answer, class, refusal, why) = match &server.answer {
         Answer::Class(class) => ("accepted", fleet.classes[*class].name.as_str().into(), Json::Null, Json::Null),
         Answer::Refused(refusal) => {
-            let reason = fleet.building.reason(*refusal, server.pages());
+            let reason = fleet.building.reason(*refusal, server.pages().unwrap_or_default());
             ("refused", Json::Null, refusal_json(*refusal, &reason), Json::Null)
         }
         Answer::Unread(why) => ("not read", Json::Null, Json::Null, why.as_str().into()),

@@ -1,7 +1,7 @@
 //! Groups: classes whose tables differ in features only.
 
-use super::Class;
 use super::bits::{self, Bits};
+use super::{Class, Tables};
 use crate::features::{self, ECX, EDX};
 use crate::fields::cut;
 use crate::words;
@@ -22,12 +22,12 @@ pub struct Group {
 }
 
 /// Equal tables with their servers into named classes, and these into groups: the group of most servers first, and in it the class of most features.
-pub fn named(tables: Vec<(Vec<usize>, Table)>) -> (Vec<Class>, Vec<Group>) {
-    let mut apart: BTreeMap<Vec<u32>, Vec<(Vec<usize>, Table)>> = BTreeMap::new();
+pub fn named(tables: Tables) -> (Vec<Class>, Vec<Group>) {
+    let mut apart: BTreeMap<Vec<u32>, Tables> = BTreeMap::new();
     for (servers, table) in tables {
         apart.entry(beyond_features(&table)).or_default().push((servers, table));
     }
-    let many = |group: &Vec<(Vec<usize>, Table)>| group.iter().map(|(servers, _)| servers.len()).sum::<usize>();
+    let many = |group: &Tables| group.iter().map(|(servers, _)| servers.len()).sum::<usize>();
     let mut together: Vec<_> = apart.into_values().collect();
     together.sort_by_key(|group| std::cmp::Reverse(many(group)));
     let (mut classes, mut groups) = (vec![], vec![]);

@@ -17,7 +17,7 @@ use moves::Moves;
 use pools::Pool;
 use refused::Refused;
 use snp_cpuid::{Refusal, Table};
-use source::Source;
+use source::{Given, Source};
 use std::collections::HashMap;
 
 /// What came of a server.
@@ -35,6 +35,9 @@ pub struct Server {
     pub source: Source,
     pub answer: Answer,
 }
+
+/// Tables, each with the places of the servers that give it.
+type Tables = Vec<(Vec<usize>, Table)>;
 
 /// Servers that give one table: the same rows and the same combined mask.
 pub struct Class {
@@ -67,8 +70,7 @@ impl Fleet {
         for (place, class) in classes.iter().enumerate() {
             class.servers.iter().for_each(|server| servers[*server].answer = Answer::Class(place));
         }
-        let pages = |class: usize| servers[classes[class].servers[0]].pages();
-        let pools = pools::of(&groups, &classes, pages, &building);
+        let pools = pools::of(&groups, &classes);
         let moves = Moves::of(&groups, &classes, &servers, &building);
         let refused = refused::together(&servers, &building);
         Fleet { building, groups, moves, pools, refused, classes, servers }
@@ -82,20 +84,22 @@ impl Fleet {
 
 impl Server {
     /// Its pages; none where its file gives none.
-    pub fn pages(&self) -> &[u8] {
-        self.source.pages.as_deref().unwrap_or_default()
+    pub fn pages(&self) -> Option<&[u8]> {
+        if let Given::Pages(pages) = &self.source.given { Some(pages) } else { None }
     }
 }
 
 /// The tables that there are, each with its servers, and what came of the others. Equal images are equal tables
 /// (crates/images/specs/Images.antt, `EqualImages`).
-fn built(sources: &[Source], building: &Building) -> (Vec<(Vec<usize>, Table)>, Vec<Answer>) {
-    let (mut tables, mut places): (Vec<(Vec<usize>, Table)>, HashMap<Vec<u8>, usize>) = Default::default();
+fn built(sources: &[Source], building: &Building) -> (Tables, Vec<Answer>) {
+    let mut tables = Tables::new();
+    let mut places: HashMap<Vec<u8>, usize> = HashMap::new();
     let mut answers = vec![];
     for (server, source) in sources.iter().enumerate() {
-        let table = match &source.pages {
-            Ok(pages) => building.build(pages).map_err(Answer::Refused),
-            Err(why) => Err(Answer::Unread(why.clone())),
+        let table = match &source.given {
+            Given::Pages(pages) => building.build(pages).map_err(Answer::Refused),
+            Given::Table(table) => Ok(table.as_ref().clone()),
+            Given::Nothing(why) => Err(Answer::Unread(why.clone())),
         };
         answers.push(match table {
             Ok(table) => {

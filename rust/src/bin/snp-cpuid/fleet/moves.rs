@@ -1,7 +1,6 @@
 //! Where a guest may go: from a class to those that have at least its table, and what stands in the way elsewhere.
 
 use super::bits::{self, Bits, register_name, short_place};
-use super::source::Kind;
 use super::{Class, Group, Server};
 use crate::building::Building;
 use crate::components;
@@ -28,9 +27,8 @@ pub struct Moves {
 impl Moves {
     pub fn of(groups: &[Group], classes: &[Class], servers: &[Server], building: &Building) -> Moves {
         let rises: Vec<_> = classes.iter().enumerate().map(|(place, class)| rises(place, &groups[class.group], classes)).collect();
-        // an image has no pages of its own
-        let read = |server: &usize| servers[*server].source.kind != Kind::Image;
-        let first = |class: usize| classes[class].servers.iter().find(|server| read(server)).map(|server| servers[*server].pages());
+        // an image has no pages
+        let first = |class: usize| classes[class].servers.iter().find_map(|server| servers[*server].pages());
         let few = |class: &usize| groups[classes[*class].group].classes.len() <= MOST_BY_PAGES;
         let allowed = rises.iter().enumerate().filter(|(class, _)| few(class));
         let pairs = allowed.flat_map(|(from, to)| to.iter().flatten().map(move |to| (from, *to)));
@@ -38,10 +36,10 @@ impl Moves {
         let unpromised = pairs.filter_map(asked).filter(|(.., answer)| no(answer)).collect();
         let members = classes.iter().enumerate().flat_map(|(place, class)| class.servers.iter().map(move |server| (place, *server)));
         let both = |(place, server): (usize, usize)| {
-            let (first, other) = (first(place)?, servers[server].pages());
+            let (first, other) = (first(place)?, servers[server].pages()?);
             Some((server, [building.compare(first, other), building.compare(other, first)]))
         };
-        let unlike = members.filter(|(_, server)| read(server)).filter_map(both).filter(|(_, answers)| answers.iter().any(no)).collect();
+        let unlike = members.filter_map(both).filter(|(_, answers)| answers.iter().any(no)).collect();
         Moves { rises, unpromised, unlike }
     }
 }

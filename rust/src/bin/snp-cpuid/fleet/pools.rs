@@ -1,13 +1,12 @@
 //! Pools: the greatest sets of classes for which the library makes one table.
 
 use super::bits::{self, Bits};
-use super::source::pages_of_rows;
 use super::{Class, Group};
-use crate::building::Building;
+use crate::source::pool_tables;
 use snp_cpuid::Table;
 use std::collections::HashSet;
 
-/// How many page sets the library pools at once.
+/// How many tables the library pools at once.
 pub const AT_ONCE: usize = 16;
 
 /// So many sets of a group are looked for: where states differ in size, there may be as many as classes.
@@ -40,54 +39,48 @@ impl Pool {
     }
 }
 
-/// The pools of two classes or more, those of most servers first. `pages` gives the pages of a class's first server.
-pub fn of<'a>(groups: &[Group], classes: &[Class], pages: impl Fn(usize) -> &'a [u8], building: &Building) -> Vec<Pool> {
-    let mut pools = vec![];
-    for group in groups.iter().filter(|group| group.classes.len() > 1) {
-        let sets = greatest(group, classes, &pages, building);
-        pools.extend(sets.into_iter().filter(|set| set.classes.len() > 1).map(|set| set.costed(classes, &pages, building)));
-    }
+/// The pools of two classes or more, those of most servers first.
+pub fn of(groups: &[Group], classes: &[Class]) -> Vec<Pool> {
+    let sets = groups.iter().filter(|group| group.classes.len() > 1).flat_map(|group| greatest(group, classes));
+    let mut pools: Vec<Pool> = sets.filter(|set| set.classes.len() > 1).map(|set| set.costed(classes)).collect();
     let servers = |pool: &Pool| pool.classes.iter().map(|class| classes[*class].servers.len()).sum::<usize>();
     pools.sort_by_key(|pool| std::cmp::Reverse(servers(pool)));
     pools
 }
 
-/// Classes that share a table, which stands for them as the pages of its rows.
+/// Classes that share a table.
 struct Set {
     classes: Vec<usize>,
     table: Table,
-    pages: Vec<u8>,
 }
 
 impl Set {
     /// Takes a class in, if the library pools it with the table so far.
-    fn take(&mut self, class: usize, pages: &[u8], building: &Building) -> bool {
-        let Ok(table) = building.pool(&[self.pages.as_slice(), pages]) else { return false };
-        self.pages = pages_of_rows(&table);
+    fn take(&mut self, class: usize, classes: &[Class]) -> bool {
+        let Ok(table) = pool_tables(&[self.table.clone(), classes[class].table.clone()]) else { return false };
         self.table = table;
         self.classes.push(class);
         true
     }
 
-    /// The pool of these classes, asked of the library in one question where it takes so many page sets.
-    fn costed<'a>(mut self, classes: &[Class], pages: &impl Fn(usize) -> &'a [u8], building: &Building) -> Pool {
+    /// The pool of these classes, asked of the library in one question where it takes so many.
+    fn costed(mut self, classes: &[Class]) -> Pool {
         self.classes.sort();
-        let sets: Vec<&[u8]> = self.classes.iter().map(|class| pages(*class)).collect();
-        let table = if sets.len() <= AT_ONCE { building.pool(&sets).unwrap_or(self.table) } else { self.table };
-        let tables: Vec<&Table> = self.classes.iter().map(|class| &classes[*class].table).collect();
-        let lost = lost(&tables, &self.classes);
+        let tables: Vec<Table> = self.classes.iter().map(|class| classes[*class].table.clone()).collect();
+        let lost = lost(&tables.iter().collect::<Vec<_>>(), &self.classes);
+        let table = if tables.len() <= AT_ONCE { pool_tables(&tables).unwrap_or(self.table) } else { self.table };
         Pool { classes: self.classes, table, lost }
     }
 }
 
 /// The greatest sets of a group. A class of few states comes first: where it lacks a state, the others need not agree on that state's row.
-fn greatest<'a>(group: &Group, classes: &[Class], pages: &impl Fn(usize) -> &'a [u8], building: &Building) -> Vec<Set> {
+fn greatest(group: &Group, classes: &[Class]) -> Vec<Set> {
     let mut order: Vec<usize> = group.classes.clone().collect();
     order.sort_by_key(|class| classes[*class].table.max_extended_state().count_ones());
     let mut sets: Vec<Set> = vec![];
     for &class in &order {
-        if !sets.iter_mut().any(|set| set.take(class, pages(class), building)) && sets.len() < MOST_SETS {
-            sets.push(Set { classes: vec![class], table: classes[class].table.clone(), pages: pages(class).to_vec() });
+        if !sets.iter_mut().any(|set| set.take(class, classes)) && sets.len() < MOST_SETS {
+            sets.push(Set { classes: vec![class], table: classes[class].table.clone() });
         }
     }
     // a class that another set has taken may join this one too, and make room for a further one
@@ -96,7 +89,7 @@ fn greatest<'a>(group: &Group, classes: &[Class], pages: &impl Fn(usize) -> &'a 
         let mut outside: Vec<usize> = order.iter().copied().filter(|class| !inside.contains(class)).collect();
         loop {
             let before = outside.len();
-            outside.retain(|class| !set.take(*class, pages(*class), building));
+            outside.retain(|class| !set.take(*class, classes));
             if outside.len() == before {
                 break;
             }

@@ -19,10 +19,8 @@ pub struct Told {
     pub number: u32,
     /// the refusal
     pub words: String,
-    /// the numbers that it rests on
-    pub numbers: String,
-    /// what would be accepted
-    pub change: String,
+    /// the numbers that it rests on, and what would be accepted
+    pub notes: Vec<String>,
 }
 
 /// The servers without a table, in the order of the refusals' numbers and words.
@@ -31,8 +29,8 @@ pub fn together(servers: &[Server], building: &Building) -> Vec<Refused> {
     for (place, server) in servers.iter().enumerate() {
         let told = match &server.answer {
             Answer::Class(_) => continue,
-            Answer::Refused(refusal) => told(*refusal, server.pages(), building),
-            Answer::Unread(why) => Told { number: 0, words: why.clone(), numbers: String::new(), change: String::new() },
+            Answer::Refused(refusal) => told(*refusal, server.pages().unwrap_or_default(), building),
+            Answer::Unread(why) => Told { number: 0, words: why.clone(), notes: vec![] },
         };
         reasons.entry(told).or_default().push(place);
     }
@@ -40,6 +38,6 @@ pub fn together(servers: &[Server], building: &Building) -> Vec<Refused> {
 }
 
 fn told(refusal: Refusal, pages: &[u8], building: &Building) -> Told {
-    let reason = building.reason(refusal, pages);
-    Told { number: refusal.number(), words: refusal.to_string(), numbers: reason.numbers, change: reason.change }
+    let notes = building.reason(refusal, pages).notes();
+    Told { number: refusal.number(), words: refusal.to_string(), notes }
 }

@@ -1,12 +1,12 @@
 //! The files of a fleet, each by its content: CPUID pages, a table's image, a list for KVM, or the text of a dump.
 
-use crate::building::{Building, image, told};
+use crate::building::told;
 use crate::commands::{from_dump, from_kvm};
 use crate::failure::Failure;
 use crate::input::{read, reason, shown};
-use crate::pages::{Entry, read_by_table, two_pages};
-use crate::{reasons, words};
-use snp_cpuid::{PAGE_BYTES, Row, Table};
+use crate::reasons;
+use crate::source::{image, pool_tables};
+use snp_cpuid::{PAGE_BYTES, Table};
 use std::collections::HashSet;
 use std::ffi::{OsStr, OsString};
 use std::fs;
@@ -32,16 +32,26 @@ impl Kind {
     }
 }
 
-/// One server's file: its short name, the file as it was given, what it holds, and its pages or why there are none.
+/// What a file gives.
+pub enum Given {
+    /// pages, which are built
+    Pages(Vec<u8>),
+    /// the table of an image, which is made
+    Table(Box<Table>),
+    /// nothing, and why
+    Nothing(String),
+}
+
+/// One server's file: its short name, the file as it was given, what it holds, and what it gives.
 pub struct Source {
     pub name: String,
     pub file: String,
     pub kind: Kind,
-    pub pages: Result<Vec<u8>, String>,
+    pub given: Given,
 }
 
 /// The files that are given, and those below the folders that are given, in the order of their names.
-pub fn sources(operands: &[OsString], building: &Building) -> Result<Vec<Source>, Failure> {
+pub fn sources(operands: &[OsString]) -> Result<Vec<Source>, Failure> {
     let mut files = vec![];
     for operand in operands {
         walk(operand, &mut files)?;
@@ -54,7 +64,7 @@ pub fn sources(operands: &[OsString], building: &Building) -> Result<Vec<Source>
     let source = |(file, name): (&OsString, String)| {
         let bytes = read(file)?;
         let kind = kind(&bytes);
-        Ok(Source { name, file: shown(file), kind, pages: pages(kind, bytes, building) })
+        Ok(Source { name, file: shown(file), kind, given: given(kind, bytes) })
     };
     let mut sources: Vec<Source> = files.iter().zip(names).map(source).collect::<Result<_, _>>()?;
     sources.sort_by(|a, b| (&a.name, &a.file).cmp(&(&b.name, &b.file)));
@@ -95,7 +105,7 @@ fn short_names(files: &[String]) -> Vec<String> {
 fn kind(bytes: &[u8]) -> Kind {
     if !bytes.is_empty() && !bytes.contains(&0) {
         Kind::Dump
-    } else if bytes.len().is_multiple_of(PAGE_BYTES) {
+    } else if bytes.len() % PAGE_BYTES == 0 {
         Kind::Pages
     } else if image(bytes).is_some() {
         Kind::Image
@@ -110,29 +120,22 @@ fn word(bytes: &[u8], at: usize) -> Option<u32> {
     Some(u32::from_le_bytes(*bytes.get(at..)?.first_chunk()?))
 }
 
-/// The pages of a file's bytes.
-fn pages(kind: Kind, bytes: Vec<u8>, building: &Building) -> Result<Vec<u8>, String> {
+/// What a file's bytes give.
+fn given(kind: Kind, bytes: Vec<u8>) -> Given {
+    let pages = |pages: Result<Vec<u8>, String>| pages.map_or_else(Given::Nothing, Given::Pages);
     match kind {
-        Kind::Pages => Ok(bytes),
-        Kind::Dump => from_dump::taken(&bytes).map(|taken| taken.pages),
+        Kind::Pages => Given::Pages(bytes),
+        Kind::Image => image_table(&bytes).map_or_else(Given::Nothing, |table| Given::Table(Box::new(table))),
+        Kind::Dump => pages(from_dump::taken(&bytes).map(|taken| taken.pages)),
         Kind::List => {
             let refused = |refusal| [vec![told(refusal)], reasons::of_list(refusal, &bytes).notes()].concat().join("; ");
-            from_kvm::taken(&bytes).map(|(pages, _)| pages.to_vec()).map_err(refused)
-        }
-        Kind::Image => {
-            let table = image(&bytes).ok_or("no image")?;
-            let pages = pages_of_rows(&table);
-            // an image is a table under the choices that made it: building from its rows gives it again
-            if building.build(&pages).as_ref() == Ok(&table) { Ok(pages) } else { Err(OTHER_CHOICES.into()) }
+            pages(from_kvm::taken(&bytes).map(|(pages, _)| pages.to_vec()).map_err(refused))
         }
     }
 }
 
-const OTHER_CHOICES: &str = "building from its rows does not give this image again: it was made with another --edition or --secure-avic";
-
-/// Pages with the rows of a table, but for those that no page gives. Building gives the table again.
-pub fn pages_of_rows(table: &Table) -> Vec<u8> {
-    let entry = |row: Row| Entry { leaf: row.leaf, subleaf: row.subleaf.unwrap_or(0), registers: words::registers(&row) };
-    let rows: Vec<Entry> = table.rows().map(entry).filter(|row| read_by_table(row.leaf, row.subleaf)).collect();
-    two_pages(&rows).expect("a table has at most 32 rows")
+/// The table of an image: the pool of it and itself is the same, unless no pages give it.
+fn image_table(bytes: &[u8]) -> Result<Table, String> {
+    let table = image(bytes).ok_or("no image")?;
+    if pool_tables(&[table.clone(), table.clone()]).as_ref() == Ok(&table) { Ok(table) } else { Err("no pages give the table of this image".into()) }
 }

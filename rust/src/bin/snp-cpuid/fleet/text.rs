@@ -167,7 +167,8 @@ fn told(way: &Way) -> String {
 /// The classes of the group to which a guest may not go, by what is in the way.
 pub fn blocked(fleet: &Fleet, class: usize) -> Vec<(Way, Vec<String>)> {
     let rises = fleet.moves.rises[class].as_deref().unwrap_or_default();
-    let (mut reasons, mut places): (Vec<(Way, Vec<String>)>, HashMap<String, usize>) = Default::default();
+    let mut reasons: Vec<(Way, Vec<String>)> = vec![];
+    let mut places: HashMap<String, usize> = HashMap::new();
     for other in fleet.groups[fleet.classes[class].group].classes.clone().filter(|other| *other != class && !rises.contains(other)) {
         let way = Way::of(&fleet.classes[class].table, &fleet.classes[other].table);
         let place = *places.entry(told(&way)).or_insert(reasons.len());
@@ -244,7 +245,7 @@ fn pooled(fleet: &Fleet, pool: &Pool) -> String {
 
 /// How a pool of more than 16 classes is made.
 pub fn larger() -> String {
-    format!("made class by class: the library pools {AT_ONCE} servers at once, and the table so far stands for those it has")
+    format!("'pool' takes {AT_ONCE} at once: pool {AT_ONCE} of the classes, then the image of that with {} more, and so on", AT_ONCE - 1)
 }
 
 fn features(fleet: &Fleet) -> String {
@@ -277,17 +278,12 @@ fn refused(fleet: &Fleet) -> String {
     let told = |refused: &Refused| {
         let names = wrapped("   ", &folded(&server_names(fleet, &refused.servers)));
         let number = if refused.told.number == 0 { "not read: ".into() } else { format!("refusal {}: ", refused.told.number) };
-        let lines = [number + &refused.told.words, refused.told.numbers.clone(), accepted_with(&refused.told.change)];
-        names + &lines.iter().filter(|line| !line.is_empty()).map(|line| wrapped("      ", line)).collect::<String>()
+        let lines = [number + &refused.told.words].into_iter().chain(refused.told.notes.iter().cloned());
+        names + &lines.map(|line| wrapped("      ", &line)).collect::<String>()
     };
     let more: usize = fleet.refused.iter().skip(CLASSES).map(|refused| refused.servers.len()).sum();
     let more = if more == 0 { String::new() } else { format!("   and {} more, which --json has\n", many(more, "server")) };
     "Refused\n".to_string() + &fleet.refused.iter().take(CLASSES).map(told).collect::<String>() + &more
-}
-
-/// What would be accepted, as a sentence's part.
-pub fn accepted_with(change: &str) -> String {
-    if change.is_empty() { String::new() } else { format!("accepted with {change}") }
 }
 
 /// What the comparison of pages says beyond the tables.
@@ -316,5 +312,5 @@ fn notes(fleet: &Fleet) -> String {
 }
 
 /// Why there are notes.
-pub const NOTE: &str = "Note: the tables allow these moves, and a guest sees no difference. 'compare' looks at the pages too, before the other \
-                        server is built, and does not promise them:";
+pub const NOTE: &str = "Note: the tables allow these moves, and a guest sees no difference. By the entries of the pages, before the other server is \
+                        built, they are not promised; 'compare' says more:";

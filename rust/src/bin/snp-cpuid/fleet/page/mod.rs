@@ -211,8 +211,7 @@ fn refused(fleet: &Fleet) -> String {
     let row = |refused: &Refused| {
         let told = &refused.told;
         let number = if told.number == 0 { "Not read".into() } else { format!("Refusal {}", told.number) };
-        let further = [("Numbers", &told.numbers), ("Accepted with", &told.change)].into_iter().filter(|(_, words)| !words.is_empty());
-        let further: String = further.map(|(title, words)| format!("<div><span class=\"d\">{title}:</span> {}</div>", escaped(words))).collect();
+        let further: String = told.notes.iter().map(|note| format!("<div class=\"d\">{}</div>", escaped(note))).collect();
         format!(
             "<tr data-refusal=\"{}\" data-servers=\"{}\"><td>{}</td><td><b>{number}</b>: {}{further}</td></tr>\n",
             told.number,

@@ -154,7 +154,7 @@ pub fn matrices(fleet: &Fleet) -> String {
     let half = if fleet.moves.unpromised.is_empty() {
         String::new()
     } else {
-        format!("<span>{} it may, and <code>compare</code> does not promise it</span>", mark("half", ""))
+        format!("<span>{} it may, and the entries do not promise it</span>", mark("half", ""))
     };
     format!(
         "<p class=\"leg\"><span>{} a guest may move</span> {half} <span>{} it may not: the first thing in the way</span></p>\n{tables}",

@@ -40,7 +40,7 @@ fn one(fleet: &Fleet, place: usize, pool: &Pool) -> String {
         &format!("<tbody>{rows}</tbody>{foot}"),
     );
     if pool.classes.len() > AT_ONCE {
-        text += &format!("<p class=\"note\">This pool is {}.</p>\n", larger());
+        text += &format!("<p class=\"note\">{}.</p>\n", escaped(&larger()));
     }
     text
 }
