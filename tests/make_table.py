@@ -1,10 +1,10 @@
 """Makes rust/tests/table.txt: what the functions over a table that the caller keeps do, as model_table.py answers; tests/table.c replays it.
 
-Numbers are hexadecimal, has and enforce are 0 or 1, edits are those of replayed.py. A line `p EDITS`, `i EDITS` or `t EDITS` makes the pages, the image
-or the table, as the bytes of its struct, of those before, the first of none. The other lines ask, and after a bar have the answer's numbers in the order
-of its struct. `build`, `pool` and `read` end with the edits that make the table of zeros, and the table is then that; `guest` and `carry` with those
-that make theirs of the table, or z where it is all zeros, and the table stays. `image` and `kvm` end with those that make the buffer, of ROOM bytes A5.
-`compare` begins with the edits that make the second table of the first.
+Numbers are hexadecimal and edits are those of replayed.py. A line `p EDITS`, `i EDITS` or `t EDITS` makes the pages, the image or the bytes of the
+table's struct of those before, the first of none. Every other line is a question, a bar and the answer's numbers in the order of its struct. `build`,
+`pool` and `read` end with the edits that make the table of zeros, which the next lines ask; `guest` and `carry` end with the edits that make theirs of
+the table, which stays, or with z for all zeros; `image` and `kvm` end with the edits that make the buffer of ROOM bytes A5. `compare` begins with the
+edits that make the second table of the first.
 """
 from itertools import product
 import random
@@ -218,8 +218,8 @@ def built(out):
 def refused(out):
     """Every refusal of building leaves a table without rows."""
     rows = rich()
-    sets = [b'', MILAN[:-1], MILAN[:4096], b'\x41' + MILAN[1:], with_byte(MILAN, 0, 3, 47, 1), spread(without(rows, 7, 0)), spread(without(rows, STATE, 7)),
-            spread(changed(rows, 0x80000008, ebx=0)), spread(changed(rows, STATE, 2, eax=ALL, ebx=1))]
+    sets = [b'', MILAN[:-1], MILAN[:4096], b'\x41' + MILAN[1:], with_byte(MILAN, 0, 3, 47, 1), spread(without(rows, 7, 0))]
+    sets += [spread(without(rows, STATE, 7)), spread(changed(rows, 0x80000008, ebx=0)), spread(changed(rows, STATE, 2, eax=ALL, ebx=1))]
     sets += [spread(with_topology(rows, *inputs)) for inputs in ((0, 0, 2, 0, 0), (0, 255, 0, 1, 0), (7, 127, 128, 1, 2))]
     for data in sets:
         out.build(data, False, 1)
@@ -230,7 +230,8 @@ def refused(out):
 
 def pooled(out):
     fewer, more = spread(changed(rich(), STATE, 0, eax=7)), spread(rich())
-    for sets in [MILAN] * 2, [more, fewer], [fewer, more, fewer], [spread(minimal())] * 16, [MILAN], [b''] * 17, [more, MILAN], [more, b''], [more[:4096], more]:
+    lawful = [MILAN] * 2, [more, fewer], [fewer, more, fewer], [spread(minimal())] * 16
+    for sets in *lawful, [MILAN], [b''] * 17, [more, MILAN], [more, b''], [more[:4096], more]:
         out.pool(sets)
     out.pool([more, fewer], None, True, 2)
     of_a_table(out, PROCESSORS[:2], PLACES[::5])
@@ -242,7 +243,8 @@ def pooled(out):
 def read(out):
     """Images of tables built and built otherwise, cut, out of order and with a byte more."""
     whole = model.image(model.build(MILAN, True, 1))
-    for data in whole, whole[:-1], whole + b'\0', whole[21:], whole[:21] * 2, image_of(least(3, (0xA, 0, 0x800, 0))), b'', b'\3', image_of(fullest(7)):
+    otherwise = image_of(least(3, (0xA, 0, 0x800, 0))), b'', b'\3', image_of(fullest(7))
+    for data in whole, whole[:-1], whole + b'\0', whole[21:], whole[:21] * 2, *otherwise:
         out.read(data)
         of_a_table(out, PROCESSORS[:1], PLACES[::11], whole=len(data) < 300)
     out.image(0)
@@ -340,7 +342,8 @@ def made():
 
 def main(words):
     out = made()
-    return replayed.main(words, 'table', 'answers of tables', out.lines, out.kinds, [f'{name} {kind}' for name, kinds in KINDS.items() for kind in kinds])
+    every = [f'{name} {kind}' for name, kinds in KINDS.items() for kind in kinds]
+    return replayed.main(words, 'table', 'answers of tables', out.lines, out.kinds, every)
 
 
 if __name__ == '__main__':

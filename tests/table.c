@@ -3,10 +3,10 @@
  *   gcc -std=gnu11 -O2 -Wall -Wextra -Werror -Iinclude -o target/table tests/table.c target/staticlib/libsnp_cpuid.a
  *   target/table rust/tests/table.txt tests/epyc-milan.pages
  *
- * First the list that tests/make_table.py made with the model's answers, every function on memory of any content; then the pages of the file, with each
- * result bit flipped in turn, where a built table must give what the functions that start from pages give. All arrays and buffers end at a page that
- * cannot be touched, and what a function only reads must be as it was. The last line has the number of answers compared. Exit status 1 where one is not
- * as it must be.
+ * First the list that tests/make_table.py made with the model's answers, every function on memory of any content. Then the pages of the file with each
+ * result bit flipped in turn: a built table must give what the functions that start from pages give. All arrays and buffers end at a page that cannot
+ * be touched, and what a function only reads must be as it was. The last line has the number of answers compared. Exit status 1 where one is not as it
+ * must be.
  */
 #define _GNU_SOURCE
 #include "snp_cpuid.h"
@@ -299,7 +299,8 @@ static const struct {
     bool osxsave;
 } PROCESSORS[] = {{5, 7, 0x800, true}, {0x12345678, 3, 0, false}, {9, 1, 0x1800, true}, {0, 0, 0, true}};
 
-static const uint32_t LEAVES[] = {0, 1, 5, 7, 0xB, 0xD, 0x80000000, 0x80000001, 0x80000008, 0x80000019, 0x8000001D, 0x8000001E, 0x8000001F, 2, 0xFFFFFFFF};
+static const uint32_t LEAVES[] = {0,          1,          5,          7,          0xB, 0xD, 0x80000000, 0x80000001, 0x80000008,
+                                  0x80000019, 0x8000001D, 0x8000001E, 0x8000001F, 2,   0xFFFFFFFF};
 
 static bool same_found(struct snp_cpuid_found a, struct snp_cpuid_found b) {
     return a.found == b.found && a.eax == b.eax && a.ebx == b.ebx && a.ecx == b.ecx && a.edx == b.edx && a.origin == b.origin && a.page == b.page &&
@@ -413,7 +414,8 @@ int main(int count, char **names) {
     fclose(file);
     for (int which = 0; which < 2; which++) registers[which] = guarded(REGISTERS), origins[which] = guarded(ORIGINS);
     for (int which = 0; which < 2; which++) resize(&registers[which], REGISTERS), resize(&origins[which], ORIGINS);
-    pages = guarded(MOST_PAGES), image = guarded(PAGE), out = guarded(2 * PAGE), lengths = guarded(PAGE), table = guarded(PAGE), made = guarded(2 * PAGE);
+    pages = guarded(MOST_PAGES), image = guarded(PAGE), out = guarded(2 * PAGE), lengths = guarded(PAGE);
+    table = guarded(PAGE), made = guarded(2 * PAGE);
     replay_file(names[1]);
     flip_every_bit(shipped);
     printf("%lu answers and bytes are as they must be, %lu are not\n", compared - different, different);
