@@ -1,8 +1,8 @@
-//! A running table taken from one edition of the AVX rule to another (document 02, P8).
+//! A running table taken from one edition of the AVX rule to another.
 
 use crate::{Details, Refusal, Table, exports};
-use std::error::Error;
-use std::fmt;
+use core::error::Error;
+use core::fmt;
 
 /// Why bytes were not carried.
 #[derive(Clone, Copy, Debug, PartialEq, Eq, Hash)]
@@ -42,11 +42,17 @@ impl Table {
     /// ```
     pub fn carry(&self, from: u32, to: u32, xcr0: u64, xss: u64) -> Result<Table, Refusal> {
         let mut table = self.clone();
-        match carry_image(table.image_mut(), from, to, xcr0, xss) {
-            Ok(()) => Ok(table),
-            Err(NotCarried::Refused(refusal)) => Err(refusal),
-            // the library is proved to read back every image that it writes
-            Err(NotCarried::NotAnImage) => unreachable!("a table's image is none"),
+        table.carry_in_place(from, to, xcr0, xss)?;
+        Ok(table)
+    }
+
+    /// The same in place. Where it refuses, the table is as it was.
+    pub fn carry_in_place(&mut self, from: u32, to: u32, xcr0: u64, xss: u64) -> Result<(), Refusal> {
+        let (registers, origins) = self.arrays_mut();
+        // SAFETY: the two arrays are the table's own, and the function writes the first and only reads the second
+        match unsafe { exports::snp_cpuid_table_carry(registers, origins, from, to, xcr0, xss) } {
+            0 => Ok(()),
+            number => Err(Refusal::of(number, Details::default())),
         }
     }
 }
@@ -62,7 +68,7 @@ impl Table {
 /// let mut image = build(&pages, Options::new()).unwrap().image().to_vec();
 /// // where the YMM state is there, the editions are one
 /// assert_eq!(carry_image(&mut image, 1, 2, 7, 0x800), Ok(()));
-/// assert_eq!(image, build(&pages, Options::new().edition(2)).unwrap().image());
+/// assert_eq!(build(&pages, Options::new().edition(2)).unwrap().image(), image);
 ///
 /// // a byte too many is no image; no bytes are the image of a table without rows, which has no state
 /// image.push(0);

@@ -2,10 +2,11 @@
 
 use crate::answer::Answer;
 use crate::{Details, Refusal, exports};
-use std::fmt;
+use core::fmt;
 
 /// Whether a guest of server A may move to server B, or the first thing in the way.
 #[derive(Clone, Copy, Debug, PartialEq, Eq, Hash)]
+#[non_exhaustive]
 pub enum Comparison {
     /// It may. Building B then gives a table with every row of A's, at least A's bits in every feature register, a save area no smaller and all else
     /// equal; or refuses it by 3, for a subleaf of leaf Dh that B's own further state needs, or by 5.
@@ -30,6 +31,40 @@ pub enum Comparison {
         /// the first register of the row that fails
         register: Register,
     },
+}
+
+/// Whether one table is at least another, or the first thing in the way: by rising leaf, subleaf and register.
+#[derive(Clone, Copy, Debug, PartialEq, Eq, Hash)]
+#[non_exhaustive]
+pub enum TableComparison {
+    /// It has every row of the other, at least its feature bits, a save area no smaller and all else equal, and beyond it only subleaves of leaf Dh
+    /// for further extended states.
+    Rises,
+    /// It has no row here, and the other has.
+    NoRow {
+        /// the leaf
+        leaf: u32,
+        /// the subleaf; none for a leaf without
+        subleaf: Option<u32>,
+    },
+    /// It lacks a feature bit of the other's, has a smaller save area (D.0.ECX), or differs where it must be equal.
+    Differs {
+        /// the leaf
+        leaf: u32,
+        /// the subleaf; none for a leaf without
+        subleaf: Option<u32>,
+        /// the first register of the row that fails
+        register: Register,
+    },
+    /// It has a row here that the other has not, and that is no further extended state.
+    Beyond {
+        /// the leaf
+        leaf: u32,
+        /// the subleaf; none for a leaf without
+        subleaf: Option<u32>,
+    },
+    /// Its combined mask lacks a bit of the other's. This is never so of a table that was built, pooled or read.
+    MaskLacks,
 }
 
 /// One of the four registers of a CPUID result.
@@ -62,6 +97,22 @@ impl Comparison {
     }
 }
 
+impl TableComparison {
+    /// The comparison that an answer's plain numbers stand for.
+    pub(crate) fn from_numbers(c: exports::TablesCompared) -> TableComparison {
+        let (leaf, subleaf) = (c.leaf, (c.has_subleaf != 0).then_some(c.subleaf));
+        match c.answer {
+            0 => TableComparison::Rises,
+            1 => TableComparison::NoRow { leaf, subleaf },
+            2 => TableComparison::Differs { leaf, subleaf, register: Register::from_index(c.register_index) },
+            3 => TableComparison::Beyond { leaf, subleaf },
+            4 => TableComparison::MaskLacks,
+            // the library is proved to give no other
+            other => unreachable!("answer {other}"),
+        }
+    }
+}
+
 impl Register {
     /// The register of an index from 0 to 3.
     pub(crate) fn from_index(index: u32) -> Register {
@@ -86,6 +137,20 @@ impl fmt::Display for Comparison {
             Comparison::Differs { leaf, subleaf, register } => {
                 write!(f, "B's {}.{register} lacks a feature bit of A's, or differs from A's where it must be equal", Place(*leaf, *subleaf))
             }
+        }
+    }
+}
+
+impl fmt::Display for TableComparison {
+    fn fmt(&self, f: &mut fmt::Formatter<'_>) -> fmt::Result {
+        match self {
+            TableComparison::Rises => write!(f, "the table is at least the other"),
+            TableComparison::NoRow { leaf, subleaf } => write!(f, "the table has no row for {}", Place(*leaf, *subleaf)),
+            TableComparison::Differs { leaf, subleaf, register } => {
+                write!(f, "{}.{register} lacks a feature bit, is a smaller save area, or differs where it must be equal", Place(*leaf, *subleaf))
+            }
+            TableComparison::Beyond { leaf, subleaf } => write!(f, "the table has a row for {}, which the other lacks", Place(*leaf, *subleaf)),
+            TableComparison::MaskLacks => write!(f, "the table's combined mask lacks an extended state"),
         }
     }
 }

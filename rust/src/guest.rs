@@ -2,7 +2,7 @@
 
 use crate::answer::Answer;
 use crate::exports;
-use crate::{Found, MOST_IMAGE_BYTES, Options, Refusal, Table};
+use crate::{Details, Found, Options, Refusal, Table};
 
 /// A processor, as far as a guest's CPUID shows it.
 #[derive(Clone, Copy, Debug, Default, PartialEq, Eq, Hash)]
@@ -15,6 +15,111 @@ pub struct Processor {
     pub xss: u64,
     /// whether the operating system has switched XSAVE on (CR4 bit 18)
     pub osxsave: bool,
+}
+
+/// That a table gives an XCR0 and XSS, kept from when either changed ([`Table::state`]) for every CPUID exit until one changes again
+/// ([`Table::guest_row_kept`]).
+#[derive(Clone, Copy, Debug, PartialEq, Eq, Hash)]
+pub struct State {
+    /// the size of the compacted save area, which the guest reads in D.1.EBX
+    pub size: u32,
+}
+
+impl Table {
+    /// The table as the guest of a processor sees it; where its rows came from stays. [`Refusal::StateBeyondTable`] and then
+    /// [`Refusal::CompactSizeTooLarge`].
+    ///
+    /// ```
+    /// use snp_cpuid::{Options, Processor, Table, guest};
+    ///
+    /// let pages = std::fs::read("../tests/epyc-milan.pages").unwrap();
+    /// let processor = Processor { x2apic: 5, xcr0: 7, xss: 0x800, osxsave: true };
+    /// let image = Table::build(&pages, Options::new()).unwrap().image();
+    /// // also of a table that was read
+    /// let seen = Table::try_from(&image[..]).unwrap().guest(processor).unwrap();
+    /// assert_eq!(seen, guest(&pages, Options::new(), processor).unwrap());
+    /// ```
+    pub fn guest(&self, processor: Processor) -> Result<Table, Refusal> {
+        let mut table = self.clone();
+        table.become_guest(processor)?;
+        Ok(table)
+    }
+
+    /// The same in place; a refusal leaves a table without rows.
+    fn become_guest(&mut self, processor: Processor) -> Result<(), Refusal> {
+        let Processor { x2apic, xcr0, xss, osxsave } = processor;
+        let (registers, origins) = self.arrays_mut();
+        // SAFETY: the two arrays are the table's own
+        unsafe { exports::snp_cpuid_table_guest(registers, origins, x2apic, xcr0, xss, osxsave) }.accepted().map(|_| ())
+    }
+
+    /// The one row that the guest of a processor reads at a CPUID exit, found as [`Table::lookup`] finds it; none where there is no such row.
+    /// [`Refusal::StateBeyondTable`] and [`Refusal::CompactSizeTooLarge`] come first, whatever the leaf.
+    ///
+    /// ```
+    /// use snp_cpuid::{Options, Processor, Refusal, Table};
+    ///
+    /// let pages = std::fs::read("../tests/epyc-milan.pages").unwrap();
+    /// let table = Table::build(&pages, Options::new()).unwrap();
+    /// let processor = Processor { x2apic: 5, xcr0: 7, xss: 0x800, osxsave: true };
+    /// assert_eq!(table.guest_row(processor, 0xB, Some(1), false).unwrap().unwrap().result.edx, 5);
+    /// assert_eq!(table.guest_row(processor, 0x4000_0000, Some(0), false), Ok(None));
+    /// let beyond = Processor { xcr0: 0xE7, ..processor };
+    /// assert_eq!(table.guest_row(beyond, 0xB, Some(1), false), Err(Refusal::StateBeyondTable));
+    /// ```
+    #[inline]
+    pub fn guest_row(&self, processor: Processor, leaf: u32, subleaf: Option<u32>, enforce_subleaf: bool) -> Result<Option<Found>, Refusal> {
+        let Processor { x2apic, xcr0, xss, osxsave } = processor;
+        let (registers, origins) = self.arrays();
+        let (named, subleaf) = (subleaf.is_some(), subleaf.unwrap_or(0));
+        // SAFETY: the two arrays are the table's own, and the function only reads them
+        let found =
+            unsafe { exports::snp_cpuid_table_guest_find(registers, origins, x2apic, xcr0, xss, osxsave, leaf, named, subleaf, enforce_subleaf) };
+        match found.number {
+            0 => Ok(found.row()),
+            number => Err(Refusal::of(number, Details::default())),
+        }
+    }
+
+    /// Whether the table gives a processor this XCR0 and XSS. The answer stays true until either changes, or the table does.
+    ///
+    /// ```
+    /// use snp_cpuid::{Options, Processor, Refusal, Table};
+    ///
+    /// let pages = std::fs::read("../tests/epyc-milan.pages").unwrap();
+    /// let table = Table::build(&pages, Options::new()).unwrap();
+    /// // at XSETBV, or a write to XSS
+    /// let processor = Processor { x2apic: 5, xcr0: 7, xss: 0x800, osxsave: true };
+    /// let state = table.state(processor.xcr0, processor.xss).unwrap();
+    /// // at each CPUID exit
+    /// let found = table.guest_row_kept(processor, state, 0xD, Some(1), false);
+    /// assert_eq!(Ok(found), table.guest_row(processor, 0xD, Some(1), false));
+    ///
+    /// assert_eq!(table.state(0xE7, 0), Err(Refusal::StateBeyondTable));
+    /// ```
+    pub fn state(&self, xcr0: u64, xss: u64) -> Result<State, Refusal> {
+        let (registers, origins) = self.arrays();
+        // SAFETY: the two arrays are the table's own, and the function only reads them
+        let state = unsafe { exports::snp_cpuid_table_state(registers, origins, xcr0, xss) };
+        match state.number {
+            0 => Ok(State { size: state.size }),
+            number => Err(Refusal::of(number, Details::default())),
+        }
+    }
+
+    /// What [`Table::guest_row`] finds, with the state that [`Table::state`] gave for the same XCR0 and XSS. Another state changes D.1.EBX and
+    /// nothing else.
+    #[inline]
+    pub fn guest_row_kept(&self, processor: Processor, state: State, leaf: u32, subleaf: Option<u32>, enforce_subleaf: bool) -> Option<Found> {
+        let Processor { x2apic, xcr0, xss, osxsave } = processor;
+        let (registers, origins) = self.arrays();
+        let (size, named, subleaf) = (state.size, subleaf.is_some(), subleaf.unwrap_or(0));
+        // SAFETY: the two arrays are the table's own, and the function only reads them
+        unsafe {
+            exports::snp_cpuid_table_guest_find_kept(registers, origins, x2apic, xcr0, xss, osxsave, size, leaf, named, subleaf, enforce_subleaf)
+        }
+        .row()
+    }
 }
 
 /// The table of CPUID pages as the guest of one processor sees it. Its rows came from where the paravisor's did.
@@ -35,14 +140,9 @@ pub struct Processor {
 /// assert_eq!(guest(&pages, Options::new(), beyond), Err(Refusal::StateBeyondTable));
 /// ```
 pub fn guest(pages: &[u8], options: Options, processor: Processor) -> Result<Table, Refusal> {
-    let Options { secure_avic, edition } = options;
-    let Processor { x2apic, xcr0, xss, osxsave } = processor;
-    // SAFETY: the pointer and length are those of a slice, which the function only reads
-    let built =
-        unsafe { exports::snp_cpuid_guest_build(pages.as_ptr(), pages.len(), secure_avic, edition, x2apic, xcr0, xss, osxsave) }.accepted()?;
-    let mut image = [0; MOST_IMAGE_BYTES];
-    let length = write_guest_image(pages, options, processor, &mut image)?;
-    Ok(Table::new(image, length, built.max_extended_state, |leaf, subleaf| guest_lookup(pages, options, processor, leaf, subleaf, true)))
+    let mut table = Table::build(pages, options)?;
+    table.become_guest(processor)?;
+    Ok(table)
 }
 
 /// Writes the image of the guest's table to the front of `out` and gives its length. Where it refuses, `out` is as it was; bytes beyond the image are
@@ -56,7 +156,7 @@ pub fn write_guest_image(pages: &[u8], options: Options, processor: Processor, o
     written.accepted().map(|written| written.length as usize)
 }
 
-/// Builds and looks one row of the guest's table up, both in the library. [`Table::lookup`] gives the same and builds once.
+/// Builds and looks one row of the guest's table up, both in the library. [`Table::guest_row`] gives the same and builds once.
 ///
 /// ```
 /// use snp_cpuid::{Options, Processor, guest_lookup};

@@ -1,4 +1,4 @@
-//! Lists for and from KVM: a table as `struct kvm_cpuid2`, and such a list as pages (document 02, P2).
+//! Lists for and from KVM: a table as `struct kvm_cpuid2`, and such a list as pages.
 
 use crate::answer::Answer;
 use crate::{MOST_ROWS, Options, PAGE_BYTES, Refusal, exports};

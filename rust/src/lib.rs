@@ -13,12 +13,18 @@
 //! ```
 //!
 //! What is proved is what the library's exported functions return (the repository's README has the statements). This crate turns their numbers into
-//! Rust's types and reads rows from the image; its tests hold every lookup in a table against the library's own.
+//! Rust's types; its tests hold the rows of a table against the library's own answers.
+//!
+//! Without the default feature `std` the crate needs neither the standard library nor an allocator; what gives a `String` or a `Vec`, or takes page
+//! sets apart from each other, is then left out.
+
+#![cfg_attr(not(feature = "std"), no_std)]
 
 mod answer;
 mod carry;
 mod comparison;
 pub mod exports;
+pub mod features;
 mod guest;
 mod image;
 mod kvm;
@@ -26,6 +32,7 @@ mod line;
 mod nearest;
 mod options;
 mod origin;
+mod places;
 mod pool;
 mod refusal;
 mod table;
@@ -34,40 +41,39 @@ mod topologies;
 use answer::Answer;
 
 pub use carry::{NotCarried, carry_image};
-pub use comparison::{Comparison, Register};
-pub use guest::{Processor, guest, guest_lookup, write_guest_image};
-pub use image::NotAnImage;
+pub use comparison::{Comparison, Register, TableComparison};
+pub use guest::{Processor, State, guest, guest_lookup, write_guest_image};
+pub use image::{ANY_IMAGE_BYTES, ANY_KVM_BYTES, Image, NotAnImage};
 pub use kvm::{KVM_PAGES_BYTES, MOST_KVM_BYTES, read_kvm, write_kvm};
 pub use line::NoSuchLine;
 pub use nearest::{Bit, nearest};
 pub use options::Options;
 pub use origin::{Found, Origin, first_entry};
-pub use pool::{NotPooled, pool, pool_lookup, write_pool_image};
+pub use places::PLACES;
+pub use pool::NotPooled;
+#[cfg(feature = "std")]
+pub use pool::{pool, pool_lookup, write_pool_image};
 pub use refusal::{Details, Refusal, TopologyError};
 pub use table::{CpuidResult, Row, Rows, Table};
-pub use topologies::{TOPOLOGIES_BYTES, Topology, topologies, write_topologies};
+#[cfg(feature = "std")]
+pub use topologies::topologies;
+pub use topologies::{TOPOLOGIES_BYTES, Topology, write_topologies};
 
 /// The bytes of a CPUID page.
 pub const PAGE_BYTES: usize = 4096;
 
-/// The most bytes that an image can have.
+/// The most bytes that the image of a table can have that is built or pooled.
 pub const MOST_IMAGE_BYTES: usize = 732;
 
-/// The most rows that a table can have.
+/// The most rows that a table can have that is built or pooled.
 pub const MOST_ROWS: usize = 32;
 
 /// The most bytes that a refusal's line can have.
 pub const MOST_LINE_BYTES: usize = 22;
 
-/// Builds the table of CPUID pages that stand end to end. Where its rows came from is asked of the library row by row; [`write_image`], which does
-/// not ask, takes about a thirtieth of the time.
+/// Builds the table of CPUID pages that stand end to end, as [`Table::build`] does.
 pub fn build(pages: &[u8], options: Options) -> Result<Table, Refusal> {
-    let Options { secure_avic, edition } = options;
-    // SAFETY: the pointer and length are those of a slice, which the function only reads
-    let built = unsafe { exports::snp_cpuid_build(pages.as_ptr(), pages.len(), secure_avic, edition) }.accepted()?;
-    let mut image = [0; MOST_IMAGE_BYTES];
-    let length = write_image(pages, options, &mut image)?;
-    Ok(Table::new(image, length, built.max_extended_state, |leaf, subleaf| lookup(pages, options, leaf, subleaf, true)))
+    Table::build(pages, options)
 }
 
 /// Writes the image of CPUID pages to the front of `out` and gives its length. Where it refuses, `out` is as it was; bytes beyond the image are as

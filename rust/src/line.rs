@@ -1,11 +1,13 @@
 //! A refusal as one line of ASCII, and back: both are the library's.
 
+#[cfg(feature = "std")]
+use crate::MOST_LINE_BYTES;
+use crate::Refusal;
 use crate::answer::Answer;
 use crate::exports;
-use crate::{MOST_LINE_BYTES, Refusal};
-use std::error::Error;
-use std::fmt;
-use std::str::FromStr;
+use core::error::Error;
+use core::fmt;
+use core::str::FromStr;
 
 /// Bytes that are no refusal's line. It is no numbered refusal.
 #[derive(Clone, Copy, Debug, PartialEq, Eq, Hash)]
@@ -29,14 +31,23 @@ impl Refusal {
     /// // small letters, leading zeros and bytes beyond the newline are no line
     /// assert_eq!("3 0000000d 12\n".parse::<Refusal>(), Err(NoSuchLine));
     /// ```
+    #[cfg(feature = "std")]
     pub fn line(&self) -> String {
-        let (number, details, mut out) = (self.number(), self.details(), [0; MOST_LINE_BYTES]);
+        let mut out = [0; MOST_LINE_BYTES];
+        let length = self.write_line(&mut out).expect("every refusal has a line of at most 22 bytes");
+        String::from_utf8(out[..length].to_vec()).expect("ASCII")
+    }
+
+    /// Writes its line to the front of `out` and gives its length, at most [`MOST_LINE_BYTES`](crate::MOST_LINE_BYTES). Where `out` is shorter it is
+    /// as it was, and the answer is [`Refusal::BufferTooShort`]; bytes beyond the line are as they were.
+    pub fn write_line(&self, out: &mut [u8]) -> Result<usize, Refusal> {
+        let (number, details) = (self.number(), self.details());
         let (has_subleaf, subleaf) = (details.subleaf.is_some(), details.subleaf.unwrap_or(0));
-        // SAFETY: the pointer and length are those of an array, and the function writes within it
+        // SAFETY: the pointer and length are those of a slice, and the function writes within it
         let written =
             unsafe { exports::snp_cpuid_write_line(number, details.leaf, has_subleaf, subleaf, details.s.into(), out.as_mut_ptr(), out.len()) };
-        assert_eq!((written.is_line, written.number), (1, 0), "every refusal has a line of at most 22 bytes");
-        String::from_utf8(out[..written.length as usize].to_vec()).expect("ASCII")
+        assert_eq!(written.is_line, 1, "every refusal has a line");
+        if written.number == 0 { Ok(written.length as usize) } else { Err(Refusal::BufferTooShort) }
     }
 
     /// The refusal whose line these bytes are, the whole of them.

@@ -1,4 +1,4 @@
-//! The nearest bit that matters (document 02, P13).
+//! The nearest bit that matters.
 
 use crate::answer::Answer;
 use crate::{Options, PAGE_BYTES, Refusal, Register, exports};

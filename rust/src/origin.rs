@@ -1,8 +1,8 @@
-//! Where rows came from (document 02, P11).
+//! Where rows came from.
 
 use crate::answer::Answer;
 use crate::{CpuidResult, Refusal, exports};
-use std::fmt;
+use core::fmt;
 
 /// Where a row came from: an entry of the pages that were read, or no entry at all.
 ///
@@ -22,6 +22,7 @@ use std::fmt;
 /// assert_eq!(table.find(0xB, Some(1)).unwrap().origin, Origin::MadeHere);
 /// ```
 #[derive(Clone, Copy, Debug, PartialEq, Eq, Hash)]
+#[non_exhaustive]
 pub enum Origin {
     /// Made here: leaves 0 and 80000000h, and B.0 and B.1, whether or not the pages have entries for them.
     MadeHere,
@@ -83,16 +84,42 @@ fn entry(page: u64, entry: u32) -> Origin {
     Origin::Entry { page: page as usize, entry: entry as usize }
 }
 
+impl Origin {
+    /// The origin of a number in a table's memory; none where there is no row. 2, which no function writes, is read as the first entry.
+    pub(crate) fn of_number(number: u64) -> Option<Origin> {
+        match number {
+            0 => None,
+            1 => Some(Origin::MadeHere),
+            3 => Some(Origin::Unknown),
+            _ => {
+                let place = number.saturating_sub(4);
+                Some(entry(place / 64, (place % 64) as u32))
+            }
+        }
+    }
+}
+
 impl exports::Found {
     /// The row that a lookup found.
+    #[inline]
     pub(crate) fn row(self) -> Option<Found> {
         let origin = match self.origin {
             0 => return None,
             1 => Origin::MadeHere,
             2 => entry(self.page, self.entry),
+            3 => Origin::Unknown,
             // the library is proved to give no other
             other => unreachable!("origin {other}"),
         };
         Some(Found { result: CpuidResult { eax: self.eax, ebx: self.ebx, ecx: self.ecx, edx: self.edx }, origin })
+    }
+}
+
+impl exports::GuestFound {
+    /// The row that a guest's lookup found.
+    #[inline]
+    pub(crate) fn row(self) -> Option<Found> {
+        let exports::GuestFound { found, eax, ebx, ecx, edx, origin, page, entry, .. } = self;
+        exports::Found { found, eax, ebx, ecx, edx, origin, page, entry }.row()
     }
 }

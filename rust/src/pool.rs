@@ -1,9 +1,12 @@
-//! One table for a pool of servers (document 02, P12).
+//! One table for a pool of servers.
 
+#[cfg(feature = "std")]
+use crate::Found;
 use crate::answer::Answer;
-use crate::{Found, MOST_IMAGE_BYTES, Options, Refusal, Table, exports};
-use std::error::Error;
-use std::fmt;
+use crate::table::Made;
+use crate::{Options, Refusal, Table, exports};
+use core::error::Error;
+use core::fmt;
 
 /// Why servers have no table together.
 #[derive(Clone, Copy, Debug, PartialEq, Eq, Hash)]
@@ -23,7 +26,7 @@ pub struct NotPooled {
 /// [`Refusal::PoolSets`] comes first; then the first refusal of a server, in their order; then [`Refusal::PoolDiffers`], where the servers differ, in
 /// a row that all their tables have, elsewhere than in feature bits or D.0.ECX.
 ///
-/// Where the rows came from is asked of the library row by row, as [`build`](crate::build) does; [`write_pool_image`] does not ask.
+/// [`Table::pool`] is the same without the copy that puts the page sets end to end.
 ///
 /// ```
 /// use snp_cpuid::{NotPooled, Options, Refusal, build, pool};
@@ -46,24 +49,36 @@ pub struct NotPooled {
 /// // one server is no pool
 /// assert_eq!(pool(&[&a], Options::new()).unwrap_err().refusal, Refusal::PoolSets);
 /// ```
+#[cfg(feature = "std")]
 pub fn pool(sets: &[impl AsRef<[u8]>], options: Options) -> Result<Table, NotPooled> {
-    let Options { secure_avic, edition } = options;
     let joined = Joined::of(sets);
-    let (pages, lengths) = joined.slices();
-    // SAFETY: both pointers and lengths are those of slices, which the function only reads
-    let pooled = unsafe { exports::snp_cpuid_pool(pages.as_ptr(), pages.len(), lengths.as_ptr(), lengths.len(), secure_avic, edition) };
-    let accepted = pooled.accepted().map_err(|refusal| {
-        let of_the_pool = matches!(refusal, Refusal::PoolSets | Refusal::PoolDiffers);
-        NotPooled { refusal, server: (!of_the_pool).then_some(pooled.server as usize) }
-    })?;
-    let mut image = [0; MOST_IMAGE_BYTES];
-    // 9 alone could come now, and the room suffices
-    let length = joined.write_image(options, &mut image).expect("an accepted pool has its image");
-    Ok(Table::new(image, length, accepted.max_extended_state, |leaf, subleaf| joined.lookup(options, leaf, subleaf, true)))
+    Table::pool(&joined.pages, &joined.lengths, options)
+}
+
+impl Table {
+    /// The table of a pool, as `pool` gives it, of page sets that stand end to end in `pages`, with the bytes of each in `lengths`.
+    pub fn pool(pages: &[u8], lengths: &[u64], options: Options) -> Result<Table, NotPooled> {
+        let Options { secure_avic, edition } = options;
+        let mut made = Made::new();
+        let (registers, origins) = made.arrays();
+        let (length, servers) = (pages.len(), lengths.len());
+        // SAFETY: the first pointers and lengths are those of slices, which the function only reads; it writes the whole of the two arrays
+        let pooled =
+            unsafe { exports::snp_cpuid_table_pool(pages.as_ptr(), length, lengths.as_ptr(), servers, secure_avic, edition, registers, origins) };
+        match pooled.accepted() {
+            // SAFETY: as above
+            Ok(_) => Ok(unsafe { made.table() }),
+            Err(refusal) => {
+                let of_the_pool = matches!(refusal, Refusal::PoolSets | Refusal::PoolDiffers);
+                Err(NotPooled { refusal, server: (!of_the_pool).then_some(pooled.server as usize) })
+            }
+        }
+    }
 }
 
 /// Writes the image of the pool's table to the front of `out` and gives its length. Where it refuses, `out` is as it was; bytes beyond the image are
 /// as they were. [`Refusal::BufferTooShort`] comes last.
+#[cfg(feature = "std")]
 pub fn write_pool_image(sets: &[impl AsRef<[u8]>], options: Options, out: &mut [u8]) -> Result<usize, Refusal> {
     Joined::of(sets).write_image(options, out)
 }
@@ -80,16 +95,19 @@ pub fn write_pool_image(sets: &[impl AsRef<[u8]>], options: Options, out: &mut [
 /// assert_eq!(origin(&[&a, &b]), Origin::Entry { page: 0, entry: 1 });
 /// assert_eq!(origin(&[&b, &a]), Origin::Entry { page: 2, entry: 1 });
 /// ```
+#[cfg(feature = "std")]
 pub fn pool_lookup(sets: &[impl AsRef<[u8]>], options: Options, leaf: u32, subleaf: Option<u32>, enforce_subleaf: bool) -> Option<Found> {
     Joined::of(sets).lookup(options, leaf, subleaf, enforce_subleaf)
 }
 
 /// Page sets as the library takes them: end to end, and their lengths.
+#[cfg(feature = "std")]
 struct Joined {
     pages: Vec<u8>,
     lengths: Vec<u64>,
 }
 
+#[cfg(feature = "std")]
 impl Joined {
     fn of(sets: &[impl AsRef<[u8]>]) -> Joined {
         let sets = || sets.iter().map(AsRef::as_ref);

@@ -1,10 +1,11 @@
 //! The refusals, by the names that OpenHCL's `cvm_cpuid` gives the ones that it has.
 
-use std::error::Error;
-use std::fmt;
+use core::error::Error;
+use core::fmt::{self, Formatter};
 
 /// Why a page set or a pool of them gave no table, a buffer nothing, a list no pages, or a table was not carried to another edition.
 #[derive(Clone, Copy, Debug, PartialEq, Eq, Hash)]
+#[non_exhaustive]
 pub enum Refusal {
     /// 1: the length is 0 or no multiple of 4,096.
     PagesLength,
@@ -73,100 +74,115 @@ pub struct Details {
 struct Line {
     number: u32,
     name: fn(Details) -> Refusal,
-    words: fn(Details) -> String,
+    words: fn(Details, &mut Formatter<'_>) -> fmt::Result,
 }
 
 /// The refusals.
 const TABLE: &[Line] = &[
-    Line { number: 1, name: |_| Refusal::PagesLength, words: |_| "the CPUID pages must be one or more whole pages of 4,096 bytes".into() },
+    Line { number: 1, name: |_| Refusal::PagesLength, words: |_, f| f.write_str("the CPUID pages must be one or more whole pages of 4,096 bytes") },
     Line {
         number: 2,
         name: |_| Refusal::PageCount,
-        words: |_| "a CPUID page counts more than 64 entries: the page is damaged or no CPUID page".into(),
+        words: |_, f| f.write_str("a CPUID page counts more than 64 entries: the page is damaged or no CPUID page"),
     },
     Line {
         number: 3,
         name: |d| Refusal::MissingRequiredResult(d.leaf, d.subleaf),
-        words: |d| match (d.leaf, d.subleaf) {
-            (leaf, None) => format!("no entry for leaf {leaf:X}h, which every guest needs"),
-            (0xD, Some(subleaf)) => format!("no entry for leaf Dh subleaf {subleaf:X}h on page 1, where the entries of Dh must stand"),
-            (leaf, Some(subleaf)) => format!("no entry for leaf {leaf:X}h subleaf {subleaf:X}h, which every guest needs"),
+        words: |d, f| match (d.leaf, d.subleaf) {
+            (leaf, None) => write!(f, "no entry for leaf {leaf:X}h, which every guest needs"),
+            (0xD, Some(subleaf)) => write!(f, "no entry for leaf Dh subleaf {subleaf:X}h on page 1, where the entries of Dh must stand"),
+            (leaf, Some(subleaf)) => write!(f, "no entry for leaf {leaf:X}h subleaf {subleaf:X}h, which every guest needs"),
         },
     },
-    Line { number: 4, name: |_| Refusal::InvlpgbUnavailable, words: |_| "INVLPGB (80000008h.EBX bit 3) is required but unavailable".into() },
+    Line { number: 4, name: |_| Refusal::InvlpgbUnavailable, words: |_, f| f.write_str("INVLPGB (80000008h.EBX bit 3) is required but unavailable") },
     Line {
         number: 5,
         name: |_| Refusal::SaveAreaOverflow,
-        words: |_| "the size of an extended state (Dh: EAX + EBX of a subleaf) does not fit 32 bits".into(),
+        words: |_, f| f.write_str("the size of an extended state (Dh: EAX + EBX of a subleaf) does not fit 32 bits"),
     },
     Line {
         number: 6,
         name: |d| Refusal::TopologyInconsistent(TopologyError::Hyperthreading(d.s)),
-        words: |d| format!("the processor count does not go with the hyperthreading flag, 1.EDX bit 28 (APIC core id size {})", d.s),
+        words: |d, f| write!(f, "the processor count does not go with the hyperthreading flag, 1.EDX bit 28 (APIC core id size {})", d.s),
     },
     Line {
         number: 7,
         name: |d| Refusal::TopologyInconsistent(TopologyError::ProcessorCount(d.s)),
-        words: |d| match d.s {
-            0 => "1.EBX bits 16-23 must be 80000008h.ECX bits 0-7 plus 1 (APIC core id size 0)".into(),
-            s @ 1..8 => format!("1.EBX bits 16-23 must be 2^{s} = {}, and 80000008h.ECX bits 0-7 plus 1 no more (APIC core id size {s})", 1 << s),
-            s => format!("the processor counts of 1.EBX and 80000008h.ECX disagree (APIC core id size {s})"),
+        words: |d, f| match d.s {
+            0 => f.write_str("1.EBX bits 16-23 must be 80000008h.ECX bits 0-7 plus 1 (APIC core id size 0)"),
+            s @ 1..8 => {
+                write!(f, "1.EBX bits 16-23 must be 2^{s} = {}, and 80000008h.ECX bits 0-7 plus 1 no more (APIC core id size {s})", 1 << s)
+            }
+            s => write!(f, "the processor counts of 1.EBX and 80000008h.ECX disagree (APIC core id size {s})"),
         },
     },
     Line {
         number: 8,
         name: |_| Refusal::TopologyInconsistent(TopologyError::ThreadsPerUnit),
-        words: |_| "8000001Eh.EBX gives more threads per unit than there can be".into(),
+        words: |_, f| f.write_str("8000001Eh.EBX gives more threads per unit than there can be"),
     },
     Line {
         number: 9,
         name: |_| Refusal::BufferTooShort,
-        words: |_| {
+        words: |_, f| {
             let (image, list, pages) = (crate::MOST_IMAGE_BYTES, crate::MOST_KVM_BYTES, crate::KVM_PAGES_BYTES);
-            format!("the buffer is too short: {image} bytes always suffice for an image, {list} for a list for KVM, {pages} for its pages")
+            write!(
+                f,
+                "the buffer is too short: {image} bytes suffice for a built table's image, {list} for its list for KVM, {pages} for a list's pages"
+            )
         },
     },
-    Line { number: 10, name: |_| Refusal::ListLength, words: |_| "the list for KVM must have 8 bytes and 40 for each row that it counts".into() },
+    Line {
+        number: 10,
+        name: |_| Refusal::ListLength,
+        words: |_, f| f.write_str("the list for KVM must have 8 bytes and 40 for each row that it counts"),
+    },
     Line {
         number: 11,
         name: |_| Refusal::ListRows,
-        words: |_| "the list for KVM has more rows of leaf Dh, or of all others, than the 64 of a page".into(),
+        words: |_, f| f.write_str("the list for KVM has more rows of leaf Dh, or of all others, than the 64 of a page"),
     },
     Line {
         number: 12,
         name: |_| Refusal::ListFields,
-        words: |_| "the list for KVM has a flag other than 0 or 1, or a word that must be zero is not".into(),
+        words: |_, f| f.write_str("the list for KVM has a flag other than 0 or 1, or a word that must be zero is not"),
     },
     Line {
         number: 13,
         name: |_| Refusal::StateBeyondTable,
-        words: |_| "XCR0 lacks bit 0 (x87) or has a bit that D.0.EAX lacks, or XSS has a bit that D.1.ECX lacks".into(),
+        words: |_, f| f.write_str("XCR0 lacks bit 0 (x87) or has a bit that D.0.EAX lacks, or XSS has a bit that D.1.ECX lacks"),
     },
     Line {
         number: 14,
         name: |_| Refusal::CompactSizeTooLarge,
-        words: |_| "the size of the compacted save area of XCR0 and XSS (D.1.EBX) does not fit 32 bits".into(),
+        words: |_, f| f.write_str("the size of the compacted save area of XCR0 and XSS (D.1.EBX) does not fit 32 bits"),
     },
-    Line { number: 15, name: |_| Refusal::UnknownEdition, words: |_| "the AVX rule has no such edition: it has editions 1 and 2".into() },
-    Line { number: 16, name: |_| Refusal::EditionBack, words: |_| "a table does not go from edition 2 of the AVX rule back to edition 1".into() },
+    Line { number: 15, name: |_| Refusal::UnknownEdition, words: |_, f| f.write_str("the AVX rule has no such edition: it has editions 1 and 2") },
+    Line {
+        number: 16,
+        name: |_| Refusal::EditionBack,
+        words: |_, f| f.write_str("a table does not go from edition 2 of the AVX rule back to edition 1"),
+    },
     Line {
         number: 17,
         name: |d| Refusal::ReservedBytes { leaf: d.leaf },
-        words: |d| format!("an entry for leaf {:X}h has a reserved byte, one of its last eight, that is not zero", d.leaf),
+        words: |d, f| write!(f, "an entry for leaf {:X}h has a reserved byte, one of its last eight, that is not zero", d.leaf),
     },
     Line {
         number: 18,
         name: |_| Refusal::PoolSets,
-        words: |_| "a pool has 2 to 16 page sets, and their lengths sum to the bytes handed over".into(),
+        words: |_, f| f.write_str("a pool has 2 to 16 page sets, and their lengths sum to the bytes handed over"),
     },
     Line {
         number: 19,
         name: |_| Refusal::PoolDiffers,
-        words: |_| {
-            "the servers of the pool differ, in a row that all their tables have, elsewhere than in feature bits or the size of the save area".into()
+        words: |_, f| {
+            f.write_str(
+                "the servers of the pool differ, in a row that all their tables have, elsewhere than in feature bits or the size of the save area",
+            )
         },
     },
-    Line { number: 20, name: |_| Refusal::NothingDecides, words: |_| "no single bit of the results decides over the answer".into() },
+    Line { number: 20, name: |_| Refusal::NothingDecides, words: |_, f| f.write_str("no single bit of the results decides over the answer") },
 ];
 
 impl Refusal {
@@ -216,23 +232,23 @@ impl Refusal {
         TABLE.iter().find(|line| (line.name)(self.details()) == *self).expect("every refusal stands in the table")
     }
 
-    fn words(&self) -> String {
-        (self.row().words)(self.details())
+    fn words(&self, f: &mut Formatter<'_>) -> fmt::Result {
+        (self.row().words)(self.details(), f)
     }
 }
 
 impl fmt::Display for Refusal {
-    fn fmt(&self, f: &mut fmt::Formatter<'_>) -> fmt::Result {
+    fn fmt(&self, f: &mut Formatter<'_>) -> fmt::Result {
         match self {
             Refusal::TopologyInconsistent(why) => write!(f, "the topology leaves disagree: {why}"),
-            _ => f.write_str(&self.words()),
+            _ => self.words(f),
         }
     }
 }
 
 impl fmt::Display for TopologyError {
-    fn fmt(&self, f: &mut fmt::Formatter<'_>) -> fmt::Result {
-        f.write_str(&Refusal::TopologyInconsistent(*self).words())
+    fn fmt(&self, f: &mut Formatter<'_>) -> fmt::Result {
+        Refusal::TopologyInconsistent(*self).words(f)
     }
 }
 
@@ -251,7 +267,7 @@ impl Error for TopologyError {}
 mod tests {
     use super::*;
 
-    /// The variants with their numbers (document 01, "Where each check stands", and document 02) and what each names.
+    /// The variants with their numbers and what each names.
     #[test]
     fn numbers_and_details_lead_to_the_name_and_back() {
         let (none, s) = (Details::default(), Details { s: 7, ..Details::default() });

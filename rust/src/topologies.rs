@@ -1,4 +1,4 @@
-//! Every topology that building accepts up to size seven (document 02, P14).
+//! Every topology that building accepts up to size seven.
 
 use crate::answer::Answer;
 use crate::{Refusal, exports};
@@ -36,6 +36,7 @@ pub struct Topology {
 /// assert!(all.contains(&Topology { s: 0, nc: 2, lps: 3, mt: true, t: 1 }));
 /// assert!(!all.contains(&Topology { s: 0, nc: 3, lps: 3, mt: true, t: 1 }));
 /// ```
+#[cfg(feature = "std")]
 pub fn topologies() -> Vec<Topology> {
     let mut bytes = [0; TOPOLOGIES_BYTES];
     let length = write_topologies(&mut bytes).expect("there is room for the list");

@@ -35,6 +35,7 @@ fn told(answer: Comparison) -> (&'static str, String) {
         Comparison::UnlawfulB(refusal) => ("unlawful-b", details(refusal)),
         Comparison::NoEntry { leaf, subleaf } => ("no-entry", place(leaf, subleaf)),
         Comparison::Differs { leaf, subleaf, register } => ("differs", format!("{} {}", place(leaf, subleaf), register.to_string().to_lowercase())),
+        other => panic!("{other}"),
     }
 }
 

@@ -33,7 +33,7 @@ fn row(found: Option<Found>) -> String {
     let origin = match origin {
         Origin::MadeHere => "made".into(),
         Origin::Entry { page, entry } => format!("{page:x}:{entry:x}"),
-        Origin::Unknown => "unknown".into(),
+        _ => "unknown".into(),
     };
     format!("{:x} {:x} {:x} {:x} {origin}", r.eax, r.ebx, r.ecx, r.edx)
 }

@@ -17,7 +17,7 @@ fn what_was_written_is_read() {
         for secure_avic in [false, true] {
             let options = Options::new().edition(edition).secure_avic(secure_avic);
             for table in [build(&epyc(), options).unwrap(), build(&less, options).unwrap(), pool(&[epyc(), less.clone()], options).unwrap()] {
-                let read = Table::try_from(table.image()).unwrap();
+                let read = Table::try_from(&table.image()[..]).unwrap();
                 assert_eq!(read, table);
                 assert_eq!((read.image(), read.max_extended_state()), (table.image(), table.max_extended_state()));
                 assert!(read.rows().all(|row| row.origin == Origin::Unknown) && table.rows().all(|row| row.origin != Origin::Unknown));
@@ -40,7 +40,7 @@ fn what_is_no_image_is_not_read() {
     for length in 0..image.len() {
         assert_eq!(Table::try_from(&image[..length]).is_ok(), ends.contains(&length), "{length}");
     }
-    assert_eq!(Table::try_from(&[image, &[0]].concat()[..]), Err(NotAnImage));
+    assert_eq!(Table::try_from(&[&image[..], &[0]].concat()[..]), Err(NotAnImage));
     // a kind that is none, a leaf that no table has, rows out of order, a row twice
     let changed = |at: usize, byte: u8| {
         let mut copy = image.to_vec();
@@ -49,18 +49,21 @@ fn what_is_no_image_is_not_read() {
     };
     assert_eq!((changed(0, 3), changed(0, 2), changed(1, 9)), (Err(NotAnImage), Err(NotAnImage), Err(NotAnImage)));
     assert_eq!(Table::try_from(&[&image[21..42], &image[..21], &image[42..]].concat()[..]), Err(NotAnImage));
-    assert_eq!(Table::try_from(&[&image[..21], image].concat()[..]), Err(NotAnImage));
-    // longer than any table that building gives
-    assert_eq!(Table::try_from(&[0; MOST_IMAGE_BYTES + 1][..]), Err(NotAnImage));
+    assert_eq!(Table::try_from(&[&image[..21], &image].concat()[..]), Err(NotAnImage));
     assert_eq!(Table::try_from(&epyc()[..]), Err(NotAnImage));
 }
 
-/// Any table's image is read that is no longer than those of building, also one without the rows that a guest needs.
+/// Any table's image is read, also one longer than those of building or without the rows that a guest needs.
 #[test]
 fn tables_built_otherwise() {
-    // D.0 to D.28: 29 rows of 25 bytes, and any further one would be too long
+    // D.0 to D.63, and D.64 is no row of a table
     let row = |subleaf: u8| [&[2, 0xD, 0, 0, 0, subleaf, 0, 0, 0][..], &[0; 16]].concat();
     let image = |rows: u8| (0..rows).flat_map(row).collect::<Vec<u8>>();
-    assert_eq!(Table::try_from(&image(29)[..]).unwrap().rows().count(), 29);
-    assert_eq!(Table::try_from(&image(30)[..]), Err(NotAnImage));
+    for rows in [0, 1, 29, 30, 64] {
+        let table = Table::try_from(&image(rows)[..]).unwrap();
+        assert_eq!((table.row_count(), table.rows().len()), (rows.into(), rows.into()));
+        assert_eq!(table.image(), image(rows));
+    }
+    assert_eq!(Table::try_from(&image(65)[..]), Err(NotAnImage));
+    assert!(image(64).len() > MOST_IMAGE_BYTES);
 }

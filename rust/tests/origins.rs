@@ -78,7 +78,7 @@ fn the_numbers_of_a_lookup() {
                         let (origin, page, entry) = match origin {
                             Origin::MadeHere => (1, 0, 0),
                             Origin::Entry { page, entry } => (2, page as u64, entry as u32),
-                            Origin::Unknown => panic!("pages were read"),
+                            _ => panic!("pages were read"),
                         };
                         Numbers { found: 1, eax: r.eax, ebx: r.ebx, ecx: r.ecx, edx: r.edx, origin, page, entry }
                     }

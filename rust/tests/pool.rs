@@ -86,7 +86,10 @@ impl Question {
         let image = out[..written.length as usize].to_vec();
         if let Some(table) = by_crate {
             let table = table.expect("the library accepts it");
-            assert_eq!((table.image(), table.max_extended_state(), table.rows().count() as u64), (&image[..], p.max_extended_state, p.row_count));
+            assert_eq!(
+                (&table.image()[..], table.max_extended_state(), table.rows().count() as u64),
+                (&image[..], p.max_extended_state, p.row_count)
+            );
             // each row came from where the first server's did
             let first = build(&self.sets[0], self.options).expect("the first server is accepted");
             assert!(table.rows().all(|row| first.find(row.leaf, row.subleaf).map(|own| own.origin) == Some(row.origin)));

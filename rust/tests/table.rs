@@ -128,7 +128,7 @@ fn a_short_buffer_is_left_and_a_long_one_beyond_the_image() {
     let mut out = vec![0x5A; length + 100];
     assert_eq!(write_image(&pages, Options::new(), &mut out), Ok(length));
     assert!(out[length..].iter().all(|&byte| byte == 0x5A));
-    assert_eq!(&out[..length], build(&pages, Options::new()).unwrap().image());
+    assert_eq!(build(&pages, Options::new()).unwrap().image(), out[..length]);
 }
 
 #[test]

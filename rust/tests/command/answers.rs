@@ -43,7 +43,7 @@ fn table_has_the_librarys_rows() {
             let origin = match row.origin {
                 Origin::MadeHere => "\"made here\",null,null".to_string(),
                 Origin::Entry { page, entry } => format!("\"entry\",{page},{entry}"),
-                Origin::Unknown => panic!("pages were read"),
+                _ => panic!("pages were read"),
             };
             let registers = [row.result.eax, row.result.ebx, row.result.ecx, row.result.edx].map(|value| format!("\"{value:08X}\"")).join(",");
             let subleaf = row.subleaf.map_or("null".into(), |subleaf| subleaf.to_string());

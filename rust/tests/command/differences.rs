@@ -2,7 +2,7 @@
 
 use crate::differences::differences;
 use crate::page_sets::{Entries, REQUIRED, epyc, rich, set};
-use snp_cpuid::{Comparison, KVM_PAGES_BYTES, MOST_KVM_BYTES, Options, Table, build, compare, read_kvm, write_kvm};
+use snp_cpuid::{Comparison, KVM_PAGES_BYTES, MOST_KVM_BYTES, Options, Table, TableComparison, build, compare, read_kvm, write_kvm};
 
 /// Numbers that look random and are the same in every run (xorshift).
 struct Numbers(u64);
@@ -65,9 +65,10 @@ fn nothing_is_in_the_way_where_the_library_says_yes() {
         let in_the_way = all.iter().any(|difference| difference.blocks());
         assert_eq!(all.is_empty(), table_a == table_b);
         assert_eq!(!in_the_way, table_rises(&table_a, &table_b));
-        // the same by the library, on pages that have the tables' rows; where it says no, the place that it names is in the way
-        let answer = compare(&as_pages(&a), &as_pages(&b), Options::new());
-        assert_eq!(answer == Comparison::Rises, !in_the_way, "{answer:?}");
+        // the same by the library, on pages that have the tables' rows, and on the tables; where it says no, the place that it names is in the way
+        assert_eq!(compare(&as_pages(&a), &as_pages(&b), Options::new()) == Comparison::Rises, !in_the_way);
+        let answer = table_a.compare(&table_b);
+        assert_eq!(answer == TableComparison::Rises, !in_the_way, "{answer:?}");
         assert_eq!(all.iter().any(|difference| difference.blocks() && difference.is_named_by(answer)), in_the_way, "{answer:?}");
         match compare(&a, &b, Options::new()) {
             Comparison::Rises => {

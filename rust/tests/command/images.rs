@@ -147,7 +147,7 @@ fn images_pooled() {
     assert_eq!(run(&["compare", &left, &right, "--edition", "2"]).status, 2);
 }
 
-/// An image of rows that no pages give: only what needs no more than a table is answered.
+/// An image of rows that no pages give: what needs a table is answered, and only a pool, which needs pages, is not.
 #[test]
 fn tables_that_building_does_not_give() {
     let folder = Folder::new("image_other");
@@ -158,26 +158,33 @@ fn tables_that_building_does_not_give() {
     changed[21 + 5 + 3] |= 0x80;
     let changed = folder.file("changed", &changed);
     let processor = ["--apic", "1", "--xcr0", "1", "--xss", "0"];
-    for file in [&short, &changed] {
+    for (file, rows) in [(&short, 28), (&changed, 29)] {
         assert_eq!(run(&["table", file]).status, 0);
+        let seen = run(&[&["guest", file, "--origins"], &processor[..]].concat());
+        assert_eq!((seen.status, seen.text().lines().filter(|line| line.ends_with("  unknown")).count()), (0, rows), "{}", seen.err);
+        assert_eq!(run(&["to-kvm", file, "-o", "-"]).out.len(), 8 + 40 * rows);
     }
-    let ran = run(&[&["guest", &short], &processor[..]].concat());
-    assert!(ran.status == 1 && ran.line().starts_with(&format!("{short}: refusal 3: no entry for leaf 8000001Fh")), "{}", ran.err);
-    let ran = run(&[&["guest", &changed], &processor[..]].concat());
+    for (arguments, why) in [
+        (["compare", &changed, EPYC], "Leaf 00000001 EAX must be equal: A has 80A00F11, B 00A00F11."),
+        (["compare", EPYC, &changed], "Leaf 00000001 EAX must be equal: A has 00A00F11, B 80A00F11."),
+        (["compare", EPYC, &short], "B has no row for leaf 8000001F."),
+        (["compare", &short, EPYC], "B has a row for leaf 8000001F, which A has not."),
+    ] {
+        let ran = run(&arguments);
+        let first = ran.text().split("\n\n").next().unwrap().replace('\n', " ").split_whitespace().collect::<Vec<_>>().join(" ");
+        assert_eq!((ran.status, first), (1, format!("no: a guest of A may not move to B. {why}")));
+    }
     let why = format!("{changed}: no pages give the table of this image");
-    assert_eq!((ran.status, ran.line()), (1, why.as_str()));
-    if let Some(read) = jq(&run(&["compare", &changed, EPYC, "--json"]).out, "[.answer, .file, .words]") {
+    if let Some(read) = jq(&run(&["pool", &changed, EPYC, "--json"]).out, "[.answer, .file, .words]") {
         assert_eq!(read, format!("[\"no\",\"{changed}\",\"no pages give the table of this image\"]"));
     }
-    for arguments in [["compare", &changed, EPYC], ["compare", EPYC, &changed], ["pool", EPYC, &changed], ["pool", &changed, EPYC]] {
+    for arguments in [["pool", EPYC, &changed], ["pool", &changed, EPYC]] {
         let ran = run(&arguments);
         assert_eq!((ran.status, ran.line()), (1, why.as_str()));
     }
-    for arguments in [["compare", &short, EPYC], ["compare", EPYC, &short], ["pool", EPYC, &short]] {
-        let ran = run(&arguments);
-        assert!(ran.status == 1 && ran.line().starts_with(&format!("{short}: refusal 3: ")), "{}", ran.err);
-        assert_eq!(ran.notes()[0], "no entry for 8000001F");
-    }
+    let ran = run(&["pool", EPYC, &short]);
+    assert!(ran.status == 1 && ran.line().starts_with(&format!("{short}: refusal 3: ")), "{}", ran.err);
+    assert_eq!(ran.notes()[0], "no entry for 8000001F");
 }
 
 #[test]

@@ -1,6 +1,8 @@
 //! The command `snp-cpuid`, run as a user runs it. Expected answers come from the model of document 01 (its image of the shipped set, and
 //! document 01's own rows), the public database of bits, the specification, and Debian's `cpuid`.
 
+use snp_cpuid::features;
+
 mod answers;
 mod browser;
 #[path = "caches.rs"]
@@ -53,9 +55,6 @@ mod components;
 #[path = "../../src/bin/snp-cpuid/differences.rs"]
 mod differences;
 #[allow(dead_code)]
-#[path = "../../src/bin/snp-cpuid/features.rs"]
-mod features;
-#[allow(dead_code)]
 #[path = "../../src/bin/snp-cpuid/fields.rs"]
 mod fields;
 #[allow(dead_code)]
@@ -67,9 +66,6 @@ mod masks;
 #[allow(dead_code)]
 #[path = "../../src/bin/snp-cpuid/option.rs"]
 mod option;
-#[allow(dead_code)]
-#[path = "../../src/bin/snp-cpuid/order.rs"]
-mod order;
 #[allow(dead_code)]
 #[path = "../../src/bin/snp-cpuid/pages.rs"]
 mod pages;

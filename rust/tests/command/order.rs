@@ -1,9 +1,8 @@
-//! The order of tables held against the library: its pool, whose table is the greatest that rises to both servers', and its comparison of pages.
+//! The library's order of tables held against its pool, whose table is the greatest that rises to both servers', and its comparison of pages.
 
 use crate::features::FEATURES;
-use crate::order::{Compared, compared};
 use crate::page_sets::{Entries, epyc, rich, set, topology};
-use snp_cpuid::{Comparison, Options, Register, Row, Table, build, compare, pool};
+use snp_cpuid::{Comparison, Options, Register, Row, Table, TableComparison, build, compare, pool};
 
 /// A generator of numbers, the same in every run (Marsaglia, "Xorshift RNGs", 2003).
 struct Numbers(u64);
@@ -53,19 +52,19 @@ fn as_the_pool_and_the_comparison_of_pages_say() {
         let servers = servers(&base, 40, &mut numbers);
         for (a, table_a) in &servers {
             for (b, table_b) in &servers {
-                let answer = compared(table_a, table_b);
+                let answer = table_a.compare(table_b);
                 let pooled = pool(&[a, b], Options::new());
-                assert_eq!(answer == Compared::Rises, pooled.as_ref() == Ok(table_a), "{answer:?}");
+                assert_eq!(answer == TableComparison::Rises, pooled.as_ref() == Ok(table_a), "{answer:?}");
                 if compare(a, b, Options::new()) == Comparison::Rises {
-                    assert_eq!(answer, Compared::Rises);
+                    assert_eq!(answer, TableComparison::Rises);
                     promised += 1;
                 }
                 if let Ok(pooled) = pooled {
-                    assert_eq!((compared(&pooled, table_a), compared(&pooled, table_b)), (Compared::Rises, Compared::Rises));
+                    assert_eq!((pooled.compare(table_a), pooled.compare(table_b)), (TableComparison::Rises, TableComparison::Rises));
                 }
                 // pages with a table's own rows promise what the tables allow
-                assert_eq!(answer == Compared::Rises, compare(&rows(table_a), &rows(table_b), Options::new()) == Comparison::Rises);
-                rises += usize::from(answer == Compared::Rises);
+                assert_eq!(answer == TableComparison::Rises, compare(&rows(table_a), &rows(table_b), Options::new()) == Comparison::Rises);
+                rises += usize::from(answer == TableComparison::Rises);
                 pairs += 1;
             }
         }
@@ -78,7 +77,7 @@ fn as_the_pool_and_the_comparison_of_pages_say() {
 #[test]
 fn it_is_an_order() {
     let tables: Vec<Table> = servers(&epyc(), 40, &mut Numbers(7)).into_iter().map(|(_, table)| table).collect();
-    let below = |a: &Table, b: &Table| compared(a, b) == Compared::Rises;
+    let below = |a: &Table, b: &Table| a.compare(b) == TableComparison::Rises;
     for a in &tables {
         assert!(below(a, a));
         for b in &tables {
@@ -110,12 +109,12 @@ fn the_first_place_that_fails() {
         // CET_SS goes with its state
         (with(0xD, 1, 2, 0x1000), 0x7, Some(0), Register::Ecx),
     ] {
-        assert_eq!(compared(&full, &table(&less)), Compared::Differs { leaf, subleaf, register });
+        assert_eq!(full.compare(&table(&less)), TableComparison::Differs { leaf, subleaf, register });
     }
     // a larger state behind the others makes the save area larger: that is no less, but the state's own row differs
     let larger = table(&with(0xD, 7, 0, 1024 ^ 2048));
-    assert_eq!(compared(&full, &larger), Compared::Differs { leaf: 0xD, subleaf: Some(7), register: Register::Eax });
-    assert_eq!(compared(&larger, &full), Compared::Differs { leaf: 0xD, subleaf: Some(0), register: Register::Ecx });
+    assert_eq!(full.compare(&larger), TableComparison::Differs { leaf: 0xD, subleaf: Some(7), register: Register::Eax });
+    assert_eq!(larger.compare(&full), TableComparison::Differs { leaf: 0xD, subleaf: Some(0), register: Register::Ecx });
     // hyperthreading must be equal; with s from 8 on it is not compared with the counts
     let [on, off] = [1, 0].map(|mt| {
         let mut entries = epyc();
@@ -123,9 +122,9 @@ fn the_first_place_that_fails() {
         table(&entries)
     });
     for (a, b) in [(&on, &off), (&off, &on)] {
-        assert_eq!(compared(a, b), Compared::Differs { leaf: 0x1, subleaf: None, register: Register::Edx });
+        assert_eq!(a.compare(b), TableComparison::Differs { leaf: 0x1, subleaf: None, register: Register::Edx });
     }
     // further states and their rows are no obstacle
-    assert_eq!(compared(&table(&with(0xD, 0, 0, 0xE0)), &full), Compared::Rises);
-    assert_eq!(compared(&table(&with(0xD, 1, 2, 0x1000)), &full), Compared::Rises);
+    assert_eq!(table(&with(0xD, 0, 0, 0xE0)).compare(&full), TableComparison::Rises);
+    assert_eq!(table(&with(0xD, 1, 2, 0x1000)).compare(&full), TableComparison::Rises);
 }

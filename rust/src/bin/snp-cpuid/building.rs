@@ -10,7 +10,7 @@ use crate::output;
 use crate::reasons::{self, Reason};
 use crate::source::Source;
 pub use crate::source::image;
-use snp_cpuid::{Bit, Comparison, MOST_KVM_BYTES, NotPooled, Options, Origin, Processor, Refusal, Table};
+use snp_cpuid::{ANY_KVM_BYTES, Bit, Comparison, NotPooled, Options, Origin, Processor, Refusal, Table};
 use std::ffi::OsStr;
 use std::fmt::Display;
 
@@ -118,10 +118,9 @@ impl Building {
 
     /// The list for KVM of a file.
     pub fn kvm_list(&self, file: &OsStr) -> Result<Vec<u8>, Failure> {
-        let source = self.heeding(file)?.into_pages(self)?;
-        let mut list = vec![0; MOST_KVM_BYTES];
-        let written = snp_cpuid::write_kvm(&source.pages, source.options, &mut list);
-        list.truncate(written.map_err(|refusal| self.pages_refused(file, refusal, &source.pages))?);
+        let mut list = vec![0; ANY_KVM_BYTES];
+        let length = self.table(file)?.write_kvm(&mut list).expect("there is room for every row");
+        list.truncate(length);
         Ok(list)
     }
 
@@ -133,14 +132,10 @@ impl Building {
 
     /// The table of a file as a processor's guest sees it; as the paravisor has it where no processor is given.
     pub fn seen(&self, file: &OsStr, processor: Option<Processor>) -> Result<Table, Failure> {
-        let Some(processor) = processor else { return self.table(file) };
-        let source = self.heeding(file)?.into_pages(self)?;
-        let seen = snp_cpuid::guest(&source.pages, source.options, processor).map_err(|refusal| match source.table() {
-            Ok(table) => self.refused(shown(file), refusal, &reasons::of_guest(refusal, &table, processor.xcr0, processor.xss)),
-            Err(_) => self.pages_refused(file, refusal, &source.pages),
-        })?;
-        // the entries are those of pages made here, where the file is an image
-        Ok(if source.image.is_some() { Table::try_from(seen.image()).expect("a guest's table has an image") } else { seen })
+        let table = self.table(file)?;
+        let Some(processor) = processor else { return Ok(table) };
+        let refused = |refusal| self.refused(shown(file), refusal, &reasons::of_guest(refusal, &table, processor.xcr0, processor.xss));
+        table.guest(processor).map_err(refused)
     }
 
     /// Why a file of pages was refused.

@@ -4,7 +4,7 @@ use crate::features::{self, ECX, EDX, REGISTERS};
 use crate::json::{Json, hex, object};
 use crate::print::place_json;
 use crate::{print, words};
-use snp_cpuid::{Comparison, Origin, Row, Table};
+use snp_cpuid::{Origin, Row, Table, TableComparison};
 
 /// The two tables that are held against each other.
 pub struct Tables<'a> {
@@ -27,8 +27,8 @@ enum What {
     Bit { register: usize, bit: u32, name: &'static str, first: bool },
     /// a register that is no feature register
     Value { register: usize, values: [u32; 2] },
-    /// a row of one table alone
-    Alone { first: bool },
+    /// a row of one table alone; `further` where it is that of an extended state that only the second has
+    Alone { first: bool, further: bool },
 }
 
 /// 1.EDX bit 28, which tells a topology and is no feature.
@@ -37,16 +37,22 @@ pub const HTT: (u32, usize, u32) = (0x1, EDX, 28);
 /// What two tables differ in, rows in order.
 pub fn differences(a: &Table, b: &Table) -> Vec<Difference> {
     let mut found = vec![];
+    let states = !a.max_extended_state() & b.max_extended_state();
     for (leaf, subleaf) in places(a, b) {
         let rows = [a.find(leaf, subleaf), b.find(leaf, subleaf)];
         let origins = rows.map(|row| row.map(|row| row.origin));
         let what = match rows {
             [Some(a), Some(b)] => of_rows(&a, &b),
-            [a, _] => vec![What::Alone { first: a.is_some() }],
+            [a, _] => vec![What::Alone { first: a.is_some(), further: is_state(leaf, subleaf, states) }],
         };
         found.extend(what.into_iter().map(|what| Difference { leaf, subleaf, origins, what }));
     }
     found
+}
+
+/// Whether this is the row of a state of the mask.
+fn is_state(leaf: u32, subleaf: Option<u32>, mask: u64) -> bool {
+    leaf == 0xD && subleaf.is_some_and(|state| (2..64).contains(&state) && mask >> state & 1 == 1)
 }
 
 /// The places of either table, in order.
@@ -74,25 +80,27 @@ fn of_rows(a: &Row, b: &Row) -> Vec<What> {
 
 impl Difference {
     /// Whether it stands in the way of a guest that moves from the first table to the second: the second must have every row of the first, every
-    /// feature bit and a save area, D.0.ECX, no smaller, and be equal elsewhere.
+    /// feature bit and a save area, D.0.ECX, no smaller, be equal elsewhere, and have no row besides but those of further states.
     pub fn blocks(&self) -> bool {
         match self.what {
             What::Bit { register, bit, first, .. } => first || (self.leaf, register, bit) == HTT,
             What::Value { register: ECX, values: [a, b] } if (self.leaf, self.subleaf) == (0xD, Some(0)) => b < a,
             What::Value { .. } => true,
-            What::Alone { first } => first,
+            What::Alone { further, .. } => !further,
         }
     }
 
     /// Whether it is of the place that a comparison of the two tables names.
-    pub fn is_named_by(&self, answer: Comparison) -> bool {
+    pub fn is_named_by(&self, answer: TableComparison) -> bool {
         let register = match self.what {
             What::Bit { register, .. } | What::Value { register, .. } => Some(register),
             What::Alone { .. } => None,
         };
         match answer {
-            Comparison::NoEntry { leaf, subleaf } => (self.leaf, self.subleaf, register) == (leaf, subleaf, None),
-            Comparison::Differs { leaf, subleaf, register: own } => (self.leaf, self.subleaf, register) == (leaf, subleaf, Some(own as usize)),
+            TableComparison::NoRow { leaf, subleaf } | TableComparison::Beyond { leaf, subleaf } => {
+                (self.leaf, self.subleaf, register) == (leaf, subleaf, None)
+            }
+            TableComparison::Differs { leaf, subleaf, register: own } => (self.leaf, self.subleaf, register) == (leaf, subleaf, Some(own as usize)),
             _ => false,
         }
     }
@@ -108,7 +116,8 @@ impl Difference {
             What::Value { register, values: [in_a, in_b] } => {
                 format!("Leaf {leaf} {} must be equal: {a} has {in_a:08X}, {b} {in_b:08X}", REGISTERS[register])
             }
-            What::Alone { .. } => format!("{b} has no row for leaf {leaf}"),
+            What::Alone { first: true, .. } => format!("{b} has no row for leaf {leaf}"),
+            What::Alone { first: false, .. } => format!("{b} has a row for leaf {leaf}, which {a} has not"),
         }
     }
 
@@ -121,7 +130,7 @@ impl Difference {
                 format!("{}  {name} (bit {bit}): {has} has it, {lacks} has not", REGISTERS[register])
             }
             What::Value { register, values: [in_a, in_b] } => format!("{}  {a} {in_a:08X}, {b} {in_b:08X}", REGISTERS[register]),
-            What::Alone { first } => {
+            What::Alone { first, .. } => {
                 let origin = self.origins[usize::from(!first)].filter(|_| told.origins);
                 format!("a row of {} alone{}", if first { a } else { b }, origin.map_or(String::new(), |origin| format!(", {origin}")))
             }
@@ -144,7 +153,7 @@ impl Difference {
                 object(of).with([("a", first.into()), ("b", (!first).into())])
             }
             What::Value { register, values: [a, b] } => object([("register", REGISTERS[register].into()), ("a", hex(a)), ("b", hex(b))]),
-            What::Alone { first } => object([("row_of", if first { "a" } else { "b" }.into())]),
+            What::Alone { first, .. } => object([("row_of", if first { "a" } else { "b" }.into())]),
         };
         let Json::Object(what) = what else { return Json::Null };
         object(place_json(self.leaf, self.subleaf)).with([("in_the_way", self.blocks().into())]).with(what)

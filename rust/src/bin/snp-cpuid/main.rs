@@ -11,7 +11,6 @@ mod commands;
 mod components;
 mod differences;
 mod failure;
-mod features;
 mod fields;
 mod fleet;
 mod help;
@@ -23,7 +22,6 @@ mod masks;
 mod meanings;
 mod numbers;
 mod option;
-mod order;
 mod output;
 mod pages;
 mod parse;
@@ -40,8 +38,12 @@ mod wrap;
 
 use command::Command;
 use failure::Failure;
+use snp_cpuid::features;
 use std::ffi::{OsStr, OsString};
 use std::process::ExitCode;
+
+#[cfg(not(feature = "std"))]
+compile_error!("the command needs the feature std: build the library alone with --lib");
 
 const VERSION: &str = concat!("snp-cpuid ", env!("CARGO_PKG_VERSION"), "\n");
 

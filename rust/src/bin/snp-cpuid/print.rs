@@ -67,7 +67,7 @@ pub fn origin_json(origin: Origin) -> [(&'static str, Json); 3] {
     let (kind, page, entry) = match origin {
         Origin::MadeHere => ("made here", None, None),
         Origin::Entry { page, entry } => ("entry", Some(page), Some(entry)),
-        Origin::Unknown => ("unknown", None, None),
+        _ => ("unknown", None, None),
     };
     [("origin", kind.into()), ("page", page.into()), ("entry", entry.into())]
 }

@@ -5,7 +5,7 @@ use crate::failure::Failure;
 use crate::json::object;
 use crate::pages::{Entry, two_pages};
 use crate::{output, reasons, words};
-use snp_cpuid::{Comparison, NotPooled, Options, PAGE_BYTES, Refusal, Table, build, compare, pool};
+use snp_cpuid::{NotPooled, Options, PAGE_BYTES, Refusal, Table, build, pool};
 
 /// The options that change nothing in pages of a table's rows: they keep the secure-AVIC bit where it is set, and clear no more than the table did.
 const MADE: Options = Options::new().secure_avic(true);
@@ -59,13 +59,5 @@ fn pages_of(table: &Table) -> Vec<u8> {
 /// The pool of tables, by pages that have their rows. An image among them does not say where its rows came from, so nobody knows of the pool's.
 pub fn pool_tables(tables: &[Table]) -> Result<Table, NotPooled> {
     let pooled = pool(&tables.iter().map(pages_of).collect::<Vec<_>>(), MADE)?;
-    Ok(Table::try_from(pooled.image()).expect("a pool's table has an image"))
-}
-
-/// Whether one table is at least another: whether a guest of pages that have the rows of the first may move to pages that have those of the second.
-///
-/// Such pages give the table again, and their entries are its rows. So the answer is yes exactly where the second table has every row of the first,
-/// at least its features, a save area no smaller, and everything else equal.
-pub fn compare_tables(from: &Table, to: &Table) -> Comparison {
-    compare(&pages_of(from), &pages_of(to), MADE)
+    Ok(Table::try_from(&pooled.image()[..]).expect("a pool's table has an image"))
 }

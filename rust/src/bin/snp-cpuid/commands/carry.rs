@@ -54,7 +54,7 @@ fn run(arguments: &Arguments) -> Result<(), Failure> {
         };
         building.refused(shown(file), refusal, &reason)
     })?;
-    output::write(arguments, carried.image())?;
+    output::write(arguments, &carried.image())?;
     let gone = gone(&running, &carried);
     if building.json() {
         let answer = object([("answer", "carried".into()), ("file", shown(file).into()), ("from", from.into()), ("to", to.into())]);

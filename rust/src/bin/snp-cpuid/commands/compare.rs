@@ -9,11 +9,11 @@ use crate::features::{self, REGISTERS};
 use crate::json::{self, Json, array, hex, object};
 use crate::masks::kept;
 use crate::print::{place, place_json};
-use crate::source::{Source, compare_tables};
+use crate::source::Source;
 use crate::standing::Standing;
 use crate::wrap::wrapped;
 use crate::{output, words};
-use snp_cpuid::{Comparison, Refusal, Register, Table};
+use snp_cpuid::{Comparison, Refusal, Register, Table, TableComparison};
 
 /// One of the two, under the name that the report gives it: its pages, or the image of its table.
 struct Server {
@@ -88,13 +88,13 @@ fn run(arguments: &Arguments) -> Result<(), Failure> {
         let (table, standing) = (source.table(), Standing::of(&source.pages));
         Server { name, file: source.file, is_image: source.image.is_some(), pages: source.pages, standing, table }
     };
-    let source = |place: usize| building.source(&arguments.operands[place])?.into_pages(&building);
+    let source = |place: usize| building.source(&arguments.operands[place]);
     let sources = [source(0)?, source(1)?];
     building.heeded_by(&sources)?;
     let [a, b] = sources;
     let (a, b) = (server("A", a), server("B", b));
     let tables = match (&a.table, &b.table) {
-        (Ok(from), Ok(to)) => Some(compare_tables(from, to)),
+        (Ok(from), Ok(to)) => Some(from.compare(to)),
         _ => None,
     };
     let report = Report { tables, rises: Direction::new(&a, &b, building), falls: Direction::new(&b, &a, building), building };
@@ -113,7 +113,7 @@ fn run(arguments: &Arguments) -> Result<(), Failure> {
 
 /// The answer of the tables for the first direction, where both are there, and both directions by the entries.
 struct Report<'a> {
-    tables: Option<Comparison>,
+    tables: Option<TableComparison>,
     rises: Direction<'a>,
     falls: Direction<'a>,
     building: Building,
@@ -133,7 +133,7 @@ impl Report<'_> {
     fn answer(&self) -> &'static str {
         match self.tables {
             None => "refused",
-            Some(Comparison::Rises) => "yes",
+            Some(TableComparison::Rises) => "yes",
             Some(_) => "no",
         }
     }
@@ -153,7 +153,9 @@ impl Report<'_> {
     /// The first thing in the way, by the tables.
     fn obstacle(&self) -> Option<String> {
         let answer = self.tables?;
-        self.differences().iter().find(|difference| difference.blocks() && difference.is_named_by(answer)).map(|first| first.obstacle(&NAMES))
+        let all = self.differences();
+        let first = all.iter().find(|difference| difference.blocks() && difference.is_named_by(answer));
+        Some(first.map_or_else(|| answer.to_string(), |first| first.obstacle(&NAMES)))
     }
 
     fn differences(&self) -> Vec<Difference> {
@@ -206,7 +208,7 @@ impl Report<'_> {
 /// What lines call the two.
 const NAMES: Tables = Tables { names: ["A", "B"], origins: true };
 
-/// What the library says of a guest that moves from one server to the other, by their entries.
+/// What the library says of a guest that moves from one server to the other, by their entries; it is not told where one of them is an image.
 struct Direction<'a> {
     from: &'a Server,
     to: &'a Server,
@@ -265,6 +267,7 @@ impl Direction<'_> {
                 format!("{to} has no entry for leaf {}, which {from} has at {}", place(leaf, subleaf), self.from.entry(leaf, subleaf))
             }
             Comparison::Differs { leaf, subleaf, register } => self.differs(leaf, subleaf, register),
+            other => other.to_string(),
         }
     }
 
@@ -332,6 +335,7 @@ impl Direction<'_> {
                     ("hidden", self.hidden(leaf, subleaf, register).into()),
                 ])
             }
+            _ => base,
         }
         .with([("words", self.obstacle().into())])
     }

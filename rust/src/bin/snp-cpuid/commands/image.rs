@@ -24,5 +24,5 @@ written.
 
 fn run(arguments: &Arguments) -> Result<(), Failure> {
     let table = Building::of(arguments, COMMAND.name)?.table(&arguments.operands[0])?;
-    output::write(arguments, table.image())
+    output::write(arguments, &table.image())
 }

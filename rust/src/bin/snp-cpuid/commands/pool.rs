@@ -62,7 +62,7 @@ fn run(arguments: &Arguments) -> Result<(), Failure> {
     let names = sources.into_iter().map(|source| source.file).collect();
     let servers = Servers { names, tables };
     if arguments.has(&IMAGE) {
-        output::write(arguments, table.image())?;
+        output::write(arguments, &table.image())?;
     }
     if building.json() {
         let answer = object([("answer", "accepted".into()), ("edition", building.edition().into()), ("image", output::file_json(arguments))]);

@@ -10,9 +10,8 @@ use super::{Answer, Class, Fleet, Group, Server};
 use crate::building::refusal_json;
 use crate::features::REGISTERS;
 use crate::json::{Json, array, hex, object};
-use crate::order::Compared;
 use crate::print::{bit_json, place_json};
-use snp_cpuid::{Comparison, Register};
+use snp_cpuid::{Comparison, Register, TableComparison};
 
 /// Beyond so many classes the moves are not listed pair by pair.
 const MOST_LISTED: usize = 100;
@@ -105,11 +104,11 @@ fn moves(fleet: &Fleet) -> Vec<Json> {
 fn one_move(from: &Class, to: &Class) -> Json {
     let way = Way::of(&from.table, &to.table);
     let (answer, leaf, subleaf, at) = match way.first {
-        Compared::Rises => ("yes", None, None, None),
-        Compared::NoRow { leaf, subleaf } => ("no row", Some(leaf), subleaf, None),
-        Compared::Differs { leaf, subleaf, register } => ("differs", Some(leaf), subleaf, Some(register)),
-        Compared::Beyond { leaf, subleaf } => ("row besides", Some(leaf), subleaf, None),
-        Compared::MaskLacks => ("state lacking", None, None, None),
+        TableComparison::Rises => ("yes", None, None, None),
+        TableComparison::NoRow { leaf, subleaf } => ("no row", Some(leaf), subleaf, None),
+        TableComparison::Differs { leaf, subleaf, register } => ("differs", Some(leaf), subleaf, Some(register)),
+        TableComparison::Beyond { leaf, subleaf } => ("row besides", Some(leaf), subleaf, None),
+        _ => ("state lacking", None, None, None),
     };
     object([
         ("from", from.name.as_str().into()),

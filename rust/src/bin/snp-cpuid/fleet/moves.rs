@@ -5,9 +5,8 @@ use super::{Class, Group, Server};
 use crate::building::Building;
 use crate::components;
 use crate::features::{self, ECX};
-use crate::order::{Compared, compared};
 use crate::words;
-use snp_cpuid::{Comparison, Register, Table};
+use snp_cpuid::{Comparison, Register, Table, TableComparison};
 
 /// A group of more classes is not compared: that would take more than a second.
 pub const MOST_COMPARED: usize = 1000;
@@ -50,14 +49,14 @@ fn no(answer: &Comparison) -> bool {
 }
 
 fn rises(class: usize, group: &Group, classes: &[Class]) -> Option<Vec<usize>> {
-    let to = |other: &usize| *other != class && compared(&classes[class].table, &classes[*other].table) == Compared::Rises;
+    let to = |other: &usize| *other != class && classes[class].table.compare(&classes[*other].table) == TableComparison::Rises;
     (group.classes.len() <= MOST_COMPARED).then(|| group.classes.clone().filter(to).collect())
 }
 
 /// What stands in the way of a guest that would go from table A to table B.
 pub struct Way {
     /// the first place that fails
-    pub first: Compared,
+    pub first: TableComparison,
     /// that register in A's table and in B's
     pub values: [u32; 2],
     /// the features of A's that B's has not, all of them
@@ -66,9 +65,9 @@ pub struct Way {
 
 impl Way {
     pub fn of(a: &Table, b: &Table) -> Way {
-        let first = compared(a, b);
+        let first = a.compare(b);
         let values = match first {
-            Compared::Differs { leaf, subleaf, register } => {
+            TableComparison::Differs { leaf, subleaf, register } => {
                 let value = |table: &Table| table.find(leaf, subleaf).map_or(0, |row| words::registers(&row)[index(register)]);
                 [value(a), value(b)]
             }
@@ -79,7 +78,7 @@ impl Way {
 
     /// The feature bits that are first in the way; none where it is something else.
     pub fn bits(&self) -> Option<Bits> {
-        let Compared::Differs { leaf, subleaf, register } = self.first else { return None };
+        let TableComparison::Differs { leaf, subleaf, register } = self.first else { return None };
         let register = features::find(leaf, subleaf, index(register))?;
         let [a, b] = self.values;
         // hyperthreading must be equal: A may be the one without it
@@ -95,12 +94,12 @@ impl Way {
                 [one] => one.to_string(),
                 [one, ref more @ ..] => format!("{one} +{}", more.len()),
             },
-            (Compared::Rises, _) => "yes".into(),
-            (Compared::NoRow { leaf, subleaf }, _) => format!("no row {}", short_place(leaf, subleaf)),
-            (Compared::Beyond { leaf, subleaf }, _) => format!("row {} more", short_place(leaf, subleaf)),
-            (Compared::MaskLacks, _) => "states".into(),
-            (Compared::Differs { leaf: 0xD, subleaf: Some(0), register: Register::Ecx }, _) => "save area".into(),
-            (Compared::Differs { leaf, subleaf, register }, _) => register_name(leaf, subleaf, index(register)),
+            (TableComparison::Rises, _) => "yes".into(),
+            (TableComparison::NoRow { leaf, subleaf }, _) => format!("no row {}", short_place(leaf, subleaf)),
+            (TableComparison::Beyond { leaf, subleaf }, _) => format!("row {} more", short_place(leaf, subleaf)),
+            (TableComparison::Differs { leaf: 0xD, subleaf: Some(0), register: Register::Ecx }, _) => "save area".into(),
+            (TableComparison::Differs { leaf, subleaf, register }, _) => register_name(leaf, subleaf, index(register)),
+            _ => "states".into(),
         }
     }
 
@@ -108,14 +107,13 @@ impl Way {
     pub fn long(&self) -> String {
         let [a, b] = self.values;
         match (self.first, self.bits()) {
-            (Compared::Rises, _) => "a guest may move".into(),
-            (Compared::NoRow { leaf: 0xD, subleaf: Some(component) }, _) => {
+            (TableComparison::Rises, _) => "a guest may move".into(),
+            (TableComparison::NoRow { leaf: 0xD, subleaf: Some(component) }, _) => {
                 format!("no row D.{component:X}, the {} state", components::name(component).unwrap_or("unknown"))
             }
-            (Compared::NoRow { leaf, subleaf }, _) => format!("no row {}", short_place(leaf, subleaf)),
-            (Compared::Beyond { leaf, subleaf }, _) => format!("a row {} besides", short_place(leaf, subleaf)),
-            (Compared::MaskLacks, _) => "a state of the combined mask is missing".into(),
-            (Compared::Differs { leaf, subleaf, register }, bits) => {
+            (TableComparison::NoRow { leaf, subleaf }, _) => format!("no row {}", short_place(leaf, subleaf)),
+            (TableComparison::Beyond { leaf, subleaf }, _) => format!("a row {} besides", short_place(leaf, subleaf)),
+            (TableComparison::Differs { leaf, subleaf, register }, bits) => {
                 let name = register_name(leaf, subleaf, index(register));
                 match bits {
                     Some(bits) => format!("{name}: {}", numbered(&bits)),
@@ -123,6 +121,7 @@ impl Way {
                     None => format!("{name}: {a:08X}, there {b:08X}"),
                 }
             }
+            _ => "a state of the combined mask is missing".into(),
         }
     }
 }

@@ -1,18 +1,39 @@
-//! The names of feature bits: one table, used wherever bits are named. tests/command/names.rs holds it against the specification
-//! (crates/x86defs/specs), the public database (tests/cpuid-bits.csv) and the masks of the library.
+//! The names of feature bits, for whoever tells a reader what a table has.
+//!
+//! A test holds them against the specification that the proofs are of, the public database of CPUID bits and the masks of the library.
+//!
+//! ```
+//! use snp_cpuid::{Options, Table, features};
+//!
+//! let pages = std::fs::read("../tests/epyc-milan.pages").unwrap();
+//! let table = Table::build(&pages, Options::new()).unwrap();
+//! // 7.0.EBX
+//! let found = features::find(0x7, Some(0), features::EBX).unwrap();
+//! let names: Vec<&str> = found.bits_of(table.row(0x7, Some(0)).unwrap().ebx).map(|bit| bit.name).collect();
+//! assert!(names.contains(&"AVX2") && !names.contains(&"AVX512F"));
+//! ```
 
-/// Registers by their place in a result.
+/// The names of the registers, by their place in a result.
 pub const REGISTERS: [&str; 4] = ["EAX", "EBX", "ECX", "EDX"];
+/// The place of EAX.
 pub const EAX: usize = 0;
+/// The place of EBX.
 pub const EBX: usize = 1;
+/// The place of ECX.
 pub const ECX: usize = 2;
+/// The place of EDX.
 pub const EDX: usize = 3;
 
 /// A feature register with the bits that its mask keeps, by the names of AMD64 APM volume 3 (by the Intel SDM's where it has none).
+#[derive(Clone, Copy, Debug, PartialEq, Eq)]
 pub struct FeatureRegister {
+    /// the leaf
     pub leaf: u32,
+    /// the subleaf; none for a leaf without
     pub subleaf: Option<u32>,
+    /// the register, by its place in a result
     pub register: usize,
+    /// the bits with their names, rising
     pub bits: &'static [(u32, &'static str)],
 }
 
@@ -20,7 +41,7 @@ const fn register(leaf: u32, subleaf: Option<u32>, register: usize, bits: &'stat
     FeatureRegister { leaf, subleaf, register, bits }
 }
 
-/// The feature registers of document 01, "Feature registers of demand 3".
+/// The feature registers: in these a server to which a guest moves may have more bits.
 #[rustfmt::skip]
 pub const FEATURES: [FeatureRegister; 13] = [
     register(0x1, None, ECX, &[
@@ -76,10 +97,15 @@ pub fn find(leaf: u32, subleaf: Option<u32>, register: usize) -> Option<&'static
 /// A feature bit with its register's place.
 #[derive(Clone, Copy, Debug, PartialEq, Eq)]
 pub struct FeatureBit {
+    /// the leaf
     pub leaf: u32,
+    /// the subleaf; none for a leaf without
     pub subleaf: Option<u32>,
+    /// the register, by its place in a result
     pub register: usize,
+    /// the bit
     pub bit: u32,
+    /// its name
     pub name: &'static str,
 }
 
@@ -92,6 +118,7 @@ impl FeatureRegister {
     }
 
     /// The names of the bits that are set in a value.
+    #[cfg(feature = "std")]
     pub fn names(&self, value: u64) -> Vec<&'static str> {
         self.bits.iter().filter(|(bit, _)| value >> bit & 1 == 1).map(|(_, name)| *name).collect()
     }
