@@ -18,11 +18,19 @@
 enum { ROOM = 1024, EDITION = 1 };
 
 /* port and plain C have functions of the same types, and all are called by pointer */
-write_image_function gcc_write_image, clang_write_image;
-build_function gcc_table_build, clang_table_build;
-find_function gcc_table_find, clang_table_find;
-guest_find_function gcc_table_guest_find, clang_table_guest_find;
-guest_find_kept_function gcc_table_guest_find_kept, clang_table_guest_find_kept;
+#define DECLARE(maker) \
+    write_image_function maker##_write_image; \
+    build_function maker##_table_build; \
+    find_function maker##_table_find; \
+    guest_find_function maker##_table_guest_find; \
+    guest_find_kept_function maker##_table_guest_find_kept;
+#define MAKER(maker) \
+    {#maker, maker##_write_image, maker##_table_build, maker##_table_find, maker##_table_guest_find, maker##_table_guest_find_kept}
+
+DECLARE(gcc)
+DECLARE(gcc_once)
+DECLARE(clang)
+DECLARE(clang_once)
 
 static const struct maker {
     const char *name;
@@ -32,10 +40,12 @@ static const struct maker {
     guest_find_function *guest_find;
     guest_find_kept_function *guest_find_kept;
 } MAKERS[] = {
-    {"port", snp_cpuid_write_image, snp_cpuid_table_build, snp_cpuid_table_find, snp_cpuid_table_guest_find, snp_cpuid_table_guest_find_kept},
-    {"gcc", gcc_write_image, gcc_table_build, gcc_table_find, gcc_table_guest_find, gcc_table_guest_find_kept},
+    MAKER(snp_cpuid),
+    MAKER(gcc),
+    MAKER(gcc_once),
 #ifdef WITH_CLANG
-    {"clang", clang_write_image, clang_table_build, clang_table_find, clang_table_guest_find, clang_table_guest_find_kept},
+    MAKER(clang),
+    MAKER(clang_once),
 #endif
 };
 
