@@ -295,8 +295,8 @@ static void make_inputs(const uint8_t *pages)
     inputs[0] = (struct input){"the shipped set, 38 entries", pages, 8192};
     inputs[1] = (struct input){"two full pages, 128 entries", full, 8192};
     inputs[2] = (struct input){"sixteen full pages, 1,024 entries", sixteen, 16 * 4096};
-    inputs[3] = (struct input){"refused: a full page and an empty one, so no Dh entry", refused, 8192};
-    inputs[4] = (struct input){"refused by 17: sixteen full pages, the last entry", unclean, 16 * 4096};
+    inputs[3] = (struct input){"a full page and an empty one, refused by 3", refused, 8192};
+    inputs[4] = (struct input){"sixteen full pages, the last entry refused by 17", unclean, 16 * 4096};
 }
 
 static void measure_all(void)
