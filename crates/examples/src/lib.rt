@@ -1,1 +1,1 @@
-// Page sets by computation: one that is accepted, and pairs that meet demand 3's hypothesis. There is no code here.
+// Page sets by computation: instances that meet the hypotheses of the theorems, with figures. There is no code here.

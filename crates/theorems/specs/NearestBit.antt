@@ -36,9 +36,9 @@ use Rattle.nearest_ends.specs.OutsideLaws as Outside
 use Rattle.nearest_ends.specs.OutsideLaws.{Among, FirstAt}
 use Rattle.page_sets.specs.PageSets.{word, page, serverA}
 use Rattle.page_sets.specs.Evaluation.{first}
-use Rattle.nearest_examples.specs.NearestBits as Bits
-use Rattle.nearest_examples.specs.Later as Later
-use Rattle.nearest_examples.specs.NearestBits.{onlyLeaf5, withoutD2, noInvlpgb, leaf1Twice}
+use Rattle.examples.specs.NearestBits as Bits
+use Rattle.examples.specs.Later as Later
+use Rattle.examples.specs.NearestBits.{onlyLeaf5, withoutD2, noInvlpgb, leaf1Twice}
 
 -- each answer, 15, 1, 2, 17, 20 or a bit: given if and only if its condition holds; no other number is given. A bit is the first flip, in the order
 -- of page, entry, register and bit, that changes the answer; 20 is given where none does. crates/nearest_ends/specs/NearestExactly.antt
@@ -73,7 +73,7 @@ pub only-inside-masks : (chosen : Choices) (s : List ℕ) (p q r k : ℕ) (w : A
     → applyMask (masksAt (chosen .«secure_avic») i) (oneBit r k) ≡ result 0 0 0 0 → changes chosen s (flip p q r k) ≡ false
 only-inside-masks = Outside.outside-masks
 
--- ---- Not empty words. crates/nearest_examples/specs/NearestBits.antt has a page set for each answer, byte by byte.
+-- ---- Not empty words. crates/examples/specs/NearestBits.antt has a page set for each answer, byte by byte.
 
 pub no-edition : nearest (underEdition 3) [] ≡ NoBit UnknownEdition
 no-edition = Bits.no-edition
@@ -90,7 +90,7 @@ unclean-entry = Bits.unclean-entry
 pub a-nearest : nearest first serverA ≡ Bit (flip 0 0 0 0)
 a-nearest = Bits.serverA-nearest
 
--- a later page, and a later entry: what stands before is filtered, or Dh on page 0. crates/nearest_examples/specs/Later.antt
+-- a later page, and a later entry: what stands before is filtered, or Dh on page 0. crates/examples/specs/Later.antt
 pub later-page-decides : nearest first Later.pageSet ≡ Bit (flip 1 0 0 0)
 later-page-decides = Later.page-decides
 

@@ -34,7 +34,7 @@ use Rattle.listed.specs.ListedProof.{determined, counted as topologies-counted}
 use Rattle.listed.specs.Builds.{BuildsListed, inputsFor}
 use Rattle.listed.specs.BuildsProof.{builds-listed}
 use Rattle.listed.specs.Writes.{writes-exactly as topologies-write-exactly}
-use Rattle.listed_examples.specs.Topologies as Topologies
+use Rattle.examples.specs.Topologies as Topologies
 use Rattle.pages.specs.Bytes.{AreBytes}
 use Rattle.pages.specs.Entries.{entries, counted}
 use Rattle.masking.specs.Kept.{places}
@@ -82,11 +82,11 @@ use Rattle.guest_rise.specs.GuestRiseProof as GuestRiseProof
 use Rattle.guest.specs.SeenLaws as Seen
 use Rattle.guest.specs.SeenExactly.{SeenExactly, seen-exactly}
 use Rattle.guest_rise.specs.GuestRisen.{GuestRisen, GuestRiseAll, guest-rises-all}
-use Rattle.guest_examples.specs.CompactSizes.{sizes, sizes-are}
-use Rattle.guest_examples.specs.Seen.{processor, figures}
-use Rattle.guest_examples.specs.Views as Views
-use Rattle.guest_examples.specs.Exception as Exception
-use Rattle.guest_examples.specs.Composed as Composed
+use Rattle.examples.specs.CompactSizes.{sizes, sizes-are}
+use Rattle.examples.specs.Seen.{processor, figures}
+use Rattle.examples.specs.Views as Views
+use Rattle.examples.specs.Exception as Exception
+use Rattle.examples.specs.Composed as Composed
 use Rattle.table.specs.Refusal.{details}
 use Rattle.buffer.specs.declared.Written.the-variants.{Bytes, Refused as NotWritten}
 use Rattle.line_bytes.specs.declared.LineDetails.{LineDetails}
@@ -126,7 +126,7 @@ use Rattle.features.specs.Finish.{edition1, edition2}
 use Rattle.finish_laws.specs.FinishLaws.{figures as clears, ymm-figures, ymm-figures-2}
 use Rattle.editions.specs.Second.{SecondEdition, FirstEdition}
 use Rattle.editions.specs.SecondProof as Editions
-use Rattle.edition_examples.specs.WithoutYmm as WithoutYmm
+use Rattle.examples.specs.WithoutYmm as WithoutYmm
 use Rattle.carry.specs.Carry.{carry}
 use Rattle.carry.specs.AbsentRows as AbsentRows
 use Rattle.carried.specs.Carried.{CarryKeeps, CarriesInPlace}
@@ -137,29 +137,29 @@ use Rattle.read_back.specs.ReadBackProof as ReadBack
 use Rattle.carried.specs.Moves.{MovesToSecond}
 use Rattle.carried.specs.MovesProof.{moves-to-second}
 use Rattle.carried.specs.CarryExactly.{CarryExactly, carry-exactly}
-use Rattle.carry_examples.specs.WithoutYmmMoved as Moved
+use Rattle.examples.specs.WithoutYmmMoved as Moved
 use Rattle.topology.specs.declared.TopologyError.the-variants.{ProcessorCount, ThreadsPerUnit}
 use Rattle.pages.specs.Layout.{Entry}
 use Rattle.added.specs.Added.{Added, Covered}
 use Rattle.added.specs.BeginningLaws.{entries-begin}
 use Rattle.added.specs.AddedProof.{added-same, added-rises}
-use Rattle.added_examples.specs.Spare as Spare
+use Rattle.examples.specs.Spare as Spare
 use Rattle.reserved.specs.Reserved.{clean, allClean}
-use Rattle.reserved_examples.specs.Unclean as Unclean
+use Rattle.examples.specs.Unclean as Unclean
 use Rattle.origins.specs.Origin.Origin.{madeHere, entry}
 use Rattle.locate.specs.Stands.{standsAt}
 use Rattle.located.specs.Located.{ComesFrom, Origins}
 use Rattle.located.specs.LocatedProof.{rows-come-from, rows-have-origins, refused-has-none}
-use Rattle.located_examples.specs.Origins as Origin
-use Rattle.kvm_examples.specs.KvmLists as KvmLists
-use Rattle.kvm_examples.specs.KvmBytes as KvmBytes
+use Rattle.examples.specs.Origins as Origin
+use Rattle.examples.specs.KvmLists as KvmLists
+use Rattle.examples.specs.KvmBytes as KvmBytes
 use Rattle.page_sets.specs.Evaluation.{first}
 use Rattle.page_sets.specs.PageSets.{serverA, serverB, serverW, serverWithoutD12, serverWithLargeD6}
 use Rattle.examples.specs.Computed as Computed
 use Rattle.examples.specs.Chain as Chain
-use Rattle.compared_examples.specs.Compared as Pairs
-use Rattle.marked_examples.specs.MarkedRows.{marked, marked-rows}
-use Rattle.marked_examples.specs.MarkedRows.Shown.{core, refusal, area, supervisor}
+use Rattle.examples.specs.Compared as Pairs
+use Rattle.examples.specs.MarkedRows.{marked, marked-rows}
+use Rattle.examples.specs.MarkedRows.Shown.{core, refusal, area, supervisor}
 use Rattle.pool.specs.Pool.{pooled}
 use Rattle.pool_write.specs.WritePool.{writePool}
 use Rattle.pooled.specs.PoolRight.{serverTable, poolTable, PoolRight, NoneBeyond, Greatest, OneMore, OrderFree, NothingMore}
@@ -296,7 +296,7 @@ pub rise-from-2-to-1 : SecondToFirst
 rise-from-2-to-1 = second-to-first-rises
 
 -- Not empty words: a server without YMM state whose entries have the three bits, its 1.ECX and 80000001h.ECX under each edition, the rise from 2 to
--- 1, and none from 1 to 2. crates/edition_examples/specs/WithoutYmm.antt
+-- 1, and none from 1 to 2. crates/examples/specs/WithoutYmm.antt
 pub without-ymm-accepted : answer (underEdition 2) WithoutYmm.withoutYmm .verdict ≡ Accepted
 without-ymm-accepted = WithoutYmm.second-accepted
 
@@ -338,7 +338,7 @@ pub carrying-clears-exactly : CarriedRows.CarriesRows
 carrying-clears-exactly = CarriedRows.carries-rows
 
 -- in place, within one edition: no lent byte changes, whatever is answered. Any slice of bytes meets it; of a list with a larger element it is false
--- (crates/carry_examples/specs/NotBytes.antt)
+-- (crates/examples/specs/NotBytes.antt)
 pub carried-in-place-within : CarriedRows.StaysWithin
 carried-in-place-within = CarriedRows.stays-within
 
@@ -357,7 +357,7 @@ pub only-images-are-read : OnlyImagesRead
 only-images-are-read = ReadBack.only-images-read
 
 -- Not empty words: the server without YMM state moved, with its 1.ECX and 80000001h.ECX; a processor beyond it; 16 and 15.
--- crates/carry_examples/specs/WithoutYmmMoved.antt
+-- crates/examples/specs/WithoutYmmMoved.antt
 pub without-ymm-moved : carry Moved.running 1 2 3 0 .verdict ≡ Accepted
 without-ymm-moved = Moved.moved
 
@@ -440,7 +440,7 @@ pub guest-rise-of-exports : (chosen : Choices) (a b : List ℕ) (v : Processor) 
     → GuestExportsRise chosen a b v
 guest-rise-of-exports = guest-exports-rise
 
--- Not empty words. crates/guest_examples/specs/Views.antt: server A's guest with all of its state, and the six registers that it reads
+-- Not empty words. crates/examples/specs/Views.antt: server A's guest with all of its state, and the six registers that it reads
 -- anew (1.EBX, 1.ECX, B.0.EDX, B.1.EDX, D.0.EBX, D.1.EBX)
 pub guest-of-a : figures (guestPages first serverA Views.viewA .table) ≡ 0x45010000 ∷ 0xBED83203 ∷ 0x12345 ∷ 0x12345 ∷ 832 ∷ 832 ∷ []
 guest-of-a = Views.a-figures
@@ -469,12 +469,12 @@ guest-from-a-to-b = Views.a-to-b
 pub guest-of-b : figures (guestPages first serverB (processor 1 0xE7 0x1800 true) .table) ≡ 0x01010000 ∷ 0xFEDA3203 ∷ 1 ∷ 1 ∷ 2432 ∷ 2472 ∷ []
 guest-of-b = Views.b-figures
 
--- a guest of servers W, A and B, by composing. crates/guest_examples/specs/Composed.antt
+-- a guest of servers W, A and B, by composing. crates/examples/specs/Composed.antt
 pub guest-from-w-to-b : GuestTableRises (guestPages first serverW Composed.viewW .table) (guestPages first serverB Composed.viewW .table)
 guest-from-w-to-b = guest-tables-compose _ _ _ Composed.w-to-a-risen Composed.a-to-b-risen
 
 -- the exception: a server with neither bit, where D.1.EBX is 0 and D.0.EBX the largest size, and one with bit 1, which refuses by 14.
--- crates/guest_examples/specs/Exception.antt
+-- crates/examples/specs/Exception.antt
 pub exception-rises : RiseHypothesis first Exception.plain Exception.compacting
 exception-rises = Exception.plain-to-compacting
 
@@ -487,7 +487,7 @@ exception-refused = Exception.compacting-refused
 pub exception-outcome : GuestOutcome (guestPages first Exception.plain Views.viewA .table) (guestPages first Exception.compacting Views.viewA)
 exception-outcome = Exception.plain-outcome
 
--- compacted sizes: order, alignment of the start, the largest that is given and the first that is not. crates/guest_examples/specs/CompactSizes.antt
+-- compacted sizes: order, alignment of the start, the largest that is given and the first that is not. crates/examples/specs/CompactSizes.antt
 pub compacted-sizes : sizes ≡ 576 ∷ 832 ∷ 840 ∷ 856 ∷ 920 ∷ 856 ∷ 0xFFFFFFFF ∷ 0x100000000 ∷ []
 compacted-sizes = sizes-are
 
@@ -506,7 +506,7 @@ pub added-entries-rise-both-ways : (chosen : Choices) (s u : List ℕ) → Added
     → RiseHypothesis chosen s u × RiseHypothesis chosen u s
 added-entries-rise-both-ways = added-rises
 
--- Not empty words. crates/added_examples/specs/Spare.antt: server A with three entries added on its last page, and with a page added
+-- Not empty words. crates/examples/specs/Spare.antt: server A with three entries added on its last page, and with a page added
 pub a-with-entries : Added serverA Spare.withEntries × (answer first Spare.withEntries ≡ answer first serverA)
 a-with-entries = (Spare.entries-added, Spare.entries-same)
 
@@ -533,7 +533,7 @@ pub reader-gives-clean-entries : (s : List ℕ) (n : ℕ) → length (entries s)
 reader-gives-clean-entries = reader-gives-clean
 
 -- Not empty words: server A is clean; with an entry of a filtered leaf that is not, 17 names the leaf, and the comparison too; above the count it is not
--- tested; 17 comes before 3, names the first, and comes after a later page's 2. crates/reserved_examples/specs/Unclean.antt
+-- tested; 17 comes before 3, names the first, and comes after a later page's 2. crates/examples/specs/Unclean.antt
 pub a-clean : allClean serverA ≡ true
 a-clean = Unclean.serverA-clean
 
@@ -580,7 +580,7 @@ pub pool-exports-tell-origins : PoolOrigins
 pool-exports-tell-origins = pool-origins
 
 -- Not empty words: of two entries for leaf 1 the first is told; of two for D.0 that of page 1, counted from that page's beginning; B.0 is made here although
--- it has an entry. crates/located_examples/specs/Origins.antt
+-- it has an entry. crates/examples/specs/Origins.antt
 pub leaf-1-of-the-first : originAt first Origin.repeated Place.versionAndFeatures ≡ entry 0 1
 leaf-1-of-the-first = Origin.first-leaf-1
 
@@ -590,7 +590,7 @@ d0-of-page-1 = Origin.d0-on-page-1
 pub b0-made-here : (standsAt Place.threadLevel (counted Origin.repeated) ≡ entry 0 4) × (originAt first Origin.repeated Place.threadLevel ≡ madeHere)
 b0-made-here = Origin.b0-made-here
 
--- ---- The fourteen marked rows of document 01, T1 to T10, X1 to X3 (two figures) and C1. crates/marked_examples/specs/MarkedRows.antt.
+-- ---- The fourteen marked rows of document 01, T1 to T10, X1 to X3 (two figures) and C1. crates/examples/specs/MarkedRows.antt.
 
 pub fourteen-rows : marked
     ≡ core 0 1
@@ -652,7 +652,7 @@ pub building-accepts-the-listed : (chosen : Choices) (s : List ℕ) → BuildsLi
 building-accepts-the-listed = builds-listed
 
 -- Not empty words: whole page sets with three processors and with 128, each with its inputs, which are listed, and its B.0 and B.1; nc = 255 with
--- s = 0 is refused by 7 and not listed. crates/listed_examples/specs/Topologies.antt
+-- s = 0 is refused by 7 and not listed. crates/examples/specs/Topologies.antt
 pub three-processors-listed : (inputsFor first Topologies.threeProcessors ≡ inputs 0 2 3 1 1)
     × (answer first Topologies.threeProcessors .verdict ≡ Accepted)
     × In (inputs 0 2 3 1 1) acceptedInputs
@@ -760,7 +760,7 @@ flags-by-place = flags-are
 pub indexes-by-place : indexes ≡ replicate 4 0 ++ (0 ∷ 1 ∷ []) ++ tabulate 64 (λ k. k) ++ replicate 12 0 ++ (0 ∷ 1 ∷ 2 ∷ 3 ∷ []) ++ replicate 2 0
 indexes-by-place = indexes-are
 
--- row D.2 of server A as bytes, with flag 1. crates/kvm_examples/specs/KvmBytes.antt, which has row B.1 too
+-- row D.2 of server A as bytes, with flag 1. crates/examples/specs/KvmBytes.antt, which has row B.1 too
 pub row-of-d-2-listed : take 40 (drop 328 (listOf (answer first serverA .table)))
     ≡ 0xD ∷ 0 ∷ 0 ∷ 0 ∷ 2 ∷ 0 ∷ 0 ∷ 0 ∷ 1 ∷ 0 ∷ 0 ∷ 0
     ∷ 0 ∷ 0x01 ∷ 0 ∷ 0 ∷ 0x40 ∷ 0x02 ∷ 0 ∷ 0 ∷ 0 ∷ 0 ∷ 0 ∷ 0 ∷ 0 ∷ 0 ∷ 0 ∷ 0

@@ -31,7 +31,7 @@ use Rattle.page_sets.specs.PageSets.{entry, page, requiredEntries, stateEntries
 use Rattle.page_sets.specs.Pass.{entryIn, onPagesIn}
 use Rattle.page_sets.specs.PassLaws.{entries-passed, lawful-passed, verdict-passed}
 use Rattle.page_sets.specs.Evaluation.{first, evaluated, passed}
-use Rattle.nearest_examples.specs.NearestPassed.{changes-passed}
+use Rattle.examples.specs.NearestPassed.{changes-passed}
 
 -- ---- an entry whose 128 flips change nothing is passed over
 

@@ -40,7 +40,7 @@ use Rattle.page_sets.specs.PageSets.{word, entry, page, requiredEntries, firstP
 use Rattle.page_sets.specs.Pass.{entryIn, onPagesIn}
 use Rattle.page_sets.specs.PassLaws.{entries-passed, lawful-passed, rows-passed, verdict-passed}
 use Rattle.page_sets.specs.Evaluation.{first, evaluated, passed}
-use Rattle.nearest_examples.specs.NearestPassed.{changes-passed, nearest-first}
+use Rattle.examples.specs.NearestPassed.{changes-passed, nearest-first}
 
 -- 15, before 1
 pub no-edition : nearest (underEdition 3) [] ≡ NoBit UnknownEdition

@@ -13,8 +13,8 @@ use Rattle.build.specs.Build.{answer}
 use Rattle.guest_state.specs.State.{stateVerdict}
 use Rattle.rise.specs.RiseProof.{answer-table}
 use Rattle.page_sets.specs.Evaluation.{first}
-use Rattle.edition_examples.specs.WithoutYmm.{withoutYmm, first-accepted, second-figures}
-use Rattle.guest_examples.specs.Seen.{viewed, built, state-passed}
+use Rattle.examples.specs.WithoutYmm.{withoutYmm, first-accepted, second-figures}
+use Rattle.examples.specs.Seen.{viewed, built, state-passed}
 use Rattle.table.specs.declared.Refusal.the-variants.{UnknownEdition, EditionBack}
 use Rattle.table.specs.declared.Verdict.the-variants.{Accepted, Refused}
 use Rattle.carry.specs.Carry.{carryVerdict, carry}

@@ -21,9 +21,9 @@ use Rattle.guest_rise.specs.GuestRise.{compactsIn, GuestTableRises, GuestOutcom
 use Rattle.guest_rise.specs.GuestRise.GuestOutcome.{given, tooLarge}
 use Rattle.guest_rise.specs.GuestRiseProof.{guest-rise}
 use Rattle.guest_rise.specs.GuestPreorder.{guest-rises-compose}
 use Rattle.examples.specs.Computed.{serverA-accepted, serverB-rises, serverB-accepted}
 use Rattle.examples.specs.Chain.{w-accepted, w-to-a}
-use Rattle.guest_examples.specs.Seen.{viewed, processor, built, built-passed, state-passed, seen-verdict}
+use Rattle.examples.specs.Seen.{viewed, processor, built, built-passed, state-passed, seen-verdict}
 
 abbrev pub viewW : Processor
 viewW = processor 1 0x3 0 true

@@ -20,7 +20,7 @@ use Rattle.guest_pages.specs.GuestPagesLaws.{given-guest, building-first}
 use Rattle.guest_rise.specs.GuestRise.{GuestOutcome}
 use Rattle.guest_rise.specs.GuestRiseProof.{guest-rise}
 use Rattle.page_sets.specs.Evaluation.{first}
-use Rattle.guest_examples.specs.Seen.{viewed, processor, built, figures, built-passed, state-passed, figures-passed, seen-verdict, seen-figures}
+use Rattle.examples.specs.Seen.{viewed, processor, built, figures, built-passed, state-passed, figures-passed, seen-verdict, seen-figures}
 
 -- ---- server A, all of its state, OSXSAVE on: bit 27 of 1.ECX is set
 

@@ -1,1 +1,0 @@
-// Page sets with entries added, computed: no code.

@@ -1,2 +1,0 @@
-pub mod WithoutYmmMoved
-pub mod NotBytes

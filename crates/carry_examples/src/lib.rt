@@ -1,1 +1,0 @@
-// Tables carried between editions, computed: statements and proofs, no code.

@@ -1,1 +1,0 @@
-// Comparisons of page sets, computed from their bytes: no code.

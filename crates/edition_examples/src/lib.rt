@@ -1,1 +1,0 @@
-// Page sets without YMM state under both editions of the AVX rule, computed: no code.

@@ -1,2 +1,0 @@
-pub mod KvmLists
-pub mod KvmBytes

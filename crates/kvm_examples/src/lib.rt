@@ -1,1 +1,0 @@
-// Lists for KVM, computed from their bytes: no code.

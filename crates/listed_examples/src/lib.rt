@@ -1,1 +1,0 @@
-// Page sets with a listed topology and with one that is not: computed, no code.

@@ -1,1 +1,0 @@
-// Where rows of a page set came from, computed from its bytes: no code.

@@ -1,1 +1,0 @@
-// Registers that differ from those of the source, row by row of document 01's list, computed: no code.

@@ -1,3 +1,0 @@
-pub mod NearestPassed
-pub mod NearestBits
-pub mod Later

@@ -1,1 +1,0 @@
-// Page sets with a nonzero reserved byte, computed: no code.
