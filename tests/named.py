@@ -7,9 +7,10 @@ Read are the comments of the .rt, .antt and .edit files under crates/, and READM
                also a further file as in bits/specs/Bits `has`; Lists `concat`
   a link       relative to its document; what follows # is a heading of the page
   an item      crate::item, of the crate's src; snp_cpuid::item may also be of the crate for Rust
-  a crate      where the word crate stands before its name
+  a crate      where the word crate stands before its name, or in a picture after |   or +--
   a name       in backticks right after a file, or before it as in `name` of FILE, `name` (FILE) and (`name`, FILE): the file defines it
-  other names  in backticks that have a hyphen or an underscore: a crate's, or a word of the code beside the crates
+  other names  with an underscore, and in backticks those with a hyphen or a capital too: a name that a crate defines or brings in, a crate, a file of
+               specs/, or a word of the code beside the crates
 
 A word in capitals, * and .. in a path stand for any name (crates/NAME/must-fail/LABEL.edit); there must be one such path. Two documents name what is
 gone: docs/CHANGES.md tells what has moved away, and only its links are checked; docs/DECISIONS.md tells what was not chosen, and its other names are
@@ -34,24 +35,29 @@ CODE = {'.rs', '.c', '.h', '.py', '.toml', '.in', ''}
 
 TOKEN = re.compile(
     r'\]\((?P<link>[^)\s]+)\)'
+    r'|^ +(?:\|  |\+--) (?P<drawn>[a-z]\w*(?:, [a-z]\w*)*)(?=,?(?:  |$))'
     rf'|(?<![\w./-])(?P<path>(?:(?:{TOP})/|(?!target/)[a-z]\w*/(?:{INSIDE})/)(?:[\w.*/-]*[\w*/])?)'
     rf'|(?<![\w./-])(?P<own>(?:{INSIDE})/[\w.*/-]*\w)(?:\s+of\s+crate\s+`?(?P<whose>\w+)`?)?'
     r'|(?<![\w./*-])(?P<bare>[A-Z]\w*\.antt|[a-z]\w*\.rt)\b(?!\]\()'
     r'|(?<![\w:·./-])(?P<item>[a-z]\w*(?:::[A-Za-z_]\w*)+)'
     r'|\b[Cc]rates?\s+(?:`(?P<crate>[a-z]\w*)`|(?P<plain>[a-z]+_\w+))'
     r'|(?<=[,;] )(?P<further>[A-Z]\w+)(?= `|[,;] | \|)'
-    r'|`(?P<other>[A-Za-z][\w′]*(?:[-_](?!N`)[\w′]+)+)`')
+    r'|`(?P<other>[A-Za-z][\w′]*(?:[-_](?!N`)[\w′]+)+|[A-Za-z]\w*[a-z0-9][A-Z][\w′]*|[A-Z][a-z][\w′]*)`'
+    r'|(?<![\w./:·`$"-])(?P<word>[a-z][a-z0-9]*_\w+)(?![\w/:`·])(?!\.\w)', re.MULTILINE)
 NAME = r'`([^`\s]+)`'
 AFTER = re.compile(rf'\s+{NAME}')
 AFTER_AGAIN = re.compile(rf',\s+{NAME}')
 BEFORE = re.compile(rf'{NAME}\s+(?:of\s+|in\s+|\()\[?$|\({NAME},\s+\[?$')
 
 COMMENT = {'.rt': re.compile(r'//(.*)'), '.antt': re.compile(r'(?:^|\s)--(?=[\s-]|$)(.*)'), '.edit': re.compile(r'^#(.*)')}
+# constructors of one type on one line
+ALIKE = re.compile(r'^ +((?:[^\s:({=→]+ ){2,}):(?= )', re.MULTILINE)
 KEYWORDS = 'fn|struct|enum|const|static|type|trait|mod'
 ITEM = re.compile(rf'\b(?:{KEYWORDS})\s+(\w+)')
 # a case of an enum or a field of a struct, which may stand after an item
 PART = re.compile(r'^\s*(?:pub )?([A-Za-z_]\w*)(?=[(,{:]| \{| =)', re.MULTILINE)
 DEFINITION = re.compile(r'^ *(?:(?:abbrev|unfoldable|pub|record|data|let) )*([^\s:({]+) (?=[:({])', re.MULTILINE)
+BROUGHT_IN = re.compile(r'^use [^{\n]*\{([^}]*)\}', re.MULTILINE)
 HEADING = re.compile(r'^#+ +(.*?)\s*$')
 
 
@@ -91,7 +97,7 @@ class Repository:
         self.there = cache(self._there)
         self.items = cache(self._items)
         self.parts = cache(lambda crate: {part for path in self.sources(crate) for part in PART.findall(self.text(path))})
-        self.definitions = cache(lambda path: set(DEFINITION.findall(self.text(path))))
+        self.definitions = cache(self._definitions)
         self.anchors = cache(self._anchors)
         self.names = cache(self._names)
 
@@ -116,13 +122,18 @@ class Repository:
     def _items(self, crate):
         return {item for path in self.sources(crate) for item in ITEM.findall(self.text(path))}
 
+    def _definitions(self, path):
+        return set(DEFINITION.findall(self.text(path))).union(*(names.split() for names in ALIKE.findall(self.text(path))))
+
     def _names(self):
         """Every name that a crate has, and every word of the code beside the crates."""
         names = self.crates | ELSEWHERE
         for crate in self.crates:
             names |= self.items(crate) | self.parts(crate)
         for path in self.glob('crates/*/specs/**/*.antt') + self.glob('crates/*/proofs/**/*.antt'):
-            names |= self.definitions(path)
+            names |= self.definitions(path) | {Path(path).stem}
+            for brought in BROUGHT_IN.findall(self.text(path)):
+                names.update(brought.replace(',', ' ').split())
         beside = [path for top in TOP.split('|')[1:] for path in self.glob(f'{top}/**/*') if Path(path).suffix in CODE and '/target/' not in path]
         for path in beside + self.glob('Makefile'):
             if (self.root / path).is_file():
@@ -163,7 +174,7 @@ class Reading:
             named = [path.split('/')[1]] if path.startswith('crates/') else []
             for token in TOKEN.finditer(text):
                 place = f'{path}:{block[text.count(chr(10), 0, token.start())][0]}'
-                if path in LINKS_ONLY and not token['link'] or path in NO_OTHER_NAMES and token['other']:
+                if path in LINKS_ONLY and not token['link'] or path in NO_OTHER_NAMES and (token['other'] or token['word']):
                     continue
                 file = self.look(place, path, token, named)
                 if file and path not in LINKS_ONLY:
@@ -183,12 +194,14 @@ class Reading:
             return self.look_link(place, path, token['link'], named)
         if token['item']:
             return self.look_item(place, token['item'].split('::'), named)
-        if token['crate'] or token['plain']:
-            crate = token['crate'] or token['plain']
-            self.hold(place, crate in self.repository.crates, f'there is no crate {crate}')
+        crates = token['crate'] or token['plain'] or token['drawn']
+        if crates:
+            for crate in crates.split(', '):
+                self.hold(place, crate in self.repository.crates, f'there is no crate {crate}')
             return None
-        if token['other']:
-            self.hold(place, token['other'] in self.repository.names(), f'nothing has the name {token["other"]}')
+        name = token['other'] or token['word']
+        if name:
+            self.hold(place, name in self.repository.names(), f'nothing has the name {name}')
             return None
         if token['further']:
             return self.look_further(place, token, named)

@@ -14,6 +14,7 @@ TREE = {
     'docs/LAWS.md': '# Laws of `bits`\n\n| rule | stands in | code |\n|---|---|---|\n'
                     '| a bit | bits/specs/Bits `has`, `clear`; BitLaws `has-bit` | `rows::Row::first` |\n'
                     '\ncrates/NAME/must-fail/LABEL.edit and crates/*/src are many files.\n',
+    'docs/ARCHITECTURE.md': '    bytes\n      |   bits, rows,      what `BitLaws` says\n      +-- rows_and_more\n      v\n    end\n',
     'docs/CHANGES.md': 'The crate `gone` had gone/specs/Gone.antt; [the laws](LAWS.md) are new.\n',
     'docs/DECISIONS.md': '`not_chosen` would have stood in crates/bits.\n',
     'tests/run': 'true\n',
@@ -86,6 +87,8 @@ class Trees(unittest.TestCase):
 
     def test_crates(self):
         self.refused('crates/bits/src/lib.rt', 'rows_and_more', 'rows_and_less', 1, 'there is no crate rows_and_less')
+        self.refused('docs/ARCHITECTURE.md', 'bits, rows,', 'bits, row,', 2, 'there is no crate row')
+        self.refused('docs/ARCHITECTURE.md', 'rows_and_more', 'rows_and_less', 3, 'there is no crate rows_and_less')
         self.refused('crates/rows/src/lib.rt', 'The kinds', 'Crate `row` has the kinds', 1, 'there is no crate row')
 
     def test_names_beside_files(self):
@@ -99,7 +102,8 @@ class Trees(unittest.TestCase):
     def test_other_names(self):
         self.refused('crates/bits/src/lib.rt', '`has-bit`', '`had-bit`', 3, 'nothing has the name had-bit')
         self.refused('crates/bits/must-fail/wrong.edit', '`has-bit`', '`had-bit`', 1, 'nothing has the name had-bit')
-        self.refused('README.md', 'tests/run and', 'tests/run, `rows_in_c` and', 3, 'nothing has the name rows_in_c')
+        for name in 'rows_in_c', '`rows_in_c`', '`hasBit`', '`Rows`':
+            self.refused('README.md', 'tests/run and', f'tests/run, {name} and', 3, f'nothing has the name {name.strip("`")}')
 
     def test_what_is_no_comment(self):
         self.assertEqual(self.read(('crates/bits/src/lib.rt', 'no::comment', 'bits::none'))[0], 0)
