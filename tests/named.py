@@ -7,7 +7,7 @@ Read are the comments of the .rt, .antt and .edit files under crates/, and READM
                also a further file as in bits/specs/Bits `has`; Lists `concat`
   a link       relative to its document; what follows # is a heading of the page
   an item      crate::item, of the crate's src; snp_cpuid::item may also be of the crate for Rust
-  a crate      where the word crate stands before its name, or in a picture after |   or +--
+  a crate      where the word crate stands before its name, in a picture after |   or +--, and in a list as in (over bits, rows)
   a name       in backticks right after a file, or before it as in `name` of FILE, `name` (FILE) and (`name`, FILE): the file defines it
   other names  with an underscore, and in backticks those with a hyphen or a capital too: a name that a crate defines or brings in, a crate, a file of
                specs/, or a word of the code beside the crates
@@ -36,6 +36,7 @@ CODE = {'.rs', '.c', '.h', '.py', '.toml', '.in', ''}
 TOKEN = re.compile(
     r'\]\((?P<link>[^)\s]+)\)'
     r'|^ +(?:\|  |\+--) (?P<drawn>[a-z]\w*(?:, [a-z]\w*)*)(?=,?(?:  |$))'
+    r'|\(over (?P<over>[a-z]\w*(?:, [a-z]\w*)+)\)'
     rf'|(?<![\w./-])(?P<path>(?:(?:{TOP})/|(?!target/)[a-z]\w*/(?:{INSIDE})/)(?:[\w.*/-]*[\w*/])?)'
     rf'|(?<![\w./-])(?P<own>(?:{INSIDE})/[\w.*/-]*\w)(?:\s+of\s+crate\s+`?(?P<whose>\w+)`?)?'
     r'|(?<![\w./*-])(?P<bare>[A-Z]\w*\.antt|[a-z]\w*\.rt)\b(?!\]\()'
@@ -96,7 +97,7 @@ class Repository:
         self.text = cache(lambda path: (self.root / path).read_text(encoding='utf-8', errors='replace'))
         self.there = cache(self._there)
         self.items = cache(self._items)
-        self.parts = cache(lambda crate: {part for path in self.sources(crate) for part in PART.findall(self.text(path))})
+        self.parts = cache(lambda crate: {part for path in self.sources(crate) for part in PART.findall(COMMENT['.rt'].sub('', self.text(path)))})
         self.definitions = cache(self._definitions)
         self.anchors = cache(self._anchors)
         self.names = cache(self._names)
@@ -120,7 +121,10 @@ class Repository:
         return self.glob(f'crates/{crate}/src/**/*.rt') + rust
 
     def _items(self, crate):
-        return {item for path in self.sources(crate) for item in ITEM.findall(self.text(path))}
+        return {item for path in self.sources(crate) for item in self.items_of(path)}
+
+    def items_of(self, path):
+        return ITEM.findall(COMMENT['.rt'].sub('', self.text(path)))
 
     def _definitions(self, path):
         return set(DEFINITION.findall(self.text(path))).union(*(names.split() for names in ALIKE.findall(self.text(path))))
@@ -152,7 +156,7 @@ class Repository:
         if path.endswith('.antt'):
             return name in self.definitions(path)
         if path.endswith('.rt') and not re.fullmatch(KEYWORDS, name):
-            return name.split('::')[-1] in ITEM.findall(self.text(path))
+            return name.split('::')[-1] in self.items_of(path)
         return None
 
 
@@ -194,7 +198,7 @@ class Reading:
             return self.look_link(place, path, token['link'], named)
         if token['item']:
             return self.look_item(place, token['item'].split('::'), named)
-        crates = token['crate'] or token['plain'] or token['drawn']
+        crates = token['crate'] or token['plain'] or token['drawn'] or token['over']
         if crates:
             for crate in crates.split(', '):
                 self.hold(place, crate in self.repository.crates, f'there is no crate {crate}')

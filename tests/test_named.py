@@ -14,13 +14,13 @@ TREE = {
     'docs/LAWS.md': '# Laws of `bits`\n\n| rule | stands in | code |\n|---|---|---|\n'
                     '| a bit | bits/specs/Bits `has`, `clear`; BitLaws `has-bit` | `rows::Row::first` |\n'
                     '\ncrates/NAME/must-fail/LABEL.edit and crates/*/src are many files.\n',
-    'docs/ARCHITECTURE.md': '    bytes\n      |   bits, rows,      what `BitLaws` says\n      +-- rows_and_more\n      v\n    end\n',
+    'docs/ARCHITECTURE.md': '    bytes\n      |   bits, rows,      what `BitLaws` says\n      +-- rows_and_more   more (over bits, rows)\n      v\n    end\n',
     'docs/CHANGES.md': 'The crate `gone` had gone/specs/Gone.antt; [the laws](LAWS.md) are new.\n',
     'docs/DECISIONS.md': '`not_chosen` would have stood in crates/bits.\n',
     'tests/run': 'true\n',
     'rust/Cargo.toml': '[package]\nname = "rows"\n',
     'rust/src/lib.rs': 'pub fn rows_in_rust() {}\n',
-    'crates/bits/src/lib.rt': '// Bits. specs/Bits.antt defines them; crate rows_and_more reads.\nmod more;\nfn has_bit() {} // `has-bit` says it\n'
+    'crates/bits/src/lib.rt': '// Bits. specs/Bits.antt defines them; crate rows_and_more has no fn bitless.\nmod more;\nfn has_bit() {} // `has-bit` says it\n'
                               'let s = no::comment;\n',
     'crates/bits/src/more.rt': 'fn keep_bit() {}\n',
     'crates/bits/specs/Bits.antt': '-- a bit; (`has-bit`, BitLaws.antt)\nabbrev pub has : N\nhas = 1\npub clear : N\n',
@@ -82,12 +82,14 @@ class Trees(unittest.TestCase):
 
     def test_items(self):
         self.refused('README.md', 'bits::has_bit', 'bits::has_bits', 3, 'bits::has_bits: crates/bits/src has no has_bits')
+        self.refused('README.md', 'bits::has_bit', 'bits::bitless', 3, 'bits::bitless: crates/bits/src has no bitless')
         self.refused('docs/LAWS.md', 'Row::first', 'Row::last', 5, 'rows::Row::last: crates/rows/src has no last')
         self.refused('crates/rows/src/lib.rt', 'rows::rows_in_rust', 'rows::rows_in_c', 1, 'rows::rows_in_c: crates/rows/src has no rows_in_c')
 
     def test_crates(self):
         self.refused('crates/bits/src/lib.rt', 'rows_and_more', 'rows_and_less', 1, 'there is no crate rows_and_less')
         self.refused('docs/ARCHITECTURE.md', 'bits, rows,', 'bits, row,', 2, 'there is no crate row')
+        self.refused('docs/ARCHITECTURE.md', '(over bits, rows)', '(over bit, rows)', 3, 'there is no crate bit')
         self.refused('docs/ARCHITECTURE.md', 'rows_and_more', 'rows_and_less', 3, 'there is no crate rows_and_less')
         self.refused('crates/rows/src/lib.rt', 'The kinds', 'Crate `row` has the kinds', 1, 'there is no crate row')
 
