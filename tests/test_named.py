@@ -14,13 +14,15 @@ TREE = {
     'docs/LAWS.md': '# Laws of `bits`\n\n| rule | stands in | code |\n|---|---|---|\n'
                     '| a bit | bits/specs/Bits `has`, `clear`; BitLaws `has-bit` | `rows::Row::first` |\n'
                     '\ncrates/NAME/must-fail/LABEL.edit and crates/*/src are many files.\n',
-    'docs/ARCHITECTURE.md': '    bytes\n      |   bits, rows,      what `BitLaws` says\n      +-- rows_and_more   more (over bits, rows)\n      v\n    end\n',
+    'docs/ARCHITECTURE.md': '    bytes\n      |   bits, rows,      what `BitLaws` says\n'
+                            '      +-- rows_and_more   more (over bits, rows)\n      v\n    end\n',
     'docs/CHANGES.md': 'The crate `gone` had gone/specs/Gone.antt; [the laws](LAWS.md) are new.\n',
     'docs/DECISIONS.md': '`not_chosen` would have stood in crates/bits.\n',
     'tests/run': 'true\n',
     'rust/Cargo.toml': '[package]\nname = "rows"\n',
     'rust/src/lib.rs': 'pub fn rows_in_rust() {}\n',
-    'crates/bits/src/lib.rt': '// Bits. specs/Bits.antt defines them; crate rows_and_more has no fn bitless.\nmod more;\nfn has_bit() {} // `has-bit` says it\n'
+    'crates/bits/src/lib.rt': '// Bits. specs/Bits.antt defines them; crate rows_and_more has no fn bitless.\nmod more;\n'
+                              'fn has_bit() {} // `has-bit` says it\n'
                               'let s = no::comment;\n',
     'crates/bits/src/more.rt': 'fn keep_bit() {}\n',
     'crates/bits/specs/Bits.antt': '-- a bit; (`has-bit`, BitLaws.antt)\nabbrev pub has : N\nhas = 1\npub clear : N\n',
