@@ -5,11 +5,11 @@ use memory::REGISTERS;
 use memory::is_there;
 use memory::row_at;
 use memory::sized;
-use register_kinds::Kinds;
 use register_kinds::Register;
 use register_kinds::RegistersRise;
 use register_kinds::first_register;
 use register_kinds::subleaf_named;
+use register_masks::masks_at;
 use rows_finished::build_rows;
 use table::Choices;
 use table::Refusal;
@@ -23,8 +23,8 @@ ghost use Prim.Native.Nat.{_<_};
 ghost use Rattle.masking.specs.Kept.{places};
 ghost use Rattle.memory.specs.Memory.{rowsIn};
 ghost use Rattle.rows_checked.specs.Checked.{registersIn};
+ghost use Rattle.update.specs.Kinds.{kindsAt};
 ghost use Rattle.rise.specs.Decide.{risesTest, rowTest};
-ghost use Rattle.register_kinds.specs.KindsInCode.{kindsIn};
 ghost use Rattle.register_kinds.specs.Registers.{registersRise};
 ghost use Rattle.compare.specs.Compare.{failingOf, comparedRows, compared};
 ghost use Rattle.compare.specs.CompareLaws.{hasOrigin, rowWith};
@@ -107,7 +107,7 @@ fn place_rises(place: usize, in_table: bool, a: CpuidResult, present: bool, b: C
     if register_kinds::from_entry(place) {
         if in_table {
             if present {
-                let rise = registers_rise(register_kinds::kinds_at(place), a, b);
+                let rise = registers_rise(place, a, b);
                 return rise.eax & (rise.ebx & (rise.ecx & rise.edx));
             }
             return false;
@@ -116,20 +116,13 @@ fn place_rises(place: usize, in_table: bool, a: CpuidResult, present: bool, b: C
     true
 }
 
-// Which registers of B's entry are as wanted, by the kinds of their place.
-fn registers_rise(kinds: Kinds, a: CpuidResult, b: CpuidResult) -> RegistersRise
-    ensures { λ r. ⌜ r ≡ registersRise risesTest (kindsIn kinds) a b ⌝ }
+// Which registers of B's entry are as wanted, by the masks of their place.
+fn registers_rise(place: usize, a: CpuidResult, b: CpuidResult) -> RegistersRise
+    requires { ⌜ place < places ⌝ }
+    ensures { λ r. ⌜ r ≡ registersRise risesTest (kindsAt place) a b ⌝ }
 {
-    let eax = kinds.eax;
-    let ebx = kinds.ebx;
-    let ecx = kinds.ecx;
-    let edx = kinds.edx;
-    RegistersRise {
-        eax: register_kinds::register_rises(eax, a.eax, b.eax),
-        ebx: register_kinds::register_rises(ebx, a.ebx, b.ebx),
-        ecx: register_kinds::register_rises(ecx, a.ecx, b.ecx),
-        edx: register_kinds::register_rises(edx, a.edx, b.edx),
-    }
+    let masks = masks_at(place);
+    register_kinds::registers_rise(masks.features, masks.agreed, a, b)
 }
 
 // What fails at a place: B has no entry, or the first of its registers that is not as wanted.
@@ -140,7 +133,7 @@ fn failing_at(place: usize, a: CpuidResult, present: bool, b: CpuidResult) -> Co
     let leaf = masking::leaf_at(place);
     let subleaf = subleaf_named(place);
     if present {
-        let rise = registers_rise(register_kinds::kinds_at(place), a, b);
+        let rise = registers_rise(place, a, b);
         return Compared::Differs(leaf, subleaf, first_register(rise));
     }
     Compared::NoEntry(leaf, subleaf)

@@ -1,3 +1,3 @@
-pub mod KindsInCode
 pub mod Registers
 pub mod RegistersLaws
+pub mod ByMasks

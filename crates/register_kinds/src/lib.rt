@@ -1,32 +1,15 @@
-// How demand 3 compares each register. A place comes in; the kinds of its four registers go out, and two values of a register are held
-// against each other by its kind. Four tests come in; the first register that fails goes out.
+// How demand 3 compares each register. Two rows come in, with the masks of their registers: which bits are features, and which must agree; which
+// registers are as wanted goes out, and the first that fails.
 use masking::place;
 use table::Subleaf;
-use x86defs::mt_per_socket;
+use x86defs::CpuidResult;
 ghost use mathlib.Core.Path.{_≡_};
 ghost use Prim.Native.Nat.{_<_};
 ghost use Rattle.masking.specs.Kept.{places};
 ghost use Rattle.features.specs.Finish.{ruleAt};
-ghost use Rattle.update.specs.Kinds.{kindsAt, fromEntry};
-ghost use Rattle.rise.specs.Decide.{risesTest};
-ghost use Rattle.register_kinds.specs.KindsInCode.{kindIn, kindsIn};
+ghost use Rattle.update.specs.Kinds.{fromEntry};
 ghost use Rattle.register_kinds.specs.Registers.{firstOf, subleafNamed};
-
-// The kinds of specs/Kinds.antt of crate update.
-pub enum Kind {
-    Feature,
-    FeatureBut28,
-    Area,
-    Freed,
-    Other,
-}
-
-pub struct Kinds {
-    pub eax: Kind,
-    pub ebx: Kind,
-    pub ecx: Kind,
-    pub edx: Kind,
-}
+ghost use Rattle.register_kinds.specs.ByMasks.{passes, passesBy};
 
 pub enum Register {
     Eax,
@@ -43,70 +26,6 @@ pub struct RegistersRise {
     pub edx: bool,
 }
 
-// The kinds of a row, register by register.
-fn row_of(eax: Kind, ebx: Kind, ecx: Kind, edx: Kind) -> Kinds
-    ensures { λ r. ⌜ r ≡ record { eax = eax; ebx = ebx; ecx = ecx; edx = edx } ⌝ }
-{
-    Kinds { eax, ebx, ecx, edx }
-}
-
-// The kinds of a place's registers.
-pub fn kinds_at(place: usize) -> Kinds
-    requires { ⌜ place < places ⌝ }
-    ensures { λ r. ⌜ kindsIn r ≡ kindsAt place ⌝ }
-{
-    match place {
-        place::VENDOR_AND_MAX_FUNCTION => row_of(
-            Kind::Freed,
-            Kind::Freed,
-            Kind::Freed,
-            Kind::Freed,
-        ),
-        place::VERSION_AND_FEATURES => row_of(
-            Kind::Other,
-            Kind::Other,
-            Kind::Feature,
-            Kind::FeatureBut28,
-        ),
-        place::EXTENDED_FEATURES => row_of(
-            Kind::Other,
-            Kind::Feature,
-            Kind::Feature,
-            Kind::Feature,
-        ),
-        place::THREAD_LEVEL => row_of(Kind::Freed, Kind::Freed, Kind::Freed, Kind::Freed),
-        place::CORE_LEVEL => row_of(Kind::Freed, Kind::Freed, Kind::Freed, Kind::Freed),
-        place::EXTENDED_STATE_0 => row_of(Kind::Feature, Kind::Other, Kind::Area, Kind::Other),
-        place::EXTENDED_STATE_1 => row_of(Kind::Feature, Kind::Other, Kind::Feature, Kind::Other),
-        place::EXTENDED_MAX_FUNCTION => row_of(Kind::Freed, Kind::Freed, Kind::Freed, Kind::Freed),
-        place::EXTENDED_VERSION_AND_FEATURES => row_of(
-            Kind::Other,
-            Kind::Other,
-            Kind::Feature,
-            Kind::Feature,
-        ),
-        place::EXTENDED_ADDRESS_SPACE_SIZES => row_of(
-            Kind::Other,
-            Kind::Feature,
-            Kind::Other,
-            Kind::Other,
-        ),
-        place::EXTENDED_OPTIMIZATION_IDENTIFIERS => row_of(
-            Kind::Feature,
-            Kind::Other,
-            Kind::Other,
-            Kind::Other,
-        ),
-        place::EXTENDED_SEV_FEATURES => row_of(
-            Kind::Feature,
-            Kind::Other,
-            Kind::Other,
-            Kind::Other,
-        ),
-        _ => row_of(Kind::Other, Kind::Other, Kind::Other, Kind::Other),
-    }
-}
-
 // Whether a place's row comes from an entry: all but 0 and 80000000h.
 pub fn from_entry(place: usize) -> bool
     requires { ⌜ place < places ⌝ }
@@ -119,28 +38,29 @@ pub fn from_entry(place: usize) -> bool
     }
 }
 
-// Whether every bit of `a` is in `b`.
-fn within(a: u32, b: u32) -> bool
-    ensures { λ r. ⌜ r ≡ risesTest (kindIn Kind.Feature) a b ⌝ }
+// Whether a register of B's is as wanted beside A's: of the bits that are asked, features and what must agree, it has all that A's has, and what must
+// agree is the same.
+fn register_rises(features: u32, agreed: u32, a: u32, b: u32) -> bool
+    ensures { λ r. ⌜ r ≡ passes features agreed a b ⌝ }
 {
-    a & b == a
+    let asked = features | agreed;
+    (a & b & asked == a & asked) & (a & agreed == b & agreed)
 }
 
-// Whether a register of B's entry is as the hypothesis of demand 3 wants it beside A's.
-pub fn register_rises(kind: Kind, a: u32, b: u32) -> bool
-    ensures { λ r. ⌜ r ≡ risesTest (kindIn kind) a b ⌝ }
+// Which registers of B's row are as wanted, by the masks of its four registers.
+pub fn registers_rise(
+    features: CpuidResult,
+    agreed: CpuidResult,
+    a: CpuidResult,
+    b: CpuidResult,
+) -> RegistersRise
+    ensures { λ r. ⌜ r ≡ passesBy features agreed a b ⌝ }
 {
-    match kind {
-        Kind::Feature => within(a, b),
-        Kind::FeatureBut28 => {
-            if within(a, b) {
-                return mt_per_socket(a) == mt_per_socket(b);
-            }
-            false
-        }
-        Kind::Area => true,
-        Kind::Freed => true,
-        Kind::Other => a == b,
+    RegistersRise {
+        eax: register_rises(features.eax, agreed.eax, a.eax, b.eax),
+        ebx: register_rises(features.ebx, agreed.ebx, a.ebx, b.ebx),
+        ecx: register_rises(features.ecx, agreed.ecx, a.ecx, b.ecx),
+        edx: register_rises(features.edx, agreed.edx, a.edx, b.edx),
     }
 }
 

@@ -5,12 +5,11 @@ use memory::REGISTERS;
 use memory::combined_mask;
 use memory::is_there;
 use memory::row_at;
-use register_kinds::Kind;
-use register_kinds::Kinds;
 use register_kinds::Register;
 use register_kinds::RegistersRise;
 use register_kinds::first_register;
 use register_kinds::subleaf_named;
+use register_masks::masks_at;
 use table::Subleaf;
 use x86defs::CpuidFunction;
 use x86defs::CpuidResult;
@@ -18,10 +17,11 @@ ghost use mathlib.Core.Path.{_≡_};
 ghost use Prim.Native.Nat.{_<_};
 ghost use Rattle.masking.specs.Kept.{places};
 ghost use Rattle.memory.specs.Held.{heldIn};
-ghost use Rattle.register_kinds.specs.KindsInCode.{kindIn, kindsIn};
+ghost use Rattle.update.specs.Kinds.{kindsAt};
 ghost use Rattle.register_kinds.specs.Registers.{registersRise};
 ghost use Rattle.tables_compared.specs.CompareTables.{tableTest, furtherTest, rowTest, failingOf, comparedTables};
 ghost use Rattle.tables_compared.specs.CompareLaws.{rowWith};
+ghost use Rattle.tables_compared.specs.TableMasks.{outside};
 ghost use Rattle.tables_compared.specs.Means.{Decides};
 
 // What a comparison gives: B's table rises from A's; it lacks a row of A's; a register of its row fails; it has a row that A's has not and that is no
@@ -85,7 +85,7 @@ fn place_rises(
 {
     if in_a {
         if in_b {
-            let rise = registers_rise(register_kinds::kinds_at(place), a, b);
+            let rise = registers_rise(place, a, b);
             return rise.eax & (rise.ebx & (rise.ecx & rise.edx));
         }
         return false;
@@ -113,33 +113,34 @@ fn is_further(place: usize, a_mask: u64, b_mask: u64) -> bool
     false
 }
 
-// Whether a register of B's table is as wanted beside A's: as for entries, but for the save area and for what is freed there.
-fn register_rises(kind: Kind, a: u32, b: u32) -> bool
-    ensures { λ r. ⌜ r ≡ tableTest (kindIn kind) a b ⌝ }
+// The bits of a row's registers that are no features.
+fn not_features(features: CpuidResult) -> CpuidResult
+    ensures { λ r. ⌜ r ≡ outside features ⌝ }
 {
-    match kind {
-        Kind::Feature => register_kinds::register_rises(Kind::Feature, a, b),
-        Kind::FeatureBut28 => register_kinds::register_rises(Kind::FeatureBut28, a, b),
-        Kind::Area => a <= b,
-        Kind::Freed => a == b,
-        Kind::Other => a == b,
+    CpuidResult {
+        eax: !features.eax,
+        ebx: !features.ebx,
+        ecx: !features.ecx,
+        edx: !features.edx,
     }
 }
 
-// Which registers of B's row are as wanted, by the kinds of their place.
-fn registers_rise(kinds: Kinds, a: CpuidResult, b: CpuidResult) -> RegistersRise
-    ensures { λ r. ⌜ r ≡ registersRise tableTest (kindsIn kinds) a b ⌝ }
+// Which registers of B's row are as wanted: in a table all that is no feature must agree, but for the save area of D.0, which may grow.
+fn registers_rise(place: usize, a: CpuidResult, b: CpuidResult) -> RegistersRise
+    requires { ⌜ place < places ⌝ }
+    ensures { λ r. ⌜ r ≡ registersRise tableTest (kindsAt place) a b ⌝ }
 {
-    let eax = kinds.eax;
-    let ebx = kinds.ebx;
-    let ecx = kinds.ecx;
-    let edx = kinds.edx;
-    RegistersRise {
-        eax: register_rises(eax, a.eax, b.eax),
-        ebx: register_rises(ebx, a.ebx, b.ebx),
-        ecx: register_rises(ecx, a.ecx, b.ecx),
-        edx: register_rises(edx, a.edx, b.edx),
+    let features = masks_at(place).features;
+    let rise = register_kinds::registers_rise(features, not_features(features), a, b);
+    if place == place::EXTENDED_STATE_0 {
+        return RegistersRise {
+            eax: rise.eax,
+            ebx: rise.ebx,
+            ecx: a.ecx <= b.ecx,
+            edx: rise.edx,
+        };
     }
+    rise
 }
 
 // What fails at a place: B has no row for A's, or the first of its registers that is not as wanted; or B has a row too many.
@@ -157,7 +158,7 @@ fn failing_at(
     let subleaf = subleaf_named(place);
     if in_a {
         if in_b {
-            let rise = registers_rise(register_kinds::kinds_at(place), a, b);
+            let rise = registers_rise(place, a, b);
             return TablesCompared::Differs(leaf, subleaf, first_register(rise));
         }
         return TablesCompared::NoRow(leaf, subleaf);

@@ -6,13 +6,11 @@ use Rattle.compare.proofs.failing_at.Tie as tie
 returns : tie.Need-returns
 returns c =
     let r = c .before in
-    let k = r .before in
-    let s = k .before .before in
+    let s = r .before .before in
     rw (
       c .first-register .ensures,
       r .registers-rise .ensures,
-      ← k .kinds-at .ensures,
-      k .before .if1 .taken,
+      r .before .if1 .taken,
       s .subleaf-named .ensures,
       s .before .leaf-at .ensures,
     )
@@ -24,7 +22,6 @@ pub failing-at-spec : {M : Type 1} → statement M
 failing-at-spec =
     tie.close
     (tie.spec
-    (λ c κs. search needs)
     (λ c κs. search needs)
     (λ c κs. search needs)
     (λ c κs. search needs)

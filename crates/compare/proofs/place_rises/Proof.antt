@@ -6,13 +6,11 @@ use Rattle.compare.proofs.place_rises.Tie as tie
 returns : tie.Need-returns
 returns c =
     let r = c .before .before .before in
-    let k = r .before in
-    let present = k .before in
+    let present = r .before in
     let inA = present .before in
     let entry = inA .before in
     rw (
       r .registers-rise .ensures,
-      ← k .kinds-at .ensures,
       ← entry .before .from-entry .ensures,
       entry .if1 .taken,
       inA .if2 .taken,
@@ -34,7 +32,6 @@ pub place-rises-spec : {M : Type 1} → statement M
 place-rises-spec =
     tie.close
     (tie.spec
-    (λ c κs. search needs)
     (λ c κs. search needs)
     (λ c κs. search needs)
     returns

@@ -6,14 +6,12 @@ use Rattle.tables_compared.proofs.failing_at.Tie as tie
 returns : tie.Need-returns
 returns c =
     let r = c .before in
-    let k = r .before in
-    let b = k .before in
+    let b = r .before in
     let a = b .before in
     let s = a .before in
     rw (
       c .first-register .ensures,
       r .registers-rise .ensures,
-      ← k .kinds-at .ensures,
       b .if2 .taken,
       a .if1 .taken,
       s .subleaf-named .ensures,
@@ -32,7 +30,6 @@ pub failing-at-spec : {M : Type 1} → statement M
 failing-at-spec =
     tie.close
     (tie.spec
-    (λ c κs. search needs)
     (λ c κs. search needs)
     (λ c κs. search needs)
     (λ c κs. search needs)

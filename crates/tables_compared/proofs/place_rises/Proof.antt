@@ -6,10 +6,9 @@ use Rattle.tables_compared.proofs.place_rises.Tie as tie
 returns : tie.Need-returns
 returns c =
     let r = c .before .before .before in
-    let k = r .before in
-    let b = k .before in
+    let b = r .before in
     let a = b .before in
-    rw (r .registers-rise .ensures, ← k .kinds-at .ensures, a .if1 .taken, b .if2 .taken)
+    rw (r .registers-rise .ensures, a .if1 .taken, b .if2 .taken)
 
 returns-2 : tie.Need-returns-2
 returns-2 c = rw (c .before .if1 .taken, c .if2 .left)
@@ -24,7 +23,6 @@ pub place-rises-spec : {M : Type 1} → statement M
 place-rises-spec =
     tie.close
     (tie.spec
-    (λ c κs. search needs)
     (λ c κs. search needs)
     returns
     returns-2
