@@ -48,7 +48,8 @@ use Rattle.answers.specs.Answers.{foundAt}
 use Rattle.snp_cpuid.specs.Exports.{foundIn}
 use Rattle.snp_cpuid.specs.PoolExports.{pooledFound, PooledIn}
 use Rattle.page_sets.specs.PageSets.{serverA, serverB}
-use Rattle.theorems.specs.Theorems.{a-accepted, b-accepted, b-rises, rise}
+use Rattle.theorems.specs.BuildingTheorems.{a-accepted, b-accepted, b-rises}
+use Rattle.theorems.specs.RiseTheorems.{rise}
 
 -- what is found in a kept table is what the lookup from pages finds, its origin too
 pub kept-find : (chosen : Choices) (s w o : List ℕ) → TableIn (answer chosen s) w o → (leaf : ℕ) (subleaf : Subleaf) (enforce : Bool)

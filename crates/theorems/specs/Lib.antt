@@ -3,6 +3,16 @@ pub mod Exported
 pub mod CompareOrder
 pub mod GuestExported
 pub mod PoolExported
+pub mod BuildingTheorems
+pub mod RiseTheorems
+pub mod ComparisonTheorems
+pub mod EditionTheorems
+pub mod GuestTheorems
+pub mod OriginTheorems
+pub mod TopologyTheorems
+pub mod ListTheorems
+pub mod LineTheorems
+pub mod PoolTheorems
 pub mod Theorems
 pub mod NearestBit
 pub mod KeptTable
