@@ -1,95 +1,130 @@
-/* Build and image, by the proved library, by plain C of one compiler or two and, with WITH_RUST, by the Rust of differential/oracle, in one process.
- * Each round times all on the same input, in turns. A line for each input has tabs between its words: its name, the port's median in ns, and for
- * each of the others name, median and the median of the rounds' ratios: port / C, or Rust / port. bench/run links it in several orders. The Rust
- * builds its set of leaves, and writes no image. A last line has the port alone: a pool of 16 servers, 16 single builds, and their ratio. */
-#include "../include/snp_cpuid.h"
+/* The proved library beside plain C of one compiler or two and, with WITH_RUST, the Rust of differential/oracle, in one process.
+ *
+ *   bench PAGES
+ *
+ * Each round times all on the same input, in turns. A line for each work and input has tabs between its words: the work, the input, the port's median in
+ * ns, and for each of the others name, median and the median of the rounds' ratios: port / C, or Rust / port. bench/run links it in several orders. The
+ * Rust builds its set of leaves, and writes no image. A last line has the port alone: a pool of 16 servers, 16 single builds, and their ratio.
+ *
+ *   bench PAGES MAKER WORK INPUT CALLS
+ *
+ * calls one function and no other of its kind, for a count of its instructions. */
 #include "plain.h"
+#include "timing.h"
 
 #include <stdio.h>
-#include <stdlib.h>
 #include <string.h>
-#include <time.h>
 
-enum { ROUNDS = 21, ROOM = 1024 };
+enum { ROOM = 1024, EDITION = 1 };
 
-/* of the AVX rule: the one that plain C and the Rust have */
-enum { EDITION = 1 };
+/* port and plain C have functions of the same types, and all are called by pointer */
+write_image_function gcc_write_image, clang_write_image;
+build_function gcc_table_build, clang_table_build;
+find_function gcc_table_find, clang_table_find;
+guest_find_function gcc_table_guest_find, clang_table_guest_find;
+guest_find_kept_function gcc_table_guest_find_kept, clang_table_guest_find_kept;
 
-/* plain.c by each compiler, under the name that bench/run gives it */
-typedef struct plain_answer plain(const uint8_t *pages, size_t length, int avic, uint8_t *out, size_t room, size_t *written);
-typedef struct plain_answer origins(const uint8_t *pages, size_t length, int avic, uint64_t *origins);
-typedef uint32_t place(unsigned place, int *has_subleaf, uint32_t *subleaf);
-plain gcc_write_image;
-origins gcc_origins;
-place gcc_place;
-#ifdef WITH_CLANG
-plain clang_write_image;
-origins clang_origins;
-#endif
-
-static const struct {
+static const struct maker {
     const char *name;
-    plain *write_image;
-    origins *origins;
-} C[] = {
-    {"gcc", gcc_write_image, gcc_origins},
+    write_image_function *write_image;
+    build_function *build;
+    find_function *find;
+    guest_find_function *guest_find;
+    guest_find_kept_function *guest_find_kept;
+} MAKERS[] = {
+    {"port", snp_cpuid_write_image, snp_cpuid_table_build, snp_cpuid_table_find, snp_cpuid_table_guest_find, snp_cpuid_table_guest_find_kept},
+    {"gcc", gcc_write_image, gcc_table_build, gcc_table_find, gcc_table_guest_find, gcc_table_guest_find_kept},
 #ifdef WITH_CLANG
-    {"clang", clang_write_image, clang_origins},
+    {"clang", clang_write_image, clang_table_build, clang_table_find, clang_table_guest_find, clang_table_guest_find_kept},
 #endif
 };
 
-enum { COMPILERS = sizeof C / sizeof *C };
+enum { N_MAKERS = sizeof MAKERS / sizeof *MAKERS, PORT = 0 };
 
-static double now(void)
-{
-    struct timespec t;
-    clock_gettime(CLOCK_MONOTONIC, &t);
-    return t.tv_sec * 1e9 + t.tv_nsec;
-}
+/* ---- inputs: page sets, and a table with the exits that are asked of it */
 
-static int by_value(const void *a, const void *b)
-{
-    double x = *(const double *)a, y = *(const double *)b;
-    return (x > y) - (x < y);
-}
+static struct input {
+    const char *name;
+    const uint8_t *pages;
+    size_t length;
+} inputs[5];
 
-static volatile uint32_t sink;
+static struct snp_cpuid_table table;
+static struct snp_cpuid_state kept;
+static const struct snp_cpuid_processor CPU = {5, 7, 0x1800, true};
 
-static double port_ns(const uint8_t *pages, size_t n, int calls)
+/* leaf and subleaf: every row of the shipped set's table, and three that no table has */
+static const uint32_t EXITS[][2] = {
+    {0, 0}, {1, 0}, {5, 0}, {7, 0}, {0xb, 0}, {0xb, 1}, {0xd, 0}, {0xd, 1}, {0xd, 2}, {0xd, 11}, {0xd, 12}, {0x80000000, 0}, {0x80000001, 0},
+    {0x80000002, 0}, {0x80000003, 0}, {0x80000004, 0}, {0x80000005, 0}, {0x80000006, 0}, {0x80000007, 0}, {0x80000008, 0}, {0x8000000a, 0},
+    {0x80000019, 0}, {0x8000001a, 0}, {0x8000001d, 0}, {0x8000001d, 1}, {0x8000001d, 2}, {0x8000001d, 3}, {0x8000001e, 0}, {0x8000001f, 0},
+    {2, 0}, {0xd, 9}, {0x40000000, 0}};
+
+enum { N_EXITS = sizeof EXITS / sizeof *EXITS };
+
+/* ---- works */
+
+static volatile uint64_t sink;
+
+static void images(const struct maker *m, const struct input *in, int calls)
 {
     uint8_t out[ROOM];
-    double t = now();
-    for (int i = 0; i < calls; i++) {
-        struct snp_cpuid_written w = snp_cpuid_write_image(pages, n, false, EDITION, out, ROOM);
-        sink += w.length + out[0];
-    }
-    return (now() - t) / calls;
-}
-
-static double plain_ns(plain *write_image, const uint8_t *pages, size_t n, int calls)
-{
-    uint8_t out[ROOM];
-    double t = now();
-    for (int i = 0; i < calls; i++) {
-        size_t written;
-        struct plain_answer a = write_image(pages, n, 0, out, ROOM, &written);
-        sink += (uint32_t)written + a.number + out[0];
-    }
-    return (now() - t) / calls;
-}
-
-#ifdef WITH_RUST
-/* differential/oracle/src/lib.rs: the rows of the table, or 0 where the Rust refuses */
-size_t oracle_rows(const uint8_t *pages, size_t length);
-
-static double rust_ns(const uint8_t *pages, size_t n, int calls)
-{
-    double t = now();
     for (int i = 0; i < calls; i++)
-        sink += (uint32_t)oracle_rows(pages, n);
+        sink += m->write_image(in->pages, in->length, false, EDITION, out, ROOM).length + out[0];
+}
+
+static void builds(const struct maker *m, const struct input *in, int calls)
+{
+    struct snp_cpuid_table t;
+    for (int i = 0; i < calls; i++)
+        sink += m->build(in->pages, in->length, false, EDITION, t.registers, t.origins).row_count + t.registers[0];
+}
+
+static void finds(const struct maker *m, const struct input *in, int calls)
+{
+    (void)in;
+    for (int i = 0; i < calls; i++)
+        sink += m->find(table.registers, table.origins, EXITS[i % N_EXITS][0], true, EXITS[i % N_EXITS][1], false).eax;
+}
+
+static void guest_finds(const struct maker *m, const struct input *in, int calls)
+{
+    (void)in;
+    for (int i = 0; i < calls; i++)
+        sink += m->guest_find(table.registers, table.origins, CPU.x2apic, CPU.xcr0, CPU.xss, CPU.osxsave, EXITS[i % N_EXITS][0], true,
+                              EXITS[i % N_EXITS][1], false).eax;
+}
+
+static void guest_finds_kept(const struct maker *m, const struct input *in, int calls)
+{
+    (void)in;
+    for (int i = 0; i < calls; i++)
+        sink += m->guest_find_kept(table.registers, table.origins, CPU.x2apic, CPU.xcr0, CPU.xss, CPU.osxsave, kept.size, EXITS[i % N_EXITS][0], true,
+                                   EXITS[i % N_EXITS][1], false).eax;
+}
+
+static const struct work {
+    const char *name;
+    void (*run)(const struct maker *, const struct input *, int calls);
+    int inputs, calls;
+} WORKS[] = {
+    {"image", images, 5, 4000},
+    {"build", builds, 5, 4000},
+    {"find", finds, 1, 64000},
+    {"guest find", guest_finds, 1, 64000},
+    {"guest find, kept", guest_finds_kept, 1, 64000},
+};
+
+enum { N_WORKS = sizeof WORKS / sizeof *WORKS };
+
+static double ns(const struct work *work, const struct maker *m, const struct input *in, int calls)
+{
+    double t = now();
+    work->run(m, in, calls);
     return (now() - t) / calls;
 }
-#endif
+
+/* ---- all give the same answers, bytes, memory and rows, or nothing here means anything */
 
 static void differ(const char *name, const char *what)
 {
@@ -97,100 +132,129 @@ static void differ(const char *name, const char *what)
     exit(1);
 }
 
-/* the origin that the port gives with a row, as the number that plain C has for it */
-static uint64_t port_origin(const uint8_t *pages, size_t n, unsigned k)
+static bool same_row(struct snp_cpuid_found a, struct snp_cpuid_found b)
 {
-    int has_subleaf;
-    uint32_t subleaf = 0, leaf = gcc_place(k, &has_subleaf, &subleaf);
-    struct snp_cpuid_found f = snp_cpuid_lookup(pages, n, false, EDITION, leaf, has_subleaf, subleaf, true);
-    return f.origin == 2 ? 2 + 64 * f.page + f.entry : f.origin;
+    return a.found == b.found && a.eax == b.eax && a.ebx == b.ebx && a.ecx == b.ecx && a.edx == b.edx && a.origin == b.origin && a.page == b.page &&
+           a.entry == b.entry;
 }
 
-/* all give the same answer, bytes and origins, or nothing here means anything */
-static void compare(const char *name, const uint8_t *pages, size_t n)
+static struct snp_cpuid_found row_of(struct snp_cpuid_guest_found g)
 {
-    for (int c = 0; c < COMPILERS; c++) {
-        uint8_t a[ROOM] = {0}, b[ROOM] = {0};
-        size_t written;
-        struct snp_cpuid_written w = snp_cpuid_write_image(pages, n, false, EDITION, a, ROOM);
-        struct plain_answer p = C[c].write_image(pages, n, 0, b, ROOM, &written);
-        if (w.number != p.number || w.leaf != p.leaf || w.length != written || memcmp(a, b, ROOM))
-            differ(name, "answers");
-        uint64_t origins[PLAIN_PLACES];
-        C[c].origins(pages, n, 0, origins);
-        for (unsigned k = 0; k < PLAIN_PLACES; k++)
-            if (origins[k] != port_origin(pages, n, k))
-                differ(name, "origins");
+    return (struct snp_cpuid_found){g.found, g.eax, g.ebx, g.ecx, g.edx, g.origin, g.page, g.entry};
+}
+
+static void compare_sets(const struct maker *m, const struct input *in, bool avic, uint32_t edition)
+{
+    uint8_t a[ROOM] = {0}, b[ROOM] = {0};
+    struct snp_cpuid_table s, t;
+    struct snp_cpuid_written v = snp_cpuid_write_image(in->pages, in->length, avic, edition, a, ROOM);
+    struct snp_cpuid_written w = m->write_image(in->pages, in->length, avic, edition, b, ROOM);
+    if (v.number != w.number || v.leaf != w.leaf || v.subleaf != w.subleaf || v.length != w.length || memcmp(a, b, ROOM))
+        differ(in->name, "images");
+    memset(&s, 0xa5, sizeof s);
+    memset(&t, 0x5a, sizeof t);
+    struct snp_cpuid_built c = snp_cpuid_table_build(in->pages, in->length, avic, edition, s.registers, s.origins);
+    struct snp_cpuid_built d = m->build(in->pages, in->length, avic, edition, t.registers, t.origins);
+    if (c.number != d.number || c.leaf != d.leaf || c.subleaf != d.subleaf || c.row_count != d.row_count ||
+        c.max_extended_state != d.max_extended_state || memcmp(&s, &t, sizeof s))
+        differ(in->name, "tables");
+}
+
+static void compare_rows(const struct maker *m, uint32_t leaf, bool has, uint32_t subleaf, bool enforce)
+{
+    if (!same_row(snp_cpuid_table_find(table.registers, table.origins, leaf, has, subleaf, enforce),
+                  m->find(table.registers, table.origins, leaf, has, subleaf, enforce)))
+        differ(m->name, "rows");
+    const uint64_t states[][2] = {{7, 0x1800}, {3, 0}, {0, 0}, {7, 1}};
+    for (int i = 0; i < 4; i++) {
+        uint64_t xcr0 = states[i][0], xss = states[i][1];
+        struct snp_cpuid_guest_found a = snp_cpuid_table_guest_find(table.registers, table.origins, 777, xcr0, xss, i, leaf, has, subleaf, enforce);
+        struct snp_cpuid_guest_found b = m->guest_find(table.registers, table.origins, 777, xcr0, xss, i, leaf, has, subleaf, enforce);
+        if (a.number != b.number || !same_row(row_of(a), row_of(b)))
+            differ(m->name, "guest's rows");
+        if (!same_row(snp_cpuid_table_guest_find_kept(table.registers, table.origins, 777, xcr0, xss, i, 99, leaf, has, subleaf, enforce),
+                      m->guest_find_kept(table.registers, table.origins, 777, xcr0, xss, i, 99, leaf, has, subleaf, enforce)))
+            differ(m->name, "guest's rows with a kept size");
     }
 }
 
-struct times {
-    double ns[ROUNDS], ratio[ROUNDS];
-};
-
-static double median(double *values)
+static void compare(void)
 {
-    qsort(values, ROUNDS, sizeof *values, by_value);
-    return values[ROUNDS / 2];
+    for (int k = PORT + 1; k < N_MAKERS; k++) {
+        for (int i = 0; i < 5; i++)
+            for (int choice = 0; choice < 6; choice++)
+                compare_sets(&MAKERS[k], &inputs[i], choice % 2, choice / 2 + 1);
+        for (int i = 0; i < N_EXITS; i++)
+            for (int choice = 0; choice < 12; choice++)
+                compare_rows(&MAKERS[k], EXITS[i][0], choice % 2, EXITS[i][1] + choice / 4, choice / 2 % 2);
+    }
 }
 
-static void measure(const char *name, const uint8_t *pages, size_t n)
-{
-    double port[ROUNDS];
-    struct times c[COMPILERS];
-    int calls = 10000;
-    compare(name, pages, n);
+/* ---- measuring */
+
 #ifdef WITH_RUST
-    struct times rust;
-    if (oracle_rows(pages, n) != snp_cpuid_build(pages, n, false, EDITION).row_count) {
-        fprintf(stderr, "%s: the Rust has another number of rows\n", name);
-        exit(1);
-    }
-    calls = 2000;
+/* differential/oracle/src/lib.rs: the rows of the table, or 0 where the Rust refuses */
+size_t oracle_rows(const uint8_t *pages, size_t length);
+
+static double rust_ns(const struct input *in, int calls)
+{
+    double t = now();
+    for (int i = 0; i < calls; i++)
+        sink += oracle_rows(in->pages, in->length);
+    return (now() - t) / calls;
+}
+#endif
+
+static void measure(const struct work *work, const struct input *in, const char *name)
+{
+    double times[N_MAKERS][ROUNDS], ratios[N_MAKERS][ROUNDS];
+#ifdef WITH_RUST
+    double rust[ROUNDS], rust_ratios[ROUNDS];
+    if (oracle_rows(in->pages, in->length) != snp_cpuid_build(in->pages, in->length, false, EDITION).row_count)
+        differ(name, "Rust's and the port's numbers of rows");
 #endif
     for (int i = 0; i < ROUNDS; i++) {
-        port[i] = port_ns(pages, n, calls);
-        for (int k = 0; k < COMPILERS; k++) {
-            c[k].ns[i] = plain_ns(C[k].write_image, pages, n, calls);
-            c[k].ratio[i] = port[i] / c[k].ns[i];
-        }
+        for (int k = 0; k < N_MAKERS; k++)
+            times[k][i] = ns(work, &MAKERS[k], in, work->calls);
+        for (int k = 0; k < N_MAKERS; k++)
+            ratios[k][i] = times[PORT][i] / times[k][i];
 #ifdef WITH_RUST
-        rust.ns[i] = rust_ns(pages, n, calls);
-        rust.ratio[i] = rust.ns[i] / port[i];
+        rust[i] = rust_ns(in, work->calls / 4);
+        rust_ratios[i] = rust[i] / times[PORT][i];
 #endif
     }
-    printf("%s\t%.1f", name, median(port));
-    for (int k = 0; k < COMPILERS; k++)
-        printf("\t%s\t%.1f\t%.4f", C[k].name, median(c[k].ns), median(c[k].ratio));
+    printf("%s\t%s\t%.1f", work->name, name, median(times[PORT]));
+    for (int k = PORT + 1; k < N_MAKERS; k++)
+        printf("\t%s\t%.1f\t%.4f", MAKERS[k].name, median(times[k]), median(ratios[k]));
 #ifdef WITH_RUST
-    printf("\trust\t%.1f\t%.4f", median(rust.ns), median(rust.ratio));
+    printf("\trust\t%.1f\t%.4f", median(rust), median(rust_ratios));
 #endif
     putchar('\n');
 }
 
 /* one pool of 16 servers with the same set, beside 16 builds; plain C and the Rust have no pool */
-static void measure_pool(const uint8_t *pages, size_t n)
+static void measure_pool(const struct input *in)
 {
     enum { SERVERS = 16, CALLS = 1000 };
     double pool[ROUNDS], single[ROUNDS], ratio[ROUNDS];
     uint64_t lengths[SERVERS];
-    uint8_t *sets = malloc(SERVERS * n), out[ROOM] = {0}, alone[ROOM] = {0};
+    uint8_t *sets = malloc(SERVERS * in->length), out[ROOM] = {0}, alone[ROOM] = {0};
     for (int k = 0; k < SERVERS; k++) {
-        lengths[k] = n;
-        memcpy(sets + k * n, pages, n);
+        lengths[k] = in->length;
+        memcpy(sets + k * in->length, in->pages, in->length);
     }
-    struct snp_cpuid_written w = snp_cpuid_write_pool_image(sets, SERVERS * n, lengths, SERVERS, false, EDITION, out, ROOM);
-    if (w.number || w.length != snp_cpuid_write_image(pages, n, false, EDITION, alone, ROOM).length || memcmp(out, alone, ROOM))
+    struct snp_cpuid_written w = snp_cpuid_write_pool_image(sets, SERVERS * in->length, lengths, SERVERS, false, EDITION, out, ROOM);
+    if (w.number || w.length != snp_cpuid_write_image(in->pages, in->length, false, EDITION, alone, ROOM).length || memcmp(out, alone, ROOM))
         differ("pool", "images of a pool of equals and of one of them");
     for (int i = 0; i < ROUNDS; i++) {
         double t = now();
         for (int c = 0; c < CALLS; c++)
-            sink += snp_cpuid_write_pool_image(sets, SERVERS * n, lengths, SERVERS, false, EDITION, out, ROOM).length;
+            sink += snp_cpuid_write_pool_image(sets, SERVERS * in->length, lengths, SERVERS, false, EDITION, out, ROOM).length;
         pool[i] = (now() - t) / CALLS;
-        single[i] = SERVERS * port_ns(pages, n, SERVERS * CALLS);
+        single[i] = SERVERS * ns(&WORKS[0], &MAKERS[PORT], in, SERVERS * CALLS);
         ratio[i] = pool[i] / single[i];
     }
-    printf("pool\t%.1f\t%.1f\t%.4f\n", median(pool), median(single), median(ratio));
+    printf("pool\t\t%.1f\t%.1f\t%.4f\n", median(pool), median(single), median(ratio));
     free(sets);
 }
 
@@ -208,37 +272,53 @@ static uint8_t *full_pages(const uint8_t *pages)
     return full;
 }
 
-int main(int argc, char **argv)
+static void make_inputs(const uint8_t *pages)
 {
-    if (argc != 2) {
-        fprintf(stderr, "usage: bench PAGES (two pages)\n");
-        return 2;
-    }
-    uint8_t pages[8192];
-    FILE *f = fopen(argv[1], "rb");
-    if (!f || fread(pages, 1, sizeof pages, f) != sizeof pages) {
-        fprintf(stderr, "bench: cannot read two pages from %s\n", argv[1]);
-        return 2;
-    }
-    fclose(f);
-    uint8_t *full = full_pages(pages);
-    uint8_t *sixteen = calloc(16, 4096);
+    uint8_t *full = full_pages(pages), *sixteen = malloc(16 * 4096), *unclean = malloc(16 * 4096), *refused = malloc(8192);
     memcpy(sixteen, full, 8192);
     for (int p = 2; p < 16; p++)
         memcpy(sixteen + 4096 * p, full, 4096);
-    uint8_t refused[8192];
-    memcpy(refused, full, sizeof refused);
+    memcpy(refused, full, 8192);
     refused[4096] = 0;
+    memcpy(unclean, sixteen, 16 * 4096);
+    unclean[16 * 4096 - 4096 + 16 + 48 * 63 + 47] = 1;
+    inputs[0] = (struct input){"the shipped set, 38 entries", pages, 8192};
+    inputs[1] = (struct input){"two full pages, 128 entries", full, 8192};
+    inputs[2] = (struct input){"sixteen full pages, 1,024 entries", sixteen, 16 * 4096};
+    inputs[3] = (struct input){"refused: a full page and an empty one, so no Dh entry", refused, 8192};
+    inputs[4] = (struct input){"refused by 17: sixteen full pages, the last entry", unclean, 16 * 4096};
+}
 
-    measure("the shipped set, 38 entries", pages, sizeof pages);
-    measure("two full pages, 128 entries", full, 8192);
-    measure("sixteen full pages, 1,024 entries", sixteen, 16 * 4096);
-    measure("refused: a full page and an empty one, so no Dh entry", refused, sizeof refused);
-#ifndef WITH_RUST
-    /* the Rust takes it */
-    sixteen[16 * 4096 - 4096 + 16 + 48 * 63 + 47] = 1;
-    measure("refused by 17: sixteen full pages, the last entry", sixteen, 16 * 4096);
+static void measure_all(void)
+{
+    compare();
+    for (int k = 0; k < N_WORKS; k++)
+        for (int i = 0; i < WORKS[k].inputs; i++) {
+#ifdef WITH_RUST
+            /* the Rust makes sets of leaves alone, and takes the last input */
+            if (k > 0 || i == 4)
+                continue;
 #endif
-    measure_pool(pages, sizeof pages);
+            measure(&WORKS[k], &inputs[i], WORKS[k].inputs == 1 ? "32 exits" : inputs[i].name);
+        }
+    measure_pool(&inputs[0]);
+}
+
+int main(int argc, char **argv)
+{
+    static uint8_t pages[8192];
+    FILE *f = argc == 2 || argc == 6 ? fopen(argv[1], "rb") : NULL;
+    if (!f || fread(pages, 1, sizeof pages, f) != sizeof pages) {
+        fprintf(stderr, "usage: bench PAGES [MAKER WORK INPUT CALLS] (two pages, numbers)\n");
+        return 2;
+    }
+    fclose(f);
+    make_inputs(pages);
+    snp_cpuid_table_build(pages, sizeof pages, false, EDITION, table.registers, table.origins);
+    kept = snp_cpuid_table_state(table.registers, table.origins, CPU.xcr0, CPU.xss);
+    if (argc == 2)
+        measure_all();
+    else
+        WORKS[atoi(argv[3])].run(&MAKERS[atoi(argv[2])], &inputs[atoi(argv[4])], atoi(argv[5]));
     return 0;
 }

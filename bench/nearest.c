@@ -1,33 +1,13 @@
 /* The nearest bit of each page file that is named, and building it, in one process, in turns: a line for each with the file's name, the median in ns
  * of snp_cpuid_build and of snp_cpuid_nearest, and the answer. bench/nearest makes the files and runs it. */
 #include "../include/snp_cpuid.h"
+#include "timing.h"
 
 #include <stdio.h>
-#include <stdlib.h>
-#include <time.h>
 
-enum { ROUNDS = 21, CALLS = 200, MOST_BYTES = 65536 };
+enum { CALLS = 200, MOST_BYTES = 65536 };
 
 static volatile uint64_t sink;
-
-static double now(void)
-{
-    struct timespec t;
-    clock_gettime(CLOCK_MONOTONIC, &t);
-    return t.tv_sec * 1e9 + t.tv_nsec;
-}
-
-static int by_value(const void *a, const void *b)
-{
-    double x = *(const double *)a, y = *(const double *)b;
-    return (x > y) - (x < y);
-}
-
-static double median(double *values)
-{
-    qsort(values, ROUNDS, sizeof *values, by_value);
-    return values[ROUNDS / 2];
-}
 
 int main(int argc, char **argv)
 {

@@ -1,19 +1,19 @@
-/* Document 01's table in plain C, with document 02's refusal 17 and origins, as a C programmer would write it: the yardstick of docs/PERFORMANCE.md, and
- * nothing that the port uses. */
+/* The table in plain C, with the same refusals, editions and origins as the port's, as a C programmer would write it: the yardstick of
+ * docs/PERFORMANCE.md, and nothing that the port uses. */
 #include "plain.h"
 
 #include <string.h>
 
-enum { PLACES = PLAIN_PLACES, PAGE = 4096, NONE = PLACES };
+enum { PLACES = 88, PAGE = 4096, NONE = PLACES, MADE_HERE = 1, FIRST_ENTRY = 4 };
 
 struct row {
     uint32_t r[4];
 };
 
+/* the caller's memory: the row of place k is there where origins[k] is not 0 */
 struct table {
-    uint8_t present[PLACES];
-    struct row rows[PLACES];
-    uint64_t origins[PLACES];
+    struct row *rows;
+    uint64_t *origins;
 };
 
 static const struct row ONES = {{0xffffffff, 0xffffffff, 0xffffffff, 0xffffffff}};
@@ -93,7 +93,8 @@ static const uint8_t *unclean(const uint8_t *pages, size_t count)
 
 static void collect(struct table *t, const uint8_t *pages, size_t count, int avic)
 {
-    memset(t, 0, sizeof *t);
+    memset(t->rows, 0, PLACES * sizeof *t->rows);
+    memset(t->origins, 0, PLACES * sizeof *t->origins);
     for (size_t p = 0; p < count; p++) {
         const uint8_t *page = pages + p * PAGE;
         uint32_t n = word(page);
@@ -103,11 +104,10 @@ static void collect(struct table *t, const uint8_t *pages, size_t count, int avi
             if (leaf == 0xd && p != 1)
                 continue;
             unsigned k = place_of(leaf, word(e + 4));
-            if (k == NONE || t->present[k])
+            if (k == NONE || t->origins[k])
                 continue;
             const struct row *m = mask_of(k, avic);
-            t->present[k] = 1;
-            t->origins[k] = 2 + 64 * (uint64_t)p + q;
+            t->origins[k] = FIRST_ENTRY + 64 * (uint64_t)p + q;
             for (int i = 0; i < 4; i++)
                 t->rows[k].r[i] = word(e + 24 + 4 * i) & m->r[i];
             if (k == 6)
@@ -141,34 +141,37 @@ static int indexed(unsigned k, uint32_t *sub)
     return 0;
 }
 
-static struct plain_answer refuse(uint32_t number, uint32_t leaf, uint32_t sub, uint32_t s)
+static struct snp_cpuid_built refuse(uint32_t number, uint32_t leaf, uint32_t s)
 {
-    struct plain_answer a = {number, leaf, sub, s, 0, 0};
+    struct snp_cpuid_built a = {number, leaf, 0, 0, s, 0, 0};
     return a;
 }
 
-static struct plain_answer finish(struct table *t)
+static struct snp_cpuid_built missing(unsigned k)
 {
-    for (int j = 0; j < 24; j++) {
-        unsigned k = REQUIRED[j];
-        if (!t->present[k]) {
-            uint32_t sub;
-            return refuse(3, leaf_at(k), indexed(k, &sub) ? sub : 0xffffffff, 0);
-        }
-    }
+    struct snp_cpuid_built a = refuse(3, leaf_at(k), 0);
+    a.has_subleaf = indexed(k, &a.subleaf);
+    return a;
+}
+
+static struct snp_cpuid_built finish(struct table *t, uint32_t edition)
+{
+    for (int j = 0; j < 24; j++)
+        if (!t->origins[REQUIRED[j]])
+            return missing(REQUIRED[j]);
     uint32_t *r1 = t->rows[1].r, *r7 = t->rows[3].r, *d0 = t->rows[6].r, *d1 = t->rows[7].r, *x1 = t->rows[71].r, *x8 = t->rows[78].r;
     if (!(x8[1] >> 3 & 1))
-        return refuse(4, 0, 0xffffffff, 0);
+        return refuse(4, 0, 0);
     uint64_t xfem = d0[0], xss = (d1[0] & 0xa) == 0xa ? d1[2] : 0, mask = xfem | xss;
     for (unsigned k = 2; k < 64 && mask >> k; k++)
-        if ((mask >> k & 1) && !t->present[6 + k])
-            return refuse(3, 0xd, k, 0);
+        if ((mask >> k & 1) && !t->origins[6 + k])
+            return missing(6 + k);
     uint64_t size = 576;
     for (unsigned k = 2; k < 64 && xfem >> k; k++)
         if (xfem >> k & 1) {
             uint64_t sum = (uint64_t)t->rows[6 + k].r[0] + t->rows[6 + k].r[1];
             if (sum > 0xffffffff)
-                return refuse(5, 0, 0xffffffff, 0);
+                return refuse(5, 0, 0);
             if (sum > size)
                 size = sum;
         }
@@ -176,37 +179,40 @@ static struct plain_answer finish(struct table *t)
     if (s == 0) {
         if (!mt) {
             if (nc != 0 || lps > 1)
-                return refuse(6, 0, 0xffffffff, s);
+                return refuse(6, 0, s);
             v = 1;
         } else {
             if (lps != nc + 1)
-                return refuse(7, 0, 0xffffffff, s);
+                return refuse(7, 0, s);
             v = lps;
         }
     } else {
         v = 1u << s;
         if (s < 8) {
             if (nc + 1 > v || lps != v)
-                return refuse(7, 0, 0xffffffff, s);
+                return refuse(7, 0, s);
             if (!mt)
-                return refuse(6, 0, 0xffffffff, s);
+                return refuse(6, 0, s);
         }
     }
     if (th > 1 || th >= v)
-        return refuse(8, 0, 0xffffffff, 0);
+        return refuse(8, 0, 0);
 
     static const struct row VENDOR = {{0xd, 0x68747541, 0x444d4163, 0x69746e65}};
-    t->present[0] = t->present[70] = 1;
-    t->origins[0] = t->origins[70] = t->origins[4] = t->origins[5] = 1;
+    t->origins[0] = t->origins[70] = t->origins[4] = t->origins[5] = MADE_HERE;
     t->rows[0] = t->rows[70] = VENDOR;
     t->rows[70].r[0] = 0x8000001f;
     t->rows[4] = (struct row){{th, th + 1, 0x100, 0}};
-    t->rows[5] = (struct row){{31 - (uint32_t)__builtin_clz(v), v, 0x201, 0}};
+    t->rows[5] = (struct row){{v > 1 ? 32 - (uint32_t)__builtin_clz(v - 1) : 0, v, 0x201, 0}};
     int ymm = xfem >> 2 & 1, avx512 = (xfem & 0xe4) == 0xe4;
     if (!ymm) {
         r1[2] &= ~0x10001000u;
         r7[1] &= ~0x20u;
         r7[2] &= ~0x700u;
+        if (edition == 2) {
+            r1[2] &= ~(1u << 29);
+            x1[2] &= ~(1u << 11 | 1u << 16);
+        }
     }
     if (!avx512) {
         r7[1] &= ~0xd0230000u;
@@ -226,18 +232,45 @@ static struct plain_answer finish(struct table *t)
         x1[3] &= ~(1u << 27);
         r7[2] &= ~(1u << 22);
     }
-    uint32_t count = 0;
+    struct snp_cpuid_built a = {0, 0, 0, 0, 0, 0, mask};
     for (unsigned k = 2; k < 64; k++)
-        if (t->present[6 + k] && !(mask >> k & 1)) {
-            t->present[6 + k] = 0;
+        if (t->origins[6 + k] && !(mask >> k & 1)) {
             t->origins[6 + k] = 0;
             memset(&t->rows[6 + k], 0, sizeof t->rows[0]);
         }
     for (unsigned k = 0; k < PLACES; k++)
-        count += t->present[k];
-    struct plain_answer a = {0, 0, 0xffffffff, 0, count, mask};
+        a.row_count += t->origins[k] != 0;
     return a;
 }
+
+static struct snp_cpuid_built build(struct table *t, const uint8_t *pages, size_t length, bool avic, uint32_t edition)
+{
+    if (edition != 1 && edition != 2)
+        return refuse(15, 0, 0);
+    if (length == 0 || length % PAGE)
+        return refuse(1, 0, 0);
+    for (size_t p = 0; p < length / PAGE; p++)
+        if (word(pages + p * PAGE) > 64)
+            return refuse(2, 0, 0);
+    const uint8_t *e = unclean(pages, length / PAGE);
+    if (e)
+        return refuse(17, word(e), 0);
+    collect(t, pages, length / PAGE, avic);
+    return finish(t, edition);
+}
+
+struct snp_cpuid_built plain_table_build(const uint8_t *pages, size_t length, bool avic, uint32_t edition, uint32_t *registers, uint64_t *origins)
+{
+    struct table t = {(struct row *)registers, origins};
+    struct snp_cpuid_built a = build(&t, pages, length, avic, edition);
+    if (a.number) {
+        memset(registers, 0, PLACES * sizeof(struct row));
+        memset(origins, 0, PLACES * sizeof *origins);
+    }
+    return a;
+}
+
+/* ---- the image */
 
 static uint8_t *put(uint8_t *o, uint32_t x)
 {
@@ -248,50 +281,21 @@ static uint8_t *put(uint8_t *o, uint32_t x)
     return o + 4;
 }
 
-static struct plain_answer build(struct table *t, const uint8_t *pages, size_t length, int avic)
+struct snp_cpuid_written plain_write_image(const uint8_t *pages, size_t length, bool avic, uint32_t edition, uint8_t *out, size_t room)
 {
-    if (length == 0 || length % PAGE)
-        return refuse(1, 0, 0xffffffff, 0);
-    for (size_t p = 0; p < length / PAGE; p++)
-        if (word(pages + p * PAGE) > 64)
-            return refuse(2, 0, 0xffffffff, 0);
-    const uint8_t *e = unclean(pages, length / PAGE);
-    if (e)
-        return refuse(17, word(e), 0xffffffff, 0);
-    collect(t, pages, length / PAGE, avic);
-    return finish(t);
-}
-
-struct plain_answer plain_origins(const uint8_t *pages, size_t length, int avic, uint64_t *origins)
-{
-    struct table t;
-    struct plain_answer a = build(&t, pages, length, avic);
-    memset(origins, 0, PLACES * sizeof *origins);
-    if (!a.number)
-        memcpy(origins, t.origins, sizeof t.origins);
-    return a;
-}
-
-uint32_t plain_place(unsigned place, int *has_subleaf, uint32_t *subleaf)
-{
-    *has_subleaf = indexed(place, subleaf);
-    return leaf_at(place);
-}
-
-struct plain_answer plain_write_image(const uint8_t *pages, size_t length, int avic, uint8_t *out, size_t room, size_t *written)
-{
-    struct table t;
-    *written = 0;
-    struct plain_answer a = build(&t, pages, length, avic);
+    struct row rows[PLACES];
+    uint64_t origins[PLACES];
+    struct table t = {rows, origins};
+    struct snp_cpuid_built a = build(&t, pages, length, avic, edition);
     if (a.number)
-        return a;
-    size_t n = 582 + 25 * (size_t)(a.rows - 26);
+        return (struct snp_cpuid_written){a.number, a.leaf, a.has_subleaf, a.subleaf, a.s, 0};
+    size_t n = 582 + 25 * (size_t)(a.row_count - 26);
     if (room < n)
-        return refuse(9, 0, 0xffffffff, 0);
+        return (struct snp_cpuid_written){9, 0, 0, 0, 0, 0};
     uint8_t *o = out;
     for (unsigned k = 0; k < PLACES; k++) {
         uint32_t sub;
-        if (!t.present[k])
+        if (!origins[k])
             continue;
         int has = indexed(k, &sub);
         *o++ = has ? 2 : 1;
@@ -299,8 +303,132 @@ struct plain_answer plain_write_image(const uint8_t *pages, size_t length, int a
         if (has)
             o = put(o, sub);
         for (int i = 0; i < 4; i++)
-            o = put(o, t.rows[k].r[i]);
+            o = put(o, rows[k].r[i]);
     }
-    *written = n;
-    return a;
+    return (struct snp_cpuid_written){0, 0, 0, 0, 0, n};
+}
+
+/* ---- one row of a table */
+
+/* the place that a lookup asks for: a leaf with subleaves where one is given, any other where none is given or it is not enforced */
+static inline unsigned place_asked(uint32_t leaf, bool has, uint32_t sub, bool enforce)
+{
+    switch (leaf) {
+    case 7: return has && sub == 0 ? 3 : NONE;
+    case 0xb: return has && sub < 2 ? 4 + sub : NONE;
+    case 0xd: return has && sub < 64 ? 6 + sub : NONE;
+    case 0x8000001d: return has && sub < 4 ? 82 + sub : NONE;
+    }
+    if (has && enforce)
+        return NONE;
+    switch (leaf) {
+    case 0: return 0;
+    case 1: return 1;
+    case 5: return 2;
+    case 0x80000000: case 0x80000001: case 0x80000002: case 0x80000003: case 0x80000004:
+    case 0x80000005: case 0x80000006: case 0x80000007: case 0x80000008: return leaf - 0x80000000 + 70;
+    case 0x8000000a: return 79;
+    case 0x80000019: return 80;
+    case 0x8000001a: return 81;
+    case 0x8000001e: return 86;
+    case 0x8000001f: return 87;
+    default: return NONE;
+    }
+}
+
+static struct snp_cpuid_found found_at(const uint32_t *r, uint64_t origin)
+{
+    struct snp_cpuid_found f = {1, r[0], r[1], r[2], r[3], (uint32_t)origin, 0, 0};
+    if (origin >= FIRST_ENTRY) {
+        f.origin = 2;
+        f.page = (origin - FIRST_ENTRY) / 64;
+        f.entry = (origin - FIRST_ENTRY) % 64;
+    }
+    return f;
+}
+
+struct snp_cpuid_found plain_table_find(const uint32_t *registers, const uint64_t *origins, uint32_t leaf, bool has, uint32_t sub, bool enforce)
+{
+    unsigned k = place_asked(leaf, has, sub, enforce);
+    if (k == NONE || !origins[k])
+        return (struct snp_cpuid_found){0};
+    return found_at(registers + 4 * k, origins[k]);
+}
+
+/* ---- one row as a guest sees it */
+
+static const uint32_t *state_row(const uint32_t *registers, unsigned sub)
+{
+    return registers + 4 * (6 + sub);
+}
+
+/* 0, 13 or 14, and the compacted size */
+static uint32_t state(const uint32_t *registers, uint64_t xcr0, uint64_t xss, uint32_t *compacted)
+{
+    const uint32_t *d0 = state_row(registers, 0), *d1 = state_row(registers, 1);
+    uint64_t table_xss = (d1[0] & 0xa) == 0xa ? d1[2] : 0, mask = xcr0 | xss, size = 576;
+    *compacted = 0;
+    if (!(xcr0 & 1) || xcr0 & ~(uint64_t)d0[0] || xss & ~table_xss)
+        return 13;
+    if (!(d1[0] & 0xa))
+        return 0;
+    for (unsigned k = 2; k < 64 && mask >> k; k++)
+        if (mask >> k & 1) {
+            const uint32_t *r = state_row(registers, k);
+            if (r[2] & 2)
+                size = (size + 63) & ~(uint64_t)63;
+            size += r[0];
+        }
+    if (size > 0xffffffff)
+        return 14;
+    *compacted = (uint32_t)size;
+    return 0;
+}
+
+static uint32_t area(const uint32_t *registers, uint64_t xcr0)
+{
+    uint64_t size = 576;
+    for (unsigned k = 2; k < 64 && xcr0 >> k; k++)
+        if (xcr0 >> k & 1) {
+            const uint32_t *r = state_row(registers, k);
+            uint64_t sum = (uint64_t)r[0] + r[1];
+            if (sum > size)
+                size = sum;
+        }
+    return size > 0xffffffff ? 0xffffffff : (uint32_t)size;
+}
+
+static struct snp_cpuid_found seen(const uint32_t *registers, const uint64_t *origins, uint32_t apic, uint64_t xcr0, bool osxsave, uint32_t size,
+                                   unsigned k)
+{
+    if (k == NONE || !origins[k])
+        return (struct snp_cpuid_found){0};
+    struct snp_cpuid_found f = found_at(registers + 4 * k, origins[k]);
+    switch (k) {
+    case 1:
+        f.ebx = (f.ebx & 0xffffff) | apic << 24;
+        f.ecx = osxsave && f.ecx >> 26 & 1 ? f.ecx | 1u << 27 : f.ecx & ~(1u << 27);
+        break;
+    case 4: case 5: f.edx = apic; break;
+    case 6: f.ebx = area(registers, xcr0); break;
+    case 7: f.ebx = size; break;
+    }
+    return f;
+}
+
+struct snp_cpuid_found plain_table_guest_find_kept(const uint32_t *registers, const uint64_t *origins, uint32_t apic, uint64_t xcr0, uint64_t xss,
+                                                   bool osxsave, uint32_t size, uint32_t leaf, bool has, uint32_t sub, bool enforce)
+{
+    (void)xss;
+    return seen(registers, origins, apic, xcr0, osxsave, size, place_asked(leaf, has, sub, enforce));
+}
+
+struct snp_cpuid_guest_found plain_table_guest_find(const uint32_t *registers, const uint64_t *origins, uint32_t apic, uint64_t xcr0, uint64_t xss,
+                                                    bool osxsave, uint32_t leaf, bool has, uint32_t sub, bool enforce)
+{
+    uint32_t size, number = state(registers, xcr0, xss, &size);
+    if (number)
+        return (struct snp_cpuid_guest_found){number, 0, 0, 0, 0, 0, 0, 0, 0};
+    struct snp_cpuid_found f = seen(registers, origins, apic, xcr0, osxsave, size, place_asked(leaf, has, sub, enforce));
+    return (struct snp_cpuid_guest_found){0, f.found, f.eax, f.ebx, f.ecx, f.edx, f.origin, f.page, f.entry};
 }

@@ -1,19 +1,22 @@
-/* The plain C version: pages in, image or refusal out. A number of 0 means accepted; a subleaf of 0xffffffff means none. Its table holds where each row
- * came from, as the port's does: 0 for no row, 1 made here, 2 + 64 * page + entry. */
-#include <stddef.h>
-#include <stdint.h>
+/* The plain C version: the same functions with the same parameters and answers as the port's, over the same memory (include/snp_cpuid.h). bench/run
+ * compiles it once for each compiler and gives the functions the compiler's name. */
+#include "../include/snp_cpuid.h"
 
-struct plain_answer {
-    uint32_t number, leaf, subleaf, s, rows;
-    uint64_t mask;
-};
+typedef struct snp_cpuid_written write_image_function(const uint8_t *pages, size_t length, bool secure_avic, uint32_t edition, uint8_t *out,
+                                                      size_t room);
+typedef struct snp_cpuid_built build_function(const uint8_t *pages, size_t length, bool secure_avic, uint32_t edition, uint32_t *registers,
+                                              uint64_t *origins);
+typedef struct snp_cpuid_found find_function(const uint32_t *registers, const uint64_t *origins, uint32_t leaf, bool has_subleaf, uint32_t subleaf,
+                                             bool enforce_subleaf);
+typedef struct snp_cpuid_guest_found guest_find_function(const uint32_t *registers, const uint64_t *origins, uint32_t x2apic, uint64_t xcr0,
+                                                         uint64_t xss, bool osxsave, uint32_t leaf, bool has_subleaf, uint32_t subleaf,
+                                                         bool enforce_subleaf);
+typedef struct snp_cpuid_found guest_find_kept_function(const uint32_t *registers, const uint64_t *origins, uint32_t x2apic, uint64_t xcr0,
+                                                        uint64_t xss, bool osxsave, uint32_t size, uint32_t leaf, bool has_subleaf, uint32_t subleaf,
+                                                        bool enforce_subleaf);
 
-enum { PLAIN_PLACES = 88 };
-
-struct plain_answer plain_write_image(const uint8_t *pages, size_t length, int avic, uint8_t *out, size_t room, size_t *written);
-
-/* Where the rows came from, by rising leaf and subleaf over the places that a table has; of a refused set nothing. */
-struct plain_answer plain_origins(const uint8_t *pages, size_t length, int avic, uint64_t *origins);
-
-/* The leaf of a place, and whether it has a subleaf. */
-uint32_t plain_place(unsigned place, int *has_subleaf, uint32_t *subleaf);
+write_image_function plain_write_image;
+build_function plain_table_build;
+find_function plain_table_find;
+guest_find_function plain_table_guest_find;
+guest_find_kept_function plain_table_guest_find_kept;

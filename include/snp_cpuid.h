@@ -1,7 +1,8 @@
 /* snp_cpuid.h: the proved CPUID table of SEV-SNP guests, from C and C++ on x86-64.
  *
  * Link with libsnp_cpuid.a: `pkg-config --cflags --libs snp_cpuid`. Every function may be called with any arguments that fit its types. Pointers must
- * be good for their lengths, and what a call writes must not overlap what it reads; nothing else is asked of a caller.
+ * be good for their lengths, and what a call writes must overlap neither what it reads nor what else it writes: a list for KVM cannot be read into
+ * its own buffer, nor an image written over the table. Nothing else is asked of a caller.
  *
  * Inside a kernel or a paravisor (docs/EMBEDDING.md has it all): the library needs memcpy and memset and nothing else, keeps no state, allocates
  * nothing, never recurses and always returns. Any number of threads may call at once. Buffers of bytes may stand at any address. A call takes at most
@@ -11,9 +12,8 @@
  * Pages are the CPUID pages of the SEV-SNP firmware, 4,096 bytes each, end to end. A pointer may be null where its length is 0.
  *
  * Every function that builds takes two choices. secure_avic adds one bit to the mask of 8000001Fh.EAX. edition is that of the AVX rule: 1 is
- * OpenHCL's; 2 also clears F16C (1.ECX bit 29), XOP and FMA4 (80000001h.ECX bits 11 and 16) where D.0.EAX lacks bit 2, the YMM state, and
- * nothing else differs. Any other edition is refused by 15, whatever the pages are.
- */
+ * OpenHCL's; 2 also clears F16C (1.ECX bit 29), XOP and FMA4 (80000001h.ECX bits 11 and 16) where D.0.EAX lacks bit 2, the YMM state, and nothing
+ * else differs. Any other edition is refused by 15, whatever the pages are. */
 #ifndef SNP_CPUID_H
 #define SNP_CPUID_H
 
@@ -50,6 +50,10 @@ extern "C" {
  *  20 no single bit of the results decides over the answer: after 15, 1, 2 and 17
  * A leaf, subleaf or s that the number does not name is 0. */
 
+/* Feature registers are 1.ECX, 1.EDX but its bit 28, 7.0.EBX, ECX and EDX, 80000001h.ECX and EDX, 80000008h.EBX, D.0.EAX, D.1.EAX and ECX,
+ * 8000001Ah.EAX and 8000001Fh.EAX. The combined mask of a table is D.0.EAX, its XFEM, joined by or with its XSS, which is D.1.ECX where D.1.EAX has
+ * both bit 1 (XSAVEC) and bit 3 (XSAVES), else 0. */
+
 /* What building gives. A refused table has row_count 0 and max_extended_state 0. */
 struct snp_cpuid_built {
     uint32_t number;
@@ -57,15 +61,15 @@ struct snp_cpuid_built {
     uint32_t has_subleaf; /* 1 where the refusal names a subleaf */
     uint32_t subleaf;
     uint32_t s;
-    uint64_t row_count;          /* 26 to 32 */
-    uint64_t max_extended_state; /* the combined mask, XFEM or XSS */
+    uint64_t row_count;          /* 26 to 32 of a table that was built from pages */
+    uint64_t max_extended_state; /* the combined mask */
 };
 
 /* What a lookup gives: found is 1, the four registers and where the row came from, or all zeros. origin:
  *   0 nothing was found
  *   1 the row is made here: leaves 0 and 80000000h, and B.0 and B.1, whether or not the pages have entries for them
  *   2 it is an entry's, which page and entry tell
- *   3 nobody knows: the table was read from an image, which has no origins
+ *   3 it is not known: the table was read from an image, which has no origins
  * Where origin is not 2, page and entry are 0. */
 struct snp_cpuid_found {
     uint32_t found;
@@ -169,10 +173,14 @@ struct snp_cpuid_first {
     uint32_t entry;
 };
 
-/* The most bytes that an image can have, and a list for KVM; and the two pages that a list is read into. */
+/* The most bytes that the image of a table built from pages can have, and its list for KVM; and the two pages that a list is read into. */
 #define SNP_CPUID_MOST_IMAGE_BYTES 732
 #define SNP_CPUID_MOST_KVM_BYTES 1288
 #define SNP_CPUID_KVM_PAGES_BYTES 8192
+
+/* The same of a table of any content, which may have 88 rows. */
+#define SNP_CPUID_ANY_IMAGE_BYTES 2132
+#define SNP_CPUID_ANY_KVM_BYTES 3528
 
 /* The most bytes that a line can have. */
 #define SNP_CPUID_MOST_LINE_BYTES 22
@@ -181,12 +189,12 @@ struct snp_cpuid_first {
 #define SNP_CPUID_TOPOLOGIES_BYTES 5095
 
 /* Enough stack for any function: docs/EMBEDDING.md has the figure of each. */
-#define SNP_CPUID_MOST_STACK_BYTES 32768
+#define SNP_CPUID_MOST_STACK_BYTES 16384
 
 /* Builds the table of the given pages. */
 struct snp_cpuid_built snp_cpuid_build(const uint8_t *pages, size_t length, bool secure_avic, uint32_t edition);
 
-/* Builds, and looks a row up as leaf_result_ref does. subleaf is read only where has_subleaf is true. A leaf without subleaves is found
+/* Builds, and looks a row up as OpenHCL's leaf_result_ref does. subleaf is read only where has_subleaf is true. A leaf without subleaves is found
  * where no subleaf is given or enforce_subleaf is false; one with subleaves only under a subleaf that the table has. Nothing is found
  * where building refuses. With the row comes where on the pages it stands. */
 struct snp_cpuid_found snp_cpuid_lookup(const uint8_t *pages, size_t length, bool secure_avic, uint32_t edition, uint32_t leaf,
@@ -213,7 +221,8 @@ struct snp_cpuid_written snp_cpuid_read_kvm(const uint8_t *list, size_t length, 
  * its XCR0 and XSS, and whether OSXSAVE is on. Of the table of the pages, 1.EBX bits 24-31, B.0.EDX and B.1.EDX have the number; 1.ECX
  * bit 27 is set where osxsave is true and bit 26 is set; D.0.EBX is the size of the save area of XCR0, and D.1.EBX that of the compacted
  * area of XCR0 and XSS, or 0 where the processor has neither XSAVEC nor XSAVES. After building's refusals: 13 where XCR0 lacks bit 0 or
- * has a bit that D.0.EAX lacks, or XSS one that D.1.ECX lacks; then 14 where the compacted size does not fit 32 bits. */
+ * has a bit that D.0.EAX lacks, or XSS has a bit that the table's XSS lacks, so any bit where D.1.EAX lacks bit 1 or bit 3; then 14 where the
+ * compacted size does not fit 32 bits. */
 
 /* Builds, and tells whether the guest is given its table, which has the rows and the mask of the paravisor's. */
 struct snp_cpuid_built snp_cpuid_guest_build(const uint8_t *pages, size_t length, bool secure_avic, uint32_t edition, uint32_t x2apic,
@@ -230,10 +239,12 @@ struct snp_cpuid_written snp_cpuid_write_guest_image(const uint8_t *pages, size_
                                                      uint32_t x2apic, uint64_t xcr0, uint64_t xss, bool osxsave, uint8_t *out,
                                                      size_t room);
 
-/* Compares two servers by their pages, under the same choices: may a guest of A move to B? Registers are compared as masked, D.0.EAX with
- * bits 0 and 1 set on both sides, whatever the edition; one that is neither 1 nor 2 is answer 1 with number 15. After a yes, building B
- * gives a table with every row of A's, at least A's bits in every feature register, a save area no smaller and all else equal; or refuses
- * it by 3, for a subleaf of leaf Dh that B's own further state needs, or by 5. */
+/* Compares two servers by their pages, under the same choices: may a guest of A move to B? Each row of A's table must have its entry in B's pages,
+ * but for rows 0 and 80000000h, which are made here. Registers are compared as masked, D.0.EAX with bits 0 and 1 set on both sides, whatever the
+ * edition. Feature registers of B must have every bit of A's; D.0.ECX and all of B.0 and B.1 are left free; all else must be equal, bit 28 of 1.EDX
+ * too. An edition that is neither 1 nor 2 is answer 1 with number 15. After a yes, building B gives a table with every row of A's, at least A's bits
+ * in every feature register, a save area no smaller and all else equal; or refuses it by 3, for a subleaf of leaf Dh that B's own further state
+ * needs, or by 5. */
 struct snp_cpuid_compared snp_cpuid_compare(const uint8_t *a, size_t a_length, const uint8_t *b, size_t b_length, bool secure_avic,
                                             uint32_t edition);
 
@@ -254,10 +265,9 @@ struct snp_cpuid_first snp_cpuid_first_entry(const uint8_t *pages, size_t length
 struct snp_cpuid_carried snp_cpuid_carry(uint8_t *image, size_t length, uint32_t from, uint32_t to, uint64_t xcr0, uint64_t xss);
 
 /* One table for a pool of 2 to 16 servers, which a guest may keep when it moves between them. Their page sets stand end to end, the length bytes at
- * pages; lengths has the bytes of each, `servers` numbers in server order. The choices are the same for all. Feature registers (1.ECX, 1.EDX but bit
- * 28, 7.0.EBX, ECX and EDX, 80000001h.ECX and EDX, 80000008h.EBX, D.0.EAX, D.1.EAX and ECX, 8000001Ah.EAX, 8000001Fh.EAX) of the servers' first
- * entries are joined by and, all else is the first server's, and the table is built of that: its feature registers and combined mask are the and of the
- * servers' tables', and its rows are those that all have. Refusals in this order: 18; then any server's own, in server order, which server tells
+ * pages; lengths has the bytes of each, `servers` numbers in server order. The choices are the same for all. Feature registers of the servers' first
+ * entries are joined by and, all else is the first server's, and the table is built of that: its feature registers and combined mask are the and of
+ * the servers' tables', and its rows are those that all have. Refusals in this order: 18; then any server's own, in server order, which server tells
  * (an edition other than 1 or 2 is the first's own, 15); then 19. */
 struct snp_cpuid_pooled snp_cpuid_pool(const uint8_t *pages, size_t length, const uint64_t *lengths, size_t servers, bool secure_avic,
                                        uint32_t edition);
@@ -266,8 +276,8 @@ struct snp_cpuid_pooled snp_cpuid_pool(const uint8_t *pages, size_t length, cons
 struct snp_cpuid_found snp_cpuid_pool_lookup(const uint8_t *pages, size_t length, const uint64_t *lengths, size_t servers, bool secure_avic,
                                              uint32_t edition, uint32_t leaf, bool has_subleaf, uint32_t subleaf, bool enforce_subleaf);
 
-/* Builds the pool's table and writes its image at the front of out, as snp_cpuid_write_image does: the pool's refusals first, then 9. Where it refuses,
- * out is as it was; bytes beyond the image are as they were. */
+/* Builds the pool's table and writes its image at the front of out, as snp_cpuid_write_image does: the pool's refusals first, then 9. Where it
+ * refuses, out is as it was; bytes beyond the image are as they were. */
 struct snp_cpuid_written snp_cpuid_write_pool_image(const uint8_t *pages, size_t length, const uint64_t *lengths, size_t servers, bool secure_avic,
                                                     uint32_t edition, uint8_t *out, size_t room);
 
@@ -301,18 +311,24 @@ struct snp_cpuid_written snp_cpuid_write_topologies(uint8_t *out, size_t room);
 /* ---- a table that the caller keeps
  *
  * Build a table once, keep it, and answer every CPUID exit from it. The functions below take the two arrays of a struct snp_cpuid_table. They ask
- * nothing of what the arrays hold: memory of any content is a table, and each function says what it makes of it. A table that a function only reads may
- * be read by any number of threads at once. */
+ * nothing of what the arrays hold: memory of any content is a table, and each function says what it makes of it. A table that a function only reads
+ * may be read by any number of threads at once. */
 
-/* A table in the caller's own memory: 2,112 bytes without a pointer inside, so it may be copied with memcpy. registers has EAX, EBX, ECX and EDX of each
- * of 88 places, by rising leaf and subleaf. origins says of each place where its row came from: 0 there is no row, 1 the builder made it, 3 nobody
- * knows, else 4 + 64 * page + entry. A place has a row exactly where its origin is not 0. */
+/* A table in the caller's own memory: 2,112 bytes without a pointer inside, so it may be copied with memcpy. registers has EAX, EBX, ECX and EDX of
+ * each of 88 places, by rising leaf and subleaf: 0, 1, 5, 7.0, B.0, B.1, D.0 to D.63, 80000000h to 80000008h, 8000000Ah, 80000019h, 8000001Ah,
+ * 8000001Dh.0 to .3, 8000001Eh and 8000001Fh. origins says of each place where its row came from: 0 there is no row, 1 the builder made it, 3 it is
+ * not known, else 4 + 64 * page + entry; 2, which no function writes, is told as the first entry of page 0. A place has a row exactly where its
+ * origin is not 0.
+ *
+ * What builds, pools or reads a table writes both arrays whole, with zeros at places without a row. Where a caller's own memory has other numbers at
+ * such a place of leaf Dh, the combined mask, 13 and 14 and the sizes of save areas are those of the registers as they stand, whether or not there is
+ * a row; snp_cpuid_table_carry alone reads them as zeros. */
 struct snp_cpuid_table {
     uint32_t registers[352];
     uint64_t origins[88];
 };
 
-/* How many rows a table has, and its combined mask: D.0.EAX, and D.1.ECX where D.1.EAX has bits 1 and 3. */
+/* How many rows a table has, and its combined mask. */
 struct snp_cpuid_counts {
     uint64_t row_count;
     uint64_t max_extended_state;
@@ -348,8 +364,8 @@ struct snp_cpuid_state {
  *   0 the second table is at least the first
  *   1 the second has no row for the leaf, and subleaf where the leaf has them
  *   2 the register of its row lacks a feature bit of the first's, is a smaller save area (D.0.ECX), or else differs
- *   3 it has a row that the first lacks, and that is no subleaf of leaf Dh of a mask bit that the second has beyond the first
- *   4 its combined mask lacks a bit of the first's; this is never so of a table that was built, pooled or read
+ *   3 it has a row that the first lacks, and that is no subleaf from 2 up of leaf Dh of a mask bit that the second has beyond the first
+ *   4 its combined mask lacks a bit of the first's; this is never so of tables that were built, pooled or read
  * Of 1, 2 and 3 it is the first, by rising leaf, subleaf and register. What the answer does not name is 0. */
 struct snp_cpuid_tables_compared {
     uint32_t answer;
@@ -374,7 +390,8 @@ struct snp_cpuid_read snp_cpuid_table_read_image(const uint8_t *image, size_t le
 struct snp_cpuid_found snp_cpuid_table_find(const uint32_t *registers, const uint64_t *origins, uint32_t leaf, bool has_subleaf, uint32_t subleaf,
                                             bool enforce_subleaf);
 
-/* Looks a row up as the guest of a processor sees it, as snp_cpuid_guest_lookup does: 13 and 14 first, then one row. */
+/* Looks a row up as the guest of a processor sees it, as snp_cpuid_guest_lookup does: 13 and 14 first, then one row. D.0.EBX is FFFFFFFFh where it
+ * does not fit 32 bits, which is never so of a table that was built or pooled. */
 struct snp_cpuid_guest_found snp_cpuid_table_guest_find(const uint32_t *registers, const uint64_t *origins, uint32_t x2apic, uint64_t xcr0,
                                                         uint64_t xss, bool osxsave, uint32_t leaf, bool has_subleaf, uint32_t subleaf,
                                                         bool enforce_subleaf);
@@ -383,8 +400,8 @@ struct snp_cpuid_guest_found snp_cpuid_table_guest_find(const uint32_t *register
  * snp_cpuid_table_guest_find_kept at each exit in between. */
 struct snp_cpuid_state snp_cpuid_table_state(const uint32_t *registers, const uint64_t *origins, uint64_t xcr0, uint64_t xss);
 
-/* Looks a row up as the guest of a processor sees it, with `size` for D.1.EBX. With the size that snp_cpuid_table_state gave for the same table, XCR0 and
- * XSS it finds what snp_cpuid_table_guest_find finds; any other size changes D.1.EBX and nothing else. */
+/* Looks a row up as the guest of a processor sees it, with `size` for D.1.EBX. With the size that snp_cpuid_table_state gave for the same table, XCR0
+ * and XSS it finds what snp_cpuid_table_guest_find finds; any other size changes D.1.EBX and nothing else. 13 and 14 are not looked for. */
 struct snp_cpuid_found snp_cpuid_table_guest_find_kept(const uint32_t *registers, const uint64_t *origins, uint32_t x2apic, uint64_t xcr0,
                                                        uint64_t xss, bool osxsave, uint32_t size, uint32_t leaf, bool has_subleaf,
                                                        uint32_t subleaf, bool enforce_subleaf);
@@ -393,21 +410,23 @@ struct snp_cpuid_found snp_cpuid_table_guest_find_kept(const uint32_t *registers
  * where the paravisor's is still needed. */
 struct snp_cpuid_built snp_cpuid_table_guest(uint32_t *registers, uint64_t *origins, uint32_t x2apic, uint64_t xcr0, uint64_t xss, bool osxsave);
 
-/* Writes the table's image at the front of out, as snp_cpuid_write_image does. A table of any content may have 88 rows: 2,132 bytes. */
+/* Writes the table's image at the front of out, as snp_cpuid_write_image does; number 9 where it is too short. */
 struct snp_cpuid_written snp_cpuid_table_write_image(const uint32_t *registers, const uint64_t *origins, uint8_t *out, size_t room);
 
-/* Writes the table as struct kvm_cpuid2 at the front of out, as snp_cpuid_write_kvm does. A table of any content may have 88 rows: 3,528 bytes. */
+/* Writes the table as struct kvm_cpuid2 at the front of out, as snp_cpuid_write_kvm does; number 9 where it is too short. */
 struct snp_cpuid_written snp_cpuid_table_write_kvm(const uint32_t *registers, const uint64_t *origins, uint8_t *out, size_t room);
 
-/* Whether the second table has every row of the first, at least its features, a save area no smaller and all else equal, and beyond it only subleaves of
- * leaf Dh of further mask bits; or the first thing in the way. Ask it before a guest that runs on a table of A moves to a table of B. */
+/* Whether the second table has every row of the first, at least its features, a save area no smaller and all else equal, rows 0, 80000000h, B.0 and
+ * B.1 and bit 28 of 1.EDX too, and beyond it only subleaves of leaf Dh of further mask bits; or the first thing in the way. Origins are not compared.
+ * Ask it before a guest that runs on a table of A moves to a table of B. */
 struct snp_cpuid_tables_compared snp_cpuid_table_compare(const uint32_t *a_registers, const uint64_t *a_origins, const uint32_t *b_registers,
                                                          const uint64_t *b_origins);
 
 /* How many rows the table has, and its combined mask. */
 struct snp_cpuid_counts snp_cpuid_table_counts(const uint32_t *registers, const uint64_t *origins);
 
-/* Takes the table from one edition to another in place, as snp_cpuid_carry does: 0, or 15, 16, 13 or 14 and the table as it was. Origins are only read. */
+/* Takes the table from one edition to another in place, as snp_cpuid_carry does: 0, or 15, 16, 13 or 14 and the table as it was. Origins are only
+ * read. A place without a row reads as zeros here. */
 uint32_t snp_cpuid_table_carry(uint32_t *registers, const uint64_t *origins, uint32_t from, uint32_t to, uint64_t xcr0, uint64_t xss);
 
 /* ---- the same with structs: define SNP_CPUID_NO_INLINE to leave these out */

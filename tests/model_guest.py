@@ -56,15 +56,9 @@ def with_registers(rows, leaf, subleaf, **changes):
         rows[leaf, subleaf] = tuple({**old, **changes}.values())
 
 
-def guest_of(table, apic, xcr0, xss, osxsave):
-    """The guest's table from the paravisor's, or the refusal; a refused table gives its own. An accepted table has no standard size past 32 bits."""
-    if table[0] == 'refusal':
-        return table
-    rows = dict(table[1])
-    try:
-        check_processor(rows, xcr0, xss)
-    except model.Refusal as refusal:
-        return refusal.answer
+def seen(rows, apic, osxsave, sizes):
+    """The rows as the guest of a processor sees them, with the two sizes of its save area."""
+    rows = dict(rows)
     # "Leaf 1 EBX bits 24-31 are the number's low eight bits. Leaf 1 ECX bit 27 is set if OSXSAVE is on and bit 26 is set, else clear."
     ebx, ecx = register(rows, 1, None, EBX), register(rows, 1, None, ECX)
     shown = OSXSAVE if osxsave and ecx & XSAVE else 0
@@ -72,10 +66,22 @@ def guest_of(table, apic, xcr0, xss, osxsave):
     # "B.0 and B.1 EDX are the number."
     for subleaf in 0, 1:
         with_registers(rows, 0xB, subleaf, edx=apic)
-    sizes = standard_size(rows, xcr0), compacted_size(rows, xcr0, xss)
     for subleaf, size in enumerate(sizes):
         with_registers(rows, STATE, subleaf, ebx=size)
-    return 'table', rows, table[2]
+    return rows
+
+
+def guest_of(table, apic, xcr0, xss, osxsave):
+    """The guest's table from the paravisor's, or the refusal; a refused table gives its own. An accepted table has no standard size past 32 bits."""
+    if table[0] == 'refusal':
+        return table
+    rows = table[1]
+    try:
+        check_processor(rows, xcr0, xss)
+    except model.Refusal as refusal:
+        return refusal.answer
+    sizes = standard_size(rows, xcr0), compacted_size(rows, xcr0, xss)
+    return 'table', seen(rows, apic, osxsave, sizes), table[2]
 
 
 def guest(pages, secure_avic, apic, xcr0, xss, osxsave, edition=1):

@@ -45,6 +45,7 @@ static uint8_t image[SNP_CPUID_MOST_IMAGE_BYTES], list[SNP_CPUID_MOST_KVM_BYTES]
 static size_t image_length, list_length, line_length;
 static uint64_t lengths[16];
 static uint8_t lent[ROOM];
+static struct snp_cpuid_table table;
 
 struct call {
     const char *name;
@@ -60,6 +61,7 @@ struct call {
 #define POOL AT(pages), length, AT(lengths), 16
 #define PROCESSOR 5, 7, 0x800, 1
 #define ROW 0xD, 1, 1, 1
+#define TABLE AT(table.registers), AT(table.origins)
 
 /* Copies what is carried in place, so that each call finds it anew. */
 static uint64_t fresh_image(void) {
@@ -67,8 +69,14 @@ static uint64_t fresh_image(void) {
     return AT(lent);
 }
 
+/* Builds what the calls over a table read or rewrite: the set's own table, or one without rows. */
+static void fresh_table(uint32_t edition) {
+    snp_cpuid_table_build(pages, length, true, edition, table.registers, table.origins);
+}
+
 /* The calls: one line for each exported function. */
 static size_t make_calls(struct call *out, uint32_t edition) {
+    fresh_table(edition);
     struct call calls[] = {
         CALL(snp_cpuid_build, struct snp_cpuid_built, AT(pages), length, CHOICES),
         CALL(snp_cpuid_lookup, struct snp_cpuid_found, AT(pages), length, CHOICES, ROW),
@@ -88,6 +96,19 @@ static size_t make_calls(struct call *out, uint32_t edition) {
         CALL(snp_cpuid_read_line, struct snp_cpuid_line_read, AT(line), line_length),
         CALL(snp_cpuid_nearest, struct snp_cpuid_nearest, AT(pages), length, CHOICES),
         CALL(snp_cpuid_write_topologies, struct snp_cpuid_written, BUFFER),
+        CALL(snp_cpuid_table_build, struct snp_cpuid_built, AT(pages), length, CHOICES, TABLE),
+        CALL(snp_cpuid_table_pool, struct snp_cpuid_pooled, POOL, CHOICES, TABLE),
+        CALL(snp_cpuid_table_read_image, struct snp_cpuid_read, AT(image), image_length, TABLE),
+        CALL(snp_cpuid_table_find, struct snp_cpuid_found, TABLE, ROW),
+        CALL(snp_cpuid_table_guest_find, struct snp_cpuid_guest_found, TABLE, PROCESSOR, ROW),
+        CALL(snp_cpuid_table_state, struct snp_cpuid_state, TABLE, 7, 0x800),
+        CALL(snp_cpuid_table_guest_find_kept, struct snp_cpuid_found, TABLE, PROCESSOR, 1024, ROW),
+        CALL(snp_cpuid_table_guest, struct snp_cpuid_built, TABLE, PROCESSOR),
+        CALL(snp_cpuid_table_write_image, struct snp_cpuid_written, TABLE, BUFFER),
+        CALL(snp_cpuid_table_write_kvm, struct snp_cpuid_written, TABLE, BUFFER),
+        CALL(snp_cpuid_table_compare, struct snp_cpuid_tables_compared, TABLE, TABLE),
+        CALL(snp_cpuid_table_counts, struct snp_cpuid_counts, TABLE),
+        CALL(snp_cpuid_table_carry, uint32_t, TABLE, 1, edition, 7, 0x800),
     };
     memcpy(out, calls, sizeof calls);
     return sizeof calls / sizeof *calls;

@@ -20,9 +20,9 @@ STEP = 256
 
 
 def exported():
-    """The functions that the header declares, in its order."""
+    """The functions that the header declares, in its order; inline ones are the caller's own code."""
     text = re.sub(r'/\*.*?\*/', '', HEADER.read_text(), flags=re.DOTALL)
-    return re.findall(r'^\w[\w ]*[ *](snp_cpuid_\w+)\(', text, re.MULTILINE)
+    return re.findall(r'^(?!static )\w[\w ]*[ *](snp_cpuid_\w+)\(', text, re.MULTILINE)
 
 
 def measured(library=LIBRARY):
