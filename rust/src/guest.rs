@@ -107,8 +107,8 @@ impl Table {
         }
     }
 
-    /// What [`Table::guest_row`] finds, with the state that [`Table::state`] gave for the same XCR0 and XSS. Another state changes D.1.EBX and nothing
-    /// else.
+    /// What [`Table::guest_row`] finds, with the state that [`Table::state`] gave for the same XCR0 and XSS. Another state changes D.1.EBX and
+    /// nothing else.
     #[inline]
     pub fn guest_row_kept(&self, processor: Processor, state: State, leaf: u32, subleaf: Option<u32>, enforce_subleaf: bool) -> Option<Found> {
         let Processor { x2apic, xcr0, xss, osxsave } = processor;

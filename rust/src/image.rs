@@ -9,16 +9,16 @@ use core::ops::Deref;
 
 /// The most bytes that the image of a table of any content can have: one that is built or pooled has at most
 /// [`MOST_IMAGE_BYTES`](crate::MOST_IMAGE_BYTES).
-pub const MOST_TABLE_IMAGE_BYTES: usize = 17 * 21 + 71 * 25;
+pub const ANY_IMAGE_BYTES: usize = 17 * 21 + 71 * 25;
 
 /// The most bytes that the list for KVM of a table of any content can have.
-pub const MOST_TABLE_KVM_BYTES: usize = 8 + 40 * PLACES;
+pub const ANY_KVM_BYTES: usize = 8 + 40 * PLACES;
 
 /// A table's image: for each row byte 1, leaf, EAX, EBX, ECX, EDX, or byte 2, leaf, subleaf and the four, each number 4 bytes little-endian. It is a
 /// slice of bytes in all that it does.
 #[derive(Clone)]
 pub struct Image {
-    bytes: [u8; MOST_TABLE_IMAGE_BYTES],
+    bytes: [u8; ANY_IMAGE_BYTES],
     length: usize,
 }
 
@@ -57,7 +57,7 @@ pub struct NotAnImage;
 impl Table {
     /// Its image. It does not say where the rows came from.
     pub fn image(&self) -> Image {
-        let mut image = Image { bytes: [0; MOST_TABLE_IMAGE_BYTES], length: 0 };
+        let mut image = Image { bytes: [0; ANY_IMAGE_BYTES], length: 0 };
         image.length = self.write_image(&mut image.bytes).expect("there is room for 88 rows");
         image
     }
@@ -66,7 +66,7 @@ impl Table {
     /// [`Refusal::BufferTooShort`]; bytes beyond the image are as they were.
     pub fn write_image(&self, out: &mut [u8]) -> Result<usize, Refusal> {
         let (registers, origins) = self.arrays();
-        // SAFETY: the two arrays are the table's own and only read; the last pointer and length are those of a slice, and the function writes within it
+        // SAFETY: the two arrays are the table's own and only read; the function writes within the slice whose pointer and length come last
         let written = unsafe { exports::snp_cpuid_table_write_image(registers, origins, out.as_mut_ptr(), out.len()) };
         written.accepted().map(|written| written.length as usize)
     }
@@ -75,7 +75,7 @@ impl Table {
     /// shorter it is as it was, and the answer is [`Refusal::BufferTooShort`]; bytes beyond the list are as they were.
     pub fn write_kvm(&self, out: &mut [u8]) -> Result<usize, Refusal> {
         let (registers, origins) = self.arrays();
-        // SAFETY: the two arrays are the table's own and only read; the last pointer and length are those of a slice, and the function writes within it
+        // SAFETY: the two arrays are the table's own and only read; the function writes within the slice whose pointer and length come last
         let written = unsafe { exports::snp_cpuid_table_write_kvm(registers, origins, out.as_mut_ptr(), out.len()) };
         written.accepted().map(|written| written.length as usize)
     }

@@ -15,8 +15,8 @@
 //! What is proved is what the library's exported functions return (the repository's README has the statements). This crate turns their numbers into
 //! Rust's types; its tests hold the rows of a table against the library's own answers.
 //!
-//! Without the default feature `std` the crate needs neither the standard library nor an allocator; what gives a `String` or a `Vec`, or takes page sets
-//! apart from each other, is then left out.
+//! Without the default feature `std` the crate needs neither the standard library nor an allocator; what gives a `String` or a `Vec`, or takes page
+//! sets apart from each other, is then left out.
 
 #![cfg_attr(not(feature = "std"), no_std)]
 
@@ -43,7 +43,7 @@ use answer::Answer;
 pub use carry::{NotCarried, carry_image};
 pub use comparison::{Comparison, Register, TableComparison};
 pub use guest::{Processor, State, guest, guest_lookup, write_guest_image};
-pub use image::{Image, MOST_TABLE_IMAGE_BYTES, MOST_TABLE_KVM_BYTES, NotAnImage};
+pub use image::{ANY_IMAGE_BYTES, ANY_KVM_BYTES, Image, NotAnImage};
 pub use kvm::{KVM_PAGES_BYTES, MOST_KVM_BYTES, read_kvm, write_kvm};
 pub use line::NoSuchLine;
 pub use nearest::{Bit, nearest};

@@ -38,8 +38,8 @@ impl Refusal {
         String::from_utf8(out[..length].to_vec()).expect("ASCII")
     }
 
-    /// Writes its line to the front of `out` and gives its length, at most [`MOST_LINE_BYTES`](crate::MOST_LINE_BYTES). Where `out` is shorter it is as it was, and the answer
-    /// is [`Refusal::BufferTooShort`]; bytes beyond the line are as they were.
+    /// Writes its line to the front of `out` and gives its length, at most [`MOST_LINE_BYTES`](crate::MOST_LINE_BYTES). Where `out` is shorter it is
+    /// as it was, and the answer is [`Refusal::BufferTooShort`]; bytes beyond the line are as they were.
     pub fn write_line(&self, out: &mut [u8]) -> Result<usize, Refusal> {
         let (number, details) = (self.number(), self.details());
         let (has_subleaf, subleaf) = (details.subleaf.is_some(), details.subleaf.unwrap_or(0));

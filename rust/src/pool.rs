@@ -56,7 +56,7 @@ pub fn pool(sets: &[impl AsRef<[u8]>], options: Options) -> Result<Table, NotPoo
 }
 
 impl Table {
-    /// The table of a pool, as [`pool`](crate::pool) gives it, of page sets that stand end to end in `pages`, with the bytes of each in `lengths`.
+    /// The table of a pool, as `pool` gives it, of page sets that stand end to end in `pages`, with the bytes of each in `lengths`.
     pub fn pool(pages: &[u8], lengths: &[u64], options: Options) -> Result<Table, NotPooled> {
         let Options { secure_avic, edition } = options;
         let mut made = Made::new();

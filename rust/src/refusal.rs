@@ -128,7 +128,7 @@ const TABLE: &[Line] = &[
             let (image, list, pages) = (crate::MOST_IMAGE_BYTES, crate::MOST_KVM_BYTES, crate::KVM_PAGES_BYTES);
             write!(
                 f,
-                "the buffer is too short: {image} bytes suffice for the image of a table that was built, {list} for its list for KVM, {pages} for pages"
+                "the buffer is too short: {image} bytes suffice for a built table's image, {list} for its list for KVM, {pages} for a list's pages"
             )
         },
     },

@@ -36,11 +36,11 @@ pub struct Row {
 
 /// A table, to keep for as long as its guest runs: 2,112 bytes without a pointer inside, in the library's own layout, so every question is one call.
 ///
-/// [`Table::build`] and [`pool`](crate::pool) make one of CPUID pages, [`Table::try_from`] reads one from its image. [`Table::lookup`] answers for the
-/// paravisor, [`Table::guest_row`] for the guest of a processor.
+/// [`Table::build`] and [`Table::pool`] make one of CPUID pages, [`Table::try_from`] reads one from its image. [`Table::lookup`] answers for
+/// the paravisor, [`Table::guest_row`] for the guest of a processor.
 ///
-/// Two tables are equal where rows, registers and combined mask are; where the rows came from does not count. Two [`Row`]s are equal where that is the
-/// same too.
+/// Two tables are equal where rows, registers and combined mask are; where the rows came from does not count. Two [`Row`]s are equal where that is
+/// the same too.
 ///
 /// ```
 /// use snp_cpuid::{Options, Processor, Table};

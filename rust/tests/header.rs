@@ -110,8 +110,15 @@ fn declarations_are_the_headers() {
 #[test]
 fn the_constants_are_the_headers() {
     let text = read("../include/snp_cpuid.h");
-    let topologies = ("TOPOLOGIES", snp_cpuid::TOPOLOGIES_BYTES);
-    for (name, value) in [("MOST_IMAGE", snp_cpuid::MOST_IMAGE_BYTES), ("MOST_LINE", snp_cpuid::MOST_LINE_BYTES), topologies] {
+    for (name, value) in [
+        ("MOST_IMAGE", snp_cpuid::MOST_IMAGE_BYTES),
+        ("MOST_KVM", snp_cpuid::MOST_KVM_BYTES),
+        ("KVM_PAGES", snp_cpuid::KVM_PAGES_BYTES),
+        ("ANY_IMAGE", snp_cpuid::ANY_IMAGE_BYTES),
+        ("ANY_KVM", snp_cpuid::ANY_KVM_BYTES),
+        ("MOST_LINE", snp_cpuid::MOST_LINE_BYTES),
+        ("TOPOLOGIES", snp_cpuid::TOPOLOGIES_BYTES),
+    ] {
         let line = text.lines().find_map(|l| l.strip_prefix(&format!("#define SNP_CPUID_{name}_BYTES "))).expect("the constant");
         assert_eq!(line.trim().parse(), Ok(value));
     }

@@ -1,4 +1,4 @@
-//! A table that is kept, against the functions that start from pages: on the page sets of the lists in this folder, under every choice that these have.
+//! A table that is kept, against the functions that start from pages: on the page sets of the lists in this folder, under every choice.
 
 mod replay;
 

@@ -10,7 +10,7 @@ use crate::output;
 use crate::reasons::{self, Reason};
 use crate::source::Source;
 pub use crate::source::image;
-use snp_cpuid::{Bit, Comparison, MOST_TABLE_KVM_BYTES, NotPooled, Options, Origin, Processor, Refusal, Table};
+use snp_cpuid::{ANY_KVM_BYTES, Bit, Comparison, NotPooled, Options, Origin, Processor, Refusal, Table};
 use std::ffi::OsStr;
 use std::fmt::Display;
 
@@ -118,7 +118,7 @@ impl Building {
 
     /// The list for KVM of a file.
     pub fn kvm_list(&self, file: &OsStr) -> Result<Vec<u8>, Failure> {
-        let mut list = vec![0; MOST_TABLE_KVM_BYTES];
+        let mut list = vec![0; ANY_KVM_BYTES];
         let length = self.table(file)?.write_kvm(&mut list).expect("there is room for every row");
         list.truncate(length);
         Ok(list)
