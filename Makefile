@@ -5,7 +5,7 @@
 # make dist       an archive of the same with the documents, tried out from an empty folder
 # make proved     print what is proved
 # make test       the whole gate: proofs from nothing, must-fail edits, programs, and the tests in tests/
-# make bench      build and image against plain C by gcc and by clang, as a ratio, over six link orders
+# make bench      image, build and lookups against plain C by gcc and by clang, as ratios of time, over six link orders, and of instructions
 # make bench-rust against the Rust too, with overflow checks and without; OPENVMM_CVM_CPUID names its folder (differential/README.md)
 #
 # SNP_CPUID_LIB=FOLDER takes libsnp_cpuid.a from there, and the Rattle kit is not needed: nothing is proved then.
@@ -24,7 +24,7 @@ ARCHIVE = snp-cpuid-$(VERSION)-x86_64-linux
 # what an installation has, below PREFIX
 INSTALLED = bin/snp-cpuid include/snp_cpuid.h lib/libsnp_cpuid.a lib/pkgconfig/snp_cpuid.pc share/man/man1/snp-cpuid.1 \
     share/bash-completion/completions/snp-cpuid share/zsh/site-functions/_snp-cpuid share/fish/vendor_completions.d/snp-cpuid.fish
-DOCUMENTS = CHANGELOG.md NOTICE docs/COMMAND.md docs/DIFFERENCES.md docs/EMBEDDING.md docs/OPENHCL.md install/example.c $(PAGES)
+DOCUMENTS = CHANGELOG.md NOTICE docs/COMMAND.md docs/DIFFERENCES.md docs/EMBEDDING.md docs/OPENHCL.md install/example.c examples/exits.c $(PAGES)
 
 found = $(shell command -v $(1))
 kit = $(if $(call found,rt),,$(error no Rattle kit: 'rt' is not on the PATH, so nothing can be proved. With a built library, SNP_CPUID_LIB=FOLDER \

@@ -2,9 +2,9 @@
  *
  *   bench PAGES
  *
- * Each round times all on the same input, in turns. A line for each work and input has tabs between its words: the work, the input, the port's median in
- * ns, and for each of the others name, median and the median of the rounds' ratios: port / C, or Rust / port. bench/run links it in several orders. The
- * Rust builds its set of leaves, and writes no image. A last line has the port alone: a pool of 16 servers, 16 single builds, and their ratio.
+ * Each round times all on the same input, in turns. A line for each work and input has tabs between its words: the work, the input, the port's median
+ * in ns, and for each of the others name, median and the median of the rounds' ratios: port / C, or Rust / port. bench/run links it in several orders.
+ * The Rust builds its set of leaves, and writes no image. A last line has the port alone: a pool of 16 servers, 16 single builds, and their ratio.
  *
  *   bench PAGES MAKER WORK INPUT CALLS
  *
@@ -18,11 +18,19 @@
 enum { ROOM = 1024, EDITION = 1 };
 
 /* port and plain C have functions of the same types, and all are called by pointer */
-write_image_function gcc_write_image, clang_write_image;
-build_function gcc_table_build, clang_table_build;
-find_function gcc_table_find, clang_table_find;
-guest_find_function gcc_table_guest_find, clang_table_guest_find;
-guest_find_kept_function gcc_table_guest_find_kept, clang_table_guest_find_kept;
+#define DECLARE(maker) \
+    write_image_function maker##_write_image; \
+    build_function maker##_table_build; \
+    find_function maker##_table_find; \
+    guest_find_function maker##_table_guest_find; \
+    guest_find_kept_function maker##_table_guest_find_kept;
+#define MAKER(maker) \
+    {#maker, maker##_write_image, maker##_table_build, maker##_table_find, maker##_table_guest_find, maker##_table_guest_find_kept}
+
+DECLARE(gcc)
+DECLARE(gcc_once)
+DECLARE(clang)
+DECLARE(clang_once)
 
 static const struct maker {
     const char *name;
@@ -32,10 +40,12 @@ static const struct maker {
     guest_find_function *guest_find;
     guest_find_kept_function *guest_find_kept;
 } MAKERS[] = {
-    {"port", snp_cpuid_write_image, snp_cpuid_table_build, snp_cpuid_table_find, snp_cpuid_table_guest_find, snp_cpuid_table_guest_find_kept},
-    {"gcc", gcc_write_image, gcc_table_build, gcc_table_find, gcc_table_guest_find, gcc_table_guest_find_kept},
+    MAKER(snp_cpuid),
+    MAKER(gcc),
+    MAKER(gcc_once),
 #ifdef WITH_CLANG
-    {"clang", clang_write_image, clang_table_build, clang_table_find, clang_table_guest_find, clang_table_guest_find_kept},
+    MAKER(clang),
+    MAKER(clang_once),
 #endif
 };
 
@@ -285,8 +295,8 @@ static void make_inputs(const uint8_t *pages)
     inputs[0] = (struct input){"the shipped set, 38 entries", pages, 8192};
     inputs[1] = (struct input){"two full pages, 128 entries", full, 8192};
     inputs[2] = (struct input){"sixteen full pages, 1,024 entries", sixteen, 16 * 4096};
-    inputs[3] = (struct input){"refused: a full page and an empty one, so no Dh entry", refused, 8192};
-    inputs[4] = (struct input){"refused by 17: sixteen full pages, the last entry", unclean, 16 * 4096};
+    inputs[3] = (struct input){"a full page and an empty one, refused by 3", refused, 8192};
+    inputs[4] = (struct input){"sixteen full pages, the last entry refused by 17", unclean, 16 * 4096};
 }
 
 static void measure_all(void)

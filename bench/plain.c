@@ -74,6 +74,18 @@ static const struct row *mask_of(unsigned place, int avic)
     }
 }
 
+/* 1: reserved bytes are tested as the entries are collected, in one walk as the port's; 0: in a pass before */
+#ifndef ONE_WALK
+#define ONE_WALK 0
+#endif
+
+static uint64_t reserved(const uint8_t *e)
+{
+    uint64_t bytes;
+    memcpy(&bytes, e + 40, sizeof bytes);
+    return bytes;
+}
+
 /* the first entry below its page's count with a reserved byte that is not zero */
 static const uint8_t *unclean(const uint8_t *pages, size_t count)
 {
@@ -82,16 +94,15 @@ static const uint8_t *unclean(const uint8_t *pages, size_t count)
         uint32_t n = word(page);
         for (uint32_t q = 0; q < n; q++) {
             const uint8_t *e = page + 16 + 48 * q;
-            uint64_t reserved;
-            memcpy(&reserved, e + 40, sizeof reserved);
-            if (reserved)
+            if (reserved(e))
                 return e;
         }
     }
     return NULL;
 }
 
-static void collect(struct table *t, const uint8_t *pages, size_t count, int avic)
+/* the masked first entries; or the unclean one where they are tested here */
+static const uint8_t *collect(struct table *t, const uint8_t *pages, size_t count, int avic)
 {
     memset(t->rows, 0, PLACES * sizeof *t->rows);
     memset(t->origins, 0, PLACES * sizeof *t->origins);
@@ -100,6 +111,8 @@ static void collect(struct table *t, const uint8_t *pages, size_t count, int avi
         uint32_t n = word(page);
         for (uint32_t q = 0; q < n; q++) {
             const uint8_t *e = page + 16 + 48 * q;
+            if (ONE_WALK && reserved(e))
+                return e;
             uint32_t leaf = word(e);
             if (leaf == 0xd && p != 1)
                 continue;
@@ -114,6 +127,7 @@ static void collect(struct table *t, const uint8_t *pages, size_t count, int avi
                 t->rows[k].r[0] |= 3;
         }
     }
+    return NULL;
 }
 
 static const uint8_t REQUIRED[24] = {1, 2, 3, 4, 5, 71, 75, 76, 77, 78, 72, 73, 74, 6, 7, 87, 79, 80, 81, 82, 83, 84, 85, 86};
@@ -252,10 +266,11 @@ static struct snp_cpuid_built build(struct table *t, const uint8_t *pages, size_
     for (size_t p = 0; p < length / PAGE; p++)
         if (word(pages + p * PAGE) > 64)
             return refuse(2, 0, 0);
-    const uint8_t *e = unclean(pages, length / PAGE);
+    const uint8_t *e = ONE_WALK ? NULL : unclean(pages, length / PAGE);
+    if (!e)
+        e = collect(t, pages, length / PAGE, avic);
     if (e)
         return refuse(17, word(e), 0);
-    collect(t, pages, length / PAGE, avic);
     return finish(t, edition);
 }
 
@@ -372,13 +387,12 @@ static uint32_t state(const uint32_t *registers, uint64_t xcr0, uint64_t xss, ui
         return 13;
     if (!(d1[0] & 0xa))
         return 0;
-    for (unsigned k = 2; k < 64 && mask >> k; k++)
-        if (mask >> k & 1) {
-            const uint32_t *r = state_row(registers, k);
-            if (r[2] & 2)
-                size = (size + 63) & ~(uint64_t)63;
-            size += r[0];
-        }
+    for (mask &= ~(uint64_t)3; mask; mask &= mask - 1) {
+        const uint32_t *r = state_row(registers, __builtin_ctzll(mask));
+        if (r[2] & 2)
+            size = (size + 63) & ~(uint64_t)63;
+        size += r[0];
+    }
     if (size > 0xffffffff)
         return 14;
     *compacted = (uint32_t)size;
@@ -388,13 +402,12 @@ static uint32_t state(const uint32_t *registers, uint64_t xcr0, uint64_t xss, ui
 static uint32_t area(const uint32_t *registers, uint64_t xcr0)
 {
     uint64_t size = 576;
-    for (unsigned k = 2; k < 64 && xcr0 >> k; k++)
-        if (xcr0 >> k & 1) {
-            const uint32_t *r = state_row(registers, k);
-            uint64_t sum = (uint64_t)r[0] + r[1];
-            if (sum > size)
-                size = sum;
-        }
+    for (xcr0 &= ~(uint64_t)3; xcr0; xcr0 &= xcr0 - 1) {
+        const uint32_t *r = state_row(registers, __builtin_ctzll(xcr0));
+        uint64_t sum = (uint64_t)r[0] + r[1];
+        if (sum > size)
+            size = sum;
+    }
     return size > 0xffffffff ? 0xffffffff : (uint32_t)size;
 }
 
