@@ -12,6 +12,10 @@
 //! println!("refusal {}: {refusal}", refusal.number());
 //! ```
 //!
+//! A [`Table`] is built once and kept: [`Table::guest_row`] answers a CPUID exit, [`Table::compare`] says whether a guest may move, [`Table::carry`]
+//! takes it to another edition, [`Table::image`] and [`Table::write_kvm`] write it. The functions of this root that take pages build anew at each
+//! call.
+//!
 //! What is proved is what the library's exported functions return (the repository's README has the statements). This crate turns their numbers into
 //! Rust's types; its tests hold the rows of a table against the library's own answers.
 //!
