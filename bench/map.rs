@@ -1,4 +1,4 @@
-//! A table in the shape that OpenHCL's Rust keeps it in, a hash map of leaves with an ordered map of subleaves, for bench.c: lookups beside the port's.
+//! A table in the shape that OpenHCL's Rust keeps it in, a hash map of leaves with an ordered map of subleaves, for bench.c: finds beside the port's.
 use std::collections::{BTreeMap, HashMap};
 
 type Registers = [u32; 4];
