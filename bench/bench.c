@@ -4,7 +4,8 @@
  *
  * Each round times all on the same input, in turns. A line for each work and input has tabs between its words: the work, the input, the port's median
  * in ns, and for each of the others name, median and the median of the rounds' ratios: port / C, or Rust / port. bench/run links it in several orders.
- * The Rust builds its set of leaves, and writes no image. A last line has the port alone: a pool of 16 servers, 16 single builds, and their ratio.
+ * The Rust builds its set of leaves, and writes no image. A further line has the port alone: a pool of 16 servers, 16 single builds, and the ratio.
+ * With WITH_MAP the last has finds by the port and in the map of map.rs, and map / port.
  *
  *   bench PAGES MAKER WORK INPUT CALLS
  *
@@ -268,6 +269,55 @@ static void measure_pool(const struct input *in)
     free(sets);
 }
 
+#ifdef WITH_MAP
+/* map.rs: the table as the Rust keeps it */
+struct map;
+struct map *map_new(void);
+void map_put(struct map *map, uint32_t leaf, bool has_subleaf, uint32_t subleaf, const uint32_t *registers);
+bool map_find(const struct map *map, uint32_t leaf, bool has_subleaf, uint32_t subleaf, bool enforce_subleaf, uint32_t *registers);
+
+static struct snp_cpuid_found find_exit(int i, bool enforce)
+{
+    return snp_cpuid_table_find(table.registers, table.origins, EXITS[i][0], true, EXITS[i][1], enforce);
+}
+
+/* The table's rows; one that is found where the subleaf is enforced has a subleaf. */
+static struct map *filled_map(void)
+{
+    struct map *map = map_new();
+    for (int i = 0; i < N_EXITS; i++) {
+        struct snp_cpuid_found row = find_exit(i, false);
+        uint32_t registers[4] = {row.eax, row.ebx, row.ecx, row.edx};
+        if (row.found)
+            map_put(map, EXITS[i][0], find_exit(i, true).found, EXITS[i][1], registers);
+    }
+    return map;
+}
+
+/* the same finds in the map, and its time beside the port's */
+static void measure_map(void)
+{
+    enum { CALLS = 64000 };
+    double port[ROUNDS], in_map[ROUNDS], ratio[ROUNDS];
+    struct map *map = filled_map();
+    uint32_t r[4];
+    for (int i = 0; i < N_EXITS; i++) {
+        struct snp_cpuid_found row = find_exit(i, false);
+        if (map_find(map, EXITS[i][0], true, EXITS[i][1], false, r) != row.found || r[0] != row.eax || r[3] != row.edx)
+            differ("map", "rows");
+    }
+    for (int k = 0; k < ROUNDS; k++) {
+        double t = now();
+        for (int i = 0; i < CALLS; i++)
+            sink += map_find(map, EXITS[i % N_EXITS][0], true, EXITS[i % N_EXITS][1], false, r) + r[0];
+        in_map[k] = (now() - t) / CALLS;
+        port[k] = ns(&WORKS[2], &MAKERS[PORT], &inputs[0], CALLS);
+        ratio[k] = in_map[k] / port[k];
+    }
+    printf("map\t\t%.1f\t%.1f\t%.4f\n", median(port), median(in_map), median(ratio));
+}
+#endif
+
 /* the set in the file, with both pages filled up to 64 entries by leaves that are filtered or already there */
 static uint8_t *full_pages(const uint8_t *pages)
 {
@@ -312,6 +362,9 @@ static void measure_all(void)
             measure(&WORKS[k], &inputs[i], WORKS[k].inputs == 1 ? "32 exits" : inputs[i].name);
         }
     measure_pool(&inputs[0]);
+#ifdef WITH_MAP
+    measure_map();
+#endif
 }
 
 int main(int argc, char **argv)
