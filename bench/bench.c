@@ -3,8 +3,8 @@
  *   bench PAGES
  *
  * Each round times all on the same input, in turns. A line for each work and input has tabs between its words: the work, the input, the port's median
- * in ns, and for each of the others name, median and the median of the rounds' ratios: port / C, or Rust / port. bench/run links it in several orders.
- * The Rust builds its set of leaves, and writes no image. A further line has the port alone: a pool of 16 servers, 16 single builds, and the ratio.
+ * in ns, and for each other one name, median and the median of the rounds' ratios: port / C, or Rust / port. bench/run links it in six orders. The
+ * Rust builds its set of leaves, and writes no image. A further line has the port alone: a pool of 16 servers, 16 single builds, and the ratio.
  * With WITH_MAP the last has finds by the port and in the map of map.rs, and map / port.
  *
  *   bench PAGES MAKER WORK INPUT CALLS

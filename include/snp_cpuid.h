@@ -432,7 +432,7 @@ uint32_t snp_cpuid_table_carry(uint32_t *registers, const uint64_t *origins, uin
 /* ---- the same with structs: define SNP_CPUID_NO_INLINE to leave these out */
 #ifndef SNP_CPUID_NO_INLINE
 
-/* What building is told. */
+/* The choices of building: whether secure AVIC is on, and the edition of the AVX rule, 1 or 2. */
 struct snp_cpuid_options {
     bool secure_avic;
     uint32_t edition;
@@ -500,17 +500,20 @@ static inline const char *snp_cpuid_words(uint32_t number)
     }
 }
 
+/* snp_cpuid_table_build, into the struct. */
 static inline struct snp_cpuid_built snp_cpuid_build_into(struct snp_cpuid_table *table, const uint8_t *pages, size_t length,
                                                           struct snp_cpuid_options options)
 {
     return snp_cpuid_table_build(pages, length, options.secure_avic, options.edition, table->registers, table->origins);
 }
 
+/* The row that the CPUID instruction asks for with leaf in EAX and subleaf in ECX: a leaf without subleaves is found under any subleaf. */
 static inline struct snp_cpuid_found snp_cpuid_find(const struct snp_cpuid_table *table, uint32_t leaf, uint32_t subleaf)
 {
     return snp_cpuid_table_find(table->registers, table->origins, leaf, true, subleaf, false);
 }
 
+/* The same as the processor's guest sees it. */
 static inline struct snp_cpuid_guest_found snp_cpuid_guest_find(const struct snp_cpuid_table *table, struct snp_cpuid_processor processor,
                                                                 uint32_t leaf, uint32_t subleaf)
 {
