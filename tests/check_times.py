@@ -30,7 +30,7 @@ def told(said, crates):
 
 
 def checked(revision, room):
-    """(commit, wall seconds, processor seconds, proved, listed, verdict) of one run."""
+    """(commit, wall seconds, processor seconds, crates proved, verdict, crates listed) of one run."""
     clone = Path(tempfile.mkdtemp(dir=room)) / 'clone'
     subprocess.run(['git', 'clone', '--quiet', '--no-checkout', ROOT, clone], check=True)
     subprocess.run(['git', 'checkout', '--quiet', revision], cwd=clone, check=True)
