@@ -94,4 +94,4 @@ module _ (chosen : Choices) (s : List ℕ) (v : Processor) (buffer : List ℕ) {
 
   pub write-given : d ≡ Accepted → writeFront (image (heldIn w o)) buffer ≡ writeGuest chosen s v buffer
   unfolding writeGuest
-  write-given f = rw (← seen .verdict, ← seen .table, f)
+  write-given f = ap (λ (t : CpuidResults). writeFront (image t) buffer) (seen .table) ∙ rw (← seen .verdict, f)
