@@ -6,8 +6,8 @@ use Prim.Native.Nat.{ℕ, _/_}
 use Rattle.bits.specs.Choice.{pick}
 use Rattle.bits.specs.Lists.{one}
 use Rattle.x86defs.specs.declared.CpuidResult.{CpuidResult}
-use Rattle.origins.specs.declared.OriginRead.{OriginRead}
-use Rattle.origins.specs.Origin.{originRead}
+use Rattle.memory.specs.declared.origins.OriginRead.{OriginRead}
+use Rattle.memory.specs.Origin.{originRead}
 use Rattle.build.specs.declared.Built.{Built}
 use Rattle.table.specs.declared.Choices.{Choices}
 use Rattle.table.specs.declared.CpuidResults.{CpuidResults}
@@ -26,8 +26,8 @@ use Rattle.guest.specs.declared.GuestFound.{GuestFound}
 use Rattle.guest.specs.declared.GuestFound.the-variants.{Refused as NotGiven, Looked}
 use Rattle.buffer.specs.declared.Written.{Written}
 use Rattle.buffer.specs.declared.Written.the-variants.{Bytes, Refused}
-use Rattle.numbers.specs.declared.AnswerNumbers.{AnswerNumbers}
-use Rattle.numbers.specs.Numbers.{numbersOf, refusalNumbers}
+use Rattle.table.specs.declared.numbers.AnswerNumbers.{AnswerNumbers}
+use Rattle.table.specs.Numbers.{numbersOf, refusalNumbers}
 use Rattle.answers.specs.declared.SnpCpuidBuilt.{SnpCpuidBuilt}
 use Rattle.answers.specs.declared.SnpCpuidFound.{SnpCpuidFound}
 use Rattle.answers.specs.declared.SnpCpuidGuestFound.{SnpCpuidGuestFound}

@@ -1,1 +1,6 @@
 pub mod Answers
+pub mod ComparedAnswers
+pub mod LineAnswers
+pub mod CarriedAnswers
+pub mod PoolAnswers
+pub mod NearestAnswers

@@ -8,14 +8,20 @@ use lookup::find;
 use masking::PLACES;
 use memory::REGISTERS;
 use memory::combined_mask;
+use memory::origins::read_origin;
 use memory::row_count;
-use origins::read_origin;
 use table::Subleaf;
 use table::Verdict;
 use x86defs::CpuidFunction;
 ghost use mathlib.Core.Path.{_≡_};
 ghost use Rattle.memory.specs.Held.{heldIn};
 ghost use Rattle.answers.specs.Answers.{processorOf, builtGiven, heldNumbers, countsOf, readWith, stateNumbers, guestFoundWith, guestFoundNumbers, foundNumbers, foundAt, firstGiven, writtenNumbers, subleafOf};
+
+pub mod carried_image;
+pub mod comparison;
+pub mod line;
+pub mod nearest_bit;
+pub mod pool_answer;
 
 #[repr(C)]
 pub struct SnpCpuidBuilt {
@@ -114,7 +120,7 @@ pub fn processor(x2apic: u32, xcr0: u64, xss: u64, osxsave: bool) -> Processor
 pub fn built_numbers(verdict: Verdict, row_count: usize, max_extended_state: u64) -> SnpCpuidBuilt
     ensures { λ r. ⌜ r ≡ builtGiven verdict «row_count» «max_extended_state» ⌝ }
 {
-    let numbers = numbers::answer_numbers(verdict);
+    let numbers = table::numbers::answer_numbers(verdict);
     SnpCpuidBuilt {
         number: numbers.number as u32,
         leaf: numbers.leaf,
@@ -192,7 +198,7 @@ pub fn guest_found_numbers(answer: GuestFound) -> SnpCpuidGuestFound
 {
     match answer {
         GuestFound::Refused(refusal) => guest_found_with(
-            numbers::refusal_numbers(refusal).number as u32,
+            table::numbers::refusal_numbers(refusal).number as u32,
             found_numbers(Found::NoRow),
         ),
         GuestFound::Looked(found) => guest_found_with(0, found_numbers(found)),
@@ -222,7 +228,7 @@ pub fn state_numbers(state: InUse) -> SnpCpuidState
 {
     match state {
         InUse::Refused(refusal) => {
-            let numbers = numbers::refusal_numbers(refusal);
+            let numbers = table::numbers::refusal_numbers(refusal);
             SnpCpuidState {
                 number: numbers.number as u32,
                 size: 0,
@@ -273,7 +279,7 @@ pub fn table_numbers(
 pub fn first_numbers(verdict: Verdict, number: u64) -> SnpCpuidFirst
     ensures { λ r. ⌜ r ≡ firstGiven verdict number ⌝ }
 {
-    let numbers = numbers::answer_numbers(verdict);
+    let numbers = table::numbers::answer_numbers(verdict);
     let read = read_origin(number);
     SnpCpuidFirst {
         number: numbers.number as u32,
@@ -301,7 +307,7 @@ pub fn written_numbers(written: Written) -> SnpCpuidWritten
             length: n as u64,
         },
         Written::Refused(refusal) => {
-            let numbers = numbers::refusal_numbers(refusal);
+            let numbers = table::numbers::refusal_numbers(refusal);
             SnpCpuidWritten {
                 number: numbers.number as u32,
                 leaf: numbers.leaf,

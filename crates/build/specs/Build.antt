@@ -13,13 +13,13 @@ use Rattle.table.specs.Rows.{Rows}
 use Rattle.table.specs.declared.CpuidResults.{CpuidResults}
 use Rattle.table.specs.Table.{rowIn}
 use Rattle.masking.specs.Kept.{places}
-use Rattle.origins.specs.Origin.{Origin, originOf, originNumber}
+use Rattle.memory.specs.Origin.{Origin, originOf, originNumber}
 use Rattle.checks.specs.Checks.{refuseUnless, rowsVerdict}
-use Rattle.lawful.specs.Lawful.{lawfulVerdict}
-use Rattle.rows_built.specs.RowsBuilt.{tableFor}
+use Rattle.collect.specs.Lawful.{lawfulVerdict}
+use Rattle.finish.specs.RowsBuilt.{tableFor}
 use Rattle.build.specs.declared.Built.{Built}
 use Rattle.collect.specs.FirstEntries.{rowsOf}
-use Rattle.locate.specs.Stands.{standsAt}
+use Rattle.collect.specs.Stands.{standsAt}
 
 -- document 02, P7: "15 an edition other than 1 or 2, before 1"
 unfoldable pub editionVerdict : ℕ → Verdict

@@ -8,11 +8,11 @@ use Rattle.bits.specs.Choice.{pick}
 use Rattle.bits.specs.ListsLaws.{tabulated}
 use Rattle.pages.specs.Entries.{counted}
 use Rattle.masking.specs.Kept.{places}
-use Rattle.origins.specs.Origin.{isMadeHere, originOf, originNumber, finishedOrigins}
-use Rattle.origins.specs.Origin.Origin.{neither, madeHere}
-use Rattle.origins.specs.OriginLaws.{finished-origins}
-use Rattle.locate.specs.Stands.{standsAt, foundOrigins}
-use Rattle.rows_built.specs.declared.RowsBuilt.{RowsBuilt}
+use Rattle.memory.specs.Origin.{isMadeHere, originOf, originNumber, finishedOrigins}
+use Rattle.memory.specs.Origin.Origin.{neither, madeHere}
+use Rattle.memory.specs.OriginLaws.{finished-origins}
+use Rattle.collect.specs.Stands.{standsAt, foundOrigins}
+use Rattle.finish.specs.declared.RowsBuilt.{RowsBuilt}
 use Rattle.build.specs.declared.Built.{Built}
 use Rattle.table.specs.declared.Refusal.{Refusal}
 use Rattle.table.specs.declared.Refusal.the-variants.{UnknownEdition}
@@ -20,14 +20,14 @@ use Rattle.table.specs.declared.Choices.{Choices}
 use Rattle.table.specs.declared.Verdict.{Verdict}
 use Rattle.table.specs.declared.Verdict.the-variants.{Accepted, Refused}
 use Rattle.table.specs.declared.CpuidResults.{CpuidResults}
-use Rattle.rows_built.specs.RowsBuilt.{builtFrom}
+use Rattle.finish.specs.RowsBuilt.{builtFrom}
 use Rattle.build.specs.Built.{withoutOrigins, notBuilt}
 use Rattle.table.specs.Table.{emptyTable}
 use Rattle.table.specs.Rows.{Rows}
 use Rattle.table.specs.Edition.{knownEdition}
-use Rattle.rows_built.specs.Stages.{builtBy}
+use Rattle.finish.specs.Stages.{builtBy}
 use Rattle.build.specs.Build.{editionVerdict, rowsFor, verdictOf, originsIn, answer}
-use Rattle.lawful.specs.Lawful.{lawfulVerdict}
+use Rattle.collect.specs.Lawful.{lawfulVerdict}
 
 -- a table without rows has no origins, whatever stands in the pages
 pub no-origins : (s : List ℕ) → replicate places 0 ≡ originsIn emptyTable s

@@ -5,7 +5,7 @@ use Rattle.masking.specs.Kept.{places}
 use Rattle.table.specs.declared.Refusal.{Refusal}
 use Rattle.table.specs.declared.Verdict.the-variants.{Refused}
 use Rattle.table.specs.Table.{emptyTable}
-use Rattle.rows_built.specs.declared.RowsBuilt.{RowsBuilt}
+use Rattle.finish.specs.declared.RowsBuilt.{RowsBuilt}
 use Rattle.build.specs.declared.Built.{Built}
 
 -- a refused answer: an empty table, and no origins

@@ -14,16 +14,16 @@ use Rattle.table.specs.declared.Refusal.{Refusal}
 use Rattle.table.specs.declared.Verdict.the-variants.{Accepted, Refused}
 use Rattle.table.specs.Edition.{knownEdition}
 use Rattle.table.specs.Table as Tables
-use Rattle.origins.specs.Origin.{finishedOrigins}
+use Rattle.memory.specs.Origin.{finishedOrigins}
 use Rattle.memory.specs.Memory.{rowsIn, layout, tableIn}
 use Rattle.memory.specs.MemoryLaws.{rows-in}
 use Rattle.memory.specs.Held.{heldIn}
 use Rattle.collect.specs.Collect.{collected-rows}
-use Rattle.locate.specs.Stands.{foundOrigins}
-use Rattle.lawful.specs.Lawful.{lawfulVerdict}
-use Rattle.lawful.specs.Walk.{WalkedPages, walked-table}
-use Rattle.rows_built.specs.declared.RowsBuilt.{RowsBuilt}
-use Rattle.rows_built.specs.RowsBuilt.{builtFrom}
+use Rattle.collect.specs.Stands.{foundOrigins}
+use Rattle.collect.specs.Lawful.{lawfulVerdict}
+use Rattle.collect.specs.WalkedPages.{WalkedPages, walked-table}
+use Rattle.finish.specs.declared.RowsBuilt.{RowsBuilt}
+use Rattle.finish.specs.RowsBuilt.{builtFrom}
 use Rattle.rows_finished.specs.Finished.{Answered}
 use Rattle.rows_finished.specs.AnsweredLaws.{cleared, cleared-whole}
 use Rattle.build.specs.declared.Built.{Built}

@@ -1,5 +1,5 @@
 // Pages in; one table with its origins in lent memory, or one refusal, out.
-use lawful::walk_pages;
+use collect::lawful::walk_pages;
 use masking::PLACES;
 use memory::REGISTERS;
 use memory::clear;

@@ -38,7 +38,7 @@ use Rattle.guest_state.specs.declared.InUse.{InUse}
 use Rattle.guest_state.specs.declared.InUse.the-variants.{Refused as NotInUse, Compacted}
 use Rattle.guest_state.specs.InUse.{readRows, inUse}
 use Rattle.guest_state.specs.InUseLaws.{told-refused, told-given}
-use Rattle.carry.specs.InPlace.{CarriedIn}
+use Rattle.carry.specs.CarriedInPlace.{CarriedIn}
 
 -- a verdict is not both
 abbrev isAccepted : Verdict → Bool

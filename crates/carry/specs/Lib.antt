@@ -1,5 +1,7 @@
 pub mod Carry
 pub mod CarryLaws
-pub mod InPlace
+pub mod CarriedInPlace
 pub mod InPlaceLaws
 pub mod AbsentRows
+pub mod CarryImage
+pub mod CarryImageLaws

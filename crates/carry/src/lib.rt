@@ -21,7 +21,9 @@ ghost use Rattle.table.specs.Table.{rowIn};
 ghost use Rattle.memory.specs.Memory.{layout};
 ghost use Rattle.memory.specs.Held.{heldIn};
 ghost use Rattle.carry.specs.Carry.{withoutBits, carriedTable, carry};
-ghost use Rattle.carry.specs.InPlace.{CarriedIn};
+ghost use Rattle.carry.specs.CarriedInPlace.{CarriedIn};
+
+pub mod in_image;
 
 // What goes without YMM state in edition 2 and not in edition 1: F16C of 1.ECX, XOP and FMA4 of 80000001h.ECX.
 const F16C: u32 = 0x20000000;

@@ -19,14 +19,14 @@ use Rattle.pages.specs.declared.ParsedCpuidEntry.{ParsedCpuidEntry}
 use Rattle.pages.specs.declared.CpuidPageIndex.{CpuidPageIndex}
 use Rattle.pages.specs.Layout.{Entry, entryAt, pagesIn}
 use Rattle.pages.specs.Parsed.{parsed, countsRead}
-use Rattle.walk.specs.Walk.{firstIndex, incremented, rest}
-use Rattle.walk.specs.WalkLaws.{Valid, Turn, turn, first-valid, rest-first, rest-end}
+use Rattle.reader.specs.Walk.{firstIndex, incremented, rest}
+use Rattle.reader.specs.WalkLaws.{Valid, Turn, turn, first-valid, rest-first, rest-end}
 use Rattle.pages.specs.Entries.{entries, counts, counted}
 use Rattle.masking.specs.Masks.{Masks, applyMask}
 use Rattle.masking.specs.Kept.{places, placeOf}
-use Rattle.masks.specs.declared.KeptLeaf.{KeptLeaf}
-use Rattle.masks.specs.KeptTable.{table, noRow, masksOf, rowOfPlace}
-use Rattle.masks.specs.KeptTableLaws.{masks-of-row}
+use Rattle.masking.specs.declared.masks.KeptLeaf.{KeptLeaf}
+use Rattle.masking.specs.MaskTable.{table, noRow, masksOf, rowOfPlace}
+use Rattle.masking.specs.KeptTableLaws.{masks-of-row}
 use Rattle.table.specs.declared.CpuidResults.{CpuidResults}
 use Rattle.table.specs.Rows.{Row, row, vacant}
 use Rattle.table.specs.Table.{emptyTable, rowIn, rowsIn}

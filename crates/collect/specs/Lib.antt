@@ -2,3 +2,14 @@ pub mod FirstEntries
 pub mod FirstEntriesLaws
 pub mod Collect
 pub mod RowsFit
+pub mod Stands
+pub mod OriginsLaws
+pub mod Walked
+pub mod StoreLaws
+pub mod WalkingLaws
+pub mod CollectedLaws
+pub mod Lawful
+pub mod LawfulLaws
+pub mod WalkedPages
+pub mod FirstEntry
+pub mod FirstEntryLaws

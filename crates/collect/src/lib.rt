@@ -1,15 +1,19 @@
 // What becomes of one entry: the place that it is stored at, and its registers there. In specs/ the masked first entries of the 88 places.
 use masking::PLACES;
+use masking::masks::KeptLeaf;
 use masking::place;
-use masks::KeptLeaf;
 use pages::ParsedCpuidEntry;
 use x86defs::CpuidResult;
 use x86defs::leaf;
 ghost use mathlib.Core.Path.{_≡_};
 ghost use Rattle.masking.specs.Masks.{applyMask};
-ghost use Rattle.masks.specs.KeptTable.{masksOf};
+ghost use Rattle.masking.specs.MaskTable.{masksOf};
 ghost use Rattle.collect.specs.FirstEntries.{setLegacy};
 ghost use Rattle.collect.specs.Collect.{countedPlace};
+
+pub mod first_entry;
+pub mod lawful;
+mod locate;
 
 const LEGACY_FEATURES: u32 = 3;
 
@@ -31,7 +35,7 @@ pub fn counted_place(entry: ParsedCpuidEntry) -> usize
 pub fn masked_at(kept: KeptLeaf, place: usize, r: CpuidResult) -> CpuidResult
     ensures { λ q. ⌜ q ≡ setLegacy place (applyMask (masksOf kept) r) ⌝ }
 {
-    let masked = masks::apply_mask(kept, r);
+    let masked = masking::masks::apply_mask(kept, r);
     if place == place::EXTENDED_STATE_0 {
         return CpuidResult {
             eax: masked.eax | LEGACY_FEATURES,

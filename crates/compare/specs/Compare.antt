@@ -1,6 +1,6 @@
 -- May a guest of server A move to server B? The hypothesis of demand 3 (crates/rise/specs/Rise.antt), decided, or the first thing that
 -- fails: A's own refusal; then B's length, its counts, its reserved bytes; then, among the rows of A's table that come from an entry, by rising
--- leaf and subleaf, whether B has a first counted entry, and its EAX, EBX, ECX, EDX, each as its kind asks (crates/update/specs/Kinds.antt).
+-- leaf and subleaf, whether B has a first counted entry, and its EAX, EBX, ECX, EDX, each as its kind asks (crates/finish/specs/Kinds.antt).
 use mathlib.Core.Bool.{Bool}
 use mathlib.Core.List.{List}
 use Prim.Native.Nat.{ℕ}
@@ -15,9 +15,9 @@ use Rattle.table.specs.declared.Subleaf.the-variants.{None, Some}
 use Rattle.table.specs.declared.Verdict.{Verdict}
 use Rattle.table.specs.declared.Verdict.the-variants.{Accepted, Refused}
 use Rattle.table.specs.Rows.{Row, Rows}
-use Rattle.update.specs.Kinds.{Kinds, kindsAt}
+use Rattle.finish.specs.Kinds.{Kinds, kindsAt}
 use Rattle.build.specs.Build.{rowsFor, answer}
-use Rattle.lawful.specs.Lawful.{lawfulVerdict}
+use Rattle.collect.specs.Lawful.{lawfulVerdict}
 use Rattle.rise.specs.Decide.{risesTest, placeTest, inTable}
 use Rattle.register_kinds.specs.declared.Register.{Register}
 use Rattle.register_kinds.specs.Registers.{registersRise, firstOf, subleafNamed}

@@ -15,7 +15,7 @@ use Rattle.table.specs.Rows.{Row}
 use Rattle.table.specs.Table.{rowIn}
 use Rattle.memory.specs.Memory.{rowOf, isThere, rowsIn}
 use Rattle.memory.specs.Held.{flags, flag-at}
-use Rattle.update.specs.Kinds.{Kinds}
+use Rattle.finish.specs.Kinds.{Kinds}
 use Rattle.rows_checked.specs.Checked.{registersIn}
 use Rattle.rise.specs.Decide.{risesTest, rowTest, placeTest}
 use Rattle.compare.specs.declared.Compared.{Compared}

@@ -17,9 +17,9 @@ use Rattle.table.specs.declared.Verdict.{Verdict}
 use Rattle.table.specs.declared.Verdict.the-variants.{Accepted, Refused}
 use Rattle.table.specs.Rows.{Rows}
 use Rattle.features.specs.Finish.{ruleAt}
-use Rattle.update.specs.Kinds.{Kinds, EntryAtLeast, Registers, kindsAt, fromEntry}
+use Rattle.finish.specs.Kinds.{Kinds, EntryAtLeast, Registers, kindsAt, fromEntry}
 use Rattle.build.specs.Build.{rowsFor, answer}
-use Rattle.lawful.specs.Lawful.{lawfulVerdict}
+use Rattle.collect.specs.Lawful.{lawfulVerdict}
 use Rattle.rise.specs.Rise.{EntryRises, RiseHypothesis as Hypothesis}
 use Rattle.rise.specs.Decide.{risesTest, registersTest, placeTest, inTable, test-rises, rises-test, place-rises, rises-place}
 use Rattle.rise.specs.RiseProof.{demand-3}
@@ -28,7 +28,7 @@ use Rattle.register_kinds.specs.declared.Register.the-variants.{Eax, Ebx, Ecx, 
 use Rattle.compare.specs.declared.Compared.{Compared}
 use Rattle.compare.specs.declared.Compared.the-variants.{Rises, RefusedA, UnlawfulB, NoEntry, Differs}
 use Rattle.compare.specs.Compare.{firstRegister, failingAt, firstFailing, afterA, afterB, comparedRows, compared}
-use Rattle.compare.specs.ReturnLaws.{with-verdicts, refused-a}
+use Rattle.compare.specs.CompareReturnLaws.{with-verdicts, refused-a}
 use Rattle.compare.specs.Means.{Reached, Means, Decides}
 use Rattle.register_kinds.specs.Registers.{order, valueOf, kindOf, subleafNamed}
 use Rattle.register_kinds.specs.RegistersLaws.{is-false, register-fails, registers-before, first-unique}

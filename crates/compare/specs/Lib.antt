@@ -1,5 +1,5 @@
 pub mod Compare
 pub mod Means
 pub mod CompareLaws
-pub mod ReturnLaws
+pub mod CompareReturnLaws
 pub mod DecidesProof

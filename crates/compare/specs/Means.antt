@@ -11,9 +11,9 @@ use Rattle.table.specs.declared.Subleaf.{Subleaf}
 use Rattle.table.specs.declared.Verdict.the-variants.{Accepted, Refused}
 use Rattle.table.specs.Rows.{Row}
 use Rattle.features.specs.Finish.{ruleAt}
-use Rattle.update.specs.Kinds.{Kind, Kinds, EntryAtLeast, kindsAt, fromEntry}
+use Rattle.finish.specs.Kinds.{Kind, Kinds, EntryAtLeast, kindsAt, fromEntry}
 use Rattle.build.specs.Build.{rowsFor, answer}
-use Rattle.lawful.specs.Lawful.{lawfulVerdict}
+use Rattle.collect.specs.Lawful.{lawfulVerdict}
 use Rattle.rise.specs.Rise.{EntryRises, RiseConclusion, RiseHypothesis as Hypothesis}
 use Rattle.rise.specs.Decide.{inTable}
 use Rattle.register_kinds.specs.declared.Register.{Register}

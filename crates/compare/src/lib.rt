@@ -1,5 +1,5 @@
 // Two servers compared. The pages of A and B come in; whether a guest of A may move to B goes out, or the first thing in the way.
-use lawful::walk_pages;
+use collect::lawful::walk_pages;
 use masking::PLACES;
 use memory::REGISTERS;
 use memory::is_there;
@@ -23,7 +23,7 @@ ghost use Prim.Native.Nat.{_<_};
 ghost use Rattle.masking.specs.Kept.{places};
 ghost use Rattle.memory.specs.Memory.{rowsIn};
 ghost use Rattle.rows_checked.specs.Checked.{registersIn};
-ghost use Rattle.update.specs.Kinds.{kindsAt};
+ghost use Rattle.finish.specs.Kinds.{kindsAt};
 ghost use Rattle.rise.specs.Decide.{risesTest, rowTest};
 ghost use Rattle.register_kinds.specs.Registers.{registersRise};
 ghost use Rattle.compare.specs.Compare.{failingOf, comparedRows, compared};

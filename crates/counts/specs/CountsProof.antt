@@ -13,9 +13,9 @@ use Rattle.checks.specs.ExtendedState.{combinedMask}
 use Rattle.features.specs.Finish.{finished}
 use Rattle.checks.specs.ChecksLaws.{then-right, AllPass, all-pass}
 use Rattle.table.specs.Table.{tableOf}
-use Rattle.rows_built.specs.RowsBuilt.{tableFor}
+use Rattle.finish.specs.RowsBuilt.{tableFor}
 use Rattle.build.specs.Build.{rowsFor, editionVerdict, verdictOf, answer}
-use Rattle.lawful.specs.Lawful.{lawfulVerdict}
+use Rattle.collect.specs.Lawful.{lawfulVerdict}
 use Rattle.image.specs.Image.{image}
 use Rattle.counts.specs.Counts.{Counted, RowsCounted, SinglePageRefused}
 use Rattle.counts.specs.Standing.{stands, row-stands}

@@ -18,8 +18,8 @@ use Rattle.masking.specs.Place
 use Rattle.table.specs.Rows.{Rows}
 use Rattle.checks.specs.ExtendedState.{combinedMask}
 use Rattle.features.specs.Finish.{ruleAt, enabledBy, settings, remains, finished}
-use Rattle.finish_laws.specs.RemainsLaws.{finished-present}
-use Rattle.update.specs.PlaceLaws.{always, position, always-required}
+use Rattle.finish.specs.RemainsLaws.{finished-present}
+use Rattle.finish.specs.PlaceLaws.{always, position, always-required}
 use Rattle.checks.specs.ChecksLaws.{AllPass, required-present, component-present}
 
 -- D.k, k from 2 up

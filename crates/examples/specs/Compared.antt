@@ -11,13 +11,13 @@ use Rattle.table.specs.declared.Refusal.the-variants.{PagesLength, SaveAreaOver
 use Rattle.table.specs.declared.Verdict.the-variants.{Accepted}
 use Rattle.table.specs.Rows.{Rows}
 use Rattle.build.specs.Build.{rowsFor, answer}
-use Rattle.lawful.specs.Lawful.{lawfulVerdict}
-use Rattle.lawful.specs.LawfulLaws.{lawful-bad-length}
+use Rattle.collect.specs.Lawful.{lawfulVerdict}
+use Rattle.collect.specs.LawfulLaws.{lawful-bad-length}
 use Rattle.register_kinds.specs.declared.Register.the-variants.{Ecx}
 use Rattle.compare.specs.declared.Compared.the-variants.{Rises, RefusedA, UnlawfulB, NoEntry, Differs}
 use Rattle.compare.specs.Compare.{comparedRows, compared}
 use Rattle.compare.specs.CompareLaws.{hasRow}
-use Rattle.compare.specs.ReturnLaws.{with-verdicts, refused-a, unlawful-b}
+use Rattle.compare.specs.CompareReturnLaws.{with-verdicts, refused-a, unlawful-b}
 use Rattle.compare.specs.DecidesProof.{decides}
 use Rattle.page_sets.specs.PageSets.{serverA, serverB, serverWithoutD12, serverWithLargeD6}
 use Rattle.page_sets.specs.Pass.{passedFor, passedTable}

@@ -14,8 +14,8 @@ use Rattle.guest_state.specs.State.{stateVerdict}
 use Rattle.guest.specs.declared.Processor.{Processor}
 use Rattle.guest.specs.declared.GuestAnswer.{GuestAnswer}
 use Rattle.guest.specs.Guest.{guestTable}
-use Rattle.guest_pages.specs.GuestPages.{guestPages}
-use Rattle.guest_pages.specs.GuestPagesLaws.{given-guest}
+use Rattle.guest.specs.GuestPages.{guestPages}
+use Rattle.guest.specs.GuestPagesLaws.{given-guest}
 use Rattle.rise.specs.RiseProof.{answer-table}
 use Rattle.guest_rise.specs.GuestRise.{compactsIn, GuestTableRises, GuestOutcome}
 use Rattle.guest_rise.specs.GuestRise.GuestOutcome.{given, tooLarge}
@@ -23,7 +23,7 @@ use Rattle.guest_rise.specs.GuestRiseProof.{guest-rise}
 use Rattle.guest_rise.specs.GuestPreorder.{guest-rises-compose}
 use Rattle.examples.specs.Computed.{serverA-accepted, serverB-rises, serverB-accepted}
 use Rattle.examples.specs.Chain.{w-accepted, w-to-a}
-use Rattle.examples.specs.Seen.{viewed, processor, built, built-passed, state-passed, seen-verdict}
+use Rattle.examples.specs.SeenExamples.{viewed, processor, built, built-passed, state-passed, seen-verdict}
 
 abbrev pub viewW : Processor
 viewW = processor 1 0x3 0 true

@@ -14,11 +14,11 @@ use Rattle.page_sets.specs.PassLaws.{lawful-passed, verdict-passed}
 use Rattle.examples.specs.RisePassed.{rises-passed}
 use Rattle.guest_state.specs.State.{stateVerdict}
 use Rattle.guest.specs.Guest.{guestTable}
-use Rattle.guest_pages.specs.GuestPages.{guestPages}
+use Rattle.guest.specs.GuestPages.{guestPages}
 use Rattle.guest_rise.specs.GuestRise.{GuestOutcome}
 use Rattle.guest_rise.specs.GuestRiseProof.{guest-rise}
 use Rattle.page_sets.specs.Evaluation.{first}
-use Rattle.examples.specs.Seen.{viewed, processor, built, figures, state-passed, figures-passed, seen-verdict, seen-figures}
+use Rattle.examples.specs.SeenExamples.{viewed, processor, built, figures, state-passed, figures-passed, seen-verdict, seen-figures}
 use Rattle.examples.specs.Views.{viewA}
 
 -- a server with the given D.1.EAX, and D.2 of 2^32 - 1 bytes at offset 0

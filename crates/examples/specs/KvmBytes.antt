@@ -13,8 +13,8 @@ use Rattle.buffer.specs.declared.Written.the-variants.{Bytes}
 use Rattle.buffer.specs.Front.{writeFront}
 use Rattle.kvm_list.specs.Words.{bytesOfWords}
 use Rattle.kvm_list.specs.Format.{allWords, listBytes, rowAt, rowsIn}
-use Rattle.kvm_checks.specs.ListChecks.{badListLength, allLawful, fieldsLawful, rowsOn0, rowsOn1, rowsFit}
-use Rattle.kvm_pages.specs.TwoRows.{twoRows, page0, page1, two-pages}
+use Rattle.kvm_import.specs.ListChecks.{badListLength, allLawful, fieldsLawful, rowsOn0, rowsOn1, rowsFit}
+use Rattle.kvm_import.specs.TwoRows.{twoRows, page0, page1, two-pages}
 use Rattle.kvm_import.specs.Import.{listVerdict, readList}
 use Rattle.kvm_export.specs.Export.{rowsFrom, listRows, listOf}
 use Rattle.page_sets.specs.PageSets.{serverA}
@@ -39,7 +39,7 @@ pub row-of-d-2 : take 40 (drop 328 (listOf (answer first serverA .table)))
 unfolding passed serverA listOf listRows rowsFrom listBytes allWords bytesOfWords
 row-of-d-2 = ap (λ (t : CpuidResults). take 40 (drop 328 (listOf t))) (table-passed first serverA (verdict-passed first serverA))
 
--- ---- the list of two rows of crates/kvm_pages/specs/TwoRows.antt
+-- ---- the list of two rows of crates/kvm_import/specs/TwoRows.antt
 
 two-lawful : listVerdict twoRows ≡ Accepted
 unfolding listVerdict badListLength fieldsLawful allLawful rowsFit rowsIn rowAt rowsOn0 rowsOn1 tabulate keepIf

@@ -23,19 +23,19 @@ use Rattle.table.specs.Edition.{knownEdition}
 use Rattle.checks.specs.Checks.{requiredVerdict}
 use Rattle.collect.specs.Collect.{storedAt}
 use Rattle.build.specs.Build.{underEdition, editionVerdict, rowsFor, answer}
-use Rattle.lawful.specs.Lawful.{lawfulVerdict}
+use Rattle.collect.specs.Lawful.{lawfulVerdict}
 use Rattle.flips.specs.Flips.{flip, flipped, flips}
 use Rattle.flips.specs.OneBit.{bitIn, oneBit}
-use Rattle.flip_rows.specs.Same.{sameResult, sameRows, sameTable, sameNumbers, sameAnswer}
-use Rattle.flip_rows.specs.Changes.{changes}
-use Rattle.flip_rows.specs.RowLaws.{firstOf}
+use Rattle.search.specs.SameVerdict.{sameResult, sameRows, sameTable, sameNumbers, sameAnswer}
+use Rattle.search.specs.Changes.{changes}
+use Rattle.search.specs.FlippedRowLaws.{firstOf}
 use Rattle.nearest.specs.declared.Nearest.the-variants.{Bit, NoBit}
 use Rattle.nearest.specs.Nearest.{firstThat, unlessRefused, nearest}
-use Rattle.nearest_ends.specs.NearestExactly.{MissesRequired}
-use Rattle.nearest_ends.specs.Twenty.{twenty-exactly}
-use Rattle.nearest_ends.specs.Ends.{some-decides}
-use Rattle.nearest_ends.specs.WithoutInvlpgb.{InvlpgbNearest, refused-by-4}
-use Rattle.nearest_ends.specs.OutsideLaws.{Among, FirstAt}
+use Rattle.nearest_exactly.specs.NearestExactly.{MissesRequired}
+use Rattle.nearest_exactly.specs.Twenty.{twenty-exactly}
+use Rattle.nearest_exactly.specs.Ends.{some-decides}
+use Rattle.nearest_exactly.specs.WithoutInvlpgb.{InvlpgbNearest, refused-by-4}
+use Rattle.nearest_exactly.specs.OutsideLaws.{Among, FirstAt}
 use Rattle.page_sets.specs.PageSets.{word, entry, page, requiredEntries, firstPage, stateEntries, serverA}
 use Rattle.page_sets.specs.Pass.{entryIn, onPagesIn}
 use Rattle.page_sets.specs.PassLaws.{entries-passed, lawful-passed, rows-passed, verdict-passed}

@@ -14,8 +14,8 @@ use Rattle.table.specs.declared.Verdict.the-variants.{Accepted}
 use Rattle.build.specs.Build.{answer}
 use Rattle.flips.specs.declared.Flip.{Flip}
 use Rattle.flips.specs.Flips.{flip, flipped, flipsOf, flipsIn, flips}
-use Rattle.flip_rows.specs.Same.{sameAnswer}
-use Rattle.flip_rows.specs.Changes.{changes}
+use Rattle.search.specs.SameVerdict.{sameAnswer}
+use Rattle.search.specs.Changes.{changes}
 use Rattle.nearest.specs.declared.Nearest.the-variants.{Bit}
 use Rattle.nearest.specs.Nearest.{firstThat, frontVerdict, unlessRefused, nearest}
 use Rattle.page_sets.specs.Pass.{passedTable}

@@ -12,15 +12,15 @@ use Rattle.masking.specs.Kept.{places}
 use Rattle.masking.specs.Place
 use Rattle.table.specs.declared.Verdict.the-variants.{Accepted}
 use Rattle.table.specs.Rows.{Row}
-use Rattle.origins.specs.Origin.{Origin, isMadeHere, originOf}
-use Rattle.origins.specs.Origin.Origin.{madeHere, entry}
-use Rattle.locate.specs.Stands.{standsAt}
+use Rattle.memory.specs.Origin.{Origin, isMadeHere, originOf}
+use Rattle.memory.specs.Origin.Origin.{madeHere, entry}
+use Rattle.collect.specs.Stands.{standsAt}
 use Rattle.features.specs.Finish.{ruleAt}
-use Rattle.update.specs.PlaceLaws.{always}
+use Rattle.finish.specs.PlaceLaws.{always}
 use Rattle.build.specs.Build.{answer, originAt}
 use Rattle.rise.specs.RiseProof.{answer-row}
 use Rattle.rise.specs.BuiltLaws.{always-finished}
-use Rattle.located.specs.LocatedProof.{rows-have-origins}
+use Rattle.rise.specs.LocatedProof.{rows-have-origins}
 use Rattle.page_sets.specs.PageSets.{entry as entryBytes, page, requiredEntries, stateEntries}
 use Rattle.page_sets.specs.PassLaws.{counted-passed, verdict-passed}
 use Rattle.page_sets.specs.Evaluation.{first, passed}

@@ -11,9 +11,9 @@ use Rattle.table.specs.declared.Refusal.the-variants.{MissingRequiredResult, To
 use Rattle.table.specs.declared.Verdict.{Verdict}
 use Rattle.table.specs.declared.Verdict.the-variants.{Refused}
 use Rattle.build.specs.Build.{answer}
-use Rattle.added.specs.Added.{Added}
-use Rattle.added.specs.AddedProof.{added-same}
-use Rattle.added.specs.Decide.{figuresOf, figuresWanted, added-by-figures}
+use Rattle.rise.specs.Added.{Added}
+use Rattle.rise.specs.AddedProof.{added-same}
+use Rattle.rise.specs.AddedDecide.{figuresOf, figuresWanted, added-by-figures}
 use Rattle.page_sets.specs.PageSets.{entry, page, firstPage, serverA}
 use Rattle.page_sets.specs.Pass.{passedLawful}
 use Rattle.page_sets.specs.PassLaws.{lawful-passed, verdict-passed}

@@ -5,19 +5,19 @@ use mathlib.Core.List.{List, [], _∷_, _++_}
 use Prim.Native.Nat.{ℕ}
 use lib.ListN.{replicate}
 use Rattle.x86defs.specs.Functions.{function}
-use Rattle.reserved.specs.Reserved.{allClean}
+use Rattle.pages.specs.Reserved.{allClean}
 use Rattle.table.specs.declared.Refusal.the-variants.{PageCount, ReservedBytes}
 use Rattle.table.specs.declared.Verdict.the-variants.{Accepted, Refused}
 use Rattle.table.specs.Edition.{knownEdition}
 use Rattle.build.specs.declared.Built.{Built}
-use Rattle.lawful.specs.Lawful.{lawfulVerdict}
+use Rattle.collect.specs.Lawful.{lawfulVerdict}
 use Rattle.build.specs.Build.{answer}
 use Rattle.build.specs.BuildLaws.{answer-unlawful}
-use Rattle.lawful.specs.LawfulLaws.{lawful-clean}
+use Rattle.collect.specs.LawfulLaws.{lawful-clean}
 use Rattle.rise.specs.RiseProof.{accepted-lawful}
 use Rattle.compare.specs.declared.Compared.the-variants.{UnlawfulB}
 use Rattle.compare.specs.Compare.{compared}
-use Rattle.compare.specs.ReturnLaws.{unlawful-b}
+use Rattle.compare.specs.CompareReturnLaws.{unlawful-b}
 use Rattle.page_sets.specs.PassLaws.{lawful-passed, verdict-passed}
 use Rattle.page_sets.specs.Evaluation.{first, passed}
 use Rattle.page_sets.specs.PageSets.{word, page, requiredEntries, stateEntries, serverA}

@@ -15,12 +15,12 @@ use Rattle.examples.specs.Computed.{serverA-accepted, serverB-rises, ser
 use Rattle.guest_state.specs.State.{stateVerdict}
 use Rattle.guest.specs.declared.Processor.{Processor}
 use Rattle.guest.specs.Guest.{guestTable, refusedAnswer}
-use Rattle.guest_pages.specs.GuestPages.{guestPages}
-use Rattle.guest_pages.specs.GuestPagesLaws.{given-guest, building-first}
+use Rattle.guest.specs.GuestPages.{guestPages}
+use Rattle.guest.specs.GuestPagesLaws.{given-guest, building-first}
 use Rattle.guest_rise.specs.GuestRise.{GuestOutcome}
 use Rattle.guest_rise.specs.GuestRiseProof.{guest-rise}
 use Rattle.page_sets.specs.Evaluation.{first}
-use Rattle.examples.specs.Seen.{viewed, processor, built, figures, built-passed, state-passed, figures-passed, seen-verdict, seen-figures}
+use Rattle.examples.specs.SeenExamples.{viewed, processor, built, figures, built-passed, state-passed, figures-passed, seen-verdict, seen-figures}
 
 -- ---- server A, all of its state, OSXSAVE on: bit 27 of 1.ECX is set
 

@@ -14,11 +14,11 @@ use Rattle.guest_state.specs.State.{stateVerdict}
 use Rattle.rise.specs.RiseProof.{answer-table}
 use Rattle.page_sets.specs.Evaluation.{first}
 use Rattle.examples.specs.WithoutYmm.{withoutYmm, first-accepted, second-figures}
-use Rattle.examples.specs.Seen.{viewed, built, state-passed}
+use Rattle.examples.specs.SeenExamples.{viewed, built, state-passed}
 use Rattle.table.specs.declared.Refusal.the-variants.{UnknownEdition, EditionBack}
 use Rattle.table.specs.declared.Verdict.the-variants.{Accepted, Refused}
 use Rattle.carry.specs.Carry.{carryVerdict, carry}
-use Rattle.carried.specs.MovesProof.{moves-to-second}
+use Rattle.images.specs.MovesProof.{moves-to-second}
 
 abbrev pub running : CpuidResults
 running = answer first withoutYmm .table

@@ -10,11 +10,11 @@ use lib.Seq.{getD-set-other}
 use Rattle.bits.specs.Search.{every}
 use Rattle.pages.specs.Layout.{pagesIn, countOf, mostEntries, entryStart, badLength, countsFit}
 use Rattle.pages.specs.LayoutLaws.{counts-fit-at}
-use Rattle.reserved.specs.Reserved.{cleanAt, reservedAt, allClean}
-use Rattle.reserved.specs.ReservedLaws.{clean-at, all-clean}
-use Rattle.reserved.specs.ZerosLaws.{zero-byte, zero-bytes}
+use Rattle.pages.specs.Reserved.{cleanAt, reservedAt, allClean}
+use Rattle.pages.specs.ReservedLaws.{clean-at, all-clean}
+use Rattle.pages.specs.ZerosLaws.{zero-byte, zero-bytes}
 use Rattle.flips.specs.Flips.{flip, flippedByte, flipped}
-use Rattle.flips.specs.EntryLaws.{Inside, known, same-length, same-pages, same-count}
+use Rattle.flips.specs.FlippedEntryLaws.{Inside, known, same-length, same-pages, same-count}
 
 module _ (s : List ℕ) (p q r k : ℕ) (h : Inside s p q r k) where
   pub length-lawful : badLength s ≡ false → badLength (flipped s (flip p q r k)) ≡ false

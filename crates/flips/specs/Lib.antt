@@ -2,7 +2,7 @@ pub mod Flips
 pub mod OneBit
 pub mod OneBitLaws
 pub mod WordLaws
-pub mod EntryLaws
+pub mod FlippedEntryLaws
 pub mod CleanLaws
-pub mod ListLaws
+pub mod FlippedListLaws
 pub mod FlipOrder

@@ -3,5 +3,8 @@ pub mod Seen
 pub mod GuestLaws
 pub mod SeenLaws
 pub mod FindLaws
-pub mod TableLaws
+pub mod GuestTableLaws
 pub mod SeenExactly
+pub mod GuestPages
+pub mod GuestPagesLaws
+pub mod FromMemory

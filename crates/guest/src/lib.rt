@@ -29,6 +29,8 @@ ghost use Rattle.guest_state.specs.State.{saveRegister};
 ghost use Rattle.guest.specs.Guest.{osxsaveSeen, versionSeen, levelSeen, sizeSeen, seenAt, guestAnswer};
 ghost use Rattle.guest.specs.Seen.{tableWith, foundIn, SeenIn};
 
+pub mod from_pages;
+
 // A processor: its x2APIC number, XCR0, XSS, and whether OSXSAVE is on.
 pub struct Processor {
     pub x2apic: u32,

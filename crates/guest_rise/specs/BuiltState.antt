@@ -18,8 +18,8 @@ use Rattle.checks.specs.ExtendedStateLaws.{area-mono, in-combined}
 use Rattle.checks.specs.ChecksLaws.{component-present}
 use Rattle.table.specs.declared.CpuidResults.{CpuidResults}
 use Rattle.features.specs.Finish.{Rule, ruleAt, settings, finish, finished}
-use Rattle.update.specs.PlaceLaws.{always, component-rule}
-use Rattle.finish_laws.specs.RemainsLaws.{component-finished}
+use Rattle.finish.specs.PlaceLaws.{always, component-rule}
+use Rattle.finish.specs.RemainsLaws.{component-finished}
 use Rattle.table.specs.Table.{rowIn, rowsIn}
 use Rattle.build.specs.Build.{rowsFor, answer}
 use Rattle.rise.specs.RiseProof.{answer-row}

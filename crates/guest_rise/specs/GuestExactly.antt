@@ -20,8 +20,8 @@ use Rattle.refusals.specs.ExactlyProof.{not-built}
 use Rattle.guest.specs.declared.Processor.{Processor}
 use Rattle.guest.specs.declared.GuestAnswer.{GuestAnswer}
 use Rattle.guest.specs.Guest.{guestTable, refusedAnswer}
-use Rattle.guest_pages.specs.GuestPages.{guestPages, writeGuest}
-use Rattle.guest_pages.specs.GuestPagesLaws.{building-first, guest-verdict, refused-guest, given-guest}
+use Rattle.guest.specs.GuestPages.{guestPages, writeGuest}
+use Rattle.guest.specs.GuestPagesLaws.{building-first, guest-verdict, refused-guest, given-guest}
 use Rattle.guest_rise.specs.StateExactly.{Allowed, SizeFault, StateAnswers, state-answers}
 use Rattle.guest_rise.specs.StateExactly.StateAnswers.{beyond, large, given}
 

@@ -7,7 +7,7 @@ use Rattle.bits.specs.BitsLaws.{within-refl, within-trans}
 use Rattle.masking.specs.Place
 use Rattle.table.specs.declared.CpuidResults.{CpuidResults}
 use Rattle.table.specs.Table.{rowIn}
-use Rattle.update.specs.Kinds.{kindsAt}
+use Rattle.finish.specs.Kinds.{kindsAt}
 use Rattle.rise.specs.Preorder.{registers-itself, registers-compose, further-composes-first, further-composes-second}
 use Rattle.guest_rise.specs.GuestRise.{compactsIn, GuestTableRises}
 use Rattle.guest_rise.specs.StateExactly.{compacts-mono}

@@ -14,13 +14,13 @@ use Rattle.table.specs.declared.CpuidResults.{CpuidResults}
 use Rattle.table.specs.declared.Refusal.the-variants.{CompactSizeTooLarge}
 use Rattle.table.specs.declared.Verdict.the-variants.{Accepted, Refused}
 use Rattle.table.specs.Table.{rowIn}
-use Rattle.update.specs.Kinds.{TableAtLeast, Registers, kindsAt}
+use Rattle.finish.specs.Kinds.{TableAtLeast, Registers, kindsAt}
 use Rattle.build.specs.Build.{answer}
 use Rattle.rise.specs.Rise.{Further, RiseHypothesis}
 use Rattle.guest_state.specs.State.{compacts}
 use Rattle.guest.specs.declared.Processor.{Processor}
 use Rattle.guest.specs.declared.GuestAnswer.{GuestAnswer}
-use Rattle.guest_pages.specs.GuestPages.{guestPages}
+use Rattle.guest.specs.GuestPages.{guestPages}
 
 -- whether D.1.EAX of a table has bit 1 or bit 3
 abbrev pub compactsIn : CpuidResults → Bool

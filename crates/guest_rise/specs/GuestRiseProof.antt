@@ -19,8 +19,8 @@ use Rattle.guest_state.specs.State.{saveRegister, stateVerdict}
 use Rattle.guest.specs.declared.Processor.{Processor}
 use Rattle.guest.specs.SeenLaws.{seen-there}
 use Rattle.guest.specs.declared.GuestAnswer.{GuestAnswer}
-use Rattle.guest_pages.specs.GuestPages.{guestPages}
-use Rattle.guest_pages.specs.GuestPagesLaws.{accepted-guest, guest-verdict, given-guest}
+use Rattle.guest.specs.GuestPages.{guestPages}
+use Rattle.guest.specs.GuestPagesLaws.{accepted-guest, guest-verdict, given-guest}
 use Rattle.guest_rise.specs.GuestRise.{compactsIn, GuestOutcome, GuestRise}
 use Rattle.guest_rise.specs.StateExactly.{Allowed, given-allowed}
 use Rattle.guest_rise.specs.BuiltState.{built-supplied, built-fits}

@@ -22,8 +22,8 @@ use Rattle.rise.specs.RiseProof.{demand-3}
 use Rattle.guest.specs.declared.Processor.{Processor}
 use Rattle.guest.specs.declared.GuestAnswer.{GuestAnswer}
 use Rattle.guest.specs.Guest.{refusedAnswer}
-use Rattle.guest_pages.specs.GuestPages.{guestPages}
-use Rattle.guest_pages.specs.GuestPagesLaws.{building-first, refused-guest}
+use Rattle.guest.specs.GuestPages.{guestPages}
+use Rattle.guest.specs.GuestPagesLaws.{building-first, refused-guest}
 use Rattle.guest_rise.specs.GuestRise.{compactsIn, GuestTableRises, GuestOutcome}
 use Rattle.guest_rise.specs.GuestRise.GuestOutcome.{given as gives, tooLarge as fourteen}
 use Rattle.guest_rise.specs.GuestRiseProof.{guest-rise}

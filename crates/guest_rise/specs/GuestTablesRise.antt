@@ -18,9 +18,9 @@ use Rattle.table.specs.Rows.{Rows}
 use Rattle.table.specs.Table.{rowIn, rowsIn}
 use Rattle.checks.specs.ExtendedState.{xfem, combinedMask, saveArea}
 use Rattle.checks.specs.ExtendedStateLaws.{area-mono, xss-mono}
-use Rattle.update.specs.Kinds.{Kinds, TableAtLeast, Registers, kinds}
-use Rattle.update.specs.Kinds.Kind.{other}
-use Rattle.finish_laws.specs.RuleKinds.{component-kinds}
+use Rattle.finish.specs.Kinds.{Kinds, TableAtLeast, Registers, kinds}
+use Rattle.finish.specs.Kinds.Kind.{other}
+use Rattle.finish.specs.RuleKinds.{component-kinds}
 use Rattle.rise.specs.Rise.{Further, TableRises}
 use Rattle.guest_state.specs.Compact.{compactSize}
 use Rattle.guest_state.specs.CompactLaws.{compact-same}

@@ -13,7 +13,7 @@ use Rattle.x86defs.specs.declared.CpuidResult.{CpuidResult}
 use Rattle.masking.specs.Kept.{keptLeaves, slot}
 use Rattle.masking.specs.Place
 use Rattle.table.specs.Rows.{row}
-use Rattle.update.specs.Kinds.{registerKinds, kindsAt}
+use Rattle.finish.specs.Kinds.{registerKinds, kindsAt}
 use Rattle.guest.specs.declared.Processor.{Processor}
 use Rattle.guest.specs.Guest.{numberSeen, osxsaveSeen, versionSeen, levelSeen, sizeSeen, seenAt}
 use Rattle.guest_rise.specs.GuestRise.{RowRises}

@@ -18,7 +18,7 @@ use Rattle.table.specs.declared.CpuidResults.{CpuidResults}
 use Rattle.table.specs.Rows.{Row}
 use Rattle.table.specs.Table.{rowIn}
 use Rattle.image.specs.Image.{placeBytes, image}
-use Rattle.image.specs.Pieces.{rowsFrom, rowsAmong}
+use Rattle.image.specs.ImagePieces.{rowsFrom, rowsAmong}
 use Rattle.image.specs.PiecesLaws.{rows-more, rows-all, rows-none}
 
 -- ---- counting rows

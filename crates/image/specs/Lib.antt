@@ -1,4 +1,6 @@
 pub mod Image
-pub mod Pieces
+pub mod ImagePieces
 pub mod PiecesLaws
 pub mod LengthLaws
+pub mod Write
+pub mod WriteLaws

@@ -27,7 +27,7 @@ use Rattle.table.specs.OrderLaws.{row-order}
 use Rattle.image.specs.Image.{placeBytes, imageIn, image}
 use Rattle.buffer.specs.Front.{wordBytes, registerBytes}
 use Rattle.buffer.specs.FrontLaws.{sets-append}
-use Rattle.image.specs.Pieces.{indexedRow, wholeRow, rowsFrom, runRow}
+use Rattle.image.specs.ImagePieces.{indexedRow, wholeRow, rowsFrom, runRow}
 
 -- ---- stores one after another
 

@@ -7,10 +7,13 @@ ghost use Rattle.bits.specs.Lists.{one};
 ghost use Rattle.masking.specs.Kept.{places};
 ghost use Rattle.memory.specs.Held.{heldIn, flags};
 ghost use Rattle.image.specs.Image.{image};
-ghost use Rattle.image.specs.Pieces.{rowsAmong};
+ghost use Rattle.image.specs.ImagePieces.{rowsAmong};
 use masking::PLACES;
 use masking::run;
 use memory::is_there;
+
+pub mod from_pages;
+pub mod write;
 
 // How many bytes the image of a table has: 25 for a row with a subleaf, 21 for one without.
 pub fn image_length(origins: &[u64; PLACES]) -> usize

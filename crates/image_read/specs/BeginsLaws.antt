@@ -19,7 +19,7 @@ use Rattle.masking.specs.Kept.{leafAt, indexedAt, subleafAt}
 use Rattle.masking.specs.Runs.{lawful}
 use Rattle.masking.specs.RunLaws.{leaf-in-run, indexed-in-run, subleaf-in-run}
 use Rattle.image_read.specs.ReadImage.{registersAt, opens, begins}
-use Rattle.image_read.specs.Runs.{runBegins}
+use Rattle.image_read.specs.ImageRuns.{runBegins}
 
 -- ---- what is left, by its index
 

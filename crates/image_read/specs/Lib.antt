@@ -1,5 +1,5 @@
 pub mod ReadImage
-pub mod Runs
+pub mod ImageRuns
 pub mod BeginsLaws
 pub mod ReadIn
 pub mod ReadingLaws

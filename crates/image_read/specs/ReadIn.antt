@@ -8,8 +8,8 @@ use Rattle.bits.specs.Choice.{pick}
 use Rattle.bits.specs.Lists.{tabulate}
 use Rattle.masking.specs.Kept.{places}
 use Rattle.table.specs.Table.{rowIn}
-use Rattle.origins.specs.Origin.{originNumber}
-use Rattle.origins.specs.Origin.Origin.{neither, notKnown}
+use Rattle.memory.specs.Origin.{originNumber}
+use Rattle.memory.specs.Origin.Origin.{neither, notKnown}
 use Rattle.memory.specs.Memory.{layout}
 use Rattle.image_read.specs.ReadImage.{left, rowsRead, readImage}
 

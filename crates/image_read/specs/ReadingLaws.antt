@@ -18,8 +18,8 @@ use Rattle.x86defs.specs.Functions.{result}
 use Rattle.masking.specs.Kept.{places, indexedAt}
 use Rattle.table.specs.Rows.{Row, row, vacant}
 use Rattle.table.specs.Table.{rowIn}
-use Rattle.origins.specs.Origin.{originNumber}
-use Rattle.origins.specs.Origin.Origin.{notKnown}
+use Rattle.memory.specs.Origin.{originNumber}
+use Rattle.memory.specs.Origin.Origin.{notKnown}
 use Rattle.memory.specs.Memory.{putRow, layout, rowList}
 use Rattle.memory.specs.MemoryLaws.{put-length, put-is-set, known-by-rows, layout-ext}
 use Rattle.memory.specs.Held.{whole-row}

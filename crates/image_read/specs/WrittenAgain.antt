@@ -21,7 +21,7 @@ use Rattle.table.specs.Table.{tableOf, rowIn}
 use Rattle.table.specs.Fits.{Fits}
 use Rattle.buffer.specs.Front.{bytesOf, resultBytes}
 use Rattle.image.specs.Image.{rowBytes, placeBytes, image}
-use Rattle.image.specs.Pieces.{rowsFrom}
+use Rattle.image.specs.ImagePieces.{rowsFrom}
 use Rattle.image.specs.PiecesLaws.{rows-more, rows-all, rows-none}
 use Rattle.image_read.specs.ReadImage.{registersAt, opens, begins, rowRead, afterRow, left, rowsRead, isImage, readImage}
 

@@ -3,8 +3,8 @@ use masking::PLACES;
 use masking::Run;
 use memory::REGISTERS;
 use memory::clear;
+use memory::origins::NOT_KNOWN;
 use memory::put_row;
-use origins::NOT_KNOWN;
 use pages::word_at;
 use table::CpuidResults;
 use x86defs::CpuidFunction;
@@ -16,7 +16,7 @@ ghost use Rattle.bits.specs.Choice.{pick};
 ghost use Rattle.memory.specs.Held.{heldIn};
 ghost use Rattle.image_read.specs.ReadImage.{registersAt, opens, readImage};
 ghost use Rattle.image_read.specs.ReadIn.{FoundIn, ReadIn};
-ghost use Rattle.image_read.specs.Runs.{runBegins};
+ghost use Rattle.image_read.specs.ImageRuns.{runBegins};
 
 // The bytes of a row without a subleaf, and of one with.
 const WHOLE_ROW: usize = 21;

@@ -21,13 +21,13 @@ use Rattle.table.specs.Fits.{Fits}
 use Rattle.checks.specs.ExtendedState.{xssOf, xfem, xss, combinedMask}
 use Rattle.checks.specs.TopologyInputs.{inputsOf}
 use Rattle.features.specs.Finish.{settings, finished}
-use Rattle.finish_laws.specs.FitLaws.{SettingsFit, finished-fits}
+use Rattle.finish.specs.FitLaws.{SettingsFit, finished-fits}
 use Rattle.collect.specs.RowsFit.{rows-fit}
 use Rattle.build.specs.Build.{rowsFor, answer}
 use Rattle.rise.specs.RiseProof.{answer-row, answer-mask}
 use Rattle.rise.specs.Same.{finished-absent}
 use Rattle.rise.specs.BuiltLaws.{area-fits, built-mask}
-use Rattle.images.specs.TableLaws.{Plain, rows-told, same-image}
+use Rattle.images.specs.ImageTableLaws.{Plain, rows-told, same-image}
 use Rattle.images.specs.Images.{SameTable, EqualImages}
 
 threads-fit : (t : ℕ) → Fits (threadLevel t)

@@ -1,6 +1,6 @@
 pub mod Export
-pub mod Pieces
+pub mod ExportPieces
 pub mod RunRowLaws
-pub mod ListLaws
-pub mod AnswerLaws
+pub mod ExportListLaws
+pub mod ExportLaws
 pub mod Flags

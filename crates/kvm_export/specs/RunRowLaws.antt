@@ -21,7 +21,7 @@ use Rattle.kvm_list.specs.Words.{bytesOfWords}
 use Rattle.kvm_list.specs.Format.{rowWords}
 use Rattle.kvm_list.specs.StoresLaws.{five-pieces, word-length, registers-length}
 use Rattle.kvm_export.specs.Export.{listRow}
-use Rattle.kvm_export.specs.Pieces.{rowBytes, runRow}
+use Rattle.kvm_export.specs.ExportPieces.{rowBytes, runRow}
 
 -- ---- one row
 

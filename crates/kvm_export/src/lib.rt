@@ -24,7 +24,7 @@ ghost use lib.Seq.{sets};
 ghost use Rattle.memory.specs.Held.{heldIn};
 ghost use Rattle.buffer.specs.Front.{writeFront};
 ghost use Rattle.kvm_export.specs.Export.{listOf, writeList};
-ghost use Rattle.kvm_export.specs.Pieces.{rowBytes, runRow, rowsLeft};
+ghost use Rattle.kvm_export.specs.ExportPieces.{rowBytes, runRow, rowsLeft};
 
 // Builds the table of the given pages and writes its list. Building's refusals come first, and leave the buffer as it was.
 pub fn write_list(pages: &[u8], choices: Choices, out: &mut [u8]) -> Written

@@ -9,8 +9,8 @@ use Rattle.table.specs.declared.Verdict.{Verdict}
 use Rattle.table.specs.declared.Verdict.the-variants.{Accepted, Refused}
 use Rattle.buffer.specs.Front.{AfterWrite, writeVerdict}
 use Rattle.kvm_list.specs.Format.{rowsIn}
-use Rattle.kvm_checks.specs.ListChecks.{badListLength, fieldsLawful, rowsFit}
-use Rattle.kvm_pages.specs.ListPages.{pagesOf}
+use Rattle.kvm_import.specs.ListChecks.{badListLength, fieldsLawful, rowsFit}
+use Rattle.kvm_import.specs.ListPages.{pagesOf}
 
 -- 10, then 12, then 11
 unfoldable pub listVerdict : List ℕ → Verdict

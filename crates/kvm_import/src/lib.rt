@@ -1,13 +1,16 @@
 // From a list of KVM to pages. A list's bytes and a lent buffer come in; two pages go out, or a refusal and the buffer as it was.
+use crate::list_checks::bad_list_length;
+use crate::list_checks::check_rows;
+use crate::list_checks::row_count;
+use crate::list_pages::PAGE_SIZE;
+use crate::list_pages::put_pages;
 use buffer::Written;
-use kvm_checks::bad_list_length;
-use kvm_checks::check_rows;
-use kvm_checks::row_count;
-use kvm_pages::PAGE_SIZE;
-use kvm_pages::put_pages;
 use table::Refusal;
 ghost use mathlib.Core.Path.{_≡_};
 ghost use Rattle.kvm_import.specs.Import.{readList};
+
+mod list_checks;
+mod list_pages;
 
 const MOST_ENTRIES: usize = 64;
 

@@ -13,9 +13,9 @@ use Rattle.table.specs.declared.Subleaf.the-variants.{None, Some}
 use Rattle.table.specs.declared.Refusal.the-variants.{BufferTooShort}
 use Rattle.buffer.specs.declared.Written.the-variants.{Bytes, Refused}
 use Rattle.buffer.specs.Front.{writeFront}
-use Rattle.line_bytes.specs.declared.LineDetails.{LineDetails}
-use Rattle.line_bytes.specs.NumbersInUse.{rows, names}
-use Rattle.line_bytes.specs.Line.{Fits, fields, writable, line}
+use Rattle.lines.specs.declared.bytes.LineDetails.{LineDetails}
+use Rattle.lines.specs.NumbersInUse.{rows, names}
+use Rattle.lines.specs.Line.{Fits, fields, writable, line}
 use Rattle.lines.specs.declared.LineRead.the-variants.{NoSuchLine}
 use Rattle.lines.specs.declared.LineWritten.the-variants.{Line as Answered, NoSuchLine as NotWritten}
 use Rattle.lines.specs.WriteLine.{leaves, writeLine}

@@ -1,3 +1,8 @@
+pub mod NumbersInUse
+pub mod NumbersInUseLaws
+pub mod Line
+pub mod LineLaws
+pub mod NumbersNamed
 pub mod WriteLine
 pub mod ReadLine
 pub mod ReadLineLaws

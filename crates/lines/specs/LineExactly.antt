@@ -17,10 +17,10 @@ use Rattle.table.specs.declared.Refusal.{Refusal}
 use Rattle.table.specs.declared.Refusal.the-variants.{BufferTooShort}
 use Rattle.buffer.specs.declared.Written.the-variants.{Bytes, Refused}
 use Rattle.buffer.specs.Front.{writeFront}
-use Rattle.line_bytes.specs.declared.LineDetails.{LineDetails}
-use Rattle.line_bytes.specs.declared.names.Named.{Named}
-use Rattle.line_bytes.specs.NumbersInUse.{names}
-use Rattle.line_bytes.specs.Line.{isNone, mostS, writableAs, writable, line}
+use Rattle.lines.specs.declared.bytes.LineDetails.{LineDetails}
+use Rattle.lines.specs.declared.bytes.names.Named.{Named}
+use Rattle.lines.specs.NumbersInUse.{names}
+use Rattle.lines.specs.Line.{isNone, mostS, writableAs, writable, line}
 use Rattle.lines.specs.declared.LineWritten.the-variants.{Line, NoSuchLine}
 use Rattle.lines.specs.WriteLine.{AfterLine, writeLine}
 

@@ -18,14 +18,14 @@ use Rattle.table.specs.declared.Refusal.{Refusal}
 use Rattle.table.specs.declared.Refusal.the-variants.{PagesLength, PageCount, MissingRequiredResult, InvlpgbUnavailable, SaveAreaOverflow, TopologyInconsistent, BufferTooShort, ListLength, ListRows, ListFields, StateBeyondTable, CompactSizeTooLarge, UnknownEdition, EditionBack, ReservedBytes, PoolSets, PoolDiffers, NothingDecides}
 use Rattle.table.specs.Refusal.{Details, details}
 use Rattle.buffer.specs.declared.Written.the-variants.{Bytes, Refused}
-use Rattle.line_bytes.specs.declared.LineDetails.{LineDetails}
-use Rattle.line_bytes.specs.declared.names.Named.{Named}
+use Rattle.lines.specs.declared.bytes.LineDetails.{LineDetails}
+use Rattle.lines.specs.declared.bytes.names.Named.{Named}
 use Rattle.lines.specs.declared.LineRead.the-variants.{Line, NoSuchLine}
 use Rattle.lines.specs.declared.LineWritten.the-variants.{Line as Answered, NoSuchLine as NotWritten}
 use Rattle.digits.specs.Digits.{width, decimal}
 use Rattle.digits.specs.DigitsLaws.{AtLeast, none, next, at-least-append, digits-at-least}
-use Rattle.line_bytes.specs.NumbersInUse.{rows, names}
-use Rattle.line_bytes.specs.Line.{newline, space, Fits, mostS, leafField, subleafField, sField, fieldsAs, fields, writable, line}
+use Rattle.lines.specs.NumbersInUse.{rows, names}
+use Rattle.lines.specs.Line.{newline, space, Fits, mostS, leafField, subleafField, sField, fieldsAs, fields, writable, line}
 use Rattle.lines.specs.WriteLine.{AfterLine, leaves, writeLine}
 use Rattle.lines.specs.WriteLineLaws.{write-none, write-short, write-whole, front}
 use Rattle.lines.specs.ReadLine.{guess, sameBytes, readLine}

@@ -9,10 +9,10 @@ use Rattle.bits.specs.Choice.{pick}
 use Rattle.digits.specs.Field.{fieldFrom, after}
 use Rattle.table.specs.declared.Subleaf.{Subleaf}
 use Rattle.table.specs.declared.Subleaf.the-variants.{None, Some}
-use Rattle.line_bytes.specs.declared.LineDetails.{LineDetails}
-use Rattle.line_bytes.specs.declared.names.Named.{Named}
-use Rattle.line_bytes.specs.NumbersInUse.{names}
-use Rattle.line_bytes.specs.Line.{writable, line}
+use Rattle.lines.specs.declared.bytes.LineDetails.{LineDetails}
+use Rattle.lines.specs.declared.bytes.names.Named.{Named}
+use Rattle.lines.specs.NumbersInUse.{names}
+use Rattle.lines.specs.Line.{writable, line}
 use Rattle.lines.specs.declared.LineRead.{LineRead}
 use Rattle.lines.specs.declared.LineRead.the-variants.{Line, NoSuchLine}
 

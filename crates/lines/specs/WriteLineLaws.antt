@@ -9,8 +9,8 @@ use lib.Seq.{sets, sets-eq, take-at}
 use Rattle.table.specs.declared.Refusal.the-variants.{BufferTooShort}
 use Rattle.buffer.specs.declared.Written.the-variants.{Bytes, Refused}
 use Rattle.buffer.specs.FrontLaws.{front-short, front-whole}
-use Rattle.line_bytes.specs.declared.LineDetails.{LineDetails}
-use Rattle.line_bytes.specs.Line.{writable, line}
+use Rattle.lines.specs.declared.bytes.LineDetails.{LineDetails}
+use Rattle.lines.specs.Line.{writable, line}
 use Rattle.lines.specs.declared.LineWritten.the-variants.{Line, NoSuchLine}
 use Rattle.lines.specs.WriteLine.{leaves, writeLine}
 

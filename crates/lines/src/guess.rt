@@ -1,8 +1,8 @@
 // What bytes would say if they were a line. Any bytes come in; the number and details that a line with these fields would have go out.
+use crate::bytes::LineDetails;
+use crate::bytes::names::names_of;
 use digits::Field;
 use digits::field_at;
-use line_bytes::LineDetails;
-use line_bytes::names::names_of;
 use table::Subleaf;
 ghost use mathlib.Core.Path.{_≡_};
 ghost use Prim.Native.Nat.{_≤_};

@@ -1,20 +1,21 @@
 // A refusal as one line of ASCII. Its number and details come in with a lent buffer, and the line's bytes go out; or bytes come in, and the
 // number and details whose line they are go out.
+use crate::bytes::LineDetails;
+use crate::bytes::names::names_of;
+use crate::bytes::put::put_line;
 use buffer::Written;
 use guess::guess_details;
-use line_bytes::LineDetails;
-use line_bytes::names::names_of;
-use line_bytes::put::put_line;
 use table::Refusal;
 use table::Subleaf;
 ghost use mathlib.Core.Path.{_≡_};
 ghost use mathlib.Core.Bool.{_||_};
 ghost use lib.Dec.{eqb, leb};
 ghost use Rattle.bits.specs.Choice.{pick};
-ghost use Rattle.line_bytes.specs.Line.{isNone, mostS, writable};
+ghost use Rattle.lines.specs.Line.{isNone, mostS, writable};
 ghost use Rattle.lines.specs.WriteLine.{writeLine};
 ghost use Rattle.lines.specs.ReadLine.{readLine};
 
+pub mod bytes;
 mod guess;
 
 // No line has more bytes.

@@ -7,3 +7,5 @@ pub mod Runs
 pub mod RunLaws
 pub mod PlaceOfLaws
 pub mod MasksFit
+pub mod MaskTable
+pub mod KeptTableLaws

@@ -8,6 +8,7 @@ ghost use Rattle.masking.specs.Kept.{places, placeOf, leafAt, indexedAt,
 ghost use Rattle.masking.specs.Place.{extendedMaxFunction};
 ghost use Rattle.masking.specs.Runs.{lawful, rowsTied};
 
+pub mod masks;
 pub mod place;
 pub mod run;
 

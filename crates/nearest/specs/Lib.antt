@@ -1,3 +1,3 @@
 pub mod Nearest
-pub mod FrontLaws
-pub mod SearchLaws
+pub mod NearestFrontLaws
+pub mod NearestSearchLaws

@@ -1,12 +1,12 @@
 // The nearest bit that matters. Pages come in; the first result bit whose flip changes the answer goes out. The pages are not written.
-use deciding::Deciding;
-use deciding::first_bit;
+use collect::lawful::walk_pages;
 use flips::Flip;
-use lawful::walk_pages;
 use masking::PLACES;
 use memory::REGISTERS;
 use memory::sized;
 use reader::Read;
+use search::deciding::Deciding;
+use search::deciding::first_bit;
 use table::Choices;
 use table::Refusal;
 use table::Verdict;
@@ -16,9 +16,9 @@ ghost use mathlib.Core.Bool.{true};
 ghost use Rattle.table.specs.Edition.{knownEdition};
 ghost use Rattle.memory.specs.Memory.{rowsIn};
 ghost use Rattle.collect.specs.FirstEntries.{rowsOf};
-ghost use Rattle.lawful.specs.Lawful.{lawfulVerdict};
+ghost use Rattle.collect.specs.Lawful.{lawfulVerdict};
 ghost use Rattle.flips.specs.Flips.{flips};
-ghost use Rattle.flip_rows.specs.Changes.{changes};
+ghost use Rattle.search.specs.Changes.{changes};
 ghost use Rattle.nearest.specs.Nearest.{chosen, firstThat, nearest};
 
 // The first bit that matters, or why none is named.
@@ -63,7 +63,7 @@ fn search_flips(
         × (rowsIn (now registers) (now origins) ≡ rowsOf «secure_avic» (now pages)) ⌝ }
     ensures { λ r. ⌜ r ≡ firstThat (changes (chosen «secure_avic» edition) (now (pages .entry))) (flips (now (pages .entry))) ⌝ }
 {
-    let kept = masks::kept_leaves(secure_avic);
+    let kept = masking::masks::kept_leaves(secure_avic);
     let n = pages::page_count(pages);
     let mut seen = [false; PLACES];
     let mut index = reader::start(pages);
@@ -74,7 +74,7 @@ fn search_flips(
                 let place = collect::counted_place(entry);
                 if place < PLACES {
                     if seen[place] {} else {
-                        let row = masks::mask_row(place);
+                        let row = masking::masks::mask_row(place);
                         let x = entry.result;
                         let bit = first_bit(registers, origins, edition, kept[row], place, x);
                         if let Deciding::Number(b) = bit {

@@ -9,14 +9,14 @@ use Rattle.x86defs.specs.Fields.{fieldsMask}
 use Rattle.x86defs.specs.Functions.{AmdMaximum, ExtendedAmdMaximum}
 use Rattle.pages.specs.Layout.{entryAt, badLength, countsFit}
 use Rattle.pages.specs.Entries.{onPage, onPages, entries, counts, counted}
-use Rattle.reserved.specs.Reserved.{eightZeros, firstNonzero, reservedOf}
+use Rattle.pages.specs.Reserved.{eightZeros, firstNonzero, reservedOf}
 use Rattle.masking.specs.Masks.{versionAndFeatures, extendedFeatures, extendedState0, extendedState1, extendedVersionAndFeatures, extendedAddressSpaceSizes, extendedSvm, extendedOptimization, extendedSev, secureAvicMask}
 use Rattle.masking.specs.Kept.{keptLeaves, placeOf, slot}
 use Rattle.topology.specs.Topology.{threadsIn, topologyOf, leastPower, shiftOf}
 use Rattle.checks.specs.Required.{commonRequiredLeaves, snpRequiredLeaves, requiredAt, placeRequired}
 use Rattle.checks.specs.ExtendedState.{xfem, xss, combinedMask, areaBelow, sizeOf}
 use Rattle.checks.specs.TopologyInputs.{inputsOf}
-use Rattle.update.specs.Kinds.{registerKinds, kindsAt}
+use Rattle.finish.specs.Kinds.{registerKinds, kindsAt}
 use Rattle.features.specs.Finish.{finished, settings, enabledBy, ymmClears, edition1, edition2, versionEcx, featuresEbx, featuresEcx, featuresEdx, extendedVersionEcx, extendedVersionEdx, addressSizesEbx, unlessNoXss, avx512FeaturesEbx, avx512FeaturesEcx, avx512FeaturesEdx, cetSs, rdPid, rdtscp, ibrsAndStibp, btcNo, hypervisorPresent}
 use Rattle.checks.specs.Checks.{requiredVerdict, invlpgbVerdict, componentsOf, componentsVerdict, areaVerdict, topologyVerdict, rowsVerdict}
 use Rattle.table.specs.declared.Choices.{Choices}
@@ -25,11 +25,11 @@ use Rattle.table.specs.Edition.{knownEdition}
 use Rattle.table.specs.Rows.{Rows}
 use Rattle.table.specs.Table.{countRows}
 use Rattle.build.specs.declared.Built.{Built}
-use Rattle.origins.specs.Origin.{isMadeHere, originOf}
+use Rattle.memory.specs.Origin.{isMadeHere, originOf}
 use Rattle.collect.specs.FirstEntries.{firstAt, legacyFeatures, rowsOf}
-use Rattle.locate.specs.Stands.{standsAt}
+use Rattle.collect.specs.Stands.{standsAt}
 use Rattle.build.specs.Build.{editionVerdict, underEdition, verdictOf, originsIn, answer}
-use Rattle.lawful.specs.Lawful.{lengthVerdict, countsVerdict, reservedVerdict, lawfulVerdict}
+use Rattle.collect.specs.Lawful.{lengthVerdict, countsVerdict, reservedVerdict, lawfulVerdict}
 use Rattle.page_sets.specs.Pass.{onPageIn, onPagesIn, uncleanOnPage, uncleanIn, passedLawful, placedEntry, placed, firstPlaced, passedEntries, passedRows, passedVerdict}
 
 -- what the examples choose: secure AVIC off, edition 1

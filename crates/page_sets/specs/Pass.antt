@@ -12,9 +12,9 @@ use Rattle.x86defs.specs.declared.CpuidResult.{CpuidResult}
 use Rattle.x86defs.specs.Functions.{function, result}
 use Rattle.pages.specs.Layout.{Entry, pageSize, entrySize, firstEntry, mostEntries, wordAt, pagesIn}
 use Rattle.pages.specs.Entries.{counts}
-use Rattle.reserved.specs.declared.Reserved.{Reserved}
-use Rattle.reserved.specs.declared.Reserved.the-variants.{Zero, Nonzero}
-use Rattle.reserved.specs.Reserved.{reservedAt, eightZeros}
+use Rattle.pages.specs.declared.reserved.Reserved.{Reserved}
+use Rattle.pages.specs.declared.reserved.Reserved.the-variants.{Zero, Nonzero}
+use Rattle.pages.specs.Reserved.{reservedAt, eightZeros}
 use Rattle.masking.specs.Kept.{places}
 use Rattle.table.specs.declared.Choices.{Choices}
 use Rattle.table.specs.declared.CpuidResults.{CpuidResults}
@@ -28,7 +28,7 @@ use Rattle.checks.specs.Checks.{refuseUnless, rowsVerdict}
 use Rattle.features.specs.Finish.{finished}
 use Rattle.collect.specs.FirstEntries.{placeOfEntry, maskedAt}
 use Rattle.build.specs.Build.{editionVerdict}
-use Rattle.lawful.specs.Lawful.{lengthVerdict, cleanVerdict}
+use Rattle.collect.specs.Lawful.{lengthVerdict, cleanVerdict}
 
 -- ---- entries: r is what is left of the bytes
 

@@ -14,9 +14,9 @@ use Rattle.bits.specs.Search.{every}
 use Rattle.x86defs.specs.Functions.{function}
 use Rattle.pages.specs.Layout.{Entry, pageSize, entrySize, firstEntry, mostEntries, wordAt, pagesIn, countOf, entryStart, entryAt, countsFit}
 use Rattle.pages.specs.Entries.{onPage, onPages, entries, counts, counted}
-use Rattle.reserved.specs.declared.Reserved.{Reserved}
-use Rattle.reserved.specs.declared.Reserved.the-variants.{Nonzero}
-use Rattle.reserved.specs.Reserved.{reservedAt, eightZeros, firstNonzero, reservedOf}
+use Rattle.pages.specs.declared.reserved.Reserved.{Reserved}
+use Rattle.pages.specs.declared.reserved.Reserved.the-variants.{Nonzero}
+use Rattle.pages.specs.Reserved.{reservedAt, eightZeros, firstNonzero, reservedOf}
 use Rattle.masking.specs.Kept.{places}
 use Rattle.table.specs.declared.Choices.{Choices}
 use Rattle.table.specs.declared.Refusal.the-variants.{PageCount}
@@ -26,9 +26,9 @@ use Rattle.table.specs.Refusal.{andThen}
 use Rattle.table.specs.Rows.{Row, Rows, row, vacant}
 use Rattle.checks.specs.Checks.{refuseUnless, rowsVerdict}
 use Rattle.collect.specs.FirstEntries.{placeOfEntry, firstAt, maskedAt, maskRow, rowsOf}
-use Rattle.rows_built.specs.RowsBuilt.{tableFor}
+use Rattle.finish.specs.RowsBuilt.{tableFor}
 use Rattle.build.specs.Build.{editionVerdict, verdictOf, answer}
-use Rattle.lawful.specs.Lawful.{lengthVerdict, countsVerdict, cleanVerdict, reservedVerdict, lawfulVerdict}
+use Rattle.collect.specs.Lawful.{lengthVerdict, countsVerdict, cleanVerdict, reservedVerdict, lawfulVerdict}
 use Rattle.page_sets.specs.Pass.{entryIn, onPageIn, onPagesIn, uncleanOnPage, uncleanIn, passedLawful, placedEntry, placed, firstPlaced, passedEntries, passedRows, passedVerdict, passedTable}
 
 module _ (s : List ℕ) where

@@ -4,3 +4,6 @@ pub mod LayoutLaws
 pub mod Entries
 pub mod EntriesLaws
 pub mod Parsed
+pub mod Reserved
+pub mod ZerosLaws
+pub mod ReservedLaws

@@ -7,6 +7,8 @@ ghost use lib.ListN.{length, getD};
 ghost use Rattle.pages.specs.Layout.{wordAt, pagesIn, countOf, badLength, countsFit, entryAt, mostEntries};
 ghost use Rattle.pages.specs.Parsed.{parsed};
 
+pub mod reserved;
+
 pub const PAGE_SIZE: usize = 4096;
 
 pub const FIRST_ENTRY: usize = 16;

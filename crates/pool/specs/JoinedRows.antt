@@ -16,15 +16,15 @@ use Rattle.table.specs.Rows.{Rows}
 use Rattle.table.specs.Table as Tables
 use Rattle.memory.specs.Memory.{rowOf, rowsIn, layout}
 use Rattle.memory.specs.MemoryLaws.{layout-row, layout-length, rows-in}
-use Rattle.origins.specs.Origin.{originNumber}
+use Rattle.memory.specs.Origin.{originNumber}
 use Rattle.collect.specs.FirstEntries.{rowsOf}
 use Rattle.collect.specs.Collect.{collected-rows}
-use Rattle.locate.specs.Stands.{standsAt, foundOrigins}
-use Rattle.locate.specs.CollectedLaws.{walked-collected}
-use Rattle.update.specs.Kinds.{Kind, Kinds, kindsAt}
-use Rattle.update.specs.Kinds.Kind.{feature, featureBut28, area, freed, other}
-use Rattle.pool_join.specs.Join.{pooled, pooledResults, withServer, pool}
-use Rattle.pool_rows.specs.JoinLaws.{registersOf}
+use Rattle.collect.specs.Stands.{standsAt, foundOrigins}
+use Rattle.collect.specs.CollectedLaws.{walked-collected}
+use Rattle.finish.specs.Kinds.{Kind, Kinds, kindsAt}
+use Rattle.finish.specs.Kinds.Kind.{feature, featureBut28, area, freed, other}
+use Rattle.register_masks.specs.Join.{pooled, pooledResults, withServer, pool}
+use Rattle.pool_rows.specs.PoolJoinLaws.{registersOf}
 
 -- past the last place there are zeros on both sides
 pooled-zero : (k : Kind) → pooled k 0 0 ≡ 0

@@ -2,3 +2,5 @@ pub mod Pool
 pub mod PoolIn
 pub mod JoinedRows
 pub mod PooledLaws
+pub mod WritePool
+pub mod WritePoolLaws

@@ -14,9 +14,9 @@ use Rattle.table.specs.declared.Verdict.the-variants.{Accepted, Refused}
 use Rattle.table.specs.Refusal.{andThen}
 use Rattle.table.specs.Table.{emptyTable}
 use Rattle.checks.specs.Checks.{refuseUnless}
-use Rattle.rows_built.specs.RowsBuilt.{tableFor}
+use Rattle.finish.specs.RowsBuilt.{tableFor}
 use Rattle.build.specs.Build.{originsIn}
-use Rattle.pool_join.specs.Alike.{allAlike}
+use Rattle.register_masks.specs.Alike.{allAlike}
 use Rattle.pool_sets.specs.Sets.{setAt, lastOf, setsVerdict}
 use Rattle.pool_sets.specs.Servers.{serverRows, firstRefused, serversVerdict, numberOf, poolRows}
 use Rattle.pool.specs.declared.Pooled.{Pooled}

@@ -32,22 +32,22 @@ use Rattle.checks.specs.ExtendedState.{xss, combinedMask}
 use Rattle.checks.specs.Checks.{rowsVerdict}
 use Rattle.checks.specs.ChecksLaws.{then-left, then-right, demanded}
 use Rattle.features.specs.Finish.{finished}
-use Rattle.finish_laws.specs.JoinLaws.{MaskedState}
-use Rattle.origins.specs.Origin.{finishedOrigins}
+use Rattle.finish.specs.JoinLaws.{MaskedState}
+use Rattle.memory.specs.Origin.{finishedOrigins}
 use Rattle.collect.specs.FirstEntries.{rowsOf}
-use Rattle.locate.specs.Stands.{foundOrigins}
-use Rattle.rows_built.specs.declared.RowsBuilt.{RowsBuilt}
-use Rattle.rows_built.specs.RowsBuilt.{tableFor, builtFrom}
+use Rattle.collect.specs.Stands.{foundOrigins}
+use Rattle.finish.specs.declared.RowsBuilt.{RowsBuilt}
+use Rattle.finish.specs.RowsBuilt.{tableFor, builtFrom}
 use Rattle.build.specs.Build.{editionVerdict, verdictOf, originsIn, answer}
-use Rattle.lawful.specs.Lawful.{lawfulVerdict}
+use Rattle.collect.specs.Lawful.{lawfulVerdict}
 use Rattle.build.specs.BuildLaws.{no-origins, located-origins}
 use Rattle.rows_finished.specs.Finished.{Answered}
 use Rattle.counts.specs.Mask.{register-within, xfem-within, xss-within}
-use Rattle.pool_join.specs.Join.{pool}
-use Rattle.pool_join.specs.Alike.{allHave, alikeTo, allAlike}
-use Rattle.pool_join.specs.PoolLaws.{Servers, pool-accepted, pool-rows}
+use Rattle.register_masks.specs.Join.{pool}
+use Rattle.register_masks.specs.Alike.{allHave, alikeTo, allAlike}
+use Rattle.register_masks.specs.PoolLaws.{Servers, pool-accepted, pool-rows}
 use Rattle.pool_rows.specs.Joins.{alikeWhere}
-use Rattle.pool_rows.specs.JoinLaws.{registersOf, alikeFlags}
+use Rattle.pool_rows.specs.PoolJoinLaws.{registersOf, alikeFlags}
 use Rattle.pool_sets.specs.declared.Joined.{Joined}
 use Rattle.pool_sets.specs.Sets.{setAt, lastOf, lawfulSets, setsVerdict}
 use Rattle.pool_sets.specs.SetsLaws.{at-least-two, at-most-sixteen}

@@ -4,8 +4,8 @@ use masking::PLACES;
 use memory::REGISTERS;
 use memory::clear;
 use pool_rows::all_alike;
-use pool_server::server_into;
 use pool_sets::join_rest;
+use pool_sets::server::server_into;
 use pool_sets::sets_fit;
 use rows_finished::build_rows;
 use table::Choices;
@@ -17,6 +17,8 @@ ghost use mathlib.Core.Bool.{true};
 ghost use Rattle.pool_sets.specs.Sets.{lawfulSets};
 ghost use Rattle.pool.specs.Pool.{pooled, refusedPool};
 ghost use Rattle.pool.specs.PoolIn.{PoolIn};
+
+pub mod write;
 
 // What pooling gives, as specs/Pool.antt has it: accepted with its table and where each row stood in the first server's pages, or refused with an
 // empty one. `server` is the number, from 0, of the server whose own refusal it is, else 0.

@@ -18,9 +18,9 @@ use Rattle.x86defs.specs.Functions.{result}
 use Rattle.masking.specs.Kept.{places}
 use Rattle.memory.specs.Memory.{rowOf, putRow, isThere, rowList}
 use Rattle.memory.specs.MemoryLaws.{put-length, put-is-set, known-by-rows}
-use Rattle.update.specs.Kinds.{kindsAt}
-use Rattle.pool_join.specs.Join.{pooledResults}
-use Rattle.pool_join.specs.Alike.{registersAlike}
+use Rattle.finish.specs.Kinds.{kindsAt}
+use Rattle.register_masks.specs.Join.{pooledResults}
+use Rattle.register_masks.specs.Alike.{registersAlike}
 use Rattle.pool_rows.specs.Joins.{joinedRow, foundAlike, Joins, alikeWhere}
 
 -- ---- one server more: before place i, v and out are as they will be, and as they were from it on

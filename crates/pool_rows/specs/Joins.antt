@@ -11,9 +11,9 @@ use Rattle.bits.specs.Lists.{tabulate}
 use Rattle.x86defs.specs.declared.CpuidResult.{CpuidResult}
 use Rattle.masking.specs.Kept.{places}
 use Rattle.memory.specs.Memory.{rowOf, isThere, layout}
-use Rattle.update.specs.Kinds.{kindsAt}
-use Rattle.pool_join.specs.Join.{pooledResults}
-use Rattle.pool_join.specs.Alike.{registersAlike}
+use Rattle.finish.specs.Kinds.{kindsAt}
+use Rattle.register_masks.specs.Join.{pooledResults}
+use Rattle.register_masks.specs.Alike.{registersAlike}
 
 -- a place's entry with one server's more, and whether it was like the first so far and that server's is too
 abbrev pub joinedRow : (ℕ → CpuidResult) → (ℕ → CpuidResult) → ℕ → CpuidResult

@@ -1,4 +1,4 @@
 pub mod Joins
-pub mod MaskLaws
-pub mod JoinLaws
+pub mod PoolMaskLaws
+pub mod PoolJoinLaws
 pub mod CodeLaws

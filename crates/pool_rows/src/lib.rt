@@ -13,10 +13,10 @@ ghost use mathlib.Core.Bool.{true};
 ghost use lib.ListN.{length, replicate};
 ghost use Rattle.bits.specs.Choice.{pick};
 ghost use Rattle.masking.specs.Kept.{places};
-ghost use Rattle.update.specs.Kinds.{Kinds};
-ghost use Rattle.register_masks.specs.Masks.{masksOf};
-ghost use Rattle.pool_join.specs.Join.{pooledResults};
-ghost use Rattle.pool_join.specs.Alike.{registersAlike};
+ghost use Rattle.finish.specs.Kinds.{Kinds};
+ghost use Rattle.register_masks.specs.RegisterMasks.{masksOf};
+ghost use Rattle.register_masks.specs.Join.{pooledResults};
+ghost use Rattle.register_masks.specs.Alike.{registersAlike};
 ghost use Rattle.pool_rows.specs.Joins.{Joins, alikeWhere};
 
 // The feature bits of two entries by and, all else as the first has it.

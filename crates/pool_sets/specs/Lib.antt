@@ -1,3 +1,5 @@
+pub mod Server
+pub mod ServerLaws
 pub mod Sets
 pub mod Servers
 pub mod SetsLaws

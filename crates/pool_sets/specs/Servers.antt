@@ -12,8 +12,8 @@ use Rattle.table.specs.declared.Verdict.{Verdict}
 use Rattle.table.specs.declared.Verdict.the-variants.{Accepted, Refused}
 use Rattle.table.specs.Rows.{Rows}
 use Rattle.build.specs.Build.{rowsFor, answer}
-use Rattle.pool_join.specs.Join.{pool}
-use Rattle.pool_rows.specs.JoinLaws.{registersOf, alikeFlags}
+use Rattle.register_masks.specs.Join.{pool}
+use Rattle.pool_rows.specs.PoolJoinLaws.{registersOf, alikeFlags}
 use Rattle.pool_sets.specs.declared.Joined.{Joined}
 use Rattle.pool_sets.specs.Sets.{setAt, lastOf}
 

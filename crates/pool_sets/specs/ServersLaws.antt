@@ -16,11 +16,11 @@ use Rattle.table.specs.declared.Verdict.the-variants.{Accepted, Refused}
 use Rattle.table.specs.Rows.{Rows}
 use Rattle.memory.specs.MemoryLaws.{layout-length}
 use Rattle.build.specs.Build.{rowsFor, answer}
-use Rattle.locate.specs.Stands.{foundOrigins}
-use Rattle.pool_join.specs.Join.{pool}
+use Rattle.collect.specs.Stands.{foundOrigins}
+use Rattle.register_masks.specs.Join.{pool}
 use Rattle.pool_rows.specs.Joins.{Joins}
-use Rattle.pool_rows.specs.JoinLaws.{registersOf, alikeFlags, flags-first, registers-next, flags-next}
-use Rattle.pool_server.specs.Server.{ServerIn}
+use Rattle.pool_rows.specs.PoolJoinLaws.{registersOf, alikeFlags, flags-first, registers-next, flags-next}
+use Rattle.pool_sets.specs.Server.{ServerIn}
 use Rattle.pool_sets.specs.Sets.{setAt}
 use Rattle.pool_sets.specs.Servers.{serverVerdict, serverRows, isAccepted, firstRefused, refusedBy, serversVerdict, numberOf, joinedTo, JoinsRest}
 

@@ -1,17 +1,19 @@
 // Page sets end to end, beside a list of their lengths. Whether they are lawful goes out; the entries of all servers are joined in the memory of the
 // first, up to one that is refused.
+use crate::server::server_into;
 use masking::PLACES;
 use memory::REGISTERS;
 use pool_rows::all_places;
 use pool_rows::with_server;
-use pool_server::server_into;
 use table::Choices;
 use table::Verdict;
 ghost use mathlib.Core.Path.{_≡_};
 ghost use mathlib.Core.Bool.{true};
 ghost use Rattle.pool_sets.specs.Sets.{lawfulSets};
-ghost use Rattle.pool_rows.specs.JoinLaws.{registersOf};
+ghost use Rattle.pool_rows.specs.PoolJoinLaws.{registersOf};
 ghost use Rattle.pool_sets.specs.Servers.{serverVerdict, serverRows, JoinsRest};
+
+pub mod server;
 
 // What joining gives beside the joined registers: the first server that is refused, or that none is, and the places at which those that were
 // joined are like the first.

@@ -1,4 +1,4 @@
 pub mod Output
-pub mod Bytes
-pub mod BytesLaws
-pub mod Fits
+pub mod ProgramBytes
+pub mod ProgramBytesLaws
+pub mod ProgramFits

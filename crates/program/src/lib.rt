@@ -1,20 +1,20 @@
 // The program's output. Input bytes come in; the image, or the bytes that say why there is none, go out.
 use buffer::Written;
 use build::build_into;
-use image_write::write_table;
+use image::write::write_table;
 use masking::PLACES;
 use memory::REGISTERS;
-use numbers::AnswerNumbers;
 use table::Choices;
 use table::Refusal;
 use table::Verdict;
+use table::numbers::AnswerNumbers;
 ghost use mathlib.Core.Path.{_≡_};
 ghost use mathlib.Core.List.{[], _∷_, _++_};
 ghost use lib.ListN.{length, drop};
 ghost use Rattle.buffer.specs.Front.{writeFront};
 ghost use Rattle.program.specs.Output.{output};
-ghost use Rattle.program.specs.Bytes.{codeOf, numberBytes};
-ghost use Rattle.program.specs.Fits.{room};
+ghost use Rattle.program.specs.ProgramBytes.{codeOf, numberBytes};
+ghost use Rattle.program.specs.ProgramFits.{room};
 
 const LONGEST_INPUT: usize = 65536;
 
@@ -53,7 +53,7 @@ pub fn write_output(input: &[u8], out: &mut [u8]) -> Written
     let mut origins: [u64; PLACES] = [0; PLACES];
     let verdict = build_into(input, CHOICES, &mut registers, &mut origins);
     if let Verdict::Refused(refusal) = verdict {
-        return put_refusal(numbers::refusal_numbers(refusal), out);
+        return put_refusal(table::numbers::refusal_numbers(refusal), out);
     }
     write_table(&registers, &origins, out)
 }

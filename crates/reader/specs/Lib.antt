@@ -1,2 +1,4 @@
+pub mod Walk
+pub mod WalkLaws
 pub mod Read
 pub mod ReadLaws

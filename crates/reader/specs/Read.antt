@@ -10,8 +10,8 @@ use Rattle.pages.specs.declared.CpuidPageIndex.{CpuidPageIndex}
 use Rattle.pages.specs.declared.ParsedCpuidEntry.{ParsedCpuidEntry}
 use Rattle.pages.specs.Layout.{Entry, pagesIn, countsFit, entryAt}
 use Rattle.pages.specs.Parsed.{parsed}
-use Rattle.walk.specs.Walk.{Inside, incremented}
-use Rattle.reserved.specs.Reserved.{cleanAt}
+use Rattle.reader.specs.Walk.{Inside, incremented}
+use Rattle.pages.specs.Reserved.{cleanAt}
 use Rattle.reader.specs.declared.Read.{Read}
 use Rattle.reader.specs.declared.Read.the-variants as Read′
 

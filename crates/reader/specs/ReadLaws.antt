@@ -17,10 +17,10 @@ use Rattle.pages.specs.Layout.{Entry as PageEntry, pagesIn, mostEntries, entryA
 use Rattle.pages.specs.LayoutLaws.{counts-fit-at}
 use Rattle.pages.specs.Entries.{entries, counts, counted}
 use Rattle.pages.specs.Parsed.{parsed, countsRead}
-use Rattle.walk.specs.Walk.{incremented, rest, firstIndex}
-use Rattle.walk.specs.WalkLaws.{Valid, Turn, turn, first-valid, rest-first, rest-end}
-use Rattle.reserved.specs.Reserved.{clean, allClean}
-use Rattle.reserved.specs.ReservedLaws.{clean-kept}
+use Rattle.reader.specs.Walk.{incremented, rest, firstIndex}
+use Rattle.reader.specs.WalkLaws.{Valid, Turn, turn, first-valid, rest-first, rest-end}
+use Rattle.pages.specs.Reserved.{clean, allClean}
+use Rattle.pages.specs.ReservedLaws.{clean-kept}
 use Rattle.reader.specs.declared.Read.the-variants.{Entry, Unclean}
 use Rattle.reader.specs.Read.{Readable, entryHere, cleanHere, readAt, given}
 

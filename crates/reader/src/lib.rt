@@ -4,8 +4,10 @@ use pages::CpuidPageIndex;
 use pages::ParsedCpuidEntry;
 use x86defs::CpuidFunction;
 ghost use mathlib.Core.Path.{_≡_};
-ghost use Rattle.walk.specs.Walk.{Inside, firstIndex, incremented};
+ghost use Rattle.reader.specs.Walk.{Inside, firstIndex, incremented};
 ghost use Rattle.reader.specs.Read.{Readable, readAt};
+
+mod walk;
 
 // The caller's pages, and where the reader stands on them.
 pub struct SnpCpuidIterator<'a> {
@@ -67,7 +69,7 @@ pub fn read_at(pages: &[u8], at: CpuidPageIndex, next: CpuidPageIndex) -> Read
     ensures { λ r. ⌜ r ≡ readAt (now (pages .entry)) at next ⌝ }
 {
     let entry = pages::entry_at(pages, at);
-    if reserved::clean_at(pages, at) {
+    if pages::reserved::clean_at(pages, at) {
         return Read::Entry(entry, next);
     }
     let leaf = entry.leaf;

@@ -11,7 +11,7 @@ use Rattle.table.specs.Table.{emptyTable}
 use Rattle.build.specs.Build.{answer}
 use Rattle.buffer.specs.WritesExactly.{FrontExactly}
 use Rattle.image.specs.Image.{image}
-use Rattle.write.specs.Write.{write}
+use Rattle.image.specs.Write.{write}
 use Rattle.refusals.specs.Conditions.{Check, rank, Fault}
 
 -- the condition of a check holds, with these details, and no earlier one does

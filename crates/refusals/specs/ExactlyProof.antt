@@ -13,10 +13,10 @@ use Rattle.table.specs.declared.Verdict.{Verdict}
 use Rattle.table.specs.declared.Verdict.the-variants.{Accepted, Refused}
 use Rattle.table.specs.Refusal.{details}
 use Rattle.table.specs.Table.{emptyTable}
-use Rattle.rows_built.specs.RowsBuilt.{tableFor}
+use Rattle.finish.specs.RowsBuilt.{tableFor}
 use Rattle.build.specs.Build.{rowsFor, answer}
 use Rattle.buffer.specs.WritesExactly.{front-exactly}
-use Rattle.write.specs.Write.{write}
+use Rattle.image.specs.Write.{write}
 use Rattle.refusals.specs.Conditions.{Check, Fault}
 use Rattle.refusals.specs.Conditions.Check.{edition, pagesLength, pageCounts, reservedBytes, requiredLeaves, invlpgb, components, saveArea, processorCount, hyperthreading, threadsPerUnit}
 use Rattle.refusals.specs.Exactly.{FirstFault, BuildsExactly, WritesExactly, imageOf}

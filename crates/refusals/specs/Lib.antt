@@ -8,3 +8,7 @@ pub mod ExtendedStateSettled
 pub mod TopologySettled
 pub mod StagesSettled
 pub mod ExactlyProof
+pub mod Lined
+pub mod LinedProof
+pub mod NotBytes
+pub mod RefusedLines

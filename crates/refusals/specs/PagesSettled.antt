@@ -15,7 +15,7 @@ use Rattle.table.specs.declared.Refusal.the-variants.{PagesLength, PageCount, U
 use Rattle.table.specs.Edition.{knownEdition}
 use Rattle.checks.specs.Checks.{refuseUnless}
 use Rattle.build.specs.Build.{editionVerdict}
-use Rattle.lawful.specs.Lawful.{lengthVerdict, countsVerdict}
+use Rattle.collect.specs.Lawful.{lengthVerdict, countsVerdict}
 use Rattle.refusals.specs.Conditions.{EditionFault, LengthFault, CountFault}
 use Rattle.refusals.specs.Settles.{Settles, never, holds}
 

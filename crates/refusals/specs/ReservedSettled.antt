@@ -5,14 +5,14 @@ use mathlib.Core.List.{List}
 use Prim.Native.Nat.{ℕ, _+_}
 use Rattle.bits.specs.ChoiceLaws.{never-both}
 use Rattle.pages.specs.Layout.{entryAt, entryStart}
-use Rattle.reserved.specs.declared.Reserved.the-variants.{Nonzero}
-use Rattle.reserved.specs.Reserved.{reservedAt, reservedOf}
-use Rattle.reserved.specs.ZerosLaws.{zero-byte, nonzero-byte, zero-bytes}
-use Rattle.reserved.specs.ReservedLaws.{FirstUnclean, Cleanness, clean-at, clean-zero, unclean-named, cleanness}
-use Rattle.reserved.specs.ReservedLaws.Cleanness.{clean-pages, unclean-entry}
+use Rattle.pages.specs.declared.reserved.Reserved.the-variants.{Nonzero}
+use Rattle.pages.specs.Reserved.{reservedAt, reservedOf}
+use Rattle.pages.specs.ZerosLaws.{zero-byte, nonzero-byte, zero-bytes}
+use Rattle.pages.specs.ReservedLaws.{FirstUnclean, Cleanness, clean-at, clean-zero, unclean-named, cleanness}
+use Rattle.pages.specs.ReservedLaws.Cleanness.{clean-pages, unclean-entry}
 use Rattle.table.specs.declared.Refusal.{Refusal}
 use Rattle.table.specs.declared.Refusal.the-variants.{ReservedBytes}
-use Rattle.lawful.specs.Lawful.{cleanVerdict, reservedVerdict}
+use Rattle.collect.specs.Lawful.{cleanVerdict, reservedVerdict}
 use Rattle.refusals.specs.Conditions.{ReservedFault}
 use Rattle.refusals.specs.Settles.{Settles}
 use Rattle.refusals.specs.Settles.Settles.{passes, refuses}

@@ -18,7 +18,7 @@ use Rattle.table.specs.Rows.{Rows}
 use Rattle.checks.specs.TopologyInputs.{inputsOf}
 use Rattle.checks.specs.Checks.{requiredVerdict, invlpgbVerdict, componentsVerdict, areaVerdict, rowsVerdict}
 use Rattle.build.specs.Build.{rowsFor, editionVerdict, verdictOf, answer}
-use Rattle.lawful.specs.Lawful.{lengthVerdict, countsVerdict, reservedVerdict, lawfulVerdict}
+use Rattle.collect.specs.Lawful.{lengthVerdict, countsVerdict, reservedVerdict, lawfulVerdict}
 use Rattle.refusals.specs.Conditions.{Check, rank, Fault, processorsSaid}
 use Rattle.refusals.specs.Conditions.Check.{edition, pagesLength, pageCounts, reservedBytes, requiredLeaves, invlpgb, components, saveArea, processorCount, hyperthreading, threadsPerUnit}
 use Rattle.refusals.specs.Exactly.{FirstFault}

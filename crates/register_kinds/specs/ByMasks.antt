@@ -11,11 +11,11 @@ use Rattle.bits.specs.BitsLaws.{within-eq, and-of-within}
 use Rattle.bits.specs.ChoiceLaws.{and-implied}
 use Rattle.x86defs.specs.declared.CpuidResult.{CpuidResult}
 use Rattle.table.specs.Fits.{Fits}
-use Rattle.update.specs.Kinds.{Kind, Kinds}
-use Rattle.update.specs.Kinds.Kind.{feature, featureBut28, area, freed, other}
+use Rattle.finish.specs.Kinds.{Kind, Kinds}
+use Rattle.finish.specs.Kinds.Kind.{feature, featureBut28, area, freed, other}
 use Rattle.register_masks.specs.declared.RowMasks.{RowMasks}
-use Rattle.register_masks.specs.Masks.{featureBits, agreedBits, masksOf}
-use Rattle.register_masks.specs.MaskLaws.{agree, whole, none-agreed, bit-28-agreed, all-agreed}
+use Rattle.register_masks.specs.RegisterMasks.{featureBits, agreedBits, masksOf}
+use Rattle.register_masks.specs.RegisterMaskLaws.{agree, whole, none-agreed, bit-28-agreed, all-agreed}
 use Rattle.rise.specs.Decide.{risesTest}
 use Rattle.register_kinds.specs.declared.RegistersRise.{RegistersRise}
 use Rattle.register_kinds.specs.Registers.{registersRise}

@@ -6,7 +6,7 @@ use Rattle.x86defs.specs.declared.CpuidResult.{CpuidResult}
 use Rattle.masking.specs.Kept.{indexedAt, subleafAt}
 use Rattle.table.specs.declared.Subleaf.{Subleaf}
 use Rattle.table.specs.declared.Subleaf.the-variants.{None, Some}
-use Rattle.update.specs.Kinds as Definition
+use Rattle.finish.specs.Kinds as Definition
 use Rattle.register_kinds.specs.declared.Register.{Register}
 use Rattle.register_kinds.specs.declared.Register.the-variants.{Eax, Ebx, Ecx, Edx}
 use Rattle.register_kinds.specs.declared.RegistersRise.{RegistersRise}

@@ -7,7 +7,7 @@ ghost use mathlib.Core.Path.{_≡_};
 ghost use Prim.Native.Nat.{_<_};
 ghost use Rattle.masking.specs.Kept.{places};
 ghost use Rattle.features.specs.Finish.{ruleAt};
-ghost use Rattle.update.specs.Kinds.{fromEntry};
+ghost use Rattle.finish.specs.Kinds.{fromEntry};
 ghost use Rattle.register_kinds.specs.Registers.{firstOf, subleafNamed};
 ghost use Rattle.register_kinds.specs.ByMasks.{passes, passesBy};
 

@@ -6,8 +6,8 @@ ghost use mathlib.Core.Path.{_≡_};
 ghost use Prim.Native.Nat.{_<_};
 ghost use Rattle.x86defs.specs.Functions.{result};
 ghost use Rattle.masking.specs.Kept.{places};
-ghost use Rattle.update.specs.Kinds.{kindsAt};
-ghost use Rattle.register_masks.specs.Masks.{masksOf};
+ghost use Rattle.finish.specs.Kinds.{kindsAt};
+ghost use Rattle.register_masks.specs.RegisterMasks.{masksOf};
 
 // The masks of the four registers at a place.
 pub struct RowMasks {

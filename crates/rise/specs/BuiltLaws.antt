@@ -25,10 +25,10 @@ use Rattle.checks.specs.Checks.{sizeVerdict, areaVerdict}
 use Rattle.checks.specs.ExtendedStateLaws.{xsaves-ecx}
 use Rattle.checks.specs.ChecksLaws.{AllPass, all-pass, required-present, then-right}
 use Rattle.features.specs.Finish.{ruleAt, settings, enabledBy, finish, finished, unlessNoXss}
-use Rattle.update.specs.PlaceLaws.{always, position, always-required}
-use Rattle.finish_laws.specs.RemainsLaws.{finished-present, finished-result, always-remains}
+use Rattle.finish.specs.PlaceLaws.{always, position, always-required}
+use Rattle.finish.specs.RemainsLaws.{finished-present, finished-result, always-remains}
 use Rattle.build.specs.Build.{rowsFor, verdictOf, answer}
-use Rattle.lawful.specs.Lawful.{lawfulVerdict}
+use Rattle.collect.specs.Lawful.{lawfulVerdict}
 use Rattle.rise.specs.RiseProof.{answer-row, accepted-rows}
 
 -- a size that passes the check fits 32 bits

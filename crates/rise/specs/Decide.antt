@@ -18,11 +18,11 @@ use Rattle.table.specs.declared.Choices.{Choices}
 use Rattle.table.specs.declared.Verdict.the-variants.{Accepted}
 use Rattle.table.specs.Rows.{Row, Rows}
 use Rattle.features.specs.Finish.{ruleAt}
-use Rattle.update.specs.Kinds.{Kind, Kinds, EntryAtLeast, Registers, kindsAt, fromEntry}
-use Rattle.update.specs.Kinds.Kind.{feature, featureBut28, area, freed, other}
+use Rattle.finish.specs.Kinds.{Kind, Kinds, EntryAtLeast, Registers, kindsAt, fromEntry}
+use Rattle.finish.specs.Kinds.Kind.{feature, featureBut28, area, freed, other}
 use Rattle.table.specs.Table.{rowIn}
 use Rattle.build.specs.Build.{rowsFor, answer}
-use Rattle.lawful.specs.Lawful.{lawfulVerdict}
+use Rattle.collect.specs.Lawful.{lawfulVerdict}
 use Rattle.rise.specs.Rise.{EntryRises, RiseHypothesis}
 
 -- whether a register of B's entry is as the hypothesis wants it

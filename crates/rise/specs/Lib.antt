@@ -7,3 +7,16 @@ pub mod Same
 pub mod Preorder
 pub mod BuiltLaws
 pub mod Levels
+pub mod Located
+pub mod StandsLaws
+pub mod LocatedProof
+pub mod Added
+pub mod BeginningLaws
+pub mod KeepsLaws
+pub mod CoveredLaws
+pub mod KeptRowsLaws
+pub mod AddedProof
+pub mod AddedDecide
+pub mod Second
+pub mod SecondLaws
+pub mod SecondProof

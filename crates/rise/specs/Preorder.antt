@@ -18,8 +18,8 @@ use Rattle.masking.specs.Kept.{places}
 use Rattle.table.specs.declared.Choices.{Choices}
 use Rattle.table.specs.declared.CpuidResults.{CpuidResults}
 use Rattle.table.specs.declared.Verdict.the-variants.{Accepted}
-use Rattle.update.specs.Kinds.{Kind, Kinds, EntryAtLeast, TableAtLeast, Registers, kindsAt}
-use Rattle.update.specs.Kinds.Kind.{feature, featureBut28, area, freed, other}
+use Rattle.finish.specs.Kinds.{Kind, Kinds, EntryAtLeast, TableAtLeast, Registers, kindsAt}
+use Rattle.finish.specs.Kinds.Kind.{feature, featureBut28, area, freed, other}
 use Rattle.table.specs.Rows.{Row}
 use Rattle.table.specs.Table.{rowIn}
 use Rattle.build.specs.Built.{SameButOrigins}

@@ -26,11 +26,11 @@ use Rattle.table.specs.declared.Verdict.{Verdict}
 use Rattle.table.specs.declared.Verdict.the-variants.{Accepted, Refused}
 use Rattle.table.specs.Rows.{Row, Rows}
 use Rattle.features.specs.Finish.{ruleAt}
-use Rattle.update.specs.Kinds.{EntryAtLeast, TableAtLeast, Registers, kindsAt, fromEntry}
+use Rattle.finish.specs.Kinds.{EntryAtLeast, TableAtLeast, Registers, kindsAt, fromEntry}
 use Rattle.table.specs.Table.{rowIn}
 use Rattle.collect.specs.FirstEntries.{firstAt}
 use Rattle.build.specs.Build.{rowsFor, answer}
-use Rattle.lawful.specs.Lawful.{lawfulVerdict}
+use Rattle.collect.specs.Lawful.{lawfulVerdict}
 use Rattle.refusals.specs.Conditions.{Lacking, ComponentFault, AreaFault}
 
 -- B has a row at place i, and its registers compare with A's

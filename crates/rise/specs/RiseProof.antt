@@ -28,19 +28,19 @@ use Rattle.table.specs.Edition.{knownEdition}
 use Rattle.table.specs.Rows.{Row, Rows, row, vacant}
 use Rattle.checks.specs.ExtendedState.{combinedMask}
 use Rattle.features.specs.Finish.{ymmClears, ruleAt, finished}
-use Rattle.finish_laws.specs.FeatureLaws.{ClearsFewer, clears-same, second-to-first}
-use Rattle.finish_laws.specs.RemainsLaws.{finished-entry}
-use Rattle.finish_laws.specs.XsavesLaws.{XsavesEdx}
-use Rattle.update.specs.Kinds.{EntryAtLeast, TableAtLeast, Registers, registerKinds, kindsAt, fromEntry}
-use Rattle.update.specs.Kinds.Kind.{area, other}
+use Rattle.finish.specs.FeatureLaws.{ClearsFewer, clears-same, second-to-first}
+use Rattle.finish.specs.RemainsLaws.{finished-entry}
+use Rattle.finish.specs.XsavesLaws.{XsavesEdx}
+use Rattle.finish.specs.Kinds.{EntryAtLeast, TableAtLeast, Registers, registerKinds, kindsAt, fromEntry}
+use Rattle.finish.specs.Kinds.Kind.{area, other}
 use Rattle.checks.specs.Checks.{missingComponent, componentsVerdict, areaVerdict, rowsVerdict}
 use Rattle.checks.specs.ChecksLaws.{component-present, then-left, then-right, then-skips}
-use Rattle.rows_built.specs.RowsBuilt.{tableFor}
+use Rattle.finish.specs.RowsBuilt.{tableFor}
 use Rattle.table.specs.Table.{tableOf, rowIn}
 use Rattle.collect.specs.FirstEntries.{firstAt, maskRow, maskedAt, legacyFeatures, rowsOf}
 use Rattle.collect.specs.FirstEntriesLaws.{row-of-place}
 use Rattle.build.specs.Build.{editionVerdict, rowsFor, verdictOf, answer}
-use Rattle.lawful.specs.Lawful.{lawfulVerdict}
+use Rattle.collect.specs.Lawful.{lawfulVerdict}
 use Rattle.refusals.specs.Conditions.{Lacking, ComponentFault, AreaFault}
 use Rattle.refusals.specs.Settles.{Settles}
 use Rattle.refusals.specs.Settles.Settles.{passes, refuses}

@@ -21,16 +21,16 @@ use Rattle.checks.specs.ExtendedState.{xfem, xss, combinedMask, sumAt, saveArea
 use Rattle.checks.specs.ExtendedStateLaws.{area-mono, xss-mono, in-combined}
 use Rattle.checks.specs.TopologyInputs.{inputsOf}
 use Rattle.features.specs.Finish.{Settings, ymmClears, ruleAt, enabledBy, settings, remains, finished}
-use Rattle.finish_laws.specs.FeatureLaws.{ClearsFewer}
-use Rattle.update.specs.Kinds.{Kinds, kinds, EntryAtLeast, TableAtLeast, Registers, kindsAt, fromEntry}
-use Rattle.update.specs.Kinds.Kind.{other}
-use Rattle.finish_laws.specs.RuleKinds.{featureEax, kindsOf, kinds-at, component-kinds}
-use Rattle.finish_laws.specs.XsavesLaws.{XsavesEdx, xsaves-at}
+use Rattle.finish.specs.FeatureLaws.{ClearsFewer}
+use Rattle.finish.specs.Kinds.{Kinds, kinds, EntryAtLeast, TableAtLeast, Registers, kindsAt, fromEntry}
+use Rattle.finish.specs.Kinds.Kind.{other}
+use Rattle.finish.specs.RuleKinds.{featureEax, kindsOf, kinds-at, component-kinds}
+use Rattle.finish.specs.XsavesLaws.{XsavesEdx, xsaves-at}
 use Rattle.checks.specs.Checks.{invlpgbVerdict, componentsVerdict, areaVerdict, topologyVerdict, topologyRefusal, rowsVerdict, refuseUnless}
 use Rattle.checks.specs.ChecksLaws.{AllPass, all-pass, required-present, present-required, component-present, demanded, then-accepted, then-skips}
-use Rattle.update.specs.PlaceLaws.{always, always-from-entry, required-place, position, always-required, component-rule, Sort, sort}
-use Rattle.finish_laws.specs.RemainsLaws.{finished-present, finished-result, made-remains, always-remains, component-finished}
-use Rattle.update.specs.PlaceLaws.Sort.{made, required, subleaf}
+use Rattle.finish.specs.PlaceLaws.{always, always-from-entry, required-place, position, always-required, component-rule, Sort, sort}
+use Rattle.finish.specs.RemainsLaws.{finished-present, finished-result, made-remains, always-remains, component-finished}
+use Rattle.finish.specs.PlaceLaws.Sort.{made, required, subleaf}
 use Rattle.rise.specs.Rise.{EntryRises}
 use Rattle.rise.specs.RuleLaws.{SettingsRise, finish-rises, remains-rises}
 

@@ -12,11 +12,11 @@ use Rattle.x86defs.specs.declared.CpuidResult.{CpuidResult}
 use Rattle.features.specs.Finish.{Made, Needed, Rule, Enabled, Settings, makeRow, changeRow, finish, remains, unlessNoXss, addressSizesEbx, versionEcx, featuresEbx, featuresEcx, featuresEdx, extendedVersionEcx, extendedVersionEdx}
 use Rattle.features.specs.Finish.Needed.{versionAndFeatures, extendedFeatures, threadLevelRow, coreLevelRow, extendedState0, extendedState1, extendedVersionAndFeatures, extendedAddressSpaceSizes, untouched}
 use Rattle.features.specs.Finish.Rule.{made, needed, component}
-use Rattle.update.specs.Kinds.{Kinds, kinds, EntryAtLeast, TableAtLeast, Registers, fromEntry}
-use Rattle.update.specs.Kinds.Kind.{feature, freed, other}
-use Rattle.finish_laws.specs.RuleKinds.{kindsOf}
-use Rattle.finish_laws.specs.XsavesLaws.{XsavesRow}
-use Rattle.finish_laws.specs.FeatureLaws.{EnablesAtLeast, at-least-of-and, versionEcx-and, featuresEbx-and, featuresEcx-and, featuresEdx-and, extendedVersionEcx-and, extendedVersionEdx-and, addressSizesEbx-and, ClearsFewer, versionEcx-fewer, featuresEbx-fewer, featuresEcx-fewer, extendedVersionEcx-fewer}
+use Rattle.finish.specs.Kinds.{Kinds, kinds, EntryAtLeast, TableAtLeast, Registers, fromEntry}
+use Rattle.finish.specs.Kinds.Kind.{feature, freed, other}
+use Rattle.finish.specs.RuleKinds.{kindsOf}
+use Rattle.finish.specs.XsavesLaws.{XsavesRow}
+use Rattle.finish.specs.FeatureLaws.{EnablesAtLeast, at-least-of-and, versionEcx-and, featuresEbx-and, featuresEcx-and, featuresEdx-and, extendedVersionEcx-and, extendedVersionEdx-and, addressSizesEbx-and, ClearsFewer, versionEcx-fewer, featuresEbx-fewer, featuresEcx-fewer, extendedVersionEcx-fewer}
 
 -- what B's rows need from each other, compared with A's; of the same edition or not, B clears no bit that A leaves
 pub record SettingsRise (c d : Settings) : Type 0 where

@@ -14,15 +14,15 @@ use Rattle.table.specs.declared.Verdict.the-variants.{Accepted}
 use Rattle.table.specs.Rows.{Row, Rows, row, vacant}
 use Rattle.checks.specs.ExtendedState.{combinedMask}
 use Rattle.features.specs.Finish.{ruleAt, settings, finish, remains, finished}
-use Rattle.update.specs.Kinds.{Kind, Kinds, EntryAtLeast, TableAtLeast, Registers, kindsAt}
-use Rattle.update.specs.Kinds.Kind.{feature, featureBut28, area, freed, other}
-use Rattle.finish_laws.specs.RemainsLaws.{finished-entry}
+use Rattle.finish.specs.Kinds.{Kind, Kinds, EntryAtLeast, TableAtLeast, Registers, kindsAt}
+use Rattle.finish.specs.Kinds.Kind.{feature, featureBut28, area, freed, other}
+use Rattle.finish.specs.RemainsLaws.{finished-entry}
 use Rattle.checks.specs.ChecksLaws.{then-left}
 use Rattle.table.specs.Table.{rowIn}
 use Rattle.table.specs.TableLaws.{table-ext}
 use Rattle.build.specs.Built.{SameButOrigins}
 use Rattle.build.specs.Build.{rowsFor, verdictOf, answer}
-use Rattle.lawful.specs.Lawful.{lawfulVerdict}
+use Rattle.collect.specs.Lawful.{lawfulVerdict}
 use Rattle.rise.specs.Rise.{RiseHypothesis, TableRises}
 use Rattle.rise.specs.RiseProof.{answer-table, answer-row, answer-mask, accepted-lawful, demand-3}
 

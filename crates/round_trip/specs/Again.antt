@@ -7,7 +7,7 @@ use Rattle.bits.specs.Choice.{pick}
 use Rattle.masking.specs.Kept.{places}
 use Rattle.table.specs.Rows.{Row, Rows, vacant}
 use Rattle.features.specs.Finish.{ruleAt}
-use Rattle.update.specs.Kinds.{fromEntry}
+use Rattle.finish.specs.Kinds.{fromEntry}
 use Rattle.collect.specs.FirstEntries.{maskedAt, maskRow}
 
 -- what a page entry made of the row at place i gives

@@ -6,16 +6,16 @@ use Prim.Native.Nat.{ℕ, zero, suc, _+_, _*_, _≤_, _<_}
 use native.Mathlib.Omega.{arith}
 use lib.ListN.{length, getD}
 use Rattle.pages.specs.Layout.{wordAt, countOf, pagesIn, mostEntries}
-use Rattle.reserved.specs.Reserved.{cleanAt, allClean}
-use Rattle.reserved.specs.ZerosLaws.{zeros-of-words}
-use Rattle.reserved.specs.ReservedLaws.{all-clean}
+use Rattle.pages.specs.Reserved.{cleanAt, allClean}
+use Rattle.pages.specs.ZerosLaws.{zeros-of-words}
+use Rattle.pages.specs.ReservedLaws.{all-clean}
 use Rattle.table.specs.declared.Verdict.the-variants.{Accepted}
-use Rattle.lawful.specs.Lawful.{lawfulVerdict}
-use Rattle.lawful.specs.LawfulLaws.{clean-lawful}
+use Rattle.collect.specs.Lawful.{lawfulVerdict}
+use Rattle.collect.specs.LawfulLaws.{clean-lawful}
 use Rattle.kvm_list.specs.Words.{bytesOfWords, cut}
 use Rattle.kvm_list.specs.Format.{ListRow}
-use Rattle.kvm_checks.specs.ListChecks.{rowsOn0, rowsOn1}
-use Rattle.kvm_pages.specs.ListPages.{entriesWords, pageWords, pagesOf}
+use Rattle.kvm_import.specs.ListChecks.{rowsOn0, rowsOn1}
+use Rattle.kvm_import.specs.ListPages.{entriesWords, pageWords, pagesOf}
 use Rattle.round_trip.specs.PagesRead.{AllFit, words-past, word-0, word-1, pages-in, count-0, count-1, fits-0, fits-1, whole, pages-length, pages-counts}
 
 -- words 10 and 11 of an entry

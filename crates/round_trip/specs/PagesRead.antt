@@ -26,9 +26,9 @@ use Rattle.kvm_list.specs.Words.{bytesOfWords, cut}
 use Rattle.kvm_list.specs.WordsLaws.{cut-small, length-bytes, bytes-append, word-bytes}
 use Rattle.kvm_list.specs.Format.{ListRow}
 use Rattle.kvm_list.specs.FormatLaws.{cutRow}
-use Rattle.kvm_checks.specs.ListChecks.{isExtendedState, rowsOn0, rowsOn1}
-use Rattle.kvm_pages.specs.ListPages.{entryWords, entriesWords, pageWords, pagesOf}
-use Rattle.kvm_pages.specs.PagesLaws.{length-page}
+use Rattle.kvm_import.specs.ListChecks.{isExtendedState, rowsOn0, rowsOn1}
+use Rattle.kvm_import.specs.ListPages.{entryWords, entriesWords, pageWords, pagesOf}
+use Rattle.kvm_import.specs.PagesLaws.{length-page}
 use Rattle.round_trip.specs.Reads.{LeafRow, ofRow, ofEntry}
 
 abbrev fromWords : (ℕ → ℕ) → LeafRow

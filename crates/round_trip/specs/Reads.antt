@@ -7,10 +7,10 @@ use Rattle.x86defs.specs.declared.CpuidResult.{CpuidResult}
 use Rattle.pages.specs.Layout.{Entry, countOf}
 use Rattle.pages.specs.Entries.{onPage, counted}
 use Rattle.table.specs.declared.Verdict.the-variants.{Accepted}
-use Rattle.lawful.specs.Lawful.{lawfulVerdict}
+use Rattle.collect.specs.Lawful.{lawfulVerdict}
 use Rattle.kvm_list.specs.Format.{ListRow, rowsIn}
-use Rattle.kvm_checks.specs.ListChecks.{rowsOn0, rowsOn1}
-use Rattle.kvm_pages.specs.ListPages.{pagesOf}
+use Rattle.kvm_import.specs.ListChecks.{rowsOn0, rowsOn1}
+use Rattle.kvm_import.specs.ListPages.{pagesOf}
 use Rattle.kvm_import.specs.Import.{readList}
 
 -- what an entry and a row of a list have in common: EAX_IN and function, ECX_IN and index, the registers

@@ -10,8 +10,8 @@ use Rattle.table.specs.declared.Refusal.{Refusal}
 use Rattle.table.specs.declared.Refusal.the-variants.{ListLength, ListRows, ListFields, BufferTooShort}
 use Rattle.buffer.specs.declared.Written.the-variants.{Bytes, Refused}
 use Rattle.kvm_list.specs.Format.{ListRow, rowCount, zeroWord, rowAt, rowsIn}
-use Rattle.kvm_checks.specs.ListChecks.{rowsOn0, rowsOn1}
-use Rattle.kvm_pages.specs.ListPages.{pagesOf}
+use Rattle.kvm_import.specs.ListChecks.{rowsOn0, rowsOn1}
+use Rattle.kvm_import.specs.ListPages.{pagesOf}
 use Rattle.kvm_import.specs.Import.{readList}
 
 -- ---- what must hold, each by itself

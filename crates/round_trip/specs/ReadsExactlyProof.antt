@@ -21,9 +21,9 @@ use Rattle.pages.specs.Layout.{wordAt}
 use Rattle.x86defs.specs.Functions.{result}
 use Rattle.kvm_list.specs.Format.{ListRow, rowCount, zeroWord, rowAt, rowsIn}
 use Rattle.kvm_list.specs.FormatLaws.{cutRow}
-use Rattle.kvm_checks.specs.ListChecks.{badListLength, rowLawful, allLawful, fieldsLawful, rowsOn0, rowsOn1, rowsFit}
-use Rattle.kvm_pages.specs.ListPages.{pagesOf}
-use Rattle.kvm_pages.specs.PagesLaws.{pages-length}
+use Rattle.kvm_import.specs.ListChecks.{badListLength, rowLawful, allLawful, fieldsLawful, rowsOn0, rowsOn1, rowsFit}
+use Rattle.kvm_import.specs.ListPages.{pagesOf}
+use Rattle.kvm_import.specs.PagesLaws.{pages-length}
 use Rattle.kvm_import.specs.Import.{listVerdict, readList}
 use Rattle.round_trip.specs.Reads.{ReadMakes}
 use Rattle.round_trip.specs.ReadsExactly.{LengthHolds, RowHolds, FieldsHold, RowsFit, ReadsExactly}

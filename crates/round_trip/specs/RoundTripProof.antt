@@ -22,22 +22,22 @@ use Rattle.table.specs.Table.{tableOf, countRows, rowIn, rowsIn as tableRows}
 use Rattle.checks.specs.Checks.{rowsVerdict}
 use Rattle.features.specs.Finish.{finished}
 use Rattle.collect.specs.FirstEntries.{firstAt, maskRow, rowsOf}
-use Rattle.rows_built.specs.RowsBuilt.{builtFrom}
+use Rattle.finish.specs.RowsBuilt.{builtFrom}
 use Rattle.build.specs.Built.{withoutOrigins, SameButOrigins}
 use Rattle.build.specs.Build.{rowsFor, answer}
 use Rattle.build.specs.BuildLaws.{answer-of-rows}
 use Rattle.buffer.specs.declared.Written.the-variants.{Bytes}
 use Rattle.buffer.specs.Front.{AfterWrite, writeFront}
 use Rattle.buffer.specs.WritesExactly.{front-exactly}
-use Rattle.image.specs.Pieces.{rowsAmong}
+use Rattle.image.specs.ImagePieces.{rowsAmong}
 use Rattle.refusals.specs.ExactlyProof.{not-short}
 use Rattle.rise.specs.RiseProof.{answer-table, answer-row, accepted-edition, accepted-lawful, accepted-rows}
 use Rattle.kvm_list.specs.Format.{rowsIn}
-use Rattle.kvm_pages.specs.ListPages.{pagesOf}
-use Rattle.kvm_pages.specs.PagesLaws.{pages-length as two-pages}
+use Rattle.kvm_import.specs.ListPages.{pagesOf}
+use Rattle.kvm_import.specs.PagesLaws.{pages-length as two-pages}
 use Rattle.kvm_import.specs.Import.{listVerdict, readList}
 use Rattle.kvm_export.specs.Export.{listRows, listOf, writeList}
-use Rattle.kvm_export.specs.ListLaws.{count-rows, list-length}
+use Rattle.kvm_export.specs.ExportListLaws.{count-rows, list-length}
 use Rattle.round_trip.specs.Again.{readAgain, again}
 use Rattle.round_trip.specs.RowsAgain.{built-again}
 use Rattle.round_trip.specs.MaskedRows.{rows-masked}

@@ -34,12 +34,12 @@ use Rattle.checks.specs.TopologyInputs.{inputsOf}
 use Rattle.checks.specs.Checks.{refuseAt, missingComponent, invlpgbVerdict, componentsOf, componentsVerdict, areaVerdict, topologyVerdict, topologyRefusal, rowsVerdict}
 use Rattle.checks.specs.ChecksLaws.{AllPass, all-pass, required-present, present-required, component-present, demanded, then-skips}
 use Rattle.features.specs.Finish.{Rule, Settings, ymmClears, ruleAt, enabledBy, settings, finish, remains, finishRow, finished, unlessNoXss, addressSizesEbx}
-use Rattle.update.specs.Kinds.{fromEntry}
-use Rattle.update.specs.PlaceLaws.{always, always-from-entry, required-place, position, always-required, component-rule}
-use Rattle.finish_laws.specs.RemainsLaws.{finished-present, finished-result, finished-entry, always-remains, component-finished}
+use Rattle.finish.specs.Kinds.{fromEntry}
+use Rattle.finish.specs.PlaceLaws.{always, always-from-entry, required-place, position, always-required, component-rule}
+use Rattle.finish.specs.RemainsLaws.{finished-present, finished-result, finished-entry, always-remains, component-finished}
 use Rattle.table.specs.declared.CpuidResults.{CpuidResults}
 use Rattle.table.specs.Table.{tableOf, countRows}
-use Rattle.rows_built.specs.RowsBuilt.{tableFor, builtFrom}
+use Rattle.finish.specs.RowsBuilt.{tableFor, builtFrom}
 use Rattle.collect.specs.FirstEntries.{maskedAt, maskRow}
 use Rattle.round_trip.specs.Again.{readAgain, again, Masked}
 use Rattle.round_trip.specs.RuleAgain.{isSizes, sizes-bit-3, has-of-bit, finish-again, remains-again}

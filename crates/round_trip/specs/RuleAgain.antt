@@ -15,7 +15,7 @@ use Rattle.table.specs.Rows.{Row, Rows, row, vacant}
 use Rattle.features.specs.Finish.{Needed, Rule, changeRow, Enabled, YmmClears, Settings, hasYmm, hasAvx512, hasCet, avx512FeaturesEbx, avx512FeaturesEcx, avx512FeaturesEdx, cetSs, rdPid, rdtscp, ibrsAndStibp, btcNo, hypervisorPresent, versionEcx, featuresEbx, featuresEcx, featuresEdx, extendedVersionEcx, extendedVersionEdx, addressSizesEbx, unlessNoXss, finish, remains}
 use Rattle.features.specs.Finish.Needed.{versionAndFeatures, extendedFeatures, threadLevelRow, coreLevelRow, extendedState0, extendedState1, extendedVersionAndFeatures, extendedAddressSpaceSizes, untouched}
 use Rattle.features.specs.Finish.Rule.{made, needed, component}
-use Rattle.update.specs.Kinds.{fromEntry}
+use Rattle.finish.specs.Kinds.{fromEntry}
 use Rattle.collect.specs.FirstEntries.{maskedAt}
 
 -- ---- rules that keep some bits and set some, bit by bit

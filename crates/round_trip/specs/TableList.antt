@@ -19,7 +19,7 @@ use Rattle.table.specs.Table.{rowIn}
 use Rattle.kvm_list.specs.Words.{cut}
 use Rattle.kvm_list.specs.Format.{ListRow, rowCount, rowsIn, listBytes}
 use Rattle.kvm_list.specs.FormatLaws.{cutRow, list-count, list-zero, list-rows, list-length}
-use Rattle.kvm_checks.specs.ListChecks.{badListLength, allLawful, fieldsLawful, isExtendedState, rowsOn0, rowsOn1, rowsFit}
+use Rattle.kvm_import.specs.ListChecks.{badListLength, allLawful, fieldsLawful, isExtendedState, rowsOn0, rowsOn1, rowsFit}
 use Rattle.kvm_import.specs.Import.{listVerdict}
 use Rattle.kvm_export.specs.Export.{listRow, rowsFrom, listRows, listOf}
 

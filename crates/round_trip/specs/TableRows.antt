@@ -23,7 +23,7 @@ use Rattle.masking.specs.Kept.{keptLeaves, slot, places, placeOf, leafAt, suble
 use Rattle.table.specs.Rows.{Row, row, vacant}
 use Rattle.table.specs.declared.CpuidResults.{CpuidResults}
 use Rattle.features.specs.Finish.{ruleAt}
-use Rattle.update.specs.Kinds.{fromEntry}
+use Rattle.finish.specs.Kinds.{fromEntry}
 use Rattle.table.specs.Table.{rowIn}
 use Rattle.collect.specs.FirstEntries.{maskedAt, maskRow}
 use Rattle.kvm_list.specs.Words.{cut}

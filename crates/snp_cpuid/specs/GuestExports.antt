@@ -19,7 +19,7 @@ use Rattle.build.specs.Build.{answer}
 use Rattle.guest.specs.declared.Processor.{Processor}
 use Rattle.guest.specs.declared.GuestAnswer.{GuestAnswer}
 use Rattle.guest.specs.Seen.{SeenIn}
-use Rattle.guest_pages.specs.GuestPages.{guestPages}
+use Rattle.guest.specs.GuestPages.{guestPages}
 use Rattle.answers.specs.declared.SnpCpuidBuilt.{SnpCpuidBuilt}
 use Rattle.answers.specs.declared.SnpCpuidFound.{SnpCpuidFound}
 use Rattle.answers.specs.Answers.{heldNumbers, foundGiven, foundAt}

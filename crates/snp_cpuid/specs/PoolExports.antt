@@ -9,7 +9,7 @@ use Rattle.memory.specs.Held.{heldIn, maskHeld, mask-held}
 use Rattle.pool.specs.declared.Pooled.{Pooled}
 use Rattle.pool.specs.declared.PoolVerdict.{PoolVerdict}
 use Rattle.pool.specs.PoolIn.{PoolIn}
-use Rattle.pool_answers.specs.PoolAnswers.{pooledGiven, pooledNumbers}
+use Rattle.answers.specs.PoolAnswers.{pooledGiven, pooledNumbers}
 use Rattle.answers.specs.declared.SnpCpuidFound.{SnpCpuidFound}
 use Rattle.answers.specs.Answers.{foundAt}
 

@@ -11,7 +11,7 @@ use masking::PLACES;
 use memory::REGISTERS;
 use table::Choices;
 ghost use mathlib.Core.Path.{_≡_};
-ghost use Rattle.guest_pages.specs.GuestPages.{guestPages, writeGuest};
+ghost use Rattle.guest.specs.GuestPages.{guestPages, writeGuest};
 ghost use Rattle.answers.specs.Answers.{choicesOf, processorOf, writtenNumbers, subleafOf};
 ghost use Rattle.snp_cpuid.specs.GuestExports.{guestNumbers, guestFound};
 
@@ -35,7 +35,7 @@ pub extern "C" fn snp_cpuid_guest_build(
     };
     let mut registers: [u32; REGISTERS] = [0; REGISTERS];
     let mut origins: [u64; PLACES] = [0; PLACES];
-    let verdict = guest_pages::guest_pages(pages, choices, v, &mut registers, &mut origins);
+    let verdict = guest::from_pages::guest_pages(pages, choices, v, &mut registers, &mut origins);
     table_numbers(verdict, &registers, &origins)
 }
 
@@ -63,7 +63,7 @@ pub extern "C" fn snp_cpuid_guest_lookup(
     };
     let mut registers: [u32; REGISTERS] = [0; REGISTERS];
     let mut origins: [u64; PLACES] = [0; PLACES];
-    guest_pages::guest_pages(pages, choices, v, &mut registers, &mut origins);
+    guest::from_pages::guest_pages(pages, choices, v, &mut registers, &mut origins);
     let named = subleaf_of(has_subleaf, subleaf);
     found_at(&registers, &origins, leaf, named, enforce_subleaf)
 }
@@ -88,5 +88,5 @@ pub extern "C" fn snp_cpuid_write_guest_image(
         secure_avic,
         edition,
     };
-    written_numbers(guest_pages::write_guest_image(pages, choices, v, out))
+    written_numbers(guest::from_pages::write_guest_image(pages, choices, v, out))
 }

@@ -3,25 +3,25 @@ use answers::SnpCpuidBuilt;
 use answers::SnpCpuidFirst;
 use answers::SnpCpuidFound;
 use answers::SnpCpuidWritten;
+use answers::comparison::SnpCpuidCompared;
+use answers::comparison::compared_numbers;
 use answers::first_numbers;
 use answers::found_at;
 use answers::subleaf_of;
 use answers::table_numbers;
 use answers::written_numbers;
 use build::build_into;
-use compare_answers::SnpCpuidCompared;
-use compare_answers::compared_numbers;
 use masking::PLACES;
 use memory::REGISTERS;
 use table::Choices;
 use x86defs::CpuidFunction;
 ghost use mathlib.Core.Path.{_≡_};
 ghost use Rattle.build.specs.Build.{answer};
-ghost use Rattle.write.specs.Write.{write};
-ghost use Rattle.first_entry.specs.FirstEntry.{firstEntry};
+ghost use Rattle.image.specs.Write.{write};
+ghost use Rattle.collect.specs.FirstEntry.{firstEntry};
 ghost use Rattle.compare.specs.Compare.{compared};
 ghost use Rattle.answers.specs.Answers.{choicesOf, builtNumbers, writtenNumbers, subleafOf};
-ghost use Rattle.compare_answers.specs.ComparedAnswers.{comparedNumbers};
+ghost use Rattle.answers.specs.ComparedAnswers.{comparedNumbers};
 ghost use Rattle.snp_cpuid.specs.Exports.{foundIn, firstNumbers};
 
 mod carry_exports;
@@ -77,7 +77,7 @@ pub extern "C" fn snp_cpuid_lookup(
 pub extern "C" fn snp_cpuid_first_entry(pages: &[u8], leaf: u32, subleaf: u32) -> SnpCpuidFirst
     ensures { λ r. ⌜ r ≡ firstNumbers (firstEntry (now (pages .entry)) (record { 0 = leaf }) subleaf) ⌝ }
 {
-    let first = first_entry::first_entry(pages, CpuidFunction(leaf), subleaf);
+    let first = collect::first_entry::first_entry(pages, CpuidFunction(leaf), subleaf);
     let verdict = first.verdict;
     first_numbers(verdict, first.origin)
 }
@@ -97,7 +97,7 @@ pub extern "C" fn snp_cpuid_write_image(
         secure_avic,
         edition,
     };
-    written_numbers(write::write_image(pages, choices, out))
+    written_numbers(image::from_pages::write_image(pages, choices, out))
 }
 
 // Whether a guest of the server with pages `a` may move to the one with pages `b`, or the first thing in the way.

@@ -1,14 +1,14 @@
 // Refusals as lines, for C and Rust: numbers and byte slices in, plain numbers out. include/snp_cpuid.h documents each call.
+use answers::line::SnpCpuidLineRead;
+use answers::line::SnpCpuidLineWritten;
+use answers::line::line_read_numbers;
+use answers::line::line_written_numbers;
 use answers::subleaf_of;
-use line_answers::SnpCpuidLineRead;
-use line_answers::SnpCpuidLineWritten;
-use line_answers::line_read_numbers;
-use line_answers::line_written_numbers;
-use line_bytes::LineDetails;
+use lines::bytes::LineDetails;
 ghost use mathlib.Core.Path.{_≡_};
 ghost use Rattle.lines.specs.WriteLine.{writeLine};
 ghost use Rattle.lines.specs.ReadLine.{readLine};
-ghost use Rattle.line_answers.specs.LineAnswers.{detailsGiven, lineWrittenNumbers, lineReadNumbers};
+ghost use Rattle.answers.specs.LineAnswers.{detailsGiven, lineWrittenNumbers, lineReadNumbers};
 
 // Writes the line of a refusal at the front of `out`.
 #[no_mangle]

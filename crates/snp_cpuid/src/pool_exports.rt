@@ -2,6 +2,8 @@
 use answers::SnpCpuidFound;
 use answers::SnpCpuidWritten;
 use answers::found_at;
+use answers::pool_answer::SnpCpuidPooled;
+use answers::pool_answer::pooled_numbers;
 use answers::subleaf_of;
 use answers::written_numbers;
 use masking::PLACES;
@@ -9,15 +11,13 @@ use memory::REGISTERS;
 use memory::combined_mask;
 use memory::row_count;
 use pool::pool_into;
-use pool_answers::SnpCpuidPooled;
-use pool_answers::pooled_numbers;
-use pool_write::write_pool_image;
+use pool::write::write_pool_image;
 use table::Choices;
 ghost use mathlib.Core.Path.{_≡_};
 ghost use Rattle.pool.specs.Pool.{pooled};
-ghost use Rattle.pool_write.specs.WritePool.{writePool};
+ghost use Rattle.pool.specs.WritePool.{writePool};
 ghost use Rattle.answers.specs.Answers.{choicesOf, writtenNumbers, subleafOf};
-ghost use Rattle.pool_answers.specs.PoolAnswers.{pooledNumbers};
+ghost use Rattle.answers.specs.PoolAnswers.{pooledNumbers};
 ghost use Rattle.snp_cpuid.specs.PoolExports.{pooledFound, PooledIn};
 
 // Builds one table for servers whose page sets stand end to end.

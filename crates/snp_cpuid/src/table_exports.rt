@@ -7,6 +7,8 @@ use answers::SnpCpuidGuestFound;
 use answers::SnpCpuidRead;
 use answers::SnpCpuidState;
 use answers::SnpCpuidWritten;
+use answers::comparison::SnpCpuidTablesCompared;
+use answers::comparison::tables_compared_numbers;
 use answers::found_at;
 use answers::found_numbers;
 use answers::guest_found_numbers;
@@ -18,8 +20,6 @@ use answers::table_counts;
 use answers::table_numbers;
 use answers::written_numbers;
 use build::build_into;
-use compare_answers::SnpCpuidTablesCompared;
-use compare_answers::tables_compared_numbers;
 use guest::find_kept;
 use guest::guest_find;
 use guest::guest_table;
@@ -45,11 +45,11 @@ ghost use Rattle.guest_state.specs.InUse.{readRows, inUse};
 ghost use Rattle.guest.specs.Guest.{guestAnswer};
 ghost use Rattle.guest.specs.Seen.{tableWith, foundIn};
 ghost use Rattle.carry.specs.Carry.{carry};
-ghost use Rattle.carry.specs.InPlace.{CarriedIn};
+ghost use Rattle.carry.specs.CarriedInPlace.{CarriedIn};
 ghost use Rattle.tables_compared.specs.CompareTables.{comparedTables};
-ghost use Rattle.numbers.specs.Numbers.{numbersOf};
+ghost use Rattle.table.specs.Numbers.{numbersOf};
 ghost use Rattle.answers.specs.Answers.{choicesOf, processorOf, countsOf, readWith, builtNumbers, foundNumbers, foundAt, guestFoundNumbers, stateNumbers, writtenNumbers, subleafOf};
-ghost use Rattle.compare_answers.specs.ComparedAnswers.{tablesComparedNumbers};
+ghost use Rattle.answers.specs.ComparedAnswers.{tablesComparedNumbers};
 ghost use Rattle.snp_cpuid.specs.GuestExports.{guestNumbers, GuestIn};
 
 // Builds the table of the given pages into the caller's memory; a refusal leaves a table without rows.
@@ -201,7 +201,7 @@ pub extern "C" fn snp_cpuid_table_write_image(
     ensures { λ r. ⌜ r ≡ writtenNumbers (writeFront (image (heldIn (now (registers .entry)) (now (origins .entry)))) (now (out .entry)) .answer) ⌝ }
     ensures { λ _. ⌜ now (out .exit) ≡ writeFront (image (heldIn (now (registers .entry)) (now (origins .entry)))) (now (out .entry)) .buffer ⌝ }
 {
-    written_numbers(image_write::write_table(registers, origins, out))
+    written_numbers(image::write::write_table(registers, origins, out))
 }
 
 // Writes a table's struct kvm_cpuid2 at the front of `out`.
@@ -231,7 +231,7 @@ pub extern "C" fn snp_cpuid_table_carry(
     ensures { λ _. ⌜ CarriedIn (carry (heldIn (now (registers .entry)) (now (origins .entry))) from to xcr0 xss) (carry (heldIn (now (registers .entry)) (now (origins .entry))) from to xcr0 xss .verdict) (now (registers .entry)) (now (origins .entry)) (now (registers .exit)) ⌝ }
 {
     let verdict = carry::carry(registers, origins, from, to, xcr0, xss);
-    let numbers = numbers::answer_numbers(verdict);
+    let numbers = table::numbers::answer_numbers(verdict);
     numbers.number as u32
 }
 

@@ -6,3 +6,4 @@ pub mod TableLaws
 pub mod Fits
 pub mod Order
 pub mod OrderLaws
+pub mod Numbers

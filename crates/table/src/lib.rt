@@ -6,6 +6,8 @@ use x86defs::CpuidResult;
 ghost use mathlib.Core.Path.{_≡_};
 ghost use Rattle.table.specs.Edition.{knownEdition};
 
+pub mod numbers;
+
 // What a caller chooses: whether secure AVIC is kept (document 01, "Corners of masking.rs"), and the edition of the AVX rule (document 02, P7).
 pub struct Choices {
     pub secure_avic: bool,

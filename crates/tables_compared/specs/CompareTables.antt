@@ -1,6 +1,6 @@
 -- May a guest of one table move to another? What demand 3 concludes of two tables (`TableRises`, crates/rise/specs/Rise.antt), decided, or the first
 -- thing that fails: by rising leaf and subleaf a row of A's that B has not, its EAX, EBX, ECX, EDX, each as its kind asks
--- (crates/update/specs/Kinds.antt), or a row of B's that A has not and that is none of its further mask bits; last the combined mask.
+-- (crates/finish/specs/Kinds.antt), or a row of B's that A has not and that is none of its further mask bits; last the combined mask.
 use mathlib.Core.Bool.{Bool, true, not, _&&_}
 use Prim.Native.Nat.{ℕ, _-_}
 use lib.Dec.{eqb, leb, ltb}
@@ -15,8 +15,8 @@ use Rattle.masking.specs.Place
 use Rattle.table.specs.declared.CpuidResults.{CpuidResults}
 use Rattle.table.specs.Rows.{Row}
 use Rattle.table.specs.Table.{rowIn}
-use Rattle.update.specs.Kinds.{Kind, Kinds, kindsAt}
-use Rattle.update.specs.Kinds.Kind.{feature, featureBut28, area, freed, other}
+use Rattle.finish.specs.Kinds.{Kind, Kinds, kindsAt}
+use Rattle.finish.specs.Kinds.Kind.{feature, featureBut28, area, freed, other}
 use Rattle.rise.specs.Decide.{risesTest}
 use Rattle.register_kinds.specs.declared.Register.{Register}
 use Rattle.register_kinds.specs.Registers.{firstBy, subleafNamed}

@@ -13,9 +13,9 @@ use Rattle.x86defs.specs.Functions.{result}
 use Rattle.masking.specs.Kept.{places, keptLeaves, slot}
 use Rattle.masking.specs.Place
 use Rattle.table.specs.Fits.{Fits}
-use Rattle.update.specs.Kinds.{Kind, Kinds, registerKinds, kindsAt}
-use Rattle.update.specs.Kinds.Kind.{feature, featureBut28, area, freed, other}
-use Rattle.register_masks.specs.Masks.{featureBits, masksOf}
+use Rattle.finish.specs.Kinds.{Kind, Kinds, registerKinds, kindsAt}
+use Rattle.finish.specs.Kinds.Kind.{feature, featureBut28, area, freed, other}
+use Rattle.register_masks.specs.RegisterMasks.{featureBits, masksOf}
 use Rattle.register_kinds.specs.declared.RegistersRise.{RegistersRise}
 use Rattle.register_kinds.specs.Registers.{registersRise}
 use Rattle.register_kinds.specs.ByMasks.{passes, passesBy, features-pass, but-28-passes, same-passes}

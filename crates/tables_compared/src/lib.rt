@@ -17,12 +17,12 @@ ghost use mathlib.Core.Path.{_≡_};
 ghost use Prim.Native.Nat.{_<_};
 ghost use Rattle.masking.specs.Kept.{places};
 ghost use Rattle.memory.specs.Held.{heldIn};
-ghost use Rattle.update.specs.Kinds.{kindsAt};
+ghost use Rattle.finish.specs.Kinds.{kindsAt};
 ghost use Rattle.register_kinds.specs.Registers.{registersRise};
 ghost use Rattle.tables_compared.specs.CompareTables.{tableTest, furtherTest, rowTest, failingOf, comparedTables};
-ghost use Rattle.tables_compared.specs.CompareLaws.{rowWith};
+ghost use Rattle.tables_compared.specs.TablesCompareLaws.{rowWith};
 ghost use Rattle.tables_compared.specs.TableMasks.{outside};
-ghost use Rattle.tables_compared.specs.Means.{Decides};
+ghost use Rattle.tables_compared.specs.TablesMean.{Decides};
 
 // What a comparison gives: B's table rises from A's; it lacks a row of A's; a register of its row fails; it has a row that A's has not and that is no
 // extended state of its further mask bits; or its combined mask lacks a bit of A's.

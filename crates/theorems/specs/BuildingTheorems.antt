@@ -17,7 +17,7 @@ use Rattle.table.specs.declared.Verdict.the-variants.{Accepted, Refused}
 use Rattle.bits.specs.Lists.{keepIf}
 use Rattle.pages.specs.Entries.{entries, counted}
 use Rattle.pages.specs.Parsed.{parsed, countsRead}
-use Rattle.walk.specs.Walk.{firstIndex}
+use Rattle.reader.specs.Walk.{firstIndex}
 use Rattle.build.specs.Build.{answer}
 use Rattle.reader.specs.Read.{given}
 use Rattle.reader.specs.ReadLaws.{reader-gives, reader-gives-counted, reader-gives-clean}
@@ -36,7 +36,7 @@ use Rattle.rise.specs.Rise.{RiseHypothesis}
 use Rattle.register_kinds.specs.declared.Register.the-variants.{Ecx}
 use Rattle.compare.specs.declared.Compared.the-variants.{Rises as Yes, RefusedA, UnlawfulB, NoEntry, Differs}
 use Rattle.compare.specs.Compare.{compared}
-use Rattle.reserved.specs.Reserved.{clean, allClean}
+use Rattle.pages.specs.Reserved.{clean, allClean}
 use Rattle.examples.specs.Unclean as Unclean
 use Rattle.page_sets.specs.Evaluation.{first}
 use Rattle.page_sets.specs.PageSets.{serverA, serverB, serverWithoutD12, serverWithLargeD6}
@@ -61,8 +61,8 @@ pub refused-finds-nothing : (chosen : Choices) (s : List ℕ) (r : Refusal) → 
     → (leaf : CpuidFunction) (sub : Subleaf) (enforce : Bool) → lookup (answer chosen s .table) leaf sub enforce ≡ Nothing
 refused-finds-nothing chosen s r e leaf sub enforce = rw (builds-exactly chosen s .empty r e) (empty-finds-nothing leaf sub enforce)
 
--- ---- P10, reserved bytes of an entry. crates/reserved/specs/Reserved.antt: `allClean` says that the eight reserved bytes of every entry below its
--- page's count are zero. It is part of what lawful pages are (`lawfulVerdict`, crates/lawful/specs/Lawful.antt), which demand 3, the comparison and
+-- ---- P10, reserved bytes of an entry. crates/pages/specs/Reserved.antt: `allClean` says that the eight reserved bytes of every entry below its
+-- page's count are zero. It is part of what lawful pages are (`lawfulVerdict`, crates/collect/specs/Lawful.antt), which demand 3, the comparison and
 -- P9 ask.
 
 -- of clean pages every entry that a reader gives is clean: the entries whose reserved bytes are zero are all of them

@@ -12,7 +12,7 @@ use Rattle.build.specs.Build.{answer}
 use Rattle.rise.specs.Rise.{RiseHypothesis}
 use Rattle.rise.specs.Same.{rises-itself, same-figures}
 use Rattle.rise.specs.Preorder.{rises-compose}
-use Rattle.numbers.specs.Numbers.{numbersOf}
+use Rattle.table.specs.Numbers.{numbersOf}
 use Rattle.theorems.specs.Exported.{built, compareAnswer, exports-compare, verdict-numbered}
 
 pub record CompareOrder (chosen : Choices) : Type 0 where

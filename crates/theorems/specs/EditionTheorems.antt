@@ -11,26 +11,26 @@ use Rattle.table.specs.declared.Verdict.the-variants.{Accepted, Refused}
 use Rattle.build.specs.Build.{answer, underEdition}
 use Rattle.rise.specs.Rise.{RiseTo, TableRises, SecondToFirst}
 use Rattle.rise.specs.RiseProof.{second-to-first-rises}
-use Rattle.examples.specs.Seen.{figures}
+use Rattle.examples.specs.SeenExamples.{figures}
 use Rattle.features.specs.Finish.{edition1, edition2}
-use Rattle.finish_laws.specs.FinishLaws.{figures as clears, ymm-figures, ymm-figures-2}
-use Rattle.editions.specs.Second.{SecondEdition, FirstEdition}
-use Rattle.editions.specs.SecondProof as Editions
+use Rattle.finish.specs.FinishLaws.{figures as clears, ymm-figures, ymm-figures-2}
+use Rattle.rise.specs.Second.{SecondEdition, FirstEdition}
+use Rattle.rise.specs.SecondProof as Editions
 use Rattle.examples.specs.WithoutYmm as WithoutYmm
 use Rattle.carry.specs.Carry.{carry}
 use Rattle.carry.specs.AbsentRows as AbsentRows
-use Rattle.carried.specs.Carried.{CarryKeeps, CarriesInPlace}
-use Rattle.carried.specs.CarriedLaws.{carry-keeps, carries-in-place}
-use Rattle.carried.specs.CarriedRows as CarriedRows
-use Rattle.read_back.specs.ReadBack.{ImageReadsBack, BuiltReadsBack, OnlyImagesRead}
-use Rattle.read_back.specs.ReadBackProof as ReadBack
-use Rattle.carried.specs.Moves.{MovesToSecond}
-use Rattle.carried.specs.MovesProof.{moves-to-second}
-use Rattle.carried.specs.CarryExactly.{CarryExactly, carry-exactly}
+use Rattle.images.specs.Carried.{CarryKeeps, CarriesInPlace}
+use Rattle.images.specs.CarriedLaws.{carry-keeps, carries-in-place}
+use Rattle.images.specs.CarriedRows as CarriedRows
+use Rattle.images.specs.ReadBack.{ImageReadsBack, BuiltReadsBack, OnlyImagesRead}
+use Rattle.images.specs.ReadBackProof as ReadBack
+use Rattle.images.specs.Moves.{MovesToSecond}
+use Rattle.images.specs.MovesProof.{moves-to-second}
+use Rattle.images.specs.CarryExactly.{CarryExactly, carry-exactly}
 use Rattle.examples.specs.WithoutYmmMoved as Moved
 use Rattle.page_sets.specs.Evaluation.{first}
 
--- ---- P7, edition 2 of the AVX rule. crates/features/specs/Finish.antt has the clears of each edition, crates/editions/specs/Second.antt the
+-- ---- P7, edition 2 of the AVX rule. crates/features/specs/Finish.antt has the clears of each edition, crates/rise/specs/Second.antt the
 -- statements. All that is said above and below of `chosen` is said for any edition, the same for A and B, in one argument.
 
 -- what goes without XFEM bit 2, of 1.ECX, 7.0.EBX, 7.0.ECX and 80000001h.ECX, in edition 1 and in edition 2
@@ -73,29 +73,29 @@ pub no-third-edition : answer (underEdition 3) [] .verdict ≡ Refused UnknownEd
 no-third-edition = WithoutYmm.third-refused
 
 -- ---- P8, moving a live guest to edition 2. crates/carry/specs/Carry.antt has the table that is carried and the answers,
--- crates/carry_image/specs/CarryImage.antt the same of a table handed over as its image, in place.
+-- crates/carry/specs/CarryImage.antt the same of a table handed over as its image, in place.
 
 -- 15, 16, 13, 14 and the carried table, of any table: each if and only if its condition holds and no earlier one does
 pub each-carry-exactly : (t : CpuidResults) (from to xcr0 xss : ℕ) → CarryExactly t from to xcr0 xss
 each-carry-exactly = carry-exactly
 
 -- a table that building made under edition 1 becomes what edition 2 makes of the same pages, whole, also as an image; both save sizes stay.
--- crates/carried/specs/Moves.antt
+-- crates/images/specs/Moves.antt
 pub moves-to-edition-2 : MovesToSecond
 moves-to-edition-2 = moves-to-second
 
 -- of any table: every other row, which rows are there, the count, the mask and both save sizes stay; within one edition the whole table.
--- crates/carried/specs/Carried.antt
+-- crates/images/specs/Carried.antt
 pub carrying-changes-nothing-else : CarryKeeps
 carrying-changes-nothing-else = carry-keeps
 
 -- of any table from 1 to 2: rows 1 and 80000001h lose exactly the three bits where its own D.0.EAX lacks bit 2, absent rows reading as zeros, and
--- every other row is as it was. crates/carried/specs/CarriedRows.antt; `without-ymm-moved` below meets it
+-- every other row is as it was. crates/images/specs/CarriedRows.antt; `without-ymm-moved` below meets it
 pub carrying-clears-exactly : CarriedRows.CarriesRows
 carrying-clears-exactly = CarriedRows.carries-rows
 
 -- in place, within one edition: no lent byte changes, whatever is answered. Any slice of bytes meets it; of a list with a larger element it is false
--- (crates/examples/specs/NotBytes.antt)
+-- (crates/examples/specs/NoByteExamples.antt)
 pub carried-in-place-within : CarriedRows.StaysWithin
 carried-in-place-within = CarriedRows.stays-within
 
@@ -103,7 +103,7 @@ carried-in-place-within = CarriedRows.stays-within
 pub carried-in-place : CarriesInPlace
 carried-in-place = carries-in-place
 
--- an image is read back as the table that it was written of, and nothing else is taken for one. crates/read_back/specs/ReadBack.antt
+-- an image is read back as the table that it was written of, and nothing else is taken for one. crates/images/specs/ReadBack.antt
 pub images-read-back : ImageReadsBack
 images-read-back = ReadBack.image-reads-back
 

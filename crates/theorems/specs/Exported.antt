@@ -25,9 +25,9 @@ use Rattle.table.specs.Refusal.{details, topologyDetails}
 use Rattle.table.specs.declared.Verdict.{Verdict}
 use Rattle.table.specs.declared.Verdict.the-variants.{Accepted, Refused}
 use Rattle.table.specs.Rows.{Row, Rows}
-use Rattle.update.specs.Kinds.{TableAtLeast, Registers, kindsAt}
+use Rattle.finish.specs.Kinds.{TableAtLeast, Registers, kindsAt}
 use Rattle.table.specs.Table.{rowIn}
-use Rattle.rows_built.specs.RowsBuilt.{tableFor}
+use Rattle.finish.specs.RowsBuilt.{tableFor}
 use Rattle.build.specs.Build.{rowsFor, answer, originAt}
 use Rattle.lookup.specs.Lookup.{placeAsked, lookupOrigin}
 use Rattle.refusals.specs.Conditions.{Lacking, ComponentFault, AreaFault}
@@ -40,15 +40,15 @@ use Rattle.compare.specs.declared.Compared.the-variants.{Rises as Yes, RefusedA
 use Rattle.compare.specs.Compare.{compared}
 use Rattle.compare.specs.Means.{Means, Decides}
 use Rattle.compare.specs.DecidesProof.{decides}
-use Rattle.numbers.specs.Numbers.{numbersOf}
+use Rattle.table.specs.Numbers.{numbersOf}
 use Rattle.answers.specs.declared.SnpCpuidBuilt.{SnpCpuidBuilt}
 use Rattle.answers.specs.declared.SnpCpuidFound.{SnpCpuidFound}
 use Rattle.answers.specs.Answers.{builtNumbers, foundWith}
-use Rattle.compare_answers.specs.ComparedAnswers.{comparedNumbers}
+use Rattle.answers.specs.ComparedAnswers.{comparedNumbers}
 use Rattle.snp_cpuid.specs.Exports.{foundIn}
-use Rattle.origins.specs.declared.OriginRead.{OriginRead}
-use Rattle.origins.specs.Origin.{originRead, originTold}
-use Rattle.located.specs.LocatedProof.{rows-have-origins}
+use Rattle.memory.specs.declared.origins.OriginRead.{OriginRead}
+use Rattle.memory.specs.Origin.{originRead, originTold}
+use Rattle.rise.specs.LocatedProof.{rows-have-origins}
 use Rattle.theorems.specs.Looked.{looked-present, looked-inside, looked-at, looked-found}
 
 -- what snp_cpuid_build gives a page set, and snp_cpuid_lookup

@@ -22,14 +22,14 @@ use Rattle.table.specs.declared.Verdict.{Verdict}
 use Rattle.table.specs.declared.Verdict.the-variants.{Accepted, Refused}
 use Rattle.table.specs.Rows.{Rows}
 use Rattle.table.specs.Table.{emptyTable, rowIn}
-use Rattle.update.specs.Kinds.{TableAtLeast, Registers, kindsAt}
+use Rattle.finish.specs.Kinds.{TableAtLeast, Registers, kindsAt}
 use Rattle.build.specs.Build.{rowsFor, answer, originAt}
 use Rattle.lookup.specs.Lookup.{placeAsked}
 use Rattle.refusals.specs.Conditions.{Lacking, ComponentFault, AreaFault}
 use Rattle.rise.specs.Rise.{RiseHypothesis, Further}
 use Rattle.guest.specs.declared.Processor.{Processor}
 use Rattle.guest.specs.declared.GuestAnswer.{GuestAnswer}
-use Rattle.guest_pages.specs.GuestPages.{guestPages}
+use Rattle.guest.specs.GuestPages.{guestPages}
 use Rattle.guest_rise.specs.GuestRise.{compactsIn, GuestTableRises}
 use Rattle.guest_rise.specs.GuestExactly.{guest-exactly}
 use Rattle.guest_rise.specs.GuestRisen.{GuestRisen, guest-rises-all}
@@ -37,8 +37,8 @@ use Rattle.guest_rise.specs.GuestRisen.GuestRisen.{missing, overflow, tooLarge,
 use Rattle.answers.specs.declared.SnpCpuidBuilt.{SnpCpuidBuilt}
 use Rattle.answers.specs.declared.SnpCpuidFound.{SnpCpuidFound}
 use Rattle.snp_cpuid.specs.GuestExports.{guestNumbers, guestFound}
-use Rattle.origins.specs.Origin.{originTold}
-use Rattle.located.specs.LocatedProof.{rows-have-origins}
+use Rattle.memory.specs.Origin.{originTold}
+use Rattle.rise.specs.LocatedProof.{rows-have-origins}
 use Rattle.theorems.specs.Exported.{registersOf, refusedNumbers, originFound, verdict-numbered, table-whole}
 use Rattle.theorems.specs.Looked.{looked-present, looked-inside, looked-at, looked-found}
 

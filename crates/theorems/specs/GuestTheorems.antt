@@ -21,7 +21,7 @@ use Rattle.buffer.specs.WritesExactly.{FrontExactly}
 use Rattle.guest_state.specs.State.{stateVerdict}
 use Rattle.guest.specs.declared.Processor.{Processor}
 use Rattle.guest.specs.Guest.{guestTable, refusedAnswer}
-use Rattle.guest_pages.specs.GuestPages.{guestPages, writeGuest}
+use Rattle.guest.specs.GuestPages.{guestPages, writeGuest}
 use Rattle.guest_rise.specs.StateExactly.{StateAnswers, state-answers}
 use Rattle.guest_rise.specs.GuestExactly.{GuestExactly, guest-exactly, guest-writes-exactly}
 use Rattle.guest_rise.specs.GuestRise.{GuestRise, GuestOutcome, GuestTableRises, compactsIn}
@@ -31,7 +31,7 @@ use Rattle.guest.specs.SeenLaws as Seen
 use Rattle.guest.specs.SeenExactly.{SeenExactly, seen-exactly}
 use Rattle.guest_rise.specs.GuestRisen.{GuestRiseAll, guest-rises-all}
 use Rattle.examples.specs.CompactSizes.{sizes, sizes-are}
-use Rattle.examples.specs.Seen.{processor, figures}
+use Rattle.examples.specs.SeenExamples.{processor, figures}
 use Rattle.examples.specs.Views as Views
 use Rattle.examples.specs.Exception as Exception
 use Rattle.examples.specs.Composed as Composed
@@ -41,7 +41,7 @@ use Rattle.page_sets.specs.PageSets.{serverA, serverB, serverW, serverWithLarge
 use Rattle.theorems.specs.BuildingTheorems.{a-to-b}
 
 -- ---- P3, what one processor's guest sees. crates/guest/specs/Guest.antt has the guest's table, crates/guest_state/specs/State.antt
--- refusals 13 and 14 and the two sizes, Compact.antt beside it the compacted size; crates/guest_pages/specs/GuestPages.antt the same from pages.
+-- refusals 13 and 14 and the two sizes, Compact.antt beside it the compacted size; crates/guest/specs/GuestPages.antt the same from pages.
 
 -- Building's refusals first; then 13, 14 and the view, each if and only if its condition holds.
 pub each-guest-answer-exactly : (chosen : Choices) (s : List ℕ) (v : Processor) → GuestExactly chosen s v

@@ -17,7 +17,7 @@ use Rattle.build.specs.Build.{underEdition, answer}
 use Rattle.build.specs.InMemory.{TableIn}
 use Rattle.buffer.specs.Front.{writeFront, writeVerdict}
 use Rattle.image.specs.Image.{image}
-use Rattle.write.specs.Write.{write}
+use Rattle.image.specs.Write.{write}
 use Rattle.kvm_export.specs.Export.{listOf, writeList}
 use Rattle.guest_state.specs.declared.InUse.the-variants.{Compacted}
 use Rattle.guest_state.specs.InUse.{readRows, inUse}
@@ -27,23 +27,23 @@ use Rattle.guest.specs.declared.GuestFound.the-variants.{Looked}
 use Rattle.guest.specs.Guest.{guestAnswer}
 use Rattle.guest.specs.Seen.{tableWith, foundIn as guestFoundIn}
 use Rattle.guest.specs.FindLaws as FindLaws
-use Rattle.guest_pages.specs.GuestPages.{guestPages}
-use Rattle.guest_pages.specs.FromMemory.{guest-from-memory}
+use Rattle.guest.specs.GuestPages.{guestPages}
+use Rattle.guest.specs.FromMemory.{guest-from-memory}
 use Rattle.pool.specs.declared.Pooled.{Pooled}
 use Rattle.pool.specs.Pool.{pooled}
 use Rattle.rise.specs.Rise.{TableRises}
 use Rattle.rise.specs.Preorder.{SameRows}
 use Rattle.tables_compared.specs.declared.TablesCompared.the-variants.{Rises}
 use Rattle.tables_compared.specs.CompareTables.{comparedTables}
-use Rattle.tables_compared.specs.Means.{Decides}
-use Rattle.tables_compared.specs.DecidesProof.{decides}
-use Rattle.tables_moved.specs.Moves.{CompareAgrees, ImagesAgree, BuiltBack, AnyBack, MaskFollows}
-use Rattle.tables_moved.specs.MovesProof as Moved
-use Rattle.tables_moved.specs.AnyMemory as AnyMemory
-use Rattle.tables_moved.specs.MaskFollows as Masks
-use Rattle.tables_moved.specs.OrderProof as Order
-use Rattle.tables_moved.specs.BuiltIn as BuiltIn
-use Rattle.carried.specs.SecondInMemory.{SecondInMemory, second-in-memory}
+use Rattle.tables_compared.specs.TablesMean.{Decides}
+use Rattle.tables_compared.specs.TablesDecideProof.{decides}
+use Rattle.images.specs.TablesMoved.{CompareAgrees, ImagesAgree, BuiltBack, AnyBack, MaskFollows}
+use Rattle.images.specs.TablesMovedProof as Moved
+use Rattle.images.specs.AnyMemory as AnyMemory
+use Rattle.images.specs.MaskFollows as Masks
+use Rattle.images.specs.TableOrderProof as Order
+use Rattle.images.specs.BuiltIn as BuiltIn
+use Rattle.images.specs.SecondInMemory.{SecondInMemory, second-in-memory}
 use Rattle.answers.specs.Answers.{foundAt}
 use Rattle.snp_cpuid.specs.Exports.{foundIn}
 use Rattle.snp_cpuid.specs.PoolExports.{pooledFound, PooledIn}
@@ -57,7 +57,7 @@ pub kept-find : (chosen : Choices) (s w o : List ℕ) → TableIn (answer chosen
 kept-find chosen s w o k leaf subleaf enforce =
     ap₂ (λ (t : CpuidResults) (p : List ℕ). foundAt t p leaf subleaf enforce) (k .table) (k .origins)
 
--- the same of what a processor's guest reads, 13 and 14 too. crates/guest_pages/specs/FromMemory.antt
+-- the same of what a processor's guest reads, 13 and 14 too. crates/guest/specs/FromMemory.antt
 pub kept-guest-find : (chosen : Choices) (s w o : List ℕ) → TableIn (answer chosen s) w o → answer chosen s .verdict ≡ Accepted
     → (v : Processor) (leaf : CpuidFunction) (subleaf : Subleaf) (enforce : Bool)
     → guestFoundIn (guestAnswer (heldIn w o) v) o leaf subleaf enforce ≡ guestFoundIn (guestPages chosen s v) (answer chosen s .origins) leaf subleaf enforce
@@ -93,12 +93,12 @@ kept-pool-find chosen pages lengths w o k leaf subleaf enforce =
     ap₂ (λ (t : CpuidResults) (p : List ℕ). foundAt t p leaf subleaf enforce) (k .table) (k .origins)
 
 -- a table built under edition 1 and carried is the one that edition 2 builds of the pages, every word and origin.
--- crates/carried/specs/SecondInMemory.antt
+-- crates/images/specs/SecondInMemory.antt
 pub kept-carried : SecondInMemory
 kept-carried = second-in-memory
 
 -- a kept table's image, read back, is the same table but origins; of any memory the rows that are there come back, and nothing else.
--- crates/tables_moved/specs/Moves.antt
+-- crates/images/specs/TablesMoved.antt
 pub kept-read-back : BuiltBack
 kept-read-back = Moved.built-reads
 
@@ -106,7 +106,7 @@ pub any-read-back : AnyBack
 any-read-back = AnyMemory.any-back
 
 -- comparing two tables decides `TableRises`, for tables of any content: yes if and only if it holds, else the first thing that fails.
--- crates/tables_compared/specs/Means.antt
+-- crates/tables_compared/specs/TablesMean.antt
 pub tables-decided : (a b : CpuidResults) → Decides a b (comparedTables a b)
 tables-decided = decides
 
@@ -131,7 +131,7 @@ images-agree-with-pages = Moved.images-agree
 pub masks-follow : MaskFollows
 masks-follow = Masks.mask-follows
 
--- Examples: every accepted page set has its table in memory (crates/tables_moved/specs/BuiltIn.antt), server A's for one; it is at least itself, and
+-- Examples: every accepted page set has its table in memory (crates/images/specs/BuiltIn.antt), server A's for one; it is at least itself, and
 -- server B's is at least it
 pub accepted-kept : (chosen : Choices) (s : List ℕ) → answer chosen s .verdict ≡ Accepted
     → TableIn (answer chosen s) (layout (λ i. rowIn (answer chosen s .table) i .result)) (answer chosen s .origins)

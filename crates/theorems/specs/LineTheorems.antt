@@ -12,9 +12,9 @@ use Rattle.table.specs.declared.Refusal.the-variants.{BufferTooShort}
 use Rattle.build.specs.Build.{answer}
 use Rattle.table.specs.Refusal.{details}
 use Rattle.buffer.specs.declared.Written.the-variants.{Bytes, Refused as NotWritten}
-use Rattle.line_bytes.specs.declared.LineDetails.{LineDetails}
-use Rattle.line_bytes.specs.Line.{Fits, mostS, writable, line}
-use Rattle.line_bytes.specs.LineLaws.{at-most-22}
+use Rattle.lines.specs.declared.bytes.LineDetails.{LineDetails}
+use Rattle.lines.specs.Line.{Fits, mostS, writable, line}
+use Rattle.lines.specs.LineLaws.{at-most-22}
 use Rattle.lines.specs.declared.LineWritten.the-variants.{Line as Answered, NoSuchLine as NoLineWritten}
 use Rattle.lines.specs.declared.LineRead.the-variants.{Line as Says, NoSuchLine as SaysNothing}
 use Rattle.lines.specs.WriteLine.{leaves, writeLine}
@@ -22,16 +22,16 @@ use Rattle.lines.specs.ReadLine.{readLine}
 use Rattle.lines.specs.LinePromises as Lines
 use Rattle.lines.specs.LinePromises.{LineOf, lineDetails}
 use Rattle.lines.specs.LineExactly.{LineExactly, Nameable, line-exactly, writable-means}
-use Rattle.line_bytes.specs.NumbersNamed.{NamesExactly, names-exactly}
-use Rattle.line_bytes.specs.NumbersInUse.{names}
-use Rattle.lined.specs.Lined.{BuildingLined, LinesTell}
-use Rattle.lined.specs.LinedProof.{building-lined, lines-tell}
-use Rattle.lined.specs.RefusedLines as RefusedLines
+use Rattle.lines.specs.NumbersNamed.{NamesExactly, names-exactly}
+use Rattle.lines.specs.NumbersInUse.{names}
+use Rattle.refusals.specs.Lined.{BuildingLined, LinesTell}
+use Rattle.refusals.specs.LinedProof.{building-lined, lines-tell}
+use Rattle.refusals.specs.RefusedLines as RefusedLines
 use Rattle.lines.specs.ComputedLines as ComputedLines
 use Rattle.lines.specs.ComputedLines.{told, longest}
 use Rattle.page_sets.specs.Evaluation.{first}
 
--- ---- P6: refusals as lines. crates/line_bytes/specs/NumbersInUse.antt has what each number names, Line.antt beside it the line;
+-- ---- P6: refusals as lines. crates/lines/specs/NumbersInUse.antt has what each number names, Line.antt beside it the line;
 -- crates/lines/specs/WriteLine.antt and ReadLine.antt have the writer and the reader. `writable d`: the number is in use, names every detail that is
 -- set, and s has 8 bits.
 
@@ -61,7 +61,7 @@ line-at-most-22 = at-most-22
 pub every-refusal-has-a-line : (r : Refusal) → details r .s ≤ mostS → writable (lineDetails (details r)) ≡ true
 every-refusal-has-a-line = Lines.every-refusal
 
--- each refusal that building gives, of page bytes, is written and read back to itself: nothing more is asked. crates/lined/specs/Lined.antt; without
+-- each refusal that building gives, of page bytes, is written and read back to itself: nothing more is asked. crates/refusals/specs/Lined.antt; without
 -- "bytes" it is false (NotBytes.antt beside it). The sets of `line-of-7` and `line-of-8` below meet it.
 pub every-refusal-of-building-is-read-back : BuildingLined
 every-refusal-of-building-is-read-back = building-lined
@@ -81,7 +81,7 @@ pub which-have-a-line : (d : LineDetails) → (writable d ≡ true) ↔ Nameable
 which-have-a-line = writable-means
 
 -- a number is in use exactly where a refusal has it, and names a leaf, a subleaf or s exactly where some refusal with that number sets one.
--- crates/line_bytes/specs/NumbersNamed.antt
+-- crates/lines/specs/NumbersNamed.antt
 pub each-number-names-exactly : (n : ℕ) → NamesExactly n
 each-number-names-exactly = names-exactly
 
@@ -105,7 +105,7 @@ missing-8000001f-line = ComputedLines.missing-8000001f
 pub s-of-0-line : line (told 6 0 None 0) ≡ 54 ∷ 32 ∷ 48 ∷ 10 ∷ []
 s-of-0-line = ComputedLines.s-of-0
 
--- lines of refused page sets: 7 1, which names s, and 8, which does not. crates/lined/specs/RefusedLines.antt
+-- lines of refused page sets: 7 1, which names s, and 8, which does not. crates/refusals/specs/RefusedLines.antt
 pub line-of-7 : RefusedLines.lineOf (answer first RefusedLines.sizeOne .verdict) ≡ 55 ∷ 32 ∷ 49 ∷ 10 ∷ []
 line-of-7 = RefusedLines.line-of-7
 

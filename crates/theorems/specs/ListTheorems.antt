@@ -14,7 +14,7 @@ use Rattle.build.specs.Build.{answer}
 use Rattle.buffer.specs.declared.Written.the-variants.{Bytes, Refused as NotWritten}
 use Rattle.kvm_list.specs.Words.{bytesOfWords}
 use Rattle.kvm_list.specs.Format.{listBytes}
-use Rattle.kvm_pages.specs.TwoRows as TwoRows
+use Rattle.kvm_import.specs.TwoRows as TwoRows
 use Rattle.kvm_import.specs.Import.{readList}
 use Rattle.kvm_export.specs.Export.{plainRow, listRows, listOf}
 use Rattle.kvm_export.specs.Flags.{flags, indexes, flags-are, indexes-are}
@@ -91,7 +91,7 @@ pub row-of-d-2-listed : take 40 (drop 328 (listOf (answer first serverA .table))
     ∷ 0 ∷ 0 ∷ 0 ∷ 0 ∷ 0 ∷ 0 ∷ 0 ∷ 0 ∷ 0 ∷ 0 ∷ 0 ∷ 0 ∷ []
 row-of-d-2-listed = KvmBytes.row-of-d-2
 
--- a list of two rows given as bytes, and every byte of its two pages. crates/kvm_pages/specs/TwoRows.antt
+-- a list of two rows given as bytes, and every byte of its two pages. crates/kvm_import/specs/TwoRows.antt
 pub two-rows-read : (buffer : List ℕ) → 8192 ≤ length buffer
     → readList TwoRows.twoRows buffer ≡ record { answer = Bytes 8192; buffer = (TwoRows.page0 ++ TwoRows.page1) ++ drop 8192 buffer }
 two-rows-read = KvmBytes.two-rows-read

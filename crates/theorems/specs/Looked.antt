@@ -22,7 +22,7 @@ use Rattle.lookup.specs.Lookup.{placeAsked, rowResult, lookupOrigin}
 use Rattle.lookup.specs.LookupLaws.{lookup-at}
 use Rattle.answers.specs.declared.SnpCpuidFound.{SnpCpuidFound}
 use Rattle.answers.specs.Answers.{foundWith, foundGiven, foundAt}
-use Rattle.origins.specs.Origin.{originRead}
+use Rattle.memory.specs.Origin.{originRead}
 
 module _ (t : CpuidResults) (whole : length (t .present) ≤ places) (origins : List ℕ) (leaf : CpuidFunction) (subleaf : Subleaf) (enforce : Bool) where
   abbrev i : ℕ

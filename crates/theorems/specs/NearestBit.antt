@@ -1,5 +1,5 @@
 -- The theorems page, P13: the nearest bit that matters. crates/flips/specs/Flips.antt has the flips of a page set in order and the flipped pages,
--- crates/flip_rows/specs/Changes.antt and Same.antt what it is for a flip to change the answer, crates/nearest/specs/Nearest.antt the answer.
+-- crates/search/specs/Changes.antt and Same.antt what it is for a flip to change the answer, crates/nearest/specs/Nearest.antt the answer.
 -- `nearest::nearest_bit` promises `nearest`, for any bytes.
 use mathlib.Core.Path.{_≡_}
 use mathlib.Core.Bool.{false}
@@ -22,18 +22,18 @@ use Rattle.flips.specs.declared.Flip.{Flip}
 use Rattle.flips.specs.Flips.{flip}
 use Rattle.flips.specs.FlipOrder.{someFlips, flips-are}
 use Rattle.flips.specs.OneBit.{oneBit}
-use Rattle.flip_rows.specs.Changes.{changes}
+use Rattle.search.specs.Changes.{changes}
 use Rattle.nearest.specs.declared.Nearest.the-variants.{Bit, NoBit}
 use Rattle.nearest.specs.Nearest.{nearest}
-use Rattle.nearest_ends.specs.NearestExactly.{NearestExactly, TwentyExactly}
-use Rattle.nearest_ends.specs.ExactlyProof as Exactly
-use Rattle.nearest_ends.specs.Twenty as Twenty
-use Rattle.nearest_ends.specs.Meaning as Meaning
-use Rattle.nearest_ends.specs.Meaning.{Unchanged}
-use Rattle.nearest_ends.specs.WithoutInvlpgb as Invlpgb
-use Rattle.nearest_ends.specs.WithoutInvlpgb.{InvlpgbNearest}
-use Rattle.nearest_ends.specs.OutsideLaws as Outside
-use Rattle.nearest_ends.specs.OutsideLaws.{Among, FirstAt}
+use Rattle.nearest_exactly.specs.NearestExactly.{NearestExactly, TwentyExactly}
+use Rattle.nearest_exactly.specs.NearestExactlyProof as Exactly
+use Rattle.nearest_exactly.specs.Twenty as Twenty
+use Rattle.nearest_exactly.specs.Meaning as Meaning
+use Rattle.nearest_exactly.specs.Meaning.{Unchanged}
+use Rattle.nearest_exactly.specs.WithoutInvlpgb as Invlpgb
+use Rattle.nearest_exactly.specs.WithoutInvlpgb.{InvlpgbNearest}
+use Rattle.nearest_exactly.specs.OutsideLaws as Outside
+use Rattle.nearest_exactly.specs.OutsideLaws.{Among, FirstAt}
 use Rattle.page_sets.specs.PageSets.{word, page, serverA}
 use Rattle.page_sets.specs.Evaluation.{first}
 use Rattle.examples.specs.NearestBits as Bits
@@ -41,7 +41,7 @@ use Rattle.examples.specs.Later as Later
 use Rattle.examples.specs.NearestBits.{onlyLeaf5, withoutD2, noInvlpgb, leaf1Twice}
 
 -- each answer, 15, 1, 2, 17, 20 or a bit: given if and only if its condition holds; no other number is given. A bit is the first flip, in the order
--- of page, entry, register and bit, that changes the answer; 20 is given where none does. crates/nearest_ends/specs/NearestExactly.antt
+-- of page, entry, register and bit, that changes the answer; 20 is given where none does. crates/nearest_exactly/specs/NearestExactly.antt
 pub nearest-exactly : (chosen : Choices) (s : List ℕ) → NearestExactly chosen s
 nearest-exactly = Exactly.nearest-exactly
 
@@ -49,7 +49,7 @@ nearest-exactly = Exactly.nearest-exactly
 pub twenty-exactly : (chosen : Choices) (s : List ℕ) → TwentyExactly chosen s
 twenty-exactly = Twenty.twenty-exactly
 
--- of pages that building refuses by 4 it is INVLPGB's own, 80000008h.EBX bit 3. crates/nearest_ends/specs/WithoutInvlpgb.antt
+-- of pages that building refuses by 4 it is INVLPGB's own, 80000008h.EBX bit 3. crates/nearest_exactly/specs/WithoutInvlpgb.antt
 pub refused-by-4 : (chosen : Choices) (s : List ℕ) → AreBytes s → answer chosen s .verdict ≡ Refused InvlpgbUnavailable
     → InvlpgbNearest chosen s
 refused-by-4 = Invlpgb.refused-by-4
@@ -60,11 +60,11 @@ pub flips-in-order : someFlips
     ≡ flip 0 0 0 0 ∷ flip 0 0 0 1 ∷ flip 0 0 1 0 ∷ flip 0 0 3 31 ∷ flip 0 1 0 0 ∷ flip 1 0 0 0 ∷ flip 1 0 3 31 ∷ []
 flips-in-order = flips-are
 
--- to change nothing is that verdict and table of the two answers are equal. crates/nearest_ends/specs/Meaning.antt
+-- to change nothing is that verdict and table of the two answers are equal. crates/nearest_exactly/specs/Meaning.antt
 pub unchanged-exactly : (chosen : Choices) (s : List ℕ) (f : Flip) → (changes chosen s f ≡ false) ↔ Unchanged chosen s f
 unchanged-exactly = Meaning.unchanged-exactly
 
--- flips outside the counted first entries change nothing; nor do flips outside the masks. crates/nearest_ends/specs/OutsideLaws.antt
+-- flips outside the counted first entries change nothing; nor do flips outside the masks. crates/nearest_exactly/specs/OutsideLaws.antt
 pub only-first-entries : (chosen : Choices) (s : List ℕ) (p q r k : ℕ) (w : Among chosen s p q r k)
     → ((i : ℕ) → FirstAt (w .before) (entryAt s p q) i → ⊥) → changes chosen s (flip p q r k) ≡ false
 only-first-entries = Outside.not-first

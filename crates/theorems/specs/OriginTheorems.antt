@@ -14,15 +14,15 @@ use Rattle.build.specs.Build.{answer, originAt}
 use Rattle.theorems.specs.Exported.{FoundOrigins, found-origins}
 use Rattle.theorems.specs.GuestExported.{GuestOrigins, guest-origins}
 use Rattle.theorems.specs.PoolExported.{PoolOrigins, pool-origins}
-use Rattle.origins.specs.Origin.Origin.{madeHere, entry}
-use Rattle.locate.specs.Stands.{standsAt}
-use Rattle.located.specs.Located.{ComesFrom, Origins}
-use Rattle.located.specs.LocatedProof.{rows-come-from, rows-have-origins, refused-has-none}
+use Rattle.memory.specs.Origin.Origin.{madeHere, entry}
+use Rattle.collect.specs.Stands.{standsAt}
+use Rattle.rise.specs.Located.{ComesFrom, Origins}
+use Rattle.rise.specs.LocatedProof.{rows-come-from, rows-have-origins, refused-has-none}
 use Rattle.examples.specs.Origins as Origin
 use Rattle.page_sets.specs.Evaluation.{first}
 
--- ---- P11, where a row came from. crates/origins/specs/Origin.antt has the three cases and their numbers, crates/build/specs/Build.antt `originAt`, the
--- origin of a row of the table that an answer holds, crates/located/specs/Located.antt these statements. Sameness in demand 3 and P2 is `SameButOrigins`;
+-- ---- P11, where a row came from. crates/memory/specs/Origin.antt has the three cases and their numbers, crates/build/specs/Build.antt `originAt`, the
+-- origin of a row of the table that an answer holds, crates/rise/specs/Located.antt these statements. Sameness in demand 3 and P2 is `SameButOrigins`;
 -- P9's answers are the same with origins, and those of P7's two editions have the same origins, so that carrying (P8) leaves them.
 
 -- a row with an origin on a page: the entry there is the first counted one of its leaf and subleaf, and masking and finishing it gives the row

@@ -16,18 +16,18 @@ use Rattle.table.specs.declared.Subleaf.{Subleaf}
 use Rattle.table.specs.declared.Verdict.{Verdict}
 use Rattle.table.specs.declared.Verdict.the-variants.{Accepted, Refused}
 use Rattle.table.specs.Table.{rowIn}
-use Rattle.rows_built.specs.RowsBuilt.{tableFor}
+use Rattle.finish.specs.RowsBuilt.{tableFor}
 use Rattle.build.specs.Build.{originAt}
 use Rattle.lookup.specs.Lookup.{placeAsked}
 use Rattle.pool_sets.specs.Sets.{setAt}
 use Rattle.pool_sets.specs.Servers.{poolRows}
 use Rattle.pool.specs.Pool.{poolVerdict, pooled}
-use Rattle.pooled.specs.PoolRight.{poolTable, PoolRight}
-use Rattle.pooled.specs.PoolProof.{pool-right}
+use Rattle.pool_laws.specs.PoolRight.{poolTable, PoolRight}
+use Rattle.pool_laws.specs.PoolProof.{pool-right}
 use Rattle.answers.specs.declared.SnpCpuidFound.{SnpCpuidFound}
 use Rattle.snp_cpuid.specs.PoolExports.{pooledFound}
-use Rattle.origins.specs.Origin.{originRead, originTold}
-use Rattle.located.specs.LocatedProof.{rows-have-origins}
+use Rattle.memory.specs.Origin.{originRead, originTold}
+use Rattle.rise.specs.LocatedProof.{rows-have-origins}
 use Rattle.theorems.specs.Exported.{originFound}
 use Rattle.theorems.specs.Looked.{looked-present, looked-inside, looked-at}
 

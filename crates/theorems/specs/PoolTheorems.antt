@@ -13,31 +13,31 @@ use Rattle.buffer.specs.WritesExactly.{FrontExactly}
 use Rattle.page_sets.specs.Evaluation.{first}
 use Rattle.page_sets.specs.PageSets.{serverA, serverB, serverW}
 use Rattle.pool.specs.Pool.{pooled}
-use Rattle.pool_write.specs.WritePool.{writePool}
-use Rattle.pooled.specs.PoolRight.{serverTable, poolTable, PoolRight, NoneBeyond, Greatest, OneMore, OrderFree, NothingMore}
-use Rattle.pooled.specs.PoolProof.{pool-right, greatest, one-more}
-use Rattle.pooled.specs.ByTheLetter.{NoFeatureBeyond, GreatestByTheLetter, OneMoreByTheLetter, greatest-by-the-letter, one-more-by-the-letter}
-use Rattle.pooled.specs.OrderProof.{order-free}
-use Rattle.pooled.specs.PoolMoves.{PoolMoves, pool-moves}
-use Rattle.pooled.specs.PoolExactly.{PoolExactly, ServerFault, DifferFault}
-use Rattle.pooled.specs.ExactlyProof.{pool-exactly}
-use Rattle.pooled.specs.PoolWrites.{pool-writes-exactly}
-use Rattle.pool_examples.specs.Pools
-use Rattle.pool_examples.specs.Differ
-use Rattle.pool_examples.specs.Instances as PoolInstances
-use Rattle.pool_examples.specs.Bit28
-use Rattle.pool_examples.specs.Letter28
+use Rattle.pool.specs.WritePool.{writePool}
+use Rattle.pool_laws.specs.PoolRight.{serverTable, poolTable, PoolRight, NoneBeyond, Greatest, OneMore, OrderFree, NothingMore}
+use Rattle.pool_laws.specs.PoolProof.{pool-right, greatest, one-more}
+use Rattle.pool_laws.specs.ByTheLetter.{NoFeatureBeyond, GreatestByTheLetter, OneMoreByTheLetter, greatest-by-the-letter, one-more-by-the-letter}
+use Rattle.pool_laws.specs.PoolOrderProof.{order-free}
+use Rattle.pool_laws.specs.PoolMoves.{PoolMoves, pool-moves}
+use Rattle.pool_laws.specs.PoolExactly.{PoolExactly, ServerFault, DifferFault}
+use Rattle.pool_laws.specs.PoolExactlyProof.{pool-exactly}
+use Rattle.pool_laws.specs.PoolWrites.{pool-writes-exactly}
+use Rattle.examples.specs.Pools
+use Rattle.examples.specs.Differ
+use Rattle.examples.specs.Instances as PoolInstances
+use Rattle.examples.specs.Bit28
+use Rattle.examples.specs.Letter28
 
--- ---- P12, one table for a pool of servers. crates/pool_join/specs/Join.antt has the join and Alike.antt what 19 asks, crates/pool_sets/specs/Sets.antt
+-- ---- P12, one table for a pool of servers. crates/register_masks/specs/Join.antt has the join and Alike.antt what 19 asks, crates/pool_sets/specs/Sets.antt
 -- the page sets in the slice, crates/pool/specs/Pool.antt the answer.
 
 -- 18, 15, a server's own refusal with its number, 19 and the table, each if and only if its condition holds and no earlier one does; a refused pool has no
--- row. crates/pooled/specs/PoolExactly.antt
+-- row. crates/pool_laws/specs/PoolExactly.antt
 pub each-pool-answer-exactly : (chosen : Choices) (pages lengths : List ℕ) → PoolExactly chosen pages lengths
 each-pool-answer-exactly = pool-exactly
 
 -- an accepted pool's rows, Dh subleaves among them, are those that all tables have; its feature registers and combined mask are the and of the servers';
--- its table rises to every server's; a row's origin is the first server's. crates/pooled/specs/PoolRight.antt
+-- its table rises to every server's; a row's origin is the first server's. crates/pool_laws/specs/PoolRight.antt
 pub a-pool-is-the-and : (chosen : Choices) (pages lengths : List ℕ) → pooled chosen pages lengths .verdict ≡ Accepted → PoolRight chosen pages lengths
 a-pool-is-the-and = pool-right
 
@@ -46,7 +46,7 @@ pub a-pool-is-the-greatest : (chosen : Choices) (pages lengths : List ℕ) → p
 a-pool-is-the-greatest = greatest
 
 -- the same by the letter: bit 28 of 1.EDX, which is no feature, is asked of no table and said of none. Neither form follows from the other.
--- crates/pooled/specs/ByTheLetter.antt; `a-has-none-beyond-by-the-letter` below meets it
+-- crates/pool_laws/specs/ByTheLetter.antt; `a-has-none-beyond-by-the-letter` below meets it
 pub a-pool-is-the-greatest-by-the-letter : (chosen : Choices) (pages lengths : List ℕ) → pooled chosen pages lengths .verdict ≡ Accepted
     → GreatestByTheLetter chosen pages lengths
 a-pool-is-the-greatest-by-the-letter = greatest-by-the-letter
@@ -59,7 +59,7 @@ one-server-more = one-more
 pub one-server-more-by-the-letter : OneMoreByTheLetter
 one-server-more-by-the-letter = one-more-by-the-letter
 
--- where a guest of one of the pool's servers may move, a guest of the pool's table may. crates/pooled/specs/PoolMoves.antt; `pool-to-b` meets it
+-- where a guest of one of the pool's servers may move, a guest of the pool's table may. crates/pool_laws/specs/PoolMoves.antt; `pool-to-b` meets it
 pub a-pool-moves-where-its-servers-do : PoolMoves
 a-pool-moves-where-its-servers-do = pool-moves
 
@@ -74,7 +74,7 @@ each-pool-write-exactly = pool-writes-exactly
 
 -- Not empty words: a pool of two; 18 for one set and for lengths that only wrap; 15; the second server's own 1; 19 for bit 28 of 1.EDX and for D.2, and
 -- accepted with a third server that has no D.2, so that one server more gave rows to a pool that was refused; a table within both servers'; another
--- order. crates/pool_examples
+-- order. crates/examples
 pub pool-of-a-and-w : PoolRight first (serverA ++ serverW) Pools.two
 pool-of-a-and-w = PoolInstances.of-a-and-w
 
@@ -112,7 +112,7 @@ pub pool-to-b : TableRises (poolTable first (serverA ++ serverW) Pools.two) (ans
 pool-to-b = PoolInstances.of-moves
 
 -- A's table, which has bit 28 of 1.EDX, beside two servers that have not: no feature bit of it lies beyond theirs, nor beyond their pool's; with bit
--- 28 it does not lie within. crates/pool_examples/specs/Letter28.antt
+-- 28 it does not lie within. crates/examples/specs/Letter28.antt
 pub a-has-none-beyond-by-the-letter : NoFeatureBeyond (answer first serverA .table) (poolTable first (Bit28.serverM ++ Bit28.serverM) Pools.two)
 a-has-none-beyond-by-the-letter = Letter28.a-has-none-beyond
 

@@ -23,9 +23,9 @@ use Rattle.rise.specs.Preorder.{SameRows}
 use Rattle.theorems.specs.Exported.{ExportsRise, exports-rise}
 use Rattle.topology.specs.declared.TopologyError.the-variants.{ThreadsPerUnit}
 use Rattle.pages.specs.Layout.{Entry}
-use Rattle.added.specs.Added.{Added, Covered}
-use Rattle.added.specs.BeginningLaws.{entries-begin}
-use Rattle.added.specs.AddedProof.{added-same, added-rises}
+use Rattle.rise.specs.Added.{Added, Covered}
+use Rattle.rise.specs.BeginningLaws.{entries-begin}
+use Rattle.rise.specs.AddedProof.{added-same, added-rises}
 use Rattle.examples.specs.Spare as Spare
 use Rattle.page_sets.specs.Evaluation.{first}
 use Rattle.page_sets.specs.PageSets.{serverA, serverB, serverW}
@@ -94,7 +94,7 @@ w-mask = Chain.w-mask
 pub w-to-b : RiseHypothesis first serverW serverB
 w-to-b = moves-compose first serverW serverA serverB Chain.w-to-a Computed.serverB-rises
 
--- ---- P9: added entries change no answer. crates/added/specs/Added.antt has what it is to add entries, and which verdicts are covered.
+-- ---- P9: added entries change no answer. crates/rise/specs/Added.antt has what it is to add entries, and which verdicts are covered.
 
 -- of a page set that is accepted or refused by 4 to 8: the verdict with its details, every row and the combined mask
 pub added-entries-change-nothing : (chosen : Choices) (s u : List ℕ) → Added s u → Covered (answer chosen s .verdict) → answer chosen u ≡ answer chosen s

@@ -14,13 +14,13 @@ use Rattle.topology.specs.Topology.{Inputs, inputs, topologyOf, shiftOf}
 use Rattle.topology.specs.TopologyLaws.{LeastShift, shift-least}
 use Rattle.topology.specs.ShiftChange.{HighestBit, ShiftChange, shift-changes, three-and-128}
 use Rattle.topologies.specs.Topologies.{acceptedInputs, inputsBytes, writeTopologies}
-use Rattle.topologies.specs.WriteLaws.{list-bytes}
-use Rattle.listed.specs.Listed.{In, Determined, Counted as TopologiesCounted}
-use Rattle.listed.specs.ListedProof.{determined, counted as topologies-counted}
-use Rattle.listed.specs.Builds.{BuildsListed, inputsFor}
-use Rattle.listed.specs.BuildsProof.{builds-listed}
-use Rattle.listed.specs.Writes.{writes-exactly as topologies-write-exactly}
-use Rattle.examples.specs.Topologies as Topologies
+use Rattle.topologies.specs.TopologyWriteLaws.{list-bytes}
+use Rattle.topology_list.specs.Listed.{In, Determined, Counted as TopologiesCounted}
+use Rattle.topology_list.specs.ListedProof.{determined, counted as topologies-counted}
+use Rattle.topology_list.specs.Builds.{BuildsListed, inputsFor}
+use Rattle.topology_list.specs.BuildsProof.{builds-listed}
+use Rattle.topology_list.specs.Writes.{writes-exactly as topologies-write-exactly}
+use Rattle.examples.specs.TopologyExamples as Topologies
 use Rattle.build.specs.Build.{rowsFor, answer}
 use Rattle.rise.specs.Levels.{AcceptedLevels, accepted-levels}
 use Rattle.buffer.specs.WritesExactly.{FrontExactly}
@@ -44,7 +44,7 @@ pub three-need-two-bits : shiftOf 3 ∷ shiftOf 128 ∷ [] ≡ 2 ∷ 7 ∷ []
 three-need-two-bits = three-and-128
 
 -- ---- P14: every lawful topology up to size seven. crates/topologies/specs/Topologies.antt has the list, from the topology's own definition, and
--- what writing it answers; crates/listed/specs/Listed.antt what P14 asks of a list.
+-- what writing it answers; crates/topology_list/specs/Listed.antt what P14 asks of a list.
 
 -- each accepted input with s up to 7 stands in the list, no other does, and they ascend by s, nc, lps, mt and t, so that none stands twice; any list
 -- of which this is true is the list
@@ -64,12 +64,12 @@ pub each-topologies-write-exactly : (buffer : List ℕ) → FrontExactly Accepte
 each-topologies-write-exactly = topologies-write-exactly
 
 -- a page set with s up to 7 is accepted if and only if no check before the topology's refuses it and its inputs are listed; its table's B.0 and B.1
--- are then those of the listed input. crates/listed/specs/Builds.antt
+-- are then those of the listed input. crates/topology_list/specs/Builds.antt
 pub building-accepts-the-listed : (chosen : Choices) (s : List ℕ) → BuildsListed chosen s
 building-accepts-the-listed = builds-listed
 
 -- Not empty words: whole page sets with three processors and with 128, each with its inputs, which are listed, and its B.0 and B.1; nc = 255 with
--- s = 0 is refused by 7 and not listed. crates/examples/specs/Topologies.antt
+-- s = 0 is refused by 7 and not listed. crates/examples/specs/TopologyExamples.antt
 pub three-processors-listed : (inputsFor first Topologies.threeProcessors ≡ inputs 0 2 3 1 1)
     × (answer first Topologies.threeProcessors .verdict ≡ Accepted)
     × In (inputs 0 2 3 1 1) acceptedInputs

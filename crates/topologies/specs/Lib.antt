@@ -4,4 +4,4 @@ pub mod Topologies
 pub mod AcceptedLaws
 pub mod ShortLaws
 pub mod CountLaws
-pub mod WriteLaws
+pub mod TopologyWriteLaws

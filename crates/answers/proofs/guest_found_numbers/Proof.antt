@@ -1,7 +1,7 @@
 -- `answers::guest_found_numbers` meets its contract: the refusal's number and zeros, or what was found.
 use borrow.Author.Needs.{needs}
 use mathlib.Core.Path.{ap, ap₂, _∙_}
-use Rattle.numbers.specs.declared.AnswerNumbers.{AnswerNumbers}
+use Rattle.table.specs.declared.numbers.AnswerNumbers.{AnswerNumbers}
 use Rattle.answers.specs.Answers.{guestFoundWith}
 use Rattle.answers.proofs.guest_found_numbers.Statement.{statement}
 use Rattle.answers.proofs.guest_found_numbers.Tie as tie

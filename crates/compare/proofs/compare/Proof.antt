@@ -8,7 +8,7 @@ use Rattle.build.specs.declared.Built.{Built}
 use Rattle.build.specs.Build.{answer}
 use Rattle.build.specs.BuildLaws.{answer-unknown, answer-unlawful}
 use Rattle.build.specs.InMemory.{InMemory, walked-rows, answer-in-memory, edition-known}
-use Rattle.compare.specs.ReturnLaws.{refused-a, unlawful-b, rows-compared}
+use Rattle.compare.specs.CompareReturnLaws.{refused-a, unlawful-b, rows-compared}
 use Rattle.compare.specs.DecidesProof.{decided}
 use Rattle.compare.proofs.compare.Statement.{statement}
 use Rattle.compare.proofs.compare.Tie as tie

@@ -3,7 +3,7 @@ use mathlib.Core.Path.{_∙_}
 use native.Mathlib.Omega.{arith}
 use borrow.Author.Needs.{needs}
 use Rattle.table.specs.Fits.{Fits}
-use Rattle.update.specs.Kinds.{kindsAt}
+use Rattle.finish.specs.Kinds.{kindsAt}
 use Rattle.register_kinds.specs.ByMasks.{entries-by-kind}
 use Rattle.compare.proofs.registers_rise.Statement.{statement}
 use Rattle.compare.proofs.registers_rise.Tie as tie

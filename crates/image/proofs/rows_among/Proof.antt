@@ -5,7 +5,7 @@ use Prim.Native.Nat.{_+_, _-_, _≤_}
 use native.Mathlib.Omega.{arith}
 use borrow.Author.Needs.{needs}
 use Rattle.bits.specs.Lists.{one}
-use Rattle.image.specs.Pieces.{rowsAmong}
+use Rattle.image.specs.ImagePieces.{rowsAmong}
 use Rattle.image.specs.LengthLaws.{among-none, among-more}
 use Rattle.memory.specs.Held.{flags, flag-at}
 use Rattle.image.proofs.rows_among.Statement.{statement}

@@ -12,8 +12,8 @@ use Rattle.memory.specs.Memory.{rowsIn}
 use Rattle.memory.specs.Held.{heldIn, whole-row}
 use Rattle.masking.specs.RunLaws.{run-end, run-leaf}
 use Rattle.buffer.specs.OnwardLaws.{Onward, onward-none, onward-join, piece-room, onward-piece, onward-all}
-use Rattle.kvm_export.specs.Pieces.{runRow, rowsLeft}
-use Rattle.kvm_export.specs.ListLaws.{run-more, rows-none}
+use Rattle.kvm_export.specs.ExportPieces.{runRow, rowsLeft}
+use Rattle.kvm_export.specs.ExportListLaws.{run-more, rows-none}
 use Rattle.kvm_export.proofs.put_rows.Statement.{statement}
 use Rattle.kvm_export.proofs.put_rows.Tie as tie
 

@@ -2,7 +2,7 @@
 use mathlib.Core.Path.{ap, _∙_}
 use denote.Ref.{now}
 use Rattle.buffer.specs.Front.{AfterWrite}
-use Rattle.kvm_export.specs.AnswerLaws.{write-refused, write-accepted}
+use Rattle.kvm_export.specs.ExportLaws.{write-refused, write-accepted}
 use borrow.Author.Needs.{needs}
 use Rattle.kvm_export.proofs.write_list.Statement.{statement}
 use Rattle.kvm_export.proofs.write_list.Tie as tie

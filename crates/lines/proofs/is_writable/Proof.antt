@@ -1,6 +1,6 @@
 -- `is_writable` meets its contract: the four tests of the definition.
 use borrow.Author.Needs.{needs}
-use Rattle.line_bytes.specs.Line.{writable}
+use Rattle.lines.specs.Line.{writable}
 use Rattle.lines.proofs.is_writable.Statement.{statement}
 use Rattle.lines.proofs.is_writable.Tie as tie
 

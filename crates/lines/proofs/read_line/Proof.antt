@@ -6,8 +6,8 @@ use lib.Seq.{length-sets}
 use denote.Ref.{now}
 use borrow.Author.Needs.{needs}
 use Rattle.bits.specs.ChoiceLaws.{never-both}
-use Rattle.line_bytes.specs.Line.{line}
-use Rattle.line_bytes.specs.LineLaws.{at-most-22}
+use Rattle.lines.specs.Line.{line}
+use Rattle.lines.specs.LineLaws.{at-most-22}
 use Rattle.lines.specs.WriteLineLaws.{front}
 use Rattle.lines.specs.ReadLineLaws.{read-none, read-same, read-other}
 use Rattle.lines.proofs.read_line.Statement.{statement}

@@ -3,7 +3,7 @@ use mathlib.Core.Path.{sym, ap, _∙_}
 use native.Mathlib.Omega.{arith}
 use denote.Ref.{now}
 use borrow.Author.Needs.{needs}
-use Rattle.line_bytes.specs.LineLaws.{at-most-22}
+use Rattle.lines.specs.LineLaws.{at-most-22}
 use Rattle.lines.specs.WriteLine.{AfterLine}
 use Rattle.lines.specs.WriteLineLaws.{write-none, write-short, write-whole}
 use Rattle.lines.proofs.write_line.Statement.{statement}

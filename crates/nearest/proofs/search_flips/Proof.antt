@@ -5,11 +5,11 @@ use mathlib.Core.Path.{sym, ap, _∙_}
 use Prim.Native.Nat.{ℕ, _<_}
 use lib.ListN.{length, getD}
 use denote.Ref.{now}
-use Rattle.walk.specs.Walk.{rest}
-use Rattle.walk.specs.WalkLaws.{turn}
-use Rattle.lawful.specs.LawfulLaws.{lawful-counts}
+use Rattle.reader.specs.Walk.{rest}
+use Rattle.reader.specs.WalkLaws.{turn}
+use Rattle.collect.specs.LawfulLaws.{lawful-counts}
 use Rattle.nearest.specs.Nearest.{chosen}
-use Rattle.nearest.specs.SearchLaws.{Searching, searching-first, searching-last, position-fits, AtEntry, entry-falls, entry-seen, entry-not-kept, entry-none, entry-decides, no-unclean}
+use Rattle.nearest.specs.NearestSearchLaws.{Searching, searching-first, searching-last, position-fits, AtEntry, entry-falls, entry-seen, entry-not-kept, entry-none, entry-decides, no-unclean}
 use Rattle.nearest.proofs.search_flips.Statement.{statement}
 use Rattle.nearest.proofs.search_flips.Tie as tie
 

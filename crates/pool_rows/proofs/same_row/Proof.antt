@@ -1,7 +1,7 @@
 -- `same_row` meets its contract: the test by masks is the one by kinds, since registers have 32 bits.
 use native.Mathlib.Omega.{arith}
 use Rattle.table.specs.Fits.{Fits}
-use Rattle.pool_rows.specs.MaskLaws.{alike-by-kind}
+use Rattle.pool_rows.specs.PoolMaskLaws.{alike-by-kind}
 use Rattle.pool_rows.proofs.same_row.Statement.{statement}
 use Rattle.pool_rows.proofs.same_row.Tie as tie
 

@@ -5,7 +5,7 @@ use Prim.Native.Nat.{_-_, _≤_}
 use native.Mathlib.Omega.{arith}
 use lib.ListN.{length}
 use Rattle.masking.specs.Kept.{places}
-use Rattle.update.specs.Kinds.{kindsAt}
+use Rattle.finish.specs.Kinds.{kindsAt}
 use Rattle.pool_rows.specs.CodeLaws.{Joining, joining-starts, joining-next, joining-ends}
 use Rattle.pool_rows.proofs.with_server.Statement.{statement}
 use Rattle.pool_rows.proofs.with_server.Tie as tie

@@ -4,7 +4,7 @@ use denote.Ref.{now}
 use borrow.Author.Needs.{needs}
 use Prim.Native.Nat.{_≤_}
 use lib.ListN.{length}
-use Rattle.program.specs.Fits.{room, put-length, put-count, put-never, put-bytes}
+use Rattle.program.specs.ProgramFits.{room, put-length, put-count, put-never, put-bytes}
 use Rattle.program.proofs.put_output.Statement.{statement}
 use Rattle.program.proofs.put_output.Tie as tie
 

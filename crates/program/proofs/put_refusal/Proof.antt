@@ -4,7 +4,7 @@ use native.Mathlib.Omega.{arith}
 use lib.ListN.{length-set}
 use denote.Ref.{now}
 use Rattle.buffer.specs.Front.{AfterWrite}
-use Rattle.program.specs.Bytes.{numberBytes}
+use Rattle.program.specs.ProgramBytes.{numberBytes}
 use Rattle.buffer.specs.FrontLaws.{front-short, front-whole}
 use borrow.Author.Needs.{needs}
 use Rattle.program.proofs.put_refusal.Statement.{statement}

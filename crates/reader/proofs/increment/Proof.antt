@@ -1,5 +1,5 @@
 -- `reader::increment` meets its contract: a walk of its MIR, by hand. The borrow of the caller's record is opened, the index copied out,
--- `walk::increment` called on it by value, and its answer stored back.
+-- `reader::walk::increment` called on it by value, and its answer stored back.
 -- What the pages' slice owns is had twice, for the callee and for the exit; its lifetime's token goes to the callee and comes back, while the
 -- record's token holds the borrow open.
 use mathlib.Core.Path.{_≡_, refl}
@@ -41,14 +41,14 @@ use denote.Triple.Table.{entered, cited}
 use denote.Triple.Walked.{says, needs, Stays, stay-ref, stay-none-slice, walkOf, AllGo, goes-ref, goes-none-slice, Walks, ends-at, walked, walk-meets}
 use denote.Triple.Clauses.{ensured, lasts}
 use denote.Exit.{yes}
-use Rattle.walk.specs.Walk.{Inside, incremented}
+use Rattle.reader.specs.Walk.{Inside, incremented}
 use Rattle.pages.specs.declared.CpuidPageIndex.{CpuidPageIndex}
 use Rattle.pages.proofs.CpuidPageIndex as P
 use Rattle.pages.proofs.CpuidPageIndex.Laws as P′
-use Rattle.walk.proofs.increment as step
-use Rattle.walk.proofs.increment.Symbol as step-def
-use Rattle.walk.proofs.increment.Symbol.{name as #pages·increment}
-use Rattle.walk.proofs.increment.Met as step-thm
+use Rattle.reader.proofs.walk.increment as step
+use Rattle.reader.proofs.walk.increment.Symbol as step-def
+use Rattle.reader.proofs.walk.increment.Symbol.{name as #pages·increment}
+use Rattle.reader.proofs.walk.increment.Met as step-thm
 use Rattle.reader.proofs.increment.Key.{name as #reader·increment}
 use Rattle.reader.proofs.increment as inc
 use Rattle.reader.proofs.increment.Statement as stated
@@ -158,4 +158,4 @@ increment-spec 𝓤 H 𝓜 𝓖 𝓡 =
     entered 𝓤 H (tripleOf 𝓤 H (𝓖 .A) inc.signature (inc.spec 𝓤 H (𝓖 .A) (𝓜 .mem) (𝓡 .run)))
     (tables 𝓤 H 𝓜 𝓡 code.env .C) (tables 𝓤 H 𝓜 𝓡 code.env .Λ) #reader·increment code.function (code.unfolded 𝓤 H 𝓜 𝓡)
     (inc-meets 𝓤 H (𝓖 .A) (givenOf 𝓤 H 𝓜 𝓖) (𝓜 .mem) (𝓡 .run) (tablesOf 𝓤 H 𝓜 (tables 𝓤 H 𝓜 𝓡 code.env))
-    (cited 𝓤 H (Step 𝓤 H (𝓖 .A) (𝓜 .mem) (𝓡 .run)) 𝓜 𝓡 code.env #pages·increment step-def.routine code.calls-walk·increment (step-thm.met 𝓤 H 𝓜 𝓖 𝓡)))
+    (cited 𝓤 H (Step 𝓤 H (𝓖 .A) (𝓜 .mem) (𝓡 .run)) 𝓜 𝓡 code.env #pages·increment step-def.routine code.calls-reader·walk·increment (step-thm.met 𝓤 H 𝓜 𝓖 𝓡)))

@@ -1,4 +1,4 @@
--- `reader::new` meets its contract: a walk of its MIR, by hand. The first index is had of `walk::first_index`, and the reader is made of it and of
+-- `reader::new` meets its contract: a walk of its MIR, by hand. The first index is had of `reader::walk::first_index`, and the reader is made of it and of
 -- the slice passed.
 -- A `&[u8]` is Copy, so what it owns is had three times: for the callee, for the parameter at exit, and inside the result.
 use mathlib.Core.Path.{_≡_, refl, ap, subst}
@@ -38,14 +38,14 @@ use denote.Triple.Table.{entered, cited}
 use denote.Triple.Walked.{says, Stays, stay-none-slice, walkOf, goes-none-slice, Walks, ends-at, walked, walk-meets}
 use denote.Triple.Clauses.{ensured, lasts}
 use denote.Exit.{yes}
-use Rattle.walk.specs.Walk.{firstIndex}
+use Rattle.reader.specs.Walk.{firstIndex}
 use Rattle.pages.specs.declared.CpuidPageIndex.{CpuidPageIndex}
 use Rattle.pages.proofs.CpuidPageIndex as P
 use Rattle.pages.proofs.CpuidPageIndex.Laws as P′
-use Rattle.walk.proofs.first_index as first
-use Rattle.walk.proofs.first_index.Symbol as first-def
-use Rattle.walk.proofs.first_index.Symbol.{name as #pages·first-index}
-use Rattle.walk.proofs.first_index.Met as first-thm
+use Rattle.reader.proofs.walk.first_index as first
+use Rattle.reader.proofs.walk.first_index.Symbol as first-def
+use Rattle.reader.proofs.walk.first_index.Symbol.{name as #pages·first-index}
+use Rattle.reader.proofs.walk.first_index.Met as first-thm
 use Rattle.reader.specs.declared.SnpCpuidIterator.{SnpCpuidIterator}
 use Rattle.reader.proofs.SnpCpuidIterator as T
 use Rattle.reader.proofs.SnpCpuidIterator.Laws as T′
@@ -149,4 +149,4 @@ new-spec 𝓤 H 𝓜 𝓖 𝓡 =
     entered 𝓤 H (tripleOf 𝓤 H (𝓖 .A) new.signature (new.spec 𝓤 H (𝓖 .A) (𝓜 .mem) (𝓡 .run)))
     (tables 𝓤 H 𝓜 𝓡 code.env .C) (tables 𝓤 H 𝓜 𝓡 code.env .Λ) #reader·new code.function (code.unfolded 𝓤 H 𝓜 𝓡)
     (new-meets 𝓤 H (𝓖 .A) (givenOf 𝓤 H 𝓜 𝓖) (𝓜 .mem) (𝓡 .run) (tablesOf 𝓤 H 𝓜 (tables 𝓤 H 𝓜 𝓡 code.env))
-    (cited 𝓤 H (First 𝓤 H (𝓖 .A) (𝓜 .mem) (𝓡 .run)) 𝓜 𝓡 code.env #pages·first-index first-def.routine code.calls-walk·first-index (first-thm.met 𝓤 H 𝓜 𝓖 𝓡)))
+    (cited 𝓤 H (First 𝓤 H (𝓖 .A) (𝓜 .mem) (𝓡 .run)) 𝓜 𝓡 code.env #pages·first-index first-def.routine code.calls-reader·walk·first-index (first-thm.met 𝓤 H 𝓜 𝓖 𝓡)))

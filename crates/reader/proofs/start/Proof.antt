@@ -38,7 +38,7 @@ use denote.Triple.Table.{entered, cited}
 use denote.Triple.Walked.{says, Stays, stay-none-slice, walkOf, goes-none-slice, Walks, ends-at, walked, walk-meets}
 use denote.Triple.Clauses.{ensured, lasts}
 use denote.Exit.{yes}
-use Rattle.walk.specs.Walk.{firstIndex}
+use Rattle.reader.specs.Walk.{firstIndex}
 use Rattle.pages.specs.declared.CpuidPageIndex.{CpuidPageIndex}
 use Rattle.pages.proofs.CpuidPageIndex as P
 use Rattle.pages.proofs.CpuidPageIndex.Laws as P′

@@ -10,7 +10,7 @@ use Rattle.bits.specs.ListsLaws.{tabulate-at}
 use Rattle.masking.specs.Kept.{places}
 use Rattle.masking.specs.KeptLaws.{madeHere}
 use Rattle.features.specs.Finish.{ruleAt}
-use Rattle.update.specs.Kinds.{fromEntry}
+use Rattle.finish.specs.Kinds.{fromEntry}
 use Rattle.register_kinds.proofs.from_entry.Statement.{statement}
 use Rattle.register_kinds.proofs.from_entry.Tie as tie
 

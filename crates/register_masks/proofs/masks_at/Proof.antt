@@ -12,9 +12,9 @@ use Rattle.bits.specs.Lists.{tabulate}
 use Rattle.bits.specs.ListsLaws.{tabulate-at}
 use Rattle.masking.specs.Kept.{keptLeaves, slot, places}
 use Rattle.masking.specs.Place
-use Rattle.update.specs.Kinds.{Kinds, kinds, registerKinds, kindsAt}
-use Rattle.update.specs.Kinds.Kind.{other}
-use Rattle.register_masks.specs.Masks.{masksOf}
+use Rattle.finish.specs.Kinds.{Kinds, kinds, registerKinds, kindsAt}
+use Rattle.finish.specs.Kinds.Kind.{other}
+use Rattle.register_masks.specs.RegisterMasks.{masksOf}
 use Rattle.register_masks.proofs.masks_at.Statement.{statement}
 use Rattle.register_masks.proofs.masks_at.Tie as tie
 

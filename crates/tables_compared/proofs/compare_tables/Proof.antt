@@ -6,8 +6,8 @@ use Prim.Native.Nat.{_≤_, _-_}
 use Rattle.masking.specs.Kept.{places}
 use Rattle.memory.specs.Held.{heldIn}
 use Rattle.tables_compared.specs.CompareTables.{comparedTables}
-use Rattle.tables_compared.specs.CompareLaws.{failingFrom, failing-all, code-passes, code-stops, code-rises, code-lacks}
-use Rattle.tables_compared.specs.DecidesProof.{decided}
+use Rattle.tables_compared.specs.TablesCompareLaws.{failingFrom, failing-all, code-passes, code-stops, code-rises, code-lacks}
+use Rattle.tables_compared.specs.TablesDecideProof.{decided}
 use Rattle.tables_compared.proofs.compare_tables.Statement.{statement}
 use Rattle.tables_compared.proofs.compare_tables.Tie as tie
 

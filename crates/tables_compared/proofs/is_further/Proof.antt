@@ -1,7 +1,7 @@
 -- `tables_compared::is_further` meets its contract: by the place, then by the two masks.
 use mathlib.Core.Path.{sym}
 use borrow.Author.Needs.{needs}
-use Rattle.tables_compared.specs.CompareLaws.{further-low, further-state, further-high}
+use Rattle.tables_compared.specs.TablesCompareLaws.{further-low, further-state, further-high}
 use Rattle.tables_compared.proofs.is_further.Statement.{statement}
 use Rattle.tables_compared.proofs.is_further.Tie as tie
 

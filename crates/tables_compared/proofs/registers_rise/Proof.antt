@@ -4,9 +4,9 @@ use native.Mathlib.Omega.{arith}
 use borrow.Author.Needs.{needs}
 use Rattle.x86defs.specs.declared.CpuidResult.{CpuidResult}
 use Rattle.table.specs.Fits.{Fits}
-use Rattle.update.specs.Kinds.{kindsAt}
+use Rattle.finish.specs.Kinds.{kindsAt}
 use Rattle.register_masks.specs.declared.RowMasks.{RowMasks}
-use Rattle.register_masks.specs.Masks.{masksOf}
+use Rattle.register_masks.specs.RegisterMasks.{masksOf}
 use Rattle.register_kinds.specs.ByMasks.{passesBy}
 use Rattle.tables_compared.specs.TableMasks.{outside, withEcx, area-by-kind, tables-by-kind}
 use Rattle.tables_compared.proofs.registers_rise.Statement.{statement}

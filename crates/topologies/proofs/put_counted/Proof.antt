@@ -3,7 +3,7 @@ use native.Mathlib.Omega.{arith}
 use borrow.Author.Needs.{needs}
 use Rattle.topologies.specs.ShortLaws.{counted-two, counted-one}
 use Rattle.topologies.specs.CountLaws.{single-length, two-length, some-length}
-use Rattle.topologies.specs.WriteLaws.{wrote-as, wrote-join}
+use Rattle.topologies.specs.TopologyWriteLaws.{wrote-as, wrote-join}
 use Rattle.topologies.proofs.put_counted.Statement.{statement}
 use Rattle.topologies.proofs.put_counted.Tie as tie
 

@@ -6,7 +6,7 @@ use lib.ListN.{length}
 use lib.Pow.{pow-mono}
 use Rattle.topology.specs.TopologyLaws.{one-shifted}
 use Rattle.topologies.specs.ShortLaws.{zero-size, at-sized, at-beyond}
-use Rattle.topologies.specs.WriteLaws.{wrote-none, wrote-as}
+use Rattle.topologies.specs.TopologyWriteLaws.{wrote-none, wrote-as}
 use Rattle.topologies.proofs.put_inputs.Statement.{statement}
 use Rattle.topologies.proofs.put_inputs.Tie as tie
 

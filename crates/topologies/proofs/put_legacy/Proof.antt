@@ -5,7 +5,7 @@ use borrow.Author.Needs.{needs}
 use lib.ListN.{length}
 use Rattle.topologies.specs.ShortLaws.{zero-as, at-legacy, at-last}
 use Rattle.topologies.specs.CountLaws.{single-length, zero-length}
-use Rattle.topologies.specs.WriteLaws.{wrote-none, wrote-as, wrote-join}
+use Rattle.topologies.specs.TopologyWriteLaws.{wrote-none, wrote-as, wrote-join}
 use Rattle.topologies.proofs.put_legacy.Statement.{statement}
 use Rattle.topologies.proofs.put_legacy.Tie as tie
 

@@ -2,8 +2,8 @@
 use borrow.Author.Needs.{needs}
 use mathlib.Core.Path.{_≡_, refl, sym, ap, _∙_}
 use Rattle.table.specs.declared.Verdict.{Verdict}
-use Rattle.numbers.specs.declared.AnswerNumbers.{AnswerNumbers}
-use Rattle.numbers.specs.Numbers.{numbersOf}
+use Rattle.table.specs.declared.numbers.AnswerNumbers.{AnswerNumbers}
+use Rattle.table.specs.Numbers.{numbersOf}
 use Rattle.snp_cpuid.proofs.table_exports.snp_cpuid_table_carry.Statement.{statement}
 use Rattle.snp_cpuid.proofs.table_exports.snp_cpuid_table_carry.Tie as tie
 

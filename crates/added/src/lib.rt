@@ -1,1 +1,0 @@
-// Entries that a host adds after its last one: statements and proofs, no code.

@@ -1,2 +1,0 @@
-pub mod CarryImage
-pub mod CarryImageLaws

@@ -1,0 +1,48 @@
+-- `collect::lawful::walk_pages` meets its contract: one return a case of the verdict, and where the pages are lawful, what the walk left in the arrays.
+use mathlib.Core.Path.{sym, ap, _∙_}
+use borrow.Author.Needs.{needs}
+use Rattle.collect.specs.Lawful.{cleanVerdict}
+use Rattle.collect.specs.LawfulLaws.{lawful-bad-length, lawful-bad-count, lawful-reserved}
+use Rattle.collect.specs.WalkedPages.{refused-walk, accepted-walk}
+use Rattle.collect.proofs.lawful.walk_pages.Statement.{statement}
+use Rattle.collect.proofs.lawful.walk_pages.Tie as tie
+
+returns : tie.Need-returns
+returns c = refused-walk _ _ _ _ (lawful-bad-length _ (sym (c .before .bad-length .ensures) ∙ c .if1 .taken))
+
+collect-into-requires : tie.Need-collect-into-requires
+collect-into-requires c κs = let t = c .before .before in sym (t .before .counts-fit .ensures) ∙ t .if2 .taken
+
+returns-2 : tie.Need-returns-2
+returns-2 c =
+    let b = c .before .before .before in let t = b .before .before .before in let f = t .before in let g = f .before in
+    refused-walk _ _ _ _
+    (ap cleanVerdict (sym (c .before .walked .given .1))
+    ∙ lawful-reserved _ (sym (g .before .bad-length .ensures) ∙ g .if1 .left) (sym (f .counts-fit .ensures) ∙ t .if2 .taken) (b .collect-into .ensures .answer))
+
+returns-3 : tie.Need-returns-3
+returns-3 c =
+    let b = c .before .before in let t = b .before .before .before in let f = t .before in let g = f .before in
+    accepted-walk _ _ _ _
+    (ap cleanVerdict (sym (c .enum-told .given .1))
+    ∙ lawful-reserved _ (sym (g .before .bad-length .ensures) ∙ g .if1 .left) (sym (f .counts-fit .ensures) ∙ t .if2 .taken) (b .collect-into .ensures .answer))
+    (b .collect-into .ensures)
+
+returns-4 : tie.Need-returns-4
+returns-4 c =
+    let f = c .before in let g = f .before in
+    refused-walk _ _ _ _ (lawful-bad-count _ (sym (g .before .bad-length .ensures) ∙ g .if1 .left) (sym (f .counts-fit .ensures) ∙ c .if2 .left))
+
+pub walk-pages-spec : {M : Type 1} → statement M
+walk-pages-spec =
+    tie.close
+    (tie.spec
+    (λ c κs. search needs)
+    returns
+    (λ c κs. search needs)
+    collect-into-requires
+    (λ c. search needs)
+    returns-2
+    (λ c. search needs)
+    returns-3
+    returns-4)

@@ -1,0 +1,152 @@
+-- `collect::locate::collect_into` meets its contract: before each turn the entries that are left give what all give. The inner loop keeps to one page, so a turn of the outer one ends on a later page.
+use borrow.Author.Needs.{needs}
+use native.Mathlib.Omega.{arith}
+use mathlib.Core.Path.{sym, _∙_}
+use Prim.Native.Nat.{_-_, _^_, _≤_, _<_}
+use lib.ListN.{length}
+use denote.Ref.{now}
+use Rattle.pages.specs.Layout.{pagesIn}
+use Rattle.reader.specs.Walk.{rest}
+use Rattle.reader.specs.WalkLaws.{turn}
+use Rattle.reader.specs.ReadLaws.{read-entry}
+use Rattle.collect.specs.OriginsLaws.{number-fits}
+use Rattle.collect.specs.WalkingLaws.{Walking, walking-first, walking-last, walking-stops, AtEntry, walking-falls, walking-rises, walking-kept, walking-none, walking-new}
+use Rattle.collect.proofs.locate.collect_into.Statement.{statement}
+use Rattle.collect.proofs.locate.collect_into.Tie as tie
+
+abbrev Inv-loop2 : tie.InvT-loop2
+Inv-loop2 pages secure-avic registers₀ origins₀ kept n index₀ page registers origins index = Walking secure-avic pages registers origins index × (page ≤ index .«page_index»)
+
+abbrev μ-loop2 : tie.MeasureT-loop2
+μ-loop2 pages secure-avic registers₀ origins₀ kept n index₀ page registers origins index = length (rest pages index)
+
+abbrev Inv-loop : tie.InvT-loop
+Inv-loop pages secure-avic registers₀ origins₀ kept n index₀ registers origins index = Walking secure-avic pages registers origins index
+
+abbrev μ-loop : tie.MeasureT-loop
+μ-loop pages secure-avic registers₀ origins₀ kept n index₀ registers origins index = pagesIn pages - index .«page_index»
+
+loop-holds : tie.Need-loop-holds Inv-loop2 μ-loop2 Inv-loop μ-loop
+loop-holds c = rw (c .start .ensures) (walking-first _ _)
+
+loop2-holds : tie.Need-loop2-holds Inv-loop2 μ-loop2 Inv-loop μ-loop
+loop2-holds c = (c .before .before .loop .inv, omega arith)
+
+loop-less : tie.Need-loop-less Inv-loop2 μ-loop2 Inv-loop μ-loop
+loop-less c =
+    let w = c .before .before .before in
+    let h : w .before .before .loop .index .«page_index» < _ = rw (w .before .before .before .before .page-count .ensures) at (w .if1 .taken) in
+    omega (arith, h, c .before .before .loop2 .inv .1, c .if2 .left)
+
+loop-again : tie.Need-loop-again Inv-loop2 μ-loop2 Inv-loop μ-loop
+loop-again c = c .before .before .loop2 .inv .0
+
+take-requires : tie.Need-take-requires Inv-loop2 μ-loop2 Inv-loop μ-loop
+take-requires c κs =
+    let l = c .before .before in
+    let w = l .before in
+    let n = w .before .before .before .before in
+    let h : l .loop2 .index .«page_index» < _ = rw (n .page-count .ensures, ← c .if2 .taken) at (w .if1 .taken) in
+    record { lawful = n .before .before .before .before .before .pre; inside = record { page = h; position = turn _ _ (l .loop2 .inv .0 .rows .valid) h .below } }
+
+-- the length of a slice fits 64 bits
+short : (c : tie.Start Inv-loop2 μ-loop2 Inv-loop μ-loop) → length (now (c .args .pages)) < 2 ^ 64
+short c = search needs
+
+entry-number-requires : tie.Need-entry-number-requires Inv-loop2 μ-loop2 Inv-loop μ-loop
+entry-number-requires c κs =
+    let k = c .before .before .before .before .before .before .before .before .before .before .before .before .before in
+    let r = take-requires (k .before) (k .take .lifetimes) in
+    let s = k .before .before .before .before .before .before .before .before .before .before .before .before .before in
+    number-fits _ (r .lawful) (short s) _ _ (r .inside .page) (r .inside .position)
+
+-- a turn at an entry that is clean, once its place is known
+abbrev Counted : Type 0
+Counted = tie.After-counted-place Inv-loop2 μ-loop2 Inv-loop μ-loop
+
+abbrev start : Counted → tie.Start Inv-loop2 μ-loop2 Inv-loop μ-loop
+start c = c .before .before .before .before .before .before .before .before .before .before .before .before .before .before .before .before .before
+
+abbrev turned : Counted → tie.At-loop2 Inv-loop2 μ-loop2 Inv-loop μ-loop
+turned c = c .before .before .before .before .before .before .before
+
+at-entry : (c : Counted) → AtEntry (start c .args .secure-avic) (now (start c .args .pages)) (turned c .loop2 .registers) (turned c .loop2 .origins) (turned c .loop2 .index)
+    (c .before .before .read .given .0 .0) (c .before .before .read .given .0 .1 .0) (c .counted-place .result)
+at-entry c =
+    let k = c .before .before .before .before in
+    let read = read-entry _ _ _ (sym (c .before .before .read .given .1) ∙ k .take .ensures) in
+    record {
+      walking = turned c .loop2 .inv .0;
+      inside = take-requires (k .before) (k .take .lifetimes) .inside .page;
+      entry = read .0;
+      next = read .1;
+      clean = read .2;
+      stored = c .counted-place .ensures;
+    }
+
+rises : (c : Counted) → turned c .before .before .before .loop .index .«page_index» ≤ c .before .before .read .given .0 .1 .0 .«page_index»
+rises c = omega (arith, walking-rises (at-entry c), turned c .loop2 .inv .1)
+
+loop2-again : tie.Need-loop2-again Inv-loop2 μ-loop2 Inv-loop μ-loop
+loop2-again c =
+    let m = c .before .before .before in
+    let r = m .before .before .before in
+    let p = r .before .before .before .before in (
+      rw (c .before .put-row .ensures, c .entry-number .ensures)
+          (walking-new (at-entry p) (r .before .before .before .if3 .taken) (r .before .if4 .taken)
+          (turned p .before .before .before .before .before .before .kept-leaves .ensures) (r .mask-row .ensures .0) (m .masked-at .ensures)),
+      rises p,
+    )
+
+loop2-again-2 : tie.Need-loop2-again-2 Inv-loop2 μ-loop2 Inv-loop μ-loop
+loop2-again-2 c = let p = c .before .before .before in (walking-kept (at-entry p) (c .before .before .if3 .taken) (c .if4 .left), rises p)
+
+loop2-again-3 : tie.Need-loop2-again-3 Inv-loop2 μ-loop2 Inv-loop μ-loop
+loop2-again-3 c = (walking-none (at-entry (c .before)) (c .if3 .left), rises (c .before))
+
+returns : tie.Need-returns Inv-loop2 μ-loop2 Inv-loop μ-loop
+returns c =
+    let k = c .before .before .before in
+    walking-stops _ _ _ _ _ (k .before .before .before .loop2 .inv .0) (take-requires (k .before) (k .take .lifetimes) .inside .page)
+    (sym (c .before .read2 .given .1) ∙ k .take .ensures)
+
+returns-2 : tie.Need-returns-2 Inv-loop2 μ-loop2 Inv-loop μ-loop
+returns-2 c = walking-last _ _ _ _ _ (c .before .before .loop .inv) (rw (c .before .before .before .before .page-count .ensures) at (c .if1 .left))
+
+pub collect-into-spec : {M : Type 1} → statement M
+collect-into-spec =
+    tie.close
+    (tie.spec
+    Inv-loop2
+    μ-loop2
+    Inv-loop
+    μ-loop
+    (λ c κs. search needs)
+    (λ c κs. search needs)
+    (λ c κs. search needs)
+    loop-holds
+    loop2-holds
+    loop-less
+    loop-again
+    take-requires
+    (λ c. search needs)
+    (λ c κs. search needs)
+    (λ c. search needs)
+    (λ c. search needs)
+    (λ c κs. search needs)
+    (λ c. search needs)
+    (λ c. search needs)
+    (λ c κs. search needs)
+    (λ c κs. search needs)
+    entry-number-requires
+    (λ c. search needs)
+    (λ c. search needs)
+    (λ c. walking-falls (at-entry (c .before .before .before .before .before .before .before .before .before .before)))
+    loop2-again
+    (λ c. walking-falls (at-entry (c .before .before .before)))
+    loop2-again-2
+    (λ c. walking-falls (at-entry (c .before)))
+    loop2-again-3
+    (λ c. search needs)
+    returns
+    returns-2)

@@ -1,3 +1,0 @@
-pub mod Second
-pub mod SecondLaws
-pub mod SecondProof

@@ -1,0 +1,184 @@
+-- The and-law, for the pool of servers. Two row sets joined, feature registers by and and all else from the first: what is enabled, the
+-- combined mask and every feature register of the finished rows are the and of the two sets'.
+use mathlib.Core.Path.{_≡_, refl, sym, ap, ap₂, _∙_}
+use mathlib.Core.Bool.{Bool, true, false, _&&_}
+use Prim.Native.Nat.{ℕ, _≤_, _<_, min, max}
+use native.Mathlib.Omega.{arith}
+use lib.Dec.{eqb}
+use lib.Bits.{bitAnd, bitOr, and-zero-l, and-zero-r}
+use borrow.Author.Tests.{eqb-true, eqb-false}
+use Rattle.bits.specs.Choice.{pick}
+use Rattle.bits.specs.ChoiceLaws.{and-swap}
+use Rattle.bits.specs.Bits.{bit, has, Within}
+use Rattle.bits.specs.BitsLaws.{bit-and, bit-or, bits-ext, has-and, zero-bit}
+use Rattle.x86defs.specs.declared.CpuidResult.{CpuidResult}
+use Rattle.x86defs.specs.Functions.{result}
+use Rattle.masking.specs.Kept.{places, keptLeaves, slot}
+use Rattle.masking.specs.Place
+use Rattle.table.specs.Rows.{Row, Rows}
+use Rattle.checks.specs.ExtendedState.{xfem, xss, combinedMask}
+use Rattle.features.specs.Finish.{Made, Needed, Rule, Enabled, Settings, ruleAt, enabledBy, finish, unlessNoXss}
+use Rattle.features.specs.Finish.Needed.{versionAndFeatures, extendedFeatures, threadLevelRow, coreLevelRow, extendedState0, extendedState1, extendedVersionAndFeatures, extendedAddressSpaceSizes, untouched}
+use Rattle.features.specs.Finish.Rule.{made, needed, component}
+use Rattle.finish.specs.Kinds.{Kind, Kinds, registerKinds, kindsAt}
+use Rattle.finish.specs.Kinds.Kind.{feature, featureBut28, area, freed, other}
+use Rattle.finish.specs.RuleKinds.{featureEax, kindsOf, kinds-at}
+use Rattle.finish.specs.FeatureLaws.{bothEnable, versionEcx-and, featuresEbx-and, featuresEcx-and, featuresEdx-and, extendedVersionEcx-and, extendedVersionEdx-and, addressSizesEbx-and}
+
+-- joined by and where the register holds features; else the first's
+abbrev pub joined : Kind → ℕ → ℕ → ℕ
+joined feature a b = bitAnd a b
+joined featureBut28 a b = bitAnd a b
+joined area a b = a
+joined freed a b = a
+joined other a b = a
+
+abbrev pub joinResults : Kinds → CpuidResult → CpuidResult → CpuidResult
+joinResults k a b =
+    result (joined (k .eax) (a .eax) (b .eax)) (joined (k .ebx) (a .ebx) (b .ebx)) (joined (k .ecx) (a .ecx) (b .ecx))
+    (joined (k .edx) (a .edx) (b .edx))
+
+-- a row that both have
+unfoldable pub joinRows : Rows → Rows → Rows
+joinRows a b i = record { present = a i .present && b i .present; result = joinResults (kindsAt i) (a i .result) (b i .result) }
+
+-- ---- what is enabled
+
+pub xfem-join : (a b : Rows) → xfem (joinRows a b) ≡ bitAnd (xfem a) (xfem b)
+unfolding xfem joinRows kindsAt registerKinds slot keptLeaves
+xfem-join a b = refl
+
+pick-join : (p q : Bool) (x y : ℕ) → pick (p && q) (bitAnd x y) 0 ≡ bitAnd (pick p x 0) (pick q y 0)
+pick-join true true x y = refl
+pick-join true false x y = sym (and-zero-r x)
+pick-join false q x y = sym (and-zero-l (pick q y 0))
+
+pub xss-join : (a b : Rows) → xss (joinRows a b) ≡ bitAnd (xss a) (xss b)
+unfolding xss joinRows kindsAt registerKinds slot keptLeaves
+xss-join a b =
+    let u : ℕ = a (Place.extendedState 1) .result .eax in
+    let v : ℕ = b (Place.extendedState 1) .result .eax in
+    ap (λ (t : Bool). pick t (bitAnd (a (Place.extendedState 1) .result .ecx) (b (Place.extendedState 1) .result .ecx)) 0)
+    (ap₂ _&&_ (has-and 1 u v) (has-and 3 u v) ∙ and-swap (has 1 u) (has 1 v) (has 3 u) (has 3 v))
+    ∙ pick-join (has 1 u && has 3 u) (has 1 v && has 3 v) (a (Place.extendedState 1) .result .ecx) (b (Place.extendedState 1) .result .ecx)
+
+pub enabled-join : (a b : Rows) → enabledBy (joinRows a b) ≡ bothEnable (enabledBy a) (enabledBy b)
+unfolding enabledBy joinRows kindsAt registerKinds slot keptLeaves
+enabled-join a b i = record {
+  xfem = xfem-join a b i;
+  xss = xss-join a b i;
+  tscAux = has-and 9 (a Place.extendedSevFeatures .result .eax) (b Place.extendedSevFeatures .result .eax) i;
+}
+
+-- what masking leaves of the two state masks: bits 0, 1, 2, 5, 6, 7 of XFEM and 11, 12 of XSS
+pub record MaskedState (m : Rows) : Type 0 where
+  pub xfem : Within (xfem m) 0xE7
+  pub xss : Within (xss m) 0x1800
+
+max-zero-left : (n : ℕ) → max 0 n ≡ n
+max-zero-left n = omega arith
+
+max-zero-right : (n : ℕ) → max n 0 ≡ n
+max-zero-right n = omega arith
+
+-- of two ranges that share no bit, one is empty at each bit
+bit-join : (e x fa fb sa sb : ℕ) → min e x ≡ 0 → fa ≤ e → fb ≤ e → sa ≤ x → sb ≤ x → max (min fa fb) (min sa sb) ≡ min (max fa sa) (max fb sb)
+bit-join e x fa fb sa sb m p q r t = go (eqb e 0) refl
+  where
+    go : (b : Bool) → eqb e 0 ≡ b → max (min fa fb) (min sa sb) ≡ min (max fa sa) (max fb sb)
+    go true z =
+        let a : fa ≡ 0 = omega (arith, eqb-true e 0 z) in
+        let b : fb ≡ 0 = omega (arith, eqb-true e 0 z) in
+        rw (a, b, max-zero-left (min sa sb), max-zero-left sa, max-zero-left sb)
+    go false z =
+        let n : ¬ (e ≡ 0) = eqb-false e 0 z in
+        let a : sa ≡ 0 = omega arith in
+        let b : sb ≡ 0 = omega arith in
+        rw (a, b, max-zero-right (min fa fb), max-zero-right fa, max-zero-right fb)
+
+pub mask-join : (a b : Rows) → MaskedState a → MaskedState b → combinedMask (joinRows a b) ≡ bitAnd (combinedMask a) (combinedMask b)
+unfolding combinedMask
+mask-join a b p q = ap₂ bitOr (xfem-join a b) (xss-join a b) ∙ bits-ext _ _ at-bit
+  where
+    at-bit : (k : ℕ)
+        → bit k (bitOr (bitAnd (xfem a) (xfem b)) (bitAnd (xss a) (xss b))) ≡ bit k (bitAnd (bitOr (xfem a) (xss a)) (bitOr (xfem b) (xss b)))
+    at-bit k =
+        rw (
+          bit-or k (bitAnd (xfem a) (xfem b)) (bitAnd (xss a) (xss b)),
+          bit-and k (xfem a) (xfem b),
+          bit-and k (xss a) (xss b),
+          bit-and k (bitOr (xfem a) (xss a)) (bitOr (xfem b) (xss b)),
+          bit-or k (xfem a) (xss a),
+          bit-or k (xfem b) (xss b),
+        )
+        (bit-join (bit k 0xE7) (bit k 0x1800) _ _ _ _ (sym (bit-and k 0xE7 0x1800) ∙ zero-bit k)
+        (p .xfem .at k) (q .xfem .at k) (p .xss .at k) (q .xss .at k))
+
+-- ---- every feature register
+
+-- z is the and of x and y where the register holds features
+abbrev pub FeatureJoin : Kind → ℕ → ℕ → ℕ → Type 0
+FeatureJoin feature z x y = z ≡ bitAnd x y
+FeatureJoin featureBut28 z x y = z ≡ bitAnd x y
+FeatureJoin area z x y = Unit {0}
+FeatureJoin freed z x y = Unit {0}
+FeatureJoin other z x y = Unit {0}
+
+pub record FeaturesJoin (k : Kinds) (z x y : CpuidResult) : Type 0 where
+  pub eax : FeatureJoin (k .eax) (z .eax) (x .eax) (y .eax)
+  pub ebx : FeatureJoin (k .ebx) (z .ebx) (x .ebx) (y .ebx)
+  pub ecx : FeatureJoin (k .ecx) (z .ecx) (x .ecx) (y .ecx)
+  pub edx : FeatureJoin (k .edx) (z .edx) (x .edx) (y .edx)
+
+-- D.1.ECX ends as XSS (ExtendedStateLaws)
+abbrev EndsAsXss : Settings → CpuidResult → Type 0
+EndsAsXss c r = unlessNoXss (c .enabled) (r .ecx) ≡ c .enabled .xss
+
+module _ (e c d : Settings) (joins : e .enabled ≡ bothEnable (c .enabled) (d .enabled)) (clearsC : c .clears ≡ e .clears)
+    (clearsD : d .clears ≡ e .clears) where
+  pub finish-join : (f : Bool) (t : Rule) (a b : CpuidResult)
+      → (t ≡ needed extendedState1 → EndsAsXss e (joinResults (kindsOf f t) a b) × EndsAsXss c a × EndsAsXss d b)
+      → FeaturesJoin (kindsOf f t) (finish e t (joinResults (kindsOf f t) a b)) (finish c t a) (finish d t b)
+  finish-join f (made t) a b h = record { eax = tt; ebx = tt; ecx = tt; edx = tt }
+  finish-join f (needed versionAndFeatures) a b h = record { eax = tt; ebx = tt; ecx = rw (joins, clearsC, clearsD) (versionEcx-and _ _ _ _ _); edx = refl }
+  finish-join f (needed extendedFeatures) a b h = record {
+    eax = tt;
+    ebx = rw (joins, clearsC, clearsD) (featuresEbx-and _ _ _ _ _);
+    ecx = rw (joins, clearsC, clearsD) (featuresEcx-and _ _ _ _ _);
+    edx = rw joins (featuresEdx-and _ _ _ _);
+  }
+  finish-join f (needed threadLevelRow) a b h = record { eax = tt; ebx = tt; ecx = tt; edx = tt }
+  finish-join f (needed coreLevelRow) a b h = record { eax = tt; ebx = tt; ecx = tt; edx = tt }
+  finish-join f (needed extendedState0) a b h = record { eax = refl; ebx = tt; ecx = tt; edx = tt }
+  finish-join f (needed extendedState1) a b h = record {
+    eax = refl;
+    ebx = tt;
+    ecx = h refl .0 ∙ ap (λ (x : Enabled). x .xss) joins ∙ sym (ap₂ bitAnd (h refl .1) (h refl .2));
+    edx = tt;
+  }
+  finish-join f (needed extendedVersionAndFeatures) a b h =
+      record {
+        eax = tt;
+        ebx = tt;
+        ecx = rw (joins, clearsC, clearsD) (extendedVersionEcx-and _ _ _ _ _);
+        edx = rw joins (extendedVersionEdx-and _ _ _ _);
+      }
+  finish-join f (needed extendedAddressSpaceSizes) a b h = record { eax = tt; ebx = addressSizesEbx-and _ _; ecx = tt; edx = tt }
+  finish-join true (needed untouched) a b h = record { eax = refl; ebx = tt; ecx = tt; edx = tt }
+  finish-join false (needed untouched) a b h = record { eax = tt; ebx = tt; ecx = tt; edx = tt }
+  finish-join f (component k) a b h = record { eax = tt; ebx = tt; ecx = tt; edx = tt }
+
+  -- at a place
+  pub finish-join-at : (a b : Rows) (i : ℕ) → i < places
+      → (ruleAt i ≡ needed extendedState1 → EndsAsXss e (joinRows a b i .result) × EndsAsXss c (a i .result) × EndsAsXss d (b i .result))
+      → FeaturesJoin (kindsAt i) (finish e (ruleAt i) (joinRows a b i .result)) (finish c (ruleAt i) (a i .result))
+      (finish d (ruleAt i) (b i .result))
+  unfolding joinRows
+  finish-join-at a b i l h = at (kindsAt i) (kinds-at i l) h
+    where
+      at : (k : Kinds) → k ≡ kindsOf (featureEax i) (ruleAt i)
+          → (ruleAt i ≡ needed extendedState1
+          → EndsAsXss e (joinResults k (a i .result) (b i .result)) × EndsAsXss c (a i .result) × EndsAsXss d (b i .result))
+          → FeaturesJoin k (finish e (ruleAt i) (joinResults k (a i .result) (b i .result))) (finish c (ruleAt i) (a i .result))
+          (finish d (ruleAt i) (b i .result))
+      at k q h = rw q (finish-join (featureEax i) (ruleAt i) (a i .result) (b i .result) (rw q at h))

@@ -1,0 +1,14 @@
+pub mod Kinds
+pub mod Stores
+pub mod FinishedTable
+pub mod PlaceLaws
+pub mod FinishLaws
+pub mod FeatureLaws
+pub mod FitLaws
+pub mod XsavesLaws
+pub mod RemainsLaws
+pub mod RuleKinds
+pub mod JoinLaws
+pub mod RowsBuilt
+pub mod Stages
+pub mod StageLaws

@@ -1,1 +1,0 @@
-// Laws of finished rows, for the theorems above: no code.

@@ -1,2 +1,0 @@
-pub mod FirstEntry
-pub mod FirstEntryLaws

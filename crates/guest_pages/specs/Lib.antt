@@ -1,3 +1,0 @@
-pub mod GuestPages
-pub mod GuestPagesLaws
-pub mod FromMemory

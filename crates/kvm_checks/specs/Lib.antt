@@ -1,3 +1,0 @@
-pub mod ListChecks
-pub mod RowLaws
-pub mod RowsLeftLaws

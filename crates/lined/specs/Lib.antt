@@ -1,4 +1,0 @@
-pub mod Lined
-pub mod LinedProof
-pub mod NotBytes
-pub mod RefusedLines

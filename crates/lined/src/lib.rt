@@ -1,1 +1,0 @@
-// Building's refusals as lines: statements and their proofs, no code.

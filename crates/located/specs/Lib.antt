@@ -1,3 +1,0 @@
-pub mod Located
-pub mod StandsLaws
-pub mod LocatedProof

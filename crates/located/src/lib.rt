@@ -1,1 +1,0 @@
-// What a row's origin says of the pages: statements and their proofs, no code.

@@ -1,0 +1,37 @@
+// The reserved bytes of an entry. Page bytes and an index come in; whether the bytes are zero goes out.
+use crate::CpuidPageIndex;
+use crate::ENTRY_SIZE;
+use crate::FIRST_ENTRY;
+use crate::PAGE_SIZE;
+use crate::word_at;
+use x86defs::CpuidFunction;
+ghost use mathlib.Core.Path.{_≡_};
+ghost use Prim.Native.Nat.{_+_, _≤_, _<_};
+ghost use lib.ListN.{length};
+ghost use Rattle.pages.specs.Layout.{pagesIn, mostEntries};
+ghost use Rattle.pages.specs.Reserved.{eightZeros, cleanAt};
+
+const RESERVED: usize = 40;
+
+// What a walk over all entries finds of these bytes: all are zero, or the leaf of the first entry where one is not.
+pub enum Reserved {
+    Zero,
+    Nonzero(CpuidFunction),
+}
+
+// Whether the reserved bytes of the entry at an index are zero.
+pub fn clean_at(pages: &[u8], index: CpuidPageIndex) -> bool
+    requires { ⌜ (index .«page_index» < pagesIn (now pages)) × (index .«function_index» < mostEntries) ⌝ }
+    ensures { λ r. ⌜ r ≡ cleanAt (now (pages .entry)) (index .«page_index») (index .«function_index») ⌝ }
+{
+    let start = PAGE_SIZE * index.page_index + FIRST_ENTRY + ENTRY_SIZE * index.function_index;
+    eight_zeros(pages, start + RESERVED)
+}
+
+// Whether the eight bytes at `o` are zero.
+fn eight_zeros(pages: &[u8], o: usize) -> bool
+    requires { ⌜ o + 8 ≤ length (now pages) ⌝ }
+    ensures { λ r. ⌜ r ≡ eightZeros (now (pages .entry)) o ⌝ }
+{
+    word_at(pages, o) as u64 + 4294967296 * word_at(pages, o + 4) as u64 == 0
+}

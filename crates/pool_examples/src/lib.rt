@@ -1,1 +1,0 @@
-// Pools of whole page sets, computed: statements and proofs, no code.

@@ -1,2 +1,0 @@
-pub mod Server
-pub mod ServerLaws

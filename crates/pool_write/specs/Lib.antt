@@ -1,2 +1,0 @@
-pub mod WritePool
-pub mod WritePoolLaws

@@ -1,9 +1,0 @@
-pub mod RowsPool
-pub mod PoolRight
-pub mod PoolProof
-pub mod OrderProof
-pub mod PoolExactly
-pub mod ExactlyProof
-pub mod PoolWrites
-pub mod ByTheLetter
-pub mod PoolMoves

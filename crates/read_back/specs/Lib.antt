@@ -1,4 +1,0 @@
-pub mod ReadBack
-pub mod BytesLaws
-pub mod RowsBack
-pub mod ReadBackProof

@@ -1,1 +1,0 @@
-// A table's image read back: statements and proofs, no code.

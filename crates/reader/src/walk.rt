@@ -1,0 +1,88 @@
+// The walk over the entries. Page bytes and an index come in; the index of the next entry below its page's count goes out.
+use pages::CpuidPageIndex;
+use pages::count_of;
+use pages::page_count;
+ghost use mathlib.Core.Path.{_≡_};
+ghost use Prim.Native.Nat.{_+_, _≤_, _<_};
+ghost use Rattle.pages.specs.Layout.{pagesIn};
+ghost use Rattle.reader.specs.Walk.{Inside, firstIndex, nextValid, incremented, firstFrom};
+
+// The index of the first entry, or the end. The source's `CpuidPageIndex::new`.
+pub fn first_index(pages: &[u8]) -> CpuidPageIndex
+    ensures { λ r. ⌜ r ≡ firstIndex (now (pages .entry)) ⌝ }
+{
+    let start = CpuidPageIndex {
+        page_index: 0,
+        function_index: 0,
+    };
+    next_valid_index(pages, start)
+}
+
+// The index as it is where it stands below its page's count; else the first entry of a later page, or the end.
+pub fn next_valid_index(pages: &[u8], index: CpuidPageIndex) -> CpuidPageIndex
+    ensures { λ r. ⌜ r ≡ nextValid (now (pages .entry)) index ⌝ }
+{
+    let n = page_count(pages);
+    let page = index.page_index;
+    if page < n {
+        let position = index.function_index;
+        if position < count_of(pages, page) as usize {
+            return index;
+        }
+        let later = page + 1;
+        return skip_empty(pages, later, n - later);
+    }
+    CpuidPageIndex {
+        page_index: n,
+        function_index: 0,
+    }
+}
+
+// The index of the entry after the one that an index stands at, or the end. What leads to a later page stands in a function of its own, so that a
+// loop over one page's entries stays short when this is compiled into it.
+pub fn increment(pages: &[u8], index: CpuidPageIndex) -> CpuidPageIndex
+    requires { ⌜ Inside (now pages) index ⌝ }
+    ensures { λ r. ⌜ r ≡ incremented (now (pages .entry)) index ⌝ }
+{
+    let page = index.page_index;
+    let count = count_of(pages, page) as usize;
+    let after = index.function_index + 1;
+    if after < count {
+        return CpuidPageIndex {
+            page_index: page,
+            function_index: after,
+        };
+    }
+    later_page(pages, page)
+}
+
+// The first entry of the pages after this one, or the end.
+fn later_page(pages: &[u8], page: usize) -> CpuidPageIndex
+    requires { ⌜ page < pagesIn (now pages) ⌝ }
+    ensures { λ r. ⌜ r ≡ firstFrom (now (pages .entry)) (page + 1) ⌝ }
+{
+    let later = page + 1;
+    skip_empty(pages, later, page_count(pages) - later)
+}
+
+// The first entry of the `left` pages from `page` on, or the end: empty pages are passed over, as in the source's `next_valid_index`.
+fn skip_empty(pages: &[u8], page: usize, left: usize) -> CpuidPageIndex
+    requires { ⌜ page + left ≡ pagesIn (now pages) ⌝ }
+    ensures { λ r. ⌜ r ≡ firstFrom (now (pages .entry)) page ⌝ }
+{
+    let end = page + left;
+    let mut at = page;
+    while at < end {
+        if count_of(pages, at) != 0 {
+            return CpuidPageIndex {
+                page_index: at,
+                function_index: 0,
+            };
+        }
+        at += 1;
+    }
+    CpuidPageIndex {
+        page_index: at,
+        function_index: 0,
+    }
+}

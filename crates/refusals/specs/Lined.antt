@@ -1,0 +1,77 @@
+-- Document 02, P6, for what building gives: each refusal, with its details, is written as a line, the line fits 22 bytes, and reading it gives the
+-- refusal back. Nothing more is asked than that the page bytes are bytes, as those of a slice are: the leaf that 17 names is then of 32 bits, as "any
+-- leaf and subleaf of 32 bits and any s of 8 bits" wants it, and so are the leaves and subleaves of 3 and the s of 6 and 7.
+use mathlib.Core.Path.{_≡_}
+use mathlib.Core.Bool.{true}
+use mathlib.Core.List.{List, [], _∷_}
+use Prim.Native.Nat.{ℕ, _≤_}
+use lib.ListN.{length, getD, take}
+use Rattle.x86defs.specs.Functions.{function}
+use Rattle.pages.specs.Bytes.{AreBytes}
+use Rattle.topology.specs.declared.TopologyError.the-variants.{Hyperthreading, ProcessorCount, ThreadsPerUnit}
+use Rattle.table.specs.declared.Choices.{Choices}
+use Rattle.table.specs.declared.Refusal.{Refusal}
+use Rattle.table.specs.declared.Refusal.the-variants.{PagesLength, PageCount, MissingRequiredResult, InvlpgbUnavailable, SaveAreaOverflow, TopologyInconsistent, BufferTooShort, ListLength, ListRows, ListFields, StateBeyondTable, CompactSizeTooLarge, UnknownEdition, EditionBack, ReservedBytes, PoolSets, PoolDiffers, NothingDecides}
+use Rattle.table.specs.declared.Verdict.the-variants.{Refused}
+use Rattle.table.specs.Refusal.{Details, details}
+use Rattle.build.specs.Build.{answer}
+use Rattle.buffer.specs.declared.Written.the-variants.{Bytes}
+use Rattle.lines.specs.declared.bytes.LineDetails.{LineDetails}
+use Rattle.lines.specs.Line.{Fits, writable, line}
+use Rattle.lines.specs.declared.LineRead.the-variants.{Line as Says}
+use Rattle.lines.specs.declared.LineWritten.the-variants.{Line as Answered}
+use Rattle.lines.specs.WriteLine.{writeLine}
+use Rattle.lines.specs.ReadLine.{readLine}
+use Rattle.lines.specs.LinePromises.{lineDetails}
+
+-- the refusal that a number and its details tell
+abbrev pub refusalOf : LineDetails → Refusal
+refusalOf d =
+    getD
+    (PagesLength
+    ∷ PagesLength
+    ∷ PageCount
+    ∷ MissingRequiredResult (function (d .leaf)) (d .subleaf)
+    ∷ InvlpgbUnavailable
+    ∷ SaveAreaOverflow
+    ∷ TopologyInconsistent (Hyperthreading (d .s))
+    ∷ TopologyInconsistent (ProcessorCount (d .s))
+    ∷ TopologyInconsistent ThreadsPerUnit
+    ∷ BufferTooShort
+    ∷ ListLength
+    ∷ ListRows
+    ∷ ListFields
+    ∷ StateBeyondTable
+    ∷ CompactSizeTooLarge
+    ∷ UnknownEdition
+    ∷ EditionBack
+    ∷ ReservedBytes (function (d .leaf))
+    ∷ PoolSets
+    ∷ PoolDiffers
+    ∷ NothingDecides
+    ∷ [])
+    (d .number) PagesLength
+
+-- what a refusal tells, as a line says it
+abbrev pub told : Refusal → LineDetails
+told r = lineDetails (details r)
+
+pub record Lined (r : Refusal) : Type 0 where
+  pub fits : Fits (told r)
+  pub isWritable : writable (told r) ≡ true
+  -- the line says these details, and they tell this refusal and no other
+  pub readBack : readLine (line (told r)) ≡ Says (told r)
+  pub tells : refusalOf (told r) ≡ r
+  -- 22 lent bytes are enough, whatever they hold: the line is written, and what it left at the front is read back
+  pub room : length (line (told r)) ≤ 22
+  pub written : (buffer : List ℕ) → 22 ≤ length buffer → writeLine (told r) buffer .answer ≡ Answered (Bytes (length (line (told r))))
+  pub fromBuffer : (buffer : List ℕ) → 22 ≤ length buffer
+      → readLine (take (length (line (told r))) (writeLine (told r) buffer .buffer)) ≡ Says (told r)
+
+abbrev pub BuildingLined : Type 0
+BuildingLined = (chosen : Choices) (s : List ℕ) → AreBytes s → (r : Refusal) → answer chosen s .verdict ≡ Refused r → Lined r
+
+-- two page sets, each under choices of its own, whose refusals have one line are refused by one refusal, details included
+abbrev pub LinesTell : Type 0
+LinesTell = (c d : Choices) (s t : List ℕ) → AreBytes s → AreBytes t → (q r : Refusal)
+    → answer c s .verdict ≡ Refused q → answer d t .verdict ≡ Refused r → line (told q) ≡ line (told r) → q ≡ r

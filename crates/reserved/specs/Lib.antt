@@ -1,3 +1,0 @@
-pub mod Reserved
-pub mod ZerosLaws
-pub mod ReservedLaws

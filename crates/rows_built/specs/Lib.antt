@@ -1,3 +1,0 @@
-pub mod RowsBuilt
-pub mod Stages
-pub mod StageLaws

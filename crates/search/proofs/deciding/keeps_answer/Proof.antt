@@ -1,0 +1,67 @@
+-- `search::deciding::keeps_answer` meets its contract: a row that is there already, or building anew.
+use borrow.Author.Needs.{needs}
+use mathlib.Core.Path.{_≡_, refl, sym, ap, _∙_}
+use mathlib.Core.List.{List}
+use Prim.Native.Nat.{ℕ}
+use lib.ListN.{set}
+use Rattle.x86defs.specs.declared.CpuidResult.{CpuidResult}
+use Rattle.memory.specs.Memory.{rowsIn}
+use Rattle.memory.specs.Held.{heldIn}
+use Rattle.search.specs.SameVerdict.{sameResult}
+use Rattle.search.specs.PutRow.{putRow}
+use Rattle.search.specs.PutRowLaws.{there, put-row}
+use Rattle.search.specs.BitLaws.{AnswerTo, answer-to, keeps-there, keeps-table, verdict-differs}
+use Rattle.search.proofs.deciding.keeps_answer.Statement.{statement}
+use Rattle.search.proofs.deciding.keeps_answer.Tie as tie
+
+returns : tie.Need-returns
+returns c =
+    let r = c .before in let a = r .before in let t = a .before in let f = t .before in let s = f .before .before in
+    keeps-there _ (s .args .place) (s .args .x) _ (rowsIn (s .args .registers .now) (s .args .origins .now))
+    (there (s .args .registers .now) (s .args .origins .now) (s .args .place) (sym (f .is-there .ensures) ∙ t .if1 .taken))
+    (ap (λ (y : CpuidResult). sameResult y (s .args .x)) (sym (a .row-at .ensures)) ∙ sym (r .same-result .ensures) ∙ c .if2 .taken)
+
+-- where the code started, and what building answers to the rows with the row that is tried
+abbrev start : tie.After-build-rows → tie.Start
+start b = b .before .before .before .before .before .before .before .before .before .before .before
+
+answer : (b : tie.After-build-rows)
+    → AnswerTo (start b .args .edition)
+    (putRow (start b .args .place) (start b .args .x) (rowsIn (start b .args .registers .now) (start b .args .origins .now)))
+    (b .build-rows .result) (heldIn (b .build-rows .last .0) (b .build-rows .last .1 .0))
+answer b =
+    let put = b .before .before .before in let z = put .before .before .before .before in let s = start b in
+    answer-to (s .args .edition) (b .build-rows .ensures)
+    (ap (λ (w : List ℕ). rowsIn w (set (s .args .origins .now) (s .args .place) 1)) (put .put-row .ensures)
+    ∙ put-row (s .args .registers .now) (s .args .origins .now) (s .args .place) (s .args .x) 1
+    (z .sized .ensures .0) (z .sized .ensures .1) (s .pre .0) refl)
+
+returns-2 : tie.Need-returns-2
+returns-2 c =
+    let t = c .before .before .before in let v = t .before in let b = v .before in
+    keeps-table _ (answer b) (start b .pre .1) (v .same-verdict .ensures) (t .if3 .taken) (c .same-table .ensures)
+
+returns-3 : tie.Need-returns-3
+returns-3 c =
+    let v = c .before in let b = v .before in
+    verdict-differs _ (answer b) (start b .pre .1) (v .same-verdict .ensures) (c .if3 .left)
+
+pub keeps-answer-spec : {M : Type 1} → statement M
+keeps-answer-spec =
+    tie.close
+    (tie.spec
+    (λ c. search needs)
+    (λ c. search needs)
+    (λ c κs. search needs)
+    (λ c κs. search needs)
+    (λ c κs. search needs)
+    returns
+    (λ c κs. search needs)
+    (λ c κs. search needs)
+    (λ c. search needs)
+    (λ c. search needs)
+    (λ c κs. search needs)
+    (λ c κs. search needs)
+    (λ c κs. search needs)
+    returns-2
+    returns-3)

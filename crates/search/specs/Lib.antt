@@ -1,0 +1,13 @@
+pub mod SameVerdict
+pub mod SameLaws
+pub mod Changes
+pub mod PutRow
+pub mod PutRowLaws
+pub mod FlippedRowLaws
+pub mod ChangesLaws
+pub mod FlippedMaskLaws
+pub mod Quiet
+pub mod FlippedReadLaws
+pub mod QuietLaws
+pub mod SearchReturnLaws
+pub mod BitLaws

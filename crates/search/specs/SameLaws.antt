@@ -1,0 +1,121 @@
+-- The same answer: an answer is the same as itself, equal registers, and tables in memory compared row by row as the code does.
+use mathlib.Core.Path.{_≡_, refl, sym, ap, _∙_}
+use mathlib.Core.Bool.{Bool, true, false}
+use Prim.Native.Nat.{ℕ, zero, suc, _+_, _<_}
+use native.Mathlib.Numerals.{add-one}
+use lib.Dec.{eqb}
+use borrow.Author.Tests.{eq-eqb, eqb-true}
+use Rattle.bits.specs.ChoiceLaws.{never-both, and-both, and-left, and-right}
+use Rattle.bits.specs.Search.{every}
+use Rattle.bits.specs.SearchLaws.{every-at}
+use Rattle.x86defs.specs.declared.CpuidResult.{CpuidResult}
+use Rattle.masking.specs.Kept.{places}
+use Rattle.table.specs.declared.CpuidResults.{CpuidResults}
+use Rattle.table.specs.declared.Verdict.{Verdict}
+use Rattle.table.specs.Rows.{Row, Rows}
+use Rattle.table.specs.Table.{rowIn}
+use Rattle.memory.specs.Held.{wholeOf, whole-row, whole-ext}
+use Rattle.table.specs.declared.numbers.AnswerNumbers.{AnswerNumbers}
+use Rattle.table.specs.Numbers.{numbersOf}
+use Rattle.search.specs.SameVerdict.{agree, sameResult, sameRow, sameRows, sameTable, sameNumbers, sameAnswer}
+
+-- ---- an answer is the same as itself
+
+eqb-same : (n : ℕ) → eqb n n ≡ true
+eqb-same n = eq-eqb n n refl
+
+every-all : (test : ℕ → Bool) (n : ℕ) → ((i : ℕ) → test i ≡ true) → every test n ≡ true
+every-all test zero h = refl
+every-all test (suc n) h = and-both (h n) (every-all test n h)
+
+agree-same : (b : Bool) → agree b b ≡ true
+agree-same true = refl
+agree-same false = refl
+
+result-same : (r : CpuidResult) → sameResult r r ≡ true
+unfolding sameResult
+result-same r = and-both (eqb-same (r .eax)) (and-both (eqb-same (r .ebx)) (and-both (eqb-same (r .ecx)) (eqb-same (r .edx))))
+
+pub table-same : (t : CpuidResults) → sameTable t t ≡ true
+unfolding sameTable sameRows
+table-same t =
+    and-both (eqb-same (t .«row_count»))
+    (and-both (eqb-same (t .«max_extended_state»))
+    (every-all _ places (λ i. and-both (agree-same (rowIn t i .present)) (result-same (rowIn t i .result)))))
+
+numbers-same : (n : AnswerNumbers) → sameNumbers n n ≡ true
+unfolding sameNumbers
+numbers-same n =
+    and-both (eqb-same (n .number))
+    (and-both (eqb-same (n .leaf)) (and-both (eqb-same (n .«has_subleaf»)) (and-both (eqb-same (n .subleaf)) (eqb-same (n .s)))))
+
+pub answer-same : {v w : Verdict} {t u : CpuidResults} → v ≡ w → t ≡ u → sameAnswer v t w u ≡ true
+unfolding sameAnswer
+answer-same {v} {w} {t} {u} e f = rw (e, f) (and-both (numbers-same (numbersOf w)) (table-same u))
+
+-- ---- the same registers are equal
+
+pub result-equal : (a b : CpuidResult) → sameResult a b ≡ true → a ≡ b
+unfolding sameResult
+result-equal a b e =
+    let f = and-right (eqb (a .eax) (b .eax)) _ e in
+    let g = and-right (eqb (a .ebx) (b .ebx)) _ f in λ k.
+    record {
+      eax = eqb-true (a .eax) (b .eax) (and-left _ _ e) k;
+      ebx = eqb-true (a .ebx) (b .ebx) (and-left _ _ f) k;
+      ecx = eqb-true (a .ecx) (b .ecx) (and-left _ _ g) k;
+      edx = eqb-true (a .edx) (b .edx) (and-right (eqb (a .ecx) (b .ecx)) _ g) k;
+    }
+
+pub agree-equal : (a b : Bool) → agree a b ≡ true → a ≡ b
+agree-equal true b e = sym e
+agree-equal false true e = e
+agree-equal false false e = refl
+
+row-equal : (a b : Row) → sameRow a b ≡ true → a ≡ b
+row-equal a b e =
+    let p = agree-equal (a .present) (b .present) (and-left _ _ e) in
+    let r = result-equal (a .result) (b .result) (and-right (agree (a .present) (b .present)) _ e) in λ k.
+    record { present = p k; result = r k }
+
+-- ---- tables in memory compared: the rows decide, since count and mask follow from them
+
+abbrev pub rowsAgree : Rows → Rows → ℕ → Bool
+rowsAgree m o i = sameRow (m i) (o i)
+
+unfoldable pub rowsSameTo : Rows → Rows → ℕ → Bool
+rowsSameTo m o n = every (rowsAgree m o) n
+
+module _ (m o : Rows) where
+  -- what the code finds at a place
+  pub rows-found : (i : ℕ) {p q r : Bool} {a b : CpuidResult} → p ≡ m i .present → a ≡ m i .result → q ≡ o i .present → b ≡ o i .result
+      → r ≡ sameRow (record { present = p; result = a }) (record { present = q; result = b }) → r ≡ rowsAgree m o i
+  rows-found i e f g h j = j ∙ (λ k. sameRow (record { present = e k; result = f k }) (record { present = g k; result = h k }))
+
+  pub rows-same-none : rowsSameTo m o 0 ≡ true
+  unfolding rowsSameTo
+  rows-same-none = refl
+
+  pub rows-same-more : (i : ℕ) → rowsSameTo m o i ≡ true → rowsAgree m o i ≡ true → rowsSameTo m o (i + 1) ≡ true
+  unfolding rowsSameTo
+  rows-same-more i e f = rw add-one (and-both f e)
+
+  pub rows-same-all : (i : ℕ) → i ≡ places → rowsSameTo m o i ≡ true → true ≡ sameTable (wholeOf m) (wholeOf o)
+  unfolding rowsSameTo
+  rows-same-all i q e =
+      let f : every (rowsAgree m o) places ≡ true = rw q at e in
+      let w : wholeOf m ≡ wholeOf o = whole-ext (λ j l. row-equal (m j) (o j) (every-at (rowsAgree m o) places f j l)) in
+      sym (ap (sameTable (wholeOf m)) (sym w) ∙ table-same (wholeOf m))
+
+  pub rows-differ : (i : ℕ) → i < places → rowsAgree m o i ≡ false → false ≡ sameTable (wholeOf m) (wholeOf o)
+  unfolding sameTable sameRows
+  rows-differ i l f = go (sameTable (wholeOf m) (wholeOf o)) refl
+    where
+      go : (b : Bool) → sameTable (wholeOf m) (wholeOf o) ≡ b → false ≡ b
+      go true e =
+          let g = and-right (eqb (wholeOf m .«max_extended_state») (wholeOf o .«max_extended_state»)) _
+          (and-right (eqb (wholeOf m .«row_count») (wholeOf o .«row_count»)) _ e) in
+          let h : sameRow (rowIn (wholeOf m) i) (rowIn (wholeOf o) i) ≡ true =
+          every-at (λ j. sameRow (rowIn (wholeOf m) j) (rowIn (wholeOf o) j)) places g i l in
+          absurd (never-both (sym (λ k. sameRow (whole-row m i l k) (whole-row o i l k)) ∙ h) f)
+      go false e = refl

@@ -1,0 +1,62 @@
+-- `quiet`, case by case, in the terms of the code's returns.
+use mathlib.Core.Path.{_≡_, sym, ap, ap₂, _∙_}
+use mathlib.Core.Bool.{Bool, true, false, not}
+use Prim.Native.Nat.{ℕ, _-_, _≤_, _<_}
+use lib.Dec.{eqb, leb}
+use borrow.Author.Tests.{ltb-true, leb-true}
+use Rattle.bits.specs.ChoiceLaws.{and-left, and-right}
+use Rattle.bits.specs.Bits.{has}
+use Rattle.masking.specs.Place
+use Rattle.table.specs.declared.Refusal.{Refusal}
+use Rattle.table.specs.declared.Verdict.the-variants.{Accepted, Refused}
+use Rattle.table.specs.Rows.{Rows}
+use Rattle.checks.specs.ExtendedState.{combinedMask}
+use Rattle.checks.specs.Checks.{requiredVerdict, invlpgbVerdict, rowsVerdict}
+use Rattle.rows_checked.specs.declared.Checked.{Checked}
+use Rattle.rows_checked.specs.Checked.{checkedRows, verdictOf}
+use Rattle.rows_checked.specs.CheckedLaws.{verdict-of}
+use Rattle.search.specs.Quiet.{refuses, isComponent, isLevel, isRead, quietAt, quiet}
+
+module _ (m : Rows) (i : ℕ) where
+  pub quiet-missing : {r : Refusal} → requiredVerdict m ≡ Refused r → true ≡ quiet m i
+  unfolding quiet
+  quiet-missing e = rw e
+
+  pub quiet-clear : {r : Refusal} → requiredVerdict m ≡ Accepted → invlpgbVerdict m ≡ Refused r
+      → not (eqb i Place.extendedAddressSpaceSizes) ≡ quiet m i
+  unfolding quiet
+  quiet-clear e f = rw (e, f)
+
+  -- k is what the checks find
+  pub quiet-other : {k : Checked} {b q : Bool} {x : ℕ} → requiredVerdict m ≡ Accepted → invlpgbVerdict m ≡ Accepted
+      → k ≡ checkedRows m → b ≡ refuses (verdictOf k) → x ≡ combinedMask m
+      → q ≡ quietAt b x i → q ≡ quiet m i
+  unfolding quiet checkedRows
+  quiet-other e f c g h k =
+      k ∙ ap₂ (λ (b : Bool) (x : ℕ). quietAt b x i) (g ∙ ap (λ (k : Checked). refuses (verdictOf k)) c ∙ ap refuses (verdict-of (rowsVerdict m) m)) h
+      ∙ sym (rw (e, f))
+
+module _ (i : ℕ) where
+  -- the bounds of a component
+  pub component-from : isComponent i ≡ true → Place.extendedState 2 ≤ i
+  component-from e = leb-true _ i (and-left _ _ e)
+
+  pub component-below : isComponent i ≡ true → i < Place.extendedState 64
+  component-below e = ltb-true i _ (and-right (leb (Place.extendedState 2) i) _ e)
+
+module _ (b : Bool) (x i : ℕ) where
+  pub at-component : isComponent i ≡ true → {h : Bool} → h ≡ has (i - Place.extendedState 0) x → not h ≡ quietAt b x i
+  unfolding quietAt
+  at-component e f = rw (e, f)
+
+  pub at-level : isComponent i ≡ false → isLevel i ≡ true → true ≡ quietAt b x i
+  unfolding quietAt
+  at-level e f = rw (e, f)
+
+  pub at-read : isComponent i ≡ false → isLevel i ≡ false → isRead i ≡ true → false ≡ quietAt b x i
+  unfolding quietAt
+  at-read e f g = rw (e, f, g)
+
+  pub at-unread : isComponent i ≡ false → isLevel i ≡ false → isRead i ≡ false → b ≡ quietAt b x i
+  unfolding quietAt
+  at-unread e f g = rw (e, f, g)

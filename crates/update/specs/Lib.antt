@@ -1,4 +1,0 @@
-pub mod Kinds
-pub mod Stores
-pub mod FinishedTable
-pub mod PlaceLaws
