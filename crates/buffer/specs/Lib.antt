@@ -2,3 +2,4 @@ pub mod Front
 pub mod FrontLaws
 pub mod WritesExactly
 pub mod OnwardLaws
+pub mod VerdictLaws

@@ -1,5 +1,5 @@
 -- The answer, case by case, in the terms of the code's returns.
-use mathlib.Core.Path.{_≡_, sym, ap, _∙_}
+use mathlib.Core.Path.{_≡_, refl, sym, ap, _∙_}
 use mathlib.Core.Bool.{Bool, true, false}
 use mathlib.Core.List.{List}
 use Prim.Native.Nat.{ℕ}
@@ -57,6 +57,10 @@ module _ (c : Choices) (s : List ℕ) where
   refused-with : {r : Refusal} {q : Built} → q ≡ notBuilt r → verdictOf c s ≡ Refused r → q ≡ answer c s
   refused-with {r} e f =
       e ∙ ap (λ (o : List ℕ). record { verdict = Refused r; table = emptyTable; origins = o }) (no-origins s) ∙ sym (built-with f)
+
+  -- a refused answer has nothing but its refusal
+  pub answer-refused : {r : Refusal} → answer c s .verdict ≡ Refused r → notBuilt r ≡ answer c s
+  answer-refused {r} e = refused-with {r = r} {q = notBuilt r} refl (unfold answer in e)
 
   -- the answer of lawful edition and pages, origins aside, is that of the rows
   pub answer-of-rows : editionVerdict (c .edition) ≡ Accepted → lawfulVerdict s ≡ Accepted → withoutOrigins (answer c s) ≡ builtFrom (c .edition) m

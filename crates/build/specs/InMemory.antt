@@ -4,7 +4,8 @@ use mathlib.Core.Path.{_≡_, refl, sym, ap, _∙_, subst}
 use mathlib.Core.Bool.{true}
 use mathlib.Core.List.{List, []}
 use Prim.Native.Nat.{ℕ, _*_}
-use lib.ListN.{length, replicate}
+use native.Mathlib.Omega.{arith}
+use lib.ListN.{length}
 use Rattle.pages.specs.Entries.{counted}
 use Rattle.masking.specs.Kept.{places}
 use Rattle.table.specs.declared.Choices.{Choices}
@@ -15,7 +16,7 @@ use Rattle.table.specs.declared.Verdict.the-variants.{Accepted, Refused}
 use Rattle.table.specs.Edition.{knownEdition}
 use Rattle.table.specs.Table as Tables
 use Rattle.memory.specs.Origin.{finishedOrigins}
-use Rattle.memory.specs.Memory.{rowsIn, layout, tableIn}
+use Rattle.memory.specs.Memory.{rowsIn, layout, tableIn, Cleared}
 use Rattle.memory.specs.MemoryLaws.{rows-in}
 use Rattle.memory.specs.Held.{heldIn}
 use Rattle.collect.specs.Collect.{collected-rows}
@@ -24,12 +25,12 @@ use Rattle.collect.specs.Lawful.{lawfulVerdict}
 use Rattle.collect.specs.WalkedPages.{WalkedPages, walked-table}
 use Rattle.finish.specs.declared.RowsBuilt.{RowsBuilt}
 use Rattle.finish.specs.RowsBuilt.{builtFrom}
-use Rattle.rows_finished.specs.Finished.{Answered}
+use Rattle.rows_finished.specs.Finished.{Answered, Tried}
 use Rattle.rows_finished.specs.AnsweredLaws.{cleared, cleared-whole}
 use Rattle.build.specs.declared.Built.{Built}
 use Rattle.build.specs.Built.{withoutOrigins, notBuilt}
 use Rattle.build.specs.Build.{editionVerdict, rowsFor, answer}
-use Rattle.build.specs.BuildLaws.{answer-of-rows, located-origins}
+use Rattle.build.specs.BuildLaws.{answer-of-rows, answer-refused, located-origins}
 
 -- the memory w, o and the verdict v are the answer b: every word, and count and mask, which follow from the words
 pub record InMemory (b : Built) (v : Verdict) (w o : List ℕ) : Type 0 where
@@ -38,22 +39,29 @@ pub record InMemory (b : Built) (v : Verdict) (w o : List ℕ) : Type 0 where
   pub origins : o ≡ b .origins
   pub table : heldIn w o ≡ b .table
 
--- the refusal r, and cleared memory
-pub record Emptied (r : Refusal) (v : Verdict) (w o : List ℕ) : Type 0 where
-  pub verdict : v ≡ Refused r
-  pub registers : w ≡ replicate 352 0
-  pub origins : o ≡ replicate 88 0
+-- the verdict v is that of the answer b and, where it accepts, the memory w, o is the answer; where it refuses, the memory is left open
+pub record BuiltPages (b : Built) (v : Verdict) (w o : List ℕ) : Type 0 where
+  pub verdict : v ≡ b .verdict
+  pub accepted : v ≡ Accepted → InMemory b v w o
 
-pub refused-in-memory : {r : Refusal} {b : Built} {v : Verdict} {w o : List ℕ} → notBuilt r ≡ b → Emptied r v w o → InMemory b v w o
-refused-in-memory {r} {b} {v} {w} {o} e d =
-    let h = cleared [] (d .registers) (d .origins) in
-    let n : InMemory (notBuilt r) v w o = record {
-      verdict = d .verdict;
-      registers = h .registers;
-      origins = d .origins;
-      table = cleared-whole (d .registers) (d .origins);
+-- the two answers
+pub pages-refused : {r : Refusal} {b : Built} {w o : List ℕ} → notBuilt r ≡ b → BuiltPages b (Refused r) w o
+pages-refused e = record { verdict = ap (λ (k : Built). k .verdict) e; accepted = λ a. absurd (let z : _≡_ {A = ℕ} 0 1 = cc in omega arith) }
+
+pub pages-accepted : {b : Built} {v : Verdict} {w o : List ℕ} → BuiltPages b v w o → v ≡ Accepted → InMemory b Accepted w o
+pages-accepted {b} {v} {w} {o} k e = subst (λ (u : Verdict). InMemory b u w o) e (k .accepted e)
+
+-- a refusal, and the memory cleared then
+pub refused-in-memory : (c : Choices) (s : List ℕ) {r : Refusal} {v : Verdict} {w₁ o₁ w o : List ℕ} → BuiltPages (answer c s) v w₁ o₁ → v ≡ Refused r → Cleared w o
+    → InMemory (answer c s) (Refused r) w o
+refused-in-memory c s {r} {v} {w} {o} k e d =
+    let n : InMemory (notBuilt r) (Refused r) w o = record {
+      verdict = refl;
+      registers = cleared [] (d .0) (d .1) .registers;
+      origins = d .1;
+      table = cleared-whole (d .0) (d .1);
     } in
-    subst (λ (k : Built). InMemory k v w o) e n
+    subst (λ (k : Built). InMemory k (Refused r) w o) (answer-refused c s (sym (k .verdict) ∙ e)) n
 
 -- what building makes of the rows that the walk left
 module _ (c : Choices) (s w o : List ℕ) (a : length w ≡ 4 * places) (b : length o ≡ places) {r : Verdict}
@@ -61,14 +69,14 @@ module _ (c : Choices) (s w o : List ℕ) (a : length w ≡ 4 * places) (b : len
   pub walked-rows : rowsIn w o ≡ rowsFor c s
   walked-rows = sym (rows-in w o a b) ∙ ap Tables.rowsIn (walked-table (c .«secure_avic») s w o k z refl) ∙ collected-rows (c .«secure_avic») s
 
+  answered-rows : editionVerdict (c .edition) ≡ Accepted → builtFrom (c .edition) (rowsIn w o) ≡ withoutOrigins (answer c s)
+  answered-rows e = ap (builtFrom (c .edition)) walked-rows ∙ sym (answer-of-rows c s e (sym (k .verdict) ∙ z))
+
   pub answer-in-memory : editionVerdict (c .edition) ≡ Accepted → {v : Verdict} {w₁ o₁ : List ℕ}
       → Answered (builtFrom (c .edition) (rowsIn w o)) o v w₁ o₁ → InMemory (answer c s) v w₁ o₁
   unfolding answer
   answer-in-memory e {v} {w₁} {o₁} d =
-      let l : lawfulVerdict s ≡ Accepted = sym (k .verdict) ∙ z in
-      let n : builtFrom (c .edition) (rowsIn w o) ≡ withoutOrigins (answer c s) =
-      ap (builtFrom (c .edition)) walked-rows ∙ sym (answer-of-rows c s e l) in
-      let d₁ : Answered (withoutOrigins (answer c s)) o v w₁ o₁ = subst (λ (x : RowsBuilt). Answered x o v w₁ o₁) n d in
+      let d₁ : Answered (withoutOrigins (answer c s)) o v w₁ o₁ = subst (λ (x : RowsBuilt). Answered x o v w₁ o₁) (answered-rows e) d in
       record {
         verdict = d₁ .verdict;
         registers = d₁ .table .registers;
@@ -78,6 +86,13 @@ module _ (c : Choices) (s w o : List ℕ) (a : length w ≡ 4 * places) (b : len
             ∙ ap (finishedOrigins (answer c s .table .present)) (k .stands z)
             ∙ located-origins (answer c s .table) s;
       }
+
+  pub answer-in-pages : editionVerdict (c .edition) ≡ Accepted → {v : Verdict} {w₁ o₁ : List ℕ}
+      → Tried (builtFrom (c .edition) (rowsIn w o)) w o v w₁ o₁ → BuiltPages (answer c s) v w₁ o₁
+  answer-in-pages e {v} {w₁} {o₁} t = record {
+    verdict = t .verdict ∙ ap (λ (x : RowsBuilt). x .verdict) (answered-rows e);
+    accepted = λ a. answer-in-memory e (t .accepted a);
+  }
 
 pub edition-known : (n : ℕ) → knownEdition n ≡ true → editionVerdict n ≡ Accepted
 unfolding editionVerdict

@@ -4,14 +4,15 @@ use masking::PLACES;
 use memory::REGISTERS;
 use memory::clear;
 use memory::sized;
-use rows_finished::build_rows;
+use rows_finished::finish_rows;
 use table::Choices;
 use table::CpuidResults;
 use table::Refusal;
 use table::Verdict;
 use table::known_edition;
+ghost use Rattle.memory.specs.Memory.{Cleared};
 ghost use Rattle.build.specs.Build.{answer};
-ghost use Rattle.build.specs.InMemory.{InMemory, Emptied};
+ghost use Rattle.build.specs.InMemory.{InMemory, BuiltPages};
 
 // The answer of the definition, specs/Build.antt: the verdict, the table, and where each row came from (document 02, P11), as `origins` numbers it.
 pub struct Built {
@@ -29,21 +30,32 @@ pub fn build_into(
 ) -> Verdict
     ensures { λ r. ⌜ InMemory (answer choices (now (pages .entry))) r (now (registers .exit)) (now (origins .exit)) ⌝ }
 {
+    clear(registers, origins);
+    let verdict = build_pages(pages, choices, registers, origins);
+    if let Verdict::Refused(r) = verdict {
+        clear(registers, origins);
+        return Verdict::Refused(r);
+    }
+    Verdict::Accepted
+}
+
+// The same into memory that comes without rows, as a caller makes it for one answer. What it holds after a refusal is left open.
+pub fn build_pages(
+    pages: &[u8],
+    choices: Choices,
+    registers: &mut [u32; REGISTERS],
+    origins: &mut [u64; PLACES],
+) -> Verdict
+    requires { ⌜ Cleared (now registers) (now origins) ⌝ }
+    ensures { λ r. ⌜ BuiltPages (answer choices (now (pages .entry))) r (now (registers .exit)) (now (origins .exit)) ⌝ }
+{
     if known_edition(choices.edition) {} else {
-        return refuse(registers, origins, Refusal::UnknownEdition);
+        return Verdict::Refused(Refusal::UnknownEdition);
     }
     let lawful = walk_pages(pages, choices.secure_avic, registers, origins);
     if let Verdict::Refused(r) = lawful {
-        return refuse(registers, origins, r);
+        return Verdict::Refused(r);
     }
     sized(registers, origins);
-    build_rows(registers, origins, choices.edition)
-}
-
-// A refusal, and the memory cleared.
-fn refuse(registers: &mut [u32; REGISTERS], origins: &mut [u64; PLACES], r: Refusal) -> Verdict
-    ensures { λ q. ⌜ Emptied r q (now (registers .exit)) (now (origins .exit)) ⌝ }
-{
-    clear(registers, origins);
-    Verdict::Refused(r)
+    finish_rows(registers, origins, choices.edition)
 }

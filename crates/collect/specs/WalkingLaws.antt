@@ -76,23 +76,22 @@ turn-answer avic s w o i k h = sym (ap (firstNonzero s) (turn s i (k .rows .vali
 
 -- a turn at an entry that is not clean ends the walk
 pub walking-stops : (avic : Bool) (s w o : List ℕ) (i : CpuidPageIndex) → Walking avic s w o i → i .«page_index» < pagesIn s
-    → {l : CpuidFunction} → Unclean l ≡ readAt s i (incremented s i) → Walked avic s (Nonzero l) w o
+    → {l : CpuidFunction} → Unclean l ≡ readAt s i → Walked avic s (Nonzero l) w o
 walking-stops avic s w o i k h {l} f =
-    let (e, n) = read-unclean s i (incremented s i) f in
+    let (e, n) = read-unclean s i f in
     let a : Nonzero l ≡ reservedOf s = ap Nonzero e ∙ sym (pick-false _ _ n) ∙ turn-answer avic s w o i k h in
     let no : allClean s ≡ true → ⊥ = λ c. let z : _≡_ {A = ℕ} 0 1 = cc (clean-zero s c) in omega arith in
     record { answer = a; rows = λ c. absurd (no c); stands = λ c. absurd (no c) }
 
--- a turn at one that is, which the reader promises with it: e is the entry, j the index after, and place where it is stored
-pub record AtEntry (avic : Bool) (s w o : List ℕ) (i : CpuidPageIndex) (e : ParsedCpuidEntry) (j : CpuidPageIndex) (place : ℕ) : Type 0 where
+-- a turn at one that is, which the reader promises with it: e is the entry, and place where it is stored
+pub record AtEntry (avic : Bool) (s w o : List ℕ) (i : CpuidPageIndex) (e : ParsedCpuidEntry) (place : ℕ) : Type 0 where
   pub walking : Walking avic s w o i
   pub inside : i .«page_index» < pagesIn s
   pub entry : e ≡ parsed (entryHere s i)
-  pub next : j ≡ incremented s i
   pub clean : cleanHere s i ≡ true
   pub stored : place ≡ countedPlace e
 
-module _ {avic : Bool} {s w o : List ℕ} {i : CpuidPageIndex} {e : ParsedCpuidEntry} {j : CpuidPageIndex} {place : ℕ} (a : AtEntry avic s w o i e j place) where
+module _ {avic : Bool} {s w o : List ℕ} {i : CpuidPageIndex} {e : ParsedCpuidEntry} {place : ℕ} (a : AtEntry avic s w o i e place) where
   abbrev k : Walking avic s w o i
   k = a .walking
 
@@ -106,51 +105,48 @@ module _ {avic : Bool} {s w o : List ℕ} {i : CpuidPageIndex} {e : ParsedCpuidE
   onward = sym (pick-true _ _ (a .clean)) ∙ turn-answer avic s w o i k h
 
   -- fewer entries are left, and the page is no earlier one
-  pub walking-falls : length (rest s j) < length (rest s i)
-  walking-falls = rw (a .next) (turn s i (k .rows .valid) h .falls)
+  pub walking-falls : length (rest s (incremented s i)) < length (rest s i)
+  walking-falls = turn s i (k .rows .valid) h .falls
 
-  pub walking-rises : i .«page_index» ≤ j .«page_index»
-  walking-rises = rw (a .next) (turn s i (k .rows .valid) h .rises)
+  pub walking-rises : i .«page_index» ≤ incremented s i .«page_index»
+  walking-rises = turn s i (k .rows .valid) h .rises
 
   -- by what is found at the place: a row, no place at all, or nothing yet
-  pub walking-kept : place < places → getD o place 0 ≢ 0 → Walking avic s w o j
+  pub walking-kept : place < places → getD o place 0 ≢ 0 → Walking avic s w o (incremented s i)
   walking-kept l n =
       let t : CpuidResults = tableIn w o in
       let g : getD (t .present) place false ≡ true = getD-tabulate places (λ j. isThere (getD o j 0)) place false l ∙ ap not (ne-eqb _ 0 n) in
-      rw (a .next)
-      (record {
+      record {
         size = k .size;
         rows = collecting-next avic s t t i (k .rows) h (turn-kept avic t t (entryHere s i) place at g refl);
         stands = locating-kept s (t .present) o i (k .stands) (k .rows .valid) h place at g;
         answer = onward;
-      })
+      }
 
-  pub walking-none : places ≤ place → Walking avic s w o j
+  pub walking-none : places ≤ place → Walking avic s w o (incremented s i)
   walking-none l =
       let t : CpuidResults = tableIn w o in
-      rw (a .next)
-      (record {
+      record {
         size = k .size;
         rows = collecting-next avic s t t i (k .rows) h (turn-none avic t t (entryHere s i) place at (k .rows .whole) l refl);
         stands = locating-none s (t .present) o i (k .stands) (k .rows .valid) h place at l;
         answer = onward;
-      })
+      }
 
   -- r is the row as the code masks it
   pub walking-new : place < places → getD o place 0 ≡ 0 → {kept : List KeptLeaf} {row : ℕ} {r : CpuidResult} → kept ≡ table avic
       → row ≡ rowOfPlace place → r ≡ setLegacy place (applyMask (masksOf (getD kept row noRow)) (e .result))
-      → Walking avic s (putRow w place r) (set o place (originNumber (entry (i .«page_index») (i .«function_index»)))) j
+      → Walking avic s (putRow w place r) (set o place (originNumber (entry (i .«page_index») (i .«function_index»)))) (incremented s i)
   walking-new l n {kept} {row} {r} q m d =
       let t : CpuidResults = tableIn w o in
       let g : getD (t .present) place false ≡ false = getD-tabulate places (λ j. isThere (getD o j 0)) place false l ∙ ap not (eq-eqb _ 0 n) in
       let number : ℕ = originNumber (entry (i .«page_index») (i .«function_index»)) in
       let u : CpuidResults = tableIn (putRow w place r) (set o place number) in
       let z : u ≡ store t place r = put-is-store w o place number r (k .size) (k .stands .size) l (λ x. omega arith) in
-      rw (a .next)
-      (record {
+      record {
         size = put-length w place r (k .size) l;
         rows = collecting-next avic s t u i (k .rows) h (turn-new avic t u (entryHere s i) place at kept row e r q m (a .entry) g d z);
         stands = subst (λ (x : CpuidResults). Locating s (x .present) (set o place number) (incremented s i)) (sym z)
             (locating-new s (t .present) o i (k .stands) (k .rows .valid) h place at (k .rows .whole .present) l g);
         answer = onward;
-      })
+      }

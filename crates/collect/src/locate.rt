@@ -9,21 +9,20 @@ use reader::Read;
 ghost use mathlib.Core.Path.{_≡_};
 ghost use mathlib.Core.Bool.{true};
 ghost use Rattle.pages.specs.Layout.{countsFit};
+ghost use Rattle.memory.specs.Memory.{Cleared};
 ghost use Rattle.collect.specs.Walked.{Walked};
 
 // The masked first entry of every place and where it stands, from pages whose counts are lawful: what the reader gives, page by page, up to the first
-// entry that is not clean. The arrays are cleared first; a place whose number is 0 has no row yet.
+// entry that is not clean. The memory comes without rows; a place whose origin is 0 has none yet.
 pub fn collect_into(
     pages: &[u8],
     secure_avic: bool,
     registers: &mut [u32; REGISTERS],
     origins: &mut [u64; PLACES],
 ) -> Reserved
-    requires { ⌜ countsFit (now pages) ≡ true ⌝ }
+    requires { ⌜ (countsFit (now pages) ≡ true) × Cleared (now registers) (now origins) ⌝ }
     ensures { λ r. ⌜ Walked «secure_avic» (now (pages .entry)) r (now (registers .exit)) (now (origins .exit)) ⌝ }
 {
-    *registers = [0; REGISTERS];
-    *origins = [0; PLACES];
     let kept = masking::masks::kept_leaves(secure_avic);
     let n = pages::page_count(pages);
     let mut index = reader::start(pages);
@@ -32,7 +31,7 @@ pub fn collect_into(
         while index.page_index == page {
             let read = reader::take(pages, index);
             match read {
-                Read::Entry(entry, next) => {
+                Read::Entry(entry) => {
                     let place = counted_place(entry);
                     if place < PLACES {
                         if origins[place] == 0 {
@@ -46,6 +45,7 @@ pub fn collect_into(
                             );
                         }
                     }
+                    let next = reader::step(pages, index);
                     index = next;
                 }
                 Read::Unclean(leaf) => {

@@ -62,6 +62,7 @@ pub fn compare(a: &[u8], b: &[u8], choices: Choices) -> Compared
     if let Verdict::Refused(refusal) = verdict {
         return Compared::RefusedA(refusal);
     }
+    registers = [0; REGISTERS];
     let mut origins_b: [u64; PLACES] = [0; PLACES];
     let lawful = walk_pages(b, choices.secure_avic, &mut registers, &mut origins_b);
     if let Verdict::Refused(refusal) = lawful {

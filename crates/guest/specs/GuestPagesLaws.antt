@@ -1,4 +1,4 @@
--- The ways through: building refuses, or the guest's answer is given on its table; a write, by what the guest was given.
+-- The ways through: building refuses, or the guest's answer is given on its table.
 use mathlib.Core.Path.{_≡_, sym, ap, _∙_}
 use mathlib.Core.List.{List}
 use Prim.Native.Nat.{ℕ}
@@ -12,15 +12,12 @@ use Rattle.memory.specs.Held.{heldIn}
 use Rattle.finish.specs.RowsBuilt.{tableFor}
 use Rattle.build.specs.Build.{rowsFor, answer}
 use Rattle.build.specs.InMemory.{InMemory}
-use Rattle.buffer.specs.declared.Written.the-variants.{Refused as NotWritten}
-use Rattle.buffer.specs.Front.{AfterWrite, writeFront}
-use Rattle.image.specs.Image.{image}
 use Rattle.guest_state.specs.State.{stateVerdict}
 use Rattle.guest.specs.declared.Processor.{Processor}
 use Rattle.guest.specs.declared.GuestAnswer.{GuestAnswer}
 use Rattle.guest.specs.Seen.{SeenIn}
 use Rattle.guest.specs.Guest.{guestTable, tableGiven, answerFor, guestAnswer, refusedAnswer}
-use Rattle.guest.specs.GuestPages.{guestBy, guestPages, writeGuest}
+use Rattle.guest.specs.GuestPages.{guestBy, guestPages}
 
 -- ---- by building's verdict
 
@@ -82,16 +79,3 @@ module _ (chosen : Choices) (s : List ℕ) (v : Processor) where
           table = seen .table ∙ ap (λ (x : GuestAnswer). x .table) g;
           origins = λ a. seen .origins a ∙ built .origins;
         }
-
--- ---- a write
-
-module _ (chosen : Choices) (s : List ℕ) (v : Processor) (buffer : List ℕ) {d : Verdict} {w o : List ℕ}
-    (seen : SeenIn (guestPages chosen s v) (answer chosen s .origins) d w o) where
-  pub write-refused : {r : Refusal} → d ≡ Refused r
-      → _≡_ {A = AfterWrite} (record { answer = NotWritten r; buffer = buffer }) (writeGuest chosen s v buffer)
-  unfolding writeGuest
-  write-refused f = rw (← seen .verdict, f)
-
-  pub write-given : d ≡ Accepted → writeFront (image (heldIn w o)) buffer ≡ writeGuest chosen s v buffer
-  unfolding writeGuest
-  write-given f = ap (λ (t : CpuidResults). writeFront (image t) buffer) (seen .table) ∙ rw (← seen .verdict, f)

@@ -3,4 +3,3 @@ pub mod ImagePieces
 pub mod PiecesLaws
 pub mod LengthLaws
 pub mod Write
-pub mod WriteLaws

@@ -1,7 +1,7 @@
 // From pages to the image. Pages and a lent buffer come in; the table's bytes go out, or a refusal and the buffer as it was.
 use crate::write::write_table;
 use buffer::Written;
-use build::build_into;
+use build::build_pages;
 use masking::PLACES;
 use memory::REGISTERS;
 use table::Choices;
@@ -16,7 +16,7 @@ pub fn write_image(pages: &[u8], choices: Choices, out: &mut [u8]) -> Written
 {
     let mut registers: [u32; REGISTERS] = [0; REGISTERS];
     let mut origins: [u64; PLACES] = [0; PLACES];
-    let verdict = build_into(pages, choices, &mut registers, &mut origins);
+    let verdict = build_pages(pages, choices, &mut registers, &mut origins);
     if let Verdict::Refused(r) = verdict {
         return Written::Refused(r);
     }

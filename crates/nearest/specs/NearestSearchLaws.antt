@@ -260,36 +260,35 @@ pub not-kept : (seen : List Bool) {place stored : ℕ} → place ≡ stored → 
     → (j : ℕ) → j < places → getD seen j false ≡ false → stored ≡ j → ⊥
 not-kept seen e f j l g h = omega arith
 
--- ---- one turn in the terms of the code: e is the entry that the reader gives, j the index after, and place where it is stored
+-- ---- one turn in the terms of the code: e is the entry that the reader gives, and place where it is stored
 
-pub record AtEntry (c : Choices) (s : List ℕ) (seen : List Bool) (i : CpuidPageIndex) (e : ParsedCpuidEntry) (j : CpuidPageIndex)
-    (place : ℕ) : Type 0 where
+pub record AtEntry (c : Choices) (s : List ℕ) (seen : List Bool) (i : CpuidPageIndex) (e : ParsedCpuidEntry) (place : ℕ) : Type 0 where
   pub known : knownEdition (c .edition) ≡ true
   pub lawful : lawfulVerdict s ≡ Accepted
   pub searching : Searching c s seen i
   pub inside : i .«page_index» < pagesIn s
-  pub read : Read.Entry e j ≡ readAt s i (incremented s i)
+  pub read : Read.Entry e ≡ readAt s i
   pub stored : place ≡ countedPlace e
 
-module _ {c : Choices} {s : List ℕ} {seen : List Bool} {i : CpuidPageIndex} {e : ParsedCpuidEntry} {j : CpuidPageIndex} {place : ℕ}
-    (a : AtEntry c s seen i e j place) where
-  given : (e ≡ parsed (entryHere s i)) × (j ≡ incremented s i) × (cleanHere s i ≡ true)
-  given = read-entry s i (incremented s i) (a .read)
+module _ {c : Choices} {s : List ℕ} {seen : List Bool} {i : CpuidPageIndex} {e : ParsedCpuidEntry} {place : ℕ}
+    (a : AtEntry c s seen i e place) where
+  given : (e ≡ parsed (entryHere s i)) × (cleanHere s i ≡ true)
+  given = read-entry s i (a .read)
 
   at-place : place ≡ storedAt (entryHere s i)
   at-place = a .stored ∙ ap countedPlace (given .0) ∙ counted-place-stored (entryHere s i)
 
-  pub entry-falls : length (rest s j) < length (rest s i)
-  entry-falls = rw (given .1) (turn s i (a .searching .valid) (a .inside) .falls)
+  pub entry-falls : length (rest s (incremented s i)) < length (rest s i)
+  entry-falls = turn s i (a .searching .valid) (a .inside) .falls
 
   module _ (bytes : (n : ℕ) → getD s n 0 < 256) where
-    passes : ((k : ℕ) → k < places → getD seen k false ≡ false → storedAt (entryHere s i) ≡ k → ⊥) → Searching c s seen j
-    passes f = rw (given .1) (search-passes c s bytes (a .known) (a .lawful) seen i (a .searching) (a .inside) f)
+    passes : ((k : ℕ) → k < places → getD seen k false ≡ false → storedAt (entryHere s i) ≡ k → ⊥) → Searching c s seen (incremented s i)
+    passes f = search-passes c s bytes (a .known) (a .lawful) seen i (a .searching) (a .inside) f
 
-    pub entry-seen : getD seen place false ≡ true → Searching c s seen j
+    pub entry-seen : getD seen place false ≡ true → Searching c s seen (incremented s i)
     entry-seen f = passes (seen-taken seen at-place f)
 
-    pub entry-not-kept : places ≤ place → Searching c s seen j
+    pub entry-not-kept : places ≤ place → Searching c s seen (incremented s i)
     entry-not-kept f = passes (not-kept seen at-place f)
 
     -- the first entry of its place; b is what the code finds at the collected rows
@@ -300,10 +299,10 @@ module _ {c : Choices} {s : List ℕ} {seen : List Bool} {i : CpuidPageIndex} {e
       bit-here =
           sym (bit ∙ (λ k. firstBit (c .edition) (rows k) (getD kept row noRow) place (ap (λ (p : ParsedCpuidEntry). p .result) (given .0) k)))
 
-      pub entry-none : b ≡ NoNumber → Searching c s (set seen place true) j
+      pub entry-none : b ≡ NoNumber → Searching c s (set seen place true) (incremented s i)
       entry-none f =
-          rw (given .1) (search-none c s bytes (a .known) (a .lawful) seen i (a .searching) (a .inside) place small (sym at-place) new
-          (getD kept row noRow) (λ x. row-masks (c .«secure_avic») place row kept x table masks) (bit-here ∙ f))
+          search-none c s bytes (a .known) (a .lawful) seen i (a .searching) (a .inside) place small (sym at-place) new
+          (getD kept row noRow) (λ x. row-masks (c .«secure_avic») place row kept x table masks) (bit-here ∙ f)
 
       pub entry-decides : {n : ℕ} → b ≡ Number n
           → Bit (flip (i .«page_index») (i .«function_index») (n / 32) (n % 32)) ≡ firstThat (changes c s) (flips s)
@@ -313,7 +312,7 @@ module _ {c : Choices} {s : List ℕ} {seen : List Bool} {i : CpuidPageIndex} {e
 
 -- lawful pages have no unclean entry
 pub no-unclean : {c : Choices} {s : List ℕ} {seen : List Bool} {i : CpuidPageIndex} {l : CpuidFunction} → lawfulVerdict s ≡ Accepted
-    → Searching c s seen i → i .«page_index» < pagesIn s → Read.Unclean l ≡ readAt s i (incremented s i) → ⊥
+    → Searching c s seen i → i .«page_index» < pagesIn s → Read.Unclean l ≡ readAt s i → ⊥
 no-unclean {c} {s} {seen} {i} e w h f =
     never-both (clean-at s (lawful-clean s e) (i .«page_index») (i .«function_index») h (turn s i (w .valid) h .below))
-    (read-unclean s i (incremented s i) f .1)
+    (read-unclean s i f .1)

@@ -70,7 +70,7 @@ fn search_flips(
     while index.page_index < n {
         let read = reader::take(pages, index);
         match read {
-            Read::Entry(entry, next) => {
+            Read::Entry(entry) => {
                 let place = collect::counted_place(entry);
                 if place < PLACES {
                     if seen[place] {} else {
@@ -89,6 +89,7 @@ fn search_flips(
                         seen[place] = true;
                     }
                 }
+                let next = reader::step(pages, index);
                 index = next;
             }
             Read::Unclean(leaf) => {

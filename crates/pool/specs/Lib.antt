@@ -3,4 +3,3 @@ pub mod PoolIn
 pub mod JoinedRows
 pub mod PooledLaws
 pub mod WritePool
-pub mod WritePoolLaws

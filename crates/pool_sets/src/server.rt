@@ -3,6 +3,7 @@
 use collect::lawful::walk_pages;
 use masking::PLACES;
 use memory::REGISTERS;
+use memory::clear;
 use memory::sized;
 use rows_checked::Checked;
 use rows_checked::check_rows;
@@ -24,6 +25,7 @@ pub fn server_into(
     if known_edition(choices.edition) {} else {
         return Verdict::Refused(Refusal::UnknownEdition);
     }
+    clear(registers, origins);
     let lawful = walk_pages(pages, choices.secure_avic, registers, origins);
     if let Verdict::Refused(r) = lawful {
         return Verdict::Refused(r);

@@ -27,9 +27,9 @@ entryHere s i = entryAt s (i .«page_index») (i .«function_index»)
 abbrev pub cleanHere : List ℕ → CpuidPageIndex → Bool
 cleanHere s i = cleanAt s (i .«page_index») (i .«function_index»)
 
--- what a step of it gives: the entry there and the index j after, where they are; the entry's leaf, where one is not
-unfoldable pub readAt : List ℕ → CpuidPageIndex → CpuidPageIndex → Read
-readAt s i j = pick (cleanHere s i) (Read′.Entry (parsed (entryHere s i)) j) (Read′.Unclean (entryHere s i .leaf))
+-- what it gives: the entry there, where they are; the entry's leaf, where one is not
+unfoldable pub readAt : List ℕ → CpuidPageIndex → Read
+readAt s i = pick (cleanHere s i) (Read′.Entry (parsed (entryHere s i))) (Read′.Unclean (entryHere s i .leaf))
 
 -- the entries that it gives where it is asked at most n times, from index i, up to the end
 unfoldable pub given : List ℕ → ℕ → CpuidPageIndex → List ParsedCpuidEntry

@@ -29,33 +29,31 @@ pub readable-within : {s : List ℕ} {i : CpuidPageIndex} → Readable s i → (
 readable-within {s} {i} r = let h = r .inside .page in (h, omega (arith, counts-fit-at s (r .lawful) (i .«page_index») h, r .inside .position))
 
 -- by each answer of the code
-module _ (s : List ℕ) (i j : CpuidPageIndex) where
-  pub clean-read : {e : ParsedCpuidEntry} → e ≡ parsed (entryHere s i) → cleanHere s i ≡ true → Entry e j ≡ readAt s i j
+module _ (s : List ℕ) (i : CpuidPageIndex) where
+  pub clean-read : {e : ParsedCpuidEntry} → e ≡ parsed (entryHere s i) → cleanHere s i ≡ true → Entry e ≡ readAt s i
   unfolding readAt
-  clean-read p c = ap (λ (x : ParsedCpuidEntry). Entry x j) p ∙ sym (pick-true _ _ c)
+  clean-read p c = ap (λ (x : ParsedCpuidEntry). Entry x) p ∙ sym (pick-true _ _ c)
 
-  pub unclean-read : {e : ParsedCpuidEntry} → e ≡ parsed (entryHere s i) → cleanHere s i ≡ false → Unclean (e .leaf) ≡ readAt s i j
+  pub unclean-read : {e : ParsedCpuidEntry} → e ≡ parsed (entryHere s i) → cleanHere s i ≡ false → Unclean (e .leaf) ≡ readAt s i
   unfolding readAt
   unclean-read p c = ap (λ (x : ParsedCpuidEntry). Unclean (x .leaf)) p ∙ sym (pick-false _ _ c)
 
--- an entry that it gives is the one there, with the index after, and its reserved bytes are zero; a leaf that it gives is that of the one there, where
--- one of these bytes is not
-module _ (s : List ℕ) (i j : CpuidPageIndex) where
-  pub read-entry : {e : ParsedCpuidEntry} {k : CpuidPageIndex} → Entry e k ≡ readAt s i j
-      → (e ≡ parsed (entryHere s i)) × (k ≡ j) × (cleanHere s i ≡ true)
+-- an entry that it gives is the one there, and its reserved bytes are zero; a leaf that it gives is that of the one there, where one of these bytes is
+-- not
+module _ (s : List ℕ) (i : CpuidPageIndex) where
+  pub read-entry : {e : ParsedCpuidEntry} → Entry e ≡ readAt s i → (e ≡ parsed (entryHere s i)) × (cleanHere s i ≡ true)
   unfolding readAt
-  read-entry {e} {k} f = go (cleanHere s i) f
+  read-entry {e} f = go (cleanHere s i) f
     where
-      go : (b : Bool) → Entry e k ≡ pick b (Entry (parsed (entryHere s i)) j) (Unclean (entryHere s i .leaf))
-          → (e ≡ parsed (entryHere s i)) × (k ≡ j) × (b ≡ true)
-      go true g = (cc, cc, refl)
+      go : (b : Bool) → Entry e ≡ pick b (Entry (parsed (entryHere s i))) (Unclean (entryHere s i .leaf)) → (e ≡ parsed (entryHere s i)) × (b ≡ true)
+      go true g = (cc, refl)
       go false g = let z : _≡_ {A = ℕ} 0 1 = cc in absurd (omega arith)
 
-  pub read-unclean : {l : CpuidFunction} → Unclean l ≡ readAt s i j → (l ≡ entryHere s i .leaf) × (cleanHere s i ≡ false)
+  pub read-unclean : {l : CpuidFunction} → Unclean l ≡ readAt s i → (l ≡ entryHere s i .leaf) × (cleanHere s i ≡ false)
   unfolding readAt
   read-unclean {l} f = go (cleanHere s i) f
     where
-      go : (b : Bool) → Unclean l ≡ pick b (Entry (parsed (entryHere s i)) j) (Unclean (entryHere s i .leaf)) → (l ≡ entryHere s i .leaf) × (b ≡ false)
+      go : (b : Bool) → Unclean l ≡ pick b (Entry (parsed (entryHere s i))) (Unclean (entryHere s i .leaf)) → (l ≡ entryHere s i .leaf) × (b ≡ false)
       go true g = let z : _≡_ {A = ℕ} 0 1 = cc in absurd (omega arith)
       go false g = (cc, refl)
 

@@ -1,5 +1,5 @@
-// The page reader in the source's own borrowed form: it holds the caller's pages, and steps its index in its own record. Callers use `start` and
-// `take`, whose parameters are a plain slice and an index, and need no walk by hand.
+// The page reader in the source's own borrowed form: it holds the caller's pages, and steps its index in its own record. Callers use `start`, `take`
+// and `step`, whose parameters are a plain slice and an index, and need no walk by hand.
 use pages::CpuidPageIndex;
 use pages::ParsedCpuidEntry;
 use x86defs::CpuidFunction;
@@ -15,10 +15,9 @@ pub struct SnpCpuidIterator<'a> {
     pub index: CpuidPageIndex,
 }
 
-// What one step of the reader gives: the entry that it stood at, whose reserved bytes are zero, and where it stands after; or the leaf of an entry
-// where one of these bytes is not zero.
+// What the reader gives where it stands: an entry whose reserved bytes are zero, or the leaf of an entry where one of these bytes is not zero.
 pub enum Read {
-    Entry(ParsedCpuidEntry, CpuidPageIndex),
+    Entry(ParsedCpuidEntry),
     Unclean(CpuidFunction),
 }
 
@@ -48,30 +47,28 @@ pub fn start(pages: &[u8]) -> CpuidPageIndex
     r.index
 }
 
-// One step of a reader that stands at `index`: its index is lent to `increment`, and what it stood at is read. With an entry it promises that the entry's
-// reserved bytes are zero.
+// The entry at an index, with the promise that its reserved bytes are zero; or its leaf, where one of them is not.
 pub fn take(pages: &[u8], index: CpuidPageIndex) -> Read
     requires { ⌜ Readable (now pages) index ⌝ }
-    ensures { λ r. ⌜ r ≡ readAt (now (pages .entry)) index (incremented (now (pages .entry)) index) ⌝ }
+    ensures { λ r. ⌜ r ≡ readAt (now (pages .entry)) index ⌝ }
+{
+    let entry = pages::entry_at(pages, index);
+    if pages::reserved::clean_at(pages, index) {
+        return Read::Entry(entry);
+    }
+    let leaf = entry.leaf;
+    Read::Unclean(leaf)
+}
+
+// Where a reader that stands at `index` stands next: its index is lent to `increment`.
+pub fn step(pages: &[u8], index: CpuidPageIndex) -> CpuidPageIndex
+    requires { ⌜ Inside (now pages) index ⌝ }
+    ensures { λ r. ⌜ r ≡ incremented (now (pages .entry)) index ⌝ }
 {
     let mut r = SnpCpuidIterator {
         cpuid_pages: pages,
         index,
     };
-    let at = r.index;
     increment(&mut r.index, r.cpuid_pages);
-    read_at(r.cpuid_pages, at, r.index)
-}
-
-// The entry at an index, with the index after it, if its reserved bytes are zero; else its leaf.
-pub fn read_at(pages: &[u8], at: CpuidPageIndex, next: CpuidPageIndex) -> Read
-    requires { ⌜ Readable (now pages) at ⌝ }
-    ensures { λ r. ⌜ r ≡ readAt (now (pages .entry)) at next ⌝ }
-{
-    let entry = pages::entry_at(pages, at);
-    if pages::reserved::clean_at(pages, at) {
-        return Read::Entry(entry, next);
-    }
-    let leaf = entry.leaf;
-    Read::Unclean(leaf)
+    r.index
 }

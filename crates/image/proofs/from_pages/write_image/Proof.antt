@@ -2,22 +2,27 @@
 use mathlib.Core.Path.{ap, _∙_}
 use denote.Ref.{now}
 use Rattle.buffer.specs.Front.{AfterWrite}
-use Rattle.image.specs.WriteLaws.{write-refused, write-accepted}
+use Rattle.buffer.specs.VerdictLaws.{verdict-refused, verdict-accepted}
+use Rattle.image.specs.Image.{image}
+use Rattle.image.specs.Write.{write}
 use borrow.Author.Needs.{needs}
 use Rattle.image.proofs.from_pages.write_image.Statement.{statement}
 use Rattle.image.proofs.from_pages.write_image.Tie as tie
 
 returns : tie.Need-returns
+unfolding write
 returns c =
     let b = c .before .before .before in let a = b .before .before .before .before .before .args in
-    let e = write-refused _ _ (now (a .out)) (b .build-into .ensures) (c .before .verdict .given .1) in
+    let e = verdict-refused _ (now (a .out)) (b .build-pages .ensures .verdict) (c .before .verdict .given .1) in
     (ap (λ (o : AfterWrite). o .answer) e, ap (λ (o : AfterWrite). o .buffer) e)
 
 returns-2 : tie.Need-returns-2
+unfolding write
 returns-2 c =
     let w = c .before .before in let t = w .before .before .before .before in
     let b = t .before .before in let a = b .before .before .before .before .before .args in
-    let e = write-accepted _ _ (now (a .out)) (b .build-into .ensures) (t .enum-told .given .1) in
+    let k = b .build-pages .ensures in
+    let e = verdict-accepted _ (now (a .out)) (k .verdict) (t .enum-told .given .1) (ap image (k .accepted (t .enum-told .given .1) .table)) in
     (w .write-table .ensures .0 ∙ ap (λ (o : AfterWrite). o .answer) e, w .write-table .ensures .1 ∙ ap (λ (o : AfterWrite). o .buffer) e)
 
 pub write-image-spec : {M : Type 1} → statement M

@@ -25,7 +25,6 @@ next-valid-index-spec =
     (λ c. search needs)
     returns
     (λ c. search needs)
-    (λ c. search needs)
     (λ c κs. search needs)
     returns-2
     returns-3)

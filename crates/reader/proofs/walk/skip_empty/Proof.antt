@@ -3,6 +3,7 @@
 use mathlib.Core.Path.{_≡_, refl, sym, ap, _∙_}
 use Prim.Native.Nat.{_-_, _≤_}
 use native.Mathlib.Omega.{arith}
+use borrow.Author.Needs.{needs}
 use Rattle.pages.specs.Layout.{pagesIn}
 use Rattle.reader.specs.Walk.{index, firstFrom}
 use Rattle.reader.specs.WalkLaws.{first-from-end, first-from-here, first-from-later}
@@ -10,10 +11,10 @@ use Rattle.reader.proofs.walk.skip_empty.Statement.{statement}
 use Rattle.reader.proofs.walk.skip_empty.Tie as tie
 
 abbrev Inv-loop : tie.InvT-loop
-Inv-loop pages page left end at₀ at = (at ≤ pagesIn pages) × (firstFrom pages page ≡ firstFrom pages at)
+Inv-loop pages page end at₀ at = (at ≤ pagesIn pages) × (firstFrom pages page ≡ firstFrom pages at)
 
 abbrev μ-loop : tie.MeasureT-loop
-μ-loop pages page left end at₀ at = pagesIn pages - at
+μ-loop pages page end at₀ at = pagesIn pages - at
 
 pub skip-empty-spec : {M : Type 1} → statement M
 skip-empty-spec =
@@ -21,8 +22,10 @@ skip-empty-spec =
     (tie.spec
     Inv-loop
     μ-loop
+    (λ c κs. search needs)
     (λ c. omega arith)
     (λ c. (omega arith, refl))
+    (λ c. omega arith)
     (λ c κs. omega arith)
     (λ c.
     let w = c .before .before .before in
