@@ -1,5 +1,4 @@
--- The kept leaves as the code's constant table has them: one row for each row of `keptLeaves`, with the leaf, whether its rows carry a
--- subleaf, the subleaves that it takes, and the four masks.
+-- The code's constant table of kept leaves: for each row of `keptLeaves` its leaf, its four masks, and whether it carries a subleaf.
 use mathlib.Core.Bool.{Bool, false}
 use mathlib.Core.List.{List, [], _∷_, map}
 use Prim.Native.Nat.{ℕ, suc, _-_}
@@ -8,32 +7,18 @@ use lib.ListN.{getD}
 use Rattle.bits.specs.Choice.{pick}
 use Rattle.x86defs.specs.Functions.{function, result}
 use Rattle.masking.specs.declared.masks.KeptLeaf.{KeptLeaf}
-use Rattle.masking.specs.Masks.{Masks, ones}
-use Rattle.masking.specs.Kept.{Span, Kept, keptLeaves, placesOf, hasSubleaf}
-use Rattle.masking.specs.Kept.Span.{made, whole, subleaves}
-
--- the first and the last subleaf that a row takes from pages: none where the row is made here, any where the leaf has no subleaves
-abbrev pub firstOf : Span → ℕ
-firstOf made = 1
-firstOf whole = 0
-firstOf (subleaves first last) = first
-
-abbrev pub lastOf : Span → ℕ
-lastOf made = 0
-lastOf whole = ones
-lastOf (subleaves first last) = last
+use Rattle.masking.specs.Masks.{Masks}
+use Rattle.masking.specs.Kept.{Kept, keptLeaves, placesOf, hasSubleaf}
 
 abbrev pub keptLeaf : Kept → KeptLeaf
 keptLeaf r =
     record {
       leaf = r .leaf;
-      subleaf = hasSubleaf (r .span);
-      first = firstOf (r .span);
-      last = lastOf (r .span);
       eax = r .masks .eax;
       ebx = r .masks .ebx;
       ecx = r .masks .ecx;
       edx = r .masks .edx;
+      subleaf = hasSubleaf (r .span);
     }
 
 abbrev pub rows : ℕ
@@ -44,7 +29,7 @@ table avic = map keptLeaf (keptLeaves avic)
 
 -- what `getD` answers past the end
 abbrev pub noRow : KeptLeaf
-noRow = record { leaf = function 0; subleaf = false; first = 0; last = 0; eax = 0; ebx = 0; ecx = 0; edx = 0 }
+noRow = record { leaf = function 0; eax = 0; ebx = 0; ecx = 0; edx = 0; subleaf = false }
 
 abbrev pub rowAt : Bool → ℕ → KeptLeaf
 rowAt avic j = getD (table avic) j noRow

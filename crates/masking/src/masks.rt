@@ -15,17 +15,15 @@ pub use kept::KEPT_LEAVES;
 use x86defs::CpuidFunction;
 use x86defs::CpuidResult;
 
-// How one leaf, or a run of its subleaves, is kept: whether its rows carry a subleaf; the first and the last subleaf that pages are read
-// for, which are all where the leaf has no subleaves and none where its row is made here; and the masks.
+// One kept leaf: its number, its four masks, and whether its rows carry a subleaf. Leaf Dh has three: one for subleaf 0, one for
+// subleaf 1, and one for subleaves 2 to 63.
 pub struct KeptLeaf {
     pub leaf: CpuidFunction,
-    pub subleaf: bool,
-    pub first: u32,
-    pub last: u32,
     pub eax: u32,
     pub ebx: u32,
     pub ecx: u32,
     pub edx: u32,
+    pub subleaf: bool,
 }
 
 // 8000001Fh.EAX: the bit that the secure-AVIC choice adds, and the row of the table that it is added to.
