@@ -1,4 +1,4 @@
--- The code's constant table of kept leaves: for each row of `keptLeaves` its leaf, its four masks, and whether it carries a subleaf.
+-- The code's constant table of kept leaves: for each row of `keptLeaves` its leaf, its four masks, and whether the leaf has subleaves.
 use mathlib.Core.Bool.{Bool, false}
 use mathlib.Core.List.{List, [], _∷_, map}
 use Prim.Native.Nat.{ℕ, suc, _-_}
@@ -27,7 +27,7 @@ rows = 23
 unfoldable pub table : Bool → List KeptLeaf
 table avic = map keptLeaf (keptLeaves avic)
 
--- what `getD` answers past the end
+-- what `getD` gives past the end of the table
 abbrev pub noRow : KeptLeaf
 noRow = record { leaf = function 0; eax = 0; ebx = 0; ecx = 0; edx = 0; subleaf = false }
 
@@ -37,7 +37,7 @@ rowAt avic j = getD (table avic) j noRow
 abbrev pub masksOf : KeptLeaf → Masks
 masksOf m = result (m .eax) (m .ebx) (m .ecx) (m .edx)
 
--- which row of the table has place i
+-- the number of the row that has place i, counted from 0
 abbrev pub rowNumberIn : List Kept → ℕ → ℕ
 rowNumberIn [] i = 0
 rowNumberIn (r ∷ rs) i = pick (ltb i (placesOf (r .span))) 0 (suc (rowNumberIn rs (i - placesOf (r .span))))

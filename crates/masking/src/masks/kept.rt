@@ -1,5 +1,5 @@
-// One table gives the four masks of every kept leaf (document 01, "Corners of masking.rs"). `kept_leaves` promises that each figure is the
-// one that its named bits and fields give.
+// The table of kept leaves (document 01, "Corners of masking.rs"). The contract of `kept_leaves` says that each mask is the one that
+// specs/Masks.antt builds from named bits and fields.
 use crate::masks::KeptLeaf;
 use x86defs::CpuidFunction;
 use x86defs::leaf;
@@ -7,7 +7,7 @@ use x86defs::leaf;
 const ONES: u32 = 0xFFFF_FFFF;
 
 pub const KEPT_LEAVES: [KeptLeaf; 23] = [
-    // made here
+    // the builder makes this row; no page entry is kept for it
     KeptLeaf {
         leaf: CpuidFunction(leaf::VENDOR_AND_MAX_FUNCTION),
         eax: 0,
@@ -75,7 +75,7 @@ pub const KEPT_LEAVES: [KeptLeaf; 23] = [
         edx: ONES,
         subleaf: true,
     },
-    // made here
+    // the builder makes this row; no page entry is kept for it
     KeptLeaf {
         leaf: CpuidFunction(leaf::EXTENDED_MAX_FUNCTION),
         eax: 0,
@@ -84,7 +84,7 @@ pub const KEPT_LEAVES: [KeptLeaf; 23] = [
         edx: 0,
         subleaf: false,
     },
-    // the masks of masking.rs and snp.rs, joined
+    // the masks of masking.rs and of snp.rs, joined by or
     KeptLeaf {
         leaf: CpuidFunction(leaf::EXTENDED_VERSION_AND_FEATURES),
         eax: 0x0FFF_3FFF,
@@ -141,7 +141,7 @@ pub const KEPT_LEAVES: [KeptLeaf; 23] = [
         edx: ONES,
         subleaf: false,
     },
-    // the masks of masking.rs and snp.rs, joined
+    // the masks of masking.rs and of snp.rs, joined by or
     KeptLeaf {
         leaf: CpuidFunction(leaf::EXTENDED_ADDRESS_SPACE_SIZES),
         eax: 0x0000_FFFF,
@@ -190,7 +190,7 @@ pub const KEPT_LEAVES: [KeptLeaf; 23] = [
         edx: 0,
         subleaf: false,
     },
-    // without secure AVIC
+    // without the secure-AVIC bit, which `kept_leaves` adds
     KeptLeaf {
         leaf: CpuidFunction(leaf::EXTENDED_SEV_FEATURES),
         eax: 0x0000_027F,
