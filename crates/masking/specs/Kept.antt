@@ -1,5 +1,5 @@
 -- Document 01, "Corners of masking.rs": the kept leaves, as one table of leaf, subleaves and masks, and the 88 places it gives.
--- Places rise by leaf, then by subleaf. Rows 0 and 80000000h have places, but no page entry is kept for them.
+-- Places rise by leaf, then by subleaf. Leaves 0 and 80000000h have places, but no page entry is kept for them: the builder makes their rows.
 use mathlib.Core.Bool.{Bool, true, false, _&&_}
 use mathlib.Core.List.{List, [], _∷_}
 use Prim.Native.Nat.{ℕ, _+_, _-_}
@@ -9,7 +9,8 @@ use Rattle.x86defs.specs.declared.CpuidFunction.{CpuidFunction}
 use Rattle.x86defs.specs.Functions.{function, result, sameFunction, VendorAndMaxFunction, VersionAndFeatures, MonitorMwait, ExtendedFeatures, ExtendedTopologyEnumeration, ExtendedStateEnumeration, ExtendedMaxFunction, ExtendedVersionAndFeatures, ExtendedBrandingString1, ExtendedBrandingString2, ExtendedBrandingString3, ExtendedL1CacheParameters, ExtendedL2CacheParameters, ExtendedPowerManagement, ExtendedAddressSpaceSizes, ExtendedSvmVersionAndFeatures, ExtendedTlb1GBIdentifiers, ExtendedOptimizationIdentifiers, CacheTopologyDefinition, ProcessorTopologyDefinition, ExtendedSevFeatures}
 use Rattle.masking.specs.Masks.{Masks, allOnes, versionAndFeatures, extendedFeatures, extendedState0, extendedState1, extendedVersionAndFeatures, extendedAddressSpaceSizes, extendedSvm, extendedTlb1GB, extendedOptimization, processorTopology, extendedSev}
 
--- how a leaf is kept: made here and never read from a page; one row for any subleaf; a row for each subleaf from first to last
+-- which page entries a row of the table takes: `made` takes none, because the builder makes the row; `whole` takes every subleaf as one place;
+-- `subleaves` takes those from the first number to the second, each as a place of its own
 pub data Span : Type 0 where
   made whole : Span
   subleaves : ℕ → ℕ → Span
@@ -58,7 +59,7 @@ placesOf (subleaves first last) = last - first + 1
 abbrev pub places : ℕ
 places = 88
 
--- the subleaf that a row of the table has at its j-th place; 0 where it has none
+-- the subleaf of the j-th place of a row of the table; 0 if the leaf has no subleaves
 abbrev pub subleafOf : Span → ℕ → ℕ
 subleafOf made j = 0
 subleafOf whole j = 0
@@ -69,19 +70,19 @@ hasSubleaf made = false
 hasSubleaf whole = false
 hasSubleaf (subleaves first last) = true
 
--- whether a page entry with this subleaf belongs to a row of the table
+-- whether a row of the table takes page entries with subleaf k
 abbrev pub takes : Span → ℕ → Bool
 takes made k = false
 takes whole k = true
 takes (subleaves first last) k = leb first k && leb k last
 
--- the place within the row
+-- the place of subleaf k within its row of the table, counted from 0
 abbrev pub within : Span → ℕ → ℕ
 within made k = 0
 within whole k = 0
 within (subleaves first last) k = k - first
 
--- the place of a page entry's leaf and subleaf among the rows of the table from place i on; 88 where it is filtered
+-- the place of a page entry with leaf l and subleaf k, where the rows of the table begin at place i; 88 if no row takes the entry
 abbrev pub placeFrom : List Kept → ℕ → CpuidFunction → ℕ → ℕ
 placeFrom [] i l k = places
 placeFrom (r ∷ rs) i l k =
@@ -91,7 +92,7 @@ unfoldable pub placeOf : CpuidFunction → ℕ → ℕ
 unfolding keptLeaves
 placeOf l k = placeFrom (keptLeaves false) 0 l k
 
--- what stands at a place
+-- the leaf, the subleaf and the masks of a place
 pub record Slot : Type 0 where
   pub leaf : CpuidFunction
   pub indexed : Bool
@@ -109,7 +110,7 @@ unfoldable pub slot : Bool → ℕ → Slot
 unfolding keptLeaves
 slot avic i = slotIn (keptLeaves avic) i
 
--- the leaf and subleaf of a place, the same under either secure-AVIC choice, and its masks
+-- leaf and subleaf of a place are the same for either secure-AVIC choice; its masks depend on it
 abbrev pub leafAt : ℕ → CpuidFunction
 leafAt i = slot false i .leaf
 

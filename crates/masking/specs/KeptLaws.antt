@@ -1,5 +1,5 @@
--- The places of the table of kept leaves: there are 88, each named place is the one that the table gives, leaf and subleaf of a place lead
--- back to it, and an entry that goes to a place has that place's leaf and, where it has one, its subleaf.
+-- The places of the table of kept leaves. There are 88. Each named place is the one that the table gives. The leaf and the subleaf of a place
+-- lead back to it. An entry that goes to a place has that place's leaf and, if the place has a subleaf, that subleaf.
 use mathlib.Core.Path.{_≡_, refl, ap, subst}
 use mathlib.Core.Bool.{Bool, true, false, _&&_, _||_, false≢true}
 use mathlib.Core.List.{List, [], _∷_}
@@ -20,7 +20,7 @@ use Rattle.masking.specs.Place
 same-function : (a b : CpuidFunction) → sameFunction a b ≡ true → a ≡ b
 same-function a b e = ap function (eqb-true (a .0) (b .0) e)
 
--- ---- how many
+-- ---- the number of places
 
 abbrev placesIn : List Kept → ℕ
 placesIn [] = 0
@@ -65,7 +65,7 @@ pub extended-state-place : (k : ℕ) → k < 64 → placeOf ExtendedStateEnumera
 unfolding placeOf keptLeaves
 extended-state-place k h = eqb-true _ _ (every-at (λ k. eqb (placeOf ExtendedStateEnumeration k) (Place.extendedState k)) 64 refl k h)
 
--- rows 0 and 80000000h, to which no entry goes
+-- the places of leaves 0 and 80000000h, to which no entry goes: the builder makes their rows
 abbrev pub madeHere : ℕ → Bool
 madeHere i = eqb i Place.vendorAndMaxFunction || eqb i Place.extendedMaxFunction
 
@@ -95,7 +95,7 @@ pub place-from-first : (i : ℕ) → i < places → i ≡ firstPlace (leafAt i) 
 unfolding firstPlace slot keptLeaves
 place-from-first i h = eqb-true _ _ (every-at (λ i. eqb i (firstPlace (leafAt i) + subleafAt i)) places refl i h)
 
--- the secure-AVIC choice changes masks alone
+-- the secure-AVIC choice changes only masks
 pub slot-either-choice : (i : ℕ) → i < places → (slot true i .leaf ≡ leafAt i) × (slot true i .subleaf ≡ subleafAt i)
 unfolding slot keptLeaves
 slot-either-choice i h = (
@@ -110,7 +110,7 @@ pub record Belongs (l : CpuidFunction) (k : ℕ) (t : Slot) : Type 0 where
   pub leaf : t .leaf ≡ l
   pub subleaf : t .indexed ≡ true → t .subleaf ≡ k
 
--- what a row of the table takes has a place in it, and that place its subleaf
+-- a subleaf that a row of the table takes has a place in that row, and the place has this subleaf
 span-takes : (t : Span) (k : ℕ) → takes t k ≡ true → (within t k < placesOf t) × (hasSubleaf t ≡ true → subleafOf t (within t k) ≡ k)
 span-takes made k e = absurd (false≢true e)
 span-takes whole k e = (lit< tt, λ h. absurd (false≢true h))
@@ -139,7 +139,7 @@ belongs-from (r ∷ rs) i l k p e h = go (belongs-from rs (i + n) l k p) (sameFu
         let d : p - i - n ≡ p - (i + n) = omega arith in
         (omega arith, rw (le-ltb (p - i) n (omega arith), d) (later .1))
 
--- an entry that goes to one of the 88 places has that place's leaf and, where it has one, its subleaf
+-- an entry that goes to one of the 88 places has that place's leaf and, if the place has a subleaf, that subleaf
 pub entry-belongs : (l : CpuidFunction) (k i : ℕ) → placeOf l k ≡ i → i < places → Belongs l k (slot false i)
 unfolding placeOf slot keptLeaves
 entry-belongs l k i e h = subst (λ (n : ℕ). Belongs l k (slot false n)) (sub-zero i) (belongs-from (keptLeaves false) 0 l k i e h .1)

@@ -1,14 +1,11 @@
--- The table of the code gives each of the 88 places its masks, and takes from pages what the definition takes.
-use mathlib.Core.Path.{_≡_, refl, sym, ap}
-use mathlib.Core.Bool.{Bool, true, false, _&&_}
+-- The code's table of kept leaves gives each of the 88 places its masks.
+use mathlib.Core.Path.{_≡_, refl, ap}
+use mathlib.Core.Bool.{Bool, true, false}
 use mathlib.Core.List.{List, [], _∷_, map}
-use Prim.Native.Nat.{ℕ, zero, suc, _-_, _^_, _<_}
-use native.Mathlib.Omega.{arith}
-use lib.Dec.{eqb, ltb, leb}
+use Prim.Native.Nat.{ℕ, _-_, _<_}
+use lib.Dec.{eqb, ltb}
 use lib.ListN.{getD}
-use borrow.Author.Tests.{le-leb, lt-leb}
 use Rattle.bits.specs.Choice.{pick}
-use Rattle.bits.specs.ChoiceLaws.{and-both}
 use Rattle.bits.specs.Bits.{maskOf, fieldMask}
 use Rattle.bits.specs.Lists.{tabulate}
 use Rattle.bits.specs.ListsLaws.{tabulate-at}
@@ -16,18 +13,10 @@ use Rattle.x86defs.specs.declared.CpuidResult.{CpuidResult}
 use Rattle.x86defs.specs.Functions.{result}
 use Rattle.x86defs.specs.Fields.{fieldsMask}
 use Rattle.masking.specs.declared.masks.KeptLeaf.{KeptLeaf}
-use Rattle.masking.specs.Masks.{Masks, ones, applyMask, combine, versionAndFeatures, extendedFeatures, extendedState0, extendedState1, extendedVersionAndFeatures, extendedAddressSpaceSizes, extendedSvm, extendedOptimization, extendedSev, secureAvicMask}
-use Rattle.masking.specs.Kept.{Span, Kept, keptLeaves, placesOf, places, takes, slotIn, slot, masksAt}
-use Rattle.masking.specs.Kept.Span.{made, whole, subleaves}
+use Rattle.masking.specs.Masks.{Masks, applyMask, combine, versionAndFeatures, extendedFeatures, extendedState0, extendedState1, extendedVersionAndFeatures, extendedAddressSpaceSizes, extendedSvm, extendedOptimization, extendedSev, secureAvicMask}
+use Rattle.masking.specs.Kept.{Kept, keptLeaves, placesOf, places, slotIn, slot, masksAt}
 use Rattle.masking.specs.Place
-use Rattle.masking.specs.MaskTable.{firstOf, lastOf, keptLeaf, table, noRow, rowAt, masksOf, rowNumberIn, rowOfPlace}
-
--- a row takes the subleaves from its first to its last
-pub takes-between : (t : Span) (k : ℕ) → k < 2 ^ 32 → takes t k ≡ (leb (firstOf t) k && leb k (lastOf t))
-takes-between made zero h = refl
-takes-between made (suc k) h = rw (le-leb 1 (suc k) (omega arith), lt-leb (suc k) 0 (omega arith))
-takes-between whole k h = sym (and-both (le-leb 0 k (omega arith)) (le-leb k ones (omega arith)))
-takes-between (subleaves first last) k h = refl
+use Rattle.masking.specs.MaskTable.{keptLeaf, table, noRow, rowAt, masksOf, rowNumberIn, rowOfPlace}
 
 masks-in : (rs : List Kept) (i : ℕ) → masksOf (getD (map keptLeaf rs) (rowNumberIn rs i) noRow) ≡ slotIn rs i .masks
 masks-in [] i = refl
@@ -46,12 +35,12 @@ pub masks-of-row : (avic : Bool) (i : ℕ) → masksOf (rowAt avic (rowOfPlace i
 unfolding table rowOfPlace slot keptLeaves
 masks-of-row avic i = masks-in (keptLeaves avic) i
 
--- a register set masked by the row that `mask_row` gives, in the table that `kept_leaves` gives
+-- registers masked by the row that `mask_row` gives, in the table that `kept_leaves` gives
 pub masked-by-row : (avic : Bool) (i : ℕ) (r : CpuidResult) {kept : List KeptLeaf} {j : ℕ} → kept ≡ table avic → j ≡ rowOfPlace i
     → applyMask (masksOf (getD kept j noRow)) r ≡ applyMask (masksAt avic i) r
 masked-by-row avic i r p q = rw (p, q) (ap (λ (m : Masks). applyMask m r) (masks-of-row avic i))
 
--- "adds one bit to 8000001Fh.EAX", and nothing to any other mask
+-- document 01: the secure-AVIC choice "adds one bit to 8000001Fh.EAX"; it adds nothing to any other mask
 abbrev pub addedTo : Bool → ℕ → Masks
 addedTo avic i = combine (masksAt false i) (result (pick (eqb i Place.extendedSevFeatures) (secureAvicMask avic) 0) 0 0 0)
 

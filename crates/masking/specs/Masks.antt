@@ -1,5 +1,5 @@
--- Document 01, "Corners of masking.rs": the four masks of each kept leaf. A mask of single bits is the sum of the named bits' powers of
--- two, a mask of fields the sum of the fields'. 80000001h and 80000008h get both their masks, joined by or.
+-- Document 01, "Corners of masking.rs": the four masks of each kept leaf. A mask has the named bits or the named fields of its register.
+-- 80000001h and 80000008h have masks in masking.rs and in snp.rs, which are joined by or.
 use mathlib.Core.Bool.{Bool}
 use mathlib.Core.List.{[], _∷_}
 use Prim.Native.Nat.{ℕ, _-_, _^_}
@@ -38,11 +38,11 @@ Masks = CpuidResult
 abbrev pub allOnes : Masks
 allOnes = result ones ones ones ones
 
--- each register joined with its mask by and
+-- the bitwise and of each register with its mask
 abbrev pub applyMask : Masks → CpuidResult → CpuidResult
 applyMask m r = result (bitAnd (r .eax) (m .eax)) (bitAnd (r .ebx) (m .ebx)) (bitAnd (r .ecx) (m .ecx)) (bitAnd (r .edx) (m .edx))
 
--- two masks joined by or
+-- the bitwise or of two masks, register by register
 abbrev pub combine : Masks → Masks → Masks
 combine m n = result (bitOr (m .eax) (n .eax)) (bitOr (m .ebx) (n .ebx)) (bitOr (m .ecx) (n .ecx)) (bitOr (m .edx) (n .edx))
 
@@ -81,7 +81,7 @@ extendedState1 =
     (maskOf ExtendedStateEnumerationSubleaf1Ecx.position ExtendedStateEnumerationSubleaf1Ecx.kept)
     0
 
--- 80000001h: masking.rs, and snp.rs
+-- 80000001h: the masks of masking.rs, then those of snp.rs
 unfoldable pub extendedVersionAndFeatures : Masks
 unfolding signature
 extendedVersionAndFeatures =
@@ -93,7 +93,7 @@ extendedVersionAndFeatures =
     (maskOf ExtendedVersionAndFeaturesEdx.position ExtendedVersionAndFeaturesEdx.kept))
     (result 0 0 0 (maskOf ExtendedVersionAndFeaturesEdx.position ExtendedVersionAndFeaturesEdx.keptBySnp))
 
--- 80000008h: masking.rs, and snp.rs
+-- 80000008h: the masks of masking.rs, then those of snp.rs
 unfoldable pub extendedAddressSpaceSizes : Masks
 extendedAddressSpaceSizes =
     combine

@@ -1,4 +1,4 @@
--- The masks as figures, each computed from its named bits and fields. Document 01 gives five of them as a check.
+-- The masks as numbers, each computed from its named bits and fields. Document 01 gives five of them as a check.
 use mathlib.Core.Path.{_≡_, refl}
 use mathlib.Core.Bool.{true, false}
 use mathlib.Core.List.{[], _∷_}

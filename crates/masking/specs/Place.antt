@@ -1,4 +1,4 @@
--- The 88 places by name. `KeptLaws` shows that each is the place that the table of kept leaves gives.
+-- The places that have a name. `KeptLaws` shows that each is the place that the table of kept leaves gives.
 use Prim.Native.Nat.{ℕ, _+_}
 
 abbrev pub vendorAndMaxFunction : ℕ

@@ -1,5 +1,5 @@
--- Where an entry goes, as code decides it: a leaf with subleaves by a run of them, and what no row takes by the leaves that are listed.
--- One computed test ties each to the table.
+-- Laws for the proof of `place_of`: the place of an entry whose leaf has subleaves, and which entries have no place. A computed test ties each
+-- law to the table of kept leaves.
 use mathlib.Core.Path.{_≡_, refl, sym, ap, _∙_}
 use mathlib.Core.Bool.{Bool, true, false, not, _&&_, _||_, false≢true}
 use mathlib.Core.List.{List, [], _∷_}
@@ -21,7 +21,7 @@ and-right-false : (a : Bool) {b : Bool} → b ≡ false → (a && b) ≡ false
 and-right-false true e = e
 and-right-false false e = refl
 
--- ---- what no row takes
+-- ---- entries that no row takes
 
 -- whether a row takes no subleaf from n on
 abbrev endsBy : Span → ℕ → Bool
@@ -39,7 +39,7 @@ past-end made n k e h = refl
 past-end whole n k e h = absurd (false≢true e)
 past-end (subleaves first last) n k e h = let l : last < n = ltb-true last n e in and-right-false (leb first k) (lt-leb k last (omega arith))
 
--- so an entry of such a leaf and subleaf is filtered
+-- then an entry of such a leaf, with a subleaf from n on, is filtered
 filtered-from : (test : ℕ → Bool) (n : ℕ) (rs : List Kept) (i : ℕ) (l : CpuidFunction) (k : ℕ)
     → allEndBy test n rs ≡ true → test (l .0) ≡ true → n ≤ k → placeFrom rs i l k ≡ places
 filtered-from test n [] i l k e p h = refl
@@ -54,7 +54,7 @@ filtered-from test n (r ∷ rs) i l k e p h =
 
 -- ---- a leaf with subleaves
 
--- the place of subleaf k of leaf n, whose subleaves below count have the places from first on, and no other subleaf a place
+-- the place of subleaf k of leaf n; the subleaves of n below count have the places from first on, and its other subleaves have none
 pub subleaf-run : (first count k : ℕ) {n r : ℕ} {l : CpuidFunction} → l .0 ≡ n → r ≡ pick (ltb k count) (first + k) places
     → tabulate count (λ j. first + j) ≡ tabulate count (placeOf (function n)) → allEndBy (eqb n) count (keptLeaves false) ≡ true
     → r ≡ placeOf l k
@@ -80,7 +80,7 @@ none-of : (xs : List ℕ) (n : ℕ) → NoneOf xs n → noneOf xs n ≡ true
 none-of [] n h = refl
 none-of (x ∷ xs) n h = rw (ne-eqb n x (h .1)) (none-of xs n (h .0))
 
--- the leaves that pages are read for: one by one, and the run of 80000001h to 80000008h
+-- the leaves that are read from pages: these, and the run of 80000001h to 80000008h
 abbrev singleLeaves : List ℕ
 singleLeaves =
     0x8000001F ∷ 0x8000001E ∷ 0x8000001D ∷ 0x8000001A ∷ 0x80000019 ∷ 0x8000000A ∷ 0xD ∷ 0xB ∷ 0x7 ∷ 0x5 ∷ 0x1 ∷ []

@@ -1,4 +1,5 @@
--- Runs of places: a law over a run of numbers is one computed equation, and a lawful run gives each of its places its leaf and its subleaf.
+-- Laws of runs of places. One computed equation proves that two functions agree on a run of numbers. A lawful run gives each of its places its
+-- leaf and its subleaf.
 use mathlib.Core.Path.{_≡_, sym, ap, subst}
 use mathlib.Core.Bool.{Bool, true, false, not, _&&_}
 use Prim.Native.Nat.{ℕ, _+_, _-_, _^_, _≤_, _<_}
@@ -15,7 +16,7 @@ use Rattle.masking.specs.declared.run.Run.{Run}
 use Rattle.masking.specs.Kept.{Slot, places, slot, leafAt, indexedAt, subleafAt}
 use Rattle.masking.specs.Runs.{runLeaf, stands, lawful}
 
--- two functions that agree from a on and before b agree at each number between
+-- two functions that give the same list from a to b, without b, agree at each number of that run
 pub on-run {ℓ} : {A : Type ℓ} (f g : ℕ → A) {a b i : ℕ} → a ≤ i → i < b
     → tabulate (b - a) (λ j. f (a + j)) ≡ tabulate (b - a) (λ j. g (a + j)) → f i ≡ g i
 on-run f g {a} {b} {i} low high e =
@@ -24,7 +25,7 @@ on-run f g {a} {b} {i} low high e =
 
 -- ---- the runs of the code
 
--- what a run says of its k-th place holds of the slot that stands there
+-- what `stands` says of the subleaf of a slot, taken apart
 indexed-stands : (b : Bool) (k : ℕ) (t : Slot) → pick b (t .indexed && eqb (t .subleaf) k) (not (t .indexed) && eqb (t .subleaf) 0) ≡ true
     → b ≡ t .indexed
 indexed-stands true k t e = sym (and-left (t .indexed) _ e)

@@ -1,4 +1,4 @@
--- The runs of places of the code: each place of a run has the leaf, the subleaf and the row of masks that the table of kept leaves gives it.
+-- When a run of the code is right: each of its places has the leaf, the subleaf and the row of masks that the table of kept leaves gives it.
 use mathlib.Core.Bool.{Bool, false, not, _&&_}
 use mathlib.Core.List.{List, [], _∷_}
 use Prim.Native.Nat.{ℕ, suc, _+_, _-_, _^_, min}
@@ -14,12 +14,12 @@ use Rattle.masking.specs.Kept.{Kept, Slot, keptLeaves, placesOf, places,
 abbrev pub runLeaf : Run → ℕ → CpuidFunction
 runLeaf g k = pick (g .indexed) (g .leaf) (function (g .leaf .0 + k))
 
--- whether what stands at a place is what the run says of its k-th
+-- whether a slot has the leaf and the subleaf that a run gives its k-th place
 abbrev pub stands : Run → ℕ → Slot → Bool
 stands g k s =
     eqb (s .leaf .0) (runLeaf g k .0) && pick (g .indexed) (s .indexed && eqb (s .subleaf) k) (not (s .indexed) && eqb (s .subleaf) 0)
 
--- whether the places of a run are what it says
+-- whether every place of a run has the leaf and the subleaf that the run gives it
 unfoldable pub lawful : Run → Bool
 lawful g =
     leb (g .first + g .count) places
@@ -27,7 +27,7 @@ lawful g =
 
 -- ---- rows of masks
 
--- the row of the table of kept leaves that a place falls in, counted from 0
+-- the number of the row of the table of kept leaves that has place i, counted from 0
 abbrev rowFrom : List Kept → ℕ → ℕ
 rowFrom [] i = 0
 rowFrom (r ∷ rs) i = pick (ltb i (placesOf (r .span))) 0 (suc (rowFrom rs (i - placesOf (r .span))))
@@ -36,8 +36,8 @@ unfoldable pub rowAt : ℕ → ℕ
 unfolding keptLeaves
 rowAt i = rowFrom (keptLeaves false) i
 
--- whether a run's rows of masks are those of its places: `row` is that of the first, `last_row` that of the last, and the k-th place's is the k-th from
--- `row` on, up to `last_row`
+-- whether a run names the right rows of masks: its first place has row `row`, its last place row `last_row`, and its k-th place row `row` + k or,
+-- if that is less, `last_row`
 unfoldable pub rowsTied : Run → Bool
 rowsTied g =
     eqb (g .row) (rowAt (g .first))

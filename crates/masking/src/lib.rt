@@ -1,4 +1,5 @@
-// The places of the kept leaves. A leaf and a subleaf come in; their place among the 88 goes out, and from a place its leaf and its subleaf.
+// The places of the kept leaves, and their masks. A leaf and a subleaf come in; their place among the 88 goes out, and from a place its leaf,
+// its subleaf and its masks.
 ghost use mathlib.Core.Path.{_≡_};
 ghost use mathlib.Core.Bool.{true};
 ghost use Prim.Native.Nat.{_+_, _≤_, _<_};
@@ -16,10 +17,10 @@ pub use run::Run;
 use x86defs::CpuidFunction;
 use x86defs::leaf;
 
-// The places of rows, and the answer where an entry has none.
+// How many places there are. `place_of` returns this number if an entry has no place.
 pub const PLACES: usize = 88;
 
-// The place of a page entry's leaf and subleaf; 88 where the entry is filtered. This finds a place by its leaf, `run_at` a run by its place.
+// The place of a page entry with this leaf and subleaf; 88 if the entry is filtered. `run_at` goes the other way, from a place to its run.
 pub fn place_of(leaf: CpuidFunction, subleaf: u32) -> usize
     ensures { λ r. ⌜ r ≡ placeOf leaf subleaf ⌝ }
     ensures small { λ r. ⌜ r ≤ places ⌝ }
@@ -44,7 +45,7 @@ pub fn place_of(leaf: CpuidFunction, subleaf: u32) -> usize
     }
 }
 
-// The place of a subleaf in the run of a leaf's subleaves; 88 where the run has none.
+// The place of a subleaf in the run of its leaf; 88 if the run does not reach it.
 fn subleaf_place(run: Run, subleaf: u32) -> usize
     requires { ⌜ run .first + run .count ≤ places ⌝ }
     ensures { λ r. ⌜ r ≡ pick (ltb subleaf (run .count)) (run .first + subleaf) places ⌝ }
@@ -57,7 +58,7 @@ fn subleaf_place(run: Run, subleaf: u32) -> usize
     }
 }
 
-// The run in which a place stands.
+// The run that a place belongs to.
 pub fn run_at(place: usize) -> Run
     requires { ⌜ place < places ⌝ }
     ensures { λ r. ⌜ (lawful r ≡ true) × (r .first ≤ place) × (place < r .first + r .count) × (rowsTied r ≡ true) ⌝ }
@@ -68,7 +69,7 @@ pub fn run_at(place: usize) -> Run
     extended_run_at(place)
 }
 
-// Among the leaves below 80000000h.
+// The run of a place whose leaf is below 80000000h.
 fn basic_run_at(place: usize) -> Run
     requires { ⌜ place < extendedMaxFunction ⌝ }
     ensures { λ r. ⌜ (lawful r ≡ true) × (r .first ≤ place) × (place < r .first + r .count) × (rowsTied r ≡ true) ⌝ }
@@ -86,7 +87,7 @@ fn basic_run_at(place: usize) -> Run
     }
 }
 
-// From 80000000h on.
+// The run of a place whose leaf is 80000000h or above.
 fn extended_run_at(place: usize) -> Run
     requires { ⌜ (extendedMaxFunction ≤ place) × (place < places) ⌝ }
     ensures { λ r. ⌜ (lawful r ≡ true) × (r .first ≤ place) × (place < r .first + r .count) × (rowsTied r ≡ true) ⌝ }
@@ -127,7 +128,7 @@ pub fn indexed_at(place: usize) -> bool
     run.indexed
 }
 
-// The subleaf of a place; 0 where its row carries none.
+// The subleaf of a place; 0 if its row carries none.
 pub fn subleaf_at(place: usize) -> u32
     requires { ⌜ place < places ⌝ }
     ensures { λ r. ⌜ r ≡ subleafAt place ⌝ }

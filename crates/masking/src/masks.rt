@@ -1,5 +1,4 @@
-// The masks of every kept leaf, as one constant table. A place comes in; its row of the table goes out, and from a row and an entry's registers
-// the masked ones.
+// The masks of every kept leaf, as one constant table. `mask_row` gives the row of a place, and `apply_mask` masks an entry's registers by a row.
 ghost use mathlib.Core.Path.{_≡_};
 ghost use mathlib.Core.Bool.{false};
 ghost use Prim.Native.Nat.{_+_, _-_, _≤_, _<_, min};
@@ -15,25 +14,24 @@ pub use kept::KEPT_LEAVES;
 use x86defs::CpuidFunction;
 use x86defs::CpuidResult;
 
-// How one leaf, or a run of its subleaves, is kept: whether its rows carry a subleaf; the first and the last subleaf that pages are read
-// for, which are all where the leaf has no subleaves and none where its row is made here; and the masks.
+// One row of the table: a leaf, its four masks, and whether the leaf has subleaves. Leaf Dh has three rows, for subleaf 0, for subleaf 1,
+// and for subleaves 2 to 63.
 pub struct KeptLeaf {
     pub leaf: CpuidFunction,
-    pub subleaf: bool,
-    pub first: u32,
-    pub last: u32,
     pub eax: u32,
     pub ebx: u32,
     pub ecx: u32,
     pub edx: u32,
+    pub subleaf: bool,
 }
 
-// 8000001Fh.EAX: the bit that the secure-AVIC choice adds, and the row of the table that it is added to.
+// The bit that the secure-AVIC choice adds to the mask of 8000001Fh.EAX.
 pub const SECURE_AVIC: u32 = 0x0400_0000;
 
+// The row of 8000001Fh.
 const SECURE_AVIC_ROW: usize = run::PROCESSOR_TOPOLOGY_AND_SEV.last_row;
 
-// The table under a secure-AVIC choice. Call it once: a constant is written out anew wherever it is named.
+// The table for a secure-AVIC choice. Call this once for all entries: the compiler writes the whole table out at each call.
 pub fn kept_leaves(secure_avic: bool) -> [KeptLeaf; 23]
     ensures { λ r. ⌜ r ≡ table «secure_avic» ⌝ }
 {
@@ -42,7 +40,7 @@ pub fn kept_leaves(secure_avic: bool) -> [KeptLeaf; 23]
     kept
 }
 
-// What the choice adds to the mask of 8000001Fh.EAX.
+// What the secure-AVIC choice adds to the mask of 8000001Fh.EAX.
 fn secure_avic_mask(secure_avic: bool) -> u32
     ensures { λ r. ⌜ r ≡ secureAvicMask «secure_avic» ⌝ }
 {
@@ -58,7 +56,8 @@ pub fn kept_leaf(row: usize) -> KeptLeaf
     kept[row]
 }
 
-// The row of the table that a place belongs to. Rows and places rise together, but for the subleaves that share the last row of their run.
+// The row of the table that has the masks of a place. Each next place has the next row, but subleaves of one leaf share a row: B.0 and B.1,
+// D.2 to D.63, 8000001Dh.0 to 8000001Dh.3.
 pub fn mask_row(place: usize) -> usize
     requires { ⌜ place < places ⌝ }
     ensures { λ r. ⌜ r ≡ rowOfPlace place ⌝ }
@@ -80,7 +79,7 @@ pub fn mask_row(place: usize) -> usize
     )
 }
 
-// As many rows after the run's first as the place stands after the run's first, but no row after `last`.
+// The row of a place, counted from the first place and the first row of `run`; `last` if that is less. The place may belong to a later run.
 fn row_from(run: Run, place: usize, last: usize) -> usize
     requires { ⌜ (run .first ≤ place) × (place < places) × (run .row < rows) ⌝ }
     ensures { λ r. ⌜ r ≡ min (run .row + (place - run .first)) last ⌝ }
@@ -89,7 +88,7 @@ fn row_from(run: Run, place: usize, last: usize) -> usize
     if row < last { row } else { last }
 }
 
-// Each register joined with its mask by and.
+// The bitwise and of each register with its mask.
 pub fn apply_mask(m: KeptLeaf, r: CpuidResult) -> CpuidResult
     ensures { λ masked. ⌜ masked ≡ applyMask (masksOf m) r ⌝ }
 {

@@ -1,4 +1,4 @@
-// The places of rows that a check, a rule or a comparison names, by the run in which each stands. The proofs tie each to specs/Place.antt.
+// The places that other crates name, each counted from the start of its run. Proofs tie them to specs/Place.antt.
 use crate::run;
 use x86defs::leaf;
 

@@ -1,10 +1,9 @@
-// The layout of the 88 places: ten runs, each beginning where the one before it ends. specs/Runs.antt ties them to the table of kept leaves.
+// The layout of the 88 places: ten runs, each of which begins where the one before it ends. specs/Runs.antt ties them to the table of kept leaves.
 use x86defs::CpuidFunction;
 use x86defs::leaf;
 
-// Places that stand together from `first` on: those of `count` leaves that follow one another from `leaf` on, or, where the run is indexed, of
-// the subleaves of one leaf below `count`. The masks of the first are those of row `row` of the table of kept leaves, those of each other
-// place the next row's, up to `last_row`.
+// A run of `count` places from `first` on. An indexed run has the subleaves of `leaf` from 0 on, any other run the leaves from `leaf` on. The
+// first place has its masks in row `row` of the table of kept leaves, and each next place in the next row, but in no row after `last_row`.
 pub struct Run {
     pub first: usize,
     pub count: u32,

@@ -1,5 +1,5 @@
--- `masking::place_of` meets its contract: a leaf without subleaves by computation, one with by the law of a run of subleaves, the run of
--- 80000001h to 80000008h by computation over it, and what is left by the law of what no row takes.
+-- `masking::place_of` meets its contract. A leaf without subleaves is computed, and so is the run of 80000001h to 80000008h. A leaf with
+-- subleaves goes by the law `subleaf-run`, and any other leaf by the law `filtered`.
 use mathlib.Core.Path.{refl}
 use mathlib.Core.Logic.{inl, inr}
 use Prim.Native.Nat.{_+_, _-_}

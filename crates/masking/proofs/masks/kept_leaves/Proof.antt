@@ -22,13 +22,11 @@ adding n =
     set (table false) 22
     (record {
       leaf = r .leaf;
-      subleaf = r .subleaf;
-      first = r .first;
-      last = r .last;
       eax = bitOr (r .eax) n;
       ebx = r .ebx;
       ecx = r .ecx;
       edx = r .edx;
+      subleaf = r .subleaf;
     })
 
 returns : tie.Need-returns
