@@ -2,7 +2,7 @@
 """reader_promise.py: whether what stands above the page reader relies on what the reader promises with each entry, that its reserved bytes are zero.
 
 In a copy of the crates the promise is taken out of the contract of `reader::take`: it still says that it gives the entry there or the leaf of that
-entry, and no longer which. The code stays. The reader must still be proved, and the walk above it, crate locate, must not be, for want of that fact.
+entry, and no longer which. The code stays. The reader must still be proved, and the walk above it, crate collect, must not be, for want of that fact.
 """
 from pathlib import Path
 import os
@@ -32,10 +32,10 @@ CHANGES = (
     ('reader/proofs/take/Proof.antt', 'specs.Read.{Readable, readAt}',
      'specs.Read.{Readable, readAt, cleanHere}\nuse Rattle.reader.specs.ReadLaws.{read-by}'),
     ('reader/proofs/take/Proof.antt', 'says ! e $', 'says ! (cleanHere (now s) i, e ∙ read-by (now s) i j) $'),
-    ('locate/proofs/collect_into/Proof.antt', 'ReadLaws.{read-entry}', 'ReadLaws.{read-entry, by-clean}'),
-    ('locate/proofs/collect_into/Proof.antt', '.read .given .1) ∙ k .take .ensures)',
+    ('collect/proofs/locate/collect_into/Proof.antt', 'ReadLaws.{read-entry}', 'ReadLaws.{read-entry, by-clean}'),
+    ('collect/proofs/locate/collect_into/Proof.antt', '.read .given .1) ∙ k .take .ensures)',
      '.read .given .1) ∙ k .take .ensures .1 ∙ by-clean {b = k .take .ensures .0} _ _ _ (search needs))'),
-    ('locate/proofs/collect_into/Proof.antt', '.read2 .given .1) ∙ k .take .ensures)',
+    ('collect/proofs/locate/collect_into/Proof.antt', '.read2 .given .1) ∙ k .take .ensures)',
      '.read2 .given .1) ∙ k .take .ensures .1 ∙ by-clean {b = k .take .ensures .0} _ _ _ (search needs))'),
 )
 
@@ -52,11 +52,11 @@ def main():
             if text.count(old) != 1:
                 sys.exit(f'{name}: not once in it: {old}')
             path.write_text(text.replace(old, new), encoding='utf-8')
-        run = subprocess.run(['rt', 'check', 'locate'], cwd=room, env={**os.environ, 'RT_CUT': '0'}, text=True,
+        run = subprocess.run(['rt', 'check', 'collect'], cwd=room, env={**os.environ, 'RT_CUT': '0'}, text=True,
                              stdout=subprocess.PIPE, stderr=subprocess.STDOUT)
     said = run.stdout
-    wanted = [line for line in said.split('\n') if 'locate/proofs/collect_into' in line and 'no proof of' in line and 'cleanHere' in line]
-    if 'rt: reader proved' not in said or 'rt: locate NOT PROVED' not in said or not wanted:
+    wanted = [line for line in said.split('\n') if 'collect/proofs/locate/collect_into' in line and 'no proof of' in line and 'cleanHere' in line]
+    if 'rt: reader proved' not in said or 'rt: collect NOT PROVED' not in said or not wanted:
         sys.exit(said[-4000:] + '\nthe walk does not miss the promise, or something else fails')
     print(f'{len(wanted)} facts missed above the reader without its promise, and the reader still proved')
 

@@ -37,7 +37,8 @@ class Gate(unittest.TestCase):
             header.parent.mkdir()
             header.write_text('#!/bin/sh\necho 29 rows\n')
             header.chmod(0o755)
-            environment = {**os.environ, 'PATH': f'{bin_folder}:{os.environ["PATH"]}', 'OPENVMM_CVM_CPUID': '', 'KVM_DEVICE': str(bin_folder if kvm else bin_folder / 'none')}
+            environment = {**os.environ, 'PATH': f'{bin_folder}:{os.environ["PATH"]}', 'OPENVMM_CVM_CPUID': '',
+                           'KVM_DEVICE': str(bin_folder if kvm else bin_folder / 'none')}
             ran = subprocess.run([tests / 'run', *words], env=environment, capture_output=True, text=True, check=False)
             return ran.returncode, ran.stdout.splitlines()
 
