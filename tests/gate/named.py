@@ -106,8 +106,10 @@ class Repository:
         return sorted(found.relative_to(self.root).as_posix() for found in self.root.glob(path))
 
     def _there(self, path):
-        """The path as it stands in the repository, where a specification may be named without .antt; None where it is not there."""
-        for each in path, path + '.antt':
+        """The path as it stands in the repository, where a specification may be named without .antt, and an edit of a crate that has the name of a top
+        folder as examples/LABEL; None where it is not there."""
+        crate, _, label = path.partition('/')
+        for each in path, path + '.antt', f'crates/{crate}/must-fail/{label}.edit':
             if (self.root / each).exists():
                 return each
         found = self.glob(pattern(path)) if '*' in pattern(path) else []

@@ -30,6 +30,7 @@ TREE = {
     'crates/bits/must-fail/wrong.edit': '# `has-bit` refuses it\nfile: specs/None.antt\n',
     'crates/rows/src/lib.rt': '// The kinds of specs/Bits.antt of crate bits, and `rows::rows_in_rust`.\npub struct Row {\n    pub first: u32,\n}\n',
     'crates/rows_and_more/src/lib.rt': '// Nothing.\n',
+    'crates/examples/must-fail/odd.edit': '# An example is odd.\n',
 }
 
 
@@ -74,6 +75,10 @@ class Trees(unittest.TestCase):
                      'there is no crates/bit/specs/Bits.antt')
         self.refused('docs/LAWS.md', '| a bit | bits/specs/Bits `has`, `clear`; BitLaws `has-bit` ', '| a bit | bit/specs/Bits ', 5,
                      'there is no crates/bit/specs/Bits')
+
+    def test_edits_of_a_crate_named_as_a_top_folder(self):
+        self.assertEqual(self.read(('README.md', 'tests/run', 'examples/odd'))[0], 0)
+        self.refused('README.md', 'tests/run', 'examples/even', 3, 'there is no examples/even')
 
     def test_files_of_a_crate(self):
         self.refused('crates/bits/src/lib.rt', 'specs/Bits.antt', 'specs/Bit.antt', 1, 'there is no specs/Bit.antt of bits')

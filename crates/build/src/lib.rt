@@ -1,4 +1,4 @@
-// Pages in; one table with its origins in lent memory, or one refusal, out.
+// Building. Pages and the caller's choices come in; one table with its origins, in lent memory, or one refusal goes out.
 use collect::lawful::walk_pages;
 use masking::PLACES;
 use memory::REGISTERS;

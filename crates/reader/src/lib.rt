@@ -1,5 +1,5 @@
-// The page reader in the source's own borrowed form: it holds the caller's pages, and steps its index in its own record. Callers use `start` and
-// `take`, whose parameters are a plain slice and an index, and need no walk by hand.
+// The page reader, which borrows the caller's pages as the source's does. Pages and an index come in; the entry there and the index after it go out,
+// or the entry's leaf where its reserved bytes are not zero.
 use pages::CpuidPageIndex;
 use pages::ParsedCpuidEntry;
 use x86defs::CpuidFunction;
