@@ -13,7 +13,8 @@ use table::known_edition;
 ghost use Rattle.build.specs.Build.{answer};
 ghost use Rattle.build.specs.InMemory.{InMemory, Emptied};
 
-// The answer of the definition, specs/Build.antt: the verdict, the table, and where each row came from (document 02, P11), as `origins` numbers it.
+// The answer of the definition, specs/Build.antt: the verdict, the table, and where each row came from (document 02, P11), by the numbers of
+// `memory::origins`.
 pub struct Built {
     pub verdict: Verdict,
     pub table: CpuidResults,
