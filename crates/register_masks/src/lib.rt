@@ -1,5 +1,5 @@
-// What two servers' entries have to do with each other; specs/ joins those of a pool by it. A place comes in; two masks for each register go out, its
-// feature bits and the bits in which the two must agree.
+// The entries of two servers beside each other, and in specs/ their join for a pool. A place comes in; two masks for each register go out: its
+// feature bits, and the bits in which the two must agree.
 use masking::place;
 use x86defs::CpuidResult;
 ghost use mathlib.Core.Path.{_≡_};
