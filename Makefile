@@ -16,7 +16,7 @@
 unexport COLUMNS
 PREFIX = /usr/local
 VERSION := $(shell sed -n 's/^version = "\(.*\)"/\1/p' rust/Cargo.toml)
-PAGES = tests/epyc-milan.pages
+PAGES = tests/data/epyc-milan.pages
 COMMAND = target/rust/release/snp-cpuid
 STAGE = target/stage
 ARCHIVE = snp-cpuid-$(VERSION)-x86_64-linux
@@ -48,7 +48,7 @@ endif
 	@$(COMMAND) table $(PAGES)
 
 proved:
-	@tests/proved
+	@tests/gate/proved
 
 test:
 	$(kit)@tests/run

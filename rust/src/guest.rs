@@ -32,7 +32,7 @@ impl Table {
     /// ```
     /// use snp_cpuid::{Options, Processor, Table, guest};
     ///
-    /// let pages = std::fs::read("../tests/epyc-milan.pages").unwrap();
+    /// let pages = std::fs::read("../tests/data/epyc-milan.pages").unwrap();
     /// let processor = Processor { x2apic: 5, xcr0: 7, xss: 0x800, osxsave: true };
     /// let image = Table::build(&pages, Options::new()).unwrap().image();
     /// // also of a table that was read
@@ -59,7 +59,7 @@ impl Table {
     /// ```
     /// use snp_cpuid::{Options, Processor, Refusal, Table};
     ///
-    /// let pages = std::fs::read("../tests/epyc-milan.pages").unwrap();
+    /// let pages = std::fs::read("../tests/data/epyc-milan.pages").unwrap();
     /// let table = Table::build(&pages, Options::new()).unwrap();
     /// let processor = Processor { x2apic: 5, xcr0: 7, xss: 0x800, osxsave: true };
     /// assert_eq!(table.guest_row(processor, 0xB, Some(1), false).unwrap().unwrap().result.edx, 5);
@@ -86,7 +86,7 @@ impl Table {
     /// ```
     /// use snp_cpuid::{Options, Processor, Refusal, Table};
     ///
-    /// let pages = std::fs::read("../tests/epyc-milan.pages").unwrap();
+    /// let pages = std::fs::read("../tests/data/epyc-milan.pages").unwrap();
     /// let table = Table::build(&pages, Options::new()).unwrap();
     /// // at XSETBV, or a write to XSS
     /// let processor = Processor { x2apic: 5, xcr0: 7, xss: 0x800, osxsave: true };
@@ -127,7 +127,7 @@ impl Table {
 /// ```
 /// use snp_cpuid::{Options, Processor, Refusal, guest};
 ///
-/// let pages = std::fs::read("../tests/epyc-milan.pages").unwrap();
+/// let pages = std::fs::read("../tests/data/epyc-milan.pages").unwrap();
 /// let processor = Processor { x2apic: 5, xcr0: 7, xss: 0x800, osxsave: true };
 /// let seen = guest(&pages, Options::new(), processor).unwrap();
 /// // the two sizes that this processor itself reported
@@ -161,7 +161,7 @@ pub fn write_guest_image(pages: &[u8], options: Options, processor: Processor, o
 /// ```
 /// use snp_cpuid::{Options, Processor, guest_lookup};
 ///
-/// let pages = std::fs::read("../tests/epyc-milan.pages").unwrap();
+/// let pages = std::fs::read("../tests/data/epyc-milan.pages").unwrap();
 /// let processor = Processor { x2apic: 5, xcr0: 1, ..Processor::default() };
 /// // with x87 state alone the save area is its smallest, 512 bytes and the header's 64
 /// assert_eq!(guest_lookup(&pages, Options::new(), processor, 0xD, Some(0), true).unwrap().result.ebx, 576);

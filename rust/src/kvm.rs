@@ -13,7 +13,7 @@ pub const KVM_PAGES_BYTES: usize = 2 * PAGE_BYTES;
 /// was; bytes beyond the list are as they were.
 ///
 /// ```
-/// let pages = std::fs::read("../tests/epyc-milan.pages").unwrap();
+/// let pages = std::fs::read("../tests/data/epyc-milan.pages").unwrap();
 /// let mut list = [0; snp_cpuid::MOST_KVM_BYTES];
 /// let length = snp_cpuid::write_kvm(&pages, snp_cpuid::Options::new(), &mut list).unwrap();
 /// // 29 rows: the count, then function 0 with index 0, flags 0 and the highest leaf
@@ -31,7 +31,7 @@ pub fn write_kvm(pages: &[u8], options: Options, out: &mut [u8]) -> Result<usize
 /// refuses, `out` is as it was; bytes beyond the pages are as they were.
 ///
 /// ```
-/// let pages = std::fs::read("../tests/epyc-milan.pages").unwrap();
+/// let pages = std::fs::read("../tests/data/epyc-milan.pages").unwrap();
 /// let options = snp_cpuid::Options::new().edition(2);
 /// let mut list = [0; snp_cpuid::MOST_KVM_BYTES];
 /// let length = snp_cpuid::write_kvm(&pages, options, &mut list).unwrap();

@@ -25,13 +25,13 @@ fn the_library_without_std() {
 /// A guest that is kept on its own server's table, and does not move to a server without FMA, bit 12 of 1.ECX.
 #[test]
 fn the_example_runs() {
-    let mut less = fs::read("../tests/epyc-milan.pages").unwrap();
+    let mut less = fs::read("../tests/data/epyc-milan.pages").unwrap();
     // leaf 1 is the second entry of page 0
     assert_eq!(less[64..68], 1u32.to_le_bytes());
     less[64 + 32 + 1] &= !0x10;
     let other = Path::new(env!("CARGO_TARGET_TMPDIR")).join("without_fma.pages");
     fs::write(&other, less).unwrap();
-    let ran = cargo(&["run", "--offline", "--quiet", "--example", "keep", "--", "../tests/epyc-milan.pages", other.to_str().unwrap()]);
+    let ran = cargo(&["run", "--offline", "--quiet", "--example", "keep", "--", "../tests/data/epyc-milan.pages", other.to_str().unwrap()]);
     let text = String::from_utf8(ran.stdout).unwrap();
     // 29 rows as in the model's image; x87, SSE, YMM, CET_U and CET_S; the sizes that this processor itself reported; 512 and 64 bytes of x87 alone
     let expected = "\

@@ -1,5 +1,5 @@
-//! Replays carry.txt, whose answers are those of the model (tests/make_carry.py writes it and says how a line reads); and carries the tables of the
-//! page sets of guest.txt.
+//! Replays carry.txt, whose answers are those of the model (tests/lists/make_carry.py writes it and says how a line reads); and carries the tables of
+//! the page sets of guest.txt.
 
 mod replay;
 

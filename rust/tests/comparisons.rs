@@ -1,4 +1,4 @@
-//! Replays comparisons.txt, whose answers are those of the model (tests/make_comparisons.py writes it and says how a line reads).
+//! Replays comparisons.txt, whose answers are those of the model (tests/lists/make_comparisons.py writes it and says how a line reads).
 
 mod replay;
 

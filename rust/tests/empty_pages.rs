@@ -13,7 +13,7 @@ fn with_small_stack(test: impl FnOnce() + Send + 'static) {
 }
 
 fn shipped() -> Vec<u8> {
-    std::fs::read("../tests/epyc-milan.pages").unwrap()
+    std::fs::read("../tests/data/epyc-milan.pages").unwrap()
 }
 
 #[test]

@@ -1,4 +1,4 @@
-//! Replays guest.txt, whose answers are those of the model (tests/make_guest.py writes it and says how a line reads).
+//! Replays guest.txt, whose answers are those of the model (tests/lists/make_guest.py writes it and says how a line reads).
 
 mod replay;
 

@@ -4,7 +4,7 @@ use snp_cpuid::{MOST_IMAGE_BYTES, NotAnImage, Options, Origin, Table, build, poo
 use std::fs;
 
 fn epyc() -> Vec<u8> {
-    fs::read("../tests/epyc-milan.pages").expect("the shipped page set")
+    fs::read("../tests/data/epyc-milan.pages").expect("the shipped page set")
 }
 
 /// The shipped set, without YMM state, and their pool, under both editions: read back the table is the same, and no row has an entry.

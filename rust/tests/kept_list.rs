@@ -1,4 +1,4 @@
-//! Replays table.txt, whose answers are those of the model (tests/make_table.py writes it and says how a line reads), by the crate's own types.
+//! Replays table.txt, whose answers are those of the model (tests/lists/make_table.py writes it and says how a line reads), by the crate's own types.
 
 mod replay;
 

@@ -1,4 +1,4 @@
-//! Replays kvm.txt, whose answers are those of the model (tests/make_kvm.py writes it and says how a line reads).
+//! Replays kvm.txt, whose answers are those of the model (tests/lists/make_kvm.py writes it and says how a line reads).
 
 mod replay;
 

@@ -1,5 +1,5 @@
-//! Replays lines.txt, whose answers are those of the model (tests/make_lines.py writes it and says how a line reads), through the exported functions
-//! and through `Refusal`; and holds what the header says of each number against the library.
+//! Replays lines.txt, whose answers are those of the model (tests/lists/make_lines.py writes it and says how a line reads), through the exported
+//! functions and through `Refusal`; and holds what the header says of each number against the library.
 
 mod replay;
 

@@ -1,5 +1,5 @@
-//! Replays pool.txt, whose answers are those of the model (tests/make_pool.py writes it and says how a line reads); and what the crate makes of a
-//! pool.
+//! Replays pool.txt, whose answers are those of the model (tests/lists/make_pool.py writes it and says how a line reads); and what the crate makes of
+//! a pool.
 
 mod replay;
 

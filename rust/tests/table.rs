@@ -3,7 +3,7 @@
 use snp_cpuid::{CpuidResult, MOST_IMAGE_BYTES, Options, PAGE_BYTES, Refusal, Row, TopologyError, build, lookup, write_image};
 
 fn epyc() -> Vec<u8> {
-    std::fs::read("../tests/epyc-milan.pages").expect("the shipped page set")
+    std::fs::read("../tests/data/epyc-milan.pages").expect("the shipped page set")
 }
 
 /// A page's entries start at 16 and have 48 bytes each: leaf, subleaf, XCR0, XSS, EAX, EBX, ECX, EDX.
@@ -41,7 +41,7 @@ fn unclean(mut pages: Vec<u8>, leaf: u32, subleaf: u32, byte: usize) -> Vec<u8> 
 
 #[test]
 fn rows_are_the_images_of_the_model() {
-    // the program's expected output, which the model of document 01 wrote (tests/model.py)
+    // the program's expected output, which the model of document 01 wrote (tests/model/model.py)
     let expected = std::fs::read("../crates/snp_cpuid_image/stdout").expect("the model's image");
     let table = build(&epyc(), Options::new()).unwrap();
     assert_eq!(table.image(), expected);

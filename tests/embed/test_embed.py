@@ -11,7 +11,7 @@ import object_code
 import stack
 from stack import LIBRARY, ROOT
 
-PAGES = ROOT / 'tests' / 'epyc-milan.pages'
+PAGES = ROOT / 'tests' / 'data' / 'epyc-milan.pages'
 # what the model of document 01 makes of the pages
 IMAGE = ROOT / 'crates' / 'snp_cpuid_image' / 'stdout'
 STRICT = ['-O2', '-Wall', '-Wextra', '-Wpedantic', '-Werror', '-I', ROOT / 'include']

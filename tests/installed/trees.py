@@ -5,7 +5,7 @@ import subprocess
 import tempfile
 
 ROOT = Path(__file__).resolve().parents[2]
-PAGES = ROOT / 'tests' / 'epyc-milan.pages'
+PAGES = ROOT / 'tests' / 'data' / 'epyc-milan.pages'
 PREFIX = '/opt/a prefix'
 
 

@@ -1,4 +1,5 @@
-// Answers as C and Rust are given them: the answers of the crates below come in, structs of plain numbers go out. include/snp_cpuid.h documents each.
+// Answers as C and Rust are given them. The answers of the crates below come in; structs of plain numbers go out, each documented in
+// include/snp_cpuid.h.
 use buffer::Written;
 use guest::GuestFound;
 use guest::Processor;

@@ -1,4 +1,4 @@
-// Bits of registers. What comes in is a number; what goes out is a bit of it, or the number with bits cleared.
+// Bits of registers. A number comes in; a bit of it, or the number with bits cleared, goes out.
 ghost use mathlib.Core.Path.{_≡_};
 ghost use Prim.Native.Nat.{_<_};
 ghost use Rattle.bits.specs.Bits.{has, clearUnless};

@@ -1,4 +1,4 @@
-// Pages in; one table with its origins in lent memory, or one refusal, out.
+// Building. Pages and the caller's choices come in; one table with its origins, in lent memory, or one refusal goes out.
 use collect::lawful::walk_pages;
 use masking::PLACES;
 use memory::REGISTERS;
@@ -14,7 +14,8 @@ ghost use Rattle.memory.specs.Memory.{Cleared};
 ghost use Rattle.build.specs.Build.{answer};
 ghost use Rattle.build.specs.InMemory.{InMemory, BuiltPages};
 
-// The answer of the definition, specs/Build.antt: the verdict, the table, and where each row came from (document 02, P11), as `origins` numbers it.
+// The answer of the definition, specs/Build.antt: the verdict, the table, and where each row came from (document 02, P11), by the numbers of
+// `memory::origins`.
 pub struct Built {
     pub verdict: Verdict,
     pub table: CpuidResults,

@@ -1,5 +1,5 @@
-// A running table carried from one edition of the AVX rule to another. A table in lent memory and one processor's state come in; the table becomes
-// the one under the edition wanted, or a refusal goes out and it stays as it was. Where rows came from is not touched.
+// A running table carried from one edition of the AVX rule to another. A table in lent memory, or its image, and one processor's state come in; it
+// becomes the one under the edition wanted, or a refusal goes out and it stays as it was.
 use guest_state::InUse;
 use guest_state::read_row;
 use guest_state::state_in_use;

@@ -1,4 +1,5 @@
-// The checks, in specs/; in code, those of one row: the masks of the extended state, and INVLPGB. Crate rows_checked joins them over lent memory.
+// The checks of document 01, each with its verdict, in specs/. In code those of one row: a row comes in; the masks of the extended state, or the
+// verdict on INVLPGB, go out.
 use table::Refusal;
 use table::Verdict;
 use x86defs::CpuidResult;

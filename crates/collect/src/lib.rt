@@ -1,4 +1,5 @@
-// What becomes of one entry: the place that it is stored at, and its registers there. In specs/ the masked first entries of the 88 places.
+// From pages to the 88 rows. Pages come in; refusal 1, 2 or 17 goes out, or the masked first entry of each place, and where it stands, in lent
+// memory.
 use masking::PLACES;
 use masking::masks::KeptLeaf;
 use masking::place;

@@ -1,1 +1,1 @@
-// How many rows a table has and how long its image is. Statements and proofs are in specs/; there is no code here.
+// How many rows an accepted table has, 26 to 32, and how many bytes its image, 582 to 732. Statements and proofs, no code.

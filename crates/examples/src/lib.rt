@@ -1,1 +1,1 @@
-// Page sets by computation: instances that meet the hypotheses of the theorems, with figures. There is no code here.
+// Page sets by computation: instances that meet the hypotheses of the theorems, with figures. Statements and proofs, no code.

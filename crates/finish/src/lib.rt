@@ -1,4 +1,5 @@
-// No code: the rows of a table while it is finished, and how registers are compared.
+// The answer to the 88 rows, in specs/: the checks in order, then the rule of each place, and laws of the finished table. The only code is the struct
+// of that answer.
 use table::CpuidResults;
 use table::Verdict;
 

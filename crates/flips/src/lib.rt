@@ -1,4 +1,5 @@
-// One flipped bit of a page set: which bit it is, and registers with a bit flipped. The definition of a flipped page set stands in specs/.
+// One flipped bit; specs/ has all flips of a page set in order. Registers and the number of a bit come in; the registers with that bit flipped go
+// out.
 use x86defs::CpuidResult;
 ghost use mathlib.Core.Path.{_≡_};
 ghost use Prim.Native.Nat.{_/_, _%_, _<_};

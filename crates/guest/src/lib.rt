@@ -1,5 +1,5 @@
-// What one processor's guest sees. A table in lent memory and the processor's own numbers come in; one row, or the table as the guest sees it, or
-// a refusal goes out.
+// What one processor's guest sees. Pages, or a table in lent memory, and the processor's own numbers come in; one row, the guest's table or its image
+// goes out, or a refusal.
 use guest_state::InUse;
 use guest_state::save_register;
 use guest_state::state_in_use;

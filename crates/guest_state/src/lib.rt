@@ -1,5 +1,5 @@
-// Extended state in use, over a table in lent memory. XCR0 and XSS come in; refusals 13 and 14, the compacted size and the size of the save area
-// go out.
+// Extended state in use, over a table in lent memory. XCR0 and XSS come in; refusals 13 and 14, the compacted size and the size of the save area go
+// out.
 use checks::Size;
 use checks::max_xss;
 use masking::PLACES;

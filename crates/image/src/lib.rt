@@ -1,4 +1,4 @@
-// The image of a table, and how long it is. Where the rows of a table came from comes in; the number of its image's bytes goes out.
+// The image of a table. Pages, or a table in lent memory, and a lent buffer come in; the table's bytes go out, or a refusal and the buffer as it was.
 ghost use mathlib.Core.Path.{_≡_};
 ghost use mathlib.Core.List.{List};
 ghost use Prim.Native.Nat.{ℕ, _+_, _≤_};

@@ -1,4 +1,4 @@
-// The list that KVM takes and gives, struct kvm_cpuid2. specs/Format.antt has its bytes; here are its sizes, and zeros for what is to be zero.
+// The list that KVM takes and gives, struct kvm_cpuid2: its bytes in specs/, its sizes here. A stretch of a lent buffer comes in, and becomes zeros.
 ghost use mathlib.Core.Path.{_≡_};
 ghost use Prim.Native.Nat.{_-_, _≤_};
 ghost use lib.ListN.{length, replicate};

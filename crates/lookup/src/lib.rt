@@ -1,4 +1,5 @@
-// Lookup in a table in lent memory, as the source's leaf_result_ref: a leaf, a subleaf or none, and whether to enforce come in; a row or nothing goes out.
+// Lookup in a table in lent memory, as the source's leaf_result_ref. A leaf, a subleaf or none, and whether to enforce come in; a row with its
+// origin, or nothing, goes out.
 ghost use mathlib.Core.Path.{_≡_};
 ghost use Prim.Native.Nat.{_≤_};
 ghost use Rattle.masking.specs.Kept.{places};

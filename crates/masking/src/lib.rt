@@ -1,5 +1,5 @@
-// The places of the kept leaves, and their masks. A leaf and a subleaf come in; their place among the 88 goes out, and from a place its leaf,
-// its subleaf and its masks.
+// The 88 places of the kept leaves, and their masks. A leaf and a subleaf come in, and their place goes out; an entry's registers come in, and go out
+// masked.
 ghost use mathlib.Core.Path.{_≡_};
 ghost use mathlib.Core.Bool.{true};
 ghost use Prim.Native.Nat.{_+_, _≤_, _<_};

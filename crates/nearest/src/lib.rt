@@ -1,4 +1,5 @@
-// The nearest bit that matters. Pages come in; the first result bit whose flip changes the answer goes out. The pages are not written.
+// The nearest bit that matters. Pages come in, and are not written; the first result bit whose flip changes the answer goes out, or why there is
+// none.
 use collect::lawful::walk_pages;
 use flips::Flip;
 use masking::PLACES;

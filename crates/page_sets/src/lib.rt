@@ -1,1 +1,2 @@
-// Page sets written entry by entry, and the answer with every definition open: what the examples compute with; no code.
+// Page sets for examples, written entry by entry, and page bytes read in one pass, which gives what the definitions give. Definitions and laws, no
+// code.

@@ -1,5 +1,5 @@
-// One table for a pool of servers. Their page sets, end to end beside a list of lengths, and lent memory come in; one table that any of them can keep
-// is in the memory then, or it is cleared and one refusal goes out and, where it is a server's own, which server it is.
+// One table for a pool of servers. Their page sets and a list of lengths come in; one table that any of them can keep, or its image, goes out, or one
+// refusal with the server whose own it is.
 use masking::PLACES;
 use memory::REGISTERS;
 use memory::clear;

@@ -1,5 +1,5 @@
-// The join of servers' masked first entries, in the memory of the first. The rows so far and those of one server more come in; the rows are joined
-// where they stand, and at which places the two are alike but for features goes out.
+// The join of servers' masked first entries. The rows so far and those of one server more come in; the rows are joined where they stand, and the
+// places where the two are alike but for features go out.
 use masking::PLACES;
 use memory::REGISTERS;
 use memory::is_there;

@@ -1,5 +1,5 @@
-// Page sets end to end, beside a list of their lengths. Whether they are lawful goes out; the entries of all servers are joined in the memory of the
-// first, up to one that is refused.
+// The page sets of a pool, end to end beside a list of their lengths. They come in; whether they are lawful goes out, and the rows of all servers, up
+// to one that is refused, joined in lent memory.
 use crate::server::server_into;
 use masking::PLACES;
 use memory::REGISTERS;

@@ -1,5 +1,5 @@
-// The page reader in the source's own borrowed form: it holds the caller's pages, and steps its index in its own record. Callers use `start`, `take`
-// and `step`, whose parameters are a plain slice and an index, and need no walk by hand.
+// The page reader, which borrows the caller's pages and steps its index in its own record, as the source's does. Pages and an index come in; the entry
+// there goes out, or its leaf where its reserved bytes are not zero, and the index of the next one.
 use pages::CpuidPageIndex;
 use pages::ParsedCpuidEntry;
 use x86defs::CpuidFunction;

@@ -1,1 +1,1 @@
-// Demand 1: each answer comes under exactly its condition. Statements and proofs are in specs/; there is no code here.
+// Demand 1: each answer of building comes under exactly its condition, and each refusal has its line. Statements and proofs, no code.

@@ -1,5 +1,5 @@
-// How demand 3 compares each register. Two rows come in, with the masks of their registers: which bits are features, and which must agree; which
-// registers are as wanted goes out, and the first that fails.
+// How demand 3 compares each register. Two rows come in with the masks of their registers; which registers are as wanted goes out, and the first that
+// fails.
 use masking::place;
 use table::Subleaf;
 use x86defs::CpuidResult;

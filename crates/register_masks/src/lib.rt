@@ -1,5 +1,5 @@
-// What two servers' entries have to do with each other, as two masks a register: its feature bits, and the bits in which the two must agree. A bit
-// that is in neither is free. The pool joins and tests by these masks, and so do the comparisons of entries and of tables.
+// The entries of two servers beside each other, and in specs/ their join for a pool. A place comes in; two masks for each register go out: its
+// feature bits, and the bits in which the two must agree.
 use masking::place;
 use x86defs::CpuidResult;
 ghost use mathlib.Core.Path.{_≡_};

@@ -1,4 +1,5 @@
-// Whether two answers are the same: their verdicts with details, and the tables in lent memory. A flipped bit is decided by it.
+// Which bits decide. The 88 rows in lent memory and an entry's registers come in; the first of its 128 bits whose flip changes building's answer goes
+// out, or that none does.
 use masking::PLACES;
 use memory::REGISTERS;
 use memory::is_there;

@@ -1,4 +1,4 @@
-// The library's functions for C and Rust: numbers and byte slices in, plain numbers out. include/snp_cpuid.h documents each call.
+// The library's functions for C and Rust. Numbers and slices come in; plain numbers go out. include/snp_cpuid.h documents each call.
 use answers::SnpCpuidBuilt;
 use answers::SnpCpuidFirst;
 use answers::SnpCpuidFound;

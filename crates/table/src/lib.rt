@@ -1,4 +1,5 @@
-// The table, and why there may be none: what building gives and what lookup, image and every other reader of a table stands on.
+// The words of an answer: the caller's choices, refusals, the verdict and the table. A verdict comes in; its number and details go out as plain
+// numbers.
 use masking::PLACES;
 use topology::TopologyError;
 use x86defs::CpuidFunction;

@@ -1,5 +1,5 @@
 -- The theorems page, P13: the nearest bit that matters. crates/flips/specs/Flips.antt has the flips of a page set in order and the flipped pages,
--- crates/search/specs/Changes.antt and Same.antt what it is for a flip to change the answer, crates/nearest/specs/Nearest.antt the answer.
+-- crates/search/specs/Changes.antt and SameVerdict.antt what it is for a flip to change the answer, crates/nearest/specs/Nearest.antt the answer.
 -- `nearest::nearest_bit` promises `nearest`, for any bytes.
 use mathlib.Core.Path.{_≡_}
 use mathlib.Core.Bool.{false}

@@ -1,1 +1,1 @@
-// Every headline statement, a page in specs/ for each promise; specs/Theorems.antt names them. There is no code here.
+// Every headline statement, a page in specs/ for each promise, which specs/Theorems.antt lists. Statements and proofs, no code.

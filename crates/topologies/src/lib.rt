@@ -1,5 +1,5 @@
-// Every lawful topology up to size seven. A lent buffer comes in; all inputs that the topology accepts go out, five bytes each, or refusal 9 and
-// the buffer as it was.
+// Every lawful topology up to size seven. A lent buffer comes in; all inputs that the topology accepts go out, five bytes each, or refusal 9 and the
+// buffer as it was.
 use buffer::Written;
 use table::Refusal;
 ghost use mathlib.Core.Path.{_≡_};

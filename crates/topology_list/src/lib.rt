@@ -1,1 +1,2 @@
-// What document 02, P14 asks of the list of topologies, and that it determines the list; tables whose topology is listed. No code.
+// Document 02, P14: what is asked of the list of topologies, that one list alone has it, and that building accepts what is listed. Statements and
+// proofs, no code.

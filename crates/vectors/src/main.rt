@@ -8,7 +8,7 @@
 //   l  look leaf a up, with subleaf b
 //   f  find the first entry of leaf a, with subleaf b
 //   w  write the image into a bytes that hold A5h
-// tests/make_vectors.py makes the commands, and the lines that are to come out.
+// tests/lists/make_vectors.py makes the commands, and the lines that are to come out.
 use answers::SnpCpuidBuilt;
 use answers::SnpCpuidFirst;
 use answers::SnpCpuidFound;

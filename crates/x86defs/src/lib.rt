@@ -1,5 +1,4 @@
-// What the architecture's manuals name: leaf numbers, results, and the fields and bits of each register. A register comes in; a field or a
-// bit of it goes out, cut out by shift and mask. specs/ has every name, and here are those that the port reads.
+// What the architecture's manuals name: leaf numbers, and the fields and bits of each register. A register comes in; one field or bit of it goes out.
 ghost use mathlib.Core.Path.{_≡_};
 ghost use Prim.Native.Nat.{_<_};
 ghost use Rattle.bits.specs.Bits.{bit, has};

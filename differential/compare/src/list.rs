@@ -1,5 +1,5 @@
 //! The fixed list: a sample of the Rust's answers, one page set for each kind of answer of each family. The gate replays it with no Rust at
-//! hand: tests/make_vectors.py hands it to crates/vectors.
+//! hand: tests/lists/make_vectors.py hands it to crates/vectors.
 
 use std::collections::BTreeSet;
 use std::fmt::Write;

@@ -70,7 +70,7 @@ pub fn rich() -> Set {
 
 /// The pages of an EPYC Milan.
 pub fn milan() -> Set {
-    read(include_bytes!("../../../tests/epyc-milan.pages"))
+    read(include_bytes!("../../../tests/data/epyc-milan.pages"))
 }
 
 /// Two pages; leaf Dh counts only on page 1.

@@ -19,7 +19,7 @@ fn build(cpuid_pages: &[u8], secure_avic: bool) -> Result<CpuidLeafSet, CpuidRes
 }
 
 fn shipped() -> Vec<u8> {
-    std::fs::read("../../tests/epyc-milan.pages").expect("the shipped pages")
+    std::fs::read("../../tests/data/epyc-milan.pages").expect("the shipped pages")
 }
 
 /// The first entry for a leaf on page 0: where it begins.

@@ -1,5 +1,5 @@
 //! The command's tables of names against three sources: the specification's places of bits and fields, the public database
-//! (tests/cpuid-bits.csv), and the masks of the library.
+//! (tests/data/cpuid-bits.csv), and the masks of the library.
 
 use crate::features::{FEATURES, REGISTERS};
 use crate::fields::FIELDS;
@@ -68,7 +68,7 @@ fn bits_are_those_that_the_library_keeps() {
 
 /// Short names of the public database by leaf, subleaf, register, lowest and highest bit.
 pub fn database() -> BTreeMap<(u32, u32, String, u32, u32), String> {
-    let text = fs::read_to_string("../tests/cpuid-bits.csv").expect("the public database");
+    let text = fs::read_to_string("../tests/data/cpuid-bits.csv").expect("the public database");
     let number = |text: &str| text.strip_prefix("0x").map_or_else(|| text.parse(), |hex| u32::from_str_radix(hex, 16)).unwrap();
     let mut lines = BTreeMap::new();
     for line in text.lines().filter(|line| !line.trim().is_empty() && !line.starts_with('#')) {

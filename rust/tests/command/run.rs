@@ -7,7 +7,7 @@ use std::process::{Command, Stdio};
 use std::sync::atomic::{AtomicUsize, Ordering};
 
 /// The shipped page set.
-pub const EPYC: &str = "../tests/epyc-milan.pages";
+pub const EPYC: &str = "../tests/data/epyc-milan.pages";
 
 /// Runs of each command that builds the table of one page set, or of two servers that have the same, and prints nothing where it is refused: the page
 /// set is PAGES, the output OUT.

@@ -3,7 +3,7 @@
 use crate::run::{EPYC, Folder, run};
 use std::fs;
 
-/// The accepted inputs of the model's list, which tests/make_topologies.py wrote: the five numbers of a line that is not refused.
+/// The accepted inputs of the model's list, which tests/lists/make_topologies.py wrote: the five numbers of a line that is not refused.
 fn by_the_model() -> Vec<Vec<u8>> {
     let lines = include_str!("../topologies.txt").lines().filter(|line| !line.contains(" r "));
     lines.map(|line| line.split(' ').take(5).map(|word| word.parse().expect("a byte")).collect()).collect()
@@ -39,7 +39,7 @@ fn bytes_with_an_output() {
 fn bad_usage() {
     let folder = Folder::new("topologies_bad");
     for (arguments, why) in [
-        (&["topologies", EPYC][..], "one operand too many, '../tests/epyc-milan.pages'"),
+        (&["topologies", EPYC][..], "one operand too many, '../tests/data/epyc-milan.pages'"),
         (&["topologies", "--edition", "1"], "no option '--edition'"),
         (&["topologies", "-o"], "-o needs a file name"),
     ] {

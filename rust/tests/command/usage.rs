@@ -154,18 +154,18 @@ fn bytes_do_not_go_to_a_terminal() {
         (output.status.code().unwrap(), String::from_utf8_lossy(&output.stdout).replace('\r', ""))
     };
     for words in [
-        "image ../tests/epyc-milan.pages -o -",
-        "to-kvm ../tests/epyc-milan.pages -o -",
+        "image ../tests/data/epyc-milan.pages -o -",
+        "to-kvm ../tests/data/epyc-milan.pages -o -",
         "topologies -o -",
-        "pool ../tests/epyc-milan.pages ../tests/epyc-milan.pages -o -",
+        "pool ../tests/data/epyc-milan.pages ../tests/data/epyc-milan.pages -o -",
     ] {
         let (status, text) = on_terminal(words);
         assert_eq!(status, 2, "{text}");
         assert!(text.starts_with("snp-cpuid: standard output is a terminal, and these are bytes, not text: "), "{text}");
     }
-    let (status, text) = on_terminal("to-dump ../tests/epyc-milan.pages -o -");
+    let (status, text) = on_terminal("to-dump ../tests/data/epyc-milan.pages -o -");
     assert_eq!((status, text.as_bytes()), (0, &run(&["to-dump", EPYC]).out[..]));
-    assert_eq!(on_terminal(&format!("image ../tests/epyc-milan.pages -o {}", folder.path("image"))), (0, String::new()));
+    assert_eq!(on_terminal(&format!("image ../tests/data/epyc-milan.pages -o {}", folder.path("image"))), (0, String::new()));
 }
 
 #[test]

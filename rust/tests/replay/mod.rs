@@ -1,4 +1,4 @@
-//! What the lists in tests/ are made of (tests/replayed.py writes them): bytes, and edits that make bytes of others.
+//! What the lists in tests/ are made of (tests/lists/replayed.py writes them): bytes, and edits that make bytes of others.
 
 /// Bytes in hexadecimal; none where there is no digit.
 pub fn bytes(hex: &str) -> Vec<u8> {
@@ -23,5 +23,5 @@ pub fn edited(mut data: Vec<u8>, word: &str) -> Vec<u8> {
 /// The shipped page set.
 #[allow(dead_code)]
 pub fn shipped() -> Vec<u8> {
-    std::fs::read("../tests/epyc-milan.pages").expect("the shipped page set")
+    std::fs::read("../tests/data/epyc-milan.pages").expect("the shipped page set")
 }

@@ -1,0 +1,64 @@
+#!/usr/bin/env python3
+"""reader_promise.py: whether what stands above the page reader relies on what the reader promises with each entry, that its reserved bytes are zero.
+
+In a copy of the crates the promise is taken out of the contract of `reader::take`: it still says that it gives the entry there or the leaf of that
+entry, and no longer which. The code stays. The reader must still be proved, and the walk above it, crate collect, must not be, for want of that fact.
+"""
+from pathlib import Path
+import os
+import shutil
+import subprocess
+import sys
+import tempfile
+
+ROOT = Path(__file__).resolve().parents[2]
+
+WEAKER = 'readBy b (now (pages .entry)) index (incremented (now (pages .entry)) index)'
+# file, what stands there once, what takes its place
+CHANGES = (
+    ('reader/src/lib.rt', 'ghost use mathlib.Core.Path.{_≡_};', 'ghost use mathlib.Core.Path.{_≡_};\nghost use mathlib.Core.Bool.{Bool};'),
+    ('reader/src/lib.rt', 'specs.Read.{Readable, readAt};', 'specs.Read.{Readable, readAt, readBy};'),
+    ('reader/src/lib.rt', '    ensures { λ r. ⌜ r ≡ readAt (now (pages .entry)) index (incremented (now (pages .entry)) index) ⌝ }',
+     '    ensures { λ r. ⌜ ((b : Bool) × (r ≡ ' + WEAKER + ')) ⌝ }'),
+    ('reader/specs/Read.antt', 'unfoldable pub readAt :', 'abbrev pub readBy : Bool → List ℕ → CpuidPageIndex → CpuidPageIndex → Read\n'
+     'readBy b s i j = pick b (Read′.Entry (parsed (entryHere s i)) j) (Read′.Unclean (entryHere s i .leaf))\n\nunfoldable pub readAt :'),
+    ('reader/specs/ReadLaws.antt', 'cleanHere, readAt, given}', 'cleanHere, readAt, readBy, given}'),
+    ('reader/specs/ReadLaws.antt', '-- by each answer of the code\n',
+     'pub read-by : (s : List ℕ) (i j : CpuidPageIndex) → readAt s i j ≡ readBy (cleanHere s i) s i j\n'
+     'unfolding readAt\nread-by s i j = refl\n\n'
+     'pub by-clean : {b : Bool} (s : List ℕ) (i j : CpuidPageIndex) → b ≡ cleanHere s i → readBy b s i j ≡ readAt s i j\n'
+     'by-clean s i j e = ap (λ (c : Bool). readBy c s i j) e ∙ sym (read-by s i j)\n\n-- by each answer of the code\n'),
+    ('reader/proofs/take/Proof.antt', 'use mathlib.Core.Path.{_≡_, refl, sym, ap, subst}', 'use mathlib.Core.Path.{_≡_, refl, sym, ap, subst, _∙_}'),
+    ('reader/proofs/take/Proof.antt', 'specs.Read.{Readable, readAt}',
+     'specs.Read.{Readable, readAt, cleanHere}\nuse Rattle.reader.specs.ReadLaws.{read-by}'),
+    ('reader/proofs/take/Proof.antt', 'says ! e $', 'says ! (cleanHere (now s) i, e ∙ read-by (now s) i j) $'),
+    ('collect/proofs/locate/collect_into/Proof.antt', 'ReadLaws.{read-entry}', 'ReadLaws.{read-entry, by-clean}'),
+    ('collect/proofs/locate/collect_into/Proof.antt', '.read .given .1) ∙ k .take .ensures)',
+     '.read .given .1) ∙ k .take .ensures .1 ∙ by-clean {b = k .take .ensures .0} _ _ _ (search needs))'),
+    ('collect/proofs/locate/collect_into/Proof.antt', '.read2 .given .1) ∙ k .take .ensures)',
+     '.read2 .given .1) ∙ k .take .ensures .1 ∙ by-clean {b = k .take .ensures .0} _ _ _ (search needs))'),
+)
+
+
+def main():
+    with tempfile.TemporaryDirectory() as room:
+        for name in ('crates', 'target'):
+            if (ROOT / name).is_dir():
+                shutil.copytree(ROOT / name, Path(room) / name, symlinks=True, ignore=shutil.ignore_patterns('must-fail', 'staticlib'))
+        shutil.copy(ROOT / 'crates.txt', room)
+        for name, old, new in CHANGES:
+            path = Path(room) / 'crates' / name
+            text = path.read_text(encoding='utf-8')
+            if text.count(old) != 1:
+                sys.exit(f'{name}: not once in it: {old}')
+            path.write_text(text.replace(old, new), encoding='utf-8')
+        run = subprocess.run(['rt', 'check', 'collect'], cwd=room, env={**os.environ, 'RT_CUT': '0'}, text=True,
+                             stdout=subprocess.PIPE, stderr=subprocess.STDOUT)
+    said = run.stdout
+    wanted = [line for line in said.split('\n') if 'collect/proofs/locate/collect_into' in line and 'no proof of' in line and 'cleanHere' in line]
+    if 'rt: reader proved' not in said or 'rt: collect NOT PROVED' not in said or not wanted:
+        sys.exit(said[-4000:] + '\nthe walk does not miss the promise, or something else fails')
+    print(f'{len(wanted)} facts missed above the reader without its promise, and the reader still proved')
+
+
+main()
