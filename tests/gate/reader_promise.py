@@ -32,10 +32,10 @@ CHANGES = (
     ('reader/proofs/take/Proof.antt', 'specs.Read.{Readable, readAt}',
      'specs.Read.{Readable, readAt, cleanHere}\nuse Rattle.reader.specs.ReadLaws.{read-by}'),
     ('reader/proofs/take/Proof.antt', 'says ! e $', 'says ! (cleanHere (now s) i, e ∙ read-by (now s) i j) $'),
-    ('collect/proofs/locate/collect_into/Proof.antt', 'ReadLaws.{read-entry}', 'ReadLaws.{read-entry, by-clean}'),
-    ('collect/proofs/locate/collect_into/Proof.antt', '.read .given .1) ∙ k .take .ensures)',
+    ('collect/proofs/collect_into/Proof.antt', 'ReadLaws.{read-entry}', 'ReadLaws.{read-entry, by-clean}'),
+    ('collect/proofs/collect_into/Proof.antt', '.read .given .1) ∙ k .take .ensures)',
      '.read .given .1) ∙ k .take .ensures .1 ∙ by-clean {b = k .take .ensures .0} _ _ _ (search needs))'),
-    ('collect/proofs/locate/collect_into/Proof.antt', '.read2 .given .1) ∙ k .take .ensures)',
+    ('collect/proofs/collect_into/Proof.antt', '.read2 .given .1) ∙ k .take .ensures)',
      '.read2 .given .1) ∙ k .take .ensures .1 ∙ by-clean {b = k .take .ensures .0} _ _ _ (search needs))'),
 )
 
@@ -55,7 +55,7 @@ def main():
         run = subprocess.run(['rt', 'check', 'collect'], cwd=room, env={**os.environ, 'RT_CUT': '0'}, text=True,
                              stdout=subprocess.PIPE, stderr=subprocess.STDOUT)
     said = run.stdout
-    wanted = [line for line in said.split('\n') if 'collect/proofs/locate/collect_into' in line and 'no proof of' in line and 'cleanHere' in line]
+    wanted = [line for line in said.split('\n') if 'collect/proofs/collect_into' in line and 'no proof of' in line and 'cleanHere' in line]
     if 'rt: reader proved' not in said or 'rt: collect NOT PROVED' not in said or not wanted:
         sys.exit(said[-4000:] + '\nthe walk does not miss the promise, or something else fails')
     print(f'{len(wanted)} facts missed above the reader without its promise, and the reader still proved')

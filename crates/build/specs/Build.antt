@@ -1,4 +1,5 @@
 -- The answer for any bytes: document 01's checks in order, then the table. c is what the caller chooses, s the list of the page bytes.
+use mathlib.Core.Path.{_≡_}
 use mathlib.Core.Bool.{false}
 use mathlib.Core.List.{List}
 use Prim.Native.Nat.{ℕ}
@@ -7,6 +8,7 @@ use Rattle.pages.specs.Entries.{counted}
 use Rattle.table.specs.declared.Refusal.the-variants.{UnknownEdition}
 use Rattle.table.specs.declared.Choices.{Choices}
 use Rattle.table.specs.declared.Verdict.{Verdict}
+use Rattle.table.specs.declared.Verdict.the-variants.{Accepted}
 use Rattle.table.specs.Refusal.{andThen}
 use Rattle.table.specs.Edition.{knownEdition}
 use Rattle.table.specs.Rows.{Rows}
@@ -14,6 +16,8 @@ use Rattle.table.specs.declared.CpuidResults.{CpuidResults}
 use Rattle.table.specs.Table.{rowIn}
 use Rattle.masking.specs.Kept.{places}
 use Rattle.memory.specs.Origin.{Origin, originOf, originNumber}
+use Rattle.memory.specs.Memory.{layout}
+use Rattle.memory.specs.Held.{heldIn}
 use Rattle.checks.specs.Checks.{refuseUnless, rowsVerdict}
 use Rattle.collect.specs.Lawful.{lawfulVerdict}
 use Rattle.finish.specs.RowsBuilt.{tableFor}
@@ -50,3 +54,21 @@ answer c s = record { verdict = verdictOf c s; table = tableOfPages c s; origins
 -- the origin of the row at place i of the table that an answer holds
 abbrev pub originAt : Choices → List ℕ → ℕ → Origin
 originAt c s i = originOf (rowIn (answer c s .table) i .present) i (standsAt i (counted s))
+
+-- ---- the answer in memory that a caller lends
+
+-- the memory w, o and the verdict v are the answer b: every word, and count and mask, which follow from the words
+pub record InMemory (b : Built) (v : Verdict) (w o : List ℕ) : Type 0 where
+  pub verdict : v ≡ b .verdict
+  pub registers : w ≡ layout (λ i. rowIn (b .table) i .result)
+  pub origins : o ≡ b .origins
+  pub table : heldIn w o ≡ b .table
+
+-- the memory w, o holds the table of the answer b, and where its rows came from
+abbrev pub TableIn : Built → List ℕ → List ℕ → Type 0
+TableIn b w o = InMemory b (b .verdict) w o
+
+-- the verdict v is that of the answer b and, where it accepts, the memory w, o is the answer; where it refuses, the memory is left open
+pub record BuiltPages (b : Built) (v : Verdict) (w o : List ℕ) : Type 0 where
+  pub verdict : v ≡ b .verdict
+  pub accepted : v ≡ Accepted → InMemory b v w o

@@ -1,4 +1,4 @@
 pub mod Built
 pub mod Build
 pub mod BuildLaws
-pub mod InMemory
+pub mod InMemoryLaws

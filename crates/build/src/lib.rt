@@ -1,5 +1,5 @@
 // Building. Pages and the caller's choices come in; one table with its origins, in lent memory, or one refusal goes out.
-use collect::lawful::walk_pages;
+use collect::walk_pages;
 use masking::PLACES;
 use memory::REGISTERS;
 use memory::clear;
@@ -11,8 +11,7 @@ use table::Refusal;
 use table::Verdict;
 use table::known_edition;
 ghost use Rattle.memory.specs.Memory.{Cleared};
-ghost use Rattle.build.specs.Build.{answer};
-ghost use Rattle.build.specs.InMemory.{InMemory, BuiltPages};
+ghost use Rattle.build.specs.Build.{answer, InMemory, BuiltPages};
 
 // The answer of the definition, specs/Build.antt: the verdict, the table, and where each row came from (document 02, P11), by the numbers of
 // `memory::origins`.

@@ -13,7 +13,7 @@ use Rattle.memory.specs.Origin.{Origin, originNumber}
 use Rattle.memory.specs.Origin.Origin.{neither}
 use Rattle.collect.specs.Stands.{standsAt}
 use Rattle.collect.specs.Lawful.{lawfulVerdict}
-use Rattle.collect.specs.declared.first_entry.FirstEntry.{FirstEntry}
+use Rattle.collect.specs.declared.FirstEntry.{FirstEntry}
 
 unfoldable pub firstOrigin : List ℕ → ℕ → Origin
 firstOrigin s place = pick (ltb place places) (standsAt place (counted s)) neither

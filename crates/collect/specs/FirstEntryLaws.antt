@@ -16,7 +16,7 @@ use Rattle.table.specs.declared.Verdict.the-variants.{Accepted, Refused}
 use Rattle.memory.specs.Origin.{Origin, originNumber}
 use Rattle.collect.specs.Stands.{standsAt, foundOrigins}
 use Rattle.collect.specs.Lawful.{lawfulVerdict}
-use Rattle.collect.specs.declared.first_entry.FirstEntry.{FirstEntry}
+use Rattle.collect.specs.declared.FirstEntry.{FirstEntry}
 use Rattle.collect.specs.FirstEntry.{firstOrigin, originGiven, firstEntry}
 
 module _ (s : List ℕ) (leaf : CpuidFunction) (subleaf : ℕ) where

@@ -1,5 +1,5 @@
 // Two servers compared. The pages of A and B come in; whether a guest of A may move to B goes out, or the first thing in the way.
-use collect::lawful::walk_pages;
+use collect::walk_pages;
 use masking::PLACES;
 use memory::REGISTERS;
 use memory::is_there;

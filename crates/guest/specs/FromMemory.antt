@@ -11,8 +11,7 @@ use Rattle.table.specs.declared.Subleaf.{Subleaf}
 use Rattle.table.specs.declared.Verdict.{Verdict}
 use Rattle.table.specs.declared.Verdict.the-variants.{Accepted, Refused}
 use Rattle.memory.specs.Held.{heldIn}
-use Rattle.build.specs.Build.{answer}
-use Rattle.build.specs.InMemory.{InMemory}
+use Rattle.build.specs.Build.{answer, InMemory}
 use Rattle.lookup.specs.Lookup.{withOrigin, lookupOrigin, found}
 use Rattle.lookup.specs.declared.Found.the-variants.{NoRow}
 use Rattle.lookup.specs.declared.LeafResult.{LeafResult}

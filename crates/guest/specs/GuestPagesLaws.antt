@@ -10,8 +10,7 @@ use Rattle.table.specs.declared.Verdict.the-variants.{Accepted, Refused}
 use Rattle.table.specs.Table.{emptyTable, rowsIn}
 use Rattle.memory.specs.Held.{heldIn}
 use Rattle.finish.specs.RowsBuilt.{tableFor}
-use Rattle.build.specs.Build.{rowsFor, answer}
-use Rattle.build.specs.InMemory.{InMemory}
+use Rattle.build.specs.Build.{rowsFor, answer, InMemory}
 use Rattle.guest_state.specs.State.{stateVerdict}
 use Rattle.guest.specs.declared.Processor.{Processor}
 use Rattle.guest.specs.declared.GuestAnswer.{GuestAnswer}

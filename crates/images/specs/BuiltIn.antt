@@ -21,8 +21,7 @@ use Rattle.memory.specs.Memory.{isThere, rowsIn, layout}
 use Rattle.memory.specs.MemoryLaws.{layout-row}
 use Rattle.memory.specs.Held.{wholeOf, heldIn, whole-ext}
 use Rattle.collect.specs.Stands.{standsAt}
-use Rattle.build.specs.Build.{originsIn, answer, originAt}
-use Rattle.build.specs.InMemory.{TableIn}
+use Rattle.build.specs.Build.{originsIn, answer, originAt, TableIn}
 use Rattle.rise.specs.RiseProof.{answer-table, answer-row}
 use Rattle.rise.specs.BuiltLaws.{built-mask}
 use Rattle.rise.specs.Located.{Origins}

@@ -10,8 +10,7 @@ use Rattle.table.specs.declared.Verdict.the-variants.{Accepted}
 use Rattle.table.specs.Table.{rowIn}
 use Rattle.memory.specs.Memory.{layout}
 use Rattle.memory.specs.Held.{heldIn}
-use Rattle.build.specs.Build.{answer}
-use Rattle.build.specs.InMemory.{InMemory}
+use Rattle.build.specs.Build.{answer, InMemory}
 use Rattle.rise.specs.Rise.{withEdition}
 use Rattle.carry.specs.Carry.{carry}
 use Rattle.carry.specs.CarriedInPlace.{leftBy, CarriedIn}

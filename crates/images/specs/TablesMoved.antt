@@ -13,8 +13,7 @@ use Rattle.table.specs.declared.Verdict.the-variants.{Accepted}
 use Rattle.table.specs.Rows.{vacant}
 use Rattle.memory.specs.Memory.{rowOf, isThere, rowsIn}
 use Rattle.memory.specs.Held.{heldIn}
-use Rattle.build.specs.Build.{answer}
-use Rattle.build.specs.InMemory.{InMemory}
+use Rattle.build.specs.Build.{answer, InMemory}
 use Rattle.image.specs.Image.{image}
 use Rattle.compare.specs.declared.Compared.the-variants.{Rises as PagesRise}
 use Rattle.compare.specs.Compare.{compared}

@@ -1,6 +1,6 @@
 // The nearest bit that matters. Pages come in, and are not written; the first result bit whose flip changes the answer goes out, or why there is
 // none.
-use collect::lawful::walk_pages;
+use collect::walk_pages;
 use flips::Flip;
 use masking::PLACES;
 use memory::REGISTERS;

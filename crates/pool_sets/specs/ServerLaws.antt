@@ -21,7 +21,7 @@ use Rattle.rows_checked.specs.Checked.{checkedRows, verdictOf}
 use Rattle.rows_checked.specs.CheckedLaws.{verdict-of}
 use Rattle.build.specs.Build as Build
 use Rattle.build.specs.Build.{editionVerdict, rowsFor, answer}
-use Rattle.build.specs.InMemory.{walked-rows}
+use Rattle.build.specs.InMemoryLaws.{walked-rows}
 use Rattle.pool_sets.specs.Server.{ServerIn}
 
 module _ (c : Choices) (s w o : List ℕ) where

@@ -1,6 +1,6 @@
 // One server of a pool by itself. Its pages and lent memory come in; building's verdict goes out and, where it accepts, the masked first entries and
 // where each stands are in the memory.
-use collect::lawful::walk_pages;
+use collect::walk_pages;
 use masking::PLACES;
 use memory::REGISTERS;
 use memory::clear;

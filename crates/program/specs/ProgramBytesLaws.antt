@@ -11,8 +11,7 @@ use Rattle.table.specs.declared.Verdict.{Verdict}
 use Rattle.table.specs.declared.Verdict.the-variants.{Accepted, Refused as NotBuilt}
 use Rattle.table.specs.Refusal.{Details, details}
 use Rattle.memory.specs.Held.{heldIn}
-use Rattle.build.specs.Build.{underEdition, answer}
-use Rattle.build.specs.InMemory.{BuiltPages}
+use Rattle.build.specs.Build.{underEdition, answer, BuiltPages}
 use Rattle.table.specs.declared.numbers.AnswerNumbers.{AnswerNumbers}
 use Rattle.table.specs.Numbers.{detailNumbers, refusalNumbers}
 use Rattle.buffer.specs.Front.{bytesOf}

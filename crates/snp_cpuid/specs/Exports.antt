@@ -3,7 +3,7 @@ use mathlib.Core.Bool.{Bool}
 use Prim.Native.Nat.{ℕ}
 use Rattle.table.specs.declared.Subleaf.{Subleaf}
 use Rattle.build.specs.declared.Built.{Built}
-use Rattle.collect.specs.declared.first_entry.FirstEntry.{FirstEntry}
+use Rattle.collect.specs.declared.FirstEntry.{FirstEntry}
 use Rattle.answers.specs.declared.SnpCpuidFound.{SnpCpuidFound}
 use Rattle.answers.specs.declared.SnpCpuidFirst.{SnpCpuidFirst}
 use Rattle.answers.specs.Answers.{foundAt, firstGiven}

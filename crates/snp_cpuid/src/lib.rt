@@ -77,7 +77,7 @@ pub extern "C" fn snp_cpuid_lookup(
 pub extern "C" fn snp_cpuid_first_entry(pages: &[u8], leaf: u32, subleaf: u32) -> SnpCpuidFirst
     ensures { λ r. ⌜ r ≡ firstNumbers (firstEntry (now (pages .entry)) (record { 0 = leaf }) subleaf) ⌝ }
 {
-    let first = collect::first_entry::first_entry(pages, CpuidFunction(leaf), subleaf);
+    let first = collect::first_entry(pages, CpuidFunction(leaf), subleaf);
     let verdict = first.verdict;
     first_numbers(verdict, first.origin)
 }

@@ -13,8 +13,7 @@ use Rattle.table.specs.declared.Verdict.the-variants.{Accepted}
 use Rattle.table.specs.Table.{rowIn}
 use Rattle.memory.specs.Memory.{layout}
 use Rattle.memory.specs.Held.{heldIn}
-use Rattle.build.specs.Build.{underEdition, answer}
-use Rattle.build.specs.InMemory.{TableIn}
+use Rattle.build.specs.Build.{underEdition, answer, TableIn}
 use Rattle.buffer.specs.Front.{writeFront, writeVerdict}
 use Rattle.image.specs.Image.{image}
 use Rattle.image.specs.Write.{write}

@@ -1,7 +1,7 @@
 -- `build::build_into` meets its contract: the memory is cleared before the walk, and after a refusal.
 use borrow.Author.Needs.{needs}
 use mathlib.Core.Path.{_≡_}
-use Rattle.build.specs.InMemory.{pages-accepted, refused-in-memory}
+use Rattle.build.specs.InMemoryLaws.{pages-accepted, refused-in-memory}
 use Rattle.build.proofs.build_into.Statement.{statement}
 use Rattle.build.proofs.build_into.Tie as tie
 

@@ -4,7 +4,7 @@ use mathlib.Core.Path.{_≡_, refl, sym, _∙_}
 use mathlib.Core.Bool.{true}
 use Rattle.table.specs.Edition.{knownEdition}
 use Rattle.build.specs.BuildLaws.{answer-unknown, answer-unlawful}
-use Rattle.build.specs.InMemory.{pages-refused, edition-known, answer-in-pages}
+use Rattle.build.specs.InMemoryLaws.{pages-refused, edition-known, answer-in-pages}
 use Rattle.build.proofs.build_pages.Statement.{statement}
 use Rattle.build.proofs.build_pages.Tie as tie
 

@@ -5,9 +5,9 @@ use mathlib.Core.Bool.{true}
 use Rattle.table.specs.declared.Verdict.the-variants.{Accepted}
 use Rattle.table.specs.Edition.{knownEdition}
 use Rattle.build.specs.declared.Built.{Built}
-use Rattle.build.specs.Build.{answer}
+use Rattle.build.specs.Build.{answer, InMemory}
 use Rattle.build.specs.BuildLaws.{answer-unknown, answer-unlawful}
-use Rattle.build.specs.InMemory.{InMemory, walked-rows, answer-in-memory, edition-known}
+use Rattle.build.specs.InMemoryLaws.{walked-rows, answer-in-memory, edition-known}
 use Rattle.compare.specs.CompareReturnLaws.{refused-a, unlawful-b, rows-compared}
 use Rattle.compare.specs.DecidesProof.{decided}
 use Rattle.compare.proofs.compare.Statement.{statement}

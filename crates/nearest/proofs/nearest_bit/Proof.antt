@@ -3,7 +3,7 @@ use borrow.Author.Needs.{needs}
 use mathlib.Core.Path.{_≡_, sym, _∙_}
 use mathlib.Core.Bool.{true}
 use Rattle.table.specs.Edition.{knownEdition}
-use Rattle.build.specs.InMemory.{walked-rows}
+use Rattle.build.specs.InMemoryLaws.{walked-rows}
 use Rattle.nearest.specs.NearestFrontLaws.{nearest-unknown, nearest-unlawful, nearest-searched}
 use Rattle.nearest.proofs.nearest_bit.Statement.{statement}
 use Rattle.nearest.proofs.nearest_bit.Tie as tie

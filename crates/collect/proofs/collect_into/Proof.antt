@@ -1,4 +1,4 @@
--- `collect::locate::collect_into` meets its contract: before each turn the entries that are left give what all give. The inner loop keeps to one page, so a turn of the outer one ends on a later page.
+-- `collect::collect_into` meets its contract: before each turn the entries that are left give what all give. The inner loop keeps to one page, so a turn of the outer one ends on a later page.
 use borrow.Author.Needs.{needs}
 use native.Mathlib.Omega.{arith}
 use mathlib.Core.Path.{sym, _∙_}
@@ -12,8 +12,8 @@ use Rattle.reader.specs.WalkLaws.{turn}
 use Rattle.reader.specs.ReadLaws.{read-entry}
 use Rattle.collect.specs.OriginsLaws.{number-fits}
 use Rattle.collect.specs.WalkingLaws.{Walking, walking-first, walking-last, walking-stops, AtEntry, walking-falls, walking-rises, walking-kept, walking-none, walking-new}
-use Rattle.collect.proofs.locate.collect_into.Statement.{statement}
-use Rattle.collect.proofs.locate.collect_into.Tie as tie
+use Rattle.collect.proofs.collect_into.Statement.{statement}
+use Rattle.collect.proofs.collect_into.Tie as tie
 
 abbrev Inv-loop2 : tie.InvT-loop2
 Inv-loop2 pages secure-avic registers₀ origins₀ kept n index₀ page registers origins index = Walking secure-avic pages registers origins index × (page ≤ index .«page_index»)

@@ -1,11 +1,11 @@
--- `collect::lawful::walk_pages` meets its contract: one return a case of the verdict, and where the pages are lawful, what the walk left in the arrays.
+-- `collect::walk_pages` meets its contract: one return a case of the verdict, and where the pages are lawful, what the walk left in the arrays.
 use mathlib.Core.Path.{sym, ap, _∙_}
 use borrow.Author.Needs.{needs}
 use Rattle.collect.specs.Lawful.{cleanVerdict}
 use Rattle.collect.specs.LawfulLaws.{lawful-bad-length, lawful-bad-count, lawful-reserved}
 use Rattle.collect.specs.WalkedPages.{refused-walk, accepted-walk}
-use Rattle.collect.proofs.lawful.walk_pages.Statement.{statement}
-use Rattle.collect.proofs.lawful.walk_pages.Tie as tie
+use Rattle.collect.proofs.walk_pages.Statement.{statement}
+use Rattle.collect.proofs.walk_pages.Tie as tie
 
 returns : tie.Need-returns
 returns c = refused-walk _ _ _ _ (lawful-bad-length _ (sym (c .before .bad-length .ensures) ∙ c .if1 .taken))

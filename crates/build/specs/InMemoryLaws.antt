@@ -1,5 +1,4 @@
--- The answer in lent memory: where the walk left the masked first entries and where they stand, `build_rows` leaves the answer of the pages, registers
--- and origins.
+-- Laws of the answer in lent memory: where the walk left the masked first entries and where they stand, `finish_rows` leaves the answer of the pages.
 use mathlib.Core.Path.{_≡_, refl, sym, ap, _∙_, subst}
 use mathlib.Core.Bool.{true}
 use mathlib.Core.List.{List, []}
@@ -29,20 +28,8 @@ use Rattle.rows_finished.specs.Finished.{Answered, Tried}
 use Rattle.rows_finished.specs.AnsweredLaws.{cleared, cleared-whole}
 use Rattle.build.specs.declared.Built.{Built}
 use Rattle.build.specs.Built.{withoutOrigins, notBuilt}
-use Rattle.build.specs.Build.{editionVerdict, rowsFor, answer}
+use Rattle.build.specs.Build.{editionVerdict, rowsFor, answer, InMemory, BuiltPages}
 use Rattle.build.specs.BuildLaws.{answer-of-rows, answer-refused, located-origins}
-
--- the memory w, o and the verdict v are the answer b: every word, and count and mask, which follow from the words
-pub record InMemory (b : Built) (v : Verdict) (w o : List ℕ) : Type 0 where
-  pub verdict : v ≡ b .verdict
-  pub registers : w ≡ layout (λ i. Tables.rowIn (b .table) i .result)
-  pub origins : o ≡ b .origins
-  pub table : heldIn w o ≡ b .table
-
--- the verdict v is that of the answer b and, where it accepts, the memory w, o is the answer; where it refuses, the memory is left open
-pub record BuiltPages (b : Built) (v : Verdict) (w o : List ℕ) : Type 0 where
-  pub verdict : v ≡ b .verdict
-  pub accepted : v ≡ Accepted → InMemory b v w o
 
 -- the two answers
 pub pages-refused : {r : Refusal} {b : Built} {w o : List ℕ} → notBuilt r ≡ b → BuiltPages b (Refused r) w o
@@ -97,7 +84,3 @@ module _ (c : Choices) (s w o : List ℕ) (a : length w ≡ 4 * places) (b : len
 pub edition-known : (n : ℕ) → knownEdition n ≡ true → editionVerdict n ≡ Accepted
 unfolding editionVerdict
 edition-known n e = rw e
-
--- the memory w, o holds the table of the answer b, and where its rows came from
-abbrev pub TableIn : Built → List ℕ → List ℕ → Type 0
-TableIn b w o = InMemory b (b .verdict) w o
