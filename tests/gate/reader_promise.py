@@ -13,30 +13,29 @@ import tempfile
 
 ROOT = Path(__file__).resolve().parents[2]
 
-WEAKER = 'readBy b (now (pages .entry)) index (incremented (now (pages .entry)) index)'
+WEAKER = 'readBy b (now (pages .entry)) index'
 # file, what stands there once, what takes its place
 CHANGES = (
     ('reader/src/lib.rt', 'ghost use mathlib.Core.Path.{_≡_};', 'ghost use mathlib.Core.Path.{_≡_};\nghost use mathlib.Core.Bool.{Bool};'),
     ('reader/src/lib.rt', 'specs.Read.{Readable, readAt};', 'specs.Read.{Readable, readAt, readBy};'),
-    ('reader/src/lib.rt', '    ensures { λ r. ⌜ r ≡ readAt (now (pages .entry)) index (incremented (now (pages .entry)) index) ⌝ }',
-     '    ensures { λ r. ⌜ ((b : Bool) × (r ≡ ' + WEAKER + ')) ⌝ }'),
-    ('reader/specs/Read.antt', 'unfoldable pub readAt :', 'abbrev pub readBy : Bool → List ℕ → CpuidPageIndex → CpuidPageIndex → Read\n'
-     'readBy b s i j = pick b (Read′.Entry (parsed (entryHere s i)) j) (Read′.Unclean (entryHere s i .leaf))\n\nunfoldable pub readAt :'),
+    ('reader/src/lib.rt', '    ensures { λ r. ⌜ r ≡ readAt (now (pages .entry)) index ⌝ }', '    ensures { λ r. ⌜ ((b : Bool) × (r ≡ ' + WEAKER + ')) ⌝ }'),
+    ('reader/specs/Read.antt', 'unfoldable pub readAt :', 'abbrev pub readBy : Bool → List ℕ → CpuidPageIndex → Read\n'
+     'readBy b s i = pick b (Read′.Entry (parsed (entryHere s i))) (Read′.Unclean (entryHere s i .leaf))\n\nunfoldable pub readAt :'),
     ('reader/specs/ReadLaws.antt', 'cleanHere, readAt, given}', 'cleanHere, readAt, readBy, given}'),
     ('reader/specs/ReadLaws.antt', '-- by each answer of the code\n',
-     'pub read-by : (s : List ℕ) (i j : CpuidPageIndex) → readAt s i j ≡ readBy (cleanHere s i) s i j\n'
-     'unfolding readAt\nread-by s i j = refl\n\n'
-     'pub by-clean : {b : Bool} (s : List ℕ) (i j : CpuidPageIndex) → b ≡ cleanHere s i → readBy b s i j ≡ readAt s i j\n'
-     'by-clean s i j e = ap (λ (c : Bool). readBy c s i j) e ∙ sym (read-by s i j)\n\n-- by each answer of the code\n'),
-    ('reader/proofs/take/Proof.antt', 'use mathlib.Core.Path.{_≡_, refl, sym, ap, subst}', 'use mathlib.Core.Path.{_≡_, refl, sym, ap, subst, _∙_}'),
-    ('reader/proofs/take/Proof.antt', 'specs.Read.{Readable, readAt}',
-     'specs.Read.{Readable, readAt, cleanHere}\nuse Rattle.reader.specs.ReadLaws.{read-by}'),
-    ('reader/proofs/take/Proof.antt', 'says ! e $', 'says ! (cleanHere (now s) i, e ∙ read-by (now s) i j) $'),
+     'pub read-by : (s : List ℕ) (i : CpuidPageIndex) → readAt s i ≡ readBy (cleanHere s i) s i\nunfolding readAt\nread-by s i = refl\n\n'
+     'pub by-clean : {b : Bool} (s : List ℕ) (i : CpuidPageIndex) → b ≡ cleanHere s i → readBy b s i ≡ readAt s i\n'
+     'by-clean s i e = ap (λ (c : Bool). readBy c s i) e ∙ sym (read-by s i)\n\n-- by each answer of the code\n'),
+    ('reader/proofs/take/Proof.antt', 'ReadLaws.{readable-within, clean-read, unclean-read}', 'ReadLaws.{readable-within, clean-read, unclean-read, read-by}'),
+    ('reader/proofs/take/Proof.antt', 'in clean-read _ _ (k .before .entry-at .ensures) (sym (k .clean-at .ensures) ∙ c .if1 .taken)',
+     'in (_, clean-read _ _ (k .before .entry-at .ensures) (sym (k .clean-at .ensures) ∙ c .if1 .taken) ∙ read-by _ _)'),
+    ('reader/proofs/take/Proof.antt', 'in unclean-read _ _ (k .before .entry-at .ensures) (sym (k .clean-at .ensures) ∙ c .before .if1 .left)',
+     'in (_, unclean-read _ _ (k .before .entry-at .ensures) (sym (k .clean-at .ensures) ∙ c .before .if1 .left) ∙ read-by _ _)'),
     ('collect/proofs/collect_into/Proof.antt', 'ReadLaws.{read-entry}', 'ReadLaws.{read-entry, by-clean}'),
     ('collect/proofs/collect_into/Proof.antt', '.read .given .1) ∙ k .take .ensures)',
-     '.read .given .1) ∙ k .take .ensures .1 ∙ by-clean {b = k .take .ensures .0} _ _ _ (search needs))'),
+     '.read .given .1) ∙ k .take .ensures .1 ∙ by-clean {b = k .take .ensures .0} _ _ (search needs))'),
     ('collect/proofs/collect_into/Proof.antt', '.read2 .given .1) ∙ k .take .ensures)',
-     '.read2 .given .1) ∙ k .take .ensures .1 ∙ by-clean {b = k .take .ensures .0} _ _ _ (search needs))'),
+     '.read2 .given .1) ∙ k .take .ensures .1 ∙ by-clean {b = k .take .ensures .0} _ _ (search needs))'),
 )
 
 

@@ -98,6 +98,3 @@ module _ (m : Rows) (x n k : ℕ) (l : 2 ≤ k) (e : n ≡ areaBelow m x k) wher
 
   pub area-ends : k ≤ 64 → n < 2 ^ 32 → x / 2 ^ k ≡ 0 → Bytes n ≡ sizeOf (saveArea m x)
   area-ends u h z = rw (area-stays m x k 64 u (none-from x k z), ← e) (fits n h)
-
-  pub area-complete : 64 ≤ k → k ≤ 64 → n < 2 ^ 32 → Bytes n ≡ sizeOf (saveArea m x)
-  area-complete u v h = let q : k ≡ 64 = omega arith in rw (← rw q at e) (fits n h)

@@ -111,9 +111,6 @@ module _ (m : Rows) (x k : ℕ) {used : Bool} (h : k < 64) (e : used ≡ has k x
   component-stops t =
       sym (scan-stops (supplied m x) missingComponent 64 k h (needed-missing (has k x) (m (Place.extendedState k) .present) (rw e at t)))
 
-pub components-end : (m : Rows) (x k : ℕ) → 64 ≤ k → Accepted ≡ componentsFrom m x k
-components-end m x k h = sym (scan-ends (supplied m x) missingComponent 64 k (λ i l u. absurd (omega arith)))
-
 -- no bit is left
 pub components-none : (m : Rows) (x k : ℕ) → x / 2 ^ k ≡ 0 → Accepted ≡ componentsFrom m x k
 components-none m x k z = sym (scan-ends (supplied m x) missingComponent 64 k (λ j l u. rw (none-from x k z j l)))

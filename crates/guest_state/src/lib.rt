@@ -107,20 +107,20 @@ fn compact_register(
     0
 }
 
-// The compacted area over any mask: at most 62 subleaves of less than 2^32 bytes and 63 bytes of alignment, so it never wraps.
+// The compacted area over any mask, of which `rest` is left from bit `k` up: at most 62 subleaves of less than 2^32 bytes and 63 bytes of
+// alignment, so it never wraps.
 fn compact_size(registers: &[u32; REGISTERS], origins: &[u64; PLACES], own: bool, mask: u64) -> u64
     ensures { λ r. ⌜ r ≡ compactSize (readRows own (now (registers .entry)) (now (origins .entry))) mask ⌝ }
 {
     let mut size: u64 = 576;
+    let mut rest = mask >> 2;
     let mut k: u32 = 2;
-    while k < 64 {
-        if mask >> k == 0 {
-            return size;
-        }
+    while rest != 0 {
         let place = place::EXTENDED_STATE_0 + k as usize;
         let subleaf = read_row(registers, origins, own, place);
-        let used = bits::has_bit64(mask, k);
+        let used = bits::has_bit64(rest, 0);
         size = place_component(used, subleaf, size);
+        rest = rest >> 1;
         k += 1;
     }
     size

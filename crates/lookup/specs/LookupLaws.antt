@@ -1,6 +1,6 @@
--- A lookup is one read, of the place that is asked for.
+-- The leaves with subleaves are those of the table of kept leaves; a lookup is one read, of the place that is asked for.
 use mathlib.Core.Path.{_≡_, refl, sym, ap, _∙_}
-use mathlib.Core.Bool.{Bool, true, false}
+use mathlib.Core.Bool.{Bool, true, false, _&&_}
 use Prim.Native.Nat.{ℕ, _≤_, _<_}
 use lib.Dec.{ltb}
 use lib.ListN.{length, replicate, length-replicate, getD-replicate, List·getD-eq-default}
@@ -22,35 +22,41 @@ use Rattle.table.specs.Table.{rowIn, emptyTable}
 use Rattle.lookup.specs.declared.LeafResult.the-variants.{None as Nothing}
 use Rattle.lookup.specs.Lookup.{withSubleaves, placeWhole, placeAsked, rowResult, lookup}
 
--- ---- the leaves with subleaves, by the place of their subleaf 0
+-- ---- the leaves with subleaves are those of the table of kept leaves
 
 -- a leaf of the table has subleaves where its rows carry one
-subleaves-at : (i : ℕ) → i < places → indexedAt i ≡ withSubleaves (leafAt i)
+subleaves-at : (i : ℕ) → i < places → withSubleaves (leafAt i) ≡ indexedAt i
 unfolding withSubleaves slot keptLeaves tabulate
-subleaves-at i h = tabulate-at places indexedAt (λ i. withSubleaves (leafAt i)) refl i h
+subleaves-at i h = tabulate-at places (λ i. withSubleaves (leafAt i)) indexedAt refl i h
 
-module _ (l : CpuidFunction) (p : ℕ) (at : p ≡ placeOf l 0) where
-  pub subleaves-placed : p < places → indexedAt p ≡ withSubleaves l
-  subleaves-placed h = subleaves-at p h ∙ ap withSubleaves (entry-belongs l 0 p (sym at) h .leaf)
-
-  -- a leaf whose subleaf 0 has a place is not one that has none
-  elsewhere : places ≤ p → (m : CpuidFunction) → ltb (placeOf m 0) places ≡ true → sameFunction l m ≡ false
-  elsewhere h m c = go (sameFunction l m) refl
+module _ (l : CpuidFunction) where
+  -- a leaf whose subleaf 0 has no place is none whose subleaf 0 has one
+  unplaced : places ≤ placeOf l 0 → (m : CpuidFunction) → ltb (placeOf m 0) places ≡ true → sameFunction l m ≡ false
+  unplaced h m c = go (sameFunction l m) refl
     where
       go : (b : Bool) → sameFunction l m ≡ b → b ≡ false
       go true e =
           let same : placeOf l 0 ≡ placeOf m 0 = ap (λ (n : ℕ). placeOf (function n) 0) (eqb-true (l .0) (m .0) e) in
-          absurd (omega (arith, same, at, ltb-true (placeOf m 0) places c))
+          absurd (omega (arith, same, ltb-true (placeOf m 0) places c))
       go false e = refl
 
-  pub subleaves-unplaced : places ≤ p → false ≡ withSubleaves l
+  -- so a leaf has subleaves exactly where the place of its subleaf 0 carries one
+  pub subleaves-kept : withSubleaves l ≡ (ltb (placeOf l 0) places && indexedAt (placeOf l 0))
   unfolding withSubleaves placeOf keptLeaves
-  subleaves-unplaced h =
-      let a = elsewhere h ExtendedFeatures refl in
-      let b = elsewhere h ExtendedTopologyEnumeration refl in
-      let c = elsewhere h ExtendedStateEnumeration refl in
-      let d = elsewhere h CacheTopologyDefinition refl in
-      rw (a, b, c, d)
+  subleaves-kept = go (ltb (placeOf l 0) places) refl
+    where
+      go : (b : Bool) → ltb (placeOf l 0) places ≡ b → withSubleaves l ≡ (b && indexedAt (placeOf l 0))
+      go true e =
+          let h : placeOf l 0 < places = ltb-true (placeOf l 0) places e in
+          sym (ap withSubleaves (entry-belongs l 0 (placeOf l 0) refl h .leaf)) ∙ subleaves-at (placeOf l 0) h
+      go false e =
+          let h : places ≤ placeOf l 0 = ltb-false (placeOf l 0) places e in
+          rw (
+            unplaced h ExtendedFeatures refl,
+            unplaced h ExtendedTopologyEnumeration refl,
+            unplaced h ExtendedStateEnumeration refl,
+            unplaced h CacheTopologyDefinition refl,
+          )
 
 -- ---- the place that is asked for
 

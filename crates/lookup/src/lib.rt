@@ -72,15 +72,18 @@ pub fn place_asked(leaf: CpuidFunction, subleaf: Subleaf, enforce_subleaf: bool)
     }
 }
 
-// Whether a leaf has subleaves: each that has them has subleaf 0.
+// Whether a leaf has subleaves, by its number: four leaves of the table do.
 fn with_subleaves(leaf: CpuidFunction) -> bool
     ensures { λ r. ⌜ r ≡ withSubleaves leaf ⌝ }
 {
-    let place = masking::place_of(leaf, 0);
-    if place < PLACES {
-        return masking::indexed_at(place);
+    let n = leaf.0;
+    match n {
+        leaf::EXTENDED_FEATURES => true,
+        leaf::EXTENDED_TOPOLOGY_ENUMERATION => true,
+        leaf::EXTENDED_STATE_ENUMERATION => true,
+        leaf::CACHE_TOPOLOGY_DEFINITION => true,
+        _ => false,
     }
-    false
 }
 
 // The place of a leaf without subleaves, the two made here included; 88 where no table has it.
