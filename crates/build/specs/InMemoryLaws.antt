@@ -54,7 +54,7 @@ refused-in-memory c s {r} {v} {w} {o} k e d =
 module _ (c : Choices) (s w o : List ℕ) (a : length w ≡ 4 * places) (b : length o ≡ places) {r : Verdict}
     (k : WalkedPages (c .«secure_avic») s r w o) (z : r ≡ Accepted) where
   pub walked-rows : rowsIn w o ≡ rowsFor c s
-  walked-rows = sym (rows-in w o a b) ∙ ap Tables.rowsIn (walked-table (c .«secure_avic») s w o k z refl) ∙ collected-rows (c .«secure_avic») s
+  walked-rows = sym (rows-in w o a b) ∙ ap Tables.rowsOfTable (walked-table (c .«secure_avic») s w o k z refl) ∙ collected-rows (c .«secure_avic») s
 
   answered-rows : editionVerdict (c .edition) ≡ Accepted → builtFrom (c .edition) (rowsIn w o) ≡ withoutOrigins (answer c s)
   answered-rows e = ap (builtFrom (c .edition)) walked-rows ∙ sym (answer-of-rows c s e (sym (k .verdict) ∙ z))

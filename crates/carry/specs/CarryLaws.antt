@@ -13,7 +13,7 @@ use Rattle.x86defs.specs.Functions.{result}
 use Rattle.masking.specs.Kept.{places}
 use Rattle.table.specs.declared.CpuidResults.{CpuidResults}
 use Rattle.table.specs.Rows.{Row, Rows}
-use Rattle.table.specs.Table.{rowIn, rowsIn}
+use Rattle.table.specs.Table.{rowIn, rowsOfTable}
 use Rattle.features.specs.Finish.{edition1, edition2}
 use Rattle.carry.specs.Carry.{f16c, xopAndFma4, withoutBits, carriedAt, carriedTable}
 
@@ -48,4 +48,4 @@ pub cleared : (t : CpuidResults) (keep : Bool) {version extended : CpuidResult} 
 cleared t keep {version} {extended} n e f =
     let whole : t .results ≡ tabulate places (λ i. rowIn t i .result) = tabulated places _ (t .results) (result 0 0 0 0) n (λ i l. refl) in
     ap (λ (l : List CpuidResult). tableWith t l)
-    (rw (e, f, ← f16c-mask, ← xop-and-fma4-mask) (ap (λ (l : List CpuidResult). storing keep (rowsIn t) l) whole ∙ stores keep (rowsIn t)))
+    (rw (e, f, ← f16c-mask, ← xop-and-fma4-mask) (ap (λ (l : List CpuidResult). storing keep (rowsOfTable t) l) whole ∙ stores keep (rowsOfTable t)))

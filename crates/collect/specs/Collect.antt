@@ -29,7 +29,7 @@ use Rattle.masking.specs.MaskTable.{table, noRow, masksOf, rowOfPlace}
 use Rattle.masking.specs.KeptTableLaws.{masks-of-row}
 use Rattle.table.specs.declared.CpuidResults.{CpuidResults}
 use Rattle.table.specs.Rows.{Row, row, vacant}
-use Rattle.table.specs.Table.{emptyTable, rowIn, rowsIn}
+use Rattle.table.specs.Table.{emptyTable, rowIn, rowsOfTable}
 use Rattle.collect.specs.FirstEntriesLaws.{row-of-place, row-beyond}
 use Rattle.collect.specs.FirstEntries.{placeOfEntry, firstAt, setLegacy, maskedAt, maskRow, rowsOf}
 
@@ -313,7 +313,7 @@ unfolding insertAll
 collecting-last avic s t i c h = sym (ap (insertAll avic t) (rest-end s i h)) ∙ c .left
 
 -- the collected table's rows are the masked first entries, at every number
-pub collected-rows : (avic : Bool) (s : List ℕ) → rowsIn (collected avic s) ≡ rowsOf avic s
+pub collected-rows : (avic : Bool) (s : List ℕ) → rowsOfTable (collected avic s) ≡ rowsOf avic s
 unfolding collected
 collected-rows avic s = fun-ext (λ i. go i (ltb i places) refl)
   where

@@ -20,13 +20,13 @@ use Rattle.build.specs.Build.{rowsFor, answer}
 use Rattle.collect.specs.Lawful.{lawfulVerdict}
 use Rattle.rise.specs.Decide.{risesTest, placeTest, inTable}
 use Rattle.register_kinds.specs.declared.Register.{Register}
-use Rattle.register_kinds.specs.Registers.{registersRise, firstOf, subleafNamed}
+use Rattle.register_kinds.specs.Registers.{registersRise, firstToFail, subleafNamed}
 use Rattle.compare.specs.declared.Compared.{Compared}
 use Rattle.compare.specs.declared.Compared.the-variants.{Rises, RefusedA, UnlawfulB, NoEntry, Differs}
 
 -- the first register that fails
 abbrev pub firstRegister : Kinds → CpuidResult → CpuidResult → Register
-firstRegister k a b = firstOf (registersRise risesTest k a b)
+firstRegister k a b = firstToFail (registersRise risesTest k a b)
 
 -- what fails at place i: "a first counted entry", then its registers
 abbrev pub failingOf : ℕ → CpuidResult → Row → Compared

@@ -29,7 +29,7 @@ use Rattle.compare.specs.declared.Compared.{Compared}
 use Rattle.compare.specs.declared.Compared.the-variants.{Rises, RefusedA, UnlawfulB, NoEntry, Differs}
 use Rattle.compare.specs.Compare.{firstRegister, failingAt, firstFailing, afterA, afterB, comparedRows, compared}
 use Rattle.compare.specs.CompareReturnLaws.{with-verdicts, refused-a}
-use Rattle.compare.specs.Means.{Reached, Means, Decides}
+use Rattle.compare.specs.Means.{Reached, AnswerMeans, Decides}
 use Rattle.register_kinds.specs.Registers.{order, valueOf, kindOf, subleafNamed}
 use Rattle.register_kinds.specs.RegistersLaws.{is-false, register-fails, registers-before, first-unique}
 
@@ -90,14 +90,14 @@ module _ (chosen : Choices) (a b : List ℕ) where
           before = λ j l f p. place-rises (inTable chosen a) A B j (h .before j zero-le l) f p;
         }
 
-    failing : (i : ℕ) → Lowest test 0 places i → Means chosen a b (failingAt A B i)
+    failing : (i : ℕ) → Lowest test 0 places i → AnswerMeans chosen a b (failingAt A B i)
     failing i h = go (B i .present) refl
       where
         fails : (B i .present && registersTest (kindsAt i) (A i .result) (B i .result)) ≡ false
         fails = if-fails (fromEntry (ruleAt i) && inTable chosen a i) _ (h .fails) .1
 
         go : (p : Bool) → B i .present ≡ p
-            → Means chosen a b
+            → AnswerMeans chosen a b
             (pick p (Differs (leafAt i) (subleafNamed i) (firstRegister (kindsAt i) (A i .result) (B i .result)))
             (NoEntry (leafAt i) (subleafNamed i)))
         go true e = record {
@@ -109,7 +109,7 @@ module _ (chosen : Choices) (a b : List ℕ) where
         }
         go false e = record { place = i; reached = reached i h; absent = e }
 
-    rows-mean : (f : Failing) → lowest test 0 places ≡ f → Means chosen a b (firstFailing f (failingAt A B))
+    rows-mean : (f : Failing) → lowest test 0 places ≡ f → AnswerMeans chosen a b (firstFailing f (failingAt A B))
     rows-mean (at i) e = failing i (lowest-at test 0 places i e)
     rows-mean none e =
         let rises : Hypothesis chosen a b = record {
@@ -119,12 +119,12 @@ module _ (chosen : Choices) (a b : List ℕ) where
         } in
         (rises, demand-3 chosen a b rises)
 
-  means : Means chosen a b (compared chosen a b)
+  means : AnswerMeans chosen a b (compared chosen a b)
   unfolding compared comparedRows
   means = go (answer chosen a .verdict) refl (lawfulVerdict b) refl
     where
       go : (v : Verdict) → answer chosen a .verdict ≡ v → (w : Verdict) → lawfulVerdict b ≡ w
-          → Means chosen a b (afterA v (afterB w (comparedRows (inTable chosen a) A B)))
+          → AnswerMeans chosen a b (afterA v (afterB w (comparedRows (inTable chosen a) A B)))
       go (Refused r) e w f = e
       go Accepted e (Refused r) f = (e, f)
       go Accepted e Accepted f = rows-mean e f (lowest test 0 places) refl
@@ -156,7 +156,7 @@ module _ (chosen : Choices) (a b : List ℕ) where
         with-verdicts chosen a b (h .accepted) (h .lawful)
         ∙ ap (λ (f : Failing). firstFailing f (failingAt A B)) (found (lowest test 0 places) refl)
 
-  exact : (c : Compared) → Means chosen a b c → compared chosen a b ≡ c
+  exact : (c : Compared) → AnswerMeans chosen a b c → compared chosen a b ≡ c
   exact Rises m = complete (m .0)
   exact (RefusedA r) m = sym (refused-a chosen a b m)
   exact (UnlawfulB r) m = with-verdicts chosen a b (m .0) (m .1)

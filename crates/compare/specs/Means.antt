@@ -51,16 +51,16 @@ pub record FirstDiffering (chosen : Choices) (a b : List ℕ) (leaf : CpuidFunct
   pub registersBefore : (q : Register) → order q < order register → RegisterRises place (rowsFor chosen a place) (rowsFor chosen b place) q
 
 -- a yes says that the hypothesis of demand 3 holds, and with the theorem what B's table will have
-abbrev pub Means : Choices → List ℕ → List ℕ → Compared → Type 0
-Means chosen a b Rises = Hypothesis chosen a b × RiseConclusion chosen a b
-Means chosen a b (RefusedA r) = answer chosen a .verdict ≡ Refused r
-Means chosen a b (UnlawfulB r) = (answer chosen a .verdict ≡ Accepted) × (lawfulVerdict b ≡ Refused r)
-Means chosen a b (NoEntry leaf subleaf) = FirstAbsent chosen a b leaf subleaf
-Means chosen a b (Differs leaf subleaf register) = FirstDiffering chosen a b leaf subleaf register
+abbrev pub AnswerMeans : Choices → List ℕ → List ℕ → Compared → Type 0
+AnswerMeans chosen a b Rises = Hypothesis chosen a b × RiseConclusion chosen a b
+AnswerMeans chosen a b (RefusedA r) = answer chosen a .verdict ≡ Refused r
+AnswerMeans chosen a b (UnlawfulB r) = (answer chosen a .verdict ≡ Accepted) × (lawfulVerdict b ≡ Refused r)
+AnswerMeans chosen a b (NoEntry leaf subleaf) = FirstAbsent chosen a b leaf subleaf
+AnswerMeans chosen a b (Differs leaf subleaf register) = FirstDiffering chosen a b leaf subleaf register
 
 -- The answer means what it says, and no other answer does: it is c if and only if Means .. c holds. So it is yes if and only if the
 -- hypothesis holds.
 pub record Decides (chosen : Choices) (a b : List ℕ) (r : Compared) : Type 0 where
-  pub means : Means chosen a b r
-  pub exact : (c : Compared) → Means chosen a b c → r ≡ c
+  pub means : AnswerMeans chosen a b r
+  pub exact : (c : Compared) → AnswerMeans chosen a b c → r ≡ c
   pub complete : Hypothesis chosen a b → r ≡ Rises

@@ -4,7 +4,7 @@ use mathlib.Core.List.{List, _++_}
 use Prim.Native.Nat.{ℕ}
 use Rattle.table.specs.declared.Refusal.the-variants.{PoolDiffers}
 use Rattle.table.specs.declared.Verdict.the-variants.{Refused}
-use Rattle.page_sets.specs.Evaluation.{first}
+use Rattle.page_sets.specs.Evaluation.{firstEdition}
 use Rattle.page_sets.specs.PageSets.{entry, page, requiredEntries, serverA}
 use Rattle.pool.specs.Pool.{pooled}
 use Rattle.examples.specs.PoolPassed.{poolOpened, pool-passed}
@@ -17,6 +17,6 @@ serverM =
     ++ page 3 (entry 0xD 0 0x7 0x340 0x340 0 ++ entry 0xD 1 0x7 0x340 0 0 ++ entry 0xD 2 0x100 0x240 0 0)
 
 -- 19: bit 28 of 1.EDX, which is no feature
-pub a-and-m : pooled first (serverA ++ serverM) two .verdict ≡ Refused PoolDiffers
+pub a-and-m : pooled firstEdition (serverA ++ serverM) two .verdict ≡ Refused PoolDiffers
 unfolding poolOpened serverA serverM
-a-and-m = pool-passed first (serverA ++ serverM) two
+a-and-m = pool-passed firstEdition (serverA ++ serverM) two

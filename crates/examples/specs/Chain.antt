@@ -16,43 +16,43 @@ use Rattle.rise.specs.Preorder.{rises-compose}
 use Rattle.rise.specs.Levels.{AcceptedLevels, accepted-levels}
 use Rattle.page_sets.specs.PageSets.{entry, withFirst, serverA, serverB, serverW}
 use Rattle.page_sets.specs.PassLaws.{lawful-passed, verdict-passed, table-passed}
-use Rattle.page_sets.specs.Evaluation.{first, passed}
+use Rattle.page_sets.specs.Evaluation.{firstEdition, passed}
 use Rattle.examples.specs.RisePassed.{rises-passed}
 use Rattle.examples.specs.Computed.{serverB-rises}
 
 -- ---- servers W, A and B
 
-pub w-accepted : answer first serverW .verdict ≡ Accepted
+pub w-accepted : answer firstEdition serverW .verdict ≡ Accepted
 unfolding passed serverW
-w-accepted = verdict-passed first serverW
+w-accepted = verdict-passed firstEdition serverW
 
-pub w-to-a : RiseHypothesis first serverW serverA
+pub w-to-a : RiseHypothesis firstEdition serverW serverA
 unfolding passed serverW serverA
-w-to-a = rises-passed first serverW serverA w-accepted (lawful-passed serverA) refl
+w-to-a = rises-passed firstEdition serverW serverA w-accepted (lawful-passed serverA) refl
 
 -- x87 and SSE state alone; A has 7, B 18E7h (Computed.antt, `masks`)
-pub w-mask : answer first serverW .table .«max_extended_state» ≡ 0x3
+pub w-mask : answer firstEdition serverW .table .«max_extended_state» ≡ 0x3
 unfolding passed serverW
-w-mask = ap (λ (t : CpuidResults). t .«max_extended_state») (table-passed first serverW w-accepted)
+w-mask = ap (λ (t : CpuidResults). t .«max_extended_state») (table-passed firstEdition serverW w-accepted)
 
-pub w-to-b : RiseHypothesis first serverW serverB
-w-to-b = rises-compose first serverW serverA serverB w-to-a serverB-rises
+pub w-to-b : RiseHypothesis firstEdition serverW serverB
+w-to-b = rises-compose firstEdition serverW serverA serverB w-to-a serverB-rises
 
 -- ---- s = 8: 256 processors, a shift of 8, and one thread a core
 
 unfoldable pub eight : List ℕ
 eight = withFirst (entry 0x80000008 0 0x3030 0x111ED21F 0x8000 0x10007)
 
-pub eight-accepted : answer first eight .verdict ≡ Accepted
+pub eight-accepted : answer firstEdition eight .verdict ≡ Accepted
 unfolding passed eight
-eight-accepted = verdict-passed first eight
+eight-accepted = verdict-passed firstEdition eight
 
-pub eight-levels : AcceptedLevels (inputsOf (rowsFor first eight)) (answer first eight .table)
-eight-levels = accepted-levels first eight eight-accepted
+pub eight-levels : AcceptedLevels (inputsOf (rowsFor firstEdition eight)) (answer firstEdition eight .table)
+eight-levels = accepted-levels firstEdition eight eight-accepted
 
 abbrev pub levelsOf : CpuidResults → List CpuidResult
 levelsOf t = rowIn t Place.threadLevel .result ∷ rowIn t Place.coreLevel .result ∷ []
 
-pub eight-figures : levelsOf (answer first eight .table) ≡ result 0 1 0x100 0 ∷ result 8 256 0x201 0 ∷ []
+pub eight-figures : levelsOf (answer firstEdition eight .table) ≡ result 0 1 0x100 0 ∷ result 8 256 0x201 0 ∷ []
 unfolding passed eight
-eight-figures = ap levelsOf (table-passed first eight eight-accepted)
+eight-figures = ap levelsOf (table-passed firstEdition eight eight-accepted)

@@ -8,7 +8,7 @@ use Rattle.bits.specs.Bits.{bit, has}
 use Rattle.x86defs.specs.Functions.{result}
 use Rattle.masking.specs.Place
 use Rattle.table.specs.Rows.{Rows, row, vacant}
-use Rattle.guest_state.specs.Compact.{startOf, placed, compactBelow, compactSize}
+use Rattle.guest_state.specs.Compact.{componentStart, placed, compactBelow, compactSize}
 
 -- D.2 of 256 bytes, D.9 of 8 bytes, D.11 of 16 bytes, D.12 of 24 bytes aligned to 64, D.62 of 2^32 - 577 bytes, D.63 of no bytes aligned to 64
 unfoldable pub rows : Rows
@@ -34,5 +34,5 @@ sizes =
 -- 576; +256 = 832; +8 = 840; +16 = 856; raised to 896, +24 = 920; 832 is a multiple of 64, +24 = 856; the largest that is given; its end
 -- raised to a multiple of 64 for a subleaf of no bytes
 pub sizes-are : sizes ≡ 576 ∷ 832 ∷ 840 ∷ 856 ∷ 920 ∷ 856 ∷ 0xFFFFFFFF ∷ 0x100000000 ∷ []
-unfolding sizes rows compactBelow placed startOf has bit
+unfolding sizes rows compactBelow placed componentStart has bit
 sizes-are = refl

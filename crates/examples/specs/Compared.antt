@@ -22,7 +22,7 @@ use Rattle.compare.specs.DecidesProof.{decides}
 use Rattle.page_sets.specs.PageSets.{serverA, serverB, serverWithoutD12, serverWithLargeD6}
 use Rattle.page_sets.specs.Pass.{passedFor, passedTable}
 use Rattle.page_sets.specs.PassLaws.{lawful-passed, rows-passed, table-passed}
-use Rattle.page_sets.specs.Evaluation.{first, passed}
+use Rattle.page_sets.specs.Evaluation.{firstEdition, passed}
 use Rattle.examples.specs.Computed.{serverA-accepted, serverB-rises, serverB-accepted, large-refused}
 
 -- of entries that are read in one pass, where A is accepted and B lawful
@@ -34,24 +34,24 @@ module _ (c : Choices) (a b : List ℕ) (accepted : answer c a .verdict ≡ Acce
       ∙ ap (comparedRows (hasRow (passedTable c a)) (passedFor c a)) (rows-passed (c .«secure_avic») b)
 
 -- a guest of A may move to B
-pub a-to-b : compared first serverA serverB ≡ Rises
-a-to-b = decides first serverA serverB .complete serverB-rises
+pub a-to-b : compared firstEdition serverA serverB ≡ Rises
+a-to-b = decides firstEdition serverA serverB .complete serverB-rises
 
 -- not back: B's 1.ECX has more
-pub b-to-a : compared first serverB serverA ≡ Differs VersionAndFeatures None Ecx
+pub b-to-a : compared firstEdition serverB serverA ≡ Differs VersionAndFeatures None Ecx
 unfolding passed comparedRows serverA serverB
-b-to-a = compared-passed first serverB serverA serverB-accepted (lawful-passed serverA)
+b-to-a = compared-passed firstEdition serverB serverA serverB-accepted (lawful-passed serverA)
 
 -- B's table has D.12
-pub b-to-without-d12 : compared first serverB serverWithoutD12 ≡ NoEntry ExtendedStateEnumeration (Some 12)
+pub b-to-without-d12 : compared firstEdition serverB serverWithoutD12 ≡ NoEntry ExtendedStateEnumeration (Some 12)
 unfolding passed comparedRows serverB serverWithoutD12
-b-to-without-d12 = compared-passed first serverB serverWithoutD12 serverB-accepted (lawful-passed serverWithoutD12)
+b-to-without-d12 = compared-passed firstEdition serverB serverWithoutD12 serverB-accepted (lawful-passed serverWithoutD12)
 
 -- a server that is refused has no guest
-pub from-large-d6 : compared first serverWithLargeD6 serverB ≡ RefusedA SaveAreaOverflow
-from-large-d6 = sym (refused-a first serverWithLargeD6 serverB large-refused)
+pub from-large-d6 : compared firstEdition serverWithLargeD6 serverB ≡ RefusedA SaveAreaOverflow
+from-large-d6 = sym (refused-a firstEdition serverWithLargeD6 serverB large-refused)
 
 -- no pages at all
-pub a-to-none : compared first serverA [] ≡ UnlawfulB PagesLength
+pub a-to-none : compared firstEdition serverA [] ≡ UnlawfulB PagesLength
 unfolding badLength
-a-to-none = sym (unlawful-b first serverA [] serverA-accepted (sym (lawful-bad-length [] refl)))
+a-to-none = sym (unlawful-b firstEdition serverA [] serverA-accepted (sym (lawful-bad-length [] refl)))

@@ -6,10 +6,10 @@ use Prim.Native.Nat.{ℕ}
 use Rattle.bits.specs.ChoiceLaws.{never-both}
 use Rattle.table.specs.declared.CpuidResults.{CpuidResults}
 use Rattle.table.specs.declared.Verdict.the-variants.{Accepted}
-use Rattle.table.specs.Table.{rowsIn}
+use Rattle.table.specs.Table.{rowsOfTable}
 use Rattle.build.specs.Build.{answer}
 use Rattle.page_sets.specs.PageSets.{serverA, serverB, serverW}
-use Rattle.page_sets.specs.Evaluation.{first}
+use Rattle.page_sets.specs.Evaluation.{firstEdition}
 use Rattle.guest_state.specs.State.{stateVerdict}
 use Rattle.guest.specs.declared.Processor.{Processor}
 use Rattle.guest.specs.declared.GuestAnswer.{GuestAnswer}
@@ -33,41 +33,41 @@ risen : {a : CpuidResults} {g : GuestAnswer} → compactsIn a ≡ true → Guest
 risen c (given e t) = t
 risen c (tooLarge d e) = absurd (never-both c d)
 
-module _ (s : List ℕ) (accepted : answer first s .verdict ≡ Accepted) (state : stateVerdict (rowsIn (built first s)) 0x3 0 ≡ Accepted)
-    (compacts : compactsIn (guestTable (built first s) viewW) ≡ true) where
-  is-given : guestPages first s viewW .verdict ≡ Accepted
-  is-given = seen-verdict first s viewW accepted state
+module _ (s : List ℕ) (accepted : answer firstEdition s .verdict ≡ Accepted) (state : stateVerdict (rowsOfTable (built firstEdition s)) 0x3 0 ≡ Accepted)
+    (compacts : compactsIn (guestTable (built firstEdition s) viewW) ≡ true) where
+  is-given : guestPages firstEdition s viewW .verdict ≡ Accepted
+  is-given = seen-verdict firstEdition s viewW accepted state
 
-  compacts-seen : compactsIn (guestPages first s viewW .table) ≡ true
+  compacts-seen : compactsIn (guestPages firstEdition s viewW .table) ≡ true
   compacts-seen =
-      ap compactsIn (given-guest first s viewW accepted is-given ∙ ap (λ (t : CpuidResults). guestTable t viewW) (answer-table first s accepted))
+      ap compactsIn (given-guest firstEdition s viewW accepted is-given ∙ ap (λ (t : CpuidResults). guestTable t viewW) (answer-table firstEdition s accepted))
       ∙ compacts
 
-state-w : stateVerdict (rowsIn (built first serverW)) 0x3 0 ≡ Accepted
+state-w : stateVerdict (rowsOfTable (built firstEdition serverW)) 0x3 0 ≡ Accepted
 unfolding viewed serverW
-state-w = state-passed first serverW 0x3 0
+state-w = state-passed firstEdition serverW 0x3 0
 
-compacts-w : compactsIn (guestTable (built first serverW) viewW) ≡ true
+compacts-w : compactsIn (guestTable (built firstEdition serverW) viewW) ≡ true
 unfolding viewed serverW
-compacts-w = ap (λ (t : CpuidResults). compactsIn (guestTable t viewW)) (built-passed first serverW)
+compacts-w = ap (λ (t : CpuidResults). compactsIn (guestTable t viewW)) (built-passed firstEdition serverW)
 
-state-a : stateVerdict (rowsIn (built first serverA)) 0x3 0 ≡ Accepted
+state-a : stateVerdict (rowsOfTable (built firstEdition serverA)) 0x3 0 ≡ Accepted
 unfolding viewed serverA
-state-a = state-passed first serverA 0x3 0
+state-a = state-passed firstEdition serverA 0x3 0
 
-compacts-a : compactsIn (guestTable (built first serverA) viewW) ≡ true
+compacts-a : compactsIn (guestTable (built firstEdition serverA) viewW) ≡ true
 unfolding viewed serverA
-compacts-a = ap (λ (t : CpuidResults). compactsIn (guestTable t viewW)) (built-passed first serverA)
+compacts-a = ap (λ (t : CpuidResults). compactsIn (guestTable t viewW)) (built-passed firstEdition serverA)
 
-pub w-to-a-risen : GuestTableRises (guestPages first serverW viewW .table) (guestPages first serverA viewW .table)
+pub w-to-a-risen : GuestTableRises (guestPages firstEdition serverW viewW .table) (guestPages firstEdition serverA viewW .table)
 w-to-a-risen =
     risen (compacts-seen serverW w-accepted state-w compacts-w)
-    (guest-rise first serverW serverA viewW w-to-a serverA-accepted (is-given serverW w-accepted state-w compacts-w))
+    (guest-rise firstEdition serverW serverA viewW w-to-a serverA-accepted (is-given serverW w-accepted state-w compacts-w))
 
-pub a-to-b-risen : GuestTableRises (guestPages first serverA viewW .table) (guestPages first serverB viewW .table)
+pub a-to-b-risen : GuestTableRises (guestPages firstEdition serverA viewW .table) (guestPages firstEdition serverB viewW .table)
 a-to-b-risen =
     risen (compacts-seen serverA serverA-accepted state-a compacts-a)
-    (guest-rise first serverA serverB viewW serverB-rises serverB-accepted (is-given serverA serverA-accepted state-a compacts-a))
+    (guest-rise firstEdition serverA serverB viewW serverB-rises serverB-accepted (is-given serverA serverA-accepted state-a compacts-a))
 
-pub w-to-b-risen : GuestTableRises (guestPages first serverW viewW .table) (guestPages first serverB viewW .table)
+pub w-to-b-risen : GuestTableRises (guestPages firstEdition serverW viewW .table) (guestPages firstEdition serverB viewW .table)
 w-to-b-risen = guest-rises-compose _ _ _ w-to-a-risen a-to-b-risen

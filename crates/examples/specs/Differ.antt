@@ -4,7 +4,7 @@ use mathlib.Core.List.{List, [], _∷_, _++_}
 use Prim.Native.Nat.{ℕ}
 use Rattle.table.specs.declared.Refusal.the-variants.{PoolDiffers}
 use Rattle.table.specs.declared.Verdict.the-variants.{Accepted, Refused}
-use Rattle.page_sets.specs.Evaluation.{first}
+use Rattle.page_sets.specs.Evaluation.{firstEdition}
 use Rattle.page_sets.specs.PageSets.{entry, page, firstPage, serverA, serverW}
 use Rattle.pool.specs.Pool.{pooled}
 use Rattle.examples.specs.PoolPassed.{poolOpened, pool-passed}
@@ -20,12 +20,12 @@ serverD =
     ++ page 3 (entry 0xD 0 0x7 0x340 0x340 0 ++ entry 0xD 1 0x7 0x340 0 0 ++ entry 0xD 2 0x101 0x240 0 0)
 
 -- 19: another size of D.2, which both tables have
-pub a-and-d : pooled first (serverA ++ serverD) two .verdict ≡ Refused PoolDiffers
+pub a-and-d : pooled firstEdition (serverA ++ serverD) two .verdict ≡ Refused PoolDiffers
 unfolding poolOpened serverA serverD
-a-and-d = pool-passed first (serverA ++ serverD) two
+a-and-d = pool-passed firstEdition (serverA ++ serverD) two
 
 -- accepted with a third server, whose table has no D.2: one server more gives rows to a refused pool that had none, so document 02's "Joining one
 -- server more .. never adds a feature bit or a row" holds only where both pools are accepted
-pub a-and-d-and-w : pooled first (serverA ++ serverD ++ serverW) three .verdict ≡ Accepted
+pub a-and-d-and-w : pooled firstEdition (serverA ++ serverD ++ serverW) three .verdict ≡ Accepted
 unfolding poolOpened serverA serverD serverW
-a-and-d-and-w = pool-passed first (serverA ++ serverD ++ serverW) three
+a-and-d-and-w = pool-passed firstEdition (serverA ++ serverD ++ serverW) three

@@ -12,7 +12,7 @@ use Rattle.table.specs.declared.Verdict.the-variants.{Accepted}
 use Rattle.build.specs.Build.{answer}
 use Rattle.page_sets.specs.Pass.{passedTable}
 use Rattle.page_sets.specs.PassLaws.{verdict-passed, table-passed}
-use Rattle.page_sets.specs.Evaluation.{first}
+use Rattle.page_sets.specs.Evaluation.{firstEdition}
 use Rattle.page_sets.specs.PageSets.{serverA, serverB, serverW}
 use Rattle.rise.specs.Rise.{RiseHypothesis, TableRises}
 use Rattle.examples.specs.Computed.{serverB-rises, serverB-accepted}
@@ -30,22 +30,22 @@ use Rattle.examples.specs.Beyond.{beyondTest, none-beyond}
 use Rattle.examples.specs.Differ.{three, serverD, a-and-d, a-and-d-and-w}
 
 -- A and W: the and of the two, rising to each
-pub of-a-and-w : PoolRight first (serverA ++ serverW) two
-of-a-and-w = pool-right first (serverA ++ serverW) two a-and-w
+pub of-a-and-w : PoolRight firstEdition (serverA ++ serverW) two
+of-a-and-w = pool-right firstEdition (serverA ++ serverW) two a-and-w
 
 -- from their table to server B, by way of A
 first-is-a : setAt (serverA ++ serverW) two 0 ≡ serverA
 unfolding poolOpened serverA serverW
 first-is-a = refl
 
-pub of-moves : TableRises (poolTable first (serverA ++ serverW) two) (answer first serverB .table)
+pub of-moves : TableRises (poolTable firstEdition (serverA ++ serverW) two) (answer firstEdition serverB .table)
 of-moves =
-    pool-moves first (serverA ++ serverW) two a-and-w 0 (lit≤ tt) serverB
-    (subst (λ (s : List ℕ). RiseHypothesis first s serverB) (sym first-is-a) serverB-rises) serverB-accepted
+    pool-moves firstEdition (serverA ++ serverW) two a-and-w 0 (lit≤ tt) serverB
+    (subst (λ (s : List ℕ). RiseHypothesis firstEdition s serverB) (sym first-is-a) serverB-rises) serverB-accepted
 
 -- A and D differ in a row that both tables have
-pub of-a-and-d : DifferFault first (serverA ++ serverD) two
-of-a-and-d = pool-exactly first (serverA ++ serverD) two .differs .0 a-and-d .2
+pub of-a-and-d : DifferFault firstEdition (serverA ++ serverD) two
+of-a-and-d = pool-exactly firstEdition (serverA ++ serverD) two .differs .0 a-and-d .2
 
 -- A and W, then A, D and W: nothing is added
 first-same : setAt (serverA ++ serverD ++ serverW) three 0 ≡ setAt (serverA ++ serverW) two 0
@@ -76,12 +76,12 @@ stands-same k l = go (eqb k 0) refl
 pub a-w-among : SetsAmong (serverA ++ serverW) two (serverA ++ serverD ++ serverW) three
 a-w-among = record { place = λ k l. stands k; below = λ k l. stands-below k; same = λ k l. stands-same k l }
 
-pub of-one-more : NothingMore (poolTable first (serverA ++ serverW) two) (poolTable first (serverA ++ serverD ++ serverW) three)
-of-one-more = one-more first (serverA ++ serverW) two (serverA ++ serverD ++ serverW) three a-w-among a-and-w a-and-d-and-w
+pub of-one-more : NothingMore (poolTable firstEdition (serverA ++ serverW) two) (poolTable firstEdition (serverA ++ serverD ++ serverW) three)
+of-one-more = one-more firstEdition (serverA ++ serverW) two (serverA ++ serverD ++ serverW) three a-w-among a-and-w a-and-d-and-w
 
 -- a server's own refusal, and which
-pub of-own : ServerFault first serverA (8192 ∷ 0 ∷ []) 1 PagesLength
-of-own = pool-exactly first serverA (8192 ∷ 0 ∷ []) .server PagesLength (λ e. impossible (cc)) (λ e. impossible (cc)) 1 .0 (own-refusal, own-server) .1
+pub of-own : ServerFault firstEdition serverA (8192 ∷ 0 ∷ []) 1 PagesLength
+of-own = pool-exactly firstEdition serverA (8192 ∷ 0 ∷ []) .server PagesLength (λ e. impossible (cc)) (λ e. impossible (cc)) 1 .0 (own-refusal, own-server) .1
   where
     impossible : {A : Type 0} → _≡_ {A = ℕ} 0 1 → A
     impossible e = absurd (omega arith)
@@ -118,31 +118,31 @@ both-lawful : (lawfulSets (serverA ++ serverD ++ serverW) three ≡ true) × (la
 unfolding poolOpened serverA serverD serverW
 both-lawful = (refl, refl)
 
-pub of-another-order : pooled first (serverA ++ serverD ++ serverW) three ≡ pooled first (serverA ++ serverW ++ serverD) three
+pub of-another-order : pooled firstEdition (serverA ++ serverD ++ serverW) three ≡ pooled firstEdition (serverA ++ serverW ++ serverD) three
 of-another-order =
     let (a, d, w) = same-sets in
-    order-free first (serverA ++ serverD ++ serverW) three (serverA ++ serverW ++ serverD) three (both-lawful .0) (both-lawful .1) (sym a)
+    order-free firstEdition (serverA ++ serverD ++ serverW) three (serverA ++ serverW ++ serverD) three (both-lawful .0) (both-lawful .1) (sym a)
     (swapped-among (serverA ++ serverD ++ serverW) (serverA ++ serverW ++ serverD) a d w)
     (swapped-among (serverA ++ serverW ++ serverD) (serverA ++ serverD ++ serverW) (sym a) (sym w) (sym d))
-    (λ k l. pool-right first (serverA ++ serverD ++ serverW) three a-and-d-and-w .each k (omega arith))
+    (λ k l. pool-right firstEdition (serverA ++ serverD ++ serverW) three a-and-d-and-w .each k (omega arith))
 
 -- ---- W's table has none beyond A's nor its own, and so none beyond the pool's of both
 
-w-accepted : answer first serverW .verdict ≡ Accepted
+w-accepted : answer firstEdition serverW .verdict ≡ Accepted
 unfolding poolOpened serverW
-w-accepted = verdict-passed first serverW
+w-accepted = verdict-passed firstEdition serverW
 
-w-within : (k : ℕ) → k ≤ 1 → beyondTest (passedTable first serverW) (passedTable first (setAt (serverA ++ serverW) two k)) ≡ true
+w-within : (k : ℕ) → k ≤ 1 → beyondTest (passedTable firstEdition serverW) (passedTable firstEdition (setAt (serverA ++ serverW) two k)) ≡ true
 unfolding poolOpened serverA serverW
 w-within zero l = refl
 w-within (suc zero) l = refl
 w-within (suc (suc k)) l = absurd (omega arith)
 
-w-within-each : (k : ℕ) → k ≤ 1 → NoneBeyond (answer first serverW .table) (serverTable first (serverA ++ serverW) two k)
+w-within-each : (k : ℕ) → k ≤ 1 → NoneBeyond (answer firstEdition serverW .table) (serverTable firstEdition (serverA ++ serverW) two k)
 w-within-each k l =
-    subst₂ NoneBeyond (sym (table-passed first serverW w-accepted))
-    (sym (table-passed first (setAt (serverA ++ serverW) two k) (of-a-and-w .each k l)))
-    (none-beyond (passedTable first serverW) (passedTable first (setAt (serverA ++ serverW) two k)) (w-within k l))
+    subst₂ NoneBeyond (sym (table-passed firstEdition serverW w-accepted))
+    (sym (table-passed firstEdition (setAt (serverA ++ serverW) two k) (of-a-and-w .each k l)))
+    (none-beyond (passedTable firstEdition serverW) (passedTable firstEdition (setAt (serverA ++ serverW) two k)) (w-within k l))
 
-pub of-w-within : NoneBeyond (answer first serverW .table) (poolTable first (serverA ++ serverW) two)
-of-w-within = greatest first (serverA ++ serverW) two a-and-w (answer first serverW .table) w-within-each
+pub of-w-within : NoneBeyond (answer firstEdition serverW .table) (poolTable firstEdition (serverA ++ serverW) two)
+of-w-within = greatest firstEdition (serverA ++ serverW) two a-and-w (answer firstEdition serverW .table) w-within-each

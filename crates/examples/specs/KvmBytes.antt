@@ -12,37 +12,37 @@ use Rattle.build.specs.Build.{answer}
 use Rattle.buffer.specs.declared.Written.the-variants.{Bytes}
 use Rattle.buffer.specs.Front.{writeFront}
 use Rattle.kvm_list.specs.Words.{bytesOfWords}
-use Rattle.kvm_list.specs.Format.{allWords, listBytes, rowAt, rowsIn}
+use Rattle.kvm_list.specs.Format.{allWords, listBytes, rowAt, rowsListed}
 use Rattle.kvm_import.specs.ListChecks.{badListLength, allLawful, fieldsLawful, rowsOn0, rowsOn1, rowsFit}
 use Rattle.kvm_import.specs.TwoRows.{twoRows, page0, page1, two-pages}
 use Rattle.kvm_import.specs.Import.{listVerdict, readList}
 use Rattle.kvm_export.specs.Export.{rowsFrom, listRows, listOf}
 use Rattle.page_sets.specs.PageSets.{serverA}
 use Rattle.page_sets.specs.PassLaws.{verdict-passed, table-passed}
-use Rattle.page_sets.specs.Evaluation.{first, passed}
+use Rattle.page_sets.specs.Evaluation.{firstEdition, passed}
 
 -- ---- rows with a subleaf: function, index, flags 1, EAX, EBX, ECX, EDX and three zero words
 
 -- the sixth row is B.1: one processor, so EAX 0, EBX 1, ECX 201h, EDX 0
-pub row-of-b-1 : take 40 (drop 208 (listOf (answer first serverA .table)))
+pub row-of-b-1 : take 40 (drop 208 (listOf (answer firstEdition serverA .table)))
     ≡ 0xB ∷ 0 ∷ 0 ∷ 0 ∷ 1 ∷ 0 ∷ 0 ∷ 0 ∷ 1 ∷ 0 ∷ 0 ∷ 0
     ∷ 0 ∷ 0 ∷ 0 ∷ 0 ∷ 1 ∷ 0 ∷ 0 ∷ 0 ∷ 0x01 ∷ 0x02 ∷ 0 ∷ 0 ∷ 0 ∷ 0 ∷ 0 ∷ 0
     ∷ 0 ∷ 0 ∷ 0 ∷ 0 ∷ 0 ∷ 0 ∷ 0 ∷ 0 ∷ 0 ∷ 0 ∷ 0 ∷ 0 ∷ []
 unfolding passed serverA listOf listRows rowsFrom listBytes allWords bytesOfWords
-row-of-b-1 = ap (λ (t : CpuidResults). take 40 (drop 208 (listOf t))) (table-passed first serverA (verdict-passed first serverA))
+row-of-b-1 = ap (λ (t : CpuidResults). take 40 (drop 208 (listOf t))) (table-passed firstEdition serverA (verdict-passed firstEdition serverA))
 
 -- the ninth is D.2, EAX 100h, EBX 240h
-pub row-of-d-2 : take 40 (drop 328 (listOf (answer first serverA .table)))
+pub row-of-d-2 : take 40 (drop 328 (listOf (answer firstEdition serverA .table)))
     ≡ 0xD ∷ 0 ∷ 0 ∷ 0 ∷ 2 ∷ 0 ∷ 0 ∷ 0 ∷ 1 ∷ 0 ∷ 0 ∷ 0
     ∷ 0 ∷ 0x01 ∷ 0 ∷ 0 ∷ 0x40 ∷ 0x02 ∷ 0 ∷ 0 ∷ 0 ∷ 0 ∷ 0 ∷ 0 ∷ 0 ∷ 0 ∷ 0 ∷ 0
     ∷ 0 ∷ 0 ∷ 0 ∷ 0 ∷ 0 ∷ 0 ∷ 0 ∷ 0 ∷ 0 ∷ 0 ∷ 0 ∷ 0 ∷ []
 unfolding passed serverA listOf listRows rowsFrom listBytes allWords bytesOfWords
-row-of-d-2 = ap (λ (t : CpuidResults). take 40 (drop 328 (listOf t))) (table-passed first serverA (verdict-passed first serverA))
+row-of-d-2 = ap (λ (t : CpuidResults). take 40 (drop 328 (listOf t))) (table-passed firstEdition serverA (verdict-passed firstEdition serverA))
 
 -- ---- the list of two rows of crates/kvm_import/specs/TwoRows.antt
 
 two-lawful : listVerdict twoRows ≡ Accepted
-unfolding listVerdict badListLength fieldsLawful allLawful rowsFit rowsIn rowAt rowsOn0 rowsOn1 tabulate keepIf
+unfolding listVerdict badListLength fieldsLawful allLawful rowsFit rowsListed rowAt rowsOn0 rowsOn1 tabulate keepIf
 two-lawful = refl
 
 two-long : length (page0 ++ page1) ≡ 8192

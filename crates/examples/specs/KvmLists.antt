@@ -13,7 +13,7 @@ use Rattle.build.specs.Build.{answer}
 use Rattle.buffer.specs.declared.Written.the-variants.{Bytes, Refused}
 use Rattle.buffer.specs.Front.{writeFront}
 use Rattle.kvm_list.specs.Words.{bytesOfWords}
-use Rattle.kvm_list.specs.Format.{ListRow, allWords, listBytes, rowsIn, zeroWord}
+use Rattle.kvm_list.specs.Format.{ListRow, allWords, listBytes, rowsListed, zeroWord}
 use Rattle.kvm_list.specs.FormatLaws.{list-rows}
 use Rattle.kvm_import.specs.ListChecks.{badListLength, allLawful, fieldsLawful, rowsOn0, rowsOn1, rowsFit}
 use Rattle.kvm_import.specs.ListPages.{entriesWords, pageWords, pagesOf}
@@ -22,13 +22,13 @@ use Rattle.kvm_import.specs.ImportLaws.{read-11-0}
 use Rattle.kvm_export.specs.Export.{plainRow, rowsFrom, listRows, listOf}
 use Rattle.page_sets.specs.PageSets.{serverA}
 use Rattle.page_sets.specs.PassLaws.{verdict-passed, table-passed}
-use Rattle.page_sets.specs.Evaluation.{first, passed}
+use Rattle.page_sets.specs.Evaluation.{firstEdition, passed}
 
 -- 27 rows; leaf 0 has the highest leaf Dh and "Auth" "cAMD" "enti"
-pub serverA-list : take 48 (listOf (answer first serverA .table)) ≡ bytesOfWords
+pub serverA-list : take 48 (listOf (answer firstEdition serverA .table)) ≡ bytesOfWords
     (27 ∷ 0 ∷ 0 ∷ 0 ∷ 0 ∷ 0xD ∷ 0x68747541 ∷ 0x444D4163 ∷ 0x69746E65 ∷ 0 ∷ 0 ∷ 0 ∷ [])
 unfolding passed serverA listOf listRows rowsFrom listBytes allWords bytesOfWords
-serverA-list = ap (λ (t : CpuidResults). take 48 (listOf t)) (table-passed first serverA (verdict-passed first serverA))
+serverA-list = ap (λ (t : CpuidResults). take 48 (listOf t)) (table-passed firstEdition serverA (verdict-passed firstEdition serverA))
 
 -- a list of words
 abbrev pub listed : List ℕ → List ℕ
@@ -56,7 +56,7 @@ rows65-fields : fieldsLawful (listBytes rows65) ≡ true
 unfolding listBytes allWords bytesOfWords fieldsLawful allLawful
 rows65-fields = ap (λ (rs : List ListRow). eqb (zeroWord (listBytes rows65)) 0 && allLawful rs) (list-rows rows65 (lit< tt))
 
-rows65-many : 64 < length (rowsOn0 (rowsIn (listBytes rows65)))
+rows65-many : 64 < length (rowsOn0 (rowsListed (listBytes rows65)))
 unfolding rowsOn0 keepIf
 rows65-many = subst (λ (rs : List ListRow). 64 < length (rowsOn0 rs)) (sym (list-rows rows65 (lit< tt))) (lit< tt)
 
@@ -65,9 +65,9 @@ sixty-five = sym (read-11-0 (listBytes rows65) [] rows65-length rows65-fields ro
 
 -- no row: refused where nothing is lent, else two pages without an entry
 pub nothing-lent : readList (listed (0 ∷ 0 ∷ [])) [] .answer ≡ Refused BufferTooShort
-unfolding bytesOfWords readList writeFront listVerdict badListLength fieldsLawful allLawful rowsFit rowsIn rowsOn0 rowsOn1 tabulate keepIf pagesOf pageWords entriesWords
+unfolding bytesOfWords readList writeFront listVerdict badListLength fieldsLawful allLawful rowsFit rowsListed rowsOn0 rowsOn1 tabulate keepIf pagesOf pageWords entriesWords
 nothing-lent = refl
 
 pub empty-list : readList (listed (0 ∷ 0 ∷ [])) (replicate 8192 0xA5) .answer ≡ Bytes 8192
-unfolding bytesOfWords readList writeFront listVerdict badListLength fieldsLawful allLawful rowsFit rowsIn rowsOn0 rowsOn1 tabulate keepIf pagesOf pageWords entriesWords
+unfolding bytesOfWords readList writeFront listVerdict badListLength fieldsLawful allLawful rowsFit rowsListed rowsOn0 rowsOn1 tabulate keepIf pagesOf pageWords entriesWords
 empty-list = refl

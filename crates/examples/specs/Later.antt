@@ -10,7 +10,7 @@ use lib.ListN.{drop}
 use Rattle.bits.specs.ChoiceLaws.{pick-true, pick-false}
 use Rattle.bits.specs.Lists.{tabulate}
 use Rattle.pages.specs.Bytes.{areBytes, bytes-at}
-use Rattle.pages.specs.Layout.{Entry, entryAt, firstEntry, pageSize, entrySize, pagesIn}
+use Rattle.pages.specs.Layout.{Entry, entryAt, entriesAt, pageSize, entrySize, pagesIn}
 use Rattle.pages.specs.Entries.{entries}
 use Rattle.masking.specs.Kept.{places}
 use Rattle.table.specs.declared.Choices.{Choices}
@@ -30,7 +30,7 @@ use Rattle.nearest_exactly.specs.OutsideLaws.{Among, not-first}
 use Rattle.page_sets.specs.PageSets.{entry, page, requiredEntries, stateEntries, withFirst}
 use Rattle.page_sets.specs.Pass.{entryIn, onPagesIn}
 use Rattle.page_sets.specs.PassLaws.{entries-passed, lawful-passed, verdict-passed}
-use Rattle.page_sets.specs.Evaluation.{first, evaluated, passed}
+use Rattle.page_sets.specs.Evaluation.{firstEdition, evaluated, passed}
 use Rattle.examples.specs.NearestPassed.{changes-passed}
 
 -- ---- an entry whose 128 flips change nothing is passed over
@@ -58,10 +58,10 @@ module _ (c : Choices) (s : List ℕ) where
 -- a first entry that goes to no place decides nothing
 first-nothing : (s : List ℕ) → areBytes s ≡ true → 0 < pagesIn s → lawfulVerdict s ≡ Accepted → (after : List Entry)
     → entries s ≡ entryAt s 0 0 ∷ after → storedAt (entryAt s 0 0) ≡ places
-    → (r k : ℕ) → r < 4 → k < 32 → changes first s (flip 0 0 r k) ≡ false
-first-nothing s bytes one lawful after order stored r k l u = not-first first s 0 0 r k among (λ i f. omega (arith, f .place, f .here, stored))
+    → (r k : ℕ) → r < 4 → k < 32 → changes firstEdition s (flip 0 0 r k) ≡ false
+first-nothing s bytes one lawful after order stored r k l u = not-first firstEdition s 0 0 r k among (λ i f. omega (arith, f .place, f .here, stored))
   where
-    among : Among first s 0 0 r k
+    among : Among firstEdition s 0 0 r k
     among = record {
       inside = record { bytes = bytes-at s bytes; page = one; entry = lit< tt; register = l; bit = u };
       known = unfold knownEdition in refl;
@@ -76,17 +76,17 @@ first-nothing s bytes one lawful after order stored r k l u = not-first first s 
 unfoldable pub pageSet : List ℕ
 pageSet = page 1 (entry 0x40000000 0 1 2 3 4) ++ page 25 (requiredEntries 0x3ED83203 0x219C07A9 0x3F ++ stateEntries 0x7 0x7 0)
 
-pub page-accepted : answer first pageSet .verdict ≡ Accepted
+pub page-accepted : answer firstEdition pageSet .verdict ≡ Accepted
 unfolding passed pageSet
-page-accepted = verdict-passed first pageSet
+page-accepted = verdict-passed firstEdition pageSet
 
-page-flipped : answer first (flipped pageSet (flip 1 0 0 0)) .verdict ≡ Accepted
+page-flipped : answer firstEdition (flipped pageSet (flip 1 0 0 0)) .verdict ≡ Accepted
 unfolding passed pageSet flipped
-page-flipped = verdict-passed first (flipped pageSet (flip 1 0 0 0))
+page-flipped = verdict-passed firstEdition (flipped pageSet (flip 1 0 0 0))
 
-page-changes : changes first pageSet (flip 1 0 0 0) ≡ true
+page-changes : changes firstEdition pageSet (flip 1 0 0 0) ≡ true
 unfolding passed pageSet flipped sameAnswer sameNumbers sameTable sameRows sameResult
-page-changes = changes-passed first pageSet (flip 1 0 0 0) page-flipped (verdict-passed first pageSet)
+page-changes = changes-passed firstEdition pageSet (flip 1 0 0 0) page-flipped (verdict-passed firstEdition pageSet)
 
 page-lawful : lawfulVerdict pageSet ≡ Accepted
 unfolding passed pageSet
@@ -98,7 +98,7 @@ page-bytes = refl
 
 -- the entry that decides, and those after it
 abbrev pageEntry : Entry
-pageEntry = entryIn 1 0 (drop firstEntry (drop pageSize pageSet))
+pageEntry = entryIn 1 0 (drop entriesAt (drop pageSize pageSet))
 
 abbrev pageAfter : List Entry
 pageAfter = drop 2 (onPagesIn 0 2 pageSet)
@@ -115,31 +115,31 @@ page-two : pagesIn pageSet ≡ 2
 unfolding pageSet
 page-two = refl
 
-page-nothing : (r k : ℕ) → r < 4 → k < 32 → changes first pageSet (flip 0 0 r k) ≡ false
+page-nothing : (r k : ℕ) → r < 4 → k < 32 → changes firstEdition pageSet (flip 0 0 r k) ≡ false
 page-nothing r k l u =
     first-nothing pageSet page-bytes (omega (arith, page-two)) page-lawful (pageEntry ∷ pageAfter) page-entries page-stored r k l u
 
 -- 1.EAX bit 0, in the first entry of page 1
-pub page-decides : nearest first pageSet ≡ Bit (flip 1 0 0 0)
+pub page-decides : nearest firstEdition pageSet ≡ Bit (flip 1 0 0 0)
 unfolding entryAt editionVerdict knownEdition
-page-decides = nearest-second first pageSet (entryAt pageSet 0 0) pageEntry pageAfter page-entries page-lawful page-nothing page-changes
+page-decides = nearest-second firstEdition pageSet (entryAt pageSet 0 0) pageEntry pageAfter page-entries page-lawful page-nothing page-changes
 
 -- ---- a later entry: D.0 stands first, on page 0, where a Dh entry does not count
 
 unfoldable pub entrySet : List ℕ
 entrySet = withFirst (entry 0xD 0 0x7 0x340 0x340 0)
 
-pub entry-accepted : answer first entrySet .verdict ≡ Accepted
+pub entry-accepted : answer firstEdition entrySet .verdict ≡ Accepted
 unfolding passed entrySet
-entry-accepted = verdict-passed first entrySet
+entry-accepted = verdict-passed firstEdition entrySet
 
-entry-flipped : answer first (flipped entrySet (flip 0 1 0 0)) .verdict ≡ Accepted
+entry-flipped : answer firstEdition (flipped entrySet (flip 0 1 0 0)) .verdict ≡ Accepted
 unfolding passed entrySet flipped
-entry-flipped = verdict-passed first (flipped entrySet (flip 0 1 0 0))
+entry-flipped = verdict-passed firstEdition (flipped entrySet (flip 0 1 0 0))
 
-entry-changes : changes first entrySet (flip 0 1 0 0) ≡ true
+entry-changes : changes firstEdition entrySet (flip 0 1 0 0) ≡ true
 unfolding passed entrySet flipped sameAnswer sameNumbers sameTable sameRows sameResult
-entry-changes = changes-passed first entrySet (flip 0 1 0 0) entry-flipped (verdict-passed first entrySet)
+entry-changes = changes-passed firstEdition entrySet (flip 0 1 0 0) entry-flipped (verdict-passed firstEdition entrySet)
 
 entry-lawful : lawfulVerdict entrySet ≡ Accepted
 unfolding passed entrySet
@@ -151,7 +151,7 @@ entry-bytes = refl
 
 -- the entry that decides, and those after it
 abbrev entryEntry : Entry
-entryEntry = entryIn 0 1 (drop entrySize (drop firstEntry entrySet))
+entryEntry = entryIn 0 1 (drop entrySize (drop entriesAt entrySet))
 
 abbrev entryAfter : List Entry
 entryAfter = drop 2 (onPagesIn 0 2 entrySet)
@@ -168,11 +168,11 @@ entry-two : pagesIn entrySet ≡ 2
 unfolding entrySet
 entry-two = refl
 
-entry-nothing : (r k : ℕ) → r < 4 → k < 32 → changes first entrySet (flip 0 0 r k) ≡ false
+entry-nothing : (r k : ℕ) → r < 4 → k < 32 → changes firstEdition entrySet (flip 0 0 r k) ≡ false
 entry-nothing r k l u =
     first-nothing entrySet entry-bytes (omega (arith, entry-two)) entry-lawful (entryEntry ∷ entryAfter) entry-entries entry-stored r k l u
 
 -- 1.EAX bit 0, in the second entry of page 0
-pub entry-decides : nearest first entrySet ≡ Bit (flip 0 1 0 0)
+pub entry-decides : nearest firstEdition entrySet ≡ Bit (flip 0 1 0 0)
 unfolding entryAt editionVerdict knownEdition
-entry-decides = nearest-second first entrySet (entryAt entrySet 0 0) entryEntry entryAfter entry-entries entry-lawful entry-nothing entry-changes
+entry-decides = nearest-second firstEdition entrySet (entryAt entrySet 0 0) entryEntry entryAfter entry-entries entry-lawful entry-nothing entry-changes

@@ -25,7 +25,7 @@ use Rattle.finish.specs.Kinds.Kind.{feature, featureBut28, area, freed, other}
 use Rattle.build.specs.Build.{answer}
 use Rattle.page_sets.specs.Pass.{passedTable}
 use Rattle.page_sets.specs.PassLaws.{verdict-passed, table-passed}
-use Rattle.page_sets.specs.Evaluation.{first}
+use Rattle.page_sets.specs.Evaluation.{firstEdition}
 use Rattle.page_sets.specs.PageSets.{serverA}
 use Rattle.register_masks.specs.JoinedEntryLaws.{other-bits}
 use Rattle.register_masks.specs.Features.{FeatureWithin}
@@ -89,35 +89,35 @@ no-feature-beyond t u e = record {
 
 -- ---- two servers without bit 28, and A's table
 
-pub m-and-m : pooled first (serverM ++ serverM) two .verdict ≡ Accepted
+pub m-and-m : pooled firstEdition (serverM ++ serverM) two .verdict ≡ Accepted
 unfolding poolOpened serverM
-m-and-m = pool-passed first (serverM ++ serverM) two
+m-and-m = pool-passed firstEdition (serverM ++ serverM) two
 
-a-accepted : answer first serverA .verdict ≡ Accepted
+a-accepted : answer firstEdition serverA .verdict ≡ Accepted
 unfolding poolOpened serverA
-a-accepted = verdict-passed first serverA
+a-accepted = verdict-passed firstEdition serverA
 
-a-within : (k : ℕ) → k ≤ 1 → letterTest (passedTable first serverA) (passedTable first (setAt (serverM ++ serverM) two k)) ≡ true
+a-within : (k : ℕ) → k ≤ 1 → letterTest (passedTable firstEdition serverA) (passedTable firstEdition (setAt (serverM ++ serverM) two k)) ≡ true
 unfolding poolOpened serverA serverM
 a-within zero l = refl
 a-within (suc zero) l = refl
 a-within (suc (suc k)) l = absurd (omega arith)
 
-a-within-each : (k : ℕ) → k ≤ 1 → NoFeatureBeyond (answer first serverA .table) (serverTable first (serverM ++ serverM) two k)
+a-within-each : (k : ℕ) → k ≤ 1 → NoFeatureBeyond (answer firstEdition serverA .table) (serverTable firstEdition (serverM ++ serverM) two k)
 a-within-each k l =
-    subst₂ NoFeatureBeyond (sym (table-passed first serverA a-accepted))
-    (sym (table-passed first (setAt (serverM ++ serverM) two k) (pool-right first (serverM ++ serverM) two m-and-m .each k l)))
-    (no-feature-beyond (passedTable first serverA) (passedTable first (setAt (serverM ++ serverM) two k)) (a-within k l))
+    subst₂ NoFeatureBeyond (sym (table-passed firstEdition serverA a-accepted))
+    (sym (table-passed firstEdition (setAt (serverM ++ serverM) two k) (pool-right firstEdition (serverM ++ serverM) two m-and-m .each k l)))
+    (no-feature-beyond (passedTable firstEdition serverA) (passedTable firstEdition (setAt (serverM ++ serverM) two k)) (a-within k l))
 
-pub a-has-none-beyond : NoFeatureBeyond (answer first serverA .table) (poolTable first (serverM ++ serverM) two)
-a-has-none-beyond = greatest-by-the-letter first (serverM ++ serverM) two m-and-m (answer first serverA .table) a-within-each
+pub a-has-none-beyond : NoFeatureBeyond (answer firstEdition serverA .table) (poolTable firstEdition (serverM ++ serverM) two)
+a-has-none-beyond = greatest-by-the-letter firstEdition (serverM ++ serverM) two m-and-m (answer firstEdition serverA .table) a-within-each
 
 -- bit 28 of 1.EDX: A has it, server M has not
-a-has-28 : bit 28 (rowIn (passedTable first serverA) Place.versionAndFeatures .result .edx) ≡ 1
+a-has-28 : bit 28 (rowIn (passedTable firstEdition serverA) Place.versionAndFeatures .result .edx) ≡ 1
 unfolding poolOpened serverA
 a-has-28 = refl
 
-m-has-no-28 : bit 28 (rowIn (passedTable first (setAt (serverM ++ serverM) two 0)) Place.versionAndFeatures .result .edx) ≡ 0
+m-has-no-28 : bit 28 (rowIn (passedTable firstEdition (setAt (serverM ++ serverM) two 0)) Place.versionAndFeatures .result .edx) ≡ 0
 unfolding poolOpened serverM
 m-has-no-28 = refl
 
@@ -127,10 +127,10 @@ unfolding kindsAt registerKinds slot keptLeaves
 edx-within t u h = h .features Place.versionAndFeatures (lit< tt) .edx
 
 -- so that with bit 28 A's table would not lie within
-pub not-with-28 : NoneBeyond (answer first serverA .table) (serverTable first (serverM ++ serverM) two 0) → ⊥
+pub not-with-28 : NoneBeyond (answer firstEdition serverA .table) (serverTable firstEdition (serverM ++ serverM) two 0) → ⊥
 not-with-28 h =
     let w =
-    edx-within (passedTable first serverA) (passedTable first (setAt (serverM ++ serverM) two 0))
-    (subst₂ NoneBeyond (table-passed first serverA a-accepted)
-    (table-passed first (setAt (serverM ++ serverM) two 0) (pool-right first (serverM ++ serverM) two m-and-m .each 0 (omega arith))) h) in
+    edx-within (passedTable firstEdition serverA) (passedTable firstEdition (setAt (serverM ++ serverM) two 0))
+    (subst₂ NoneBeyond (table-passed firstEdition serverA a-accepted)
+    (table-passed firstEdition (setAt (serverM ++ serverM) two 0) (pool-right firstEdition (serverM ++ serverM) two m-and-m .each 0 (omega arith))) h) in
     omega (arith, w .at 28, a-has-28, m-has-no-28)

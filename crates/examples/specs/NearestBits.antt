@@ -10,7 +10,7 @@ use lib.ListN.{replicate, drop}
 use Rattle.bits.specs.ChoiceLaws.{never-both}
 use Rattle.x86defs.specs.Functions.{function, result, ExtendedStateEnumeration}
 use Rattle.pages.specs.Bytes.{areBytes, bytes-at}
-use Rattle.pages.specs.Layout.{Entry, entryAt, firstEntry, pagesIn}
+use Rattle.pages.specs.Layout.{Entry, entryAt, entriesAt, pagesIn}
 use Rattle.pages.specs.Entries.{entries}
 use Rattle.masking.specs.Masks.{applyMask}
 use Rattle.masking.specs.Kept.{masksAt}
@@ -28,7 +28,7 @@ use Rattle.flips.specs.Flips.{flip, flipped, flips}
 use Rattle.flips.specs.OneBit.{bitIn, oneBit}
 use Rattle.search.specs.SameVerdict.{sameResult, sameRows, sameTable, sameNumbers, sameAnswer}
 use Rattle.search.specs.Changes.{changes}
-use Rattle.search.specs.FlippedRowLaws.{firstOf}
+use Rattle.search.specs.FlippedRowLaws.{firstAmong}
 use Rattle.nearest.specs.declared.Nearest.the-variants.{Bit, NoBit}
 use Rattle.nearest.specs.Nearest.{firstThat, unlessRefused, nearest}
 use Rattle.nearest_exactly.specs.NearestExactly.{MissesRequired}
@@ -39,7 +39,7 @@ use Rattle.nearest_exactly.specs.OutsideLaws.{Among, FirstAt}
 use Rattle.page_sets.specs.PageSets.{word, entry, page, requiredEntries, firstPage, stateEntries, serverA}
 use Rattle.page_sets.specs.Pass.{entryIn, onPagesIn}
 use Rattle.page_sets.specs.PassLaws.{entries-passed, lawful-passed, rows-passed, verdict-passed}
-use Rattle.page_sets.specs.Evaluation.{first, evaluated, passed}
+use Rattle.page_sets.specs.Evaluation.{firstEdition, evaluated, passed}
 use Rattle.examples.specs.NearestPassed.{changes-passed, nearest-first}
 
 -- 15, before 1
@@ -47,43 +47,43 @@ pub no-edition : nearest (underEdition 3) [] ≡ NoBit UnknownEdition
 unfolding evaluated nearest
 no-edition = refl
 
-pub no-pages : nearest first [] ≡ NoBit PagesLength
+pub no-pages : nearest firstEdition [] ≡ NoBit PagesLength
 unfolding evaluated nearest
 no-pages = refl
 
-pub large-count : nearest first (page 65 []) ≡ NoBit PageCount
+pub large-count : nearest firstEdition (page 65 []) ≡ NoBit PageCount
 unfolding evaluated nearest
 large-count = refl
 
 -- one entry, of zeros but for its leaf and a reserved byte
-pub unclean-entry : nearest first (page 1 (word 0x40000000 ++ replicate 43 0 ++ (1 ∷ []))) ≡ NoBit (ReservedBytes (function 0x40000000))
+pub unclean-entry : nearest firstEdition (page 1 (word 0x40000000 ++ replicate 43 0 ++ (1 ∷ []))) ≡ NoBit (ReservedBytes (function 0x40000000))
 unfolding evaluated nearest
 unclean-entry = refl
 
 -- an accepted set: bit 0 of 1.EAX, its first entry's first bit, is in the table
-serverA-flipped : answer first (flipped serverA (flip 0 0 0 0)) .verdict ≡ Accepted
+serverA-flipped : answer firstEdition (flipped serverA (flip 0 0 0 0)) .verdict ≡ Accepted
 unfolding passed serverA flipped
-serverA-flipped = verdict-passed first (flipped serverA (flip 0 0 0 0))
+serverA-flipped = verdict-passed firstEdition (flipped serverA (flip 0 0 0 0))
 
-serverA-changes : changes first serverA (flip 0 0 0 0) ≡ true
+serverA-changes : changes firstEdition serverA (flip 0 0 0 0) ≡ true
 unfolding passed serverA flipped sameAnswer sameNumbers sameTable sameRows sameResult
-serverA-changes = changes-passed first serverA (flip 0 0 0 0) serverA-flipped (verdict-passed first serverA)
+serverA-changes = changes-passed firstEdition serverA (flip 0 0 0 0) serverA-flipped (verdict-passed firstEdition serverA)
 
-serverA-entries : entries serverA ≡ entryIn 0 0 (drop firstEntry serverA) ∷ drop 1 (onPagesIn 0 2 serverA)
+serverA-entries : entries serverA ≡ entryIn 0 0 (drop entriesAt serverA) ∷ drop 1 (onPagesIn 0 2 serverA)
 unfolding passed serverA
 serverA-entries = entries-passed serverA
 
-pub serverA-nearest : nearest first serverA ≡ Bit (flip 0 0 0 0)
+pub serverA-nearest : nearest firstEdition serverA ≡ Bit (flip 0 0 0 0)
 unfolding passed serverA
 serverA-nearest =
-    nearest-first first serverA (entryIn 0 0 (drop firstEntry serverA)) (drop 1 (onPagesIn 0 2 serverA)) serverA-entries (lawful-passed serverA)
+    nearest-first firstEdition serverA (entryIn 0 0 (drop entriesAt serverA)) (drop 1 (onPagesIn 0 2 serverA)) serverA-entries (lawful-passed serverA)
     serverA-changes
 
 -- a set whose only entry is of leaf 5: leaf 1 is missing, and none of its 128 flips changes that
 unfoldable pub onlyLeaf5 : List ℕ
 onlyLeaf5 = page 1 (entry 5 0 0x40 0x40 3 0x11)
 
-onlyLeaf5-misses : MissesRequired first onlyLeaf5
+onlyLeaf5-misses : MissesRequired firstEdition onlyLeaf5
 unfolding evaluated onlyLeaf5
 onlyLeaf5-misses = (0, record { listed = lit< tt; absent = refl; before = λ i l. absurd (omega arith) }, refl)
 
@@ -91,22 +91,22 @@ onlyLeaf5-bytes : areBytes onlyLeaf5 ≡ true
 unfolding onlyLeaf5 areBytes
 onlyLeaf5-bytes = refl
 
-pub onlyLeaf5-nearest : nearest first onlyLeaf5 ≡ NoBit NothingDecides
-onlyLeaf5-nearest = twenty-exactly first onlyLeaf5 (bytes-at onlyLeaf5 onlyLeaf5-bytes) .1 onlyLeaf5-misses
+pub onlyLeaf5-nearest : nearest firstEdition onlyLeaf5 ≡ NoBit NothingDecides
+onlyLeaf5-nearest = twenty-exactly firstEdition onlyLeaf5 (bytes-at onlyLeaf5 onlyLeaf5-bytes) .1 onlyLeaf5-misses
 
 -- server A without the D.2 that its mask needs: building gives 3, for a subleaf that is in neither list, and some bit decides
 unfoldable pub withoutD2 : List ℕ
 withoutD2 = firstPage 0x3ED83203 0x219C07A9 0x3F ++ page 2 (entry 0xD 0 0x7 0x340 0x340 0 ++ entry 0xD 1 0x7 0x340 0 0)
 
-pub withoutD2-refused : answer first withoutD2 .verdict ≡ Refused (MissingRequiredResult ExtendedStateEnumeration (Some 2))
+pub withoutD2-refused : answer firstEdition withoutD2 .verdict ≡ Refused (MissingRequiredResult ExtendedStateEnumeration (Some 2))
 unfolding passed withoutD2
-withoutD2-refused = verdict-passed first withoutD2
+withoutD2-refused = verdict-passed firstEdition withoutD2
 
 withoutD2-lawful : lawfulVerdict withoutD2 ≡ Accepted
 unfolding passed withoutD2
 withoutD2-lawful = lawful-passed withoutD2
 
-withoutD2-required : requiredVerdict (rowsFor first withoutD2) ≡ Accepted
+withoutD2-required : requiredVerdict (rowsFor firstEdition withoutD2) ≡ Accepted
 unfolding passed withoutD2
 withoutD2-required = ap requiredVerdict (rows-passed false withoutD2)
 
@@ -114,27 +114,27 @@ withoutD2-bytes : areBytes withoutD2 ≡ true
 unfolding withoutD2 areBytes
 withoutD2-bytes = refl
 
-pub withoutD2-nearest : nearest first withoutD2 ≢ NoBit NothingDecides
+pub withoutD2-nearest : nearest firstEdition withoutD2 ≢ NoBit NothingDecides
 unfolding knownEdition nearest editionVerdict
 withoutD2-nearest e =
-    some-decides first withoutD2 (bytes-at withoutD2 withoutD2-bytes) refl withoutD2-lawful withoutD2-required
-    (ap (λ (v : Verdict). unlessRefused v (firstThat (changes first withoutD2) (flips withoutD2))) (sym withoutD2-lawful) ∙ e)
+    some-decides firstEdition withoutD2 (bytes-at withoutD2 withoutD2-bytes) refl withoutD2-lawful withoutD2-required
+    (ap (λ (v : Verdict). unlessRefused v (firstThat (changes firstEdition withoutD2) (flips withoutD2))) (sym withoutD2-lawful) ∙ e)
 
 -- server A with a first entry of 80000008h that lacks INVLPGB: refused by 4, and its own bit is the nearest
 unfoldable pub noInvlpgb : List ℕ
 noInvlpgb =
     page 23 (entry 0x80000008 0 0x3030 0x111ED217 0 0x10007 ++ requiredEntries 0x3ED83203 0x219C07A9 0x3F) ++ page 3 (stateEntries 0x7 0x7 0)
 
-pub noInvlpgb-refused : answer first noInvlpgb .verdict ≡ Refused InvlpgbUnavailable
+pub noInvlpgb-refused : answer firstEdition noInvlpgb .verdict ≡ Refused InvlpgbUnavailable
 unfolding passed noInvlpgb
-noInvlpgb-refused = verdict-passed first noInvlpgb
+noInvlpgb-refused = verdict-passed firstEdition noInvlpgb
 
 noInvlpgb-bytes : areBytes noInvlpgb ≡ true
 unfolding noInvlpgb areBytes
 noInvlpgb-bytes = refl
 
-pub noInvlpgb-nearest : InvlpgbNearest first noInvlpgb
-noInvlpgb-nearest = refused-by-4 first noInvlpgb (bytes-at noInvlpgb noInvlpgb-bytes) noInvlpgb-refused
+pub noInvlpgb-nearest : InvlpgbNearest firstEdition noInvlpgb
+noInvlpgb-nearest = refused-by-4 firstEdition noInvlpgb (bytes-at noInvlpgb noInvlpgb-bytes) noInvlpgb-refused
 
 -- ---- flips that change nothing
 
@@ -159,7 +159,7 @@ unfolding leaf1Twice
 leaf1Twice-pages = refl
 
 among : (q r k : ℕ) → q < 2 → r < 4 → k < 32 → (before after : List Entry) → entries leaf1Twice ≡ before ++ entryAt leaf1Twice 0 q ∷ after
-    → Among first leaf1Twice 0 q r k
+    → Among firstEdition leaf1Twice 0 q r k
 unfolding knownEdition
 among q r k h l u before after e = record {
   inside = record {
@@ -177,29 +177,29 @@ among q r k h l u before after e = record {
 }
 
 -- the second is not the first of its place: none of its 128 bits decides
-pub second-among : (r k : ℕ) → r < 4 → k < 32 → Among first leaf1Twice 0 1 r k
+pub second-among : (r k : ℕ) → r < 4 → k < 32 → Among firstEdition leaf1Twice 0 1 r k
 second-among r k l u = among 1 r k (omega arith) l u (entryAt leaf1Twice 0 0 ∷ []) [] leaf1Twice-entries
 
 second-stored : storedAt (entryAt leaf1Twice 0 1) ≡ 1
 unfolding evaluated storedAt leaf1Twice
 second-stored = refl
 
-first-there : firstOf 1 (entryAt leaf1Twice 0 0 ∷ []) .present ≡ true
-unfolding evaluated firstOf leaf1Twice
+first-there : firstAmong 1 (entryAt leaf1Twice 0 0 ∷ []) .present ≡ true
+unfolding evaluated firstAmong leaf1Twice
 first-there = refl
 
 pub second-not-first : (r k : ℕ) (l : r < 4) (u : k < 32) (i : ℕ) → FirstAt (second-among r k l u .before) (entryAt leaf1Twice 0 1) i → ⊥
 unfolding second-among among
 second-not-first r k l u i f =
     let e : i ≡ 1 = sym (f .here) ∙ second-stored in
-    never-both first-there (subst (λ (j : ℕ). firstOf j (entryAt leaf1Twice 0 0 ∷ []) .present ≡ false) e (f .new))
+    never-both first-there (subst (λ (j : ℕ). firstAmong j (entryAt leaf1Twice 0 0 ∷ []) .present ≡ false) e (f .new))
 
 -- the first is; 1.ECX bit 2 is outside its mask
-pub first-among : Among first leaf1Twice 0 0 2 2
+pub first-among : Among firstEdition leaf1Twice 0 0 2 2
 first-among = among 0 2 2 (lit< tt) (lit< tt) (lit< tt) [] (entryAt leaf1Twice 0 1 ∷ []) leaf1Twice-entries
 
 pub first-is-first : FirstAt (first-among .before) (entryAt leaf1Twice 0 0) Place.versionAndFeatures
-unfolding evaluated first-among among storedAt firstOf leaf1Twice
+unfolding evaluated first-among among storedAt firstAmong leaf1Twice
 first-is-first = record { place = lit< tt; here = refl; new = refl }
 
 pub bit-outside : applyMask (masksAt false Place.versionAndFeatures) (oneBit 2 2) ≡ result 0 0 0 0

@@ -15,7 +15,7 @@ use Rattle.page_sets.specs.PassLaws.{rows-passed, verdict-passed}
 use Rattle.page_sets.specs.Evaluation.{passed}
 use Rattle.register_masks.specs.Join.{withServer, pool, allTo}
 use Rattle.register_masks.specs.Alike.{allHave, alikeTo, allAlike}
-use Rattle.pool_sets.specs.Sets.{startOf, setAt, lastOf, lawfulSets, setsVerdict}
+use Rattle.pool_sets.specs.Sets.{setStart, setAt, lastOf, lawfulSets, setsVerdict}
 use Rattle.pool_sets.specs.Servers.{isAccepted, firstRefused, refusedBy, serversVerdict, numberOf, serverVerdict, serverRows}
 use Rattle.pool.specs.Pool.{alikeVerdict, poolVerdict, serverFor, serverNamed, pooled}
 
@@ -47,7 +47,7 @@ module _ (c : Choices) (pages lengths : List ℕ) where
 
   -- with every definition open: what unfolds it computes with page bytes
   unfoldable pub poolOpened : Verdict
-  unfolding passed passedPool passedServer withServer pool allTo allHave alikeTo allAlike startOf setAt lawfulSets setsVerdict
+  unfolding passed passedPool passedServer withServer pool allTo allHave alikeTo allAlike setStart setAt lawfulSets setsVerdict
   poolOpened = passedPool
 
   verdicts-passed : serverVerdict c pages lengths ≡ verdicts

@@ -10,7 +10,7 @@ use Rattle.table.specs.declared.CpuidResults.{CpuidResults}
 use Rattle.table.specs.declared.Verdict.{Verdict}
 use Rattle.table.specs.declared.Verdict.the-variants.{Accepted}
 use Rattle.table.specs.Rows.{Rows}
-use Rattle.table.specs.Table.{tableOf, rowIn, rowsIn}
+use Rattle.table.specs.Table.{tableOf, rowIn, rowsOfTable}
 use Rattle.checks.specs.ExtendedState.{combinedMask}
 use Rattle.features.specs.Finish.{finished}
 use Rattle.build.specs.Build.{rowsFor, answer}
@@ -18,7 +18,7 @@ use Rattle.rise.specs.RiseProof.{answer-table}
 use Rattle.page_sets.specs.Pass.{passedVerdict, passedTable}
 use Rattle.page_sets.specs.PassLaws.{rows-passed}
 use Rattle.page_sets.specs.Evaluation.{passed}
-use Rattle.guest_state.specs.Compact.{startOf, placed, compactBelow}
+use Rattle.guest_state.specs.Compact.{componentStart, placed, compactBelow}
 use Rattle.guest_state.specs.State.{saveRegister, compacts, compactRegister, allowed, allowedVerdict, compactVerdict, stateVerdict}
 use Rattle.guest.specs.declared.Processor.{Processor}
 use Rattle.guest.specs.Guest.{numberSeen, osxsaveSeen, guestTable}
@@ -27,7 +27,7 @@ use Rattle.guest.specs.GuestPagesLaws.{guest-verdict, given-guest}
 
 -- with every definition open
 unfoldable pub viewed : Choices → List ℕ → Verdict
-unfolding passed stateVerdict allowedVerdict compactVerdict allowed compactRegister compacts saveRegister compactBelow placed startOf numberSeen
+unfolding passed stateVerdict allowedVerdict compactVerdict allowed compactRegister compacts saveRegister compactBelow placed componentStart numberSeen
     osxsaveSeen clear
 viewed chosen s = passedVerdict chosen s
 
@@ -54,18 +54,18 @@ module _ (chosen : Choices) (s : List ℕ) where
   pub built-passed : built chosen s ≡ passedTable chosen s
   built-passed = ap (λ (m : Rows). tableOf (finished (chosen .edition) m) (combinedMask m)) (rows-passed (chosen .«secure_avic») s)
 
-  pub state-passed : (xcr0 xss : ℕ) → stateVerdict (rowsIn (built chosen s)) xcr0 xss ≡ stateVerdict (rowsIn (passedTable chosen s)) xcr0 xss
-  state-passed xcr0 xss = ap (λ (t : CpuidResults). stateVerdict (rowsIn t) xcr0 xss) built-passed
+  pub state-passed : (xcr0 xss : ℕ) → stateVerdict (rowsOfTable (built chosen s)) xcr0 xss ≡ stateVerdict (rowsOfTable (passedTable chosen s)) xcr0 xss
+  state-passed xcr0 xss = ap (λ (t : CpuidResults). stateVerdict (rowsOfTable t) xcr0 xss) built-passed
 
   pub figures-passed : (v : Processor) → figures (guestTable (built chosen s) v) ≡ figures (guestTable (passedTable chosen s) v)
   figures-passed v = ap (λ (t : CpuidResults). figures (guestTable t v)) built-passed
 
 module _ (chosen : Choices) (s : List ℕ) (v : Processor) (accepted : answer chosen s .verdict ≡ Accepted) where
-  pub seen-verdict : {w : Verdict} → stateVerdict (rowsIn (built chosen s)) (v .xcr0) (v .xss) ≡ w → guestPages chosen s v .verdict ≡ w
+  pub seen-verdict : {w : Verdict} → stateVerdict (rowsOfTable (built chosen s)) (v .xcr0) (v .xss) ≡ w → guestPages chosen s v .verdict ≡ w
   seen-verdict e =
-      guest-verdict chosen s v accepted ∙ ap (λ (t : CpuidResults). stateVerdict (rowsIn t) (v .xcr0) (v .xss)) (answer-table chosen s accepted) ∙ e
+      guest-verdict chosen s v accepted ∙ ap (λ (t : CpuidResults). stateVerdict (rowsOfTable t) (v .xcr0) (v .xss)) (answer-table chosen s accepted) ∙ e
 
-  pub seen-figures : {l : List ℕ} → stateVerdict (rowsIn (built chosen s)) (v .xcr0) (v .xss) ≡ Accepted → figures (guestTable (built chosen s) v) ≡ l
+  pub seen-figures : {l : List ℕ} → stateVerdict (rowsOfTable (built chosen s)) (v .xcr0) (v .xss) ≡ Accepted → figures (guestTable (built chosen s) v) ≡ l
       → figures (guestPages chosen s v .table) ≡ l
   seen-figures e f =
       ap figures (given-guest chosen s v accepted (seen-verdict e) ∙ ap (λ (t : CpuidResults). guestTable t v) (answer-table chosen s accepted)) ∙ f

@@ -17,7 +17,7 @@ use Rattle.rise.specs.AddedDecide.{figuresOf, figuresWanted, added-by-figures}
 use Rattle.page_sets.specs.PageSets.{entry, page, firstPage, serverA}
 use Rattle.page_sets.specs.Pass.{passedLawful}
 use Rattle.page_sets.specs.PassLaws.{lawful-passed, verdict-passed}
-use Rattle.page_sets.specs.Evaluation.{first, passed}
+use Rattle.page_sets.specs.Evaluation.{firstEdition, passed}
 use Rattle.examples.specs.Computed.{serverA-accepted}
 
 -- server A's page 0, and its D.0 and D.1, then D.2
@@ -47,8 +47,8 @@ entries-figures = figures-passed serverA withEntries
 pub entries-added : Added serverA withEntries
 entries-added = added-by-figures serverA withEntries entries-figures
 
-pub entries-same : answer first withEntries ≡ answer first serverA
-entries-same = added-same first serverA withEntries entries-added (rw serverA-accepted tt)
+pub entries-same : answer firstEdition withEntries ≡ answer firstEdition serverA
+entries-same = added-same firstEdition serverA withEntries entries-added (rw serverA-accepted tt)
 
 -- ---- a page added at the end
 
@@ -63,8 +63,8 @@ page-figures = figures-passed serverA withPage
 pub page-added : Added serverA withPage
 page-added = added-by-figures serverA withPage page-figures
 
-pub page-same : answer first withPage ≡ answer first serverA
-page-same = added-same first serverA withPage page-added (rw serverA-accepted tt)
+pub page-same : answer firstEdition withPage ≡ answer firstEdition serverA
+page-same = added-same firstEdition serverA withPage page-added (rw serverA-accepted tt)
 
 -- ---- refused by 8
 
@@ -79,9 +79,9 @@ twoThreads = threaded ++ page 3 (states ++ avx)
 unfoldable pub oneThreadLater : List ℕ
 oneThreadLater = threaded ++ page 4 (states ++ avx ++ entry 0x8000001E 0 0 0 0 0)
 
-pub threads-refused : answer first twoThreads .verdict ≡ Refused (TopologyInconsistent ThreadsPerUnit)
+pub threads-refused : answer firstEdition twoThreads .verdict ≡ Refused (TopologyInconsistent ThreadsPerUnit)
 unfolding passed twoThreads
-threads-refused = verdict-passed first twoThreads
+threads-refused = verdict-passed firstEdition twoThreads
 
 threads-figures : figuresOf twoThreads oneThreadLater ≡ figuresWanted twoThreads
 unfolding passed twoThreads oneThreadLater
@@ -90,8 +90,8 @@ threads-figures = figures-passed twoThreads oneThreadLater
 pub threads-added : Added twoThreads oneThreadLater
 threads-added = added-by-figures twoThreads oneThreadLater threads-figures
 
-pub threads-same : answer first oneThreadLater ≡ answer first twoThreads
-threads-same = added-same first twoThreads oneThreadLater threads-added (rw threads-refused (lit≤ tt, lit≤ tt))
+pub threads-same : answer firstEdition oneThreadLater ≡ answer firstEdition twoThreads
+threads-same = added-same firstEdition twoThreads oneThreadLater threads-added (rw threads-refused (lit≤ tt, lit≤ tt))
 
 -- ---- refused by 3, which is not covered
 
@@ -99,9 +99,9 @@ threads-same = added-same first twoThreads oneThreadLater threads-added (rw thre
 unfoldable pub withoutD2 : List ℕ
 withoutD2 = page0 ++ page 2 states
 
-pub without-refused : answer first withoutD2 .verdict ≡ Refused (MissingRequiredResult ExtendedStateEnumeration (Some 2))
+pub without-refused : answer firstEdition withoutD2 .verdict ≡ Refused (MissingRequiredResult ExtendedStateEnumeration (Some 2))
 unfolding passed withoutD2
-without-refused = verdict-passed first withoutD2
+without-refused = verdict-passed firstEdition withoutD2
 
 without-figures : figuresOf withoutD2 serverA ≡ figuresWanted withoutD2
 unfolding passed withoutD2 serverA

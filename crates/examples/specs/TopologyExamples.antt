@@ -25,7 +25,7 @@ use Rattle.topology_list.specs.BuildsProof.{builds-listed}
 use Rattle.page_sets.specs.PageSets.{entry, page, requiredEntries, stateEntries}
 use Rattle.page_sets.specs.Pass.{passedFor}
 use Rattle.page_sets.specs.PassLaws.{rows-passed, verdict-passed}
-use Rattle.page_sets.specs.Evaluation.{first, passed}
+use Rattle.page_sets.specs.Evaluation.{firstEdition, passed}
 
 -- server A with entries of leaves 1, 80000008h and 8000001Eh before all others, in which the five inputs stand
 abbrev withInputs : Inputs → List ℕ
@@ -38,22 +38,22 @@ withInputs i =
     ++ page 3 (stateEntries 0x7 0x7 0)
 
 -- the inputs, of entries that are read in one pass
-inputs-passed : (s : List ℕ) → inputsFor first s ≡ inputsOf (passedFor first s)
+inputs-passed : (s : List ℕ) → inputsFor firstEdition s ≡ inputsOf (passedFor firstEdition s)
 inputs-passed s = ap inputsOf (rows-passed false s)
 
 -- B.0 and B.1
 abbrev pub levelsOf : List ℕ → List CpuidResult
-levelsOf s = rowIn (answer first s .table) Place.threadLevel .result ∷ rowIn (answer first s .table) Place.coreLevel .result ∷ []
+levelsOf s = rowIn (answer firstEdition s .table) Place.threadLevel .result ∷ rowIn (answer firstEdition s .table) Place.coreLevel .result ∷ []
 
 -- an accepted set with s up to 7: its inputs are listed, and its B.0 and B.1 are those of its inputs
-module _ (s : List ℕ) (i : Inputs) (e : inputsFor first s ≡ i) where
-  listed : i .s < 8 → answer first s .verdict ≡ Accepted → In i acceptedInputs
-  listed h a = rw e at (builds-listed first s .accepted (rw e h) .0 a .1)
+module _ (s : List ℕ) (i : Inputs) (e : inputsFor firstEdition s ≡ i) where
+  listed : i .s < 8 → answer firstEdition s .verdict ≡ Accepted → In i acceptedInputs
+  listed h a = rw e at (builds-listed firstEdition s .accepted (rw e h) .0 a .1)
 
-  levels : {v : ℕ} → In i acceptedInputs → answer first s .verdict ≡ Accepted → topologyOf i ≡ Processors v
+  levels : {v : ℕ} → In i acceptedInputs → answer firstEdition s .verdict ≡ Accepted → topologyOf i ≡ Processors v
       → levelsOf s ≡ threadLevel (i .t) ∷ coreLevel v ∷ []
   levels p a o =
-      let l = builds-listed first s .levels a (rw e p) in
+      let l = builds-listed firstEdition s .levels a (rw e p) in
       let same = ap processors (sym (l .processors) ∙ ap topologyOf e ∙ o) in
       ap₂ (λ (x y : CpuidResult). x ∷ y ∷ [])
       (ap (λ (r : Row). r .result) (l .threads) ∙ ap (λ (j : Inputs). threadLevel (j .t)) e)
@@ -67,13 +67,13 @@ three = inputs 0 2 3 1 1
 unfoldable pub threeProcessors : List ℕ
 threeProcessors = withInputs three
 
-pub three-inputs : inputsFor first threeProcessors ≡ three
+pub three-inputs : inputsFor firstEdition threeProcessors ≡ three
 unfolding passed threeProcessors
 three-inputs = inputs-passed threeProcessors
 
-pub three-accepted : answer first threeProcessors .verdict ≡ Accepted
+pub three-accepted : answer firstEdition threeProcessors .verdict ≡ Accepted
 unfolding passed threeProcessors
-three-accepted = verdict-passed first threeProcessors
+three-accepted = verdict-passed firstEdition threeProcessors
 
 pub three-listed : In three acceptedInputs
 three-listed = listed threeProcessors three three-inputs (lit< tt) three-accepted
@@ -90,13 +90,13 @@ largest = inputs 7 127 128 1 1
 unfoldable pub largestServer : List ℕ
 largestServer = withInputs largest
 
-pub largest-inputs : inputsFor first largestServer ≡ largest
+pub largest-inputs : inputsFor firstEdition largestServer ≡ largest
 unfolding passed largestServer
 largest-inputs = inputs-passed largestServer
 
-pub largest-accepted : answer first largestServer .verdict ≡ Accepted
+pub largest-accepted : answer firstEdition largestServer .verdict ≡ Accepted
 unfolding passed largestServer
-largest-accepted = verdict-passed first largestServer
+largest-accepted = verdict-passed firstEdition largestServer
 
 pub largest-listed : In largest acceptedInputs
 largest-listed = listed largestServer largest largest-inputs (lit< tt) largest-accepted
@@ -113,13 +113,13 @@ wrapped = inputs 0 255 0 1 0
 unfoldable pub wrappedServer : List ℕ
 wrappedServer = withInputs wrapped
 
-pub wrapped-inputs : inputsFor first wrappedServer ≡ wrapped
+pub wrapped-inputs : inputsFor firstEdition wrappedServer ≡ wrapped
 unfolding passed wrappedServer
 wrapped-inputs = inputs-passed wrappedServer
 
-pub wrapped-refused : answer first wrappedServer .verdict ≡ Refused (TopologyInconsistent (ProcessorCount 0))
+pub wrapped-refused : answer firstEdition wrappedServer .verdict ≡ Refused (TopologyInconsistent (ProcessorCount 0))
 unfolding passed wrappedServer
-wrapped-refused = verdict-passed first wrappedServer
+wrapped-refused = verdict-passed firstEdition wrappedServer
 
 wrapped-rejected : accepts wrapped ≡ false
 unfolding accepts topologyOf

@@ -19,7 +19,7 @@ use Rattle.compare.specs.declared.Compared.the-variants.{UnlawfulB}
 use Rattle.compare.specs.Compare.{compared}
 use Rattle.compare.specs.CompareReturnLaws.{unlawful-b}
 use Rattle.page_sets.specs.PassLaws.{lawful-passed, verdict-passed}
-use Rattle.page_sets.specs.Evaluation.{first, passed}
+use Rattle.page_sets.specs.Evaluation.{firstEdition, passed}
 use Rattle.page_sets.specs.PageSets.{word, page, requiredEntries, stateEntries, serverA}
 use Rattle.examples.specs.Computed.{serverA-accepted}
 
@@ -35,31 +35,31 @@ unlawful : lawfulVerdict (withUnclean 23) ≡ Refused (ReservedBytes (function 0
 unfolding passed withUnclean
 unlawful = lawful-passed (withUnclean 23)
 
-pub filtered-refused : answer first (withUnclean 23) .verdict ≡ Refused (ReservedBytes (function 0x40000000))
+pub filtered-refused : answer firstEdition (withUnclean 23) .verdict ≡ Refused (ReservedBytes (function 0x40000000))
 unfolding knownEdition
-filtered-refused = sym (ap (λ (b : Built). b .verdict) (answer-unlawful first (withUnclean 23) refl refl unlawful refl))
+filtered-refused = sym (ap (λ (b : Built). b .verdict) (answer-unlawful firstEdition (withUnclean 23) refl refl unlawful refl))
 
-pub a-to-unclean : compared first serverA (withUnclean 23) ≡ UnlawfulB (ReservedBytes (function 0x40000000))
-a-to-unclean = sym (unlawful-b first serverA (withUnclean 23) serverA-accepted unlawful)
+pub a-to-unclean : compared firstEdition serverA (withUnclean 23) ≡ UnlawfulB (ReservedBytes (function 0x40000000))
+a-to-unclean = sym (unlawful-b firstEdition serverA (withUnclean 23) serverA-accepted unlawful)
 
 -- "Bytes after the count and unused entries aren't tested"
-pub unused-accepted : answer first (withUnclean 22) .verdict ≡ Accepted
+pub unused-accepted : answer firstEdition (withUnclean 22) .verdict ≡ Accepted
 unfolding passed withUnclean
-unused-accepted = verdict-passed first (withUnclean 22)
+unused-accepted = verdict-passed firstEdition (withUnclean 22)
 
 -- before 3: no required leaf is there, and a Dh entry on page 0 does not count; the first of two is named
 unfoldable pub twoUnclean : List ℕ
 twoUnclean = page 2 (unclean 0xD ++ unclean 0x40000000)
 
-pub two-refused : answer first twoUnclean .verdict ≡ Refused (ReservedBytes (function 0xD))
+pub two-refused : answer firstEdition twoUnclean .verdict ≡ Refused (ReservedBytes (function 0xD))
 unfolding passed twoUnclean
-two-refused = verdict-passed first twoUnclean
+two-refused = verdict-passed firstEdition twoUnclean
 
 -- after 2, of a later page
-pub later-count-refused : answer first (twoUnclean ++ page 65 []) .verdict ≡ Refused PageCount
+pub later-count-refused : answer firstEdition (twoUnclean ++ page 65 []) .verdict ≡ Refused PageCount
 unfolding passed twoUnclean
-later-count-refused = verdict-passed first (twoUnclean ++ page 65 [])
+later-count-refused = verdict-passed firstEdition (twoUnclean ++ page 65 [])
 
 -- server A is clean, so the reader gives its entries with zeros there
 pub serverA-clean : allClean serverA ≡ true
-serverA-clean = lawful-clean serverA (accepted-lawful first serverA serverA-accepted)
+serverA-clean = lawful-clean serverA (accepted-lawful firstEdition serverA serverA-accepted)

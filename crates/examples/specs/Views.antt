@@ -8,7 +8,7 @@ use Rattle.masking.specs.Place
 use Rattle.table.specs.declared.CpuidResults.{CpuidResults}
 use Rattle.table.specs.declared.Refusal.the-variants.{SaveAreaOverflow, StateBeyondTable}
 use Rattle.table.specs.declared.Verdict.the-variants.{Accepted, Refused}
-use Rattle.table.specs.Table.{rowIn, rowsIn}
+use Rattle.table.specs.Table.{rowIn, rowsOfTable}
 use Rattle.rise.specs.RiseProof.{answer-table}
 use Rattle.page_sets.specs.PageSets.{serverA, serverB, serverWithLargeD6}
 use Rattle.examples.specs.Computed.{serverA-accepted, serverB-rises, serverB-accepted, large-refused}
@@ -19,7 +19,7 @@ use Rattle.guest.specs.GuestPages.{guestPages}
 use Rattle.guest.specs.GuestPagesLaws.{given-guest, building-first}
 use Rattle.guest_rise.specs.GuestRise.{GuestOutcome}
 use Rattle.guest_rise.specs.GuestRiseProof.{guest-rise}
-use Rattle.page_sets.specs.Evaluation.{first}
+use Rattle.page_sets.specs.Evaluation.{firstEdition}
 use Rattle.examples.specs.SeenExamples.{viewed, processor, built, figures, built-passed, state-passed, figures-passed, seen-verdict, seen-figures}
 
 -- ---- server A, all of its state, OSXSAVE on: bit 27 of 1.ECX is set
@@ -27,79 +27,79 @@ use Rattle.examples.specs.SeenExamples.{viewed, processor, built, figure
 abbrev pub viewA : Processor
 viewA = processor 0x12345 0x7 0 true
 
-stateA : stateVerdict (rowsIn (built first serverA)) 0x7 0 ≡ Accepted
+stateA : stateVerdict (rowsOfTable (built firstEdition serverA)) 0x7 0 ≡ Accepted
 unfolding viewed serverA
-stateA = state-passed first serverA 0x7 0
+stateA = state-passed firstEdition serverA 0x7 0
 
-figuresA : figures (guestTable (built first serverA) viewA) ≡ 0x45010000 ∷ 0xBED83203 ∷ 0x12345 ∷ 0x12345 ∷ 832 ∷ 832 ∷ []
+figuresA : figures (guestTable (built firstEdition serverA) viewA) ≡ 0x45010000 ∷ 0xBED83203 ∷ 0x12345 ∷ 0x12345 ∷ 832 ∷ 832 ∷ []
 unfolding viewed serverA
-figuresA = figures-passed first serverA viewA
+figuresA = figures-passed firstEdition serverA viewA
 
-pub a-given : guestPages first serverA viewA .verdict ≡ Accepted
-a-given = seen-verdict first serverA viewA serverA-accepted stateA
+pub a-given : guestPages firstEdition serverA viewA .verdict ≡ Accepted
+a-given = seen-verdict firstEdition serverA viewA serverA-accepted stateA
 
-pub a-figures : figures (guestPages first serverA viewA .table) ≡ 0x45010000 ∷ 0xBED83203 ∷ 0x12345 ∷ 0x12345 ∷ 832 ∷ 832 ∷ []
-a-figures = seen-figures first serverA viewA serverA-accepted stateA figuresA
+pub a-figures : figures (guestPages firstEdition serverA viewA .table) ≡ 0x45010000 ∷ 0xBED83203 ∷ 0x12345 ∷ 0x12345 ∷ 832 ∷ 832 ∷ []
+a-figures = seen-figures firstEdition serverA viewA serverA-accepted stateA figuresA
 
 -- row 1 whole: EAX and EDX are the table's, and of EBX and ECX all but the number and bit 27
 abbrev versionRow : CpuidResults → CpuidResult
 versionRow t = rowIn t Place.versionAndFeatures .result
 
-version-passed : versionRow (guestTable (built first serverA) viewA) ≡ result 0xA00F11 0x45010000 0xBED83203 0x178BFBFF
+version-passed : versionRow (guestTable (built firstEdition serverA) viewA) ≡ result 0xA00F11 0x45010000 0xBED83203 0x178BFBFF
 unfolding viewed serverA
-version-passed = ap (λ (t : CpuidResults). versionRow (guestTable t viewA)) (built-passed first serverA)
+version-passed = ap (λ (t : CpuidResults). versionRow (guestTable t viewA)) (built-passed firstEdition serverA)
 
-pub a-version : rowIn (guestPages first serverA viewA .table) Place.versionAndFeatures .result ≡ result 0xA00F11 0x45010000 0xBED83203 0x178BFBFF
+pub a-version : rowIn (guestPages firstEdition serverA viewA .table) Place.versionAndFeatures .result ≡ result 0xA00F11 0x45010000 0xBED83203 0x178BFBFF
 a-version =
     ap versionRow
-    (given-guest first serverA viewA serverA-accepted a-given
-    ∙ ap (λ (t : CpuidResults). guestTable t viewA) (answer-table first serverA serverA-accepted))
+    (given-guest firstEdition serverA viewA serverA-accepted a-given
+    ∙ ap (λ (t : CpuidResults). guestTable t viewA) (answer-table firstEdition serverA serverA-accepted))
     ∙ version-passed
 
 -- ---- 13: without bit 0; beyond XFEM; beyond XFEM's 32 bits; XSS beyond the table's, which is 0
 
-beyond : stateVerdict (rowsIn (built first serverA)) 0x6 0
-    ∷ stateVerdict (rowsIn (built first serverA)) 0xE7 0
-    ∷ stateVerdict (rowsIn (built first serverA)) 0x7 0x800
+beyond : stateVerdict (rowsOfTable (built firstEdition serverA)) 0x6 0
+    ∷ stateVerdict (rowsOfTable (built firstEdition serverA)) 0xE7 0
+    ∷ stateVerdict (rowsOfTable (built firstEdition serverA)) 0x7 0x800
     ∷ []
     ≡ Refused StateBeyondTable ∷ Refused StateBeyondTable ∷ Refused StateBeyondTable ∷ []
 unfolding viewed serverA
 beyond =
-    ap (λ (t : CpuidResults). stateVerdict (rowsIn t) 0x6 0 ∷ stateVerdict (rowsIn t) 0xE7 0 ∷ stateVerdict (rowsIn t) 0x7 0x800 ∷ [])
-    (built-passed first serverA)
+    ap (λ (t : CpuidResults). stateVerdict (rowsOfTable t) 0x6 0 ∷ stateVerdict (rowsOfTable t) 0xE7 0 ∷ stateVerdict (rowsOfTable t) 0x7 0x800 ∷ [])
+    (built-passed firstEdition serverA)
 
-beyond-high : stateVerdict (rowsIn (built first serverA)) 0x100000007 0 ≡ Refused StateBeyondTable
+beyond-high : stateVerdict (rowsOfTable (built firstEdition serverA)) 0x100000007 0 ≡ Refused StateBeyondTable
 unfolding viewed serverA
-beyond-high = state-passed first serverA 0x100000007 0
+beyond-high = state-passed firstEdition serverA 0x100000007 0
 
-pub a-beyond : guestPages first serverA (processor 0 0x100000007 0 true) .verdict ≡ Refused StateBeyondTable
-a-beyond = seen-verdict first serverA (processor 0 0x100000007 0 true) serverA-accepted beyond-high
+pub a-beyond : guestPages firstEdition serverA (processor 0 0x100000007 0 true) .verdict ≡ Refused StateBeyondTable
+a-beyond = seen-verdict firstEdition serverA (processor 0 0x100000007 0 true) serverA-accepted beyond-high
 
 -- bit 1 is not asked: XCR0 1 is given
-without-sse : stateVerdict (rowsIn (built first serverA)) 0x1 0 ≡ Accepted
+without-sse : stateVerdict (rowsOfTable (built firstEdition serverA)) 0x1 0 ≡ Accepted
 unfolding viewed serverA
-without-sse = state-passed first serverA 0x1 0
+without-sse = state-passed firstEdition serverA 0x1 0
 
-pub a-without-sse : guestPages first serverA (processor 0 0x1 0 false) .verdict ≡ Accepted
-a-without-sse = seen-verdict first serverA (processor 0 0x1 0 false) serverA-accepted without-sse
+pub a-without-sse : guestPages firstEdition serverA (processor 0 0x1 0 false) .verdict ≡ Accepted
+a-without-sse = seen-verdict firstEdition serverA (processor 0 0x1 0 false) serverA-accepted without-sse
 
 -- ---- building's refusals come first
 
-pub unbuilt : guestPages first serverWithLargeD6 (processor 0 0 0 true) ≡ refusedAnswer SaveAreaOverflow
-unbuilt = building-first first serverWithLargeD6 (processor 0 0 0 true) SaveAreaOverflow large-refused
+pub unbuilt : guestPages firstEdition serverWithLargeD6 (processor 0 0 0 true) ≡ refusedAnswer SaveAreaOverflow
+unbuilt = building-first firstEdition serverWithLargeD6 (processor 0 0 0 true) SaveAreaOverflow large-refused
 
 -- ---- A's guest on B: both sizes stay. B's own state is larger.
 
-pub a-to-b : GuestOutcome (guestPages first serverA viewA .table) (guestPages first serverB viewA)
-a-to-b = guest-rise first serverA serverB viewA serverB-rises serverB-accepted a-given
+pub a-to-b : GuestOutcome (guestPages firstEdition serverA viewA .table) (guestPages firstEdition serverB viewA)
+a-to-b = guest-rise firstEdition serverA serverB viewA serverB-rises serverB-accepted a-given
 
-stateB : stateVerdict (rowsIn (built first serverB)) 0xE7 0x1800 ≡ Accepted
+stateB : stateVerdict (rowsOfTable (built firstEdition serverB)) 0xE7 0x1800 ≡ Accepted
 unfolding viewed serverB
-stateB = state-passed first serverB 0xE7 0x1800
+stateB = state-passed firstEdition serverB 0xE7 0x1800
 
-figuresB : figures (guestTable (built first serverB) (processor 1 0xE7 0x1800 true)) ≡ 0x01010000 ∷ 0xFEDA3203 ∷ 1 ∷ 1 ∷ 2432 ∷ 2472 ∷ []
+figuresB : figures (guestTable (built firstEdition serverB) (processor 1 0xE7 0x1800 true)) ≡ 0x01010000 ∷ 0xFEDA3203 ∷ 1 ∷ 1 ∷ 2432 ∷ 2472 ∷ []
 unfolding viewed serverB
-figuresB = figures-passed first serverB (processor 1 0xE7 0x1800 true)
+figuresB = figures-passed firstEdition serverB (processor 1 0xE7 0x1800 true)
 
-pub b-figures : figures (guestPages first serverB (processor 1 0xE7 0x1800 true) .table) ≡ 0x01010000 ∷ 0xFEDA3203 ∷ 1 ∷ 1 ∷ 2432 ∷ 2472 ∷ []
-b-figures = seen-figures first serverB (processor 1 0xE7 0x1800 true) serverB-accepted stateB figuresB
+pub b-figures : figures (guestPages firstEdition serverB (processor 1 0xE7 0x1800 true) .table) ≡ 0x01010000 ∷ 0xFEDA3203 ∷ 1 ∷ 1 ∷ 2432 ∷ 2472 ∷ []
+b-figures = seen-figures firstEdition serverB (processor 1 0xE7 0x1800 true) serverB-accepted stateB figuresB

@@ -17,7 +17,7 @@ use Rattle.rise.specs.Rise.{RiseTo, TableRises}
 use Rattle.rise.specs.RiseProof.{second-to-first-rises}
 use Rattle.rise.specs.Same.{rises-itself}
 use Rattle.page_sets.specs.PassLaws.{verdict-passed, table-passed}
-use Rattle.page_sets.specs.Evaluation.{first, passed}
+use Rattle.page_sets.specs.Evaluation.{firstEdition, passed}
 use Rattle.page_sets.specs.PageSets.{entry, page, requiredEntries}
 
 abbrev pub second : Choices
@@ -29,9 +29,9 @@ withoutYmm =
     page 23 (entry 0x80000001 0 0xA00F11 0x40000000 0x410BF3 0x2FD3FBFF ++ requiredEntries 0x3ED83203 0x219C07A9 0x3F)
     ++ page 2 (entry 0xD 0 0x3 0x340 0x340 0 ++ entry 0xD 1 0x7 0x340 0 0)
 
-pub first-accepted : answer first withoutYmm .verdict ≡ Accepted
+pub first-accepted : answer firstEdition withoutYmm .verdict ≡ Accepted
 unfolding passed withoutYmm
-first-accepted = verdict-passed first withoutYmm
+first-accepted = verdict-passed firstEdition withoutYmm
 
 pub second-accepted : answer second withoutYmm .verdict ≡ Accepted
 unfolding passed withoutYmm
@@ -44,16 +44,16 @@ ecxOf t = rowIn t Place.versionAndFeatures .result .ecx ∷ rowIn t Place.extend
 abbrev pub figures : Choices → List ℕ
 figures chosen = ecxOf (answer chosen withoutYmm .table)
 
-pub first-figures : figures first ≡ 0xAED82203 ∷ 0x4109F3 ∷ []
+pub first-figures : figures firstEdition ≡ 0xAED82203 ∷ 0x4109F3 ∷ []
 unfolding passed withoutYmm
-first-figures = ap ecxOf (table-passed first withoutYmm first-accepted)
+first-figures = ap ecxOf (table-passed firstEdition withoutYmm first-accepted)
 
 pub second-figures : figures second ≡ 0x8ED82203 ∷ 0x4001F3 ∷ []
 unfolding passed withoutYmm
 second-figures = ap ecxOf (table-passed second withoutYmm second-accepted)
 
 -- from edition 2 to edition 1 is a rise
-pub from-second : RiseTo second first withoutYmm withoutYmm
+pub from-second : RiseTo second firstEdition withoutYmm withoutYmm
 from-second = second-to-first-rises second withoutYmm withoutYmm refl (rises-itself second withoutYmm second-accepted)
 
 -- from edition 1 to edition 2 is none: F16C is gone
@@ -61,10 +61,10 @@ f16c-gone : Within 0xAED82203 0x8ED82203 → ⊥
 unfolding bit
 f16c-gone w = omega (arith, w .at 29)
 
-pub not-from-first : TableRises (answer first withoutYmm .table) (answer second withoutYmm .table) → ⊥
+pub not-from-first : TableRises (answer firstEdition withoutYmm .table) (answer second withoutYmm .table) → ⊥
 unfolding passed withoutYmm
 not-from-first t =
-    let u = subst₂ TableRises (table-passed first withoutYmm first-accepted) (table-passed second withoutYmm second-accepted) t in
+    let u = subst₂ TableRises (table-passed firstEdition withoutYmm first-accepted) (table-passed second withoutYmm second-accepted) t in
     f16c-gone (u .registers Place.versionAndFeatures (lit< tt) refl .ecx)
 
 -- there is no edition 3, also of no pages at all

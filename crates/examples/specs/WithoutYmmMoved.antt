@@ -8,11 +8,11 @@ use Rattle.table.specs.declared.CpuidResults.{CpuidResults}
 use Rattle.table.specs.declared.Refusal.the-variants.{StateBeyondTable}
 use Rattle.table.specs.declared.Verdict.{Verdict}
 use Rattle.table.specs.Edition.{knownEdition}
-use Rattle.table.specs.Table.{emptyTable, rowIn, rowsIn}
+use Rattle.table.specs.Table.{emptyTable, rowIn, rowsOfTable}
 use Rattle.build.specs.Build.{answer}
 use Rattle.guest_state.specs.State.{stateVerdict}
 use Rattle.rise.specs.RiseProof.{answer-table}
-use Rattle.page_sets.specs.Evaluation.{first}
+use Rattle.page_sets.specs.Evaluation.{firstEdition}
 use Rattle.examples.specs.WithoutYmm.{withoutYmm, first-accepted, second-figures}
 use Rattle.examples.specs.SeenExamples.{viewed, built, state-passed}
 use Rattle.table.specs.declared.Refusal.the-variants.{UnknownEdition, EditionBack}
@@ -21,22 +21,22 @@ use Rattle.carry.specs.Carry.{carryVerdict, carry}
 use Rattle.images.specs.MovesProof.{moves-to-second}
 
 abbrev pub running : CpuidResults
-running = answer first withoutYmm .table
+running = answer firstEdition withoutYmm .table
 
 -- the state's verdict, from the table's own rows
-state : (xcr0 xss : ℕ) {w : Verdict} → stateVerdict (rowsIn (built first withoutYmm)) xcr0 xss ≡ w → carry running 1 2 xcr0 xss .verdict ≡ w
+state : (xcr0 xss : ℕ) {w : Verdict} → stateVerdict (rowsOfTable (built firstEdition withoutYmm)) xcr0 xss ≡ w → carry running 1 2 xcr0 xss .verdict ≡ w
 state xcr0 xss e =
-    moves-to-second first withoutYmm xcr0 xss first-accepted .verdict
-    ∙ ap (λ (t : CpuidResults). stateVerdict (rowsIn t) xcr0 xss) (answer-table first withoutYmm first-accepted)
+    moves-to-second firstEdition withoutYmm xcr0 xss first-accepted .verdict
+    ∙ ap (λ (t : CpuidResults). stateVerdict (rowsOfTable t) xcr0 xss) (answer-table firstEdition withoutYmm first-accepted)
     ∙ e
 
-in-use : stateVerdict (rowsIn (built first withoutYmm)) 3 0 ≡ Accepted
+in-use : stateVerdict (rowsOfTable (built firstEdition withoutYmm)) 3 0 ≡ Accepted
 unfolding viewed withoutYmm
-in-use = state-passed first withoutYmm 3 0
+in-use = state-passed firstEdition withoutYmm 3 0
 
-beyond-xfem : stateVerdict (rowsIn (built first withoutYmm)) 7 0 ≡ Refused StateBeyondTable
+beyond-xfem : stateVerdict (rowsOfTable (built firstEdition withoutYmm)) 7 0 ≡ Refused StateBeyondTable
 unfolding viewed withoutYmm
-beyond-xfem = state-passed first withoutYmm 7 0
+beyond-xfem = state-passed firstEdition withoutYmm 7 0
 
 -- a guest with x87 and SSE state in use moves
 pub moved : carry running 1 2 3 0 .verdict ≡ Accepted
@@ -47,7 +47,7 @@ abbrev pub figures : CpuidResults → List ℕ
 figures t = rowIn t Place.versionAndFeatures .result .ecx ∷ rowIn t Place.extendedVersionAndFeatures .result .ecx ∷ []
 
 pub moved-figures : figures (carry running 1 2 3 0 .table) ≡ 0x8ED82203 ∷ 0x4001F3 ∷ []
-moved-figures = ap figures (moves-to-second first withoutYmm 3 0 first-accepted .table moved) ∙ second-figures
+moved-figures = ap figures (moves-to-second firstEdition withoutYmm 3 0 first-accepted .table moved) ∙ second-figures
 
 -- a processor with YMM state, which this server does not give
 pub beyond : carry running 1 2 7 0 .verdict ≡ Refused StateBeyondTable

@@ -20,7 +20,7 @@ use Rattle.checks.specs.ExtendedState.{xfem, xss, combinedMask}
 use Rattle.checks.specs.TopologyInputs.{inputsOf}
 use Rattle.features.specs.Finish.{Enabled, YmmClears, Settings, ymmClears, ruleAt, enabledBy, settings, finish, finishRow, finished}
 use Rattle.checks.specs.Checks.{requiredVerdict}
-use Rattle.table.specs.Table.{countRows, tableOf, rowsIn}
+use Rattle.table.specs.Table.{countRows, tableOf, rowsOfTable}
 use Rattle.finish.specs.PlaceLaws.{always, position, always-required}
 use Rattle.checks.specs.ChecksLaws.{required-present}
 use Rattle.features.specs.FeaturesInCode.{enabledFrom}
@@ -133,14 +133,14 @@ table-eq : {p q : List Bool} {l k : List CpuidResult} {n m x y : ℕ} → p ≡ 
 table-eq a b c d = rw (a, b, c, d)
 
 pub finished-table : (edition : ℕ) (t : CpuidResults) {y : YmmClears} {e : Enabled} {x size v n : ℕ} {d : CpuidResults} {l : List CpuidResult}
-    → Ready (rowsIn t) size v → y ≡ ymmClears edition → e
-    ≡ enabledFrom (rowsIn t (Place.extendedState 0) .result) (rowsIn t (Place.extendedState 1) .result) (rowsIn t Place.extendedSevFeatures .result)
+    → Ready (rowsOfTable t) size v → y ≡ ymmClears edition → e
+    ≡ enabledFrom (rowsOfTable t (Place.extendedState 0) .result) (rowsOfTable t (Place.extendedState 1) .result) (rowsOfTable t Place.extendedSevFeatures .result)
     → x ≡ bitOr (e .xfem) (e .xss) → d ≡ droppedTable t x → n ≡ presentCount (markPresent (d .present)) places
-    → l ≡ storeResults (settingsWith y e size (inputsOf (rowsIn t) .t) v) (λ i. rowsIn t i .result) (d .results)
-    → table (markPresent (d .present)) l n x ≡ tableOf (finished edition (rowsIn t)) (combinedMask (rowsIn t))
+    → l ≡ storeResults (settingsWith y e size (inputsOf (rowsOfTable t) .t) v) (λ i. rowsOfTable t i .result) (d .results)
+    → table (markPresent (d .present)) l n x ≡ tableOf (finished edition (rowsOfTable t)) (combinedMask (rowsOfTable t))
 unfolding combinedMask settings enabledBy xfem xss
 finished-table edition t {y} {e} {x} {size} {v} {n} {d} ready o f g k c r =
-    let m : Rows = rowsIn t in
+    let m : Rows = rowsOfTable t in
     let q : x ≡ combinedMask m = g ∙ ap (λ (w : Enabled). bitOr (w .xfem) (w .xss)) f in
     let k₁ : d ≡ droppedTable t (combinedMask m) = k ∙ ap (droppedTable t) q in
     let s : settingsWith y e size (inputsOf m .t) v ≡ settings edition m = settings-eq (inputsOf m .t) o f (ready .area) (ready .topology) in

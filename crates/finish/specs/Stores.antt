@@ -18,7 +18,7 @@ use Rattle.checks.specs.ExtendedState.{xfem, saveArea}
 use Rattle.checks.specs.TopologyInputs.{inputsOf}
 use Rattle.checks.specs.Checks.{requiredVerdict}
 use Rattle.table.specs.declared.CpuidResults.{CpuidResults}
-use Rattle.table.specs.Table.{rowsIn}
+use Rattle.table.specs.Table.{rowsOfTable}
 
 abbrev pub table : List Bool → List CpuidResult → ℕ → ℕ → CpuidResults
 table p l n x = record { present = p; results = l; «row_count» = n; «max_extended_state» = x }
@@ -39,7 +39,7 @@ dropped m x i = droppedRow x i (m i)
 
 abbrev pub droppedTable : CpuidResults → ℕ → CpuidResults
 droppedTable t x =
-    table (tabulate places (λ i. dropped (rowsIn t) x i .present)) (tabulate places (λ i. dropped (rowsIn t) x i .result)) (t .«row_count»)
+    table (tabulate places (λ i. dropped (rowsOfTable t) x i .present)) (tabulate places (λ i. dropped (rowsOfTable t) x i .result)) (t .«row_count»)
     (t .«max_extended_state»)
 
 -- what the checks have shown once rows are finished

@@ -11,7 +11,7 @@ use lib.ListN.{length, getD, length-set}
 use borrow.Author.Tests.{eqb-true, eqb-false}
 use Rattle.bits.specs.Choice.{pick}
 use Rattle.x86defs.specs.Functions.{function, result}
-use Rattle.pages.specs.Layout.{entryAt, entryStart, wordAt, pageSize, firstEntry, entrySize, mostEntries, pagesIn, countOf}
+use Rattle.pages.specs.Layout.{entryAt, entryStart, wordAt, pageSize, entriesAt, entrySize, mostEntries, pagesIn, countOf}
 use Rattle.flips.specs.declared.Flip.{Flip}
 use Rattle.flips.specs.Flips.{flip, flippedByte, flipped}
 use Rattle.flips.specs.OneBit.{bitIn, flipEntry}
@@ -24,8 +24,8 @@ part-known d a b x y u v e = sym (digits-div a u) ∙ ap (λ (n : ℕ). n / d) e
 -- a page, and an entry of it, are known by a byte of theirs
 pub known : (a b i j x y : ℕ) → x < 48 → y < 48 → i < mostEntries → j < mostEntries → entryStart a i + x ≡ entryStart b j + y → (a ≡ b) × (i ≡ j)
 known a b i j x y u v l m e =
-    let p : a ≡ b = part-known pageSize a b (firstEntry + entrySize * i + x)
-    (firstEntry + entrySize * j + y) (omega arith) (omega arith) (omega arith) in
+    let p : a ≡ b = part-known pageSize a b (entriesAt + entrySize * i + x)
+    (entriesAt + entrySize * j + y) (omega arith) (omega arith) (omega arith) in
     (p, part-known entrySize i j x y u v (omega (arith, p)))
 
 -- a result bit of an entry of some page
@@ -60,7 +60,7 @@ module _ (s : List ℕ) (p q r k : ℕ) (h : Inside s p q r k) where
   pub same-count : (p′ : ℕ) → countOf (flipped s f) p′ ≡ countOf s p′
   same-count p′ =
       other (pageSize * p′) (λ j l e.
-      let y : ℕ = firstEntry + entrySize * q + 24 + 4 * r + k / 8 in
+      let y : ℕ = entriesAt + entrySize * q + 24 + 4 * r + k / 8 in
       let g : p′ ≡ p = part-known pageSize p′ p j y (omega arith) (omega (arith, h .entry, h .register, h .bit)) (omega arith) in
       omega (arith, g, h .entry))
 

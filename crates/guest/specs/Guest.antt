@@ -17,7 +17,7 @@ use Rattle.table.specs.declared.Refusal.{Refusal}
 use Rattle.table.specs.declared.Verdict.{Verdict}
 use Rattle.table.specs.declared.Verdict.the-variants.{Accepted, Refused}
 use Rattle.table.specs.Rows.{Row}
-use Rattle.table.specs.Table.{emptyTable, rowsIn}
+use Rattle.table.specs.Table.{emptyTable, rowsOfTable}
 use Rattle.guest.specs.declared.Processor.{Processor}
 use Rattle.guest.specs.declared.GuestAnswer.{GuestAnswer}
 use Rattle.guest_state.specs.State.{saveRegister, compactRegister, stateVerdict}
@@ -56,7 +56,7 @@ seenAt v area compact i r =
 
 -- the two sizes are those of the table's own rows
 abbrev pub seenIn : CpuidResults → Processor → ℕ → CpuidResult
-seenIn t v i = seenAt v (saveRegister (rowsIn t) (v .xcr0)) (compactRegister (rowsIn t) (v .xcr0) (v .xss)) i (rowsIn t i)
+seenIn t v i = seenAt v (saveRegister (rowsOfTable t) (v .xcr0)) (compactRegister (rowsOfTable t) (v .xcr0) (v .xss)) i (rowsOfTable t i)
 
 -- "the guest's whole table, looked up as before": the same rows are there
 abbrev pub guestTable : CpuidResults → Processor → CpuidResults
@@ -79,4 +79,4 @@ abbrev pub answerFor : Verdict → CpuidResults → Processor → GuestAnswer
 answerFor w t v = record { verdict = w; table = tableGiven w t v }
 
 unfoldable pub guestAnswer : CpuidResults → Processor → GuestAnswer
-guestAnswer t v = answerFor (stateVerdict (rowsIn t) (v .xcr0) (v .xss)) t v
+guestAnswer t v = answerFor (stateVerdict (rowsOfTable t) (v .xcr0) (v .xss)) t v

@@ -15,7 +15,7 @@ use Rattle.x86defs.specs.Functions.{result}
 use Rattle.masking.specs.Kept.{places}
 use Rattle.table.specs.declared.CpuidResults.{CpuidResults}
 use Rattle.table.specs.Rows.{Row, Rows}
-use Rattle.table.specs.Table.{rowIn, rowsIn}
+use Rattle.table.specs.Table.{rowIn, rowsOfTable}
 use Rattle.guest.specs.declared.Processor.{Processor}
 use Rattle.guest.specs.Guest.{versionSeen, levelSeen, sizeSeen, seenAt}
 
@@ -54,4 +54,4 @@ given t v a c {version} {threads} {cores} {state0} {state1} n e₁ e₄ e₅ e�
     tabulated places (λ i. rowIn t i .result) (t .results) (result 0 0 0 0) n (λ i l. refl) in
     let p : storing version threads cores state0 state1 (t .results) ≡ storingAll (λ i. seenAt v a c i (rowIn t i)) (t .results) =
     rw (e₁, e₄, e₅, e₆, e₇) in
-    p ∙ ap (storingAll (λ i. seenAt v a c i (rowIn t i))) whole ∙ stores (rowsIn t) v a c
+    p ∙ ap (storingAll (λ i. seenAt v a c i (rowIn t i))) whole ∙ stores (rowsOfTable t) v a c

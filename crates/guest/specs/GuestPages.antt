@@ -5,7 +5,7 @@ use Rattle.table.specs.declared.Choices.{Choices}
 use Rattle.table.specs.declared.CpuidResults.{CpuidResults}
 use Rattle.table.specs.declared.Verdict.{Verdict}
 use Rattle.table.specs.Refusal.{andThen}
-use Rattle.table.specs.Table.{rowsIn}
+use Rattle.table.specs.Table.{rowsOfTable}
 use Rattle.build.specs.declared.Built.{Built}
 use Rattle.build.specs.Build.{answer}
 use Rattle.buffer.specs.Front.{AfterWrite, writeVerdict}
@@ -17,7 +17,7 @@ use Rattle.guest.specs.Guest.{answerFor}
 
 -- of what building gave
 abbrev pub guestBy : Verdict → CpuidResults → Processor → GuestAnswer
-guestBy w t v = answerFor (andThen w (stateVerdict (rowsIn t) (v .xcr0) (v .xss))) t v
+guestBy w t v = answerFor (andThen w (stateVerdict (rowsOfTable t) (v .xcr0) (v .xss))) t v
 
 abbrev pub guestOf : Built → Processor → GuestAnswer
 guestOf b v = guestBy (b .verdict) (b .table) v

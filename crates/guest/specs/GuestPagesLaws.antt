@@ -7,7 +7,7 @@ use Rattle.table.specs.declared.CpuidResults.{CpuidResults}
 use Rattle.table.specs.declared.Refusal.{Refusal}
 use Rattle.table.specs.declared.Verdict.{Verdict}
 use Rattle.table.specs.declared.Verdict.the-variants.{Accepted, Refused}
-use Rattle.table.specs.Table.{emptyTable, rowsIn}
+use Rattle.table.specs.Table.{emptyTable, rowsOfTable}
 use Rattle.memory.specs.Held.{heldIn}
 use Rattle.finish.specs.RowsBuilt.{tableFor}
 use Rattle.build.specs.Build.{rowsFor, answer, InMemory}
@@ -40,7 +40,7 @@ module _ (chosen : Choices) (s : List ℕ) (v : Processor) where
 
   -- a view of an accepted page set is that of its table
   pub guest-verdict : answer chosen s .verdict ≡ Accepted
-      → guestPages chosen s v .verdict ≡ stateVerdict (rowsIn (answer chosen s .table)) (v .xcr0) (v .xss)
+      → guestPages chosen s v .verdict ≡ stateVerdict (rowsOfTable (answer chosen s .table)) (v .xcr0) (v .xss)
   unfolding guestAnswer
   guest-verdict e = ap (λ (g : GuestAnswer). g .verdict) (accepted-guest e)
 

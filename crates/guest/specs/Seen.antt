@@ -11,7 +11,7 @@ use Rattle.table.specs.declared.CpuidResults.{CpuidResults}
 use Rattle.table.specs.declared.Subleaf.{Subleaf}
 use Rattle.table.specs.declared.Verdict.{Verdict}
 use Rattle.table.specs.declared.Verdict.the-variants.{Accepted, Refused}
-use Rattle.table.specs.Table.{rowsIn}
+use Rattle.table.specs.Table.{rowsOfTable}
 use Rattle.memory.specs.Held.{heldIn}
 use Rattle.lookup.specs.declared.Found.{Found}
 use Rattle.lookup.specs.Lookup.{found}
@@ -25,7 +25,7 @@ use Rattle.guest.specs.Guest.{seenAt}
 -- ---- the guest's table where D.1.EBX is a number that the caller has: with the table's own compacted size it is `guestTable`, by computation
 
 abbrev pub seenWith : CpuidResults → Processor → ℕ → ℕ → CpuidResult
-seenWith t v compact i = seenAt v (saveRegister (rowsIn t) (v .xcr0)) compact i (rowsIn t i)
+seenWith t v compact i = seenAt v (saveRegister (rowsOfTable t) (v .xcr0)) compact i (rowsOfTable t i)
 
 abbrev pub tableWith : CpuidResults → Processor → ℕ → CpuidResults
 tableWith t v compact = record {

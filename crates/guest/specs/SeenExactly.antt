@@ -19,7 +19,7 @@ use Rattle.x86defs.specs.declared.CpuidResult.{CpuidResult}
 use Rattle.masking.specs.Kept.{places}
 use Rattle.masking.specs.Place
 use Rattle.table.specs.declared.CpuidResults.{CpuidResults}
-use Rattle.table.specs.Table.{rowIn, rowsIn}
+use Rattle.table.specs.Table.{rowIn, rowsOfTable}
 use Rattle.guest_state.specs.State.{saveRegister, compactRegister}
 use Rattle.guest.specs.declared.Processor.{Processor}
 use Rattle.guest.specs.Guest.{numberSeen, osxsaveSeen, guestTable}
@@ -67,9 +67,9 @@ pub record SeenExactly (t : CpuidResults) (v : Processor) : Type 0 where
   pub cores : inTable t Place.coreLevel → LevelSeen v (rowIn t Place.coreLevel .result) (rowIn (guestTable t v) Place.coreLevel .result)
   -- the size over XCR0, held to 32 bits, which a built table's never passes (`guest-size-never-overflows`)
   pub state0 : inTable t (Place.extendedState 0)
-      → SizeSeen (saveRegister (rowsIn t) (v .xcr0)) (rowIn t (Place.extendedState 0) .result) (rowIn (guestTable t v) (Place.extendedState 0) .result)
+      → SizeSeen (saveRegister (rowsOfTable t) (v .xcr0)) (rowIn t (Place.extendedState 0) .result) (rowIn (guestTable t v) (Place.extendedState 0) .result)
   pub state1 : inTable t (Place.extendedState 1)
-      → SizeSeen (compactRegister (rowsIn t) (v .xcr0) (v .xss)) (rowIn t (Place.extendedState 1) .result)
+      → SizeSeen (compactRegister (rowsOfTable t) (v .xcr0) (v .xss)) (rowIn t (Place.extendedState 1) .result)
       (rowIn (guestTable t v) (Place.extendedState 1) .result)
   pub elsewhere : (i : ℕ) → i < places
       → i ≢ Place.versionAndFeatures → i ≢ Place.threadLevel → i ≢ Place.coreLevel → i ≢ Place.extendedState 0 → i ≢ Place.extendedState 1

@@ -10,7 +10,7 @@ use Rattle.masking.specs.Kept.{places}
 use Rattle.masking.specs.Place
 use Rattle.table.specs.declared.CpuidResults.{CpuidResults}
 use Rattle.table.specs.Rows.{row}
-use Rattle.table.specs.Table.{rowIn, rowsIn}
+use Rattle.table.specs.Table.{rowIn, rowsOfTable}
 use Rattle.guest_state.specs.State.{saveRegister, compactRegister}
 use Rattle.guest.specs.declared.Processor.{Processor}
 use Rattle.guest.specs.Guest.{seenAt, seenIn, guestTable}
@@ -21,10 +21,10 @@ seen-row t v i l = getD-tabulate places (seenIn t v) i (result 0 0 0 0) l
 -- of a row that is there
 pub seen-there : (t : CpuidResults) (v : Processor) (i : ℕ) → i < places → rowIn t i .present ≡ true
     → rowIn (guestTable t v) i .result
-    ≡ seenAt v (saveRegister (rowsIn t) (v .xcr0)) (compactRegister (rowsIn t) (v .xcr0) (v .xss)) i (row (rowIn t i .result))
+    ≡ seenAt v (saveRegister (rowsOfTable t) (v .xcr0)) (compactRegister (rowsOfTable t) (v .xcr0) (v .xss)) i (row (rowIn t i .result))
 seen-there t v i l p =
     seen-row t v i l
-    ∙ ap (λ (b : Bool). seenAt v (saveRegister (rowsIn t) (v .xcr0)) (compactRegister (rowsIn t) (v .xcr0) (v .xss)) i
+    ∙ ap (λ (b : Bool). seenAt v (saveRegister (rowsOfTable t) (v .xcr0)) (compactRegister (rowsOfTable t) (v .xcr0) (v .xss)) i
     (record { present = b; result = rowIn t i .result })) p
 
 -- "differs in these places": every other row is the table's

@@ -20,7 +20,7 @@ use Rattle.table.specs.declared.CpuidResults.{CpuidResults}
 use Rattle.features.specs.Finish.{Rule, ruleAt, settings, finish, finished}
 use Rattle.finish.specs.PlaceLaws.{always, component-rule}
 use Rattle.finish.specs.RemainsLaws.{component-finished}
-use Rattle.table.specs.Table.{rowIn, rowsIn}
+use Rattle.table.specs.Table.{rowIn, rowsOfTable}
 use Rattle.build.specs.Build.{rowsFor, answer}
 use Rattle.rise.specs.RiseProof.{answer-row}
 use Rattle.rise.specs.BuiltLaws.{accepted-passes, area-fits, always-finished, result-at, built-xfem, built-mask}
@@ -28,7 +28,7 @@ use Rattle.rise.specs.BuiltLaws.{accepted-passes, area-fits, always-finished, r
 -- the rows that a guest's sizes read are there
 pub record Supplied (t : CpuidResults) : Type 0 where
   pub required : (i : ℕ) → i < places → always (ruleAt i) ≡ true → rowIn t i .present ≡ true
-  pub components : (k : ℕ) → 2 ≤ k → k < 64 → has k (combinedMask (rowsIn t)) ≡ true → rowIn t (Place.extendedState k) .present ≡ true
+  pub components : (k : ℕ) → 2 ≤ k → k < 64 → has k (combinedMask (rowsOfTable t)) ≡ true → rowIn t (Place.extendedState k) .present ≡ true
 
 module _ (chosen : Choices) (s : List ℕ) (e : answer chosen s .verdict ≡ Accepted) where
   abbrev m : Rows
@@ -55,9 +55,9 @@ module _ (chosen : Choices) (s : List ℕ) (e : answer chosen s .verdict ≡ Acc
       ∙ ap (λ (q : Rule). finish (settings (chosen .edition) m) q (m (Place.extendedState k) .result)) (component-rule k l u)
 
   -- "D.0.EBX never overflows": over any mask within XFEM the size fits 32 bits
-  pub built-fits : (x : ℕ) → Within x (xfem (rowsIn t)) → saveArea (rowsIn t) x < 2 ^ 32
+  pub built-fits : (x : ℕ) → Within x (xfem (rowsOfTable t)) → saveArea (rowsOfTable t) x < 2 ^ 32
   built-fits x h =
       let w : Within x (xfem m) = within-trans h (within-eq (built-xfem chosen s e)) in
-      let up : saveArea (rowsIn t) x ≤ saveArea m (xfem m) =
-      area-mono (rowsIn t) m 64 w (λ k l u f. ap (λ (r : CpuidResult). r .eax + r .ebx) (component-kept k l u (in-combined m k (has-mono k w f)))) in
+      let up : saveArea (rowsOfTable t) x ≤ saveArea m (xfem m) =
+      area-mono (rowsOfTable t) m 64 w (λ k l u f. ap (λ (r : CpuidResult). r .eax + r .ebx) (component-kept k l u (in-combined m k (has-mono k w f)))) in
       omega (arith, up, area-fits chosen s e)

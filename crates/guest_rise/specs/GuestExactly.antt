@@ -11,7 +11,7 @@ use Rattle.table.specs.declared.Verdict.{Verdict}
 use Rattle.table.specs.declared.Verdict.the-variants.{Accepted, Refused}
 use Rattle.table.specs.Refusal.{details}
 use Rattle.table.specs.Rows.{Rows}
-use Rattle.table.specs.Table.{emptyTable, rowsIn}
+use Rattle.table.specs.Table.{emptyTable, rowsOfTable}
 use Rattle.build.specs.Build.{answer}
 use Rattle.buffer.specs.WritesExactly.{FrontExactly, front-exactly}
 use Rattle.image.specs.Image.{image}
@@ -27,7 +27,7 @@ use Rattle.guest_rise.specs.StateExactly.StateAnswers.{beyond, large, gi
 
 -- the rows of the table that was built
 abbrev pub tableRows : Choices → List ℕ → Rows
-tableRows chosen s = rowsIn (answer chosen s .table)
+tableRows chosen s = rowsOfTable (answer chosen s .table)
 
 -- a refusal holds the empty table
 pub record GuestExactly (chosen : Choices) (s : List ℕ) (v : Processor) : Type 0 where

@@ -10,7 +10,7 @@ use Rattle.masking.specs.Place
 use Rattle.table.specs.declared.Choices.{Choices}
 use Rattle.table.specs.declared.CpuidResults.{CpuidResults}
 use Rattle.table.specs.declared.Verdict.the-variants.{Accepted}
-use Rattle.table.specs.Table.{rowIn, rowsIn}
+use Rattle.table.specs.Table.{rowIn, rowsOfTable}
 use Rattle.checks.specs.ExtendedState.{saveArea}
 use Rattle.build.specs.Build.{answer}
 use Rattle.rise.specs.Rise.{RiseHypothesis, TableRises}
@@ -36,11 +36,11 @@ module _ (chosen : Choices) (a b : List ℕ) (v : Processor) (rises : RiseHypoth
   tables : TableRises t (answer chosen b .table)
   tables = demand-3 chosen a b rises .table acceptedB
 
-  givenA : stateVerdict (rowsIn t) (v .xcr0) (v .xss) ≡ Accepted
+  givenA : stateVerdict (rowsOfTable t) (v .xcr0) (v .xss) ≡ Accepted
   givenA = sym (guest-verdict chosen a v (rises .accepted)) ∙ isGiven
 
-  allowedA : Allowed (rowsIn t) (v .xcr0) (v .xss)
-  allowedA = given-allowed (rowsIn t) (v .xcr0) (v .xss) givenA
+  allowedA : Allowed (rowsOfTable t) (v .xcr0) (v .xss)
+  allowedA = given-allowed (rowsOfTable t) (v .xcr0) (v .xss) givenA
 
   outcome : GuestOutcome (guestPages chosen a v .table) (guestPages chosen b v)
   outcome =
@@ -66,16 +66,16 @@ module _ (chosen : Choices) (s : List ℕ) (v : Processor) (accepted : answer ch
   abbrev w : CpuidResults
   w = answer chosen s .table
 
-  pub never-overflows : saveArea (rowsIn w) (v .xcr0) < 2 ^ 32
+  pub never-overflows : saveArea (rowsOfTable w) (v .xcr0) < 2 ^ 32
   never-overflows =
-      built-fits chosen s accepted (v .xcr0) (given-allowed (rowsIn w) (v .xcr0) (v .xss) (sym (guest-verdict chosen s v accepted) ∙ isGiven) .user)
+      built-fits chosen s accepted (v .xcr0) (given-allowed (rowsOfTable w) (v .xcr0) (v .xss) (sym (guest-verdict chosen s v accepted) ∙ isGiven) .user)
 
-  pub area-seen : rowIn (guestPages chosen s v .table) (Place.extendedState 0) .result .ebx ≡ saveArea (rowsIn w) (v .xcr0)
+  pub area-seen : rowIn (guestPages chosen s v .table) (Place.extendedState 0) .result .ebx ≡ saveArea (rowsOfTable w) (v .xcr0)
   unfolding saveRegister
   area-seen =
       ap (λ (q : CpuidResults). rowIn q (Place.extendedState 0) .result .ebx) (given-guest chosen s v accepted isGiven)
       ∙ ap (λ (r : CpuidResult). r .ebx) (seen-there w v (Place.extendedState 0) (lit< tt) there)
-      ∙ fits (saveArea (rowsIn w) (v .xcr0)) never-overflows
+      ∙ fits (saveArea (rowsOfTable w) (v .xcr0)) never-overflows
     where
       there : rowIn w (Place.extendedState 0) .present ≡ true
       there = built-supplied chosen s accepted .required (Place.extendedState 0) (lit< tt) refl

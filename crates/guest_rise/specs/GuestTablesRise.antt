@@ -15,7 +15,7 @@ use Rattle.table.specs.declared.CpuidResults.{CpuidResults}
 use Rattle.table.specs.declared.Verdict.{Verdict}
 use Rattle.table.specs.declared.Verdict.the-variants.{Accepted}
 use Rattle.table.specs.Rows.{Rows}
-use Rattle.table.specs.Table.{rowIn, rowsIn}
+use Rattle.table.specs.Table.{rowIn, rowsOfTable}
 use Rattle.checks.specs.ExtendedState.{xfem, combinedMask, saveArea}
 use Rattle.checks.specs.ExtendedStateLaws.{area-mono, xss-mono}
 use Rattle.finish.specs.Kinds.{Kinds, TableAtLeast, Registers, kinds}
@@ -36,12 +36,12 @@ use Rattle.guest_rise.specs.StateExactly.StateAnswers.{given as accepted
 use Rattle.guest_rise.specs.BuiltState.{Supplied}
 use Rattle.guest_rise.specs.SeenRises.{state0-eax, state1-eax, state1-ecx, state1-edx, seen-rises}
 
-module _ (t u : CpuidResults) (v : Processor) (rises : TableRises t u) (supplied : Supplied t) (allows : Allowed (rowsIn t) (v .xcr0) (v .xss)) where
+module _ (t u : CpuidResults) (v : Processor) (rises : TableRises t u) (supplied : Supplied t) (allows : Allowed (rowsOfTable t) (v .xcr0) (v .xss)) where
   abbrev T : Rows
-  T = rowsIn t
+  T = rowsOfTable t
 
   abbrev U : Rows
-  U = rowsIn u
+  U = rowsOfTable u
 
   abbrev x : ℕ
   x = bitOr (v .xcr0) (v .xss)
@@ -139,7 +139,7 @@ module _ (t u : CpuidResults) (v : Processor) (rises : TableRises t u) (supplied
 
   -- ---- the answers
 
-  given-table : (w : CpuidResults) → stateVerdict (rowsIn w) (v .xcr0) (v .xss) ≡ Accepted → guestAnswer w v .table ≡ guestTable w v
+  given-table : (w : CpuidResults) → stateVerdict (rowsOfTable w) (v .xcr0) (v .xss) ≡ Accepted → guestAnswer w v .table ≡ guestTable w v
   unfolding guestAnswer
   given-table w e = ap (λ (q : Verdict). tableGiven q w v) e
 

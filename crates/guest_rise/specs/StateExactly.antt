@@ -19,7 +19,7 @@ use Rattle.table.specs.Rows.{Rows}
 use Rattle.checks.specs.Checks.{refuseUnless}
 use Rattle.checks.specs.ExtendedState.{xfem, xss as maxXss}
 use Rattle.guest_state.specs.Compact.{compactSize}
-use Rattle.guest_state.specs.State.{within, allowed, compacts, compactRegister, allowedVerdict, compactVerdict, stateVerdict}
+use Rattle.guest_state.specs.State.{isWithin, allowed, compacts, compactRegister, allowedVerdict, compactVerdict, stateVerdict}
 
 -- ---- the conditions, each by itself
 
@@ -52,8 +52,8 @@ test-allowed m x s e =
     let f = and-right (has 0 x) _ e in
     record {
       x87 = has-bit 0 _ (and-left (has 0 x) _ e);
-      user = within-of-and (eqb-true _ _ (and-left (within x (xfem m)) _ f));
-      supervisor = within-of-and (eqb-true _ _ (and-right (within x (xfem m)) _ f));
+      user = within-of-and (eqb-true _ _ (and-left (isWithin x (xfem m)) _ f));
+      supervisor = within-of-and (eqb-true _ _ (and-right (isWithin x (xfem m)) _ f));
     }
 
 allowed-test : (m : Rows) (x s : ℕ) → Allowed m x s → allowed (xfem m) (maxXss m) x s ≡ true

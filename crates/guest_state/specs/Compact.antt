@@ -14,12 +14,12 @@ abbrev pub raised : ℕ → ℕ
 raised n = (n + 63) / 64 * 64
 
 -- where subleaf r starts if the area before it has n bytes
-unfoldable pub startOf : CpuidResult → ℕ → ℕ
-startOf r n = pick (has 1 (r .ecx)) (raised n) n
+unfoldable pub componentStart : CpuidResult → ℕ → ℕ
+componentStart r n = pick (has 1 (r .ecx)) (raised n) n
 
 -- the area once subleaf r stands behind n bytes, if it is used
 unfoldable pub placed : Bool → CpuidResult → ℕ → ℕ
-placed true r n = startOf r n + r .eax
+placed true r n = componentStart r n + r .eax
 placed false r n = n
 
 -- the area over the subleaves below n that a mask has

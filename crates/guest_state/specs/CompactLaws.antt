@@ -14,17 +14,17 @@ use Rattle.x86defs.specs.declared.CpuidResult.{CpuidResult}
 use Rattle.masking.specs.Place
 use Rattle.table.specs.Rows.{Rows}
 use Rattle.checks.specs.MaskLaws.{none-from}
-use Rattle.guest_state.specs.Compact.{raised, startOf, placed, compactBelow, compactSize}
+use Rattle.guest_state.specs.Compact.{raised, componentStart, placed, compactBelow, compactSize}
 
 -- ---- one subleaf
 
 module _ {used : Bool} (r : CpuidResult) (n : ℕ) where
   pub placed-raised : used ≡ true → has 1 (r .ecx) ≡ true → raised n + r .eax ≡ placed used r n
-  unfolding placed startOf
+  unfolding placed componentStart
   placed-raised e f = rw (e, f)
 
   pub placed-packed : used ≡ true → has 1 (r .ecx) ≡ false → n + r .eax ≡ placed used r n
-  unfolding placed startOf
+  unfolding placed componentStart
   placed-packed e f = rw (e, f)
 
   pub placed-unused : used ≡ false → n ≡ placed used r n

@@ -80,14 +80,14 @@ module _ (w o : List ℕ) (i : ℕ) {q : CpuidResult} where
 -- ---- the table that the memory holds: verdict and sizes need no length of the memory
 
 module _ (w o : List ℕ) where
-  same : (k : ℕ) → k < 64 → Tables.rowsIn (heldIn w o) (Place.extendedState k) .result ≡ rowsIn w o (Place.extendedState k) .result
+  same : (k : ℕ) → k < 64 → Tables.rowsOfTable (heldIn w o) (Place.extendedState k) .result ≡ rowsIn w o (Place.extendedState k) .result
   same k h = ap (λ (r : Row). r .result) (whole-row (rowsIn w o) (Place.extendedState k) (omega arith))
 
-  pub held-verdict : (x s : ℕ) → stateVerdict (Tables.rowsIn (heldIn w o)) x s ≡ stateVerdict (readRows false w o) x s
-  held-verdict x s = verdict-of-state (Tables.rowsIn (heldIn w o)) (readRows false w o) same x s
+  pub held-verdict : (x s : ℕ) → stateVerdict (Tables.rowsOfTable (heldIn w o)) x s ≡ stateVerdict (readRows false w o) x s
+  held-verdict x s = verdict-of-state (Tables.rowsOfTable (heldIn w o)) (readRows false w o) same x s
 
-  pub held-compact : (x s : ℕ) → compactRegister (Tables.rowsIn (heldIn w o)) x s ≡ compactRegister (readRows false w o) x s
-  held-compact x s = compact-of-state (Tables.rowsIn (heldIn w o)) (readRows false w o) same x s
+  pub held-compact : (x s : ℕ) → compactRegister (Tables.rowsOfTable (heldIn w o)) x s ≡ compactRegister (readRows false w o) x s
+  held-compact x s = compact-of-state (Tables.rowsOfTable (heldIn w o)) (readRows false w o) same x s
 
-  pub held-save : (x : ℕ) → saveRegister (Tables.rowsIn (heldIn w o)) x ≡ saveRegister (registersIn w) x
-  held-save x = save-of-state (Tables.rowsIn (heldIn w o)) (registersIn w) same x 0
+  pub held-save : (x : ℕ) → saveRegister (Tables.rowsOfTable (heldIn w o)) x ≡ saveRegister (registersIn w) x
+  held-save x = save-of-state (Tables.rowsOfTable (heldIn w o)) (registersIn w) same x 0

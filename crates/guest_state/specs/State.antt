@@ -34,12 +34,12 @@ compactRegister m xcr0 xss = pick (compacts (m (Place.extendedState 1) .result .
 -- ---- the refusals
 
 -- whether y has every bit of x, over all bits
-abbrev pub within : ℕ → ℕ → Bool
-within x y = eqb (bitAnd x y) x
+abbrev pub isWithin : ℕ → ℕ → Bool
+isWithin x y = eqb (bitAnd x y) x
 
 -- 13 is given unless: XCR0 has bit 0 and none beyond XFEM, and XSS has none beyond the table's
 unfoldable pub allowed : ℕ → ℕ → ℕ → ℕ → Bool
-allowed f s xcr0 xss = has 0 xcr0 && (within xcr0 f && within xss s)
+allowed f s xcr0 xss = has 0 xcr0 && (isWithin xcr0 f && isWithin xss s)
 
 unfoldable pub allowedVerdict : Rows → ℕ → ℕ → Verdict
 allowedVerdict m xcr0 xss = refuseUnless (allowed (xfem m) (maxXss m) xcr0 xss) StateBeyondTable

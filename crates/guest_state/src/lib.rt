@@ -17,7 +17,7 @@ ghost use Prim.Native.Nat.{_+_, _≤_, _<_, _^_};
 ghost use Rattle.masking.specs.Kept.{places};
 ghost use Rattle.rows_checked.specs.Checked.{registersIn};
 ghost use Rattle.guest_state.specs.Compact.{placed, compactSize};
-ghost use Rattle.guest_state.specs.State.{within, allowed, compactRegister, saveRegister};
+ghost use Rattle.guest_state.specs.State.{isWithin, allowed, compactRegister, saveRegister};
 ghost use Rattle.guest_state.specs.InUse.{readRows, inUse};
 
 // Refused, or given: D.1.EBX.
@@ -60,7 +60,7 @@ fn is_allowed(xfem: u32, max_xss: u32, xcr0: u64, xss: u64) -> bool
 
 // Whether every bit of `x` is in `y`.
 fn is_within(x: u64, y: u64) -> bool
-    ensures { λ r. ⌜ r ≡ within x y ⌝ }
+    ensures { λ r. ⌜ r ≡ isWithin x y ⌝ }
 {
     x & y == x
 }

@@ -17,7 +17,7 @@ use Rattle.x86defs.specs.declared.CpuidResult.{CpuidResult}
 use Rattle.x86defs.specs.Functions.{function}
 use Rattle.masking.specs.declared.run.Run.{Run}
 use Rattle.masking.specs.Kept.{places, leafAt, indexedAt, subleafAt}
-use Rattle.masking.specs.Runs.{lawful}
+use Rattle.masking.specs.Runs.{lawfulRun}
 use Rattle.masking.specs.RunLaws.{leaf-in-run, indexed-in-run, subleaf-in-run}
 use Rattle.table.specs.declared.CpuidResults.{CpuidResults}
 use Rattle.table.specs.Rows.{Row}
@@ -78,7 +78,7 @@ unfolding indexedRow wholeRow
 stands-row true leaf k i r p q e = rw (← p, ← q, ← e)
 stands-row false leaf k i r p q e = rw (← p, ← q)
 
-pub run-row : (g : Run) → lawful g ≡ true → (i : ℕ) (r : Row) → g .first ≤ i → i < g .first + g .count
+pub run-row : (g : Run) → lawfulRun g ≡ true → (i : ℕ) (r : Row) → g .first ≤ i → i < g .first + g .count
     → placeBytes i r ≡ runRow g (i - g .first) (r .present) (r .result)
 unfolding runRow
 run-row g l i r low high =

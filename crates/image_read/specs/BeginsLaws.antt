@@ -16,7 +16,7 @@ use Rattle.x86defs.specs.Functions.{function}
 use Rattle.pages.specs.Layout.{wordAt}
 use Rattle.masking.specs.declared.run.Run.{Run}
 use Rattle.masking.specs.Kept.{leafAt, indexedAt, subleafAt}
-use Rattle.masking.specs.Runs.{lawful}
+use Rattle.masking.specs.Runs.{lawfulRun}
 use Rattle.masking.specs.RunLaws.{leaf-in-run, indexed-in-run, subleaf-in-run}
 use Rattle.image_read.specs.ReadImage.{registersAt, opens, begins}
 use Rattle.image_read.specs.ImageRuns.{runBegins}
@@ -94,7 +94,7 @@ pub record RowThere (s : List ℕ) (o i n : ℕ) : Type 0 where
   pub width : n ≡ pick (indexedAt i) 25 21
   pub long : n ≤ length s - o
 
-module _ (g : Run) (lawfully : lawful g ≡ true) (s : List ℕ) (o i : ℕ) (low : g .first ≤ i) (high : i < g .first + g .count) where
+module _ (g : Run) (lawfully : lawfulRun g ≡ true) (s : List ℕ) (o i : ℕ) (low : g .first ≤ i) (high : i < g .first + g .count) where
   -- what the code tests of a run is what the definition tests of the place
   pub place-begins : {b c : Bool} → b ≡ runBegins (drop o s) g (i - g .first) → b ≡ c → begins (drop o s) i ≡ c
   unfolding runBegins

@@ -37,12 +37,12 @@ module _ {s : List ℕ} {r : Bool} {w o : List ℕ} (h : ReadIn s r w o) where
       ap (λ (k : List ℕ). rowOf k i) (h .registers) ∙ layout-row (λ j. rowIn t j .result) i l in
       λ k. record { present = p k; result = q k }
 
-  whole : wholeOf (Tables.rowsIn t) ≡ t
+  whole : wholeOf (Tables.rowsOfTable t) ≡ t
   unfolding readImage
   whole = go (isImage s)
     where
       go : (b : Bool)
-          → wholeOf (Tables.rowsIn (pick b (tableOf (rowsRead s) (combinedMask (rowsRead s))) emptyTable))
+          → wholeOf (Tables.rowsOfTable (pick b (tableOf (rowsRead s) (combinedMask (rowsRead s))) emptyTable))
           ≡ pick b (tableOf (rowsRead s) (combinedMask (rowsRead s))) emptyTable
       go true = whole-ext (λ i l. whole-row (rowsRead s) i l)
       go false = empty-whole

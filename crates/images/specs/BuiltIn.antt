@@ -59,7 +59,7 @@ module _ (chosen : Choices) (s : List ℕ) (e : answer chosen s .verdict ≡ Acc
       go false p = ap (λ (x : Origin). isThere (originNumber x)) (known .absent .1 p)
 
   -- the table is the whole of its rows
-  table-whole : t ≡ wholeOf (Tables.rowsIn t)
+  table-whole : t ≡ wholeOf (Tables.rowsOfTable t)
   table-whole = answer-table chosen s e ∙ sym (table-ext (answer-row chosen s e) (built-mask chosen s e))
 
   built-row : (i : ℕ) → i < places → rowsIn w o i ≡ Tables.rowIn t i

@@ -9,7 +9,7 @@ use Rattle.pages.specs.Bytes.{AreBytes}
 use Rattle.masking.specs.Kept.{places}
 use Rattle.masking.specs.Place
 use Rattle.table.specs.declared.CpuidResults.{CpuidResults}
-use Rattle.table.specs.Table.{rowIn, rowsIn}
+use Rattle.table.specs.Table.{rowIn, rowsOfTable}
 use Rattle.image.specs.Image.{image}
 use Rattle.guest_state.specs.State.{saveRegister, compactRegister}
 use Rattle.image_read.specs.ReadImage.{readImage}
@@ -23,8 +23,8 @@ pub record Carries (t u : CpuidResults) (from to xcr0 xss : ℕ) : Type 0 where
   pub count : u .«row_count» ≡ t .«row_count»
   pub mask : u .«max_extended_state» ≡ t .«max_extended_state»
   pub others : (i : ℕ) → i < places → (i ≡ Place.versionAndFeatures → ⊥) → (i ≡ Place.extendedVersionAndFeatures → ⊥) → rowIn u i ≡ rowIn t i
-  pub save : saveRegister (rowsIn u) xcr0 ≡ saveRegister (rowsIn t) xcr0
-  pub compact : compactRegister (rowsIn u) xcr0 xss ≡ compactRegister (rowsIn t) xcr0 xss
+  pub save : saveRegister (rowsOfTable u) xcr0 ≡ saveRegister (rowsOfTable t) xcr0
+  pub compact : compactRegister (rowsOfTable u) xcr0 xss ≡ compactRegister (rowsOfTable t) xcr0 xss
   pub same : from ≡ to → u ≡ t
 
 -- a table of the code has registers for each of the 88 places

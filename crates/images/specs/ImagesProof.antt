@@ -16,7 +16,7 @@ use Rattle.table.specs.declared.Choices.{Choices}
 use Rattle.table.specs.declared.CpuidResults.{CpuidResults}
 use Rattle.table.specs.declared.Verdict.the-variants.{Accepted}
 use Rattle.table.specs.Rows.{Row, Rows, vacant}
-use Rattle.table.specs.Table.{rowIn, rowsIn}
+use Rattle.table.specs.Table.{rowIn, rowsOfTable}
 use Rattle.table.specs.Fits.{Fits}
 use Rattle.checks.specs.ExtendedState.{xssOf, xfem, xss, combinedMask}
 use Rattle.checks.specs.TopologyInputs.{inputsOf}
@@ -61,7 +61,7 @@ module _ (chosen : Choices) (s : List ℕ) (e : answer chosen s .verdict ≡ Acc
   }
 
 -- the combined mask, from the table's own rows of D.0 and D.1
-mask-of-rows : (t u : CpuidResults) → ((i : ℕ) → i < places → rowIn t i ≡ rowIn u i) → combinedMask (rowsIn t) ≡ combinedMask (rowsIn u)
+mask-of-rows : (t u : CpuidResults) → ((i : ℕ) → i < places → rowIn t i ≡ rowIn u i) → combinedMask (rowsOfTable t) ≡ combinedMask (rowsOfTable u)
 unfolding combinedMask xfem xss
 mask-of-rows t u same =
     ap₂ (λ (a b : Row). bitOr (a .result .eax) (xssOf (b .result))) (same (Place.extendedState 0) (lit< tt)) (same (Place.extendedState 1) (lit< tt))

@@ -17,7 +17,7 @@ use Rattle.finish.specs.Kinds.{TableAtLeast, Registers, registerKinds, kindsAt}
 use Rattle.memory.specs.Memory.{rowsIn}
 use Rattle.memory.specs.Held.{wholeOf, heldIn, whole-row}
 use Rattle.tables_compared.specs.declared.TablesCompared.the-variants.{MaskLacks}
-use Rattle.tables_compared.specs.TablesMean.{PlaceRises, Means}
+use Rattle.tables_compared.specs.TablesMean.{PlaceRises, TablesAnswerMeans}
 use Rattle.tables_compared.specs.TablesDecideProof.{decides}
 use Rattle.images.specs.TablesMoved.{MaskFollows}
 
@@ -71,5 +71,5 @@ module _ (m n : Rows) (absent : (i : ℕ) → i < places → m i .present ≡ fa
 
 pub mask-follows : MaskFollows
 mask-follows w o v q z e =
-    let lacks : Means (heldIn w o) (heldIn v q) MaskLacks = subst (Means (heldIn w o) (heldIn v q)) e (decides (heldIn w o) (heldIn v q) .means) in
+    let lacks : TablesAnswerMeans (heldIn w o) (heldIn v q) MaskLacks = subst (TablesAnswerMeans (heldIn w o) (heldIn v q)) e (decides (heldIn w o) (heldIn v q) .means) in
     lacks .1 (masks-rise (rowsIn w o) (rowsIn v q) z (lacks .0))

@@ -6,7 +6,7 @@ use Prim.Native.Nat.{ℕ}
 use Rattle.table.specs.declared.Choices.{Choices}
 use Rattle.table.specs.declared.CpuidResults.{CpuidResults}
 use Rattle.table.specs.declared.Verdict.the-variants.{Accepted}
-use Rattle.table.specs.Table.{rowsIn}
+use Rattle.table.specs.Table.{rowsOfTable}
 use Rattle.build.specs.Build.{answer}
 use Rattle.image.specs.Image.{image}
 use Rattle.guest_state.specs.State.{saveRegister, compactRegister, stateVerdict}
@@ -22,11 +22,11 @@ tableUnder n chosen s = answer (withEdition chosen n) s .table
 -- a table a of edition 1, and b of edition 2, of the same pages
 pub record Moves (a b : CpuidResults) (xcr0 xss : ℕ) : Type 0 where
   -- 13 and 14 alone can be in the way
-  pub verdict : carry a 1 2 xcr0 xss .verdict ≡ stateVerdict (rowsIn a) xcr0 xss
+  pub verdict : carry a 1 2 xcr0 xss .verdict ≡ stateVerdict (rowsOfTable a) xcr0 xss
   pub table : carry a 1 2 xcr0 xss .verdict ≡ Accepted → carry a 1 2 xcr0 xss .table ≡ b
   -- the two save sizes
-  pub save : saveRegister (rowsIn b) xcr0 ≡ saveRegister (rowsIn a) xcr0
-  pub compact : compactRegister (rowsIn b) xcr0 xss ≡ compactRegister (rowsIn a) xcr0 xss
+  pub save : saveRegister (rowsOfTable b) xcr0 ≡ saveRegister (rowsOfTable a) xcr0
+  pub compact : compactRegister (rowsOfTable b) xcr0 xss ≡ compactRegister (rowsOfTable a) xcr0 xss
   -- and as images, in place
   pub answer : carryImage (image a) 1 2 xcr0 xss .answer ≡ Image (carry a 1 2 xcr0 xss .verdict)
   pub bytes : carry a 1 2 xcr0 xss .verdict ≡ Accepted → carryImage (image a) 1 2 xcr0 xss .buffer ≡ image b

@@ -21,7 +21,7 @@ use Rattle.table.specs.declared.CpuidResults.{CpuidResults}
 use Rattle.table.specs.declared.Verdict.the-variants.{Accepted}
 use Rattle.table.specs.Rows.{Row, vacant}
 use Rattle.table.specs.Edition.{knownEdition}
-use Rattle.table.specs.Table.{rowIn, rowsIn}
+use Rattle.table.specs.Table.{rowIn, rowsOfTable}
 use Rattle.checks.specs.ExtendedState.{xfem}
 use Rattle.features.specs.Finish.{edition1, edition2}
 use Rattle.build.specs.Build.{answer}
@@ -55,8 +55,8 @@ module _ (t : CpuidResults) (p : Plain t) where
       go true e = refl
       go false e = sym (ap (λ (r : Row). r .result) (p .absent i h e))
 
-  own-verdict : (xcr0 xss : ℕ) → stateVerdict (ownRows t) xcr0 xss ≡ stateVerdict (rowsIn t) xcr0 xss
-  own-verdict xcr0 xss = verdict-of-state (ownRows t) (rowsIn t) (λ k h. own-result (Place.extendedState k) (omega arith)) xcr0 xss
+  own-verdict : (xcr0 xss : ℕ) → stateVerdict (ownRows t) xcr0 xss ≡ stateVerdict (rowsOfTable t) xcr0 xss
+  own-verdict xcr0 xss = verdict-of-state (ownRows t) (rowsOfTable t) (λ k h. own-result (Place.extendedState k) (omega arith)) xcr0 xss
 
   keeps-ymm : keeps t 1 2 ≡ Second.hasYmmState t
   unfolding keeps xfem
@@ -163,7 +163,7 @@ module _ (chosen : Choices) (s : List ℕ) (e : answer (withEdition chosen 1) s 
       )
 
   module _ (xcr0 xss : ℕ) where
-    moved-verdict : carry a 1 2 xcr0 xss .verdict ≡ stateVerdict (rowsIn a) xcr0 xss
+    moved-verdict : carry a 1 2 xcr0 xss .verdict ≡ stateVerdict (rowsOfTable a) xcr0 xss
     unfolding carry carryVerdict knownEdition
     moved-verdict = (own-verdict a plain xcr0 xss)
 

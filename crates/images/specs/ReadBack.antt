@@ -10,7 +10,7 @@ use Rattle.masking.specs.Kept.{places}
 use Rattle.table.specs.declared.Choices.{Choices}
 use Rattle.table.specs.declared.CpuidResults.{CpuidResults}
 use Rattle.table.specs.declared.Verdict.the-variants.{Accepted}
-use Rattle.table.specs.Table.{tableOf, rowIn, rowsIn}
+use Rattle.table.specs.Table.{tableOf, rowIn, rowsOfTable}
 use Rattle.checks.specs.ExtendedState.{combinedMask}
 use Rattle.build.specs.Build.{answer}
 use Rattle.image.specs.Image.{image}
@@ -21,7 +21,7 @@ use Rattle.image_read.specs.ReadImage.{readImage}
 pub record ReadsBack (t : CpuidResults) : Type 0 where
   pub read : readImage (image t) .«is_image» ≡ true
   pub rows : (i : ℕ) → i < places → rowIn (readImage (image t) .table) i ≡ rowIn t i
-  pub whole : t ≡ tableOf (rowsIn t) (combinedMask (rowsIn t)) → readImage (image t) .table ≡ t
+  pub whole : t ≡ tableOf (rowsOfTable t) (combinedMask (rowsOfTable t)) → readImage (image t) .table ≡ t
 
 -- of every table whose absent rows are all zeros and whose registers fit 32 bits
 abbrev pub ImageReadsBack : Type 0

@@ -17,7 +17,7 @@ use Rattle.masking.specs.Place
 use Rattle.table.specs.TableLaws.{table-ext}
 use Rattle.table.specs.declared.CpuidResults.{CpuidResults}
 use Rattle.table.specs.Rows.{Row, Rows, row, vacant}
-use Rattle.table.specs.Table.{countRows, tableOf, rowIn, rowsIn}
+use Rattle.table.specs.Table.{countRows, tableOf, rowIn, rowsOfTable}
 use Rattle.table.specs.Fits.{Fits}
 use Rattle.checks.specs.ExtendedState.{xssOf, xfem, xss, combinedMask}
 use Rattle.build.specs.Build.{answer}
@@ -68,7 +68,7 @@ pub built-reads-back : BuiltReadsBack
 built-reads-back chosen s e =
     let t : CpuidResults = answer chosen s .table in
     let back = reads-back t (accepted-plain chosen s e) in
-    let whole : t ≡ tableOf (rowsIn t) (combinedMask (rowsIn t)) =
+    let whole : t ≡ tableOf (rowsOfTable t) (combinedMask (rowsOfTable t)) =
     answer-table chosen s e ∙ sym (table-ext (answer-row chosen s e) (built-mask chosen s e)) in
     λ k. record { «is_image» = back .read k; table = back .whole whole k }
 

@@ -33,8 +33,8 @@ use Rattle.images.specs.TablesMoved.{CompareAgrees, ImagesAgree, PlainIn
 -- ---- pages
 
 module _ (chosen : Choices) (a b : List ℕ) (y : compared chosen a b ≡ PagesRise) (e : answer chosen b .verdict ≡ Accepted) where
-  means : PagesMean.Means chosen a b PagesRise
-  means = subst (PagesMean.Means chosen a b) y (PagesDecided.decides chosen a b .means)
+  means : PagesMean.AnswerMeans chosen a b PagesRise
+  means = subst (PagesMean.AnswerMeans chosen a b) y (PagesDecided.decides chosen a b .means)
 
   acceptedA : answer chosen a .verdict ≡ Accepted
   acceptedA = means .0 .accepted

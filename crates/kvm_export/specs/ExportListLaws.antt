@@ -14,7 +14,7 @@ use Rattle.table.specs.declared.CpuidResults.{CpuidResults}
 use Rattle.table.specs.Table.{rowIn}
 use Rattle.buffer.specs.Front.{wordBytes}
 use Rattle.masking.specs.declared.run.Run.{Run}
-use Rattle.masking.specs.Runs.{lawful}
+use Rattle.masking.specs.Runs.{lawfulRun}
 use Rattle.masking.specs.RunLaws.{run-end}
 use Rattle.image.specs.ImagePieces.{rowsAmong}
 use Rattle.image.specs.LengthLaws.{among-none, among-more}
@@ -44,7 +44,7 @@ rows-more t i h =
     go false = refl
 
 -- the first of them, by the run in which the place stands
-pub run-more : (t : CpuidResults) (g : Run) → lawful g ≡ true → (i : ℕ) → g .first ≤ i → i < g .first + g .count
+pub run-more : (t : CpuidResults) (g : Run) → lawfulRun g ≡ true → (i : ℕ) → g .first ≤ i → i < g .first + g .count
     → rowsLeft t i ≡ runRow g (i - g .first) (rowIn t i .present) (rowIn t i .result) ++ rowsLeft t (i + 1)
 run-more t g h i low high = rows-more t i (omega (arith, run-end g h)) ∙ ap (λ (b : List ℕ). b ++ rowsLeft t (i + 1)) (run-row t g h i low high)
 

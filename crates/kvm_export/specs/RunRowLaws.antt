@@ -12,7 +12,7 @@ use Rattle.x86defs.specs.declared.CpuidResult.{CpuidResult}
 use Rattle.x86defs.specs.Functions.{function}
 use Rattle.masking.specs.declared.run.Run.{Run}
 use Rattle.masking.specs.Kept.{leafAt, indexedAt, subleafAt}
-use Rattle.masking.specs.Runs.{lawful}
+use Rattle.masking.specs.Runs.{lawfulRun}
 use Rattle.masking.specs.RunLaws.{indexed-in-run, leaf-in-run, subleaf-in-run}
 use Rattle.table.specs.declared.CpuidResults.{CpuidResults}
 use Rattle.table.specs.Table.{rowIn}
@@ -85,7 +85,7 @@ unfolding rowBytes
 stands-row true leaf k i p r e f g = rw (← e, ← f, ← g)
 stands-row false leaf k i p r e f g = rw (← e, ← f, ← g)
 
-pub run-row : (t : CpuidResults) (g : Run) → lawful g ≡ true → (i : ℕ) → g .first ≤ i → i < g .first + g .count
+pub run-row : (t : CpuidResults) (g : Run) → lawfulRun g ≡ true → (i : ℕ) → g .first ≤ i → i < g .first + g .count
     → placeBytes t i ≡ runRow g (i - g .first) (rowIn t i .present) (rowIn t i .result)
 unfolding runRow
 run-row t g l i low high =

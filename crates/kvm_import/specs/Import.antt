@@ -8,7 +8,7 @@ use Rattle.table.specs.declared.Refusal.the-variants.{ListLength, ListRows, Lis
 use Rattle.table.specs.declared.Verdict.{Verdict}
 use Rattle.table.specs.declared.Verdict.the-variants.{Accepted, Refused}
 use Rattle.buffer.specs.Front.{AfterWrite, writeVerdict}
-use Rattle.kvm_list.specs.Format.{rowsIn}
+use Rattle.kvm_list.specs.Format.{rowsListed}
 use Rattle.kvm_import.specs.ListChecks.{badListLength, fieldsLawful, rowsFit}
 use Rattle.kvm_import.specs.ListPages.{pagesOf}
 
@@ -16,8 +16,8 @@ use Rattle.kvm_import.specs.ListPages.{pagesOf}
 unfoldable pub listVerdict : List ℕ → Verdict
 listVerdict l =
     pick (badListLength l) (Refused ListLength)
-    (pick (fieldsLawful l) (pick (rowsFit (rowsIn l)) Accepted (Refused ListRows)) (Refused ListFields))
+    (pick (fieldsLawful l) (pick (rowsFit (rowsListed l)) Accepted (Refused ListRows)) (Refused ListFields))
 
 -- 9 comes last: two pages are 8,192 bytes
 unfoldable pub readList : List ℕ → List ℕ → AfterWrite
-readList l buffer = writeVerdict (listVerdict l) (pagesOf (rowsIn l)) buffer
+readList l buffer = writeVerdict (listVerdict l) (pagesOf (rowsListed l)) buffer

@@ -14,7 +14,7 @@ use Rattle.buffer.specs.declared.Written.{Written}
 use Rattle.buffer.specs.declared.Written.the-variants.{Bytes, Refused}
 use Rattle.buffer.specs.Front.{AfterWrite}
 use Rattle.buffer.specs.FrontLaws.{front-short, front-whole}
-use Rattle.kvm_list.specs.Format.{rowCount, rowsIn}
+use Rattle.kvm_list.specs.Format.{rowCount, rowsListed}
 use Rattle.kvm_import.specs.ListChecks.{badListLength, fieldsLawful, rowsOn0, rowsOn1, rowsFit}
 use Rattle.kvm_import.specs.ListPages.{pagesOf}
 use Rattle.kvm_import.specs.PagesLaws.{pages-length}
@@ -47,28 +47,28 @@ module _ (l buffer : List ℕ) where
     read-12 e = gives l buffer (rw (long, e))
 
     module _ (fields : fieldsLawful l ≡ true) where
-      pub read-11-0 : 64 < length (rowsOn0 (rowsIn l)) → Gives (Refused ListRows) buffer l buffer
+      pub read-11-0 : 64 < length (rowsOn0 (rowsListed l)) → Gives (Refused ListRows) buffer l buffer
       unfolding readList listVerdict rowsFit
-      read-11-0 h = gives l buffer (rw (long, fields, lt-leb (length (rowsOn0 (rowsIn l))) 64 h))
+      read-11-0 h = gives l buffer (rw (long, fields, lt-leb (length (rowsOn0 (rowsListed l))) 64 h))
 
-      module _ (few-0 : length (rowsOn0 (rowsIn l)) ≤ 64) where
-        pub read-11-1 : 64 < length (rowsOn1 (rowsIn l)) → Gives (Refused ListRows) buffer l buffer
+      module _ (few-0 : length (rowsOn0 (rowsListed l)) ≤ 64) where
+        pub read-11-1 : 64 < length (rowsOn1 (rowsListed l)) → Gives (Refused ListRows) buffer l buffer
         unfolding readList listVerdict rowsFit
         read-11-1 h =
-            gives l buffer (rw (long, fields, le-leb (length (rowsOn0 (rowsIn l))) 64 few-0, lt-leb (length (rowsOn1 (rowsIn l))) 64 h))
+            gives l buffer (rw (long, fields, le-leb (length (rowsOn0 (rowsListed l))) 64 few-0, lt-leb (length (rowsOn1 (rowsListed l))) 64 h))
 
-        module _ (few-1 : length (rowsOn1 (rowsIn l)) ≤ 64) where
+        module _ (few-1 : length (rowsOn1 (rowsListed l)) ≤ 64) where
           pub read-9 : length buffer < 8192 → Gives (Refused BufferTooShort) buffer l buffer
           unfolding readList listVerdict rowsFit
           read-9 h =
               gives l buffer
-              (rw (long, fields, le-leb (length (rowsOn0 (rowsIn l))) 64 few-0, le-leb (length (rowsOn1 (rowsIn l))) 64 few-1)
-              (front-short (pagesOf (rowsIn l)) buffer (omega (arith, pages-length (rowsIn l) few-0 few-1))))
+              (rw (long, fields, le-leb (length (rowsOn0 (rowsListed l))) 64 few-0, le-leb (length (rowsOn1 (rowsListed l))) 64 few-1)
+              (front-short (pagesOf (rowsListed l)) buffer (omega (arith, pages-length (rowsListed l) few-0 few-1))))
 
-          pub read-0 : {out : List ℕ} → 8192 ≤ length buffer → out ≡ sets buffer 0 (pagesOf (rowsIn l)) → Gives (Bytes 8192) out l buffer
+          pub read-0 : {out : List ℕ} → 8192 ≤ length buffer → out ≡ sets buffer 0 (pagesOf (rowsListed l)) → Gives (Bytes 8192) out l buffer
           unfolding readList listVerdict rowsFit
           read-0 h e =
               gives l buffer
-              (rw (long, fields, le-leb (length (rowsOn0 (rowsIn l))) 64 few-0, le-leb (length (rowsOn1 (rowsIn l))) 64 few-1)
-              (front-whole (pagesOf (rowsIn l)) buffer (omega (arith, pages-length (rowsIn l) few-0 few-1))
-              ∙ rw (pages-length (rowsIn l) few-0 few-1, ← e)))
+              (rw (long, fields, le-leb (length (rowsOn0 (rowsListed l))) 64 few-0, le-leb (length (rowsOn1 (rowsListed l))) 64 few-1)
+              (front-whole (pagesOf (rowsListed l)) buffer (omega (arith, pages-length (rowsListed l) few-0 few-1))
+              ∙ rw (pages-length (rowsListed l) few-0 few-1, ← e)))

@@ -8,7 +8,7 @@ use lib.ListN.{length}
 use Rattle.bits.specs.Lists.{keepIf}
 use Rattle.x86defs.specs.Functions.{function, sameFunction, ExtendedStateEnumeration}
 use Rattle.pages.specs.Layout.{mostEntries}
-use Rattle.kvm_list.specs.Format.{ListRow, headSize, rowSize, rowCount, zeroWord, rowsIn}
+use Rattle.kvm_list.specs.Format.{ListRow, headSize, rowSize, rowCount, zeroWord, rowsListed}
 
 -- "length under 8 or not 8 + 40 × count", over unbounded numbers
 unfoldable pub badListLength : List ℕ → Bool
@@ -24,7 +24,7 @@ allLawful (r ∷ rs) = rowLawful r && allLawful rs
 
 -- "the head's zero word included"
 unfoldable pub fieldsLawful : List ℕ → Bool
-fieldsLawful l = eqb (zeroWord l) 0 && allLawful (rowsIn l)
+fieldsLawful l = eqb (zeroWord l) 0 && allLawful (rowsListed l)
 
 -- "leaf Dh rows on page 1 and all others on page 0, in list order"
 abbrev pub isExtendedState : ListRow → Bool

@@ -15,7 +15,7 @@ use Rattle.buffer.specs.Front.{wordBytes, registerBytes}
 use Rattle.buffer.specs.FrontLaws.{sets-append}
 use Rattle.kvm_list.specs.Words.{bytesOfWords}
 use Rattle.kvm_list.specs.WordsLaws.{bytes-append}
-use Rattle.kvm_list.specs.Format.{ListRow, rowCount, rowAt, rowsIn}
+use Rattle.kvm_list.specs.Format.{ListRow, rowCount, rowAt, rowsListed}
 use Rattle.kvm_list.specs.StoresLaws.{sets-join, sets-swap, word-length, registers-length, five-pieces}
 use Rattle.kvm_import.specs.ListChecks.{isExtendedState, rowsOn0, rowsOn1}
 use Rattle.kvm_import.specs.ListRowLaws.{row-leaf, row-index}
@@ -117,8 +117,8 @@ entered-more out i j r rs false e h =
 pub record Entering (l out₀ out : List ℕ) (q d : ℕ) : Type 0 where
   pub size : length out ≡ length out₀
   pub few : d ≤ q
-  pub extended : d + length (rowsOn1 (rowsLeft l q)) ≡ length (rowsOn1 (rowsIn l))
-  pub bytes : entered out (16 + 48 * (q - d)) (4112 + 48 * d) (rowsLeft l q) ≡ entered out₀ 16 4112 (rowsIn l)
+  pub extended : d + length (rowsOn1 (rowsLeft l q)) ≡ length (rowsOn1 (rowsListed l))
+  pub bytes : entered out (16 + 48 * (q - d)) (4112 + 48 * d) (rowsLeft l q) ≡ entered out₀ 16 4112 (rowsListed l)
 
 module _ (l out₀ : List ℕ) where
   pub entering-first : Entering l out₀ out₀ 0 0
@@ -133,7 +133,7 @@ module _ (l out₀ : List ℕ) where
     bytes = rw (left-all l);
   }
 
-  module _ (few-0 : length (rowsOn0 (rowsIn l)) ≤ 64) (few-1 : length (rowsOn1 (rowsIn l)) ≤ 64) (out : List ℕ) (q d : ℕ) (inside : q < rowCount l)
+  module _ (few-0 : length (rowsOn0 (rowsListed l)) ≤ 64) (few-1 : length (rowsOn1 (rowsListed l)) ≤ 64) (out : List ℕ) (q d : ℕ) (inside : q < rowCount l)
       (e : Entering l out₀ out q d) where
     extended-next : (b : Bool) → isExtendedState (rowAt l q) ≡ b
         → length (rowsOn1 (rowsLeft l q)) ≡ one b + length (rowsOn1 (rowsLeft l (q + 1)))
@@ -174,7 +174,7 @@ module _ (l out₀ : List ℕ) where
         go-first true = omega (arith, e .few)
         go-first false = omega (arith, e .few)
 
-  pub entering-last : (out : List ℕ) (q d : ℕ) → rowCount l ≤ q → Entering l out₀ out q d → out ≡ entered out₀ 16 4112 (rowsIn l)
+  pub entering-last : (out : List ℕ) (q d : ℕ) → rowCount l ≤ q → Entering l out₀ out q d → out ≡ entered out₀ 16 4112 (rowsListed l)
   unfolding entered
   entering-last out q d h e =
       let none : rowsLeft l q ≡ [] = left-none l q h in

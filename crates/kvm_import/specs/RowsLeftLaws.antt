@@ -10,7 +10,7 @@ use borrow.Author.Tests.{eq-eqb, ne-eqb}
 use Rattle.bits.specs.Choice.{pick}
 use Rattle.bits.specs.Lists.{tabulate, keepIf, one}
 use Rattle.bits.specs.ListsLaws.{length-tabulate}
-use Rattle.kvm_list.specs.Format.{ListRow, rowCount, zeroWord, rowAt, rowsIn}
+use Rattle.kvm_list.specs.Format.{ListRow, rowCount, zeroWord, rowAt, rowsListed}
 use Rattle.kvm_import.specs.ListChecks.{rowLawful, allLawful, fieldsLawful, isExtendedState, rowsOn0, rowsOn1}
 
 -- the rows from row q on
@@ -52,8 +52,8 @@ on-either (r ∷ rs) = go (isExtendedState r) refl (on-either rs)
 -- ---- from row to row
 
 module _ (l : List ℕ) where
-  pub left-all : rowsLeft l 0 ≡ rowsIn l
-  unfolding rowsLeft rowsIn
+  pub left-all : rowsLeft l 0 ≡ rowsListed l
+  unfolding rowsLeft rowsListed
   left-all =
       let e : rowCount l - 0 ≡ rowCount l = omega arith in
       ap₂ tabulate e (fun-ext (λ j. let z : 0 + j ≡ j = omega arith in ap (rowAt l) z))
@@ -74,9 +74,9 @@ module _ (l : List ℕ) where
   unfolding rowsLeft
   left-length q = length-tabulate (rowCount l - q) (λ j. rowAt l (q + j))
 
-  pub on-either-in : length (rowsOn0 (rowsIn l)) + length (rowsOn1 (rowsIn l)) ≡ rowCount l
-  unfolding rowsIn
-  on-either-in = on-either (rowsIn l) ∙ length-tabulate (rowCount l) (rowAt l)
+  pub on-either-in : length (rowsOn0 (rowsListed l)) + length (rowsOn1 (rowsListed l)) ≡ rowCount l
+  unfolding rowsListed
+  on-either-in = on-either (rowsListed l) ∙ length-tabulate (rowCount l) (rowAt l)
 
   pub on-either-left : (q : ℕ) → length (rowsOn0 (rowsLeft l q)) + length (rowsOn1 (rowsLeft l q)) ≡ rowCount l - q
   on-either-left q = on-either (rowsLeft l q) ∙ left-length q

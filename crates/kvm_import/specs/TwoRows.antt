@@ -6,7 +6,7 @@ use Prim.Native.Nat.{ℕ}
 use lib.ListN.{replicate}
 use Rattle.bits.specs.Lists.{tabulate, keepIf}
 use Rattle.kvm_list.specs.Words.{bytesOfWords}
-use Rattle.kvm_list.specs.Format.{rowAt, rowsIn}
+use Rattle.kvm_list.specs.Format.{rowAt, rowsListed}
 use Rattle.kvm_import.specs.ListChecks.{rowsOn0, rowsOn1}
 use Rattle.kvm_import.specs.ListPages.{entriesWords, pageWords, pagesOf}
 
@@ -41,6 +41,6 @@ page1 =
     ∷ 0 ∷ 0 ∷ 0 ∷ 0 ∷ 0 ∷ 0 ∷ 0 ∷ 0
     ∷ replicate 4032 0
 
-pub two-pages : pagesOf (rowsIn twoRows) ≡ page0 ++ page1
-unfolding rowsIn rowAt tabulate pagesOf rowsOn0 rowsOn1 keepIf pageWords entriesWords bytesOfWords
+pub two-pages : pagesOf (rowsListed twoRows) ≡ page0 ++ page1
+unfolding rowsListed rowAt tabulate pagesOf rowsOn0 rowsOn1 keepIf pageWords entriesWords bytesOfWords
 two-pages = refl

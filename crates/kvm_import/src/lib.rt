@@ -2,9 +2,9 @@
 use crate::list_checks::bad_list_length;
 use crate::list_checks::check_rows;
 use crate::list_checks::row_count;
-use crate::list_pages::PAGE_SIZE;
 use crate::list_pages::put_pages;
 use buffer::Written;
+use pages::PAGE_SIZE;
 use table::Refusal;
 ghost use mathlib.Core.Path.{_≡_};
 ghost use Rattle.kvm_import.specs.Import.{readList};

@@ -8,7 +8,7 @@ ghost use mathlib.Core.Bool.{true};
 ghost use Prim.Native.Nat.{_+_, _*_, _≤_, _<_};
 ghost use lib.ListN.{length};
 ghost use Rattle.bits.specs.Lists.{one};
-ghost use Rattle.kvm_list.specs.Format.{rowCount, rowAt, rowsIn};
+ghost use Rattle.kvm_list.specs.Format.{rowCount, rowAt, rowsListed};
 ghost use Rattle.kvm_import.specs.ListChecks.{badListLength, rowLawful, fieldsLawful, isExtendedState, rowsOn1};
 
 // Whether each row's flag and padding, and the head's zero word, are as they must be; and how many rows are of leaf Dh, if they are.
@@ -38,7 +38,7 @@ pub fn row_count(list: &[u8]) -> usize
 // 12 where not lawful: the head's zero word, and each row's flag and padding. The rows of leaf Dh are counted on the way.
 pub fn check_rows(list: &[u8]) -> Checked
     requires { ⌜ length (now list) ≡ 8 + 40 * rowCount (now list) ⌝ }
-    ensures { λ r. ⌜ (r .lawful ≡ fieldsLawful (now (list .entry))) × (r .lawful ≡ true → r .extended ≡ length (rowsOn1 (rowsIn (now (list .entry))))) ⌝ }
+    ensures { λ r. ⌜ (r .lawful ≡ fieldsLawful (now (list .entry))) × (r .lawful ≡ true → r .extended ≡ length (rowsOn1 (rowsListed (now (list .entry))))) ⌝ }
 {
     if word_at(list, 4) != 0 {
         return Checked {

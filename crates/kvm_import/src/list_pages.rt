@@ -7,35 +7,32 @@ use buffer::put_word;
 use kvm_list::HEAD_SIZE;
 use kvm_list::ROW_SIZE;
 use kvm_list::put_zeros;
+use pages::ENTRIES_AT;
+use pages::ENTRY_SIZE;
+use pages::PAGE_SIZE;
 use pages::word_at;
 use x86defs::CpuidResult;
 ghost use mathlib.Core.Path.{_≡_};
 ghost use Prim.Native.Nat.{_+_, _*_, _≤_};
 ghost use lib.ListN.{length};
 ghost use lib.Seq.{sets};
-ghost use Rattle.kvm_list.specs.Format.{rowCount, rowAt, rowsIn};
+ghost use Rattle.kvm_list.specs.Format.{rowCount, rowAt, rowsListed};
 ghost use Rattle.kvm_import.specs.ListChecks.{rowsOn0, rowsOn1};
 ghost use Rattle.kvm_import.specs.ListPages.{pagesOf};
 ghost use Rattle.kvm_import.specs.ImportPieces.{registersAt, countBytes, entryBytes, entryIndex, entered};
 
-const ENTRY_SIZE: usize = 48;
-
-pub const PAGE_SIZE: usize = 4096;
-
-const FIRST_ENTRY: usize = 16;
-
 // Writes both pages: the counts, the entries, and zeros after them.
 pub fn put_pages(list: &[u8], others: usize, extended: usize, out: &mut [u8])
-    requires { ⌜ (length (now list) ≡ 8 + 40 * rowCount (now list)) × (others ≡ length (rowsOn0 (rowsIn (now list)))) × (extended ≡ length (rowsOn1 (rowsIn (now list)))) × (others ≤ 64) × (extended ≤ 64) × (8192 ≤ length (now out)) ⌝ }
-    ensures { λ _. ⌜ now (out .exit) ≡ sets (now (out .entry)) 0 (pagesOf (rowsIn (now (list .entry)))) ⌝ }
+    requires { ⌜ (length (now list) ≡ 8 + 40 * rowCount (now list)) × (others ≡ length (rowsOn0 (rowsListed (now list)))) × (extended ≡ length (rowsOn1 (rowsListed (now list)))) × (others ≤ 64) × (extended ≤ 64) × (8192 ≤ length (now out)) ⌝ }
+    ensures { λ _. ⌜ now (out .exit) ≡ sets (now (out .entry)) 0 (pagesOf (rowsListed (now (list .entry)))) ⌝ }
 {
     put_count(out, 0, others);
     put_count(out, PAGE_SIZE, extended);
     put_entries(list, out);
-    put_zeros(out, FIRST_ENTRY + ENTRY_SIZE * others, PAGE_SIZE);
+    put_zeros(out, ENTRIES_AT + ENTRY_SIZE * others, PAGE_SIZE);
     put_zeros(
         out,
-        PAGE_SIZE + FIRST_ENTRY + ENTRY_SIZE * extended,
+        PAGE_SIZE + ENTRIES_AT + ENTRY_SIZE * extended,
         2 * PAGE_SIZE,
     );
 }
@@ -51,8 +48,8 @@ fn put_count(out: &mut [u8], at: usize, n: usize)
 
 // The entries of all rows, each on its page after those before it.
 fn put_entries(list: &[u8], out: &mut [u8])
-    requires { ⌜ (length (now list) ≡ 8 + 40 * rowCount (now list)) × (length (rowsOn0 (rowsIn (now list))) ≤ 64) × (length (rowsOn1 (rowsIn (now list))) ≤ 64) × (8192 ≤ length (now out)) ⌝ }
-    ensures { λ _. ⌜ now (out .exit) ≡ entered (now (out .entry)) 16 4112 (rowsIn (now (list .entry))) ⌝ }
+    requires { ⌜ (length (now list) ≡ 8 + 40 * rowCount (now list)) × (length (rowsOn0 (rowsListed (now list))) ≤ 64) × (length (rowsOn1 (rowsListed (now list))) ≤ 64) × (8192 ≤ length (now out)) ⌝ }
+    ensures { λ _. ⌜ now (out .exit) ≡ entered (now (out .entry)) 16 4112 (rowsListed (now (list .entry))) ⌝ }
 {
     let count = row_count(list);
     let mut extended = 0;
@@ -72,9 +69,9 @@ fn entry_index(here: bool, others: usize, extended: usize) -> usize
     ensures { λ r. ⌜ r ≡ entryIndex here others extended ⌝ }
 {
     if here {
-        return PAGE_SIZE + FIRST_ENTRY + ENTRY_SIZE * extended;
+        return PAGE_SIZE + ENTRIES_AT + ENTRY_SIZE * extended;
     }
-    FIRST_ENTRY + ENTRY_SIZE * others
+    ENTRIES_AT + ENTRY_SIZE * others
 }
 
 // The entry of row `q`: function as EAX_IN, index as ECX_IN, the four registers, and zeros.

@@ -74,5 +74,5 @@ zeroWord l = wordAt l 4
 unfoldable pub rowAt : List ℕ → ℕ → ListRow
 rowAt l q = rowFrom (λ j. wordAt l (headSize + rowSize * q + 4 * j))
 
-unfoldable pub rowsIn : List ℕ → List ListRow
-rowsIn l = tabulate (rowCount l) (rowAt l)
+unfoldable pub rowsListed : List ℕ → List ListRow
+rowsListed l = tabulate (rowCount l) (rowAt l)

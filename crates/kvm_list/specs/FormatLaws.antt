@@ -7,23 +7,23 @@ use lib.ListN.{length, getD}
 use lib.Seq.{getD-append-add}
 use Rattle.bits.specs.Lists.{tabulate}
 use Rattle.pages.specs.Layout.{wordAt}
-use Rattle.kvm_list.specs.Words.{cut}
+use Rattle.kvm_list.specs.Words.{lowWord}
 use Rattle.kvm_list.specs.WordsLaws.{cut-small, length-bytes, word-bytes}
-use Rattle.kvm_list.specs.Format.{ListRow, rowWords, rowFrom, allWords, listBytes, rowAt, rowsIn}
+use Rattle.kvm_list.specs.Format.{ListRow, rowWords, rowFrom, allWords, listBytes, rowAt, rowsListed}
 
 -- a row of 32-bit words
 abbrev pub cutRow : ListRow → ListRow
-cutRow r = rowFrom (λ j. cut (getD (rowWords r) j 0))
+cutRow r = rowFrom (λ j. lowWord (getD (rowWords r) j 0))
 
 -- ---- rows, word by word
 
-rows-read : (rs : List ListRow) → tabulate (length rs) (λ q. rowFrom (λ j. cut (getD (allWords rs) (10 * q + j) 0))) ≡ map cutRow rs
+rows-read : (rs : List ListRow) → tabulate (length rs) (λ q. rowFrom (λ j. lowWord (getD (allWords rs) (10 * q + j) 0))) ≡ map cutRow rs
 unfolding tabulate allWords
 rows-read [] = refl
 rows-read (r ∷ rs) =
     ap₂ _∷_ refl
     (ap (tabulate (length rs))
-    (fun-ext (λ q. ap rowFrom (fun-ext (λ j. ap cut (past q j)))))
+    (fun-ext (λ q. ap rowFrom (fun-ext (λ j. ap lowWord (past q j)))))
     ∙ rows-read rs)
   where
     past : (q j : ℕ) → getD (rowWords r ++ allWords rs) (10 * suc q + j) 0 ≡ getD (allWords rs) (10 * q + j) 0
@@ -45,7 +45,7 @@ module _ (rs : List ListRow) (small : length rs < 4294967296) where
   unfolding listBytes
   list-zero = word-bytes (length rs ∷ 0 ∷ allWords rs) 1
 
-  list-row : (q : ℕ) → rowAt (listBytes rs) q ≡ rowFrom (λ j. cut (getD (allWords rs) (10 * q + j) 0))
+  list-row : (q : ℕ) → rowAt (listBytes rs) q ≡ rowFrom (λ j. lowWord (getD (allWords rs) (10 * q + j) 0))
   unfolding listBytes rowAt
   list-row q =
       ap rowFrom
@@ -53,8 +53,8 @@ module _ (rs : List ListRow) (small : length rs < 4294967296) where
       let p : 8 + 40 * q + 4 * j ≡ 4 * suc (suc (10 * q + j)) = omega arith in
       ap (wordAt (listBytes rs)) p ∙ word-bytes (length rs ∷ 0 ∷ allWords rs) (suc (suc (10 * q + j)))))
 
-  pub list-rows : rowsIn (listBytes rs) ≡ map cutRow rs
-  unfolding rowsIn
+  pub list-rows : rowsListed (listBytes rs) ≡ map cutRow rs
+  unfolding rowsListed
   list-rows = ap₂ tabulate list-count (fun-ext list-row) ∙ rows-read rs
 
   pub list-length : length (listBytes rs) ≡ 8 + 40 * length rs

@@ -8,5 +8,5 @@ bytesOfWords [] = []
 bytesOfWords (w ∷ ws) = bytesOf w ++ bytesOfWords ws
 
 -- what four bytes hold of a number
-abbrev pub cut : ℕ → ℕ
-cut n = n % 4294967296
+abbrev pub lowWord : ℕ → ℕ
+lowWord n = n % 4294967296

@@ -8,12 +8,12 @@ use lib.Pow.{mod-pow-add}
 use lib.Seq.{getD-append-add}
 use Rattle.pages.specs.Layout.{wordAt}
 use Rattle.buffer.specs.Front.{bytesOf}
-use Rattle.kvm_list.specs.Words.{bytesOfWords, cut}
+use Rattle.kvm_list.specs.Words.{bytesOfWords, lowWord}
 
-pub cut-cut : (n : ℕ) → cut (cut n) ≡ cut n
+pub cut-cut : (n : ℕ) → lowWord (lowWord n) ≡ lowWord n
 cut-cut n = omega arith
 
-pub cut-small : (n : ℕ) → n < 4294967296 → cut n ≡ n
+pub cut-small : (n : ℕ) → n < 4294967296 → lowWord n ≡ n
 cut-small n h = omega arith
 
 pub length-bytes : (ws : List ℕ) → length (bytesOfWords ws) ≡ 4 * length ws
@@ -29,7 +29,7 @@ bytes-append (w ∷ ws) b = ap (bytesOf w ++_) (bytes-append ws b)
 regroup : (a b c d : ℕ) → a + 256 * b + 65536 * c + 16777216 * d ≡ d * 16777216 + (c * 65536 + (b * 256 + a))
 regroup a b c d = omega arith
 
-four-bytes : (n : ℕ) → n % 256 + 256 * (n / 256 % 256) + 65536 * (n / 65536 % 256) + 16777216 * (n / 16777216 % 256) ≡ cut n
+four-bytes : (n : ℕ) → n % 256 + 256 * (n / 256 % 256) + 65536 * (n / 65536 % 256) + 16777216 * (n / 16777216 % 256) ≡ lowWord n
 four-bytes n =
     regroup (n % 256) (n / 256 % 256) (n / 65536 % 256) (n / 16777216 % 256)
     ∙ sym
@@ -50,7 +50,7 @@ word-past a s k e =
     byte : (i j : ℕ) → i ≡ length a + j → getD (a ++ s) i 0 ≡ getD s j 0
     byte i j p = ap (λ (n : ℕ). getD (a ++ s) n 0) p ∙ getD-append-add a s j 0
 
-pub word-bytes : (ws : List ℕ) (k : ℕ) → wordAt (bytesOfWords ws) (4 * k) ≡ cut (getD ws k 0)
+pub word-bytes : (ws : List ℕ) (k : ℕ) → wordAt (bytesOfWords ws) (4 * k) ≡ lowWord (getD ws k 0)
 unfolding bytesOfWords
 word-bytes [] k = refl
 word-bytes (w ∷ ws) zero = four-bytes w

@@ -15,7 +15,7 @@ use Rattle.buffer.specs.declared.Written.the-variants.{Bytes, Refused}
 use Rattle.buffer.specs.Front.{writeFront}
 use Rattle.lines.specs.declared.bytes.LineDetails.{LineDetails}
 use Rattle.lines.specs.NumbersInUse.{rows, names}
-use Rattle.lines.specs.Line.{Fits, fields, writable, line}
+use Rattle.lines.specs.Line.{LineFits, fields, writable, line}
 use Rattle.lines.specs.declared.LineRead.the-variants.{NoSuchLine}
 use Rattle.lines.specs.declared.LineWritten.the-variants.{Line as Answered, NoSuchLine as NotWritten}
 use Rattle.lines.specs.WriteLine.{leaves, writeLine}
@@ -53,7 +53,7 @@ reserved-d = refl
 abbrev pub longest : LineDetails
 longest = told 3 0xFFFFFFFF (Some 0xFFFFFFFF) 0
 
-pub longest-fits : Fits longest
+pub longest-fits : LineFits longest
 longest-fits = record { leaf = omega arith; subleaf = omega arith }
 
 pub longest-writable : writable longest ≡ true

@@ -64,6 +64,6 @@ abbrev pub subleafOr0 : Subleaf → ℕ
 subleafOr0 None = 0
 subleafOr0 (Some k) = k
 
-pub record Fits (d : LineDetails) : Type 0 where
+pub record LineFits (d : LineDetails) : Type 0 where
   pub leaf : d .leaf < 2 ^ 32
   pub subleaf : subleafOr0 (d .subleaf) < 2 ^ 32

@@ -25,20 +25,20 @@ use Rattle.lines.specs.declared.LineWritten.the-variants.{Line as Answer
 use Rattle.digits.specs.Digits.{width, decimal}
 use Rattle.digits.specs.DigitsLaws.{AtLeast, none, next, at-least-append, digits-at-least}
 use Rattle.lines.specs.NumbersInUse.{rows, names}
-use Rattle.lines.specs.Line.{newline, space, Fits, mostS, leafField, subleafField, sField, fieldsAs, fields, writable, line}
+use Rattle.lines.specs.Line.{newline, space, LineFits, mostS, leafField, subleafField, sField, fieldsAs, fields, writable, line}
 use Rattle.lines.specs.WriteLine.{AfterLine, leaves, writeLine}
 use Rattle.lines.specs.WriteLineLaws.{write-none, write-short, write-whole, front}
 use Rattle.lines.specs.ReadLine.{guess, sameBytes, readLine}
 use Rattle.lines.specs.ReadLineLaws.{same-refl, same-eq, guess-written, guess-fits}
 
 -- every line is read back
-pub read-written : (d : LineDetails) → Fits d → writable d ≡ true → readLine (line d) ≡ Line d
+pub read-written : (d : LineDetails) → LineFits d → writable d ≡ true → readLine (line d) ≡ Line d
 unfolding readLine
 read-written d f h = rw (guess-written d f h, h, same-refl (line d))
 
 -- what is read is a line: the one that is written for what it says
 pub record LineOf (l : List ℕ) (d : LineDetails) : Type 0 where
-  pub fits : Fits d
+  pub fits : LineFits d
   pub isWritable : writable d ≡ true
   pub same : l ≡ line d
 
@@ -63,7 +63,7 @@ line-read l d h = ap readLine (h .same) ∙ read-written d (h .fits) (h .isWrita
 
 -- what was written into any lent buffer is read back from its front
 pub write-then-read : (d : LineDetails) (buffer left : List ℕ) (n : ℕ)
-    → Fits d → writeLine d buffer ≡ leaves (Answered (Bytes n)) left → readLine (take n left) ≡ Line d
+    → LineFits d → writeLine d buffer ≡ leaves (Answered (Bytes n)) left → readLine (take n left) ≡ Line d
 write-then-read d buffer left n f e = go (writable d) refl (leb (length (line d)) (length buffer)) refl
   where
     go : (w : Bool) → writable d ≡ w → (r : Bool) → leb (length (line d)) (length buffer) ≡ r → readLine (take n left) ≡ Line d
@@ -86,7 +86,7 @@ write-then-read d buffer left n f e = go (writable d) refl (leb (length (line d)
         absurd (omega arith)
 
 -- different refusals have different lines
-pub lines-differ : (d e : LineDetails) → Fits d → Fits e → writable d ≡ true → writable e ≡ true → line d ≡ line e → d ≡ e
+pub lines-differ : (d e : LineDetails) → LineFits d → LineFits e → writable d ≡ true → writable e ≡ true → line d ≡ line e → d ≡ e
 lines-differ d e f g h k q =
     let a : readLine (line d) ≡ Line d = read-written d f h in
     let b : readLine (line e) ≡ Line e = read-written e g k in

@@ -18,7 +18,7 @@ use Rattle.table.specs.declared.Subleaf.the-variants.{None, Some}
 use Rattle.lines.specs.declared.bytes.LineDetails.{LineDetails}
 use Rattle.lines.specs.NumbersInUse.{names}
 use Rattle.lines.specs.NumbersInUseLaws.{used-below, subleaf-or-s}
-use Rattle.lines.specs.Line.{newline, space, isNone, mostS, subleafOr0, Fits, writable, subleafField, sField, fields, line}
+use Rattle.lines.specs.Line.{newline, space, isNone, mostS, subleafOr0, LineFits, writable, subleafField, sField, fields, line}
 use Rattle.lines.specs.declared.LineRead.the-variants.{Line, NoSuchLine}
 use Rattle.lines.specs.ReadLine.{fieldIf, afterIf, subleafIn, subleafIf, guessAs, guess, sameBytes, readLine}
 
@@ -121,7 +121,7 @@ guess-fields d false e n h p r =
     ∙ rw e (same-details d (sym (eqb-true (d .leaf) 0 p)) (r .subleafBack) (r .sBack))
 
 -- what the writer wrote is guessed
-pub guess-written : (d : LineDetails) → Fits d → writable d ≡ true → guess (line d) ≡ d
+pub guess-written : (d : LineDetails) → LineFits d → writable d ≡ true → guess (line d) ≡ d
 unfolding writable
 guess-written d f h =
     let k = names (d .number) in
@@ -158,7 +158,7 @@ subleaf-fits true [] = omega arith
 subleaf-fits true (b ∷ l) = field-fits 10 0 (b ∷ l) (omega arith)
 subleaf-fits false l = omega arith
 
-pub guess-fits : (l : List ℕ) → Fits (guess l)
+pub guess-fits : (l : List ℕ) → LineFits (guess l)
 unfolding guess
 guess-fits l =
     let k = names (fieldFrom 10 0 l) in

@@ -35,11 +35,6 @@ pub masks-of-row : (avic : Bool) (i : ℕ) → masksOf (rowAt avic (rowOfPlace i
 unfolding table rowOfPlace slot keptLeaves
 masks-of-row avic i = masks-in (keptLeaves avic) i
 
--- registers masked by the row that `mask_row` gives, in the table that `kept_leaves` gives
-pub masked-by-row : (avic : Bool) (i : ℕ) (r : CpuidResult) {kept : List KeptLeaf} {j : ℕ} → kept ≡ table avic → j ≡ rowOfPlace i
-    → applyMask (masksOf (getD kept j noRow)) r ≡ applyMask (masksAt avic i) r
-masked-by-row avic i r p q = rw (p, q) (ap (λ (m : Masks). applyMask m r) (masks-of-row avic i))
-
 -- document 01: the secure-AVIC choice "adds one bit to 8000001Fh.EAX"; it adds nothing to any other mask
 abbrev pub addedTo : Bool → ℕ → Masks
 addedTo avic i = combine (masksAt false i) (result (pick (eqb i Place.extendedSevFeatures) (secureAvicMask avic) 0) 0 0 0)

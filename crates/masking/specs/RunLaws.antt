@@ -14,7 +14,7 @@ use Rattle.bits.specs.SearchLaws.{every-at}
 use Rattle.x86defs.specs.Functions.{function}
 use Rattle.masking.specs.declared.run.Run.{Run}
 use Rattle.masking.specs.Kept.{Slot, places, slot, leafAt, indexedAt, subleafAt}
-use Rattle.masking.specs.Runs.{runLeaf, stands, lawful}
+use Rattle.masking.specs.Runs.{runLeaf, stands, lawfulRun}
 
 -- two functions that give the same list from a to b, without b, agree at each number of that run
 pub on-run {ℓ} : {A : Type ℓ} (f g : ℕ → A) {a b i : ℕ} → a ≤ i → i < b
@@ -36,18 +36,18 @@ subleaf-stands : (b : Bool) (k : ℕ) (t : Slot) → pick b (t .indexed && eqb (
 subleaf-stands true k t e = sym (eqb-true (t .subleaf) k (and-right (t .indexed) _ e))
 subleaf-stands false k t e = sym (eqb-true (t .subleaf) 0 (and-right (not (t .indexed)) _ e))
 
-module _ (g : Run) (lawfully : lawful g ≡ true) where
+module _ (g : Run) (lawfully : lawfulRun g ≡ true) where
   pub run-end : g .first + g .count ≤ places
-  unfolding lawful
+  unfolding lawfulRun
   run-end = leb-true _ _ (and-left _ _ lawfully)
 
   pub run-leaf : g .leaf .0 + places < 2 ^ 32
-  unfolding lawful
+  unfolding lawfulRun
   run-leaf = ltb-true _ _ (and-left _ _ (and-right (leb (g .first + g .count) places) _ lawfully))
 
   module _ {i : ℕ} (low : g .first ≤ i) (high : i < g .first + g .count) where
     run-stands : stands g (i - g .first) (slot false i) ≡ true
-    unfolding lawful
+    unfolding lawfulRun
     run-stands =
         let all = and-right (ltb (g .leaf .0 + places) (2 ^ 32)) _ (and-right (leb (g .first + g .count) places) _ lawfully) in
         let back : g .first + (i - g .first) ≡ i = omega arith in

@@ -7,7 +7,7 @@ ghost use lib.Dec.{ltb};
 ghost use Rattle.bits.specs.Choice.{pick};
 ghost use Rattle.masking.specs.Kept.{places, placeOf, leafAt, indexedAt, subleafAt};
 ghost use Rattle.masking.specs.Place.{extendedMaxFunction};
-ghost use Rattle.masking.specs.Runs.{lawful, rowsTied};
+ghost use Rattle.masking.specs.Runs.{lawfulRun, rowsTied};
 
 pub mod masks;
 pub mod place;
@@ -61,7 +61,7 @@ fn subleaf_place(run: Run, subleaf: u32) -> usize
 // The run that a place belongs to.
 pub fn run_at(place: usize) -> Run
     requires { ⌜ place < places ⌝ }
-    ensures { λ r. ⌜ (lawful r ≡ true) × (r .first ≤ place) × (place < r .first + r .count) × (rowsTied r ≡ true) ⌝ }
+    ensures { λ r. ⌜ (lawfulRun r ≡ true) × (r .first ≤ place) × (place < r .first + r .count) × (rowsTied r ≡ true) ⌝ }
 {
     if place < run::EXTENDED.first {
         return basic_run_at(place);
@@ -72,7 +72,7 @@ pub fn run_at(place: usize) -> Run
 // The run of a place whose leaf is below 80000000h.
 fn basic_run_at(place: usize) -> Run
     requires { ⌜ place < extendedMaxFunction ⌝ }
-    ensures { λ r. ⌜ (lawful r ≡ true) × (r .first ≤ place) × (place < r .first + r .count) × (rowsTied r ≡ true) ⌝ }
+    ensures { λ r. ⌜ (lawfulRun r ≡ true) × (r .first ≤ place) × (place < r .first + r .count) × (rowsTied r ≡ true) ⌝ }
 {
     if place < run::MONITOR_MWAIT.first {
         run::BASIC
@@ -90,7 +90,7 @@ fn basic_run_at(place: usize) -> Run
 // The run of a place whose leaf is 80000000h or above.
 fn extended_run_at(place: usize) -> Run
     requires { ⌜ (extendedMaxFunction ≤ place) × (place < places) ⌝ }
-    ensures { λ r. ⌜ (lawful r ≡ true) × (r .first ≤ place) × (place < r .first + r .count) × (rowsTied r ≡ true) ⌝ }
+    ensures { λ r. ⌜ (lawfulRun r ≡ true) × (r .first ≤ place) × (place < r .first + r .count) × (rowsTied r ≡ true) ⌝ }
 {
     if place < run::SVM.first {
         run::EXTENDED

@@ -1,10 +1,9 @@
 // The masks of every kept leaf, as one constant table. `mask_row` gives the row of a place, and `apply_mask` masks an entry's registers by a row.
 ghost use mathlib.Core.Path.{_≡_};
-ghost use mathlib.Core.Bool.{false};
 ghost use Prim.Native.Nat.{_+_, _-_, _≤_, _<_, min};
 ghost use Rattle.masking.specs.Masks.{secureAvicMask, applyMask};
 ghost use Rattle.masking.specs.Kept.{places};
-ghost use Rattle.masking.specs.MaskTable.{rows, table, rowAt, masksOf, rowOfPlace};
+ghost use Rattle.masking.specs.MaskTable.{rows, table, masksOf, rowOfPlace};
 use crate::Run;
 use crate::run;
 use x86defs::CpuidFunction;
@@ -42,15 +41,6 @@ fn secure_avic_mask(secure_avic: bool) -> u32
     ensures { λ r. ⌜ r ≡ secureAvicMask «secure_avic» ⌝ }
 {
     if secure_avic { SECURE_AVIC } else { 0 }
-}
-
-// One row of the table without secure AVIC.
-pub fn kept_leaf(row: usize) -> KeptLeaf
-    requires { ⌜ row < rows ⌝ }
-    ensures { λ r. ⌜ r ≡ rowAt false row ⌝ }
-{
-    let kept = kept_leaves(false);
-    kept[row]
 }
 
 // The row of the table that has the masks of a place. Each next place has the next row, but subleaves of one leaf share a row: B.0 and B.1,

@@ -63,7 +63,7 @@ mask-held w o = refl
 
 -- ---- cleared memory holds the empty table
 
-pub empty-whole : wholeOf (Tables.rowsIn emptyTable) ≡ emptyTable
+pub empty-whole : wholeOf (Tables.rowsOfTable emptyTable) ≡ emptyTable
 unfolding tabulate countRows sumTo combinedMask xfem xss has bit
 empty-whole = refl
 

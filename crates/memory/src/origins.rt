@@ -10,7 +10,7 @@ pub const MADE_HERE: u64 = 1;
 // The origin of a row that was read from an image, which holds no origins.
 pub const NOT_KNOWN: u64 = 3;
 
-const FIRST_ENTRY: u64 = 4;
+const ENTRIES_FROM: u64 = 4;
 
 const MOST_ENTRIES: u64 = 64;
 
@@ -26,21 +26,21 @@ pub fn entry_number(page: usize, position: usize) -> u64
     requires { ⌜ 4 + 64 * page + position < 2 ^ 64 ⌝ }
     ensures { λ r. ⌜ r ≡ originNumber (Origin.entry page position) ⌝ }
 {
-    FIRST_ENTRY + MOST_ENTRIES * page as u64 + position as u64
+    ENTRIES_FROM + MOST_ENTRIES * page as u64 + position as u64
 }
 
 // Reads an origin's number back.
 pub fn read_origin(number: u64) -> OriginRead
     ensures { λ r. ⌜ r ≡ originRead number ⌝ }
 {
-    if number < FIRST_ENTRY {
+    if number < ENTRIES_FROM {
         return OriginRead {
             origin: number as u32,
             page: 0,
             position: 0,
         };
     }
-    let place = number - FIRST_ENTRY;
+    let place = number - ENTRIES_FROM;
     OriginRead {
         origin: 2,
         page: place / MOST_ENTRIES,

@@ -50,7 +50,7 @@ use Rattle.flips.specs.FlippedEntryLaws.{Inside}
 use Rattle.search.specs.SameVerdict.{sameFrom}
 use Rattle.search.specs.Changes.{changes}
 use Rattle.search.specs.PutRow.{putRow}
-use Rattle.search.specs.FlippedRowLaws.{firstOf, first-none, first-cons, first-append}
+use Rattle.search.specs.FlippedRowLaws.{firstAmong, first-none, first-cons, first-append}
 use Rattle.search.specs.ChangesLaws.{changes-nothing, changes-row}
 use Rattle.search.specs.declared.deciding.Deciding.{Deciding}
 use Rattle.search.specs.declared.deciding.Deciding.the-variants.{Number, NoNumber}
@@ -105,7 +105,7 @@ pub record Searching (c : Choices) (s : List ℕ) (seen : List Bool) (i : CpuidP
   pub done : List Entry
   pub split : entries s ≡ done ++ rest s i
   pub whole : length seen ≡ places
-  pub marks : (j : ℕ) → j < places → getD seen j false ≡ firstOf j done .present
+  pub marks : (j : ℕ) → j < places → getD seen j false ≡ firstAmong j done .present
   pub left : firstThat (changes c s) (flips s) ≡ firstThat (changes c s) (flipsIn (rest s i))
 
 pub searching-first : (c : Choices) (s : List ℕ) → Searching c s (replicate places false) (firstIndex s)
@@ -164,9 +164,9 @@ module _ (c : Choices) (s : List ℕ) (bytes : (n : ℕ) → getD s n 0 < 256) (
   one-more : entries s ≡ (w .done ++ e ∷ []) ++ rest s (incremented s i)
   one-more = here ∙ sym (append-assoc (w .done) (e ∷ []) (rest s (incremented s i)))
 
-  marked : (j : ℕ) → j < places → firstOf j (w .done ++ e ∷ []) .present ≡ pick (getD seen j false) true (eqb (storedAt e) j)
+  marked : (j : ℕ) → j < places → firstAmong j (w .done ++ e ∷ []) .present ≡ pick (getD seen j false) true (eqb (storedAt e) j)
   marked j l =
-      rw (first-append j l (w .done) (e ∷ []), first-cons j l e [], first-none j, w .marks j l) (go (firstOf j (w .done)) (eqb (storedAt e) j))
+      rw (first-append j l (w .done) (e ∷ []), first-cons j l e [], first-none j, w .marks j l) (go (firstAmong j (w .done)) (eqb (storedAt e) j))
     where
       go : (x : Row) (b : Bool) → pick (x .present) x (pick b (row (e .registers)) vacant) .present ≡ pick (x .present) true b
       go x b = side (x .present) b refl

@@ -44,7 +44,7 @@ use Rattle.search.specs.SameVerdict.{sameFrom}
 use Rattle.search.specs.Changes.{changes}
 use Rattle.search.specs.PutRow.{putRow}
 use Rattle.search.specs.PutRowLaws.{required-same}
-use Rattle.search.specs.FlippedRowLaws.{firstOf, rows-present, taken-row}
+use Rattle.search.specs.FlippedRowLaws.{firstAmong, rows-present, taken-row}
 use Rattle.search.specs.Quiet.{quiet}
 use Rattle.search.specs.SearchReturnLaws.{quiet-missing, quiet-clear}
 use Rattle.search.specs.declared.deciding.Deciding.{Deciding}
@@ -168,7 +168,7 @@ module _ (c : Choices) (s : List ℕ) (bytes : (n : ℕ) → getD s n 0 < 256) (
   all-seen : (seen : List Bool) (i : CpuidPageIndex) → Searching c s seen i → pagesIn s ≤ i .«page_index» → getD seen sizes false ≡ m sizes .present
   all-seen seen i w l =
       w .marks sizes (omega arith)
-      ∙ ap (λ (x : List Entry). firstOf sizes x .present)
+      ∙ ap (λ (x : List Entry). firstAmong sizes x .present)
       (sym (w .split ∙ ap (λ (x : List Entry). w .done ++ x) (rest-end s i l) ∙ append-nil (w .done)))
       ∙ sym (rows-present avic s sizes (omega arith))
 

@@ -23,7 +23,7 @@ use Rattle.nearest.specs.declared.Nearest.the-variants.{Bit, NoBit}
 use Rattle.nearest.specs.Nearest.{nearest}
 
 -- neither 15, 1, 2 nor 17 applies
-pub record Lawful (c : Choices) (s : List ℕ) : Type 0 where
+pub record LawfulPages (c : Choices) (s : List ℕ) : Type 0 where
   pub edition : EditionFault (c .edition) → ⊥
   pub pages-length : LengthFault s → ⊥
   pub counts : CountFault s → ⊥
@@ -45,7 +45,7 @@ GivenFor c s PageCount = (EditionFault (c .edition) → ⊥) × (LengthFault s �
 GivenFor c s (ReservedBytes leaf) =
     (EditionFault (c .edition) → ⊥) × (LengthFault s → ⊥) × (CountFault s → ⊥)
     × (p : ℕ) × (q : ℕ) × ReservedFault s p q × (leaf ≡ entryAt s p q .leaf)
-GivenFor c s NothingDecides = Lawful c s × (keepIf (changes c s) (flips s) ≡ [])
+GivenFor c s NothingDecides = LawfulPages c s × (keepIf (changes c s) (flips s) ≡ [])
 GivenFor c s (MissingRequiredResult leaf subleaf) = ⊥
 GivenFor c s InvlpgbUnavailable = ⊥
 GivenFor c s SaveAreaOverflow = ⊥
@@ -61,7 +61,7 @@ GivenFor c s PoolSets = ⊥
 GivenFor c s PoolDiffers = ⊥
 
 abbrev pub Answers : Choices → List ℕ → Nearest → Type 0
-Answers c s (Bit f) = Lawful c s × FirstOf (changes c s) (flips s) f
+Answers c s (Bit f) = LawfulPages c s × FirstOf (changes c s) (flips s) f
 Answers c s (NoBit r) = GivenFor c s r
 
 -- each answer exactly

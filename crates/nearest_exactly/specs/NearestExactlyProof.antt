@@ -21,7 +21,7 @@ use Rattle.search.specs.Changes.{changes}
 use Rattle.nearest.specs.declared.Nearest.{Nearest}
 use Rattle.nearest.specs.declared.Nearest.the-variants.{Bit, NoBit}
 use Rattle.nearest.specs.Nearest.{firstThat, frontVerdict, unlessRefused, nearest}
-use Rattle.nearest_exactly.specs.NearestExactly.{Lawful, GivenFor, Answers, NearestExactly}
+use Rattle.nearest_exactly.specs.NearestExactly.{LawfulPages, GivenFor, Answers, NearestExactly}
 use Rattle.nearest_exactly.specs.FirstLaws.{Searched, searched, none-found, first-found}
 use Rattle.nearest_exactly.specs.FirstLaws.Searched.{found, none}
 
@@ -46,7 +46,7 @@ module _ (c : Choices) (s : List ℕ) where
 
   -- ---- the condition of the answer holds
 
-  searched-answers : Lawful c s → Searched (changes c s) (flips s) → Answers c s search
+  searched-answers : LawfulPages c s → Searched (changes c s) (flips s) → Answers c s search
   searched-answers w (found f e first) = subst (Answers c s) (sym e) (w, first)
   searched-answers w (none e k) = subst (Answers c s) (sym e) (w, k)
 
@@ -93,10 +93,10 @@ module _ (c : Choices) (s : List ℕ) where
   reserved-ok : ((p q : ℕ) → ReservedFault s p q → ⊥) → reservedVerdict s ≡ Accepted
   reserved-ok n = settled-accepts (reserved-decides s) (λ r f. n (f .0) (f .1) (f .2))
 
-  lawful-searched : Lawful c s → nearest c s ≡ search
+  lawful-searched : LawfulPages c s → nearest c s ≡ search
   lawful-searched w = by-verdicts (edition-ok (w .edition)) (length-ok (w .pages-length)) (counts-ok (w .counts)) (reserved-ok (w .reserved))
 
-  pub front-accepts : Lawful c s → frontVerdict c s ≡ Accepted
+  pub front-accepts : LawfulPages c s → frontVerdict c s ≡ Accepted
   unfolding lawfulVerdict
   front-accepts w = rw (edition-ok (w .edition), length-ok (w .pages-length), counts-ok (w .counts), reserved-ok (w .reserved))
 

@@ -17,7 +17,7 @@ use Rattle.flips.specs.Flips.{flip}
 use Rattle.flips.specs.OneBit.{oneBit}
 use Rattle.flips.specs.FlippedEntryLaws.{Inside}
 use Rattle.search.specs.Changes.{changes}
-use Rattle.search.specs.FlippedRowLaws.{firstOf}
+use Rattle.search.specs.FlippedRowLaws.{firstAmong}
 use Rattle.search.specs.ChangesLaws.{changes-nothing, changes-masked}
 use Rattle.search.specs.FlippedMaskLaws.{masked-out}
 
@@ -34,7 +34,7 @@ pub record Among (c : Choices) (s : List ℕ) (p q r k : ℕ) : Type 0 where
 pub record FirstAt (before : List Entry) (e : Entry) (i : ℕ) : Type 0 where
   pub place : i < places
   pub here : storedAt e ≡ i
-  pub new : firstOf i before .present ≡ false
+  pub new : firstAmong i before .present ≡ false
 
 module _ (c : Choices) (s : List ℕ) (p q r k : ℕ) (w : Among c s p q r k) where
   -- of no place

@@ -33,8 +33,8 @@ use Rattle.collect.specs.Lawful.{lengthVerdict, countsVerdict, reservedVerdict,
 use Rattle.page_sets.specs.Pass.{onPageIn, onPagesIn, uncleanOnPage, uncleanIn, passedLawful, placedEntry, placed, firstPlaced, passedEntries, passedRows, passedVerdict}
 
 -- what the examples choose: secure AVIC off, edition 1
-abbrev pub first : Choices
-first = underEdition 1
+abbrev pub firstEdition : Choices
+firstEdition = underEdition 1
 
 -- what is done with entries once they are read
 unfoldable pub opened : Rows → Verdict

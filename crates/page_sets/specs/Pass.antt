@@ -10,7 +10,7 @@ use Rattle.bits.specs.Choice.{pick}
 use Rattle.bits.specs.Search.{every}
 use Rattle.x86defs.specs.declared.CpuidResult.{CpuidResult}
 use Rattle.x86defs.specs.Functions.{function, result}
-use Rattle.pages.specs.Layout.{Entry, pageSize, entrySize, firstEntry, mostEntries, wordAt, pagesIn}
+use Rattle.pages.specs.Layout.{Entry, pageSize, entrySize, entriesAt, mostEntries, wordAt, pagesIn}
 use Rattle.pages.specs.Entries.{counts}
 use Rattle.pages.specs.declared.reserved.Reserved.{Reserved}
 use Rattle.pages.specs.declared.reserved.Reserved.the-variants.{Zero, Nonzero}
@@ -50,7 +50,7 @@ onPageIn p q (suc n) r = entryIn p q r ∷ onPageIn p (suc q) n (drop entrySize 
 -- n pages from page p on
 unfoldable pub onPagesIn : ℕ → ℕ → List ℕ → List Entry
 onPagesIn p zero r = []
-onPagesIn p (suc n) r = onPageIn p 0 (wordAt r 0) (drop firstEntry r) ++ onPagesIn (suc p) n (drop pageSize r)
+onPagesIn p (suc n) r = onPageIn p 0 (wordAt r 0) (drop entriesAt r) ++ onPagesIn (suc p) n (drop pageSize r)
 
 -- ---- lawfulness
 
@@ -62,7 +62,7 @@ uncleanOnPage after (suc n) r = pick (eightZeros r reservedAt) (uncleanOnPage af
 -- the same of n pages
 unfoldable pub uncleanIn : ℕ → List ℕ → Reserved
 uncleanIn zero r = Zero
-uncleanIn (suc n) r = uncleanOnPage (uncleanIn n (drop pageSize r)) (wordAt r 0) (drop firstEntry r)
+uncleanIn (suc n) r = uncleanOnPage (uncleanIn n (drop pageSize r)) (wordAt r 0) (drop entriesAt r)
 
 -- whether no count of n pages is above 64
 abbrev pub countsFitIn : ℕ → List ℕ → Bool

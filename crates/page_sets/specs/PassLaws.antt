@@ -12,7 +12,7 @@ use Rattle.bits.specs.Choice.{pick}
 use Rattle.bits.specs.Lists.{keepIf}
 use Rattle.bits.specs.Search.{every}
 use Rattle.x86defs.specs.Functions.{function}
-use Rattle.pages.specs.Layout.{Entry, pageSize, entrySize, firstEntry, mostEntries, wordAt, pagesIn, countOf, entryStart, entryAt, countsFit}
+use Rattle.pages.specs.Layout.{Entry, pageSize, entrySize, entriesAt, mostEntries, wordAt, pagesIn, countOf, entryStart, entryAt, countsFit}
 use Rattle.pages.specs.Entries.{onPage, onPages, entries, counts, counted}
 use Rattle.pages.specs.declared.reserved.Reserved.{Reserved}
 use Rattle.pages.specs.declared.reserved.Reserved.the-variants.{Nonzero}
@@ -49,8 +49,8 @@ module _ (s : List ℕ) where
   next-entry : (p q : ℕ) → drop entrySize (drop (entryStart p q) s) ≡ drop (entryStart p (suc q)) s
   next-entry p q = drop-again entrySize (entryStart p q) (entryStart p (suc q)) (omega arith)
 
-  first-entry : (p : ℕ) → drop firstEntry (drop (pageSize * p) s) ≡ drop (entryStart p 0) s
-  first-entry p = drop-again firstEntry (pageSize * p) (entryStart p 0) (omega arith)
+  first-entry : (p : ℕ) → drop entriesAt (drop (pageSize * p) s) ≡ drop (entryStart p 0) s
+  first-entry p = drop-again entriesAt (pageSize * p) (entryStart p 0) (omega arith)
 
   next-page : (p : ℕ) → drop pageSize (drop (pageSize * p) s) ≡ drop (pageSize * suc p) s
   next-page p = drop-again pageSize (pageSize * p) (pageSize * suc p) (omega arith)
@@ -107,7 +107,7 @@ module _ (s : List ℕ) where
   unclean-in p (suc n) =
       unclean-on-page p 0 (countOf s p) (onPages s (suc p) n)
       ∙ ap₂ (uncleanOnPage (firstNonzero s (onPages s (suc p) n))) (word-first (pageSize * p)) (sym (first-entry p))
-      ∙ ap (λ (x : Reserved). uncleanOnPage x (wordAt (drop (pageSize * p) s) 0) (drop firstEntry (drop (pageSize * p) s)))
+      ∙ ap (λ (x : Reserved). uncleanOnPage x (wordAt (drop (pageSize * p) s) 0) (drop entriesAt (drop (pageSize * p) s)))
       (unclean-in (suc p) n ∙ ap (uncleanIn n) (sym (next-page p)))
 
   pub lawful-passed : lawfulVerdict s ≡ passedLawful s

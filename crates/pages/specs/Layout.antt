@@ -16,8 +16,8 @@ pageSize = 4096
 abbrev pub entrySize : ℕ
 entrySize = 48
 
-abbrev pub firstEntry : ℕ
-firstEntry = 16
+abbrev pub entriesAt : ℕ
+entriesAt = 16
 
 abbrev pub mostEntries : ℕ
 mostEntries = 64
@@ -36,7 +36,7 @@ countOf s p = wordAt s (pageSize * p)
 
 -- where the entry at position q of page p begins
 abbrev pub entryStart : ℕ → ℕ → ℕ
-entryStart p q = pageSize * p + firstEntry + entrySize * q
+entryStart p q = pageSize * p + entriesAt + entrySize * q
 
 -- an entry, with the page and the position that it stands at
 pub record Entry : Type 0 where

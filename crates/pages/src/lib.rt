@@ -11,7 +11,7 @@ pub mod reserved;
 
 pub const PAGE_SIZE: usize = 4096;
 
-pub const FIRST_ENTRY: usize = 16;
+pub const ENTRIES_AT: usize = 16;
 
 pub const ENTRY_SIZE: usize = 48;
 
@@ -85,7 +85,7 @@ pub fn entry_at(pages: &[u8], index: CpuidPageIndex) -> ParsedCpuidEntry
     requires { ⌜ (index .«page_index» < pagesIn (now pages)) × (index .«function_index» < mostEntries) ⌝ }
     ensures { λ r. ⌜ r ≡ parsed (entryAt (now (pages .entry)) (index .«page_index») (index .«function_index»)) ⌝ }
 {
-    let o = PAGE_SIZE * index.page_index + FIRST_ENTRY + ENTRY_SIZE * index.function_index;
+    let o = PAGE_SIZE * index.page_index + ENTRIES_AT + ENTRY_SIZE * index.function_index;
     ParsedCpuidEntry {
         page: index.page_index,
         leaf: CpuidFunction(word_at(pages, o)),

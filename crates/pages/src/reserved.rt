@@ -1,7 +1,7 @@
 // The reserved bytes of an entry. Page bytes and an index come in; whether the bytes are zero goes out.
 use crate::CpuidPageIndex;
+use crate::ENTRIES_AT;
 use crate::ENTRY_SIZE;
-use crate::FIRST_ENTRY;
 use crate::PAGE_SIZE;
 use crate::word_at;
 use x86defs::CpuidFunction;
@@ -24,7 +24,7 @@ pub fn clean_at(pages: &[u8], index: CpuidPageIndex) -> bool
     requires { ⌜ (index .«page_index» < pagesIn (now pages)) × (index .«function_index» < mostEntries) ⌝ }
     ensures { λ r. ⌜ r ≡ cleanAt (now (pages .entry)) (index .«page_index») (index .«function_index») ⌝ }
 {
-    let start = PAGE_SIZE * index.page_index + FIRST_ENTRY + ENTRY_SIZE * index.function_index;
+    let start = PAGE_SIZE * index.page_index + ENTRIES_AT + ENTRY_SIZE * index.function_index;
     eight_zeros(pages, start + RESERVED)
 }
 

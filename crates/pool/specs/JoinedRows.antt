@@ -23,11 +23,11 @@ use Rattle.collect.specs.Stands.{standsAt, foundOrigins}
 use Rattle.collect.specs.CollectedLaws.{walked-collected}
 use Rattle.finish.specs.Kinds.{Kind, Kinds, kindsAt}
 use Rattle.finish.specs.Kinds.Kind.{feature, featureBut28, area, freed, other}
-use Rattle.register_masks.specs.Join.{pooled, pooledResults, withServer, pool}
+use Rattle.register_masks.specs.Join.{joinedRegister, pooledResults, withServer, pool}
 use Rattle.pool_rows.specs.PoolJoinLaws.{registersOf}
 
 -- past the last place there are zeros on both sides
-pooled-zero : (k : Kind) → pooled k 0 0 ≡ 0
+pooled-zero : (k : Kind) → joinedRegister k 0 0 ≡ 0
 pooled-zero feature = refl
 pooled-zero featureBut28 = refl
 pooled-zero area = refl
@@ -48,7 +48,7 @@ unfolding foundOrigins
 found-rows avic s =
     sym (rows-in (registersOf (rowsOf avic s)) (foundOrigins s)
     (layout-length (λ i. rowsOf avic s i .result)) (length-tabulate places (λ i. originNumber (standsAt i (counted s)))))
-    ∙ ap Tables.rowsIn (walked-collected avic s)
+    ∙ ap Tables.rowsOfTable (walked-collected avic s)
     ∙ collected-rows avic s
 
 module _ (avic : Bool) (s : ℕ → List ℕ) where

@@ -18,7 +18,7 @@ use Rattle.build.specs.Build.{rowsFor}
 use Rattle.refusals.specs.Conditions.{EditionFault}
 use Rattle.refusals.specs.Exactly.{FirstFault}
 use Rattle.register_masks.specs.Alike.{Alike}
-use Rattle.pool_sets.specs.Sets.{startOf, setAt}
+use Rattle.pool_sets.specs.Sets.{setStart, setAt}
 use Rattle.pool_sets.specs.Servers.{serverVerdict}
 use Rattle.pool.specs.Pool.{pooled}
 use Rattle.pool_laws.specs.PoolRight.{serverTable, poolTable}
@@ -27,7 +27,7 @@ use Rattle.pool_laws.specs.PoolRight.{serverTable, poolTable}
 pub data SetsFault (pages lengths : List ℕ) : Type 0 where
   few : length lengths < 2 → SetsFault pages lengths
   many : 16 < length lengths → SetsFault pages lengths
-  sum : startOf lengths (length lengths) ≢ length pages → SetsFault pages lengths
+  sum : setStart lengths (length lengths) ≢ length pages → SetsFault pages lengths
 
 -- server k is refused by itself, with refusal r, and none before it is
 pub record ServerFault (c : Choices) (pages lengths : List ℕ) (k : ℕ) (r : Refusal) : Type 0 where

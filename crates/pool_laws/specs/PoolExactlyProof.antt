@@ -36,7 +36,7 @@ use Rattle.register_masks.specs.Join.{allTo}
 use Rattle.register_masks.specs.Alike.{Alike, registersAlike, allHave, alikeTo, allAlike, AllAlike}
 use Rattle.register_masks.specs.RegisterRunLaws.{all-at, all-of}
 use Rattle.register_masks.specs.AlikeLaws.{registers-test, alike-of-test}
-use Rattle.pool_sets.specs.Sets.{startOf, setAt, lastOf, lawfulSets, setsVerdict}
+use Rattle.pool_sets.specs.Sets.{setStart, setAt, lastOf, lawfulSets, setsVerdict}
 use Rattle.pool_sets.specs.SetsLaws.{at-least-two, at-most-sixteen, sums-to-slice}
 use Rattle.pool_sets.specs.Servers.{serverVerdict, serverRows, isAccepted, firstRefused, refusedBy, serversVerdict, numberOf, poolRows}
 use Rattle.pool.specs.Pool.{alikeVerdict, poolVerdict, serverNamed, pooled}
@@ -57,9 +57,9 @@ sets-hold pages lengths e (sum n) = n (sums-to-slice pages lengths e)
 sets-fail : (pages lengths : List ℕ) → lawfulSets pages lengths ≡ false → SetsFault pages lengths
 unfolding lawfulSets
 sets-fail pages lengths e =
-    go (leb 2 (length lengths)) (leb (length lengths) 16) (eqb (startOf lengths (length lengths)) (length pages)) refl refl refl e
+    go (leb 2 (length lengths)) (leb (length lengths) 16) (eqb (setStart lengths (length lengths)) (length pages)) refl refl refl e
   where
-    go : (p q r : Bool) → leb 2 (length lengths) ≡ p → leb (length lengths) 16 ≡ q → eqb (startOf lengths (length lengths)) (length pages) ≡ r
+    go : (p q r : Bool) → leb 2 (length lengths) ≡ p → leb (length lengths) 16 ≡ q → eqb (setStart lengths (length lengths)) (length pages) ≡ r
         → (p && (q && r)) ≡ false → SetsFault pages lengths
     go false q r a b c f = few (omega (arith, leb-false 2 (length lengths) a))
     go true false r a b c f = many (omega (arith, leb-false (length lengths) 16 b))

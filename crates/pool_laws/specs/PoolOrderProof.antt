@@ -27,7 +27,7 @@ use Rattle.finish.specs.Kinds.{Kind, Kinds, Registers, kindsAt}
 use Rattle.finish.specs.Kinds.Kind.{feature, featureBut28, area, freed, other}
 use Rattle.finish.specs.RowsBuilt.{tableFor}
 use Rattle.build.specs.Build.{rowsFor, originsIn, answer}
-use Rattle.register_masks.specs.Join.{pooled, withServer, pool, andTo, allTo}
+use Rattle.register_masks.specs.Join.{joinedRegister, withServer, pool, andTo, allTo}
 use Rattle.register_masks.specs.Alike.{registersAlike, allHave, alikeTo, allAlike, AlikeAt, AllAlike}
 use Rattle.register_masks.specs.RegisterRunLaws.{all-at, all-of, and-to-within, and-to-greatest}
 use Rattle.register_masks.specs.JoinedEntryLaws.{keeps-28, joins-others}
@@ -59,7 +59,7 @@ joins-first area x = refl
 joins-first freed x = refl
 joins-first other x = refl
 
-joins-next : (k : Kind) (z : ℕ) (x : ℕ → ℕ) (n : ℕ) → Joins k z x n → Joins k (pooled k z (x (suc n))) x (suc n)
+joins-next : (k : Kind) (z : ℕ) (x : ℕ → ℕ) (n : ℕ) → Joins k z x n → Joins k (joinedRegister k z (x (suc n))) x (suc n)
 unfolding andTo
 joins-next feature z x n p = ap (λ (w : ℕ). bitAnd w (x (suc n))) p
 joins-next featureBut28 z x n p = (

@@ -20,7 +20,7 @@ use Rattle.finish.specs.RemainsLaws.{finished-entry}
 use Rattle.finish.specs.XsavesLaws.{XsavesEdx}
 use Rattle.rise.specs.Rise.{EntryRises}
 use Rattle.rise.specs.RowsRise.{registers-rise, others-further}
-use Rattle.register_masks.specs.Join.{pooled, pooledResults, withServer, pool}
+use Rattle.register_masks.specs.Join.{joinedRegister, pooledResults, withServer, pool}
 use Rattle.register_masks.specs.Alike.{Alike, AlikeAt, AllAlike, allHave}
 use Rattle.register_masks.specs.Features.{FeatureWithin}
 use Rattle.register_masks.specs.RegisterRunLaws.{all-of}
@@ -30,14 +30,14 @@ use Rattle.register_masks.specs.PoolLaws.{Servers, pool-accepted, pool-rows, in
 -- ---- entries
 
 -- the join rises to the first and to the other where they are alike
-to-first : (k : Kind) (a b : ℕ) → Alike k a b → EntryAtLeast k (pooled k a b) a
+to-first : (k : Kind) (a b : ℕ) → Alike k a b → EntryAtLeast k (joinedRegister k a b) a
 to-first feature a b p = and-within-left a b
 to-first featureBut28 a b p = (within-trans (within-eq (pooled-joined featureBut28 a b p)) (and-within-left a b), keeps-28 a b)
 to-first area a b p = tt
 to-first freed a b p = tt
 to-first other a b p = refl
 
-to-other : (k : Kind) (a b : ℕ) → Alike k a b → EntryAtLeast k (pooled k a b) b
+to-other : (k : Kind) (a b : ℕ) → Alike k a b → EntryAtLeast k (joinedRegister k a b) b
 to-other feature a b p = and-within-right a b
 to-other featureBut28 a b p = (within-trans (within-eq (pooled-joined featureBut28 a b p)) (and-within-right a b), keeps-28 a b ∙ p)
 to-other area a b p = tt

@@ -12,7 +12,7 @@ use Rattle.finish.specs.Kinds.Kind.{feature, featureBut28, area, freed, other}
 use Rattle.register_masks.specs.declared.RowMasks.{RowMasks}
 use Rattle.register_masks.specs.RegisterMasks.{featureBits, agreedBits, masksOf}
 use Rattle.register_masks.specs.RegisterMaskLaws.{agree, whole, none-agreed, bit-28-agreed, all-agreed}
-use Rattle.register_masks.specs.Join.{pooled, pooledResults}
+use Rattle.register_masks.specs.Join.{joinedRegister, pooledResults}
 use Rattle.register_masks.specs.Alike.{alikeTest, registersAlike}
 
 -- ---- as the code has them: f has the feature bits, m those that must agree
@@ -36,7 +36,7 @@ sameBits m a b =
 stays : (a b : ℕ) → a < 2 ^ 32 → bitAnd a (bitOr b (2 ^ 32 - 1)) ≡ a
 stays a b h = and-of-within (within-trans (within-of-and (whole a h)) (or-within-right b (2 ^ 32 - 1)))
 
-joins : (k : Kind) (a b : ℕ) → a < 2 ^ 32 → joinedBits (featureBits k) a b ≡ pooled k a b
+joins : (k : Kind) (a b : ℕ) → a < 2 ^ 32 → joinedBits (featureBits k) a b ≡ joinedRegister k a b
 joins feature a b h = ap (bitAnd a) (or-zero-r b)
 joins featureBut28 a b h = refl
 joins area a b h = stays a b h

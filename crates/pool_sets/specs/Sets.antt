@@ -11,19 +11,19 @@ use Rattle.table.specs.declared.Verdict.{Verdict}
 use Rattle.checks.specs.Checks.{refuseUnless}
 
 -- where set k begins: the sum of the lengths before it, over unbounded numbers
-unfoldable pub startOf : List ℕ → ℕ → ℕ
-startOf lengths k = sumTo (λ j. getD lengths j 0) k
+unfoldable pub setStart : List ℕ → ℕ → ℕ
+setStart lengths k = sumTo (λ j. getD lengths j 0) k
 
 -- the page set of server k
 unfoldable pub setAt : List ℕ → List ℕ → ℕ → List ℕ
-setAt pages lengths k = take (getD lengths k 0) (drop (startOf lengths k) pages)
+setAt pages lengths k = take (getD lengths k 0) (drop (setStart lengths k) pages)
 
 -- the last server, counted from 0
 abbrev pub lastOf : List ℕ → ℕ
 lastOf lengths = length lengths - 1
 
 unfoldable pub lawfulSets : List ℕ → List ℕ → Bool
-lawfulSets pages lengths = leb 2 (length lengths) && (leb (length lengths) 16 && eqb (startOf lengths (length lengths)) (length pages))
+lawfulSets pages lengths = leb 2 (length lengths) && (leb (length lengths) 16 && eqb (setStart lengths (length lengths)) (length pages))
 
 unfoldable pub setsVerdict : List ℕ → List ℕ → Verdict
 setsVerdict pages lengths = refuseUnless (lawfulSets pages lengths) PoolSets

@@ -12,26 +12,26 @@ use lib.ListN.{length, getD, take, drop}
 use borrow.Author.Tests.{leb-true, eqb-true, eqb-false, eq-eqb, ne-eqb, le-leb, lt-leb}
 use Rattle.bits.specs.ChoiceLaws.{and-left, and-right}
 use Rattle.bits.specs.Lists.{sumTo}
-use Rattle.pool_sets.specs.Sets.{startOf, setAt, lawfulSets}
+use Rattle.pool_sets.specs.Sets.{setStart, setAt, lawfulSets}
 
 -- ---- where sets stand
 
-pub start-first : (lengths : List ℕ) → startOf lengths 0 ≡ 0
-unfolding startOf sumTo
+pub start-first : (lengths : List ℕ) → setStart lengths 0 ≡ 0
+unfolding setStart sumTo
 start-first lengths = refl
 
-pub start-next : (lengths : List ℕ) (k : ℕ) → startOf lengths (k + 1) ≡ startOf lengths k + getD lengths k 0
-unfolding startOf sumTo
+pub start-next : (lengths : List ℕ) (k : ℕ) → setStart lengths (k + 1) ≡ setStart lengths k + getD lengths k 0
+unfolding setStart sumTo
 start-next lengths k = rw (add-one, sumTo)
 
-start-up : (lengths : List ℕ) (j n : ℕ) → j ≤ n → startOf lengths j ≤ startOf lengths n
-unfolding startOf sumTo
-start-up lengths j zero h = let e : j ≡ 0 = omega arith in le-of-eq (ap (startOf lengths) e)
+start-up : (lengths : List ℕ) (j n : ℕ) → j ≤ n → setStart lengths j ≤ setStart lengths n
+unfolding setStart sumTo
+start-up lengths j zero h = let e : j ≡ 0 = omega arith in le-of-eq (ap (setStart lengths) e)
 start-up lengths j (suc n) h =
-    elim (eq-or-lt-of-le h) [ inl q ↦ le-of-eq (ap (startOf lengths) q) | inr q ↦ le-trans (start-up lengths j n (omega arith)) (omega arith) ]
+    elim (eq-or-lt-of-le h) [ inl q ↦ le-of-eq (ap (setStart lengths) q) | inr q ↦ le-trans (start-up lengths j n (omega arith)) (omega arith) ]
 
 -- a part of the slice, as the code cuts it out, is a set
-pub set-of : (pages lengths : List ℕ) (k start : ℕ) → start ≡ startOf lengths k
+pub set-of : (pages lengths : List ℕ) (k start : ℕ) → start ≡ setStart lengths k
     → take (start + getD lengths k 0 - start) (drop start pages) ≡ setAt pages lengths k
 unfolding setAt
 set-of pages lengths k start at = let e : start + getD lengths k 0 - start ≡ getD lengths k 0 = omega arith in rw (e, at)
@@ -53,28 +53,28 @@ module _ (pages lengths : List ℕ) where
   unfolding lawfulSets
   too-many l h = rw (le-leb 2 (length lengths) l, lt-leb (length lengths) 16 h)
 
-  sum-decides : 2 ≤ length lengths → length lengths ≤ 16 → lawfulSets pages lengths ≡ eqb (startOf lengths (length lengths)) (length pages)
+  sum-decides : 2 ≤ length lengths → length lengths ≤ 16 → lawfulSets pages lengths ≡ eqb (setStart lengths (length lengths)) (length pages)
   unfolding lawfulSets
   sum-decides l h = rw (le-leb 2 (length lengths) l, le-leb (length lengths) 16 h)
 
   -- a set that goes beyond the slice
-  pub beyond : 2 ≤ length lengths → length lengths ≤ 16 → (k : ℕ) → k < length lengths → length pages < startOf lengths (k + 1)
+  pub beyond : 2 ≤ length lengths → length lengths ≤ 16 → (k : ℕ) → k < length lengths → length pages < setStart lengths (k + 1)
       → lawfulSets pages lengths ≡ false
   beyond l h k u b =
       sum-decides l h
-      ∙ ne-eqb (startOf lengths (length lengths)) (length pages)
-      (λ (e : startOf lengths (length lengths) ≡ length pages). omega (arith, e, start-up lengths (k + 1) (length lengths) (omega arith)))
+      ∙ ne-eqb (setStart lengths (length lengths)) (length pages)
+      (λ (e : setStart lengths (length lengths) ≡ length pages). omega (arith, e, start-up lengths (k + 1) (length lengths) (omega arith)))
 
-  pub summed : 2 ≤ length lengths → length lengths ≤ 16 → (left : ℕ) → left + startOf lengths (length lengths) ≡ length pages
+  pub summed : 2 ≤ length lengths → length lengths ≤ 16 → (left : ℕ) → left + setStart lengths (length lengths) ≡ length pages
       → eqb left 0 ≡ lawfulSets pages lengths
   summed l h left e = go (eqb left 0) refl ∙ sym (sum-decides l h)
     where
-      go : (b : Bool) → eqb left 0 ≡ b → eqb left 0 ≡ eqb (startOf lengths (length lengths)) (length pages)
-      go true p = p ∙ sym (eq-eqb (startOf lengths (length lengths)) (length pages) (omega (arith, eqb-true left 0 p, e)))
+      go : (b : Bool) → eqb left 0 ≡ b → eqb left 0 ≡ eqb (setStart lengths (length lengths)) (length pages)
+      go true p = p ∙ sym (eq-eqb (setStart lengths (length lengths)) (length pages) (omega (arith, eqb-true left 0 p, e)))
       go false p =
           p
-          ∙ sym (ne-eqb (startOf lengths (length lengths)) (length pages)
-          (λ (q : startOf lengths (length lengths) ≡ length pages). eqb-false left 0 p (omega (arith, q, e))))
+          ∙ sym (ne-eqb (setStart lengths (length lengths)) (length pages)
+          (λ (q : setStart lengths (length lengths) ≡ length pages). eqb-false left 0 p (omega (arith, q, e))))
 
   -- of lawful sets there are at least two, and each lies in the slice
   module _ (e : lawfulSets pages lengths ≡ true) where
@@ -86,9 +86,9 @@ module _ (pages lengths : List ℕ) where
     unfolding lawfulSets
     at-most-sixteen = leb-true (length lengths) 16 (and-left _ _ (and-right (leb 2 (length lengths)) _ e))
 
-    pub sums-to-slice : startOf lengths (length lengths) ≡ length pages
+    pub sums-to-slice : setStart lengths (length lengths) ≡ length pages
     unfolding lawfulSets
     sums-to-slice = eqb-true _ _ (and-right (leb (length lengths) 16) _ (and-right (leb 2 (length lengths)) _ e))
 
-    pub set-ends : (k : ℕ) → k < length lengths → startOf lengths k + getD lengths k 0 ≤ length pages
+    pub set-ends : (k : ℕ) → k < length lengths → setStart lengths k + getD lengths k 0 ≤ length pages
     set-ends k l = omega (arith, sums-to-slice, start-next lengths k, start-up lengths (k + 1) (length lengths) (omega arith))

@@ -30,13 +30,13 @@ abbrev pub isEmpty : List ℕ → ℕ → Bool
 isEmpty s p = eqb (countOf s p) 0
 
 -- the first position of the page that was found; the end, where none was, is that of the page after the last
-abbrev pub startOf : List ℕ → Failing → CpuidPageIndex
-startOf s (at p) = index p 0
-startOf s none = index (pagesIn s) 0
+abbrev pub pageStart : List ℕ → Failing → CpuidPageIndex
+pageStart s (at p) = index p 0
+pageStart s none = index (pagesIn s) 0
 
 -- the first entry of page p or of a later one; the end where all of these are empty
 unfoldable pub firstFrom : List ℕ → ℕ → CpuidPageIndex
-firstFrom s p = startOf s (lowest (isEmpty s) p (pagesIn s - p))
+firstFrom s p = pageStart s (lowest (isEmpty s) p (pagesIn s - p))
 
 -- an index that is no entry's goes to the first entry of a later page
 unfoldable pub nextValid : List ℕ → CpuidPageIndex → CpuidPageIndex

@@ -16,7 +16,7 @@ use Rattle.bits.specs.SearchLaws.{lowest-at}
 use Rattle.pages.specs.declared.CpuidPageIndex.{CpuidPageIndex}
 use Rattle.pages.specs.Layout.{entryAt, pagesIn, countOf}
 use Rattle.pages.specs.Entries.{onPage, onPages, entries}
-use Rattle.reader.specs.Walk.{index, isEntry, isEmpty, startOf, firstFrom, nextValid, firstIndex, incremented, rest}
+use Rattle.reader.specs.Walk.{index, isEntry, isEmpty, pageStart, firstFrom, nextValid, firstIndex, incremented, rest}
 
 -- ---- the first entry from page p on
 
@@ -124,7 +124,7 @@ first-from-valid : (s : List ℕ) (p : ℕ) → Valid s (firstFrom s p)
 unfolding firstFrom
 first-from-valid s p = go (lowest (isEmpty s) p (pagesIn s - p)) refl
   where
-    go : (f : Failing) → lowest (isEmpty s) p (pagesIn s - p) ≡ f → Valid s (startOf s f)
+    go : (f : Failing) → lowest (isEmpty s) p (pagesIn s - p) ≡ f → Valid s (pageStart s f)
     go (at j) e =
         let z : ¬ (countOf s j ≡ 0) = eqb-false _ 0 (lowest-at (isEmpty s) p (pagesIn s - p) j e .fails) in
         record { below = λ h. omega arith }
@@ -135,7 +135,7 @@ first-from-rises : (s : List ℕ) (p : ℕ) → p ≤ pagesIn s → p ≤ firstF
 unfolding firstFrom
 first-from-rises s p h = go (lowest (isEmpty s) p (pagesIn s - p)) refl
   where
-    go : (f : Failing) → lowest (isEmpty s) p (pagesIn s - p) ≡ f → p ≤ startOf s f .«page_index»
+    go : (f : Failing) → lowest (isEmpty s) p (pagesIn s - p) ≡ f → p ≤ pageStart s f .«page_index»
     go (at j) e = lowest-at (isEmpty s) p (pagesIn s - p) j e .from
     go none e = h
 

@@ -17,7 +17,7 @@ use Rattle.table.specs.Refusal.{Details, details}
 use Rattle.build.specs.Build.{answer}
 use Rattle.buffer.specs.declared.Written.the-variants.{Bytes}
 use Rattle.lines.specs.declared.bytes.LineDetails.{LineDetails}
-use Rattle.lines.specs.Line.{Fits, writable, line}
+use Rattle.lines.specs.Line.{LineFits, writable, line}
 use Rattle.lines.specs.declared.LineRead.the-variants.{Line as Says}
 use Rattle.lines.specs.declared.LineWritten.the-variants.{Line as Answered}
 use Rattle.lines.specs.WriteLine.{writeLine}
@@ -57,7 +57,7 @@ abbrev pub told : Refusal → LineDetails
 told r = lineDetails (details r)
 
 pub record Lined (r : Refusal) : Type 0 where
-  pub fits : Fits (told r)
+  pub fits : LineFits (told r)
   pub isWritable : writable (told r) ≡ true
   -- the line says these details, and they tell this refusal and no other
   pub readBack : readLine (line (told r)) ≡ Says (told r)

@@ -26,7 +26,7 @@ use Rattle.checks.specs.TopologyInputs.{inputsOf}
 use Rattle.build.specs.Build.{rowsFor, answer}
 use Rattle.buffer.specs.declared.Written.the-variants.{Bytes}
 use Rattle.lines.specs.declared.bytes.LineDetails.{LineDetails}
-use Rattle.lines.specs.Line.{Fits, mostS, subleafOr0, writable, line}
+use Rattle.lines.specs.Line.{LineFits, mostS, subleafOr0, writable, line}
 use Rattle.lines.specs.LineLaws.{at-most-22}
 use Rattle.lines.specs.declared.LineRead.the-variants.{Line as Says}
 use Rattle.lines.specs.declared.LineWritten.the-variants.{Line as Answered}
@@ -68,7 +68,7 @@ refusal-told NothingDecides = refl
 
 -- what a line wants of a refusal
 record Small (r : Refusal) : Type 0 where
-  fits : Fits (told r)
+  fits : LineFits (told r)
   s : details r .s ≤ mostS
 
 word-fits : (s : List ℕ) → AreBytes s → (o : ℕ) → wordAt s o < 2 ^ 32

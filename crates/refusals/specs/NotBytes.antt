@@ -10,14 +10,14 @@ use Rattle.table.specs.declared.Refusal.the-variants.{ReservedBytes}
 use Rattle.table.specs.declared.Verdict.the-variants.{Refused}
 use Rattle.build.specs.Build.{answer}
 use Rattle.page_sets.specs.PageSets.{page}
-use Rattle.page_sets.specs.Evaluation.{first, evaluated}
+use Rattle.page_sets.specs.Evaluation.{firstEdition, evaluated}
 use Rattle.refusals.specs.Lined.{Lined}
 
 -- one entry, of zeros but for the first element, 2^32, and a reserved byte
 abbrev pub notBytes : List ℕ
 notBytes = page 1 ((2 ^ 32 ∷ replicate 46 0) ++ (1 ∷ []))
 
-pub not-bytes-refused : answer first notBytes .verdict ≡ Refused (ReservedBytes (function (2 ^ 32)))
+pub not-bytes-refused : answer firstEdition notBytes .verdict ≡ Refused (ReservedBytes (function (2 ^ 32)))
 unfolding evaluated
 not-bytes-refused = refl
 

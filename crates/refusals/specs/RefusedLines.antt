@@ -15,7 +15,7 @@ use Rattle.table.specs.declared.Verdict.the-variants.{Accepted, Refused}
 use Rattle.build.specs.Build.{answer}
 use Rattle.page_sets.specs.PageSets.{entry, withFirst, serverWithoutD12}
 use Rattle.page_sets.specs.PassLaws.{verdict-passed}
-use Rattle.page_sets.specs.Evaluation.{first, passed}
+use Rattle.page_sets.specs.Evaluation.{firstEdition, passed}
 use Rattle.lines.specs.NumbersInUse.{rows, names}
 use Rattle.lines.specs.Line.{fields, line}
 use Rattle.refusals.specs.Lined.{told, Lined}
@@ -34,30 +34,30 @@ sizeOne = withFirst (entry 0x80000008 0 0x3030 0x111ED21F 0x1000 0x10007)
 unfoldable pub twoThreads : List ℕ
 twoThreads = withFirst (entry 0x8000001E 0 0 0x100 0 0)
 
-without-refused : answer first serverWithoutD12 .verdict ≡ Refused (MissingRequiredResult ExtendedStateEnumeration (Some 12))
+without-refused : answer firstEdition serverWithoutD12 .verdict ≡ Refused (MissingRequiredResult ExtendedStateEnumeration (Some 12))
 unfolding passed serverWithoutD12
-without-refused = verdict-passed first serverWithoutD12
+without-refused = verdict-passed firstEdition serverWithoutD12
 
-size-refused : answer first sizeOne .verdict ≡ Refused (TopologyInconsistent (ProcessorCount 1))
+size-refused : answer firstEdition sizeOne .verdict ≡ Refused (TopologyInconsistent (ProcessorCount 1))
 unfolding passed sizeOne
-size-refused = verdict-passed first sizeOne
+size-refused = verdict-passed firstEdition sizeOne
 
-threads-refused : answer first twoThreads .verdict ≡ Refused (TopologyInconsistent ThreadsPerUnit)
+threads-refused : answer firstEdition twoThreads .verdict ≡ Refused (TopologyInconsistent ThreadsPerUnit)
 unfolding passed twoThreads
-threads-refused = verdict-passed first twoThreads
+threads-refused = verdict-passed firstEdition twoThreads
 
 -- 3 0000000D 12
-pub line-of-3 : lineOf (answer first serverWithoutD12 .verdict) ≡ 51 ∷ 32 ∷ 48 ∷ 48 ∷ 48 ∷ 48 ∷ 48 ∷ 48 ∷ 48 ∷ 68 ∷ 32 ∷ 49 ∷ 50 ∷ 10 ∷ []
+pub line-of-3 : lineOf (answer firstEdition serverWithoutD12 .verdict) ≡ 51 ∷ 32 ∷ 48 ∷ 48 ∷ 48 ∷ 48 ∷ 48 ∷ 48 ∷ 48 ∷ 68 ∷ 32 ∷ 49 ∷ 50 ∷ 10 ∷ []
 unfolding line fields names rows digits width sumTo
 line-of-3 = ap lineOf without-refused
 
 -- 7 1: s is named
-pub line-of-7 : lineOf (answer first sizeOne .verdict) ≡ 55 ∷ 32 ∷ 49 ∷ 10 ∷ []
+pub line-of-7 : lineOf (answer firstEdition sizeOne .verdict) ≡ 55 ∷ 32 ∷ 49 ∷ 10 ∷ []
 unfolding line fields names rows digits width sumTo
 line-of-7 = ap lineOf size-refused
 
 -- 8: nothing is named
-pub line-of-8 : lineOf (answer first twoThreads .verdict) ≡ 56 ∷ 10 ∷ []
+pub line-of-8 : lineOf (answer firstEdition twoThreads .verdict) ≡ 56 ∷ 10 ∷ []
 unfolding line fields names rows digits width sumTo
 line-of-8 = ap lineOf threads-refused
 
@@ -67,4 +67,4 @@ unfolding twoThreads areBytes
 threads-bytes = refl
 
 pub threads-lined : Lined (TopologyInconsistent ThreadsPerUnit)
-threads-lined = building-lined first twoThreads (bytes-at twoThreads threads-bytes) (TopologyInconsistent ThreadsPerUnit) threads-refused
+threads-lined = building-lined firstEdition twoThreads (bytes-at twoThreads threads-bytes) (TopologyInconsistent ThreadsPerUnit) threads-refused

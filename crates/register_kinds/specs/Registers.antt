@@ -42,8 +42,8 @@ registersRise test k a b = record {
 abbrev pub firstBy : Bool → Bool → Bool → Register
 firstBy eax ebx ecx = pick eax (pick ebx (pick ecx Edx Ecx) Ebx) Eax
 
-abbrev pub firstOf : RegistersRise → Register
-firstOf t = firstBy (t .eax) (t .ebx) (t .ecx)
+abbrev pub firstToFail : RegistersRise → Register
+firstToFail t = firstBy (t .eax) (t .ebx) (t .ecx)
 
 -- the subleaf of a place, where its row carries one
 abbrev pub subleafNamed : ℕ → Subleaf

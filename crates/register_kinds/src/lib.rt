@@ -8,7 +8,7 @@ ghost use Prim.Native.Nat.{_<_};
 ghost use Rattle.masking.specs.Kept.{places};
 ghost use Rattle.features.specs.Finish.{ruleAt};
 ghost use Rattle.finish.specs.Kinds.{fromEntry};
-ghost use Rattle.register_kinds.specs.Registers.{firstOf, subleafNamed};
+ghost use Rattle.register_kinds.specs.Registers.{firstToFail, subleafNamed};
 ghost use Rattle.register_kinds.specs.ByMasks.{passes, passesBy};
 
 pub enum Register {
@@ -66,7 +66,7 @@ pub fn registers_rise(
 
 // The first register that fails: EDX where the other three do not.
 pub fn first_register(rise: RegistersRise) -> Register
-    ensures { λ r. ⌜ r ≡ firstOf rise ⌝ }
+    ensures { λ r. ⌜ r ≡ firstToFail rise ⌝ }
 {
     if rise.eax {
         if rise.ebx {

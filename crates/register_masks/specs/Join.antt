@@ -10,17 +10,17 @@ use Rattle.finish.specs.Kinds.{Kind, Kinds, kindsAt}
 use Rattle.finish.specs.Kinds.Kind.{feature, featureBut28, area, freed, other}
 
 -- a register with one server's more; bit 28 of 1.EDX is no feature and stays the first's
-abbrev pub pooled : Kind → ℕ → ℕ → ℕ
-pooled feature a b = bitAnd a b
-pooled featureBut28 a b = bitAnd a (bitOr b (2 ^ 28))
-pooled area a b = a
-pooled freed a b = a
-pooled other a b = a
+abbrev pub joinedRegister : Kind → ℕ → ℕ → ℕ
+joinedRegister feature a b = bitAnd a b
+joinedRegister featureBut28 a b = bitAnd a (bitOr b (2 ^ 28))
+joinedRegister area a b = a
+joinedRegister freed a b = a
+joinedRegister other a b = a
 
 abbrev pub pooledResults : Kinds → CpuidResult → CpuidResult → CpuidResult
 pooledResults k a b =
-    result (pooled (k .eax) (a .eax) (b .eax)) (pooled (k .ebx) (a .ebx) (b .ebx)) (pooled (k .ecx) (a .ecx) (b .ecx))
-    (pooled (k .edx) (a .edx) (b .edx))
+    result (joinedRegister (k .eax) (a .eax) (b .eax)) (joinedRegister (k .ebx) (a .ebx) (b .ebx)) (joinedRegister (k .ecx) (a .ecx) (b .ecx))
+    (joinedRegister (k .edx) (a .edx) (b .edx))
 
 -- one server more: an entry is there where the first has it
 unfoldable pub withServer : Rows → Rows → Rows

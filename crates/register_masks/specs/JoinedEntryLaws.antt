@@ -16,7 +16,7 @@ use Rattle.checks.specs.MaskLaws.{none-from}
 use Rattle.finish.specs.Kinds.{Kind, Kinds, Registers}
 use Rattle.finish.specs.Kinds.Kind.{feature, featureBut28, area, freed, other}
 use Rattle.finish.specs.JoinLaws.{joined, joinResults}
-use Rattle.register_masks.specs.Join.{pooled, pooledResults}
+use Rattle.register_masks.specs.Join.{joinedRegister, pooledResults}
 use Rattle.register_masks.specs.Alike.{Alike}
 
 -- ---- bit 28
@@ -69,14 +69,14 @@ alike-both area a b c p q = tt
 alike-both freed a b c p q = tt
 alike-both other a b c p q = sym p ∙ q
 
-alike-pooled : (k : Kind) (x a b : ℕ) → Alike k x a → Alike k x (pooled k a b)
+alike-pooled : (k : Kind) (x a b : ℕ) → Alike k x a → Alike k x (joinedRegister k a b)
 alike-pooled feature x a b p = tt
 alike-pooled featureBut28 x a b p = p ∙ sym (keeps-28 a b)
 alike-pooled area x a b p = tt
 alike-pooled freed x a b p = tt
 alike-pooled other x a b p = p
 
-pub pooled-joined : (k : Kind) (a b : ℕ) → Alike k a b → pooled k a b ≡ joined k a b
+pub pooled-joined : (k : Kind) (a b : ℕ) → Alike k a b → joinedRegister k a b ≡ joined k a b
 pooled-joined feature a b p = refl
 pooled-joined featureBut28 a b p = plain-and a b p
 pooled-joined area a b p = refl

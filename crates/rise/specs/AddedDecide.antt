@@ -15,7 +15,7 @@ use Rattle.bits.specs.SearchLaws.{every-at}
 use Rattle.bits.specs.Lists.{tabulate}
 use Rattle.bits.specs.ListsLaws.{tabulate-at}
 use Rattle.x86defs.specs.Functions.{function, result}
-use Rattle.pages.specs.Layout.{pageSize, entrySize, firstEntry, wordAt, pagesIn, countOf, entryAt}
+use Rattle.pages.specs.Layout.{pageSize, entrySize, entriesAt, wordAt, pagesIn, countOf, entryAt}
 use Rattle.table.specs.declared.Verdict.{Verdict}
 use Rattle.table.specs.declared.Verdict.the-variants.{Accepted}
 use Rattle.collect.specs.Lawful.{lawfulVerdict}
@@ -58,7 +58,7 @@ word-same s u a n o f l h =
     )
 
 -- an entry whose 48 bytes stand where they stood
-entry-same : (s u : List ℕ) (p q : ℕ) → SameBytes s u (pageSize * p + firstEntry + entrySize * q) entrySize → entryAt u p q ≡ entryAt s p q
+entry-same : (s u : List ℕ) (p q : ℕ) → SameBytes s u (pageSize * p + entriesAt + entrySize * q) entrySize → entryAt u p q ≡ entryAt s p q
 unfolding entryAt
 entry-same s u p q f = λ k. record {
   page = p;
@@ -71,20 +71,20 @@ entry-same s u p q f = λ k. record {
 }
   where
     o : ℕ
-    o = pageSize * p + firstEntry + entrySize * q
+    o = pageSize * p + entriesAt + entrySize * q
 
     word : (i : ℕ) → o ≤ i → i + 4 ≤ o + entrySize → wordAt u i ≡ wordAt s i
     word i l h = word-same s u o entrySize i f l h
 
 -- the bytes of u where page p of s has its entries
 abbrev entryBytes : List ℕ → List ℕ → ℕ → List ℕ
-entryBytes s u p = take (entrySize * countOf s p) (drop (pageSize * p + firstEntry) u)
+entryBytes s u p = take (entrySize * countOf s p) (drop (pageSize * p + entriesAt) u)
 
-page-bytes : (s u : List ℕ) (p : ℕ) → entryBytes s u p ≡ entryBytes s s p → SameBytes s u (pageSize * p + firstEntry) (entrySize * countOf s p)
+page-bytes : (s u : List ℕ) (p : ℕ) → entryBytes s u p ≡ entryBytes s s p → SameBytes s u (pageSize * p + entriesAt) (entrySize * countOf s p)
 page-bytes s u p e i l h = sym (at u) ∙ ap (λ (bytes : List ℕ). getD bytes (i - o) 0) e ∙ at s
   where
     o : ℕ
-    o = pageSize * p + firstEntry
+    o = pageSize * p + entriesAt
 
     at : (w : List ℕ) → getD (entryBytes s w p) (i - o) 0 ≡ getD w i 0
     at w =
@@ -119,6 +119,6 @@ added-by-figures s u e = record {
     test : pageTest s u ≡ true
     test = ap (λ (f : Figures). f .1) e
 
-    on-page : (p : ℕ) → p < pagesIn s → SameBytes s u (pageSize * p + firstEntry) (entrySize * countOf s p)
+    on-page : (p : ℕ) → p < pagesIn s → SameBytes s u (pageSize * p + entriesAt) (entrySize * countOf s p)
     on-page p l =
         page-bytes s u p (tabulate-at (pagesIn s) (entryBytes s u) (entryBytes s s) (ap (λ (f : Figures). f .2) e) p l)

@@ -16,7 +16,7 @@ use Rattle.table.specs.declared.Choices.{Choices}
 use Rattle.table.specs.declared.CpuidResults.{CpuidResults}
 use Rattle.table.specs.declared.Verdict.the-variants.{Accepted}
 use Rattle.table.specs.Rows.{Row, Rows}
-use Rattle.table.specs.Table.{rowIn, rowsIn}
+use Rattle.table.specs.Table.{rowIn, rowsOfTable}
 use Rattle.checks.specs.declared.Size.{Size}
 use Rattle.checks.specs.declared.Size.the-variants.{Bytes, TooLarge}
 use Rattle.checks.specs.ExtendedState.{xfem, xss, combinedMask, saveArea, sizeOf}
@@ -70,7 +70,7 @@ module _ (chosen : Choices) (s : List ℕ) (e : answer chosen s .verdict ≡ Acc
   state1 : rowIn t (Place.extendedState 1) .result ≡ finish (settings (chosen .edition) m) (ruleAt (Place.extendedState 1)) (m (Place.extendedState 1) .result)
   state1 = result-at (Place.extendedState 1) (lit< tt) (always-finished (Place.extendedState 1) (lit< tt) refl)
 
-  pub built-xfem : xfem (rowsIn t) ≡ xfem m
+  pub built-xfem : xfem (rowsOfTable t) ≡ xfem m
   unfolding xfem
   built-xfem = ap (λ (r : CpuidResult). r .eax) state0
 
@@ -81,12 +81,12 @@ module _ (chosen : Choices) (s : List ℕ) (e : answer chosen s .verdict ≡ Acc
   unfolding settings enabledBy unlessNoXss
   built-ecx = ap (λ (r : CpuidResult). r .ecx) state1 ∙ xsaves-ecx m
 
-  pub built-xss : xss (rowsIn t) ≡ xss m
+  pub built-xss : xss (rowsOfTable t) ≡ xss m
   unfolding xss
   built-xss =
       ap₂ (λ (a c : ℕ). pick (has 1 a && has 3 a) c 0) built-eax built-ecx
       ∙ twice (has 1 (m (Place.extendedState 1) .result .eax) && has 3 (m (Place.extendedState 1) .result .eax)) (m (Place.extendedState 1) .result .ecx)
 
-  pub built-mask : combinedMask (rowsIn t) ≡ combinedMask m
+  pub built-mask : combinedMask (rowsOfTable t) ≡ combinedMask m
   unfolding combinedMask
   built-mask = ap₂ bitOr built-xfem built-xss

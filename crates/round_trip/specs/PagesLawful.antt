@@ -12,7 +12,7 @@ use Rattle.pages.specs.ReservedLaws.{all-clean}
 use Rattle.table.specs.declared.Verdict.the-variants.{Accepted}
 use Rattle.collect.specs.Lawful.{lawfulVerdict}
 use Rattle.collect.specs.LawfulLaws.{clean-lawful}
-use Rattle.kvm_list.specs.Words.{bytesOfWords, cut}
+use Rattle.kvm_list.specs.Words.{bytesOfWords, lowWord}
 use Rattle.kvm_list.specs.Format.{ListRow}
 use Rattle.kvm_import.specs.ListChecks.{rowsOn0, rowsOn1}
 use Rattle.kvm_import.specs.ListPages.{entriesWords, pageWords, pagesOf}
@@ -42,12 +42,12 @@ module _ (A B : List ListRow) (fitA : AllFit A) (fitB : AllFit B) (fewA : length
   clean-0 : (q : ℕ) → q < length A → cleanAt made 0 q ≡ true
   clean-0 q l =
       let (a, b) = last-words A _ q l in
-      entry-clean made 0 q (word-0 A B fitA fitB fewA fewB q 10 ∙ ap cut a) (word-0 A B fitA fitB fewA fewB q 11 ∙ ap cut b)
+      entry-clean made 0 q (word-0 A B fitA fitB fewA fewB q 10 ∙ ap lowWord a) (word-0 A B fitA fitB fewA fewB q 11 ∙ ap lowWord b)
 
   clean-1 : (q : ℕ) → q < length B → cleanAt made 1 q ≡ true
   clean-1 q l =
       let (a, b) = last-words B _ q l in
-      entry-clean made 1 q (word-1 A B fitA fitB fewA fewB q 10 ∙ ap cut a) (word-1 A B fitA fitB fewA fewB q 11 ∙ ap cut b)
+      entry-clean made 1 q (word-1 A B fitA fitB fewA fewB q 10 ∙ ap lowWord a) (word-1 A B fitA fitB fewA fewB q 11 ∙ ap lowWord b)
 
   pub made-clean : allClean made ≡ true
   made-clean = all-clean made at

@@ -22,7 +22,7 @@ use Rattle.masking.specs.Kept.{placeOf, places, leafAt}
 use Rattle.masking.specs.KeptLaws.{entry-belongs}
 use Rattle.table.specs.Rows.{Row, row, vacant}
 use Rattle.collect.specs.FirstEntries.{firstAt}
-use Rattle.kvm_list.specs.Words.{bytesOfWords, cut}
+use Rattle.kvm_list.specs.Words.{bytesOfWords, lowWord}
 use Rattle.kvm_list.specs.WordsLaws.{cut-small, length-bytes, bytes-append, word-bytes}
 use Rattle.kvm_list.specs.Format.{ListRow}
 use Rattle.kvm_list.specs.FormatLaws.{cutRow}
@@ -76,12 +76,12 @@ words-past r rs post q j =
     ap (λ (n : ℕ). getD (entryWords r ++ (entriesWords rs ++ post)) n 0) p ∙ getD-append-add (entryWords r) (entriesWords rs ++ post) (12 * q + j) 0
 
 page-read : (rs : List ListRow) (post : List ℕ) → AllFit rs
-    → tabulate (length rs) (λ q. fromWords (λ j. cut (getD (entriesWords rs ++ post) (12 * q + j) 0))) ≡ map ofRow rs
+    → tabulate (length rs) (λ q. fromWords (λ j. lowWord (getD (entriesWords rs ++ post) (12 * q + j) 0))) ≡ map ofRow rs
 unfolding tabulate entriesWords
 page-read [] post h = refl
 page-read (r ∷ rs) post h =
     ap₂ _∷_ (ap ofRow (h .0))
-    (ap (tabulate (length rs)) (fun-ext (λ q. ap fromWords (fun-ext (λ j. ap cut (words-past r rs post q j))))) ∙ page-read rs post (h .1))
+    (ap (tabulate (length rs)) (fun-ext (λ q. ap fromWords (fun-ext (λ j. ap lowWord (words-past r rs post q j))))) ∙ page-read rs post (h .1))
 
 page-entries : (s : List ℕ) (p q n : ℕ) → map ofEntry (onPage s p q n) ≡ tabulate n (λ j. ofEntry (entryAt s p (q + j)))
 unfolding onPage tabulate
@@ -172,7 +172,7 @@ module _ (A B : List ListRow) (fitA : AllFit A) (fitB : AllFit B) (fewA : length
   count-0 = word-bytes W 0 ∙ (unfold pageWords in cut-small (length A) (omega arith))
 
   pub count-1 : countOf s 1 ≡ length B
-  count-1 = word-bytes W 1024 ∙ ap cut (words-1 0) ∙ (unfold pageWords in cut-small (length B) (omega arith))
+  count-1 = word-bytes W 1024 ∙ ap lowWord (words-1 0) ∙ (unfold pageWords in cut-small (length B) (omega arith))
 
   pub length-s : length s ≡ 8192
   length-s = length-bytes W ∙ omega (arith, length-append (pageWords A) (pageWords B), length-page A fewA, length-page B fewB)
@@ -184,17 +184,17 @@ module _ (A B : List ListRow) (fitA : AllFit A) (fitB : AllFit B) (fewA : length
   afterB = replicate (1020 - 12 * length B) 0
 
   -- word j of the entry at position q of each page
-  pub word-0 : (q j : ℕ) → wordAt s (4096 * 0 + 16 + 48 * q + 4 * j) ≡ cut (getD (entriesWords A ++ afterA) (12 * q + j) 0)
+  pub word-0 : (q j : ℕ) → wordAt s (4096 * 0 + 16 + 48 * q + 4 * j) ≡ lowWord (getD (entriesWords A ++ afterA) (12 * q + j) 0)
   word-0 q j =
       let p : 4096 * 0 + 16 + 48 * q + 4 * j ≡ 4 * suc (suc (suc (suc (12 * q + j)))) = omega arith in
-      ap (wordAt s) p ∙ word-bytes W (suc (suc (suc (suc (12 * q + j))))) ∙ ap cut (words-0 (12 * q + j))
+      ap (wordAt s) p ∙ word-bytes W (suc (suc (suc (suc (12 * q + j))))) ∙ ap lowWord (words-0 (12 * q + j))
 
-  pub word-1 : (q j : ℕ) → wordAt s (4096 * 1 + 16 + 48 * q + 4 * j) ≡ cut (getD (entriesWords B ++ afterB) (12 * q + j) 0)
+  pub word-1 : (q j : ℕ) → wordAt s (4096 * 1 + 16 + 48 * q + 4 * j) ≡ lowWord (getD (entriesWords B ++ afterB) (12 * q + j) 0)
   word-1 q j =
       let p : 4096 * 1 + 16 + 48 * q + 4 * j ≡ 4 * (1024 + suc (suc (suc (suc (12 * q + j))))) = omega arith in
       ap (wordAt s) p
       ∙ word-bytes W (1024 + suc (suc (suc (suc (12 * q + j)))))
-      ∙ ap cut (words-1 (suc (suc (suc (suc (12 * q + j))))) ∙ words-page B (12 * q + j))
+      ∙ ap lowWord (words-1 (suc (suc (suc (suc (12 * q + j))))) ∙ words-page B (12 * q + j))
 
   entries-0 : map ofEntry (onPage s 0 0 (length A)) ≡ map ofRow A
   entries-0 = page-words s 0 (length A) _ word-0 ∙ page-read A afterA fitA

@@ -8,7 +8,7 @@ use Rattle.pages.specs.Layout.{Entry, countOf}
 use Rattle.pages.specs.Entries.{onPage, counted}
 use Rattle.table.specs.declared.Verdict.the-variants.{Accepted}
 use Rattle.collect.specs.Lawful.{lawfulVerdict}
-use Rattle.kvm_list.specs.Format.{ListRow, rowsIn}
+use Rattle.kvm_list.specs.Format.{ListRow, rowsListed}
 use Rattle.kvm_import.specs.ListChecks.{rowsOn0, rowsOn1}
 use Rattle.kvm_import.specs.ListPages.{pagesOf}
 use Rattle.kvm_import.specs.Import.{readList}
@@ -27,11 +27,11 @@ ofEntry e = record { leaf = e .leaf .0; index = e .subleaf; registers = e .regis
 
 pub record ReadMakes (l buffer : List ℕ) : Type 0 where
   -- 8,192 bytes, each given by the list's rows; lent bytes beyond stay
-  pub two : length (pagesOf (rowsIn l)) ≡ 8192
-  pub bytes : readList l buffer .buffer ≡ pagesOf (rowsIn l) ++ drop 8192 buffer
+  pub two : length (pagesOf (rowsListed l)) ≡ 8192
+  pub bytes : readList l buffer .buffer ≡ pagesOf (rowsListed l) ++ drop 8192 buffer
   -- of lawful length and counts, and clean: neither 1, 2 nor 17 applies
-  pub lawful : lawfulVerdict (pagesOf (rowsIn l)) ≡ Accepted
+  pub lawful : lawfulVerdict (pagesOf (rowsListed l)) ≡ Accepted
   -- page by page, and all that count
-  pub page0 : map ofEntry (onPage (pagesOf (rowsIn l)) 0 0 (countOf (pagesOf (rowsIn l)) 0)) ≡ map ofRow (rowsOn0 (rowsIn l))
-  pub page1 : map ofEntry (onPage (pagesOf (rowsIn l)) 1 0 (countOf (pagesOf (rowsIn l)) 1)) ≡ map ofRow (rowsOn1 (rowsIn l))
-  pub all : map ofEntry (counted (pagesOf (rowsIn l))) ≡ map ofRow (rowsOn0 (rowsIn l)) ++ map ofRow (rowsOn1 (rowsIn l))
+  pub page0 : map ofEntry (onPage (pagesOf (rowsListed l)) 0 0 (countOf (pagesOf (rowsListed l)) 0)) ≡ map ofRow (rowsOn0 (rowsListed l))
+  pub page1 : map ofEntry (onPage (pagesOf (rowsListed l)) 1 0 (countOf (pagesOf (rowsListed l)) 1)) ≡ map ofRow (rowsOn1 (rowsListed l))
+  pub all : map ofEntry (counted (pagesOf (rowsListed l))) ≡ map ofRow (rowsOn0 (rowsListed l)) ++ map ofRow (rowsOn1 (rowsListed l))

@@ -9,7 +9,7 @@ use lib.ListN.{length, drop}
 use Rattle.table.specs.declared.Refusal.{Refusal}
 use Rattle.table.specs.declared.Refusal.the-variants.{ListLength, ListRows, ListFields, BufferTooShort}
 use Rattle.buffer.specs.declared.Written.the-variants.{Bytes, Refused}
-use Rattle.kvm_list.specs.Format.{ListRow, rowCount, zeroWord, rowAt, rowsIn}
+use Rattle.kvm_list.specs.Format.{ListRow, rowCount, zeroWord, rowAt, rowsListed}
 use Rattle.kvm_import.specs.ListChecks.{rowsOn0, rowsOn1}
 use Rattle.kvm_import.specs.ListPages.{pagesOf}
 use Rattle.kvm_import.specs.Import.{readList}
@@ -26,7 +26,7 @@ abbrev pub FieldsHold : List ℕ → Type 0
 FieldsHold l = (zeroWord l ≡ 0) × ((q : ℕ) → q < rowCount l → RowHolds (rowAt l q))
 
 abbrev pub RowsFit : List ℕ → Type 0
-RowsFit l = (length (rowsOn0 (rowsIn l)) ≤ 64) × (length (rowsOn1 (rowsIn l)) ≤ 64)
+RowsFit l = (length (rowsOn0 (rowsListed l)) ≤ 64) × (length (rowsOn1 (rowsListed l)) ≤ 64)
 
 -- ---- reading
 
@@ -38,4 +38,4 @@ pub record ReadsExactly (l buffer : List ℕ) : Type 0 where
   pub read : (n : ℕ) → (readList l buffer .answer ≡ Bytes n) ↔ (LengthHolds l × FieldsHold l × RowsFit l × (8192 ≤ length buffer) × (n ≡ 8192))
   -- a refused read changes no lent byte; another leaves those beyond the two pages
   pub untouched : (r : Refusal) → readList l buffer .answer ≡ Refused r → readList l buffer .buffer ≡ buffer
-  pub beyond : (n : ℕ) → readList l buffer .answer ≡ Bytes n → readList l buffer .buffer ≡ pagesOf (rowsIn l) ++ drop 8192 buffer
+  pub beyond : (n : ℕ) → readList l buffer .answer ≡ Bytes n → readList l buffer .buffer ≡ pagesOf (rowsListed l) ++ drop 8192 buffer

@@ -14,12 +14,12 @@ use Rattle.table.specs.declared.Refusal.{Refusal}
 use Rattle.table.specs.declared.Refusal.the-variants.{ListLength, ListRows, ListFields, BufferTooShort}
 use Rattle.buffer.specs.declared.Written.the-variants.{Bytes, Refused}
 use Rattle.buffer.specs.Front.{writeFront}
-use Rattle.kvm_list.specs.Words.{cut}
+use Rattle.kvm_list.specs.Words.{lowWord}
 use Rattle.kvm_list.specs.WordsLaws.{cut-small}
 use Rattle.pages.specs.Bytes.{AreBytes}
 use Rattle.pages.specs.Layout.{wordAt}
 use Rattle.x86defs.specs.Functions.{result}
-use Rattle.kvm_list.specs.Format.{ListRow, rowCount, zeroWord, rowAt, rowsIn}
+use Rattle.kvm_list.specs.Format.{ListRow, rowCount, zeroWord, rowAt, rowsListed}
 use Rattle.kvm_list.specs.FormatLaws.{cutRow}
 use Rattle.kvm_import.specs.ListChecks.{badListLength, rowLawful, allLawful, fieldsLawful, rowsOn0, rowsOn1, rowsFit}
 use Rattle.kvm_import.specs.ListPages.{pagesOf}
@@ -72,20 +72,20 @@ all-lawful f zero h = refl
 all-lawful f (suc n) h = and-both (row-lawful (f 0) (h 0 (omega arith))) (all-lawful (λ k. f (suc k)) n (λ q l. h (suc q) (omega arith)))
 
 fields-hold : (l : List ℕ) → fieldsLawful l ≡ true → FieldsHold l
-unfolding fieldsLawful rowsIn
+unfolding fieldsLawful rowsListed
 fields-hold l e = (eqb-true _ _ (and-left _ _ e), all-hold (rowAt l) (rowCount l) (and-right (eqb (zeroWord l) 0) _ e))
 
 fields-fail : (l : List ℕ) → fieldsLawful l ≡ false → FieldsHold l → ⊥
-unfolding fieldsLawful rowsIn
+unfolding fieldsLawful rowsListed
 fields-fail l e h = never-both (and-both (eq-eqb (zeroWord l) 0 (h .0)) (all-lawful (rowAt l) (rowCount l) (h .1))) e
 
 -- ---- 11
 
-rows-hold : (l : List ℕ) → rowsFit (rowsIn l) ≡ true → RowsFit l
+rows-hold : (l : List ℕ) → rowsFit (rowsListed l) ≡ true → RowsFit l
 unfolding rowsFit
-rows-hold l e = (leb-true _ _ (and-left _ _ e), leb-true _ _ (and-right (leb (length (rowsOn0 (rowsIn l))) 64) _ e))
+rows-hold l e = (leb-true _ _ (and-left _ _ e), leb-true _ _ (and-right (leb (length (rowsOn0 (rowsListed l))) 64) _ e))
 
-rows-fail : (l : List ℕ) → rowsFit (rowsIn l) ≡ false → RowsFit l → ⊥
+rows-fail : (l : List ℕ) → rowsFit (rowsListed l) ≡ false → RowsFit l → ⊥
 unfolding rowsFit
 rows-fail l e h = never-both (and-both (le-leb _ 64 (h .0)) (le-leb _ 64 (h .1))) e
 
@@ -97,16 +97,16 @@ impossible e = absurd (omega arith)
 
 module _ (l buffer : List ℕ) where
   abbrev s : List ℕ
-  s = pagesOf (rowsIn l)
+  s = pagesOf (rowsListed l)
 
   pub reads-exactly : ReadsExactly l buffer
   unfolding readList listVerdict writeFront
   reads-exactly = bad (badListLength l) refl
     where
-      room : LengthHolds l → FieldsHold l → RowsFit l → badListLength l ≡ false → fieldsLawful l ≡ true → rowsFit (rowsIn l) ≡ true
+      room : LengthHolds l → FieldsHold l → RowsFit l → badListLength l ≡ false → fieldsLawful l ≡ true → rowsFit (rowsListed l) ≡ true
           → (b : Bool) → leb (length s) (length buffer) ≡ b → ReadsExactly l buffer
       room h f g e₁ e₂ e₃ true e =
-          let two : length s ≡ 8192 = pages-length (rowsIn l) (g .0) (g .1) in
+          let two : length s ≡ 8192 = pages-length (rowsListed l) (g .0) (g .1) in
           let w : readList l buffer ≡ record { answer = Bytes 8192; buffer = s ++ drop 8192 buffer } = rw (e₁, e₂, e₃, e, two) in
           let fits : 8192 ≤ length buffer = omega (arith, leb-true (length s) (length buffer) e, two) in
           record {
@@ -119,7 +119,7 @@ module _ (l buffer : List ℕ) where
             beyond = λ n p. cc;
           }
       room h f g e₁ e₂ e₃ false e =
-          let two : length s ≡ 8192 = pages-length (rowsIn l) (g .0) (g .1) in
+          let two : length s ≡ 8192 = pages-length (rowsListed l) (g .0) (g .1) in
           let w : readList l buffer ≡ record { answer = Refused BufferTooShort; buffer = buffer } = rw (e₁, e₂, e₃, e) in
           let over : length buffer < 8192 = omega (arith, leb-false (length s) (length buffer) e, two) in
           record {
@@ -132,7 +132,7 @@ module _ (l buffer : List ℕ) where
             beyond = λ n p. impossible (cc);
           }
 
-      many : LengthHolds l → FieldsHold l → badListLength l ≡ false → fieldsLawful l ≡ true → (b : Bool) → rowsFit (rowsIn l) ≡ b
+      many : LengthHolds l → FieldsHold l → badListLength l ≡ false → fieldsLawful l ≡ true → (b : Bool) → rowsFit (rowsListed l) ≡ b
           → ReadsExactly l buffer
       many h f e₁ e₂ true e = room h f (rows-hold l e) e₁ e₂ e (leb (length s) (length buffer)) refl
       many h f e₁ e₂ false e =
@@ -148,7 +148,7 @@ module _ (l buffer : List ℕ) where
           }
 
       fields : LengthHolds l → badListLength l ≡ false → (b : Bool) → fieldsLawful l ≡ b → ReadsExactly l buffer
-      fields h e₁ true e = many h (fields-hold l e) e₁ e (rowsFit (rowsIn l)) refl
+      fields h e₁ true e = many h (fields-hold l e) e₁ e (rowsFit (rowsListed l)) refl
       fields h e₁ false e =
           let w : readList l buffer ≡ record { answer = Refused ListFields; buffer = buffer } = rw (e₁, e) in
           record {
@@ -179,7 +179,7 @@ module _ (l buffer : List ℕ) where
 
 -- a row of bytes has words of 32 bits
 module _ (l : List ℕ) (bytes : AreBytes l) where
-  word-small : (o : ℕ) → cut (wordAt l o) ≡ wordAt l o
+  word-small : (o : ℕ) → lowWord (wordAt l o) ≡ wordAt l o
   word-small o = cut-small (wordAt l o) (omega (arith, bytes o, bytes (o + 1), bytes (o + 2), bytes (o + 3)))
 
   row-small : (q : ℕ) → cutRow (rowAt l q) ≡ rowAt l q
@@ -201,8 +201,8 @@ module _ (l : List ℕ) (bytes : AreBytes l) where
   fit-tabulate f h zero = tt
   fit-tabulate f h (suc n) = (h 0, fit-tabulate (λ k. f (suc k)) (λ q. h (suc q)) n)
 
-  rows-small : AllFit (rowsIn l)
-  unfolding rowsIn
+  rows-small : AllFit (rowsListed l)
+  unfolding rowsListed
   rows-small = fit-tabulate (rowAt l) row-small (rowCount l)
 
   pub read-makes : (buffer : List ℕ) → readList l buffer .answer ≡ Bytes 8192 → ReadMakes l buffer
@@ -210,10 +210,10 @@ module _ (l : List ℕ) (bytes : AreBytes l) where
       let x = reads-exactly l buffer in
       let g = x .read 8192 .0 e .2 in
       record {
-        two = pages-length (rowsIn l) (g .0) (g .1);
+        two = pages-length (rowsListed l) (g .0) (g .1);
         bytes = x .beyond 8192 e;
-        lawful = pages-lawful (rowsIn l) rows-small (g .0) (g .1);
-        page0 = page-0 (rowsIn l) rows-small (g .0) (g .1);
-        page1 = page-1 (rowsIn l) rows-small (g .0) (g .1);
-        all = all-counted (rowsIn l) rows-small (g .0) (g .1);
+        lawful = pages-lawful (rowsListed l) rows-small (g .0) (g .1);
+        page0 = page-0 (rowsListed l) rows-small (g .0) (g .1);
+        page1 = page-1 (rowsListed l) rows-small (g .0) (g .1);
+        all = all-counted (rowsListed l) rows-small (g .0) (g .1);
       }

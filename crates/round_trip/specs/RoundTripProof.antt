@@ -18,7 +18,7 @@ use Rattle.table.specs.declared.CpuidResults.{CpuidResults}
 use Rattle.table.specs.declared.Verdict.{Verdict}
 use Rattle.table.specs.declared.Verdict.the-variants.{Accepted}
 use Rattle.table.specs.Rows.{Row, Rows, vacant}
-use Rattle.table.specs.Table.{tableOf, countRows, rowIn, rowsIn as tableRows}
+use Rattle.table.specs.Table.{tableOf, countRows, rowIn, rowsOfTable as tableRows}
 use Rattle.checks.specs.Checks.{rowsVerdict}
 use Rattle.features.specs.Finish.{finished}
 use Rattle.collect.specs.FirstEntries.{firstAt, maskRow, rowsOf}
@@ -32,7 +32,7 @@ use Rattle.buffer.specs.WritesExactly.{front-exactly}
 use Rattle.image.specs.ImagePieces.{rowsAmong}
 use Rattle.refusals.specs.ExactlyProof.{not-short}
 use Rattle.rise.specs.RiseProof.{answer-table, answer-row, accepted-edition, accepted-lawful, accepted-rows}
-use Rattle.kvm_list.specs.Format.{rowsIn}
+use Rattle.kvm_list.specs.Format.{rowsListed}
 use Rattle.kvm_import.specs.ListPages.{pagesOf}
 use Rattle.kvm_import.specs.PagesLaws.{pages-length as two-pages}
 use Rattle.kvm_import.specs.Import.{listVerdict, readList}

@@ -16,8 +16,8 @@ use Rattle.masking.specs.Kept.{keptLeaves, slot, places, leafAt, indexedAt}
 use Rattle.table.specs.declared.CpuidResults.{CpuidResults}
 use Rattle.table.specs.declared.Verdict.the-variants.{Accepted}
 use Rattle.table.specs.Table.{rowIn}
-use Rattle.kvm_list.specs.Words.{cut}
-use Rattle.kvm_list.specs.Format.{ListRow, rowCount, rowsIn, listBytes}
+use Rattle.kvm_list.specs.Words.{lowWord}
+use Rattle.kvm_list.specs.Format.{ListRow, rowCount, rowsListed, listBytes}
 use Rattle.kvm_list.specs.FormatLaws.{cutRow, list-count, list-zero, list-rows, list-length}
 use Rattle.kvm_import.specs.ListChecks.{badListLength, allLawful, fieldsLawful, isExtendedState, rowsOn0, rowsOn1, rowsFit}
 use Rattle.kvm_import.specs.Import.{listVerdict}
@@ -33,7 +33,7 @@ length-from t k (suc n) = go (rowIn t k .present) (length-from t (suc k) n)
     go true h = omega arith
     go false h = omega arith
 
-flag-lawful : (b : Bool) → leb (cut (one b)) 1 ≡ true
+flag-lawful : (b : Bool) → leb (lowWord (one b)) 1 ≡ true
 flag-lawful true = refl
 flag-lawful false = refl
 
@@ -70,7 +70,7 @@ kept-from t f g e k (suc n) = go (rowIn t k .present) (kept-from t f g e (suc k)
     go false h = omega arith
 
 abbrev isDh : ℕ → Bool
-isDh k = sameFunction (function (cut (leafAt k .0))) ExtendedStateEnumeration
+isDh k = sameFunction (function (lowWord (leafAt k .0))) ExtendedStateEnumeration
 
 tally-1 : tally isDh 0 places ≡ 64
 unfolding tally slot keptLeaves
@@ -100,7 +100,7 @@ module _ (t : CpuidResults) where
   unfolding rowsOn1 listRows
   fit-1 = omega (arith, kept-from t isExtendedState isDh (λ k r. refl) 0 places, tally-1)
 
-  pub rows-read : rowsIn (listOf t) ≡ rowsRead
+  pub rows-read : rowsListed (listOf t) ≡ rowsRead
   unfolding listOf
   rows-read = list-rows (listRows t) small
 

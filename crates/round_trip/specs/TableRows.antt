@@ -26,7 +26,7 @@ use Rattle.features.specs.Finish.{ruleAt}
 use Rattle.finish.specs.Kinds.{fromEntry}
 use Rattle.table.specs.Table.{rowIn}
 use Rattle.collect.specs.FirstEntries.{maskedAt, maskRow}
-use Rattle.kvm_list.specs.Words.{cut}
+use Rattle.kvm_list.specs.Words.{lowWord}
 use Rattle.kvm_list.specs.WordsLaws.{cut-cut}
 use Rattle.kvm_list.specs.Format.{ListRow, rowFrom}
 use Rattle.kvm_list.specs.FormatLaws.{cutRow}
@@ -56,10 +56,10 @@ fit-cut (r ∷ rs) = (row-cut r, fit-cut rs)
 -- ---- where a table's row goes
 
 abbrev cutResult : CpuidResult → CpuidResult
-cutResult r = result (cut (r .eax)) (cut (r .ebx)) (cut (r .ecx)) (cut (r .edx))
+cutResult r = result (lowWord (r .eax)) (lowWord (r .ebx)) (lowWord (r .ecx)) (lowWord (r .edx))
 
 abbrev goesTo : ℕ → ℕ
-goesTo k = placeOf (function (cut (leafAt k .0))) (cut (subleafAt k))
+goesTo k = placeOf (function (lowWord (leafAt k .0))) (lowWord (subleafAt k))
 
 goes-to : (k : ℕ) → k < places → goesTo k ≡ pick (fromEntry (ruleAt k)) k places
 unfolding placeOf slot keptLeaves
@@ -131,7 +131,7 @@ unfolding slot keptLeaves versionAndFeatures extendedFeatures extendedState0 ext
 all-narrow true = refl
 all-narrow false = refl
 
-cut-masked : (x m : ℕ) → narrow m ≡ true → bitAnd (cut x) m ≡ bitAnd x m
+cut-masked : (x m : ℕ) → narrow m ≡ true → bitAnd (lowWord x) m ≡ bitAnd x m
 cut-masked x m e =
     ap (λ (y : ℕ). bitAnd y m) (sym (and-mask x 32)) ∙ and-assoc x ones m ∙ ap (bitAnd x) (eqb-true (bitAnd ones m) m e)
 

@@ -28,7 +28,7 @@ use Rattle.search.specs.SameLaws.{answer-same}
 use Rattle.search.specs.Changes.{changes}
 use Rattle.search.specs.PutRow.{putRow}
 use Rattle.search.specs.PutRowLaws.{put-same}
-use Rattle.search.specs.FlippedRowLaws.{firstOf, flip-passed, taken-row, flip-put}
+use Rattle.search.specs.FlippedRowLaws.{firstAmong, flip-passed, taken-row, flip-put}
 
 -- ---- the answer of lawful pages
 
@@ -80,18 +80,18 @@ module _ (c : Choices) (s : List ℕ) (p q r k : ℕ) (h : Inside s p q r k) (kn
       (lawful-table c s known lawful j))
 
   -- in an entry that is not the first counted entry of its place
-  pub changes-nothing : ((i : ℕ) → i < places → firstOf i done .present ≡ false → storedAt (entryAt s p q) ≡ i → ⊥)
+  pub changes-nothing : ((i : ℕ) → i < places → firstAmong i done .present ≡ false → storedAt (entryAt s p q) ≡ i → ⊥)
       → changes c s (flip p q r k) ≡ false
   changes-nothing n =
       changed-by (flip-passed (c .«secure_avic») s p q r k h fit done es here n) ∙ ap not (from-equal (c .edition) refl)
 
   -- in a first entry: what building from the 88 rows with that row changed does
-  pub changes-row : (i : ℕ) → i < places → storedAt (entryAt s p q) ≡ i → firstOf i done .present ≡ false → changes c s (flip p q r k)
+  pub changes-row : (i : ℕ) → i < places → storedAt (entryAt s p q) ≡ i → firstAmong i done .present ≡ false → changes c s (flip p q r k)
       ≡ not (sameFrom (c .edition) (putRow i (maskedAt (c .«secure_avic») i (xorResult (entryAt s p q .registers) (oneBit r k))) m) m)
   changes-row i l e f = changed-by (flip-put (c .«secure_avic») s p q r k h fit done es here i l e f)
 
   -- in a first entry, outside the mask of its place
-  pub changes-masked : (i : ℕ) → i < places → storedAt (entryAt s p q) ≡ i → firstOf i done .present ≡ false
+  pub changes-masked : (i : ℕ) → i < places → storedAt (entryAt s p q) ≡ i → firstAmong i done .present ≡ false
       → maskedAt (c .«secure_avic») i (xorResult (entryAt s p q .registers) (oneBit r k)) ≡ maskedAt (c .«secure_avic») i (entryAt s p q .registers)
       → changes c s (flip p q r k) ≡ false
   changes-masked i l e f g =

@@ -24,16 +24,16 @@ use Rattle.flips.specs.FlippedListLaws.{flip-among}
 use Rattle.search.specs.PutRow.{putRow}
 
 -- the first counted of some entries at place i
-unfoldable pub firstOf : ℕ → List Entry → Row
-firstOf i es = firstAt i (keepIf counts es)
+unfoldable pub firstAmong : ℕ → List Entry → Row
+firstAmong i es = firstAt i (keepIf counts es)
 
-pub first-none : (i : ℕ) → firstOf i [] ≡ vacant
-unfolding firstOf keepIf firstAt
+pub first-none : (i : ℕ) → firstAmong i [] ≡ vacant
+unfolding firstAmong keepIf firstAt
 first-none i = refl
 
 pub first-cons : (i : ℕ) → i < places → (e : Entry) (es : List Entry)
-    → firstOf i (e ∷ es) ≡ pick (eqb (storedAt e) i) (row (e .registers)) (firstOf i es)
-unfolding firstOf keepIf firstAt storedAt
+    → firstAmong i (e ∷ es) ≡ pick (eqb (storedAt e) i) (row (e .registers)) (firstAmong i es)
+unfolding firstAmong keepIf firstAt storedAt
 first-cons i l e es = go (counts e)
   where
     go : (c : Bool) → firstAt i (pick c (e ∷ keepIf counts es) (keepIf counts es))
@@ -41,28 +41,28 @@ first-cons i l e es = go (counts e)
     go true = refl
     go false = sym (pick-false _ _ (ne-eqb places i (λ q. omega arith)))
 
-pub first-append : (i : ℕ) → i < places → (xs ys : List Entry) → firstOf i (xs ++ ys) ≡ pick (firstOf i xs .present) (firstOf i xs) (firstOf i ys)
+pub first-append : (i : ℕ) → i < places → (xs ys : List Entry) → firstAmong i (xs ++ ys) ≡ pick (firstAmong i xs .present) (firstAmong i xs) (firstAmong i ys)
 first-append i l [] ys = sym (rw (first-none i))
 first-append i l (x ∷ xs) ys = first-cons i l x (xs ++ ys) ∙ rw (first-cons i l x xs, first-append i l xs ys) (go (eqb (storedAt x) i))
   where
-    go : (b : Bool) → pick b (row (x .registers)) (pick (firstOf i xs .present) (firstOf i xs) (firstOf i ys))
-        ≡ pick (pick b (row (x .registers)) (firstOf i xs) .present) (pick b (row (x .registers)) (firstOf i xs)) (firstOf i ys)
+    go : (b : Bool) → pick b (row (x .registers)) (pick (firstAmong i xs .present) (firstAmong i xs) (firstAmong i ys))
+        ≡ pick (pick b (row (x .registers)) (firstAmong i xs) .present) (pick b (row (x .registers)) (firstAmong i xs)) (firstAmong i ys)
     go true = refl
     go false = refl
 
 -- the first at place i, with e between those done and those to come
 among : (i : ℕ) → i < places → (done : List Entry) (e : Entry) (es : List Entry)
-    → firstOf i (done ++ e ∷ es) ≡ pick (firstOf i done .present) (firstOf i done) (pick (eqb (storedAt e) i) (row (e .registers)) (firstOf i es))
-among i l done e es = first-append i l done (e ∷ es) ∙ ap (λ (x : Row). pick (firstOf i done .present) (firstOf i done) x) (first-cons i l e es)
+    → firstAmong i (done ++ e ∷ es) ≡ pick (firstAmong i done .present) (firstAmong i done) (pick (eqb (storedAt e) i) (row (e .registers)) (firstAmong i es))
+among i l done e es = first-append i l done (e ∷ es) ∙ ap (λ (x : Row). pick (firstAmong i done .present) (firstAmong i done) x) (first-cons i l e es)
 
-rows-first : (avic : Bool) (s : List ℕ) (i : ℕ) → i < places → rowsOf avic s i ≡ maskRow avic i (firstOf i (entries s))
-unfolding firstOf counted
+rows-first : (avic : Bool) (s : List ℕ) (i : ℕ) → i < places → rowsOf avic s i ≡ maskRow avic i (firstAmong i (entries s))
+unfolding firstAmong counted
 rows-first avic s i l = row-of-place avic s i l
 
-pub rows-present : (avic : Bool) (s : List ℕ) (i : ℕ) → i < places → rowsOf avic s i .present ≡ firstOf i (entries s) .present
-rows-present avic s i l = ap (λ (x : Row). x .present) (rows-first avic s i l) ∙ go (firstOf i (entries s) .present)
+pub rows-present : (avic : Bool) (s : List ℕ) (i : ℕ) → i < places → rowsOf avic s i .present ≡ firstAmong i (entries s) .present
+rows-present avic s i l = ap (λ (x : Row). x .present) (rows-first avic s i l) ∙ go (firstAmong i (entries s) .present)
   where
-    go : (b : Bool) → pick b (row (maskedAt avic i (firstOf i (entries s) .result))) vacant .present ≡ b
+    go : (b : Bool) → pick b (row (maskedAt avic i (firstAmong i (entries s) .result))) vacant .present ≡ b
     go true = refl
     go false = refl
 
@@ -73,38 +73,38 @@ module _ (avic : Bool) (s : List ℕ) (p q r k : ℕ) (h : Inside s p q r k) (c 
   same-place = refl
 
   -- the first at place i after the flip, and before
-  after : (i : ℕ) → i < places → firstOf i (entries (flipped s (flip p q r k)))
-      ≡ pick (firstOf i done .present) (firstOf i done)
-      (pick (eqb (storedAt (entryAt s p q)) i) (row (xorResult (entryAt s p q .registers) (oneBit r k))) (firstOf i es))
+  after : (i : ℕ) → i < places → firstAmong i (entries (flipped s (flip p q r k)))
+      ≡ pick (firstAmong i done .present) (firstAmong i done)
+      (pick (eqb (storedAt (entryAt s p q)) i) (row (xorResult (entryAt s p q .registers) (oneBit r k))) (firstAmong i es))
   unfolding flipEntry
   after i l =
-      ap (firstOf i) (flip-among s p q r k h c done es here) ∙ among i l done (flipEntry r k (entryAt s p q)) es
-      ∙ ap (λ (n : ℕ). pick (firstOf i done .present) (firstOf i done)
-      (pick (eqb n i) (row (xorResult (entryAt s p q .registers) (oneBit r k))) (firstOf i es))) same-place
+      ap (firstAmong i) (flip-among s p q r k h c done es here) ∙ among i l done (flipEntry r k (entryAt s p q)) es
+      ∙ ap (λ (n : ℕ). pick (firstAmong i done .present) (firstAmong i done)
+      (pick (eqb n i) (row (xorResult (entryAt s p q .registers) (oneBit r k))) (firstAmong i es))) same-place
 
-  before : (i : ℕ) → i < places → firstOf i (entries s)
-      ≡ pick (firstOf i done .present) (firstOf i done) (pick (eqb (storedAt (entryAt s p q)) i) (row (entryAt s p q .registers)) (firstOf i es))
-  before i l = ap (firstOf i) here ∙ among i l done (entryAt s p q) es
+  before : (i : ℕ) → i < places → firstAmong i (entries s)
+      ≡ pick (firstAmong i done .present) (firstAmong i done) (pick (eqb (storedAt (entryAt s p q)) i) (row (entryAt s p q .registers)) (firstAmong i es))
+  before i l = ap (firstAmong i) here ∙ among i l done (entryAt s p q) es
 
   beyond : (i : ℕ) → places ≤ i → rowsOf avic (flipped s (flip p q r k)) i ≡ rowsOf avic s i
   beyond i l = row-beyond avic _ i l ∙ sym (row-beyond avic s i l)
 
   -- a place that is not the entry's, or that has its first entry already
-  elsewhere : (i : ℕ) → i < places → (firstOf i done .present ≡ false → storedAt (entryAt s p q) ≡ i → ⊥)
+  elsewhere : (i : ℕ) → i < places → (firstAmong i done .present ≡ false → storedAt (entryAt s p q) ≡ i → ⊥)
       → rowsOf avic (flipped s (flip p q r k)) i ≡ rowsOf avic s i
   elsewhere i l n =
       rows-first avic _ i l
-      ∙ ap (maskRow avic i) (after i l ∙ go (firstOf i done .present) (eqb (storedAt (entryAt s p q)) i) refl refl ∙ sym (before i l)) ∙ sym (rows-first avic s i l)
+      ∙ ap (maskRow avic i) (after i l ∙ go (firstAmong i done .present) (eqb (storedAt (entryAt s p q)) i) refl refl ∙ sym (before i l)) ∙ sym (rows-first avic s i l)
     where
-      go : (a b : Bool) → firstOf i done .present ≡ a → eqb (storedAt (entryAt s p q)) i ≡ b
-          → pick a (firstOf i done) (pick b (row (xorResult (entryAt s p q .registers) (oneBit r k))) (firstOf i es))
-          ≡ pick a (firstOf i done) (pick b (row (entryAt s p q .registers)) (firstOf i es))
+      go : (a b : Bool) → firstAmong i done .present ≡ a → eqb (storedAt (entryAt s p q)) i ≡ b
+          → pick a (firstAmong i done) (pick b (row (xorResult (entryAt s p q .registers) (oneBit r k))) (firstAmong i es))
+          ≡ pick a (firstAmong i done) (pick b (row (entryAt s p q .registers)) (firstAmong i es))
       go true b e f = refl
       go false true e f = absurd (n e (eqb-true _ i f))
       go false false e f = refl
 
   -- "a flip in an entry that is not the first counted entry of its place changes nothing"
-  pub flip-passed : ((i : ℕ) → i < places → firstOf i done .present ≡ false → storedAt (entryAt s p q) ≡ i → ⊥)
+  pub flip-passed : ((i : ℕ) → i < places → firstAmong i done .present ≡ false → storedAt (entryAt s p q) ≡ i → ⊥)
       → rowsOf avic (flipped s (flip p q r k)) ≡ rowsOf avic s
   flip-passed n = fun-ext (λ i. go i (ltb i places) refl)
     where
@@ -113,12 +113,12 @@ module _ (avic : Bool) (s : List ℕ) (p q r k : ℕ) (h : Inside s p q r k) (c 
       go i false e = beyond i (ltb-false i places e)
 
   -- the row of a place is its first entry's
-  pub taken-row : (i : ℕ) → i < places → storedAt (entryAt s p q) ≡ i → firstOf i done .present ≡ false
+  pub taken-row : (i : ℕ) → i < places → storedAt (entryAt s p q) ≡ i → firstAmong i done .present ≡ false
       → rowsOf avic s i ≡ row (maskedAt avic i (entryAt s p q .registers))
   taken-row i l e f = rows-first avic s i l ∙ ap (maskRow avic i) (before i l ∙ pick-false _ _ f ∙ pick-true _ _ (eq-eqb _ i e))
 
   -- a flip in a first entry gives its row the masked flipped registers
-  pub flip-put : (i : ℕ) → i < places → storedAt (entryAt s p q) ≡ i → firstOf i done .present ≡ false
+  pub flip-put : (i : ℕ) → i < places → storedAt (entryAt s p q) ≡ i → firstAmong i done .present ≡ false
       → rowsOf avic (flipped s (flip p q r k)) ≡ putRow i (maskedAt avic i (xorResult (entryAt s p q .registers) (oneBit r k))) (rowsOf avic s)
   unfolding putRow
   flip-put i l e f = fun-ext (λ j. go j (ltb j places) (eqb j i) refl refl)

@@ -9,7 +9,7 @@ use Rattle.table.specs.declared.Subleaf.{Subleaf}
 use Rattle.table.specs.declared.Verdict.{Verdict}
 use Rattle.table.specs.declared.Verdict.the-variants.{Accepted, Refused}
 use Rattle.table.specs.Refusal.{andThen}
-use Rattle.table.specs.Table.{rowsIn}
+use Rattle.table.specs.Table.{rowsOfTable}
 use Rattle.lookup.specs.declared.LeafResult.{LeafResult}
 use Rattle.lookup.specs.Lookup.{lookupOrigin}
 use Rattle.lookup.specs.LookupLaws.{empty-finds-nothing}
@@ -42,7 +42,7 @@ pub found-seen : (chosen : Choices) (s : List ℕ) (v : Processor) (o q : List �
     → foundAt (guestPages chosen s v .table) o leaf subleaf enforce ≡ foundAt (guestPages chosen s v .table) q leaf subleaf enforce
 unfolding guestPages
 found-seen chosen s v o q leaf subleaf enforce =
-    go (andThen (answer chosen s .verdict) (stateVerdict (rowsIn (answer chosen s .table)) (v .xcr0) (v .xss)))
+    go (andThen (answer chosen s .verdict) (stateVerdict (rowsOfTable (answer chosen s .table)) (v .xcr0) (v .xss)))
   where
     go : (w : Verdict) → (answerFor w (answer chosen s .table) v .verdict ≡ Accepted → o ≡ q)
         → foundAt (answerFor w (answer chosen s .table) v .table) o leaf subleaf enforce

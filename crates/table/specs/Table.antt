@@ -33,5 +33,5 @@ abbrev pub rowIn : CpuidResults → ℕ → Row
 rowIn t i = record { present = getD (t .present) i false; result = getD (t .results) i (result 0 0 0 0) }
 
 -- all rows of a table
-abbrev pub rowsIn : CpuidResults → Rows
-rowsIn t i = rowIn t i
+abbrev pub rowsOfTable : CpuidResults → Rows
+rowsOfTable t i = rowIn t i

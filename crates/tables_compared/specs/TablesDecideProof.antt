@@ -32,7 +32,7 @@ use Rattle.tables_compared.specs.declared.TablesCompared.the-variants.{R
 use Rattle.register_kinds.specs.Registers.{order, valueOf, kindOf, subleafNamed}
 use Rattle.register_kinds.specs.RegistersLaws.{is-false, register-fails, registers-before, first-unique}
 use Rattle.tables_compared.specs.CompareTables.{tableTest, registersTest, furtherTest, placeTest, firstRegister, failingAt, masksCompared, firstFailing, comparedTables}
-use Rattle.tables_compared.specs.TablesMean.{PlaceRises, Reached, Means, Decides}
+use Rattle.tables_compared.specs.TablesMean.{PlaceRises, Reached, TablesAnswerMeans, DecidesTables}
 
 -- ---- a register
 
@@ -185,12 +185,12 @@ module _ (a b : CpuidResults) where
     before = λ j l. place-rises j (h .before j zero-le l);
   }
 
-  failing-means : (i : ℕ) → Lowest test 0 places i → Means a b (failingAt a b i)
+  failing-means : (i : ℕ) → Lowest test 0 places i → TablesAnswerMeans a b (failingAt a b i)
   failing-means i h = go (rowIn a i .present) refl (rowIn b i .present) refl (h .fails)
     where
       go : (p : Bool) → rowIn a i .present ≡ p → (q : Bool) → rowIn b i .present ≡ q
           → pick p (q && registersTest (kindsAt i) (rowIn a i .result) (rowIn b i .result)) (pick q (furtherTest x y i) true) ≡ false
-          → Means a b
+          → TablesAnswerMeans a b
           (pick p
           (pick q (Differs (leafAt i) (subleafNamed i) (firstRegister (kindsAt i) (rowIn a i .result) (rowIn b i .result)))
           (NoRow (leafAt i) (subleafNamed i)))
@@ -213,18 +213,18 @@ module _ (a b : CpuidResults) where
       }
       go false e false f t = absurd (never-both refl t)
 
-  masks-mean : ((i : ℕ) → i < places → PlaceRises a b i) → Means a b (masksCompared x y)
+  masks-mean : ((i : ℕ) → i < places → PlaceRises a b i) → TablesAnswerMeans a b (masksCompared x y)
   masks-mean h = go (eqb (bitAnd x y) x) refl
     where
-      go : (p : Bool) → eqb (bitAnd x y) x ≡ p → Means a b (pick p Rises MaskLacks)
+      go : (p : Bool) → eqb (bitAnd x y) x ≡ p → TablesAnswerMeans a b (pick p Rises MaskLacks)
       go true e = all-rise h (within-of-and (eqb-true _ _ e))
       go false e = (h, λ m. never-both (eq-eqb _ _ (and-of-within m)) e)
 
-  means : Means a b (comparedTables a b)
+  means : TablesAnswerMeans a b (comparedTables a b)
   unfolding comparedTables
   means = go (lowest test 0 places) refl
     where
-      go : (f : Failing) → lowest test 0 places ≡ f → Means a b (firstFailing f (failingAt a b) (masksCompared x y))
+      go : (f : Failing) → lowest test 0 places ≡ f → TablesAnswerMeans a b (firstFailing f (failingAt a b) (masksCompared x y))
       go (at i) e = failing-means i (lowest-at test 0 places i e)
       go none e = masks-mean (λ i l. place-rises i (lowest-none test 0 places e i zero-le l))
 
@@ -256,7 +256,7 @@ module _ (a b : CpuidResults) where
   complete : TableRises a b → comparedTables a b ≡ Rises
   complete h = compared-all (rise-all h) ∙ pick-true _ _ (eq-eqb _ _ (and-of-within (h .mask)))
 
-  exact : (c : TablesCompared) → Means a b c → comparedTables a b ≡ c
+  exact : (c : TablesCompared) → TablesAnswerMeans a b c → comparedTables a b ≡ c
   exact Rises m = complete m
   exact (NoRow leaf subleaf) m =
       let i = m .place in
@@ -283,9 +283,9 @@ module _ (a b : CpuidResults) where
   exact MaskLacks m =
       compared-all (m .0) ∙ pick-false _ _ (is-false (eqb (bitAnd x y) x) (λ e. m .1 (within-of-and (eqb-true _ _ e))))
 
-  pub decides : Decides a b (comparedTables a b)
-  decides = record { means = means; exact = exact; yes = λ e. subst (Means a b) e means; complete = complete }
+  pub decides : DecidesTables a b (comparedTables a b)
+  decides = record { means = means; exact = exact; yes = λ e. subst (TablesAnswerMeans a b) e means; complete = complete }
 
 -- what a value has that is the comparison's
-pub decided : (a b : CpuidResults) {r : TablesCompared} → r ≡ comparedTables a b → (r ≡ comparedTables a b) × Decides a b r
-decided a b e = (e, subst (Decides a b) (sym e) (decides a b))
+pub decided : (a b : CpuidResults) {r : TablesCompared} → r ≡ comparedTables a b → (r ≡ comparedTables a b) × DecidesTables a b r
+decided a b e = (e, subst (DecidesTables a b) (sym e) (decides a b))

@@ -58,16 +58,16 @@ pub record FirstBeyond (a b : CpuidResults) (leaf : CpuidFunction) (subleaf : Su
   pub inB : rowIn b place .present ≡ true
   pub notFurther : Further a b place → ⊥
 
-abbrev pub Means : CpuidResults → CpuidResults → TablesCompared → Type 0
-Means a b Rises = TableRises a b
-Means a b (NoRow leaf subleaf) = FirstAbsent a b leaf subleaf
-Means a b (Differs leaf subleaf register) = FirstDiffering a b leaf subleaf register
-Means a b (Beyond leaf subleaf) = FirstBeyond a b leaf subleaf
-Means a b MaskLacks = ((i : ℕ) → i < places → PlaceRises a b i) × (Within (a .«max_extended_state») (b .«max_extended_state») → ⊥)
+abbrev pub TablesAnswerMeans : CpuidResults → CpuidResults → TablesCompared → Type 0
+TablesAnswerMeans a b Rises = TableRises a b
+TablesAnswerMeans a b (NoRow leaf subleaf) = FirstAbsent a b leaf subleaf
+TablesAnswerMeans a b (Differs leaf subleaf register) = FirstDiffering a b leaf subleaf register
+TablesAnswerMeans a b (Beyond leaf subleaf) = FirstBeyond a b leaf subleaf
+TablesAnswerMeans a b MaskLacks = ((i : ℕ) → i < places → PlaceRises a b i) × (Within (a .«max_extended_state») (b .«max_extended_state») → ⊥)
 
 -- The answer means what it says, and no other answer does: it is c if and only if Means .. c holds. So it is `Rises` if and only if `TableRises` holds.
-pub record Decides (a b : CpuidResults) (r : TablesCompared) : Type 0 where
-  pub means : Means a b r
-  pub exact : (c : TablesCompared) → Means a b c → r ≡ c
+pub record DecidesTables (a b : CpuidResults) (r : TablesCompared) : Type 0 where
+  pub means : TablesAnswerMeans a b r
+  pub exact : (c : TablesCompared) → TablesAnswerMeans a b c → r ≡ c
   pub yes : r ≡ Rises → TableRises a b
   pub complete : TableRises a b → r ≡ Rises

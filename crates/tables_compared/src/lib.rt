@@ -22,7 +22,7 @@ ghost use Rattle.register_kinds.specs.Registers.{registersRise};
 ghost use Rattle.tables_compared.specs.CompareTables.{tableTest, furtherTest, rowTest, failingOf, comparedTables};
 ghost use Rattle.tables_compared.specs.TablesCompareLaws.{rowWith};
 ghost use Rattle.tables_compared.specs.TableMasks.{outside};
-ghost use Rattle.tables_compared.specs.TablesMean.{Decides};
+ghost use Rattle.tables_compared.specs.TablesMean.{DecidesTables};
 
 // What a comparison gives: B's table rises from A's; it lacks a row of A's; a register of its row fails; it has a row that A's has not and that is no
 // extended state of its further mask bits; or its combined mask lacks a bit of A's.
@@ -44,7 +44,7 @@ pub fn compare_tables(
 ) -> TablesCompared
     ensures { λ r. ⌜ r ≡ comparedTables (heldIn (now («a_registers» .entry)) (now («a_origins» .entry)))
         (heldIn (now («b_registers» .entry)) (now («b_origins» .entry))) ⌝ }
-    ensures decides { λ r. ⌜ Decides (heldIn (now («a_registers» .entry)) (now («a_origins» .entry)))
+    ensures decides { λ r. ⌜ DecidesTables (heldIn (now («a_registers» .entry)) (now («a_origins» .entry)))
         (heldIn (now («b_registers» .entry)) (now («b_origins» .entry))) r ⌝ }
 {
     let a_mask = combined_mask(a_registers);

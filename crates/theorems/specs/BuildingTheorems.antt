@@ -38,7 +38,7 @@ use Rattle.compare.specs.declared.Compared.the-variants.{Rises as Yes, RefusedA
 use Rattle.compare.specs.Compare.{compared}
 use Rattle.pages.specs.Reserved.{clean, allClean}
 use Rattle.examples.specs.Unclean as Unclean
-use Rattle.page_sets.specs.Evaluation.{first}
+use Rattle.page_sets.specs.Evaluation.{firstEdition}
 use Rattle.page_sets.specs.PageSets.{serverA, serverB, serverWithoutD12, serverWithLargeD6}
 use Rattle.examples.specs.Computed as Computed
 use Rattle.examples.specs.Compared as Pairs
@@ -75,16 +75,16 @@ reader-gives-clean-entries = reader-gives-clean
 pub a-clean : allClean serverA ≡ true
 a-clean = Unclean.serverA-clean
 
-pub unclean-filtered : answer first (Unclean.withUnclean 23) .verdict ≡ Refused (ReservedBytes (function 0x40000000))
+pub unclean-filtered : answer firstEdition (Unclean.withUnclean 23) .verdict ≡ Refused (ReservedBytes (function 0x40000000))
 unclean-filtered = Unclean.filtered-refused
 
-pub unclean-compared : compared first serverA (Unclean.withUnclean 23) ≡ UnlawfulB (ReservedBytes (function 0x40000000))
+pub unclean-compared : compared firstEdition serverA (Unclean.withUnclean 23) ≡ UnlawfulB (ReservedBytes (function 0x40000000))
 unclean-compared = Unclean.a-to-unclean
 
-pub unclean-unused : answer first (Unclean.withUnclean 22) .verdict ≡ Accepted
+pub unclean-unused : answer firstEdition (Unclean.withUnclean 22) .verdict ≡ Accepted
 unclean-unused = Unclean.unused-accepted
 
-pub unclean-before-missing : answer first Unclean.twoUnclean .verdict ≡ Refused (ReservedBytes (function 0xD))
+pub unclean-before-missing : answer firstEdition Unclean.twoUnclean .verdict ≡ Refused (ReservedBytes (function 0xD))
 unclean-before-missing = Unclean.two-refused
 
 -- ---- The page reader in the source's form. crates/reader/specs/Read.antt.
@@ -127,46 +127,46 @@ images-tell-tables = equal-images
 pub a-whole-set : length serverA ≡ 8192
 a-whole-set = Computed.serverA-length
 
-pub a-accepted : answer first serverA .verdict ≡ Accepted
+pub a-accepted : answer firstEdition serverA .verdict ≡ Accepted
 a-accepted = Computed.serverA-accepted
 
 -- B meets the hypothesis with more features, and is accepted with a larger mask
-pub b-rises : RiseHypothesis first serverA serverB
+pub b-rises : RiseHypothesis firstEdition serverA serverB
 b-rises = Computed.serverB-rises
 
-pub b-accepted : answer first serverB .verdict ≡ Accepted
+pub b-accepted : answer firstEdition serverB .verdict ≡ Accepted
 b-accepted = Computed.serverB-accepted
 
-pub b-richer : answer first serverA .table .«max_extended_state» ∷ answer first serverB .table .«max_extended_state» ∷ [] ≡ 0x7 ∷ 0x18E7 ∷ []
+pub b-richer : answer firstEdition serverA .table .«max_extended_state» ∷ answer firstEdition serverB .table .«max_extended_state» ∷ [] ≡ 0x7 ∷ 0x18E7 ∷ []
 b-richer = Computed.masks
 
 -- two more that meet it, one refused by 3 and one by 5
-pub without-d12-rises : RiseHypothesis first serverA serverWithoutD12
+pub without-d12-rises : RiseHypothesis firstEdition serverA serverWithoutD12
 without-d12-rises = Computed.without-rises
 
-pub without-d12-refused : answer first serverWithoutD12 .verdict ≡ Refused (MissingRequiredResult ExtendedStateEnumeration (Some 12))
+pub without-d12-refused : answer firstEdition serverWithoutD12 .verdict ≡ Refused (MissingRequiredResult ExtendedStateEnumeration (Some 12))
 without-d12-refused = Computed.without-refused
 
-pub large-d6-rises : RiseHypothesis first serverA serverWithLargeD6
+pub large-d6-rises : RiseHypothesis firstEdition serverA serverWithLargeD6
 large-d6-rises = Computed.large-rises
 
-pub large-d6-refused : answer first serverWithLargeD6 .verdict ≡ Refused SaveAreaOverflow
+pub large-d6-refused : answer firstEdition serverWithLargeD6 .verdict ≡ Refused SaveAreaOverflow
 large-d6-refused = Computed.large-refused
 
 -- a comparison that says yes, and one for each way to say no
-pub a-to-b : compared first serverA serverB ≡ Yes
+pub a-to-b : compared firstEdition serverA serverB ≡ Yes
 a-to-b = Pairs.a-to-b
 
-pub b-to-a : compared first serverB serverA ≡ Differs VersionAndFeatures None Ecx
+pub b-to-a : compared firstEdition serverB serverA ≡ Differs VersionAndFeatures None Ecx
 b-to-a = Pairs.b-to-a
 
-pub b-to-without-d12 : compared first serverB serverWithoutD12 ≡ NoEntry ExtendedStateEnumeration (Some 12)
+pub b-to-without-d12 : compared firstEdition serverB serverWithoutD12 ≡ NoEntry ExtendedStateEnumeration (Some 12)
 b-to-without-d12 = Pairs.b-to-without-d12
 
-pub from-large-d6 : compared first serverWithLargeD6 serverB ≡ RefusedA SaveAreaOverflow
+pub from-large-d6 : compared firstEdition serverWithLargeD6 serverB ≡ RefusedA SaveAreaOverflow
 from-large-d6 = Pairs.from-large-d6
 
-pub a-to-none : compared first serverA [] ≡ UnlawfulB PagesLength
+pub a-to-none : compared firstEdition serverA [] ≡ UnlawfulB PagesLength
 a-to-none = Pairs.a-to-none
 
 -- ---- The fourteen marked rows of document 01, T1 to T10, X1 to X3 (two figures) and C1. crates/examples/specs/MarkedRows.antt.

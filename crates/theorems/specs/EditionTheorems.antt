@@ -28,7 +28,7 @@ use Rattle.images.specs.Moves.{MovesToSecond}
 use Rattle.images.specs.MovesProof.{moves-to-second}
 use Rattle.images.specs.CarryExactly.{CarryExactly, carry-exactly}
 use Rattle.examples.specs.WithoutYmmMoved as Moved
-use Rattle.page_sets.specs.Evaluation.{first}
+use Rattle.page_sets.specs.Evaluation.{firstEdition}
 
 -- ---- P7, edition 2 of the AVX rule. crates/features/specs/Finish.antt has the clears of each edition, crates/rise/specs/Second.antt the
 -- statements. All that is said above and below of `chosen` is said for any edition, the same for A and B, in one argument.
@@ -57,16 +57,16 @@ rise-from-2-to-1 = second-to-first-rises
 pub without-ymm-accepted : answer (underEdition 2) WithoutYmm.withoutYmm .verdict ≡ Accepted
 without-ymm-accepted = WithoutYmm.second-accepted
 
-pub without-ymm-1 : WithoutYmm.figures first ≡ 0xAED82203 ∷ 0x4109F3 ∷ []
+pub without-ymm-1 : WithoutYmm.figures firstEdition ≡ 0xAED82203 ∷ 0x4109F3 ∷ []
 without-ymm-1 = WithoutYmm.first-figures
 
 pub without-ymm-2 : WithoutYmm.figures (underEdition 2) ≡ 0x8ED82203 ∷ 0x4001F3 ∷ []
 without-ymm-2 = WithoutYmm.second-figures
 
-pub without-ymm-2-to-1 : RiseTo (underEdition 2) first WithoutYmm.withoutYmm WithoutYmm.withoutYmm
+pub without-ymm-2-to-1 : RiseTo (underEdition 2) firstEdition WithoutYmm.withoutYmm WithoutYmm.withoutYmm
 without-ymm-2-to-1 = WithoutYmm.from-second
 
-pub no-rise-from-1-to-2 : TableRises (answer first WithoutYmm.withoutYmm .table) (answer (underEdition 2) WithoutYmm.withoutYmm .table) → ⊥
+pub no-rise-from-1-to-2 : TableRises (answer firstEdition WithoutYmm.withoutYmm .table) (answer (underEdition 2) WithoutYmm.withoutYmm .table) → ⊥
 no-rise-from-1-to-2 = WithoutYmm.not-from-first
 
 pub no-third-edition : answer (underEdition 3) [] .verdict ≡ Refused UnknownEdition

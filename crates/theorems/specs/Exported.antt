@@ -38,7 +38,7 @@ use Rattle.rise.specs.RiseProof.{demand-3}
 use Rattle.compare.specs.declared.Compared.{Compared}
 use Rattle.compare.specs.declared.Compared.the-variants.{Rises as Yes, RefusedA, UnlawfulB, NoEntry, Differs}
 use Rattle.compare.specs.Compare.{compared}
-use Rattle.compare.specs.Means.{Means, Decides}
+use Rattle.compare.specs.Means.{AnswerMeans, Decides}
 use Rattle.compare.specs.DecidesProof.{decides}
 use Rattle.table.specs.Numbers.{numbersOf}
 use Rattle.answers.specs.declared.SnpCpuidBuilt.{SnpCpuidBuilt}
@@ -213,7 +213,7 @@ exports-compare chosen a b =
     let d : Decides chosen a b (compared chosen a b) = decides chosen a b in
     record {
       yes = λ e.
-          let rises : RiseHypothesis chosen a b = subst (Means chosen a b) (answer-numbered (compared chosen a b) e) (d .means) .0 in
+          let rises : RiseHypothesis chosen a b = subst (AnswerMeans chosen a b) (answer-numbered (compared chosen a b) e) (d .means) .0 in
           (rises, exports-rise chosen a b rises);
       complete = λ h. ap (λ (c : Compared). comparedNumbers c .answer) (d .complete h);
     }

@@ -9,7 +9,7 @@ use Rattle.table.specs.declared.Choices.{Choices}
 use Rattle.table.specs.declared.Refusal.the-variants.{SaveAreaOverflow, StateBeyondTable, CompactSizeTooLarge}
 use Rattle.table.specs.declared.CpuidResults.{CpuidResults}
 use Rattle.table.specs.Rows.{Rows}
-use Rattle.table.specs.Table.{rowIn, rowsIn}
+use Rattle.table.specs.Table.{rowIn, rowsOfTable}
 use Rattle.checks.specs.ExtendedState.{saveArea}
 use Rattle.table.specs.declared.Verdict.the-variants.{Accepted, Refused}
 use Rattle.masking.specs.Kept.{places}
@@ -36,7 +36,7 @@ use Rattle.examples.specs.Views as Views
 use Rattle.examples.specs.Exception as Exception
 use Rattle.examples.specs.Composed as Composed
 use Rattle.theorems.specs.GuestExported.{GuestExportsRise, guest-exports-rise}
-use Rattle.page_sets.specs.Evaluation.{first}
+use Rattle.page_sets.specs.Evaluation.{firstEdition}
 use Rattle.page_sets.specs.PageSets.{serverA, serverB, serverW, serverWithLargeD6}
 use Rattle.theorems.specs.BuildingTheorems.{a-to-b}
 
@@ -71,8 +71,8 @@ no-other-register-differs = seen-exactly
 -- D.0.EBX of a table that building accepted never overflows: it is the size itself
 pub guest-size-never-overflows : (chosen : Choices) (s : List ℕ) (v : Processor) → answer chosen s .verdict ≡ Accepted
     → guestPages chosen s v .verdict ≡ Accepted
-    → (saveArea (rowsIn (answer chosen s .table)) (v .xcr0) < 2 ^ 32)
-    × (rowIn (guestPages chosen s v .table) (Place.extendedState 0) .result .ebx ≡ saveArea (rowsIn (answer chosen s .table)) (v .xcr0))
+    → (saveArea (rowsOfTable (answer chosen s .table)) (v .xcr0) < 2 ^ 32)
+    × (rowIn (guestPages chosen s v .table) (Place.extendedState 0) .result .ebx ≡ saveArea (rowsOfTable (answer chosen s .table)) (v .xcr0))
 guest-size-never-overflows chosen s v a g = (GuestRiseProof.never-overflows chosen s v a g, GuestRiseProof.area-seen chosen s v a g)
 
 -- The rise of guest answers: B's view is given and its table rises from A's, or A's D.1.EAX has neither bit 1 nor bit 3, and then D.1.EBX is
@@ -104,49 +104,49 @@ guest-rise-of-exports = guest-exports-rise
 
 -- Not empty words. crates/examples/specs/Views.antt: server A's guest with all of its state, and the six registers that it reads
 -- anew (1.EBX, 1.ECX, B.0.EDX, B.1.EDX, D.0.EBX, D.1.EBX)
-pub guest-of-a : figures (guestPages first serverA Views.viewA .table) ≡ 0x45010000 ∷ 0xBED83203 ∷ 0x12345 ∷ 0x12345 ∷ 832 ∷ 832 ∷ []
+pub guest-of-a : figures (guestPages firstEdition serverA Views.viewA .table) ≡ 0x45010000 ∷ 0xBED83203 ∷ 0x12345 ∷ 0x12345 ∷ 832 ∷ 832 ∷ []
 guest-of-a = Views.a-figures
 
 -- its row 1 whole: EAX and EDX are the table's
-pub guest-of-a-row-1 : rowIn (guestPages first serverA Views.viewA .table) Place.versionAndFeatures .result
+pub guest-of-a-row-1 : rowIn (guestPages firstEdition serverA Views.viewA .table) Place.versionAndFeatures .result
     ≡ result 0xA00F11 0x45010000 0xBED83203 0x178BFBFF
 guest-of-a-row-1 = Views.a-version
 
 -- 13, by a bit above 31
-pub guest-of-a-beyond : guestPages first serverA (processor 0 0x100000007 0 true) .verdict ≡ Refused StateBeyondTable
+pub guest-of-a-beyond : guestPages firstEdition serverA (processor 0 0x100000007 0 true) .verdict ≡ Refused StateBeyondTable
 guest-of-a-beyond = Views.a-beyond
 
 -- bit 1 of XCR0 is not asked
-pub guest-of-a-without-sse : guestPages first serverA (processor 0 0x1 0 false) .verdict ≡ Accepted
+pub guest-of-a-without-sse : guestPages firstEdition serverA (processor 0 0x1 0 false) .verdict ≡ Accepted
 guest-of-a-without-sse = Views.a-without-sse
 
 -- building first: 5, of a processor that 13 would refuse
-pub guest-unbuilt : guestPages first serverWithLargeD6 (processor 0 0 0 true) ≡ refusedAnswer SaveAreaOverflow
+pub guest-unbuilt : guestPages firstEdition serverWithLargeD6 (processor 0 0 0 true) ≡ refusedAnswer SaveAreaOverflow
 guest-unbuilt = Views.unbuilt
 
 -- A's guest on B; all of B's own state
-pub guest-from-a-to-b : GuestOutcome (guestPages first serverA Views.viewA .table) (guestPages first serverB Views.viewA)
+pub guest-from-a-to-b : GuestOutcome (guestPages firstEdition serverA Views.viewA .table) (guestPages firstEdition serverB Views.viewA)
 guest-from-a-to-b = Views.a-to-b
 
-pub guest-of-b : figures (guestPages first serverB (processor 1 0xE7 0x1800 true) .table) ≡ 0x01010000 ∷ 0xFEDA3203 ∷ 1 ∷ 1 ∷ 2432 ∷ 2472 ∷ []
+pub guest-of-b : figures (guestPages firstEdition serverB (processor 1 0xE7 0x1800 true) .table) ≡ 0x01010000 ∷ 0xFEDA3203 ∷ 1 ∷ 1 ∷ 2432 ∷ 2472 ∷ []
 guest-of-b = Views.b-figures
 
 -- a guest of servers W, A and B, by composing. crates/examples/specs/Composed.antt
-pub guest-from-w-to-b : GuestTableRises (guestPages first serverW Composed.viewW .table) (guestPages first serverB Composed.viewW .table)
+pub guest-from-w-to-b : GuestTableRises (guestPages firstEdition serverW Composed.viewW .table) (guestPages firstEdition serverB Composed.viewW .table)
 guest-from-w-to-b = guest-tables-compose _ _ _ Composed.w-to-a-risen Composed.a-to-b-risen
 
 -- the exception: a server with neither bit, where D.1.EBX is 0 and D.0.EBX the largest size, and one with bit 1, which refuses by 14.
 -- crates/examples/specs/Exception.antt
-pub exception-rises : RiseHypothesis first Exception.plain Exception.compacting
+pub exception-rises : RiseHypothesis firstEdition Exception.plain Exception.compacting
 exception-rises = Exception.plain-to-compacting
 
-pub exception-given : figures (guestPages first Exception.plain Views.viewA .table) ≡ 0x45010000 ∷ 0xBED83203 ∷ 0x12345 ∷ 0x12345 ∷ 0xFFFFFFFF ∷ 0 ∷ []
+pub exception-given : figures (guestPages firstEdition Exception.plain Views.viewA .table) ≡ 0x45010000 ∷ 0xBED83203 ∷ 0x12345 ∷ 0x12345 ∷ 0xFFFFFFFF ∷ 0 ∷ []
 exception-given = Exception.plain-figures
 
-pub exception-refused : guestPages first Exception.compacting Views.viewA .verdict ≡ Refused CompactSizeTooLarge
+pub exception-refused : guestPages firstEdition Exception.compacting Views.viewA .verdict ≡ Refused CompactSizeTooLarge
 exception-refused = Exception.compacting-refused
 
-pub exception-outcome : GuestOutcome (guestPages first Exception.plain Views.viewA .table) (guestPages first Exception.compacting Views.viewA)
+pub exception-outcome : GuestOutcome (guestPages firstEdition Exception.plain Views.viewA .table) (guestPages firstEdition Exception.compacting Views.viewA)
 exception-outcome = Exception.plain-outcome
 
 -- compacted sizes: order, alignment of the start, the largest that is given and the first that is not. crates/examples/specs/CompactSizes.antt

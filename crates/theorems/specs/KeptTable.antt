@@ -1,5 +1,5 @@
 -- The table that a caller keeps: what the functions over a kept table answer is what those from pages answer. `TableIn (answer chosen s) w o` says that
--- the memory, registers w and origins o, is what building left of the pages s. crates/build/specs/InMemory.antt
+-- the memory, registers w and origins o, is what building left of the pages s. crates/build/specs/Build.antt
 use mathlib.Core.Path.{_≡_, refl, sym, ap, ap₂, _∙_}
 use mathlib.Core.Bool.{Bool, false}
 use mathlib.Core.List.{List}
@@ -34,7 +34,7 @@ use Rattle.rise.specs.Rise.{TableRises}
 use Rattle.rise.specs.Preorder.{SameRows}
 use Rattle.tables_compared.specs.declared.TablesCompared.the-variants.{Rises}
 use Rattle.tables_compared.specs.CompareTables.{comparedTables}
-use Rattle.tables_compared.specs.TablesMean.{Decides}
+use Rattle.tables_compared.specs.TablesMean.{DecidesTables}
 use Rattle.tables_compared.specs.TablesDecideProof.{decides}
 use Rattle.images.specs.TablesMoved.{CompareAgrees, ImagesAgree, BuiltBack, AnyBack, MaskFollows}
 use Rattle.images.specs.TablesMovedProof as Moved
@@ -106,7 +106,7 @@ any-read-back = AnyMemory.any-back
 
 -- comparing two tables decides `TableRises`, for tables of any content: yes if and only if it holds, else the first thing that fails.
 -- crates/tables_compared/specs/TablesMean.antt
-pub tables-decided : (a b : CpuidResults) → Decides a b (comparedTables a b)
+pub tables-decided : (a b : CpuidResults) → DecidesTables a b (comparedTables a b)
 tables-decided = decides
 
 -- it orders tables: each is at least itself, moves compose, and both ways means the same rows

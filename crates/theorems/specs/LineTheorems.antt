@@ -13,7 +13,7 @@ use Rattle.build.specs.Build.{answer}
 use Rattle.table.specs.Refusal.{details}
 use Rattle.buffer.specs.declared.Written.the-variants.{Bytes, Refused as NotWritten}
 use Rattle.lines.specs.declared.bytes.LineDetails.{LineDetails}
-use Rattle.lines.specs.Line.{Fits, mostS, writable, line}
+use Rattle.lines.specs.Line.{LineFits, mostS, writable, line}
 use Rattle.lines.specs.LineLaws.{at-most-22}
 use Rattle.lines.specs.declared.LineWritten.the-variants.{Line as Answered, NoSuchLine as NoLineWritten}
 use Rattle.lines.specs.declared.LineRead.the-variants.{Line as Says, NoSuchLine as SaysNothing}
@@ -29,18 +29,18 @@ use Rattle.refusals.specs.LinedProof.{building-lined, lines-tell}
 use Rattle.refusals.specs.RefusedLines as RefusedLines
 use Rattle.lines.specs.ComputedLines as ComputedLines
 use Rattle.lines.specs.ComputedLines.{told, longest}
-use Rattle.page_sets.specs.Evaluation.{first}
+use Rattle.page_sets.specs.Evaluation.{firstEdition}
 
 -- ---- P6: refusals as lines. crates/lines/specs/NumbersInUse.antt has what each number names, Line.antt beside it the line;
 -- crates/lines/specs/WriteLine.antt and ReadLine.antt have the writer and the reader. `writable d`: the number is in use, names every detail that is
 -- set, and s has 8 bits.
 
 -- reading what was written gives it back: of every line, and of what the writer left at the front of any lent buffer
-pub line-read-back : (d : LineDetails) → Fits d → writable d ≡ true → readLine (line d) ≡ Says d
+pub line-read-back : (d : LineDetails) → LineFits d → writable d ≡ true → readLine (line d) ≡ Says d
 line-read-back = Lines.read-written
 
 pub write-read-back : (d : LineDetails) (buffer left : List ℕ) (n : ℕ)
-    → Fits d → writeLine d buffer ≡ leaves (Answered (Bytes n)) left → readLine (take n left) ≡ Says d
+    → LineFits d → writeLine d buffer ≡ leaves (Answered (Bytes n)) left → readLine (take n left) ≡ Says d
 write-read-back = Lines.write-then-read
 
 -- what is read is what would be written: the reader takes nothing else
@@ -48,7 +48,7 @@ pub only-lines-read : (l : List ℕ) (d : LineDetails) → readLine l ≡ Says d
 only-lines-read = Lines.only-written-read
 
 -- different refusals, details included, give different lines
-pub lines-differ : (d e : LineDetails) → Fits d → Fits e → writable d ≡ true → writable e ≡ true → line d ≡ line e → d ≡ e
+pub lines-differ : (d e : LineDetails) → LineFits d → LineFits e → writable d ≡ true → writable e ≡ true → line d ≡ line e → d ≡ e
 lines-differ = Lines.lines-differ
 
 pub no-line-begins-another : (d e : LineDetails) (t : List ℕ) → line d ++ t ≡ line e → t ≡ []
@@ -86,7 +86,7 @@ pub each-number-names-exactly : (n : ℕ) → NamesExactly n
 each-number-names-exactly = names-exactly
 
 -- the longest line meets what they ask: 3 FFFFFFFF 4294967295
-pub longest-fits : Fits longest
+pub longest-fits : LineFits longest
 longest-fits = ComputedLines.longest-fits
 
 pub longest-writable : writable longest ≡ true
@@ -106,10 +106,10 @@ pub s-of-0-line : line (told 6 0 None 0) ≡ 54 ∷ 32 ∷ 48 ∷ 10 ∷ []
 s-of-0-line = ComputedLines.s-of-0
 
 -- lines of refused page sets: 7 1, which names s, and 8, which does not. crates/refusals/specs/RefusedLines.antt
-pub line-of-7 : RefusedLines.lineOf (answer first RefusedLines.sizeOne .verdict) ≡ 55 ∷ 32 ∷ 49 ∷ 10 ∷ []
+pub line-of-7 : RefusedLines.lineOf (answer firstEdition RefusedLines.sizeOne .verdict) ≡ 55 ∷ 32 ∷ 49 ∷ 10 ∷ []
 line-of-7 = RefusedLines.line-of-7
 
-pub line-of-8 : RefusedLines.lineOf (answer first RefusedLines.twoThreads .verdict) ≡ 56 ∷ 10 ∷ []
+pub line-of-8 : RefusedLines.lineOf (answer firstEdition RefusedLines.twoThreads .verdict) ≡ 56 ∷ 10 ∷ []
 line-of-8 = RefusedLines.line-of-8
 
 -- no line: 01 and a newline

@@ -26,7 +26,7 @@ use Rattle.round_trip.specs.ReadsExactlyProof.{reads-exactly, read-makes}
 use Rattle.round_trip.specs.Ascends.{Ascend, rows-ascend as list-ascends}
 use Rattle.examples.specs.KvmLists as KvmLists
 use Rattle.examples.specs.KvmBytes as KvmBytes
-use Rattle.page_sets.specs.Evaluation.{first}
+use Rattle.page_sets.specs.Evaluation.{firstEdition}
 use Rattle.page_sets.specs.PageSets.{serverA}
 use Rattle.examples.specs.Computed as Computed
 
@@ -54,10 +54,10 @@ pub kvm-rows-ascend : (t : CpuidResults) → Ascend (listRows t)
 kvm-rows-ascend = list-ascends
 
 -- server A's list goes round; its head and its first row; and a list for each answer of reading
-pub a-goes-round : (buffer pages : List ℕ) → 1088 ≤ length buffer → 8192 ≤ length pages → Returns first serverA buffer pages
-a-goes-round buffer pages h k = round-trip first serverA Computed.serverA-accepted buffer pages (rw Computed.serverA-rows h) k
+pub a-goes-round : (buffer pages : List ℕ) → 1088 ≤ length buffer → 8192 ≤ length pages → Returns firstEdition serverA buffer pages
+a-goes-round buffer pages h k = round-trip firstEdition serverA Computed.serverA-accepted buffer pages (rw Computed.serverA-rows h) k
 
-pub a-listed : take 48 (listOf (answer first serverA .table))
+pub a-listed : take 48 (listOf (answer firstEdition serverA .table))
     ≡ bytesOfWords (27 ∷ 0 ∷ 0 ∷ 0 ∷ 0 ∷ 0xD ∷ 0x68747541 ∷ 0x444D4163 ∷ 0x69746E65 ∷ 0 ∷ 0 ∷ 0 ∷ [])
 a-listed = KvmLists.serverA-list
 
@@ -85,7 +85,7 @@ pub indexes-by-place : indexes ≡ replicate 4 0 ++ (0 ∷ 1 ∷ []) ++ tabulate
 indexes-by-place = indexes-are
 
 -- row D.2 of server A as bytes, with flag 1. crates/examples/specs/KvmBytes.antt, which has row B.1 too
-pub row-of-d-2-listed : take 40 (drop 328 (listOf (answer first serverA .table)))
+pub row-of-d-2-listed : take 40 (drop 328 (listOf (answer firstEdition serverA .table)))
     ≡ 0xD ∷ 0 ∷ 0 ∷ 0 ∷ 2 ∷ 0 ∷ 0 ∷ 0 ∷ 1 ∷ 0 ∷ 0 ∷ 0
     ∷ 0 ∷ 0x01 ∷ 0 ∷ 0 ∷ 0x40 ∷ 0x02 ∷ 0 ∷ 0 ∷ 0 ∷ 0 ∷ 0 ∷ 0 ∷ 0 ∷ 0 ∷ 0 ∷ 0
     ∷ 0 ∷ 0 ∷ 0 ∷ 0 ∷ 0 ∷ 0 ∷ 0 ∷ 0 ∷ 0 ∷ 0 ∷ 0 ∷ 0 ∷ []

@@ -35,7 +35,7 @@ use Rattle.nearest_exactly.specs.WithoutInvlpgb.{InvlpgbNearest}
 use Rattle.nearest_exactly.specs.OutsideLaws as Outside
 use Rattle.nearest_exactly.specs.OutsideLaws.{Among, FirstAt}
 use Rattle.page_sets.specs.PageSets.{word, page, serverA}
-use Rattle.page_sets.specs.Evaluation.{first}
+use Rattle.page_sets.specs.Evaluation.{firstEdition}
 use Rattle.examples.specs.NearestBits as Bits
 use Rattle.examples.specs.Later as Later
 use Rattle.examples.specs.NearestBits.{onlyLeaf5, withoutD2, noInvlpgb, leaf1Twice}
@@ -78,46 +78,46 @@ only-inside-masks = Outside.outside-masks
 pub no-edition : nearest (underEdition 3) [] ≡ NoBit UnknownEdition
 no-edition = Bits.no-edition
 
-pub no-pages : nearest first [] ≡ NoBit PagesLength
+pub no-pages : nearest firstEdition [] ≡ NoBit PagesLength
 no-pages = Bits.no-pages
 
-pub large-count : nearest first (page 65 []) ≡ NoBit PageCount
+pub large-count : nearest firstEdition (page 65 []) ≡ NoBit PageCount
 large-count = Bits.large-count
 
-pub unclean-entry : nearest first (page 1 (word 0x40000000 ++ replicate 43 0 ++ (1 ∷ []))) ≡ NoBit (ReservedBytes (function 0x40000000))
+pub unclean-entry : nearest firstEdition (page 1 (word 0x40000000 ++ replicate 43 0 ++ (1 ∷ []))) ≡ NoBit (ReservedBytes (function 0x40000000))
 unclean-entry = Bits.unclean-entry
 
-pub a-nearest : nearest first serverA ≡ Bit (flip 0 0 0 0)
+pub a-nearest : nearest firstEdition serverA ≡ Bit (flip 0 0 0 0)
 a-nearest = Bits.serverA-nearest
 
 -- a later page, and a later entry: what stands before is filtered, or Dh on page 0. crates/examples/specs/Later.antt
-pub later-page-decides : nearest first Later.pageSet ≡ Bit (flip 1 0 0 0)
+pub later-page-decides : nearest firstEdition Later.pageSet ≡ Bit (flip 1 0 0 0)
 later-page-decides = Later.page-decides
 
-pub later-entry-decides : nearest first Later.entrySet ≡ Bit (flip 0 1 0 0)
+pub later-entry-decides : nearest firstEdition Later.entrySet ≡ Bit (flip 0 1 0 0)
 later-entry-decides = Later.entry-decides
 
 -- leaf 1 is missing, and none of the 128 bits of the one entry decides
-pub only-leaf-5 : nearest first onlyLeaf5 ≡ NoBit NothingDecides
+pub only-leaf-5 : nearest firstEdition onlyLeaf5 ≡ NoBit NothingDecides
 only-leaf-5 = Bits.onlyLeaf5-nearest
 
 -- 3 for D.2, which is in neither list, is not 20
-pub without-d2-refused : answer first withoutD2 .verdict ≡ Refused (MissingRequiredResult ExtendedStateEnumeration (Some 2))
+pub without-d2-refused : answer firstEdition withoutD2 .verdict ≡ Refused (MissingRequiredResult ExtendedStateEnumeration (Some 2))
 without-d2-refused = Bits.withoutD2-refused
 
-pub without-d2-decided : nearest first withoutD2 ≢ NoBit NothingDecides
+pub without-d2-decided : nearest firstEdition withoutD2 ≢ NoBit NothingDecides
 without-d2-decided = Bits.withoutD2-nearest
 
 -- a server without INVLPGB
-pub no-invlpgb-refused : answer first noInvlpgb .verdict ≡ Refused InvlpgbUnavailable
+pub no-invlpgb-refused : answer firstEdition noInvlpgb .verdict ≡ Refused InvlpgbUnavailable
 no-invlpgb-refused = Bits.noInvlpgb-refused
 
-pub no-invlpgb-nearest : InvlpgbNearest first noInvlpgb
+pub no-invlpgb-nearest : InvlpgbNearest firstEdition noInvlpgb
 no-invlpgb-nearest = Bits.noInvlpgb-nearest
 
 -- leaf 1 twice: the second is not the first of its place, and of the first 1.ECX bit 2 is outside the mask
-pub second-changes-nothing : (r k : ℕ) → r < 4 → k < 32 → changes first leaf1Twice (flip 0 1 r k) ≡ false
-second-changes-nothing r k l u = only-first-entries first leaf1Twice 0 1 r k (Bits.second-among r k l u) (Bits.second-not-first r k l u)
+pub second-changes-nothing : (r k : ℕ) → r < 4 → k < 32 → changes firstEdition leaf1Twice (flip 0 1 r k) ≡ false
+second-changes-nothing r k l u = only-first-entries firstEdition leaf1Twice 0 1 r k (Bits.second-among r k l u) (Bits.second-not-first r k l u)
 
-pub masked-changes-nothing : changes first leaf1Twice (flip 0 0 2 2) ≡ false
-masked-changes-nothing = only-inside-masks first leaf1Twice 0 0 2 2 Bits.first-among Place.versionAndFeatures Bits.first-is-first Bits.bit-outside
+pub masked-changes-nothing : changes firstEdition leaf1Twice (flip 0 0 2 2) ≡ false
+masked-changes-nothing = only-inside-masks firstEdition leaf1Twice 0 0 2 2 Bits.first-among Place.versionAndFeatures Bits.first-is-first Bits.bit-outside

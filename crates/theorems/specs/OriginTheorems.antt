@@ -19,7 +19,7 @@ use Rattle.collect.specs.Stands.{standsAt}
 use Rattle.rise.specs.Located.{ComesFrom, Origins}
 use Rattle.rise.specs.LocatedProof.{rows-come-from, rows-have-origins, refused-has-none}
 use Rattle.examples.specs.Origins as Origin
-use Rattle.page_sets.specs.Evaluation.{first}
+use Rattle.page_sets.specs.Evaluation.{firstEdition}
 
 -- ---- P11, where a row came from. crates/memory/specs/Origin.antt has the three cases and their numbers, crates/build/specs/Build.antt `originAt`, the
 -- origin of a row of the table that an answer holds, crates/rise/specs/Located.antt these statements. Sameness in demand 3 and P2 is `SameButOrigins`;
@@ -53,11 +53,11 @@ pool-exports-tell-origins = pool-origins
 
 -- Not empty words: of two entries for leaf 1 the first is told; of two for D.0 that of page 1, counted from that page's beginning; B.0 is made here although
 -- it has an entry. crates/examples/specs/Origins.antt
-pub leaf-1-of-the-first : originAt first Origin.repeated Place.versionAndFeatures ≡ entry 0 1
+pub leaf-1-of-the-first : originAt firstEdition Origin.repeated Place.versionAndFeatures ≡ entry 0 1
 leaf-1-of-the-first = Origin.first-leaf-1
 
-pub d0-of-page-1 : originAt first Origin.repeated (Place.extendedState 0) ≡ entry 1 0
+pub d0-of-page-1 : originAt firstEdition Origin.repeated (Place.extendedState 0) ≡ entry 1 0
 d0-of-page-1 = Origin.d0-on-page-1
 
-pub b0-made-here : (standsAt Place.threadLevel (counted Origin.repeated) ≡ entry 0 4) × (originAt first Origin.repeated Place.threadLevel ≡ madeHere)
+pub b0-made-here : (standsAt Place.threadLevel (counted Origin.repeated) ≡ entry 0 4) × (originAt firstEdition Origin.repeated Place.threadLevel ≡ madeHere)
 b0-made-here = Origin.b0-made-here

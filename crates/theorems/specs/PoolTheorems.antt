@@ -10,7 +10,7 @@ use Rattle.build.specs.Build.{answer, underEdition}
 use Rattle.image.specs.Image.{image}
 use Rattle.rise.specs.Rise.{TableRises}
 use Rattle.buffer.specs.WritesExactly.{FrontExactly}
-use Rattle.page_sets.specs.Evaluation.{first}
+use Rattle.page_sets.specs.Evaluation.{firstEdition}
 use Rattle.page_sets.specs.PageSets.{serverA, serverB, serverW}
 use Rattle.pool.specs.Pool.{pooled}
 use Rattle.pool.specs.WritePool.{writePool}
@@ -75,50 +75,50 @@ each-pool-write-exactly = pool-writes-exactly
 -- Not empty words: a pool of two; 18 for one set and for lengths that only wrap; 15; the second server's own 1; 19 for bit 28 of 1.EDX and for D.2, and
 -- accepted with a third server that has no D.2, so that one server more gave rows to a pool that was refused; a table within both servers'; another
 -- order. crates/examples
-pub pool-of-a-and-w : PoolRight first (serverA ++ serverW) Pools.two
+pub pool-of-a-and-w : PoolRight firstEdition (serverA ++ serverW) Pools.two
 pool-of-a-and-w = PoolInstances.of-a-and-w
 
 pub one-alone-is-no-pool : pooled (underEdition 3) serverA (8192 ∷ []) .verdict ≡ Refused PoolSets
 one-alone-is-no-pool = Pools.one-alone
 
-pub lengths-do-not-wrap : pooled first (serverA ++ serverW) (0xFFFFFFFFFFFFFFFF ∷ 16385 ∷ []) .verdict ≡ Refused PoolSets
+pub lengths-do-not-wrap : pooled firstEdition (serverA ++ serverW) (0xFFFFFFFFFFFFFFFF ∷ 16385 ∷ []) .verdict ≡ Refused PoolSets
 lengths-do-not-wrap = Pools.wraps
 
 pub no-third-edition-in-a-pool : pooled (underEdition 3) serverA (8192 ∷ 0 ∷ []) .verdict ≡ Refused UnknownEdition
 no-third-edition-in-a-pool = Pools.unknown
 
-pub the-second-by-itself : ServerFault first serverA (8192 ∷ 0 ∷ []) 1 PagesLength
+pub the-second-by-itself : ServerFault firstEdition serverA (8192 ∷ 0 ∷ []) 1 PagesLength
 the-second-by-itself = PoolInstances.of-own
 
-pub bit-28-is-no-feature : pooled first (serverA ++ Bit28.serverM) Pools.two .verdict ≡ Refused PoolDiffers
+pub bit-28-is-no-feature : pooled firstEdition (serverA ++ Bit28.serverM) Pools.two .verdict ≡ Refused PoolDiffers
 bit-28-is-no-feature = Bit28.a-and-m
 
-pub d-2-differs : DifferFault first (serverA ++ Differ.serverD) Pools.two
+pub d-2-differs : DifferFault firstEdition (serverA ++ Differ.serverD) Pools.two
 d-2-differs = PoolInstances.of-a-and-d
 
-pub a-third-server-lifts-it : pooled first (serverA ++ Differ.serverD ++ serverW) Differ.three .verdict ≡ Accepted
+pub a-third-server-lifts-it : pooled firstEdition (serverA ++ Differ.serverD ++ serverW) Differ.three .verdict ≡ Accepted
 a-third-server-lifts-it = Differ.a-and-d-and-w
 
 pub a-server-more-adds-nothing :
-    NothingMore (poolTable first (serverA ++ serverW) Pools.two) (poolTable first (serverA ++ Differ.serverD ++ serverW) Differ.three)
+    NothingMore (poolTable firstEdition (serverA ++ serverW) Pools.two) (poolTable firstEdition (serverA ++ Differ.serverD ++ serverW) Differ.three)
 a-server-more-adds-nothing = PoolInstances.of-one-more
 
 -- W's table lies within A's and its own; A, D and W pool as A, W and D do
-pub w-has-none-beyond-the-pool : NoneBeyond (answer first serverW .table) (poolTable first (serverA ++ serverW) Pools.two)
+pub w-has-none-beyond-the-pool : NoneBeyond (answer firstEdition serverW .table) (poolTable firstEdition (serverA ++ serverW) Pools.two)
 w-has-none-beyond-the-pool = PoolInstances.of-w-within
 
 -- from the pool's table to server B, by way of A
-pub pool-to-b : TableRises (poolTable first (serverA ++ serverW) Pools.two) (answer first serverB .table)
+pub pool-to-b : TableRises (poolTable firstEdition (serverA ++ serverW) Pools.two) (answer firstEdition serverB .table)
 pool-to-b = PoolInstances.of-moves
 
 -- A's table, which has bit 28 of 1.EDX, beside two servers that have not: no feature bit of it lies beyond theirs, nor beyond their pool's; with bit
 -- 28 it does not lie within. crates/examples/specs/Letter28.antt
-pub a-has-none-beyond-by-the-letter : NoFeatureBeyond (answer first serverA .table) (poolTable first (Bit28.serverM ++ Bit28.serverM) Pools.two)
+pub a-has-none-beyond-by-the-letter : NoFeatureBeyond (answer firstEdition serverA .table) (poolTable firstEdition (Bit28.serverM ++ Bit28.serverM) Pools.two)
 a-has-none-beyond-by-the-letter = Letter28.a-has-none-beyond
 
-pub a-lies-beyond-with-bit-28 : NoneBeyond (answer first serverA .table) (serverTable first (Bit28.serverM ++ Bit28.serverM) Pools.two 0) → ⊥
+pub a-lies-beyond-with-bit-28 : NoneBeyond (answer firstEdition serverA .table) (serverTable firstEdition (Bit28.serverM ++ Bit28.serverM) Pools.two 0) → ⊥
 a-lies-beyond-with-bit-28 = Letter28.not-with-28
 
 pub d-and-w-change-places :
-    pooled first (serverA ++ Differ.serverD ++ serverW) Differ.three ≡ pooled first (serverA ++ serverW ++ Differ.serverD) Differ.three
+    pooled firstEdition (serverA ++ Differ.serverD ++ serverW) Differ.three ≡ pooled firstEdition (serverA ++ serverW ++ Differ.serverD) Differ.three
 d-and-w-change-places = PoolInstances.of-another-order

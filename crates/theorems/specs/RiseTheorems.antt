@@ -27,7 +27,7 @@ use Rattle.rise.specs.Added.{Added, Covered}
 use Rattle.rise.specs.BeginningLaws.{entries-begin}
 use Rattle.rise.specs.AddedProof.{added-same, added-rises}
 use Rattle.examples.specs.Spare as Spare
-use Rattle.page_sets.specs.Evaluation.{first}
+use Rattle.page_sets.specs.Evaluation.{firstEdition}
 use Rattle.page_sets.specs.PageSets.{serverA, serverB, serverW}
 use Rattle.examples.specs.Computed as Computed
 use Rattle.examples.specs.Chain as Chain
@@ -85,14 +85,14 @@ pub absent-rows-may-differ : rowIn (Preorder.withoutRows (result 0 0 0 0)) 0 ≡
 absent-rows-may-differ = Preorder.and-differ
 
 -- Examples: servers W, A and B, with combined masks 3, 7 and 18E7h (`b-richer`), and the move from W to B. crates/examples/specs/Chain.antt
-pub w-to-a : RiseHypothesis first serverW serverA
+pub w-to-a : RiseHypothesis firstEdition serverW serverA
 w-to-a = Chain.w-to-a
 
-pub w-mask : answer first serverW .table .«max_extended_state» ≡ 0x3
+pub w-mask : answer firstEdition serverW .table .«max_extended_state» ≡ 0x3
 w-mask = Chain.w-mask
 
-pub w-to-b : RiseHypothesis first serverW serverB
-w-to-b = moves-compose first serverW serverA serverB Chain.w-to-a Computed.serverB-rises
+pub w-to-b : RiseHypothesis firstEdition serverW serverB
+w-to-b = moves-compose firstEdition serverW serverA serverB Chain.w-to-a Computed.serverB-rises
 
 -- ---- P9: added entries change no answer. crates/rise/specs/Added.antt has what it is to add entries, and which verdicts are covered.
 
@@ -110,18 +110,18 @@ pub added-entries-rise-both-ways : (chosen : Choices) (s u : List ℕ) → Added
 added-entries-rise-both-ways = added-rises
 
 -- Not empty words. crates/examples/specs/Spare.antt: server A with three entries added on its last page, and with a page added
-pub a-with-entries : Added serverA Spare.withEntries × (answer first Spare.withEntries ≡ answer first serverA)
+pub a-with-entries : Added serverA Spare.withEntries × (answer firstEdition Spare.withEntries ≡ answer firstEdition serverA)
 a-with-entries = (Spare.entries-added, Spare.entries-same)
 
-pub a-with-a-page : Added serverA Spare.withPage × (answer first Spare.withPage ≡ answer first serverA)
+pub a-with-a-page : Added serverA Spare.withPage × (answer firstEdition Spare.withPage ≡ answer firstEdition serverA)
 a-with-a-page = (Spare.page-added, Spare.page-same)
 
 -- refused by 8, and the same with an entry added
-pub threads-with-an-entry : (answer first Spare.twoThreads .verdict ≡ Refused (TopologyInconsistent ThreadsPerUnit))
-    × Added Spare.twoThreads Spare.oneThreadLater × (answer first Spare.oneThreadLater ≡ answer first Spare.twoThreads)
+pub threads-with-an-entry : (answer firstEdition Spare.twoThreads .verdict ≡ Refused (TopologyInconsistent ThreadsPerUnit))
+    × Added Spare.twoThreads Spare.oneThreadLater × (answer firstEdition Spare.oneThreadLater ≡ answer firstEdition Spare.twoThreads)
 threads-with-an-entry = (Spare.threads-refused, Spare.threads-added, Spare.threads-same)
 
 -- 3 is not covered: server A without D.2 is refused, and server A is this with an entry added
-pub missing-leaf-arrives : (answer first Spare.withoutD2 .verdict ≡ Refused (MissingRequiredResult ExtendedStateEnumeration (Some 2)))
-    × Added Spare.withoutD2 serverA × (answer first serverA .verdict ≡ Accepted)
+pub missing-leaf-arrives : (answer firstEdition Spare.withoutD2 .verdict ≡ Refused (MissingRequiredResult ExtendedStateEnumeration (Some 2)))
+    × Added Spare.withoutD2 serverA × (answer firstEdition serverA .verdict ≡ Accepted)
 missing-leaf-arrives = (Spare.without-refused, Spare.without-added, Computed.serverA-accepted)

@@ -25,7 +25,7 @@ use Rattle.build.specs.Build.{rowsFor, answer}
 use Rattle.rise.specs.Levels.{AcceptedLevels, accepted-levels}
 use Rattle.buffer.specs.WritesExactly.{FrontExactly}
 use Rattle.topology.specs.declared.TopologyError.the-variants.{ProcessorCount}
-use Rattle.page_sets.specs.Evaluation.{first}
+use Rattle.page_sets.specs.Evaluation.{firstEdition}
 use Rattle.examples.specs.Chain as Chain
 
 -- ---- P5: three processors need two bits. crates/topology/specs/Topology.antt, ShiftChange.antt.
@@ -70,20 +70,20 @@ building-accepts-the-listed = builds-listed
 
 -- Not empty words: whole page sets with three processors and with 128, each with its inputs, which are listed, and its B.0 and B.1; nc = 255 with
 -- s = 0 is refused by 7 and not listed. crates/examples/specs/TopologyExamples.antt
-pub three-processors-listed : (inputsFor first Topologies.threeProcessors ≡ inputs 0 2 3 1 1)
-    × (answer first Topologies.threeProcessors .verdict ≡ Accepted)
+pub three-processors-listed : (inputsFor firstEdition Topologies.threeProcessors ≡ inputs 0 2 3 1 1)
+    × (answer firstEdition Topologies.threeProcessors .verdict ≡ Accepted)
     × In (inputs 0 2 3 1 1) acceptedInputs
     × (Topologies.levelsOf Topologies.threeProcessors ≡ result 1 2 0x100 0 ∷ result 2 3 0x201 0 ∷ [])
 three-processors-listed = (Topologies.three-inputs, Topologies.three-accepted, Topologies.three-listed, Topologies.three-levels)
 
-pub largest-listed : (inputsFor first Topologies.largestServer ≡ inputs 7 127 128 1 1)
-    × (answer first Topologies.largestServer .verdict ≡ Accepted)
+pub largest-listed : (inputsFor firstEdition Topologies.largestServer ≡ inputs 7 127 128 1 1)
+    × (answer firstEdition Topologies.largestServer .verdict ≡ Accepted)
     × In (inputs 7 127 128 1 1) acceptedInputs
     × (Topologies.levelsOf Topologies.largestServer ≡ result 1 2 0x100 0 ∷ result 7 128 0x201 0 ∷ [])
 largest-listed = (Topologies.largest-inputs, Topologies.largest-accepted, Topologies.largest-listed, Topologies.largest-levels)
 
-pub nc-255-not-listed : (inputsFor first Topologies.wrappedServer ≡ inputs 0 255 0 1 0)
-    × (answer first Topologies.wrappedServer .verdict ≡ Refused (TopologyInconsistent (ProcessorCount 0)))
+pub nc-255-not-listed : (inputsFor firstEdition Topologies.wrappedServer ≡ inputs 0 255 0 1 0)
+    × (answer firstEdition Topologies.wrappedServer .verdict ≡ Refused (TopologyInconsistent (ProcessorCount 0)))
     × (In (inputs 0 255 0 1 0) acceptedInputs → ⊥)
 nc-255-not-listed = (Topologies.wrapped-inputs, Topologies.wrapped-refused, Topologies.wrapped-unlisted)
 
@@ -94,5 +94,5 @@ pub any-levels : (chosen : Choices) (s : List ℕ) → answer chosen s .verdict 
 any-levels = accepted-levels
 
 -- an example with s = 8, beyond the list: 256 processors. crates/examples/specs/Chain.antt
-pub eight-levels : Chain.levelsOf (answer first Chain.eight .table) ≡ result 0 1 0x100 0 ∷ result 8 256 0x201 0 ∷ []
+pub eight-levels : Chain.levelsOf (answer firstEdition Chain.eight .table) ≡ result 0 1 0x100 0 ∷ result 8 256 0x201 0 ∷ []
 eight-levels = Chain.eight-figures

@@ -15,10 +15,10 @@ use Rattle.topology.specs.Topology.{inputs, threadsIn, topologyOf}
 use Rattle.topologies.specs.Topologies.{consistent, accepts}
 
 -- one processor, said by mt = 0; v said by lps; v = 2^s
-pub data Lawful (s nc lps mt t : ℕ) : Type 0 where
-  alone : s ≡ 0 → mt ≡ 0 → nc ≡ 0 → lps ≤ 1 → t ≡ 0 → Lawful s nc lps mt t
-  legacy : s ≡ 0 → (mt ≡ 0 → ⊥) → lps ≡ nc + 1 → t < 2 → t < lps → Lawful s nc lps mt t
-  sized : 0 < s → nc < 2 ^ s → lps ≡ 2 ^ s → mt ≡ 1 → t < 2 → Lawful s nc lps mt t
+pub data LawfulInputs (s nc lps mt t : ℕ) : Type 0 where
+  alone : s ≡ 0 → mt ≡ 0 → nc ≡ 0 → lps ≤ 1 → t ≡ 0 → LawfulInputs s nc lps mt t
+  legacy : s ≡ 0 → (mt ≡ 0 → ⊥) → lps ≡ nc + 1 → t < 2 → t < lps → LawfulInputs s nc lps mt t
+  sized : 0 < s → nc < 2 ^ s → lps ≡ 2 ^ s → mt ≡ 1 → t < 2 → LawfulInputs s nc lps mt t
 
 threads-fit : (v t : ℕ) → consistent (threadsIn v t) ≡ true → (t < 2) × (t < v)
 unfolding threadsIn
@@ -40,7 +40,7 @@ chosen true x y e f = (refl, f)
 chosen false x y e f = absurd (false≢true (sym e ∙ f))
 
 module _ (s nc lps mt t : ℕ) where
-  pub accepted-lawful : s < 8 → accepts (inputs s nc lps mt t) ≡ true → Lawful s nc lps mt t
+  pub accepted-lawful : s < 8 → accepts (inputs s nc lps mt t) ≡ true → LawfulInputs s nc lps mt t
   unfolding accepts topologyOf
   accepted-lawful h e = go (eqb s 0) (eqb mt 0) refl refl e
     where
@@ -55,7 +55,7 @@ module _ (s nc lps mt t : ℕ) where
           (pick (eqb mt 1) (threadsIn (2 ^ s) t) (Inconsistent (Hyperthreading s)))
           (Inconsistent (ProcessorCount s)))
           (threadsIn (2 ^ s) t))) ≡ true
-          → Lawful s nc lps mt t
+          → LawfulInputs s nc lps mt t
       go true true p q f =
           let c = chosen (eqb nc 0 && leb lps 1) _ _ refl f in
           alone (eqb-true s 0 p) (eqb-true mt 0 q) (eqb-true nc 0 (and-left _ _ (c .0))) (leb-true lps 1 (and-right (eqb nc 0) _ (c .0)))
@@ -71,7 +71,7 @@ module _ (s nc lps mt t : ℕ) where
           sized (omega (arith, n)) (omega (arith, leb-true (nc + 1) (2 ^ s) (and-left _ _ (c .0))))
           (eqb-true lps (2 ^ s) (and-right (leb (nc + 1) (2 ^ s)) _ (c .0))) (eqb-true mt 1 (d .0)) (threads-fit (2 ^ s) t (d .1) .0)
 
-  pub lawful-accepted : s < 8 → Lawful s nc lps mt t → accepts (inputs s nc lps mt t) ≡ true
+  pub lawful-accepted : s < 8 → LawfulInputs s nc lps mt t → accepts (inputs s nc lps mt t) ≡ true
   unfolding accepts topologyOf
   lawful-accepted h (alone p q r u v) =
       rw (eq-eqb s 0 p, eq-eqb mt 0 q, eq-eqb nc 0 r, le-leb lps 1 u) (threads-taken 1 t (omega arith) (omega arith))

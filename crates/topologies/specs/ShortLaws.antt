@@ -13,7 +13,7 @@ use Rattle.topology.specs.Topology.{Inputs, inputs}
 use Rattle.topologies.specs.Gather.{gather}
 use Rattle.topologies.specs.GatherLaws.{gather-none, gather-short, gather-only}
 use Rattle.topologies.specs.Topologies.{accepts, ifAccepted, acceptedAt}
-use Rattle.topologies.specs.AcceptedLaws.{Lawful, accepted-lawful, lawful-accepted}
+use Rattle.topologies.specs.AcceptedLaws.{LawfulInputs, accepted-lawful, lawful-accepted}
 use Rattle.topologies.specs.AcceptedLaws.Lawful.{alone, legacy, sized}
 
 -- one input
@@ -35,11 +35,11 @@ counted-one s nc v h = rw (le-ltb 1 v h)
 -- ---- by what is lawful
 
 module _ (s nc lps mt t : ℕ) (h : s < 8) where
-  taken : Lawful s nc lps mt t → ifAccepted (inputs s nc lps mt t) ≡ single s nc lps mt t
+  taken : LawfulInputs s nc lps mt t → ifAccepted (inputs s nc lps mt t) ≡ single s nc lps mt t
   unfolding ifAccepted single
   taken l = pick-true _ _ (lawful-accepted s nc lps mt t h l)
 
-  left-out : (Lawful s nc lps mt t → ⊥) → ifAccepted (inputs s nc lps mt t) ≡ []
+  left-out : (LawfulInputs s nc lps mt t → ⊥) → ifAccepted (inputs s nc lps mt t) ≡ []
   unfolding ifAccepted
   left-out n = go (accepts (inputs s nc lps mt t)) refl
     where
@@ -52,7 +52,7 @@ overThreads s nc lps mt = gather 256 (λ t. ifAccepted (inputs s nc lps mt t))
 
 -- where with lps = v and mt = 1 exactly the t below 2 and v are lawful
 threads-law : (s nc v : ℕ) → s < 8 → 0 < v
-    → ((t : ℕ) → Lawful s nc v 1 t → (t < 2) × (t < v)) → ((t : ℕ) → t < 2 → t < v → Lawful s nc v 1 t)
+    → ((t : ℕ) → LawfulInputs s nc v 1 t → (t < 2) × (t < v)) → ((t : ℕ) → t < 2 → t < v → LawfulInputs s nc v 1 t)
     → overThreads s nc v 1 ≡ counted s nc v
 unfolding gather counted
 threads-law s nc v h l only each =
@@ -65,8 +65,8 @@ threads-law s nc v h l only each =
 
 -- and nothing else is
 counted-law : (s nc v : ℕ) → s < 8 → 0 < v → v < 256
-    → ((lps mt t : ℕ) → mt < 2 → Lawful s nc lps mt t → (lps ≡ v) × (mt ≡ 1) × (t < 2) × (t < v))
-    → ((t : ℕ) → t < 2 → t < v → Lawful s nc v 1 t)
+    → ((lps mt t : ℕ) → mt < 2 → LawfulInputs s nc lps mt t → (lps ≡ v) × (mt ≡ 1) × (t < 2) × (t < v))
+    → ((t : ℕ) → t < 2 → t < v → LawfulInputs s nc v 1 t)
     → acceptedAt s nc ≡ counted s nc v
 unfolding acceptedAt gather
 counted-law s nc v h l u only each =
@@ -76,7 +76,7 @@ counted-law s nc v h l u only each =
     (gather-none 256 _ (λ t b. left-out s nc v 0 t h (λ p. omega (arith, only v 0 t (omega arith) p .1))))
     (threads-law s nc v h l (λ t p. (only v 1 t (omega arith) p .2, only v 1 t (omega arith) p .3)) each)
 
-none-law : (s nc : ℕ) → s < 8 → ((lps mt t : ℕ) → lps < 256 → Lawful s nc lps mt t → ⊥) → acceptedAt s nc ≡ []
+none-law : (s nc : ℕ) → s < 8 → ((lps mt t : ℕ) → lps < 256 → LawfulInputs s nc lps mt t → ⊥) → acceptedAt s nc ≡ []
 unfolding acceptedAt
 none-law s nc h n =
     gather-none 256 _ (λ lps u. gather-none 2 _ (λ mt v. gather-none 256 _ (λ t w. left-out s nc lps mt t h (n lps mt t u))))
@@ -86,7 +86,7 @@ zero-size s nc e = rw e
 
 -- ---- s = 0 and nc = 0: lps 0 or 1 and mt = 0, or lps 1 and mt = 1; there is no second thread
 
-alone-only : (lps mt t : ℕ) → Lawful 0 0 lps mt t → (lps < 2) × (t ≡ 0) × (lps ≡ 0 → mt ≡ 0)
+alone-only : (lps mt t : ℕ) → LawfulInputs 0 0 lps mt t → (lps < 2) × (t ≡ 0) × (lps ≡ 0 → mt ≡ 0)
 alone-only lps mt t (alone a b c d e) = (omega arith, e, λ _. b)
 alone-only lps mt t (legacy a b c d e) = (omega arith, omega arith, λ z. absurd (omega arith))
 alone-only lps mt t (sized a b c d e) = absurd (omega arith)
@@ -112,7 +112,7 @@ zero-as nc e = rw e at-zero
 
 -- ---- s = 0 and a further nc: lps is nc + 1, which for nc = 255 is none of eight bits
 
-legacy-only : (nc lps mt t : ℕ) → 0 < nc → mt < 2 → Lawful 0 nc lps mt t → (lps ≡ nc + 1) × (mt ≡ 1) × (t < 2) × (t < nc + 1)
+legacy-only : (nc lps mt t : ℕ) → 0 < nc → mt < 2 → LawfulInputs 0 nc lps mt t → (lps ≡ nc + 1) × (mt ≡ 1) × (t < 2) × (t < nc + 1)
 legacy-only nc lps mt t h u (alone a b c d e) = absurd (omega arith)
 legacy-only nc lps mt t h u (legacy a b c d e) = (c, omega (arith, b), d, omega arith)
 legacy-only nc lps mt t h u (sized a b c d e) = absurd (omega arith)
@@ -125,14 +125,14 @@ at-legacy nc n h =
 pub at-last : (nc : ℕ) → 255 ≤ nc → acceptedAt 0 nc ≡ []
 at-last nc h = none-law 0 nc (omega arith) none
   where
-    none : (lps mt t : ℕ) → lps < 256 → Lawful 0 nc lps mt t → ⊥
+    none : (lps mt t : ℕ) → lps < 256 → LawfulInputs 0 nc lps mt t → ⊥
     none lps mt t l (alone a b c d e) = omega arith
     none lps mt t l (legacy a b c d e) = omega arith
     none lps mt t l (sized a b c d e) = omega arith
 
 -- ---- s from 1 on: lps is v, which is 2^s
 
-sized-only : (s nc lps mt t : ℕ) → 0 < s → Lawful s nc lps mt t → (lps ≡ 2 ^ s) × (mt ≡ 1) × (t < 2) × (nc < 2 ^ s)
+sized-only : (s nc lps mt t : ℕ) → 0 < s → LawfulInputs s nc lps mt t → (lps ≡ 2 ^ s) × (mt ≡ 1) × (t < 2) × (nc < 2 ^ s)
 sized-only s nc lps mt t h (alone a b c d e) = absurd (omega arith)
 sized-only s nc lps mt t h (legacy a b c d e) = absurd (omega arith)
 sized-only s nc lps mt t h (sized a b c d e) = (c, d, e, b)

@@ -28,13 +28,13 @@ use Rattle.build.specs.Build.{rowsFor, verdictOf, answer}
 use Rattle.rise.specs.RiseProof.{answer-row}
 use Rattle.rise.specs.BuiltLaws.{always-finished}
 use Rattle.topologies.specs.Topologies.{consistent, accepts, acceptedInputs}
-use Rattle.topology_list.specs.Listed.{In, Fits}
+use Rattle.topology_list.specs.Listed.{In, FieldsFit}
 use Rattle.topology_list.specs.ListedProof.{determined}
 use Rattle.topology_list.specs.Builds.{inputsFor, beforeTopology, Levels, BuildsListed}
 
 -- ---- the topology's check is the list's
 
-fits : (m : Rows) → inputsOf m .s < 8 → Fits (inputsOf m)
+fits : (m : Rows) → inputsOf m .s < 8 → FieldsFit (inputsOf m)
 unfolding inputsOf
 fits m h = record { s = omega arith; nc = field-lt 0 8 _; lps = field-lt 16 8 _; mt = bit-lt _ _; t = field-lt 8 8 _ }
 

@@ -17,7 +17,7 @@ In i [] = ⊥
 In i (j ∷ js) = (i ≡ j) ⊎ In i js
 
 -- s up to 7, and the other four within the widths of their fields
-pub record Fits (i : Inputs) : Type 0 where
+pub record FieldsFit (i : Inputs) : Type 0 where
   pub s : i .s < 8
   pub nc : i .nc < 256
   pub lps : i .lps < 256
@@ -43,8 +43,8 @@ Ascending (i ∷ is) = BeforeAll i is × Ascending is
 
 -- what P14 asks of a list
 pub record ListsAccepted (l : List Inputs) : Type 0 where
-  pub each : (i : Inputs) → Fits i → accepts i ≡ true → In i l
-  pub no-other : (i : Inputs) → In i l → Fits i × (accepts i ≡ true)
+  pub each : (i : Inputs) → FieldsFit i → accepts i ≡ true → In i l
+  pub no-other : (i : Inputs) → In i l → FieldsFit i × (accepts i ≡ true)
   pub ascends : Ascending l
 
 -- the definition's list has it, and any list that has it is the definition's

@@ -16,7 +16,7 @@ use Rattle.topologies.specs.Gather.{gather}
 use Rattle.topologies.specs.GatherLaws.{gather-length}
 use Rattle.topologies.specs.Topologies.{accepts, ifAccepted, acceptedAt, acceptedOf, acceptedInputs}
 use Rattle.topologies.specs.CountLaws.{many, count-of, count-all}
-use Rattle.topology_list.specs.Listed.{In, Fits, ListsAccepted, Determined, Counted}
+use Rattle.topology_list.specs.Listed.{In, FieldsFit, ListsAccepted, Determined, Counted}
 use Rattle.topology_list.specs.RankLaws.{rank, Rising, ascending-rises, rising-ascends, rising-unique}
 
 -- ---- members of lists put end to end
@@ -42,7 +42,7 @@ in-gather x (suc n) f k l i = elim (eq-or-lt-of-le l) [
 
 data Ranked (b : ℕ) : ℕ → List Inputs → Type 0 where
   none : {a : ℕ} → a ≤ b → Ranked b a []
-  next : {a : ℕ} {i : Inputs} {is : List Inputs} → Fits i → accepts i ≡ true → a ≤ rank i → Ranked b (suc (rank i)) is → Ranked b a (i ∷ is)
+  next : {a : ℕ} {i : Inputs} {is : List Inputs} → FieldsFit i → accepts i ≡ true → a ≤ rank i → Ranked b (suc (rank i)) is → Ranked b a (i ∷ is)
 
 ranked-from : {a b c : ℕ} {is : List Inputs} → c ≤ a → Ranked b a is → Ranked b c is
 ranked-from {c = c} l (none h) = none {a = c} (omega arith)
@@ -61,7 +61,7 @@ ranked-gather a w (suc n) f h = ranked-append (ranked-gather a w n f (λ k l. h 
 ranked-as : {a b c d : ℕ} {is : List Inputs} → a ≡ c → b ≡ d → Ranked b a is → Ranked d c is
 ranked-as e f r = rw (← e, ← f) r
 
-one-ranked : (i : Inputs) → Fits i → Ranked (suc (rank i)) (rank i) (ifAccepted i)
+one-ranked : (i : Inputs) → FieldsFit i → Ranked (suc (rank i)) (rank i) (ifAccepted i)
 unfolding ifAccepted
 one-ranked i f = go (accepts i) refl
   where
@@ -87,7 +87,7 @@ ranked-end : {a b : ℕ} {is : List Inputs} → Ranked b a is → a ≤ b
 ranked-end (none h) = h
 ranked-end (next f e h r) = omega (arith, h, ranked-end r)
 
-ranked-in : {a b : ℕ} (is : List Inputs) → Ranked b a is → (i : Inputs) → In i is → Fits i × (accepts i ≡ true)
+ranked-in : {a b : ℕ} (is : List Inputs) → Ranked b a is → (i : Inputs) → In i is → FieldsFit i × (accepts i ≡ true)
 ranked-in [] r i p = absurd p
 ranked-in (j ∷ js) (next f e h r) i (inl q) = rw q (f, e)
 ranked-in (j ∷ js) (next f e h r) i (inr q) = ranked-in js r i q
@@ -108,7 +108,7 @@ ranked-rises (j ∷ js) (next f e h r) = (λ x p. ranked-above js r x p, ranked-
 
 -- ---- what P14 asks
 
-lists-each : (i : Inputs) → Fits i → accepts i ≡ true → In i acceptedInputs
+lists-each : (i : Inputs) → FieldsFit i → accepts i ≡ true → In i acceptedInputs
 unfolding acceptedInputs acceptedOf acceptedAt ifAccepted
 lists-each i f e =
     in-gather i 8 _ (i .s) (omega (arith, f .s))

@@ -6,13 +6,13 @@ use Prim.Native.Nat.{ℕ, _+_, _*_, _<_}
 use native.Mathlib.Nat.{eq-or-lt-of-le}
 use native.Mathlib.Omega.{arith}
 use Rattle.topology.specs.Topology.{Inputs}
-use Rattle.topology_list.specs.Listed.{In, Fits, Before, BeforeAll, Ascending}
+use Rattle.topology_list.specs.Listed.{In, FieldsFit, Before, BeforeAll, Ascending}
 use Rattle.topology_list.specs.Listed.Before.{by-s, by-nc, by-lps, by-mt, by-t}
 
 unfoldable pub rank : Inputs → ℕ
 rank i = (((i .s * 256 + i .nc) * 256 + i .lps) * 2 + i .mt) * 256 + i .t
 
-before-rank : (i j : Inputs) → Fits i → Fits j → Before i j → rank i < rank j
+before-rank : (i j : Inputs) → FieldsFit i → FieldsFit j → Before i j → rank i < rank j
 unfolding rank
 before-rank i j f g (by-s a) = omega (arith, f .nc, f .lps, f .mt, f .t)
 before-rank i j f g (by-nc a b) = omega (arith, f .lps, f .mt, f .t)
@@ -20,7 +20,7 @@ before-rank i j f g (by-lps a b c) = omega (arith, f .mt, f .t)
 before-rank i j f g (by-mt a b c d) = omega (arith, f .t)
 before-rank i j f g (by-t a b c d e) = omega arith
 
-rank-before : (i j : Inputs) → Fits i → Fits j → rank i < rank j → Before i j
+rank-before : (i j : Inputs) → FieldsFit i → FieldsFit j → rank i < rank j → Before i j
 unfolding rank
 rank-before i j f g h = elim (eq-or-lt-of-le {n = i .s} {m = j .s} (omega (arith, f .nc, f .lps, f .mt, f .t, g .nc, g .lps, g .mt, g .t))) [
   | inr q ↦ by-s q
@@ -43,20 +43,20 @@ Rising (i ∷ is) = ((x : Inputs) → In x is → rank i < rank x) × Rising is
 
 -- ---- rising by rank is to ascend
 
-pub ascending-rises : (l : List Inputs) → ((i : Inputs) → In i l → Fits i) → Ascending l → Rising l
+pub ascending-rises : (l : List Inputs) → ((i : Inputs) → In i l → FieldsFit i) → Ascending l → Rising l
 ascending-rises [] f a = tt
 ascending-rises (i ∷ is) f a = (below i is (f i (inl refl)) (λ x p. f x (inr p)) (a .0), ascending-rises is (λ x p. f x (inr p)) (a .1))
   where
-    below : (i : Inputs) (is : List Inputs) → Fits i → ((x : Inputs) → In x is → Fits x) → BeforeAll i is → (x : Inputs) → In x is → rank i < rank x
+    below : (i : Inputs) (is : List Inputs) → FieldsFit i → ((x : Inputs) → In x is → FieldsFit x) → BeforeAll i is → (x : Inputs) → In x is → rank i < rank x
     below i [] f g b x p = absurd p
     below i (j ∷ js) f g b x (inl e) = rw e (before-rank i j f (g j (inl refl)) (b .0))
     below i (j ∷ js) f g b x (inr p) = below i js f (λ y q. g y (inr q)) (b .1) x p
 
-pub rising-ascends : (l : List Inputs) → ((i : Inputs) → In i l → Fits i) → Rising l → Ascending l
+pub rising-ascends : (l : List Inputs) → ((i : Inputs) → In i l → FieldsFit i) → Rising l → Ascending l
 rising-ascends [] f a = tt
 rising-ascends (i ∷ is) f a = (all i is (f i (inl refl)) (λ x p. f x (inr p)) (a .0), rising-ascends is (λ x p. f x (inr p)) (a .1))
   where
-    all : (i : Inputs) (is : List Inputs) → Fits i → ((x : Inputs) → In x is → Fits x) → ((x : Inputs) → In x is → rank i < rank x)
+    all : (i : Inputs) (is : List Inputs) → FieldsFit i → ((x : Inputs) → In x is → FieldsFit x) → ((x : Inputs) → In x is → rank i < rank x)
         → BeforeAll i is
     all i [] f g h = tt
     all i (j ∷ js) f g h = (rank-before i j f (g j (inl refl)) (h j (inl refl)), all i js f (λ x p. g x (inr p)) (λ x p. h x (inr p)))

@@ -4,7 +4,7 @@ use borrow.Author.Needs.{needs}
 use mathlib.Core.Path.{_≡_}
 use Prim.Native.Nat.{_-_, _≤_}
 use native.Mathlib.Omega.{arith}
-use Rattle.pool_sets.specs.Sets.{startOf}
+use Rattle.pool_sets.specs.Sets.{setStart}
 use Rattle.pool_sets.specs.SetsLaws.{start-first, start-next, set-of, at-least-two, set-ends}
 use Rattle.pool_sets.specs.ServersLaws.{Joining, part-verdict, part-rows, joining-starts, joining-length, joining-next, joining-refuses, joining-ends}
 use Rattle.pool_sets.proofs.join_rest.Statement.{statement}
@@ -12,7 +12,7 @@ use Rattle.pool_sets.proofs.join_rest.Tie as tie
 
 abbrev Inv-loop : tie.InvT-loop
 Inv-loop pages lengths choices registers₀ n other₀ stands₀ start₀ alike₀ k₀ registers other stands start alike k =
-    (1 ≤ k) × (k ≤ n) × (start ≡ startOf lengths k) × Joining choices pages lengths k registers alike
+    (1 ≤ k) × (k ≤ n) × (start ≡ setStart lengths k) × Joining choices pages lengths k registers alike
 
 abbrev μ-loop : tie.MeasureT-loop
 μ-loop pages lengths choices registers₀ n other₀ stands₀ start₀ alike₀ k₀ registers other stands start alike k = n - k

@@ -4,13 +4,13 @@ use mathlib.Core.Path.{_≡_, sym}
 use Prim.Native.Nat.{_+_, _-_, _≤_}
 use native.Mathlib.Omega.{arith}
 use lib.ListN.{length}
-use Rattle.pool_sets.specs.Sets.{startOf}
+use Rattle.pool_sets.specs.Sets.{setStart}
 use Rattle.pool_sets.specs.SetsLaws.{start-first, start-next, too-few, too-many, beyond, summed}
 use Rattle.pool_sets.proofs.sets_fit.Statement.{statement}
 use Rattle.pool_sets.proofs.sets_fit.Tie as tie
 
 abbrev Inv-loop : tie.InvT-loop
-Inv-loop pages lengths n left₀ k₀ left k = (k ≤ n) × (left + startOf lengths k ≡ length pages)
+Inv-loop pages lengths n left₀ k₀ left k = (k ≤ n) × (left + setStart lengths k ≡ length pages)
 
 abbrev μ-loop : tie.MeasureT-loop
 μ-loop pages lengths n left₀ k₀ left k = n - k

@@ -7,7 +7,7 @@ use native.Mathlib.Omega.{arith}
 use lib.ListN.{length}
 use Rattle.bits.specs.ChoiceLaws.{never-both}
 use Rattle.bits.specs.Lists.{one}
-use Rattle.kvm_list.specs.Format.{ListRow, rowCount, rowsIn}
+use Rattle.kvm_list.specs.Format.{ListRow, rowCount, rowsListed}
 use Rattle.kvm_import.specs.ListChecks.{allLawful, fieldsLawful, rowsOn1}
 use Rattle.kvm_import.specs.RowsLeftLaws.{rowsLeft, left-all, left-none, on1-none, extended-more, fields-bad, fields-head, lawful-next, lawful-stops, lawful-ends}
 use borrow.Author.Needs.{needs}
@@ -21,7 +21,7 @@ Inv-loop list count extended₀ q₀ extended q =
     × (count < 4294967296)
     × (extended ≤ q)
     × (allLawful (rowsLeft list q) ≡ fieldsLawful list)
-    × (extended + length (rowsOn1 (rowsLeft list q)) ≡ length (rowsOn1 (rowsIn list)))
+    × (extended + length (rowsOn1 (rowsLeft list q)) ≡ length (rowsOn1 (rowsListed list)))
 
 abbrev μ-loop : tie.MeasureT-loop
 μ-loop list count extended₀ q₀ extended q = count - q
