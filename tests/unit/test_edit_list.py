@@ -49,10 +49,16 @@ class Lists(unittest.TestCase):
             self.assertRegex(said, r'^docs/REVIEW\.md:1[56] is not as made \(tests/gate/edit_list\.py --write\)')
 
     def test_an_edit_without_a_comment(self):
-        for text in CHANGE, f'#\n{CHANGE}', f'\n# A row is lost.\n{CHANGE}', f'{CHANGE}# A row is lost.\n', '':
+        for text in CHANGE, f'#\n{CHANGE}', f'{CHANGE}# A row is lost.\n', '':
             for word in '--check', '--write':
                 self.assertEqual(self.ask([word], lost=text), (
                     1, 'crates/table/must-fail/lost.edit does not open with a comment that says what it would let pass\n', PAGE))
+
+    def test_several_edits_in_a_file(self):
+        text = f'# lost: A row is lost.\n{CHANGE}\n# found: A row is\n# found.\n{CHANGE}'
+        said = self.ask([], bodies=text)[1]
+        for name, words in ('lost', 'A row is lost'), ('found', 'A row is found'):
+            self.assertIn(f'| [table/{name}](../crates/table/must-fail/bodies.edit) | {words} |\n', said)
 
 
 if __name__ == '__main__':

@@ -14,7 +14,7 @@ use Rattle.topologies.specs.Gather.{gather}
 use Rattle.topologies.specs.GatherLaws.{gather-none, gather-short, gather-only}
 use Rattle.topologies.specs.Topologies.{accepts, ifAccepted, acceptedAt}
 use Rattle.topologies.specs.AcceptedLaws.{LawfulInputs, accepted-lawful, lawful-accepted}
-use Rattle.topologies.specs.AcceptedLaws.Lawful.{alone, legacy, sized}
+use Rattle.topologies.specs.AcceptedLaws.LawfulInputs.{alone, legacy, sized}
 
 -- one input
 unfoldable pub single : ℕ → ℕ → ℕ → ℕ → ℕ → List Inputs
