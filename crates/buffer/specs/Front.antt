@@ -20,7 +20,7 @@ bytesOf n = n % 256 ∷ n / 256 % 256 ∷ n / 65536 % 256 ∷ n / 16777216 % 256
 abbrev pub resultBytes : CpuidResult → List ℕ
 resultBytes r = bytesOf (r .eax) ++ bytesOf (r .ebx) ++ bytesOf (r .ecx) ++ bytesOf (r .edx)
 
--- the same under names that stay shut, so that a contract shows one list and not its bytes
+-- the same, kept opaque, so that a contract shows one list and not its bytes
 unfoldable pub wordBytes : ℕ → List ℕ
 wordBytes n = bytesOf n
 

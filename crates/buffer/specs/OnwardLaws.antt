@@ -7,7 +7,7 @@ use lib.ListN.{length, length-append}
 use lib.Seq.{sets, length-sets}
 use Rattle.buffer.specs.FrontLaws.{sets-append}
 
--- Storing stood at index at₀ and step i₀ of a buffer, and stands at index at and step i: what is left to store comes to the same.
+-- Storing stood at index at₀ and step i₀ of a buffer, and stands at index at and step i: invariant: the bytes still to be stored are unchanged.
 pub record Onward (rest : ℕ → List ℕ) (out₀ : List ℕ) (at₀ i₀ : ℕ) (out : List ℕ) (at i : ℕ) : Type 0 where
   pub kept : length out ≡ length out₀
   pub room : at + length (rest i) ≡ at₀ + length (rest i₀)

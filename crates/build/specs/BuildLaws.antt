@@ -1,4 +1,4 @@
--- The answer, case by case, in the terms of the code's returns.
+-- The answer, one case for each return of the function.
 use mathlib.Core.Path.{_≡_, refl, sym, ap, _∙_}
 use mathlib.Core.Bool.{Bool, true, false}
 use mathlib.Core.List.{List}

@@ -1,4 +1,4 @@
--- Lawful pages: their verdict, case by case in the terms of the code's returns, and what it says where it accepts.
+-- Lawful pages: their verdict, one case for each return of the function, and what it says where it accepts.
 use mathlib.Core.Path.{_≡_, refl, sym, ap, _∙_}
 use mathlib.Core.Bool.{true, false}
 use mathlib.Core.List.{List}

@@ -1,4 +1,4 @@
--- The search for the first place that fails, in the terms of the code's loop: a turn passes a place or stops there; after the last place
+-- The search for the first place that fails, as the loop runs: a turn passes a place or stops there; after the last place
 -- nothing has failed.
 use mathlib.Core.Path.{_≡_, sym, ap, _∙_}
 use mathlib.Core.Bool.{Bool, true, false}

@@ -1,4 +1,4 @@
--- The comparison, case by case, in the terms of the code's returns.
+-- The comparison, one case for each return of the function.
 use mathlib.Core.Path.{_≡_, refl, sym, _∙_}
 use mathlib.Core.List.{List}
 use Prim.Native.Nat.{ℕ}

@@ -1,4 +1,4 @@
--- Not empty words: two servers that differ in bit 28 of 1.EDX alone, by computation.
+-- Examples: two servers that differ in bit 28 of 1.EDX alone, by computation.
 use mathlib.Core.Path.{_≡_}
 use mathlib.Core.List.{List, _++_}
 use Prim.Native.Nat.{ℕ}

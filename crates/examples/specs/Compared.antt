@@ -1,4 +1,4 @@
--- Not empty words: a pair of page sets for each answer of a comparison.
+-- Examples: a pair of page sets for each answer of a comparison.
 use mathlib.Core.Path.{_≡_, refl, sym, ap, ap₂, _∙_}
 use mathlib.Core.List.{List, []}
 use Prim.Native.Nat.{ℕ}

@@ -1,4 +1,4 @@
--- Not empty words: a whole page set that is accepted, and a pair for each outcome of demand 3, all by computation.
+-- Examples: a whole page set that is accepted, and a pair for each outcome of demand 3, all by computation.
 use mathlib.Core.Path.{_≡_, refl, ap, ap₂}
 use mathlib.Core.List.{[], _∷_}
 use lib.ListN.{length}

@@ -1,4 +1,4 @@
--- Not empty words: pools whose servers differ, by computation. 19 is decided over the rows that all tables have, so a further server may lift it.
+-- Examples: pools whose servers differ, by computation. 19 is decided over the rows that all tables have, so a further server may lift it.
 use mathlib.Core.Path.{_≡_}
 use mathlib.Core.List.{List, [], _∷_, _++_}
 use Prim.Native.Nat.{ℕ}

@@ -1,4 +1,4 @@
--- Not empty words: the exception of the guest's rise. Server A's D.1.EAX has neither bit 1 nor bit 3, and its guests read 0 in D.1.EBX; B has
+-- Examples: the exception of the guest's rise. Server A's D.1.EAX has neither bit 1 nor bit 3, and its guests read 0 in D.1.EBX; B has
 -- bit 1, and refuses the same view by 14, or gives a size.
 use mathlib.Core.Path.{_≡_, refl}
 use mathlib.Core.Bool.{false}

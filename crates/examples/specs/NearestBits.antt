@@ -1,4 +1,4 @@
--- Not empty words: a page set for each answer of the nearest bit that matters (document 02, P13), by computation.
+-- Examples: a page set for each answer of the nearest bit that matters (document 02, P13), by computation.
 use mathlib.Core.Path.{_≡_, refl, sym, ap, _∙_, subst}
 use mathlib.Core.Bool.{true, false}
 use mathlib.Core.List.{List, [], _∷_, _++_}

@@ -1,4 +1,4 @@
--- Not empty words: pools of whole page sets, their answers by computation.
+-- Examples: pools of whole page sets, their answers by computation.
 use mathlib.Core.Path.{_≡_}
 use mathlib.Core.List.{List, [], _∷_, _++_}
 use Prim.Native.Nat.{ℕ}

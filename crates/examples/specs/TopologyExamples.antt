@@ -1,4 +1,4 @@
--- Not empty words: whole page sets with five given inputs, by computation. Three processors with two threads a unit and 128 are listed; nc = 255 with
+-- Examples: whole page sets with five given inputs, by computation. Three processors with two threads a unit and 128 are listed; nc = 255 with
 -- s = 0, whose lps would be 256, is not.
 use mathlib.Core.Path.{_≡_, refl, sym, ap, ap₂, _∙_}
 use mathlib.Core.Bool.{false, false≢true}

@@ -1,4 +1,4 @@
--- Not empty words: page sets with a nonzero reserved byte (document 02, P10), by computation.
+-- Examples: page sets with a nonzero reserved byte (document 02, P10), by computation.
 use mathlib.Core.Path.{_≡_, refl, sym, ap}
 use mathlib.Core.Bool.{true}
 use mathlib.Core.List.{List, [], _∷_, _++_}

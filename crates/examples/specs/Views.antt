@@ -1,4 +1,4 @@
--- Not empty words: a view for each answer, and a pair of servers whose guests' tables rise, all by computation.
+-- Examples: a view for each answer, and a pair of servers whose guests' tables rise, all by computation.
 use mathlib.Core.Path.{_≡_, ap, _∙_}
 use mathlib.Core.Bool.{true, false}
 use mathlib.Core.List.{[], _∷_}

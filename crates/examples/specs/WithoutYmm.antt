@@ -1,4 +1,4 @@
--- Not empty words: a server without YMM state (XFEM 3) whose entries have F16C, XOP and FMA4, under both editions, by computation.
+-- Examples: a server without YMM state (XFEM 3) whose entries have F16C, XOP and FMA4, under both editions, by computation.
 use mathlib.Core.Path.{_≡_, refl, ap, subst₂}
 use mathlib.Core.List.{List, [], _∷_, _++_}
 use Prim.Native.Nat.{ℕ}

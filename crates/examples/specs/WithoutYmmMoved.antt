@@ -1,4 +1,4 @@
--- Not empty words: the server without YMM state (XFEM 3) whose entries have F16C, XOP and FMA4, its live guest moved from edition 1 to edition 2,
+-- Examples: the server without YMM state (XFEM 3) whose entries have F16C, XOP and FMA4, its live guest moved from edition 1 to edition 2,
 -- by computation; and each refusal.
 use mathlib.Core.Path.{_≡_, refl, ap, _∙_}
 use mathlib.Core.List.{List, [], _∷_}

@@ -61,7 +61,7 @@ pub record Enabled : Type 0 where
   pub xss : ℕ
   pub tscAux : Bool
 
--- what goes without YMM state, as a mask of each register
+-- the bits cleared where the YMM state is absent, as a mask of each register
 pub record YmmClears : Type 0 where
   pub versionEcx : ℕ
   pub featuresEbx : ℕ

@@ -8,8 +8,8 @@ ghost use Rattle.x86defs.specs.Functions.{result};
 ghost use Rattle.features.specs.Finish.{hasYmm, hasAvx512, hasCet, ymmClears, versionEcx, featuresEbx, featuresEcx, featuresEdx, extendedVersionEcx, extendedVersionEdx, addressSizesEbx, unlessNoXss};
 ghost use Rattle.features.specs.FeaturesInCode.{clearsWith, enabledWith, enabledFrom};
 
-// The clear masks: what goes without YMM state, in both editions of the rule and beyond these in edition 2 (document 02, P7), and without
-// AVX-512 state.
+// The clear masks: the bits cleared where the YMM state is absent, in both editions of the rule and beyond these in edition 2 (document 02, P7), and
+// without AVX-512 state.
 const YMM_VERSION_ECX: u32 = 0x10001000;
 
 const YMM_FEATURES_EBX: u32 = 0x20;

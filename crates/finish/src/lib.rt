@@ -3,7 +3,7 @@
 use table::CpuidResults;
 use table::Verdict;
 
-// What the masked first entries are answered: accepted with their table, or refused with an empty one.
+// The result of building from the rows: accepted with their table, or refused with an empty one.
 pub struct RowsBuilt {
     pub verdict: Verdict,
     pub table: CpuidResults,

@@ -1,4 +1,4 @@
--- Verdict and sizes, case by case in the terms of the code's returns; and that they are of leaf Dh's registers alone, so that tables
+-- Verdict and sizes, one case for each return of the function; and that they are of leaf Dh's registers alone, so that tables
 -- that differ elsewhere give a guest the same.
 use mathlib.Core.Path.{_≡_, sym, ap, ap₂, _∙_}
 use mathlib.Core.Bool.{Bool, true, false, _&&_}

@@ -1,4 +1,4 @@
--- The image piece by piece, as it is written. Each piece is a name that stays shut, so that a contract shows one list and not its bytes.
+-- The image piece by piece, as it is written. Each piece is kept opaque, so that a contract shows one list and not its bytes.
 use mathlib.Core.Bool.{Bool, false}
 use mathlib.Core.List.{List, [], _∷_, _++_}
 use Prim.Native.Nat.{ℕ, _+_, _-_}

@@ -107,7 +107,7 @@ rows-none t = rw row-order
 
 -- ---- writing from place to place
 
--- Writing stood at index at₀ and place i₀ of a buffer, and stands at index at and place i: what is left to write comes to the same.
+-- Writing stood at index at₀ and place i₀ of a buffer, and stands at index at and place i: invariant: the bytes still to be written are unchanged.
 pub record Onward (t : CpuidResults) (out₀ : List ℕ) (at₀ i₀ : ℕ) (out : List ℕ) (at i : ℕ) : Type 0 where
   pub kept : length out ≡ length out₀
   pub room : at + length (rowsFrom t i) ≡ at₀ + length (rowsFrom t i₀)

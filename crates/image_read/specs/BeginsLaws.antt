@@ -1,4 +1,4 @@
--- Whether bytes begin with a row, in the terms of the code: an index for what is left, and a run for the place.
+-- Whether bytes begin with a row, as the code has it: an index for what is left, and a run for the place.
 use mathlib.Core.Path.{_≡_, sym, ap, _∙_}
 use mathlib.Core.Bool.{Bool, true, false, _&&_}
 use mathlib.Core.List.{List}

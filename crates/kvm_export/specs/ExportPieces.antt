@@ -1,4 +1,4 @@
--- A table's list piece by piece, as it is written. Each piece is a name that stays shut, so that a contract shows one list and not its bytes.
+-- A table's list piece by piece, as it is written. Each piece is kept opaque, so that a contract shows one list and not its bytes.
 use mathlib.Core.Bool.{Bool}
 use mathlib.Core.List.{List, []}
 use Prim.Native.Nat.{ℕ, _+_, _-_}

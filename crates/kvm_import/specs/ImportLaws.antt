@@ -1,4 +1,4 @@
--- Reading, answer by answer, in the terms of the code's returns.
+-- Reading, one case for each return of the function.
 use mathlib.Core.Path.{_≡_, refl, sym, ap, _∙_}
 use mathlib.Core.Bool.{Bool, true, false, not, _||_}
 use mathlib.Core.List.{List}

@@ -1,4 +1,4 @@
--- The two pages piece by piece, as they are written. Each piece is a name that stays shut, so that a contract shows one list and not its bytes.
+-- The two pages piece by piece, as they are written. Each piece is kept opaque, so that a contract shows one list and not its bytes.
 use mathlib.Core.Bool.{Bool}
 use mathlib.Core.List.{List, [], _++_}
 use Prim.Native.Nat.{ℕ, _+_, _*_}

@@ -113,7 +113,7 @@ entered-more out i j r rs false e h =
 
 -- ---- from row to row
 
--- d entries of page 1 and q - d of page 0 are stored: what is left to store comes to the same
+-- d entries of page 1 and q - d of page 0 are stored: invariant: the bytes still to be stored are unchanged
 pub record Entering (l out₀ out : List ℕ) (q d : ℕ) : Type 0 where
   pub size : length out ≡ length out₀
   pub few : d ≤ q

@@ -1,4 +1,4 @@
--- The answer, case by case, in the terms of the code's returns: 15, then 1, 2 and 17, then what is found.
+-- The answer, one case for each return of the function: 15, then 1, 2 and 17, then what is found.
 use mathlib.Core.Path.{_≡_, sym, _∙_}
 use mathlib.Core.Bool.{true, false}
 use mathlib.Core.List.{List}

@@ -260,7 +260,7 @@ pub not-kept : (seen : List Bool) {place stored : ℕ} → place ≡ stored → 
     → (j : ℕ) → j < places → getD seen j false ≡ false → stored ≡ j → ⊥
 not-kept seen e f j l g h = omega arith
 
--- ---- one turn in the terms of the code: e is the entry that the reader gives, and place where it is stored
+-- ---- one turn of the code: e is the entry that the reader gives, and place where it is stored
 
 pub record AtEntry (c : Choices) (s : List ℕ) (seen : List Bool) (i : CpuidPageIndex) (e : ParsedCpuidEntry) (place : ℕ) : Type 0 where
   pub known : knownEdition (c .edition) ≡ true

@@ -152,7 +152,7 @@ flip-below avic x j l =
     (xor-keeps (x .ebx) _ (eqb-true _ 0 (every-at not-bit-3 35 all-not-bit-3 j l)))
     ∙ sym (has-and 3 (x .ebx) _)
 
--- rows without INVLPGB are answered alike, whatever else stands in that row
+-- rows without INVLPGB have the same answer, whatever else stands in that row
 pub clear-same : (n : ℕ) (m o : Rows) → requiredVerdict m ≡ Accepted → requiredVerdict o ≡ Accepted → invlpgb m ≡ false → invlpgb o ≡ false
     → sameFrom n o m ≡ true
 clear-same n m o e f g h =

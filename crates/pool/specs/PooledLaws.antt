@@ -1,4 +1,4 @@
--- The answer to a pool, case by case, in the terms of the code's returns.
+-- The answer to a pool, one case for each return of the function.
 use mathlib.Core.Path.{_≡_, refl, sym, ap, ap₂, _∙_, subst}
 use mathlib.Core.Bool.{Bool, true, false, _&&_}
 use mathlib.Core.List.{List}

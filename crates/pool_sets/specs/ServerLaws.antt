@@ -1,4 +1,4 @@
--- One server, case by case in the terms of the code's returns.
+-- One server, one case for each return of the function.
 use mathlib.Core.Path.{_≡_, sym, ap, _∙_}
 use mathlib.Core.Bool.{true, false}
 use mathlib.Core.List.{List}

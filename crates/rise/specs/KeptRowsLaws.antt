@@ -1,4 +1,4 @@
--- Rows that keep every row of others are answered as those are, once no required or needed row was missing.
+-- Rows that keep every row of others have the same answer, once no required or needed row was missing.
 use mathlib.Core.Path.{_≡_, refl, sym, ap, _∙_, subst, fun-ext}
 use mathlib.Core.Bool.{Bool, true, false}
 use Prim.Native.Nat.{ℕ, _+_, _≤_, _<_}

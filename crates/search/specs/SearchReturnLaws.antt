@@ -1,4 +1,4 @@
--- `quiet`, case by case, in the terms of the code's returns.
+-- `quiet`, one case for each return of the function.
 use mathlib.Core.Path.{_≡_, sym, ap, ap₂, _∙_}
 use mathlib.Core.Bool.{Bool, true, false, not}
 use Prim.Native.Nat.{ℕ, _-_, _≤_, _<_}

@@ -1,4 +1,4 @@
--- The search for the first place that fails, in the terms of the code's loop: a turn passes a place or stops there; after the last place the masks are
+-- The search for the first place that fails, as the loop runs: a turn passes a place or stops there; after the last place the masks are
 -- compared.
 use mathlib.Core.Path.{_≡_, refl, sym, ap, ap₂, _∙_}
 use mathlib.Core.Bool.{Bool, true, false, not, _&&_}

@@ -70,7 +70,7 @@ pub reader-gives-clean-entries : (s : List ℕ) (n : ℕ) → length (entries s)
     → given s n (firstIndex s) ≡ map parsed (keepIf (clean s) (entries s))
 reader-gives-clean-entries = reader-gives-clean
 
--- Not empty words: server A is clean; with an entry of a filtered leaf that is not, 17 names the leaf, and the comparison too; above the count it is not
+-- Examples: server A is clean; with an entry of a filtered leaf that is not, 17 names the leaf, and the comparison too; above the count it is not
 -- tested; 17 comes before 3, names the first, and comes after a later page's 2. crates/examples/specs/Unclean.antt
 pub a-clean : allClean serverA ≡ true
 a-clean = Unclean.serverA-clean
@@ -121,7 +121,7 @@ rows-ascend = image-ascends
 pub images-tell-tables : EqualImages
 images-tell-tables = equal-images
 
--- ---- Not empty words. crates/page_sets/specs/PageSets.antt has five page sets, byte by byte.
+-- ---- Examples. crates/page_sets/specs/PageSets.antt has five page sets, byte by byte.
 
 -- two whole pages
 pub a-whole-set : length serverA ≡ 8192

@@ -33,7 +33,7 @@ use Rattle.page_sets.specs.Evaluation.{firstEdition}
 -- ---- P7, edition 2 of the AVX rule. crates/features/specs/Finish.antt has the clears of each edition, crates/rise/specs/Second.antt the
 -- statements. All that is said above and below of `chosen` is said for any edition, the same for A and B, in one argument.
 
--- what goes without XFEM bit 2, of 1.ECX, 7.0.EBX, 7.0.ECX and 80000001h.ECX, in edition 1 and in edition 2
+-- the bits cleared where XFEM lacks bit 2, of 1.ECX, 7.0.EBX, 7.0.ECX and 80000001h.ECX, in edition 1 and in edition 2
 pub edition-1-clears : clears edition1 ≡ 0x10001000 ∷ 0x20 ∷ 0x700 ∷ 0 ∷ []
 edition-1-clears = ymm-figures
 
@@ -52,7 +52,7 @@ edition-2-clears-three-bits = Editions.second-edition
 pub rise-from-2-to-1 : SecondToFirst
 rise-from-2-to-1 = second-to-first-rises
 
--- Not empty words: a server without YMM state whose entries have the three bits, its 1.ECX and 80000001h.ECX under each edition, the rise from 2 to
+-- Examples: a server without YMM state whose entries have the three bits, its 1.ECX and 80000001h.ECX under each edition, the rise from 2 to
 -- 1, and none from 1 to 2. crates/examples/specs/WithoutYmm.antt
 pub without-ymm-accepted : answer (underEdition 2) WithoutYmm.withoutYmm .verdict ≡ Accepted
 without-ymm-accepted = WithoutYmm.second-accepted
@@ -113,7 +113,7 @@ built-images-read-back = ReadBack.built-reads-back
 pub only-images-are-read : OnlyImagesRead
 only-images-are-read = ReadBack.only-images-read
 
--- Not empty words: the server without YMM state moved, with its 1.ECX and 80000001h.ECX; a processor beyond it; 16 and 15.
+-- Examples: the server without YMM state moved, with its 1.ECX and 80000001h.ECX; a processor beyond it; 16 and 15.
 -- crates/examples/specs/WithoutYmmMoved.antt
 pub without-ymm-moved : carry Moved.running 1 2 3 0 .verdict ≡ Accepted
 without-ymm-moved = Moved.moved

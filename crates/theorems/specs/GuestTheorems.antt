@@ -102,7 +102,7 @@ pub guest-rise-of-exports : (chosen : Choices) (a b : List ℕ) (v : Processor) 
     → GuestExportsRise chosen a b v
 guest-rise-of-exports = guest-exports-rise
 
--- Not empty words. crates/examples/specs/Views.antt: server A's guest with all of its state, and the six registers that it reads
+-- Examples. crates/examples/specs/Views.antt: server A's guest with all of its state, and the six registers that it reads
 -- anew (1.EBX, 1.ECX, B.0.EDX, B.1.EDX, D.0.EBX, D.1.EBX)
 pub guest-of-a : figures (guestPages firstEdition serverA Views.viewA .table) ≡ 0x45010000 ∷ 0xBED83203 ∷ 0x12345 ∷ 0x12345 ∷ 832 ∷ 832 ∷ []
 guest-of-a = Views.a-figures

@@ -73,7 +73,7 @@ pub only-inside-masks : (chosen : Choices) (s : List ℕ) (p q r k : ℕ) (w : A
     → applyMask (masksAt (chosen .«secure_avic») i) (oneBit r k) ≡ result 0 0 0 0 → changes chosen s (flip p q r k) ≡ false
 only-inside-masks = Outside.outside-masks
 
--- ---- Not empty words. crates/examples/specs/NearestBits.antt has a page set for each answer, byte by byte.
+-- ---- Examples. crates/examples/specs/NearestBits.antt has a page set for each answer, byte by byte.
 
 pub no-edition : nearest (underEdition 3) [] ≡ NoBit UnknownEdition
 no-edition = Bits.no-edition

@@ -51,7 +51,7 @@ guest-exports-tell-origins = guest-origins
 pub pool-exports-tell-origins : PoolOrigins
 pool-exports-tell-origins = pool-origins
 
--- Not empty words: of two entries for leaf 1 the first is told; of two for D.0 that of page 1, counted from that page's beginning; B.0 is made here although
+-- Examples: of two entries for leaf 1 the first is told; of two for D.0 that of page 1, counted from that page's beginning; B.0 is made here although
 -- it has an entry. crates/examples/specs/Origins.antt
 pub leaf-1-of-the-first : originAt firstEdition Origin.repeated Place.versionAndFeatures ≡ entry 0 1
 leaf-1-of-the-first = Origin.first-leaf-1

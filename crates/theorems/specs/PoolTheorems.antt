@@ -72,7 +72,7 @@ pub each-pool-write-exactly : (chosen : Choices) (pages lengths buffer : List â„
     â†’ FrontExactly (pooled chosen pages lengths .verdict) (image (pooled chosen pages lengths .table)) buffer (writePool chosen pages lengths buffer)
 each-pool-write-exactly = pool-writes-exactly
 
--- Not empty words: a pool of two; 18 for one set and for lengths that only wrap; 15; the second server's own 1; 19 for bit 28 of 1.EDX and for D.2, and
+-- Examples: a pool of two; 18 for one set and for lengths that only wrap; 15; the second server's own 1; 19 for bit 28 of 1.EDX and for D.2, and
 -- accepted with a third server that has no D.2, so that one server more gave rows to a pool that was refused; a table within both servers'; another
 -- order. crates/examples
 pub pool-of-a-and-w : PoolRight firstEdition (serverA ++ serverW) Pools.two

@@ -109,7 +109,7 @@ pub added-entries-rise-both-ways : (chosen : Choices) (s u : List ℕ) → Added
     → RiseHypothesis chosen s u × RiseHypothesis chosen u s
 added-entries-rise-both-ways = added-rises
 
--- Not empty words. crates/examples/specs/Spare.antt: server A with three entries added on its last page, and with a page added
+-- Examples. crates/examples/specs/Spare.antt: server A with three entries added on its last page, and with a page added
 pub a-with-entries : Added serverA Spare.withEntries × (answer firstEdition Spare.withEntries ≡ answer firstEdition serverA)
 a-with-entries = (Spare.entries-added, Spare.entries-same)
 

@@ -68,7 +68,7 @@ each-topologies-write-exactly = topologies-write-exactly
 pub building-accepts-the-listed : (chosen : Choices) (s : List ℕ) → BuildsListed chosen s
 building-accepts-the-listed = builds-listed
 
--- Not empty words: whole page sets with three processors and with 128, each with its inputs, which are listed, and its B.0 and B.1; nc = 255 with
+-- Examples: whole page sets with three processors and with 128, each with its inputs, which are listed, and its B.0 and B.1; nc = 255 with
 -- s = 0 is refused by 7 and not listed. crates/examples/specs/TopologyExamples.antt
 pub three-processors-listed : (inputsFor firstEdition Topologies.threeProcessors ≡ inputs 0 2 3 1 1)
     × (answer firstEdition Topologies.threeProcessors .verdict ≡ Accepted)

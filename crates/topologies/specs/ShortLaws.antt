@@ -1,4 +1,4 @@
--- The accepted inputs of one s and one nc, written out: at most three, in the terms of the code's returns.
+-- The accepted inputs of one s and one nc, written out: at most three, one case for each return of the function.
 use mathlib.Core.Path.{_≡_, refl, ap₂, _∙_}
 use mathlib.Core.Bool.{Bool, true, false}
 use mathlib.Core.List.{List, [], _∷_, _++_}

@@ -1,4 +1,4 @@
--- `kvm_import::list_pages::put_entries` meets its contract. The invariant: what is left to store comes to the same.
+-- `kvm_import::list_pages::put_entries` meets its contract. Invariant: the bytes still to be stored are unchanged.
 use mathlib.Core.Path.{_≡_, refl, sym, ap, _∙_}
 use Prim.Native.Nat.{_-_, _≤_, _<_}
 use native.Mathlib.Omega.{arith}
