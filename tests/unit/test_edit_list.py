@@ -55,7 +55,7 @@ class Lists(unittest.TestCase):
                     1, 'crates/table/must-fail/lost.edit does not open with a comment that says what it would let pass\n', PAGE))
 
     def test_several_edits_in_a_file(self):
-        text = f'# lost: A row is lost.\n{CHANGE}\n# found: A row is\n# found.\n{CHANGE}'
+        text = f'# lost: A row is lost.\nat: specs/Lost.antt\n{CHANGE}\n# found: A row is\n# found.\nat: specs/Found.antt\n{CHANGE}'
         said = self.ask([], bodies=text)[1]
         for name, words in ('lost', 'A row is lost'), ('found', 'A row is found'):
             self.assertIn(f'| [table/{name}](../crates/table/must-fail/bodies.edit) | {words} |\n', said)

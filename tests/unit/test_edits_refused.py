@@ -70,78 +70,63 @@ class Logs(unittest.TestCase):
         self.assertEqual(edits_refused.no_fact(text)[0], 'an error outside every declaration')
 
 
-SOURCE = '''const ONE: u32 = 1;
-
-// The first.
-pub fn first(x: u32) -> u32
-    ensures { x }
-{
-    x + ONE
-}
-
-fn second(x: u32) -> u32 {
-    x - ONE
-}
-'''
+CHANGE = 'file: src/lib.rt\nold: x + ONE\nnew: x + 2\n'
+SEVERAL = f'# one_more: One more\n# is added.\nat: proofs/first/Proof.antt\n{CHANGE}\n# low: Two more.\nat: specs/Laws.antt\n{CHANGE}'
 REPOSITORY = {
-    'crates/bits/src/lib.rt': SOURCE,
-    'crates/bits/src/deep/low.rt': SOURCE.replace('first', 'third'),
-    'crates/bits/must-fail/added.edit': '# Added twice.\nfile: src/lib.rt\nold: x + ONE\nnew: x + 2\nold: x - ONE\nnew: x - 2\n',
-    'crates/bits/must-fail/bodies.edit': '# one_more: One more\n# is added.\nfile: src/lib.rt\nold: x + ONE\nnew: x + 2\n\n'
-                                         '# low: Two more.\nfile: src/deep/low.rt\nold: x + ONE\nnew: x + 3\n',
+    'crates/bits/must-fail/added.edit': f'# Added twice.\n{CHANGE}old: x - ONE\nnew: x - 2\n',
+    'crates/bits/must-fail/several.edit': SEVERAL,
 }
 
 
 def at(place, error):
-    return f'/r/target/must-fail/bits/bodies/{place}: error: {error}\n'
+    return f'/r/target/must-fail/bits/several/{place}:8:13: error: {error}\n'
 
 
 class Folder(unittest.TestCase):
-    def answer(self, **texts):
+    def answer(self, repository=REPOSITORY, **texts):
         """What is said of a small repository, by the logs of its two files of edits."""
         with tempfile.TemporaryDirectory() as folder, redirect_stdout(StringIO()) as said:
-            for name, text in {**REPOSITORY, **{f'target/must-fail/bits/{file}/.log': text for file, text in texts.items()}}.items():
+            for name, text in {**repository, **{f'target/must-fail/bits/{file}/.log': text for file, text in texts.items()}}.items():
                 path = Path(folder, name)
                 path.parent.mkdir(parents=True, exist_ok=True)
                 path.write_text(text, encoding='utf-8')
             status = edits_refused.main([], Path(folder))
         return status, said.getvalue().splitlines()
 
-    BOTH = at('proofs/first/Proof.antt:8:13', FACTS[0]) + at('proofs/deep/low/third/Proof.antt:9:1', FACTS[1]) + END
+    FIRST, SECOND = at('proofs/first/Proof.antt', FACTS[0]), at('specs/Laws.antt', FACTS[1])
 
     def test_every_edit_is_asked_for(self):
-        self.assertEqual(self.answer(added=log(FACTS[0]), bodies=self.BOTH), (0, ['3 edits refused at a fact']))
-        status, lines = self.answer(bodies=self.BOTH)
+        self.assertEqual(self.answer(added=log(FACTS[0]), several=self.FIRST + self.SECOND), (0, ['3 edits refused at a fact']))
+        status, lines = self.answer(several=self.FIRST + self.SECOND)
         self.assertEqual((status, lines[-1]), (1, '2 edits refused at a fact, 1 not'))
         self.assertIn('bits/added: not tried: ', lines[0])
 
     def test_a_wrong_edit_is_named(self):
-        status, lines = self.answer(added=log(NO_FACTS[0][1]), bodies=self.BOTH)
+        status, lines = self.answer(added=log(NO_FACTS[0][1]), several=self.FIRST + self.SECOND)
         self.assertEqual(status, 1)
         self.assertTrue(lines[0].startswith('bits/added: an unknown name: '), lines)
 
-    def test_each_of_several_is_held_to_its_own_function(self):
-        for place in 'proofs/second/Proof.antt:8:13', 'proofs/first/more/Proof.antt:1:1', 'src/lib.rt:11:1', 'src/deep/low.rt:4:1':
-            if place.startswith('src'):
-                text = self.BOTH.replace('/r/target/must-fail/bits/bodies/proofs/first/Proof.antt:8:13: error: ' + FACTS[0] + '\n',
-                                         f'note: /r/target/must-fail/bits/bodies/{place}: it is not proved that it ends\n')
-            else:
-                text = self.BOTH.replace('proofs/first/Proof.antt:8:13', place)
-            wrong = place != 'proofs/first/more/Proof.antt:1:1'
-            status, lines = self.answer(added=log(FACTS[0]), bodies=text)
-            self.assertEqual((status, lines[0]) if wrong else status, (1, 'bits/one_more: no error: ') if wrong else 0, place)
+    def test_each_of_several_is_held_to_its_own_file(self):
+        for place in 'proofs/second/Proof.antt', 'specs/Laws.antt', 'specs/proofs/first/Proof.antt.antt':
+            status, lines = self.answer(added=log(FACTS[0]), several=at(place, FACTS[0]) + self.SECOND)
+            self.assertEqual((status, lines[0]), (1, 'bits/one_more: no error: '), place)
+        for why, error in NO_FACTS:
+            status, lines = self.answer(added=log(FACTS[0]), several=self.SECOND + at('proofs/first/Proof.antt', error) + self.FIRST)
+            self.assertEqual((status, lines[0].split(': ')[:2]), (1, ['bits/one_more', why]))
 
-    def test_the_lines_of_a_function_are_its_own(self):
-        note = 'note: /r/target/must-fail/bits/bodies/src/lib.rt:7:5: it is not proved that the sum fits\n'
-        text = self.BOTH.replace(at('proofs/first/Proof.antt:8:13', FACTS[0]), note)
-        self.assertEqual(self.answer(added=log(FACTS[0]), bodies=text), (0, ['3 edits refused at a fact']))
+    def test_an_edit_that_the_prover_tells_by_a_note(self):
+        note = 'note: /r/target/must-fail/bits/several/proofs/first/Proof.antt:7:5: it is not proved that the sum fits\n'
+        self.assertEqual(self.answer(added=log(FACTS[0]), several=note + self.SECOND), (0, ['3 edits refused at a fact']))
 
     def test_sections(self):
         with tempfile.TemporaryDirectory() as folder:
-            path = Path(folder, 'bodies.edit')
-            path.write_text(REPOSITORY['crates/bits/must-fail/bodies.edit'], encoding='utf-8')
+            path = Path(folder, 'several.edit')
+            path.write_text(SEVERAL, encoding='utf-8')
             self.assertEqual(edits_refused.sections(path), [
-                ('one_more', 'One more is added.', [('src/lib.rt', 'x + ONE')]), ('low', 'Two more.', [('src/deep/low.rt', 'x + ONE')])])
+                ('one_more', 'One more is added.', 'proofs/first/Proof.antt'), ('low', 'Two more.', 'specs/Laws.antt')])
+            for wrong in SEVERAL.replace('at: specs/Laws.antt\n', ''), SEVERAL.replace('specs/Laws', 'proofs/first/Proof'), SEVERAL.replace('low: ', ''):
+                path.write_text(wrong, encoding='utf-8')
+                self.assertRaises(ValueError, edits_refused.sections, path)
 
 
 if __name__ == '__main__':
