@@ -157,7 +157,7 @@ static int indexed(unsigned k, uint32_t *sub)
 
 static struct snp_cpuid_built refuse(uint32_t number, uint32_t leaf, uint32_t s)
 {
-    struct snp_cpuid_built a = {number, leaf, 0, 0, s, 0, 0};
+    struct snp_cpuid_built a = {.number = number, .leaf = leaf, .s = s};
     return a;
 }
 
@@ -246,7 +246,7 @@ static struct snp_cpuid_built finish(struct table *t, uint32_t edition)
         x1[3] &= ~(1u << 27);
         r7[2] &= ~(1u << 22);
     }
-    struct snp_cpuid_built a = {0, 0, 0, 0, 0, 0, mask};
+    struct snp_cpuid_built a = {.max_extended_state = mask};
     for (unsigned k = 2; k < 64; k++)
         if (t->origins[6 + k] && !(mask >> k & 1)) {
             t->origins[6 + k] = 0;
@@ -303,10 +303,10 @@ struct snp_cpuid_written plain_write_image(const uint8_t *pages, size_t length, 
     struct table t = {rows, origins};
     struct snp_cpuid_built a = build(&t, pages, length, avic, edition);
     if (a.number)
-        return (struct snp_cpuid_written){a.number, a.leaf, a.has_subleaf, a.subleaf, a.s, 0};
+        return (struct snp_cpuid_written){.refusal = a.refusal};
     size_t n = 582 + 25 * (size_t)(a.row_count - 26);
     if (room < n)
-        return (struct snp_cpuid_written){9, 0, 0, 0, 0, 0};
+        return (struct snp_cpuid_written){.number = 9};
     uint8_t *o = out;
     for (unsigned k = 0; k < PLACES; k++) {
         uint32_t sub;
@@ -320,7 +320,7 @@ struct snp_cpuid_written plain_write_image(const uint8_t *pages, size_t length, 
         for (int i = 0; i < 4; i++)
             o = put(o, rows[k].r[i]);
     }
-    return (struct snp_cpuid_written){0, 0, 0, 0, 0, n};
+    return (struct snp_cpuid_written){.length = n};
 }
 
 /* ---- one row of a table */

@@ -54,13 +54,28 @@ extern "C" {
  * 8000001Ah.EAX and 8000001Fh.EAX. The combined mask of a table is D.0.EAX, its XFEM, joined by or with its XSS, which is D.1.ECX where D.1.EAX has
  * both bit 1 (XSAVEC) and bit 3 (XSAVES), else 0. */
 
-/* What building gives. A refused table has row_count 0 and max_extended_state 0. */
-struct snp_cpuid_built {
+/* A refusal: its number, 0 where there is none, and what it names. */
+struct snp_cpuid_refusal {
     uint32_t number;
     uint32_t leaf;
-    uint32_t has_subleaf; /* 1 where the refusal names a subleaf */
+    uint32_t has_subleaf; /* 1 where a subleaf is named */
     uint32_t subleaf;
     uint32_t s;
+};
+
+/* Answers whose refusals name something have these five fields too. From C11 on they are also one struct, `refusal`: answer.number and
+ * answer.refusal.number are the same word. C++ and older C have the five fields alone, at the same offsets. Where you initialise such an answer, name
+ * its fields: by position, compilers of C11 warn of missing braces. */
+#define SNP_CPUID_REFUSAL_FIELDS uint32_t number; uint32_t leaf; uint32_t has_subleaf; uint32_t subleaf; uint32_t s
+#if defined(__cplusplus) || !defined(__STDC_VERSION__) || __STDC_VERSION__ < 201112L
+#define SNP_CPUID_REFUSAL SNP_CPUID_REFUSAL_FIELDS
+#else
+#define SNP_CPUID_REFUSAL union { struct snp_cpuid_refusal refusal; struct { SNP_CPUID_REFUSAL_FIELDS; }; }
+#endif
+
+/* What building gives. A refused table has row_count 0 and max_extended_state 0. */
+struct snp_cpuid_built {
+    SNP_CPUID_REFUSAL;
     uint64_t row_count;          /* 26 to 32 of a table that was built from pages */
     uint64_t max_extended_state; /* the combined mask */
 };
@@ -84,11 +99,7 @@ struct snp_cpuid_found {
 
 /* What a write gives: number 0 and how many bytes were written, or a refusal and length 0. */
 struct snp_cpuid_written {
-    uint32_t number;
-    uint32_t leaf;
-    uint32_t has_subleaf;
-    uint32_t subleaf;
-    uint32_t s;
+    SNP_CPUID_REFUSAL;
     uint64_t length;
 };
 
@@ -99,14 +110,11 @@ struct snp_cpuid_written {
  *     names the leaf)
  *   3 B has no entry for the leaf, and subleaf where the leaf has them, that A's table has
  *   4 the register of B's entry for the leaf and subleaf lacks a bit of A's where it is a feature register, or else differs
- * Of 3 and 4 it is the first, by rising leaf, subleaf and register. What the answer does not name is 0. */
+ * Of 3 and 4 it is the first, by rising leaf, subleaf and register. What the answer does not name is 0. Answers 1 and 2 alone are
+ * refusals: under 3 and 4 the number is 0. */
 struct snp_cpuid_compared {
     uint32_t answer;
-    uint32_t number;
-    uint32_t leaf;
-    uint32_t has_subleaf; /* 1 where a subleaf is named */
-    uint32_t subleaf;
-    uint32_t s;
+    SNP_CPUID_REFUSAL;
     uint32_t register_index; /* 0 to 3: EAX, EBX, ECX, EDX */
 };
 
@@ -121,11 +129,7 @@ struct snp_cpuid_line_written {
 /* What a line says: is_line 1 with the number and its details, or all zeros where the bytes are no line. */
 struct snp_cpuid_line_read {
     uint32_t is_line;
-    uint32_t number;
-    uint32_t leaf;
-    uint32_t has_subleaf; /* 1 where a subleaf is named */
-    uint32_t subleaf;
-    uint32_t s;
+    SNP_CPUID_REFUSAL;
 };
 
 /* What carrying an image gives: is_image 0 and number 0 where the bytes are no table's image, which is no numbered refusal; else is_image 1 with
@@ -137,11 +141,7 @@ struct snp_cpuid_carried {
 
 /* What a pool of servers gives. A refused pool has row_count 0 and max_extended_state 0. */
 struct snp_cpuid_pooled {
-    uint32_t number;
-    uint32_t leaf;
-    uint32_t has_subleaf; /* 1 where the refusal names a subleaf */
-    uint32_t subleaf;
-    uint32_t s;
+    SNP_CPUID_REFUSAL;
     uint32_t server; /* the index, from 0, of the server whose own refusal it is, else 0 */
     uint64_t row_count;
     uint64_t max_extended_state; /* the combined mask */
@@ -149,11 +149,7 @@ struct snp_cpuid_pooled {
 
 /* The nearest bit that matters: number 0 with the bit's page, entry, register and bit, all from 0; else 15, 1, 2, 17 or 20, and no bit. */
 struct snp_cpuid_nearest {
-    uint32_t number;
-    uint32_t leaf;
-    uint32_t has_subleaf; /* 1 where the refusal names a subleaf */
-    uint32_t subleaf;
-    uint32_t s;
+    SNP_CPUID_REFUSAL;
     uint32_t entry;
     uint64_t page;
     uint32_t register_index; /* 0 to 3: EAX, EBX, ECX, EDX */
@@ -163,15 +159,14 @@ struct snp_cpuid_nearest {
 /* Where the first entry for a leaf stands: number 0 with found 1, its page and its position on the page, both counted from 0, or with found 0 and
  * zeros where there is none; or number 1, 2 or 17 where the pages are not lawful, and 17 names its leaf. */
 struct snp_cpuid_first {
-    uint32_t number;
-    uint32_t leaf;
-    uint32_t has_subleaf;
-    uint32_t subleaf;
-    uint32_t s;
+    SNP_CPUID_REFUSAL;
     uint32_t found;
     uint64_t page;
     uint32_t entry;
 };
+
+#undef SNP_CPUID_REFUSAL
+#undef SNP_CPUID_REFUSAL_FIELDS
 
 /* The most bytes that the image of a table built from pages can have, and its list for KVM; and the two pages that a list is read into. */
 #define SNP_CPUID_MOST_IMAGE_BYTES 732
@@ -187,6 +182,9 @@ struct snp_cpuid_first {
 
 /* The bytes of the list of topologies. */
 #define SNP_CPUID_TOPOLOGIES_BYTES 5095
+
+/* Enough room for any message of snp_cpuid_message, its final 0 included. */
+#define SNP_CPUID_MOST_MESSAGE_BYTES 160
 
 /* Enough stack for any function: docs/EMBEDDING.md has the figure of each. */
 #define SNP_CPUID_MOST_STACK_BYTES 16384
@@ -498,6 +496,71 @@ static inline const char *snp_cpuid_words(uint32_t number)
     case SNP_CPUID_NOTHING_DECIDES: return "no single bit of the results decides";
     default: return "no such number";
     }
+}
+
+/* The text of a message: %l stands for the leaf and %c for the subleaf, both in hexadecimal, %s for s and %p for 2 to the power of s. */
+static inline const char *snp_cpuid_message_text(struct snp_cpuid_refusal refusal)
+{
+    switch (refusal.number) {
+    case SNP_CPUID_PAGES_LENGTH: return "the CPUID pages must be one or more whole pages of 4,096 bytes";
+    case SNP_CPUID_PAGE_COUNT: return "a CPUID page counts more than 64 entries: the page is damaged or no CPUID page";
+    case SNP_CPUID_MISSING_REQUIRED_RESULT:
+        if (!refusal.has_subleaf) return "no entry for leaf %lh, which every guest needs";
+        if (refusal.leaf == 0xD) return "no entry for leaf Dh subleaf %ch on page 1, where the entries of Dh must stand";
+        return "no entry for leaf %lh subleaf %ch, which every guest needs";
+    case SNP_CPUID_INVLPGB_UNAVAILABLE: return "INVLPGB (80000008h.EBX bit 3) is required but unavailable";
+    case SNP_CPUID_SAVE_AREA_OVERFLOW: return "the size of an extended state (Dh: EAX + EBX of a subleaf) does not fit 32 bits";
+    case SNP_CPUID_HYPERTHREADING:
+        return "the topology leaves disagree: the processor count does not go with the hyperthreading flag, 1.EDX bit 28 (APIC core id size %s)";
+    case SNP_CPUID_PROCESSOR_COUNT:
+        if (refusal.s == 0)
+            return "the topology leaves disagree: 1.EBX bits 16-23 must be 80000008h.ECX bits 0-7 plus 1 (APIC core id size 0)";
+        if (refusal.s < 8)
+            return "the topology leaves disagree: 1.EBX bits 16-23 must be 2^%s = %p, and 80000008h.ECX bits 0-7 plus 1 no more "
+                   "(APIC core id size %s)";
+        return "the topology leaves disagree: the processor counts of 1.EBX and 80000008h.ECX disagree (APIC core id size %s)";
+    case SNP_CPUID_THREADS_PER_UNIT: return "the topology leaves disagree: 8000001Eh.EBX gives more threads per unit than there can be";
+    case SNP_CPUID_BUFFER_TOO_SHORT:
+        return "the buffer is too short: 732 bytes suffice for a built table's image, 1288 for its list for KVM, 8192 for a list's pages";
+    case SNP_CPUID_LIST_LENGTH: return "the list for KVM must have 8 bytes and 40 for each row that it counts";
+    case SNP_CPUID_LIST_ROWS: return "the list for KVM has more rows of leaf Dh, or of all others, than the 64 of a page";
+    case SNP_CPUID_LIST_WORDS: return "the list for KVM has a flag other than 0 or 1, or a word that must be zero is not";
+    case SNP_CPUID_STATE_BEYOND_TABLE: return "XCR0 lacks bit 0 (x87) or has a bit that D.0.EAX lacks, or XSS has a bit that D.1.ECX lacks";
+    case SNP_CPUID_COMPACT_SIZE_TOO_LARGE: return "the size of the compacted save area of XCR0 and XSS (D.1.EBX) does not fit 32 bits";
+    case SNP_CPUID_UNKNOWN_EDITION: return "the AVX rule has no such edition: it has editions 1 and 2";
+    case SNP_CPUID_EDITION_BACK: return "a table does not go from edition 2 of the AVX rule back to edition 1";
+    case SNP_CPUID_RESERVED_BYTES: return "an entry for leaf %lh has a reserved byte, one of its last eight, that is not zero";
+    case SNP_CPUID_POOL_SETS: return "a pool has 2 to 16 page sets, and their lengths sum to the bytes handed over";
+    case SNP_CPUID_POOL_DIFFERS:
+        return "the servers of the pool differ, in a row that all their tables have, elsewhere than in feature bits or the size of the save area";
+    case SNP_CPUID_NOTHING_DECIDES: return "no single bit of the results decides over the answer";
+    default: return snp_cpuid_words(refusal.number);
+    }
+}
+
+/* Writes a refusal with its details in English, in the words of the Rust crate, to the front of out: as much of the message as room has bytes for,
+ * and a 0 after it, which room counts too. Where room is 0, nothing is written. Gives the length of the whole message without the 0, as snprintf
+ * does. It calls nothing of a C library. subleaf is read only where has_subleaf is not 0. Number 0 and numbers not in use give what snp_cpuid_words
+ * gives. */
+static inline size_t snp_cpuid_message(struct snp_cpuid_refusal refusal, char *out, size_t room)
+{
+    size_t length = 0;
+    for (const char *text = snp_cpuid_message_text(refusal); *text; text++) {
+        char written[10] = {*text}; /* one character of the text, or the digits of a number from the last to the first */
+        size_t count = 1;
+        if (*text == '%') {
+            char mark = *++text;
+            uint32_t base = mark == 'l' || mark == 'c' ? 16 : 10;
+            uint32_t left = mark == 'l' ? refusal.leaf : mark == 'c' ? refusal.subleaf : mark == 'p' ? (uint32_t)1 << refusal.s : refusal.s;
+            for (count = 0; count == 0 || left > 0; left /= base) written[count++] = "0123456789ABCDEF"[left % base];
+        }
+        for (; count > 0; length++) {
+            count--;
+            if (length < room) out[length] = written[count];
+        }
+    }
+    if (room > 0) out[length < room ? length : room - 1] = 0;
+    return length;
 }
 
 /* snp_cpuid_table_build, into the struct. */

@@ -77,7 +77,7 @@ struct Line {
     words: fn(Details, &mut Formatter<'_>) -> fmt::Result,
 }
 
-/// The refusals.
+/// The refusals. `snp_cpuid_message` of include/snp_cpuid.h has the same words.
 const TABLE: &[Line] = &[
     Line { number: 1, name: |_| Refusal::PagesLength, words: |_, f| f.write_str("the CPUID pages must be one or more whole pages of 4,096 bytes") },
     Line {

@@ -50,10 +50,21 @@ fn rust_name(c: &str) -> String {
     tail.split('_').map(|word| word[..1].to_uppercase() + &word[1..]).collect()
 }
 
+fn c_fields(text: &str) -> Vec<(String, String)> {
+    text.split(';').filter(|f| !f.trim().is_empty()).map(c_pair).collect()
+}
+
+/// The declarations of the header, whose answers have the five fields of a refusal by a macro, once as fields and once as a struct.
 fn of_header() -> Declarations {
     let text = without_comments(&read("../include/snp_cpuid.h"));
     // what follows is C alone: structs and inline functions over the declarations before it
     let text = &text[..text.find("#ifndef SNP_CPUID_NO_INLINE").expect("the inline functions stand last")];
+    let defined = |name: &str| -> Vec<&str> { text.lines().filter_map(|l| l.strip_prefix(&format!("#define {name} "))).collect() };
+    let [fields] = defined("SNP_CPUID_REFUSAL_FIELDS")[..] else { panic!("the fields of a refusal stand once") };
+    let inside = ["SNP_CPUID_REFUSAL_FIELDS", "union { struct snp_cpuid_refusal refusal; struct { SNP_CPUID_REFUSAL_FIELDS; }; }"];
+    assert_eq!(defined("SNP_CPUID_REFUSAL"), inside, "an answer has the fields, and from C11 on the struct in the same place");
+    let declared: Vec<&str> = text.lines().filter(|l| !l.starts_with('#')).collect();
+    let text = declared.join("\n").replace("SNP_CPUID_REFUSAL;", &format!("{fields};"));
     let mut all = Declarations::new();
     for part in text.split("\nuint32_t ").skip(1) {
         let (name, parameters) = part.split_once('(').expect("a function");
@@ -66,7 +77,7 @@ fn of_header() -> Declarations {
         let (head, rest) = part.split_at(part.find(['{', '(', ';']).expect("a struct or a function"));
         if let Some(fields) = rest.strip_prefix('{') {
             let fields = &fields[..fields.find('}').expect("a struct ends")];
-            all.insert(rust_name(head), fields.split(';').filter(|f| !f.trim().is_empty()).map(c_pair).collect());
+            all.insert(rust_name(head), c_fields(fields));
         } else if let Some(parameters) = rest.strip_prefix('(') {
             let (answer, name) = head.split_once(' ').expect("an answer and a name");
             let parameters = &parameters[..parameters.find(')').expect("a function ends")];
@@ -75,6 +86,8 @@ fn of_header() -> Declarations {
             all.insert(name.trim().to_string(), pairs);
         }
     }
+    // it stands in answers alone, and in Rust as their fields
+    assert_eq!(all.remove("Refusal"), Some(c_fields(fields)), "the struct of a refusal has its fields");
     all
 }
 

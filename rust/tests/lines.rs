@@ -1,11 +1,12 @@
 //! Replays lines.txt, whose answers are those of the model (tests/lists/make_lines.py writes it and says how a line reads), through the exported
-//! functions and through `Refusal`; and holds what the header says of each number against the library.
+//! functions and through `Refusal`; and holds what the header says of each number against the library. tests/data/messages.txt has refusals by their
+//! lines, each with its message: here they are what `Refusal` displays, and tests/c/refusals.c holds them against snp_cpuid_message of the header.
 
 mod replay;
 
 use snp_cpuid::exports::{LineRead, LineWritten, snp_cpuid_read_line, snp_cpuid_write_line};
 use snp_cpuid::{Details, NoSuchLine, Refusal};
-use std::collections::BTreeMap;
+use std::collections::{BTreeMap, BTreeSet};
 
 /// The bytes of one word; - is none.
 fn bytes(word: &str) -> Vec<u8> {
@@ -97,4 +98,18 @@ fn the_header_says_what_each_number_names() {
         let words = is_line(0, None, 0).then(|| if named.is_empty() { "nothing".to_string() } else { named.join(" and ") });
         assert_eq!(told.get(&number).map(|names| names.to_string()), words, "{number}");
     }
+}
+
+#[test]
+fn every_number_has_its_messages() {
+    let text = std::fs::read_to_string("../tests/data/messages.txt").expect("the file");
+    let mut numbers = BTreeSet::new();
+    for line in text.lines() {
+        let (said, message) = line.split_once(": ").expect("a refusal's line and its message");
+        let refusal: Refusal = format!("{said}\n").parse().expect("a refusal's line");
+        assert_eq!(refusal.to_string(), message, "{said}");
+        numbers.insert(refusal.number());
+    }
+    let used = (0..300).filter(|&number| write((number, 0, None, 0), &mut [0; 22]).is_line == 1).collect();
+    assert_eq!(numbers, used);
 }

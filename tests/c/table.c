@@ -313,7 +313,7 @@ static bool same_built(struct snp_cpuid_built a, struct snp_cpuid_built b) {
 }
 
 static struct snp_cpuid_built built_of(struct snp_cpuid_pooled p) {
-    return (struct snp_cpuid_built){p.number, p.leaf, p.has_subleaf, p.subleaf, p.s, p.row_count, p.max_extended_state};
+    return (struct snp_cpuid_built){.refusal = p.refusal, .row_count = p.row_count, .max_extended_state = p.max_extended_state};
 }
 
 #define WHOLE pages.at, pages.length, avic, edition

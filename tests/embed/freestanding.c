@@ -1,5 +1,5 @@
 /* A program without a C library: its own start, memcpy and memset, and three system calls. It writes the image of the pages on standard input to
- * standard output. As C++ it is the same program; HOSTED leaves out what a C library has. */
+ * standard output, or why there is none to standard error. As C++ it is the same program; HOSTED leaves out what a C library has. */
 #include <snp_cpuid.h>
 
 /* read, write and exit are 0, 1 and 60 */
@@ -13,7 +13,12 @@ static int image_of_input(void) {
     static uint8_t pages[2 * 4096], image[SNP_CPUID_MOST_IMAGE_BYTES];
     long length = call_system(0, 0, pages, sizeof pages);
     struct snp_cpuid_written written = snp_cpuid_write_image(pages, length < 0 ? 0 : (size_t)length, false, 1, image, sizeof image);
-    if (written.number) return (int)written.number;
+    if (written.number) {
+        struct snp_cpuid_refusal refusal = {written.number, written.leaf, written.has_subleaf, written.subleaf, written.s};
+        char message[SNP_CPUID_MOST_MESSAGE_BYTES];
+        call_system(1, 2, message, (long)snp_cpuid_message(refusal, message, sizeof message));
+        return (int)written.number;
+    }
     return call_system(1, 1, image, (long)written.length) == (long)written.length ? 0 : 100;
 }
 

@@ -125,6 +125,7 @@ class Linked(unittest.TestCase):
         self.assertEqual((ran.returncode, ran.stdout), (0, IMAGE.read_bytes()))
         refused = subprocess.run([program], input=b'', capture_output=True, env=environment, check=False)
         self.assertEqual((refused.returncode, refused.stdout), (1, b''))
+        self.assertEqual(refused.stderr, b'the CPUID pages must be one or more whole pages of 4,096 bytes')
 
     def test_without_a_c_library(self):
         self.gives_the_image(self.built('gcc', '-std=c11', *BARE, '-static', self.source, *whole(self.library)))
