@@ -5,7 +5,8 @@
 # make dist       an archive of the same with the documents, tried out from an empty folder
 # make proved     print what is proved
 # make test       the whole gate: proofs from nothing, must-fail edits, programs, and the tests in tests/
-# make bench      image, build and lookups against plain C by gcc and by clang, as ratios of time, over six link orders, and of instructions
+# make bench      image, build and lookups against plain C by gcc and by clang, as ratios of time, over six link orders, and of instructions;
+#                 and build and lookups by the Rust crate against the same calls from C
 # make bench-rust against the Rust too, with overflow checks and without; OPENVMM_CVM_CPUID names its folder (differential/README.md)
 #
 # SNP_CPUID_LIB=FOLDER takes libsnp_cpuid.a from there, and the Rattle kit is not needed: nothing is proved then.

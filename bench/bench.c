@@ -5,11 +5,12 @@
  * Each round times all on the same input, in turns. A line for each work and input has tabs between its words: the work, the input, the port's median
  * in ns, and for each other one name, median and the median of the rounds' ratios: port / C, or Rust / port. bench/run links it in six orders. The
  * Rust builds its set of leaves, and writes no image. A further line has the port alone: a pool of 16 servers, 16 single builds, and the ratio.
- * With WITH_MAP the last has finds by the port and in the map of map.rs, and map / port.
+ * With WITH_CRATE there are lines with the functions of the crate in rust/ (rust.rs): the function, the input, the port's median as C calls it, the
+ * crate's, and crate / port; and the last has finds by the port and in the map of map.rs, and map / port.
  *
  *   bench PAGES MAKER WORK INPUT CALLS
  *
- * calls one function and no other of its kind, for a count of its instructions. */
+ * calls one function and no other of its kind, for a count of its instructions. The crate is the maker after the last, and has works of its own. */
 #include "plain.h"
 #include "timing.h"
 
@@ -114,19 +115,24 @@ static void guest_finds_kept(const struct maker *m, const struct input *in, int 
                                    EXITS[i % N_EXITS][1], false).eax;
 }
 
+enum { IMAGE, BUILD, FIND, GUEST_FIND, GUEST_FIND_KEPT, N_WORKS };
+
 static const struct work {
     const char *name;
     void (*run)(const struct maker *, const struct input *, int calls);
     int inputs, calls;
-} WORKS[] = {
-    {"image", images, 5, 4000},
-    {"build", builds, 5, 4000},
-    {"find", finds, 1, 64000},
-    {"guest find", guest_finds, 1, 64000},
-    {"guest find, kept", guest_finds_kept, 1, 64000},
+} WORKS[N_WORKS] = {
+    [IMAGE] = {"image", images, 5, 4000},
+    [BUILD] = {"build", builds, 5, 4000},
+    [FIND] = {"find", finds, 1, 64000},
+    [GUEST_FIND] = {"guest find", guest_finds, 1, 64000},
+    [GUEST_FIND_KEPT] = {"guest find, kept", guest_finds_kept, 1, 64000},
 };
 
-enum { N_WORKS = sizeof WORKS / sizeof *WORKS };
+static const char *input_name(const struct work *work, int i)
+{
+    return work->inputs == 1 ? "32 exits" : inputs[i].name;
+}
 
 static double ns(const struct work *work, const struct maker *m, const struct input *in, int calls)
 {
@@ -160,14 +166,15 @@ static void compare_sets(const struct maker *m, const struct input *in, bool avi
     struct snp_cpuid_table s, t;
     struct snp_cpuid_written v = snp_cpuid_write_image(in->pages, in->length, avic, edition, a, ROOM);
     struct snp_cpuid_written w = m->write_image(in->pages, in->length, avic, edition, b, ROOM);
-    if (v.number != w.number || v.leaf != w.leaf || v.subleaf != w.subleaf || v.length != w.length || memcmp(a, b, ROOM))
+    if (v.number != w.number || v.leaf != w.leaf || v.has_subleaf != w.has_subleaf || v.subleaf != w.subleaf || v.s != w.s ||
+        v.length != w.length || memcmp(a, b, ROOM))
         differ(in->name, "images");
     memset(&s, 0xa5, sizeof s);
     memset(&t, 0x5a, sizeof t);
     struct snp_cpuid_built c = snp_cpuid_table_build(in->pages, in->length, avic, edition, s.registers, s.origins);
     struct snp_cpuid_built d = m->build(in->pages, in->length, avic, edition, t.registers, t.origins);
-    if (c.number != d.number || c.leaf != d.leaf || c.subleaf != d.subleaf || c.row_count != d.row_count ||
-        c.max_extended_state != d.max_extended_state || memcmp(&s, &t, sizeof s))
+    if (c.number != d.number || c.leaf != d.leaf || c.has_subleaf != d.has_subleaf || c.subleaf != d.subleaf || c.s != d.s ||
+        c.row_count != d.row_count || c.max_extended_state != d.max_extended_state || memcmp(&s, &t, sizeof s))
         differ(in->name, "tables");
 }
 
@@ -189,16 +196,14 @@ static void compare_rows(const struct maker *m, uint32_t leaf, bool has, uint32_
     }
 }
 
-static void compare(void)
+static void compare(const struct maker *m)
 {
-    for (int k = PORT + 1; k < N_MAKERS; k++) {
-        for (int i = 0; i < 5; i++)
-            for (int choice = 0; choice < 6; choice++)
-                compare_sets(&MAKERS[k], &inputs[i], choice % 2, choice / 2 + 1);
-        for (int i = 0; i < N_EXITS; i++)
-            for (int choice = 0; choice < 12; choice++)
-                compare_rows(&MAKERS[k], EXITS[i][0], choice % 2, EXITS[i][1] + choice / 4, choice / 2 % 2);
-    }
+    for (int i = 0; i < 5; i++)
+        for (int choice = 0; choice < 6; choice++)
+            compare_sets(m, &inputs[i], choice % 2, choice / 2 + 1);
+    for (int i = 0; i < N_EXITS; i++)
+        for (int choice = 0; choice < 12; choice++)
+            compare_rows(m, EXITS[i][0], choice % 2, EXITS[i][1] + choice / 4, choice / 2 % 2);
 }
 
 /* ---- measuring */
@@ -262,14 +267,66 @@ static void measure_pool(const struct input *in)
         for (int c = 0; c < CALLS; c++)
             sink += snp_cpuid_write_pool_image(sets, SERVERS * in->length, lengths, SERVERS, false, EDITION, out, ROOM).length;
         pool[i] = (now() - t) / CALLS;
-        single[i] = SERVERS * ns(&WORKS[0], &MAKERS[PORT], in, SERVERS * CALLS);
+        single[i] = SERVERS * ns(&WORKS[IMAGE], &MAKERS[PORT], in, SERVERS * CALLS);
         ratio[i] = pool[i] / single[i];
     }
     printf("pool\t\t%.1f\t%.1f\t%.4f\n", median(pool), median(single), median(ratio));
     free(sets);
 }
 
-#ifdef WITH_MAP
+#ifdef WITH_CRATE
+/* rust.rs: the crate's answers in the types of C, to be compared, without an image; and functions that each make all calls of a round */
+DECLARE(crate)
+static const struct maker CRATE = {"crate", snp_cpuid_write_image, crate_table_build, crate_table_find, crate_table_guest_find,
+                                   crate_table_guest_find_kept};
+
+struct questions;
+const struct questions *crate_questions(const uint32_t *registers, const uint64_t *origins, uint32_t x2apic, uint64_t xcr0, uint64_t xss,
+                                        bool osxsave, uint32_t size, const uint32_t (*exits)[2]);
+typedef void calls_function(const struct questions *questions, const uint8_t *pages, size_t length, size_t calls);
+calls_function crate_builds, crate_rebuilds, crate_finds, crate_guest_finds, crate_guest_finds_kept;
+_Static_assert(N_EXITS == 32 && EDITION == 1, "as rust.rs has them");
+
+/* what each does from C is a work */
+static const struct crate_work {
+    const char *name;
+    int work;
+    calls_function *run;
+} CRATE_WORKS[] = {
+    {"Table::build", BUILD, crate_builds},
+    {"Table::rebuild", BUILD, crate_rebuilds},
+    {"Table::lookup", FIND, crate_finds},
+    {"Table::guest_row", GUEST_FIND, crate_guest_finds},
+    {"Table::guest_row_kept", GUEST_FIND_KEPT, crate_guest_finds_kept},
+};
+
+enum { N_CRATE_WORKS = sizeof CRATE_WORKS / sizeof *CRATE_WORKS };
+
+static void run_by_crate(const struct crate_work *by_crate, const struct input *in, int calls)
+{
+    static const struct questions *questions;
+    if (!questions)
+        questions = crate_questions(table.registers, table.origins, CPU.x2apic, CPU.xcr0, CPU.xss, CPU.osxsave, kept.size, EXITS);
+    by_crate->run(questions, in->pages, in->length, calls);
+}
+
+static void measure_crate(const struct crate_work *by_crate)
+{
+    const struct work *work = &WORKS[by_crate->work];
+    for (int i = 0; i < work->inputs; i++) {
+        double port[ROUNDS], crate[ROUNDS], ratio[ROUNDS];
+        run_by_crate(by_crate, &inputs[i], 1);
+        for (int k = 0; k < ROUNDS; k++) {
+            port[k] = ns(work, &MAKERS[PORT], &inputs[i], work->calls);
+            double t = now();
+            run_by_crate(by_crate, &inputs[i], work->calls);
+            crate[k] = (now() - t) / work->calls;
+            ratio[k] = crate[k] / port[k];
+        }
+        printf("%s\t%s\t%.1f\t%.1f\t%.4f\n", by_crate->name, input_name(work, i), median(port), median(crate), median(ratio));
+    }
+}
+
 /* map.rs: the table as the Rust keeps it */
 struct map;
 struct map *map_new(void);
@@ -311,7 +368,7 @@ static void measure_map(void)
         for (int i = 0; i < CALLS; i++)
             sink += map_find(map, EXITS[i % N_EXITS][0], true, EXITS[i % N_EXITS][1], false, r) + r[0];
         in_map[k] = (now() - t) / CALLS;
-        port[k] = ns(&WORKS[2], &MAKERS[PORT], &inputs[0], CALLS);
+        port[k] = ns(&WORKS[FIND], &MAKERS[PORT], &inputs[0], CALLS);
         ratio[k] = in_map[k] / port[k];
     }
     printf("map\t\t%.1f\t%.1f\t%.4f\n", median(port), median(in_map), median(ratio));
@@ -351,18 +408,24 @@ static void make_inputs(const uint8_t *pages)
 
 static void measure_all(void)
 {
-    compare();
+    for (int k = PORT + 1; k < N_MAKERS; k++)
+        compare(&MAKERS[k]);
+#ifdef WITH_CRATE
+    compare(&CRATE);
+#endif
     for (int k = 0; k < N_WORKS; k++)
         for (int i = 0; i < WORKS[k].inputs; i++) {
 #ifdef WITH_RUST
             /* the Rust makes sets of leaves alone, and takes the last input */
-            if (k > 0 || i == 4)
+            if (k > IMAGE || i == 4)
                 continue;
 #endif
-            measure(&WORKS[k], &inputs[i], WORKS[k].inputs == 1 ? "32 exits" : inputs[i].name);
+            measure(&WORKS[k], &inputs[i], input_name(&WORKS[k], i));
         }
     measure_pool(&inputs[0]);
-#ifdef WITH_MAP
+#ifdef WITH_CRATE
+    for (int k = 0; k < N_CRATE_WORKS; k++)
+        measure_crate(&CRATE_WORKS[k]);
     measure_map();
 #endif
 }
@@ -379,9 +442,17 @@ int main(int argc, char **argv)
     make_inputs(pages);
     snp_cpuid_table_build(pages, sizeof pages, false, EDITION, table.registers, table.origins);
     kept = snp_cpuid_table_state(table.registers, table.origins, CPU.xcr0, CPU.xss);
-    if (argc == 2)
+    if (argc == 2) {
         measure_all();
+        return 0;
+    }
+    int maker = atoi(argv[2]), work = atoi(argv[3]), calls = atoi(argv[5]);
+    const struct input *in = &inputs[atoi(argv[4])];
+    if (maker < N_MAKERS)
+        WORKS[work].run(&MAKERS[maker], in, calls);
+#ifdef WITH_CRATE
     else
-        WORKS[atoi(argv[3])].run(&MAKERS[atoi(argv[2])], &inputs[atoi(argv[4])], atoi(argv[5]));
+        run_by_crate(&CRATE_WORKS[work], in, calls);
+#endif
     return 0;
 }

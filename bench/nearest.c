@@ -36,7 +36,8 @@ int main(int argc, char **argv)
         if (a.number)
             printf("refusal %u\n", (unsigned)a.number);
         else
-            printf("page %llu, entry %u, register %u, bit %u\n", (unsigned long long)a.page, (unsigned)a.entry, (unsigned)a.register_index, (unsigned)a.bit);
+            printf("page %llu, entry %u, register %u, bit %u\n", (unsigned long long)a.page, (unsigned)a.entry, (unsigned)a.register_index,
+                   (unsigned)a.bit);
     }
     return 0;
 }

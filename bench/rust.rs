@@ -1,0 +1,189 @@
+//! The Rust that bench.c calls: here the crate's own functions, and in map.rs a table in the shape of OpenHCL's.
+//!
+//! A function that is timed makes all calls of a round, so that a call takes what it takes a caller in Rust; `black_box` has every answer stand whole
+//! in memory, as it does in C. Those of the library's own types are for the comparison before anything is timed.
+use snp_cpuid::{Details, Found, Options, Origin, Processor, Refusal, State, Table, exports};
+use std::hint::black_box;
+use std::slice;
+
+mod map;
+
+/// Leaf and subleaf of each exit.
+type Exits = [[u32; 2]; 32];
+type Registers = [u32; 352];
+type Origins = [u64; 88];
+
+/// What a paravisor keeps for the guest of one processor.
+struct Guest {
+    table: Table,
+    processor: Processor,
+    state: State,
+}
+
+impl Guest {
+    fn new(registers: &Registers, origins: &Origins, processor: Processor, size: u32) -> Guest {
+        Guest { table: Table::from(exports::Table { registers: *registers, origins: *origins }), processor, state: State { size } }
+    }
+}
+
+/// What is asked of the crate, in every round the same.
+pub struct Questions {
+    guest: Guest,
+    exits: Exits,
+}
+
+#[unsafe(no_mangle)]
+pub extern "C" fn crate_questions(
+    registers: &Registers,
+    origins: &Origins,
+    x2apic: u32,
+    xcr0: u64,
+    xss: u64,
+    osxsave: bool,
+    size: u32,
+    exits: &Exits,
+) -> *const Questions {
+    let guest = Guest::new(registers, origins, Processor { x2apic, xcr0, xss, osxsave }, size);
+    Box::into_raw(Box::new(Questions { guest, exits: *exits }))
+}
+
+// ---- timed
+
+/// # Safety
+/// `pages` has `length` bytes.
+#[unsafe(no_mangle)]
+pub unsafe extern "C" fn crate_builds(_: &Questions, pages: *const u8, length: usize, calls: usize) {
+    let pages = unsafe { slice::from_raw_parts(pages, length) };
+    for _ in 0..calls {
+        black_box(&Table::build(pages, Options::new()));
+    }
+}
+
+/// # Safety
+/// `pages` has `length` bytes.
+#[unsafe(no_mangle)]
+pub unsafe extern "C" fn crate_rebuilds(_: &Questions, pages: *const u8, length: usize, calls: usize) {
+    let pages = unsafe { slice::from_raw_parts(pages, length) };
+    let mut table = Table::new();
+    for _ in 0..calls {
+        black_box(&table.rebuild(pages, Options::new()));
+        black_box(&table);
+    }
+}
+
+/// One call for each exit in turn.
+#[inline(always)]
+fn each_exit<Answer>(questions: &Questions, calls: usize, call: impl Fn(&Guest, u32, Option<u32>) -> Answer) {
+    for &[leaf, subleaf] in questions.exits.iter().cycle().take(calls) {
+        black_box(&call(&questions.guest, leaf, Some(subleaf)));
+    }
+}
+
+#[unsafe(no_mangle)]
+pub extern "C" fn crate_finds(questions: &Questions, _: *const u8, _: usize, calls: usize) {
+    each_exit(questions, calls, |guest, leaf, subleaf| guest.table.lookup(leaf, subleaf, false));
+}
+
+#[unsafe(no_mangle)]
+pub extern "C" fn crate_guest_finds(questions: &Questions, _: *const u8, _: usize, calls: usize) {
+    each_exit(questions, calls, |guest, leaf, subleaf| guest.table.guest_row(guest.processor, leaf, subleaf, false));
+}
+
+#[unsafe(no_mangle)]
+pub extern "C" fn crate_guest_finds_kept(questions: &Questions, _: *const u8, _: usize, calls: usize) {
+    each_exit(questions, calls, |guest, leaf, subleaf| guest.table.guest_row_kept(guest.processor, guest.state, leaf, subleaf, false));
+}
+
+// ---- compared
+
+fn refused(refusal: Refusal) -> exports::Built {
+    let Details { leaf, subleaf, s } = refusal.details();
+    let (has_subleaf, subleaf) = (subleaf.is_some().into(), subleaf.unwrap_or(0));
+    exports::Built { number: refusal.number(), leaf, has_subleaf, subleaf, s: s.into(), ..Default::default() }
+}
+
+fn row(found: Option<Found>) -> exports::Found {
+    let Some(Found { result, origin }) = found else { return exports::Found::default() };
+    let (origin, page, entry) = match origin {
+        Origin::MadeHere => (1, 0, 0),
+        Origin::Entry { page, entry } => (2, page as u64, entry as u32),
+        _ => (3, 0, 0),
+    };
+    exports::Found { found: 1, eax: result.eax, ebx: result.ebx, ecx: result.ecx, edx: result.edx, origin, page, entry }
+}
+
+/// # Safety
+/// `pages` has `length` bytes.
+#[unsafe(no_mangle)]
+pub unsafe extern "C" fn crate_table_build(
+    pages: *const u8,
+    length: usize,
+    secure_avic: bool,
+    edition: u32,
+    registers: &mut Registers,
+    origins: &mut Origins,
+) -> exports::Built {
+    let pages = unsafe { slice::from_raw_parts(pages, length) };
+    let built = Table::build(pages, Options::new().secure_avic(secure_avic).edition(edition));
+    let answer = match &built {
+        Ok(table) => exports::Built { row_count: table.row_count() as u64, max_extended_state: table.max_extended_state(), ..Default::default() },
+        Err(refusal) => refused(*refusal),
+    };
+    let memory = *built.unwrap_or_default().memory();
+    (*registers, *origins) = (memory.registers, memory.origins);
+    answer
+}
+
+#[unsafe(no_mangle)]
+pub extern "C" fn crate_table_find(
+    registers: &Registers,
+    origins: &Origins,
+    leaf: u32,
+    has_subleaf: bool,
+    subleaf: u32,
+    enforce_subleaf: bool,
+) -> exports::Found {
+    let guest = Guest::new(registers, origins, Processor::default(), 0);
+    row(guest.table.lookup(leaf, has_subleaf.then_some(subleaf), enforce_subleaf))
+}
+
+#[unsafe(no_mangle)]
+pub extern "C" fn crate_table_guest_find(
+    registers: &Registers,
+    origins: &Origins,
+    x2apic: u32,
+    xcr0: u64,
+    xss: u64,
+    osxsave: bool,
+    leaf: u32,
+    has_subleaf: bool,
+    subleaf: u32,
+    enforce_subleaf: bool,
+) -> exports::GuestFound {
+    let guest = Guest::new(registers, origins, Processor { x2apic, xcr0, xss, osxsave }, 0);
+    match guest.table.guest_row(guest.processor, leaf, has_subleaf.then_some(subleaf), enforce_subleaf) {
+        Ok(answer) => {
+            let exports::Found { found, eax, ebx, ecx, edx, origin, page, entry } = row(answer);
+            exports::GuestFound { number: 0, found, eax, ebx, ecx, edx, origin, page, entry }
+        }
+        Err(refusal) => exports::GuestFound { number: refusal.number(), ..Default::default() },
+    }
+}
+
+#[unsafe(no_mangle)]
+pub extern "C" fn crate_table_guest_find_kept(
+    registers: &Registers,
+    origins: &Origins,
+    x2apic: u32,
+    xcr0: u64,
+    xss: u64,
+    osxsave: bool,
+    size: u32,
+    leaf: u32,
+    has_subleaf: bool,
+    subleaf: u32,
+    enforce_subleaf: bool,
+) -> exports::Found {
+    let guest = Guest::new(registers, origins, Processor { x2apic, xcr0, xss, osxsave }, size);
+    row(guest.table.guest_row_kept(guest.processor, guest.state, leaf, has_subleaf.then_some(subleaf), enforce_subleaf))
+}
