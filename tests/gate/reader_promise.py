@@ -26,11 +26,14 @@ CHANGES = (
      'pub read-by : (s : List ℕ) (i : CpuidPageIndex) → readAt s i ≡ readBy (cleanHere s i) s i\nunfolding readAt\nread-by s i = refl\n\n'
      'pub by-clean : {b : Bool} (s : List ℕ) (i : CpuidPageIndex) → b ≡ cleanHere s i → readBy b s i ≡ readAt s i\n'
      'by-clean s i e = ap (λ (c : Bool). readBy c s i) e ∙ sym (read-by s i)\n\n-- by each answer of the code\n'),
-    ('reader/proofs/take/Proof.antt', 'ReadLaws.{readable-within, clean-read, unclean-read}', 'ReadLaws.{readable-within, clean-read, unclean-read, read-by}'),
+    ('reader/proofs/take/Proof.antt', 'use mathlib.Core.Path.{sym, _∙_}',
+     'use mathlib.Core.Path.{ap}\nuse mathlib.Core.Bool.{true, false}\nuse Rattle.pages.specs.declared.ParsedCpuidEntry.{ParsedCpuidEntry}\n'
+     'use Rattle.reader.specs.declared.Read.the-variants.{Entry, Unclean}'),
+    ('reader/proofs/take/Proof.antt', 'ReadLaws.{readable-within, clean-read, unclean-read}', 'ReadLaws.{readable-within}'),
     ('reader/proofs/take/Proof.antt', 'in clean-read _ _ (k .before .entry-at .ensures) (sym (k .clean-at .ensures) ∙ c .if1 .taken)',
-     'in (_, clean-read _ _ (k .before .entry-at .ensures) (sym (k .clean-at .ensures) ∙ c .if1 .taken) ∙ read-by _ _)'),
+     'in (true, ap (λ (x : ParsedCpuidEntry). Entry x) (k .before .entry-at .ensures))'),
     ('reader/proofs/take/Proof.antt', 'in unclean-read _ _ (k .before .entry-at .ensures) (sym (k .clean-at .ensures) ∙ c .before .if1 .left)',
-     'in (_, unclean-read _ _ (k .before .entry-at .ensures) (sym (k .clean-at .ensures) ∙ c .before .if1 .left) ∙ read-by _ _)'),
+     'in (false, ap (λ (x : ParsedCpuidEntry). Unclean (x .leaf)) (k .before .entry-at .ensures))'),
     ('collect/proofs/collect_into/Proof.antt', 'ReadLaws.{read-entry}', 'ReadLaws.{read-entry, by-clean}'),
     ('collect/proofs/collect_into/Proof.antt', '.read .given .1) ∙ k .take .ensures)',
      '.read .given .1) ∙ k .take .ensures .1 ∙ by-clean {b = k .take .ensures .0} _ _ (search needs))'),
