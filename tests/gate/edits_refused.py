@@ -26,7 +26,7 @@ UNPROVED = re.compile(r'^note: (\S+):\d+:\d+: it is not proved that', re.MULTILI
 OTHER_NEED = re.compile(r'expected type `[^` ]*Need-')
 NO_FACT = (
     ('a proof that no longer fits', r'has no `Need-[^`]*` that can be named from here'),
-    ('a proof that no longer fits', r'^record `[^`]*` has no field'),
+    ('a proof that no longer fits', r'^record `[^`]*`\s+has no field'),
     ('an import', r'has no `[^`]*` that can be named from here'),
     ('an unknown name', r'is not in scope'),
     ('a replay that fails', r'no occurrence'),
@@ -52,8 +52,11 @@ def no_fact(text, own=anywhere):
     inside = DECLARATION.match(line)
     if OTHER_NEED.search(first):
         return 'a proof that no longer fits', line
+    # a long name breaks the line before 'has no field'
+    opening = ' '.join(first.split('\n')[:2])
     for why, pattern in NO_FACT:
-        if re.search(pattern, inside.group(1) if inside else line):
+        said = opening if pattern.startswith('^record') else line
+        if re.search(pattern, DECLARATION.match(said).group(1) if inside else said):
             return why, line
     return None if inside else ('an error outside every declaration', line)
 

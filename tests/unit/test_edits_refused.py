@@ -53,6 +53,10 @@ class Logs(unittest.TestCase):
         self.assertEqual(edits_refused.no_fact(misfit), ('a proof that no longer fits', line))
         self.assertIsNone(edits_refused.no_fact(log(line + below + 'Path (lts.m17 tie.Need-add-result) (clear x)`')))
 
+    def test_a_field_that_is_missing_in_the_line_below(self):
+        line = '`returns`: record `Rattle.bits.proofs.clear_unless.Lts.Start`'
+        self.assertEqual(edits_refused.no_fact(log(line + '\n  has no field `clear`')), ('a proof that no longer fits', line))
+
     def test_the_first_error_decides(self):
         for why, error in NO_FACTS:
             self.assertIsNone(edits_refused.no_fact(log(FACTS[0], error)))
