@@ -187,7 +187,7 @@ struct snp_cpuid_first {
 #define SNP_CPUID_MOST_MESSAGE_BYTES 160
 
 /* Enough stack for any function: docs/EMBEDDING.md has the figure of each. */
-#define SNP_CPUID_MOST_STACK_BYTES 16384
+#define SNP_CPUID_MOST_STACK_BYTES 8192
 
 /* Builds the table of the given pages. */
 struct snp_cpuid_built snp_cpuid_build(const uint8_t *pages, size_t length, bool secure_avic, uint32_t edition);
