@@ -102,6 +102,6 @@ pub count-next : (o : List ℕ) (i : ℕ) {n : ℕ} {b : Bool} → n ≡ countTo
 unfolding sumTo
 count-next o i {n} {b} e f = rw (add-one, e, byte-one b, f, sumTo)
 
-pub count-all : (w o : List ℕ) {n : ℕ} → n ≡ countTo o places → n ≡ heldIn w o .«row_count»
+pub count-ends : (w o : List ℕ) {n : ℕ} → n ≡ countTo o places → n ≡ heldIn w o .«row_count»
 unfolding countRows
-count-all w o e = e
+count-ends w o e = e
