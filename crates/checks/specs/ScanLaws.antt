@@ -20,11 +20,11 @@ use Rattle.table.specs.declared.Refusal.the-variants.{MissingRequiredResult}
 use Rattle.table.specs.declared.Verdict.{Verdict}
 use Rattle.table.specs.declared.Verdict.the-variants.{Accepted, Refused}
 use Rattle.table.specs.Rows.{Rows}
+use Rattle.table.specs.Numbers.{subleafOf}
 use Rattle.checks.specs.Required.{commonRequiredLeaves, snpRequiredLeaves, requiredAt, requiredCount, placeRequired}
 use Rattle.checks.specs.ExtendedState.{supplied}
 use Rattle.checks.specs.Checks.{refuseAt, missingRequired, missingComponent}
 use Rattle.checks.specs.MaskLaws.{none-from}
-use Rattle.checks.specs.Parts.{subleafWith}
 
 -- refused at the first of the numbers from k up to n that fails the test
 unfoldable pub refuseFrom : (ℕ → Bool) → (ℕ → Refusal) → ℕ → ℕ → Verdict
@@ -57,7 +57,7 @@ required-place j l = ltb-true (placeRequired j) places (every-at (λ i. ltb (pla
 
 -- the refusal of a table without a row at place i
 abbrev pub missingAt : ℕ → Refusal
-missingAt i = MissingRequiredResult (leafAt i) (subleafWith (indexedAt i) (subleafAt i))
+missingAt i = MissingRequiredResult (leafAt i) (subleafOf (indexedAt i) (subleafAt i))
 
 -- the place of a required leaf leads back to it
 required-missing : (j : ℕ) → j < requiredCount → missingAt (placeRequired j) ≡ missingRequired j

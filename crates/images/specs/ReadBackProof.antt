@@ -12,6 +12,7 @@ use Rattle.bits.specs.ChoiceLaws.{never-both}
 use Rattle.bits.specs.Lists.{tabulate, one}
 use Rattle.bits.specs.ListsLaws.{length-tabulate, getD-tabulate, tabulated, sum-ext}
 use Rattle.x86defs.specs.declared.CpuidResult.{CpuidResult}
+use Rattle.pages.specs.Layout.{registersAt}
 use Rattle.masking.specs.Kept.{places, indexedAt}
 use Rattle.masking.specs.Place
 use Rattle.table.specs.TableLaws.{table-ext}
@@ -26,7 +27,7 @@ use Rattle.rise.specs.RiseProof.{table-row, answer-table, answer-row}
 use Rattle.rise.specs.BuiltLaws.{built-mask}
 use Rattle.images.specs.ImageTableLaws.{Plain}
 use Rattle.images.specs.ImagesProof.{accepted-plain}
-use Rattle.image_read.specs.ReadImage.{registersAt, begins, rowRead, left, rowsRead, isImage, readImage}
+use Rattle.image_read.specs.ReadImage.{begins, rowRead, left, rowsRead, isImage, readImage}
 use Rattle.image_read.specs.WrittenAgain.{registers-fit, bytes-left, read-has-image}
 use Rattle.images.specs.ReadBack.{ReadsBack, ImageReadsBack, BuiltReadsBack, OnlyImagesRead}
 use Rattle.images.specs.RowsBack.{rows-back, none-left}

@@ -12,7 +12,7 @@ use Rattle.bits.specs.Choice.{pick}
 use Rattle.bits.specs.ChoiceLaws.{never-both, and-left, and-right, and-both}
 use Rattle.bits.specs.SearchLaws.{every-at}
 use Rattle.x86defs.specs.declared.CpuidResult.{CpuidResult}
-use Rattle.pages.specs.Layout.{wordAt}
+use Rattle.pages.specs.Layout.{wordAt, registersAt}
 use Rattle.masking.specs.Kept.{places, leafAt, indexedAt, subleafAt, slot, keptLeaves}
 use Rattle.table.specs.declared.CpuidResults.{CpuidResults}
 use Rattle.table.specs.Rows.{row, vacant}
@@ -23,7 +23,7 @@ use Rattle.image.specs.ImagePieces.{rowsFrom}
 use Rattle.image.specs.PiecesLaws.{rows-all, rows-none}
 use Rattle.images.specs.ImageRowLaws.{place-told, row-begins, registers-told}
 use Rattle.images.specs.ImageTableLaws.{Plain, from-row}
-use Rattle.image_read.specs.ReadImage.{registersAt, opens, begins, rowRead, afterRow, left, rowsRead}
+use Rattle.image_read.specs.ReadImage.{opens, begins, rowRead, afterRow, left, rowsRead}
 use Rattle.image_read.specs.WrittenAgain.{registers-fit, row-again}
 use Rattle.images.specs.ImageBytesLaws.{bytes-from}
 
