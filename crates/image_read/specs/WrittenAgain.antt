@@ -17,6 +17,7 @@ use Rattle.pages.specs.Layout.{wordAt, registersAt}
 use Rattle.masking.specs.Kept.{places, leafAt, indexedAt, subleafAt}
 use Rattle.table.specs.declared.CpuidResults.{CpuidResults}
 use Rattle.table.specs.Rows.{Row, Rows, row, vacant}
+use Rattle.table.specs.TableLaws.{table-row}
 use Rattle.table.specs.Table.{tableOf, rowIn}
 use Rattle.table.specs.Fits.{Fits}
 use Rattle.buffer.specs.Front.{bytesOf, resultBytes}
@@ -26,12 +27,6 @@ use Rattle.image.specs.PiecesLaws.{rows-more, rows-all, rows-none}
 use Rattle.image_read.specs.ReadImage.{opens, begins, rowRead, afterRow, left, rowsRead, isImage, readImage}
 
 -- the row of a table at a place
-table-row : (m : Rows) (x i : ℕ) → i < places → rowIn (tableOf m x) i ≡ m i
-table-row m x i l k = record {
-  present = getD-tabulate places (λ j. m j .present) i false l k;
-  result = getD-tabulate places (λ j. m j .result) i (result 0 0 0 0) l k;
-}
-
 empty : (l : List ℕ) → length l ≡ 0 → l ≡ []
 empty [] e = refl
 empty (a ∷ l) e = absurd (omega arith)

@@ -45,7 +45,7 @@ pub flag-at : (o : List ℕ) (i : ℕ) → i < places → getD (flags o) i false
 flag-at o i h = getD-tabulate places (λ j. isThere (getD o j 0)) i false h
 
 -- rows that are the same give the same
-mask-ext : {a b : Rows} → ((i : ℕ) → i < places → a i ≡ b i) → combinedMask a ≡ combinedMask b
+pub mask-ext : {a b : Rows} → ((i : ℕ) → i < places → a i ≡ b i) → combinedMask a ≡ combinedMask b
 unfolding combinedMask xfem xss
 mask-ext e =
     ap₂ (λ (d0 d1 : Row). bitOr (d0 .result .eax) (xssOf (d1 .result))) (e (Place.extendedState 0) (lit< tt)) (e (Place.extendedState 1) (lit< tt))
