@@ -3,7 +3,6 @@ use mathlib.Core.Path.{_≡_, refl}
 use mathlib.Core.Bool.{Bool}
 use mathlib.Core.List.{List}
 use Prim.Native.Nat.{ℕ, _/_}
-use Rattle.bits.specs.Choice.{pick}
 use Rattle.bits.specs.Lists.{one}
 use Rattle.x86defs.specs.declared.CpuidResult.{CpuidResult}
 use Rattle.memory.specs.declared.origins.OriginRead.{OriginRead}
@@ -13,7 +12,6 @@ use Rattle.table.specs.declared.Choices.{Choices}
 use Rattle.table.specs.declared.CpuidResults.{CpuidResults}
 use Rattle.table.specs.declared.Verdict.{Verdict}
 use Rattle.table.specs.declared.Subleaf.{Subleaf}
-use Rattle.table.specs.declared.Subleaf.the-variants.{None, Some}
 use Rattle.lookup.specs.Lookup.{lookup, lookupOrigin, withOrigin}
 use Rattle.lookup.specs.declared.Found.{Found as Location}
 use Rattle.lookup.specs.declared.Found.the-variants.{Row as Located, NoRow}
@@ -65,9 +63,6 @@ heldNumbers v t = builtGiven v (t .«row_count») (t .«max_extended_state»)
 
 abbrev pub builtNumbers : Built → SnpCpuidBuilt
 builtNumbers b = heldNumbers (b .verdict) (b .table)
-
-abbrev pub subleafOf : Bool → ℕ → Subleaf
-subleafOf named k = pick named (Some k) None
 
 -- the registers and where the row came from, or all zeros
 abbrev pub foundWith : CpuidResult → OriginRead → SnpCpuidFound

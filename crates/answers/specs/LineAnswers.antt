@@ -1,7 +1,7 @@
 -- The answers about lines as the exported functions give them: plain numbers, and whether there is such a line.
 use mathlib.Core.Bool.{Bool}
 use Prim.Native.Nat.{ℕ}
-use Rattle.table.specs.Numbers.{named, subleafOr0}
+use Rattle.table.specs.Numbers.{named, subleafOr0, subleafOf}
 use Rattle.lines.specs.declared.bytes.LineDetails.{LineDetails}
 use Rattle.lines.specs.declared.LineWritten.{LineWritten}
 use Rattle.lines.specs.declared.LineWritten.the-variants.{Line, NoSuchLine}
@@ -9,7 +9,7 @@ use Rattle.lines.specs.declared.LineRead.{LineRead}
 use Rattle.lines.specs.declared.LineRead.the-variants.{Line as Says, NoSuchLine as SaysNothing}
 use Rattle.answers.specs.declared.line.SnpCpuidLineWritten.{SnpCpuidLineWritten}
 use Rattle.answers.specs.declared.line.SnpCpuidLineRead.{SnpCpuidLineRead}
-use Rattle.answers.specs.Answers.{writtenNumbers, subleafOf}
+use Rattle.answers.specs.Answers.{writtenNumbers}
 
 -- what a caller gives: the subleaf counts only where there is one
 abbrev pub detailsGiven : ℕ → ℕ → Bool → ℕ → ℕ → LineDetails

@@ -16,7 +16,7 @@ use table::Verdict;
 use x86defs::CpuidFunction;
 ghost use mathlib.Core.Path.{_≡_};
 ghost use Rattle.memory.specs.Held.{heldIn};
-ghost use Rattle.answers.specs.Answers.{processorOf, builtGiven, heldNumbers, countsOf, readWith, stateNumbers, guestFoundWith, guestFoundNumbers, foundNumbers, foundAt, firstGiven, writtenNumbers, subleafOf};
+ghost use Rattle.answers.specs.Answers.{processorOf, builtGiven, heldNumbers, countsOf, readWith, stateNumbers, guestFoundWith, guestFoundNumbers, foundNumbers, foundAt, firstGiven, writtenNumbers};
 
 pub mod carried_image;
 pub mod comparison;
@@ -131,16 +131,6 @@ pub fn built_numbers(verdict: Verdict, row_count: usize, max_extended_state: u64
         row_count: row_count as u64,
         max_extended_state,
     }
-}
-
-// The subleaf that a caller names, or none.
-pub fn subleaf_of(has_subleaf: bool, subleaf: u32) -> Subleaf
-    ensures { λ r. ⌜ r ≡ subleafOf «has_subleaf» subleaf ⌝ }
-{
-    if has_subleaf {
-        return Subleaf::Some(subleaf);
-    }
-    Subleaf::None
 }
 
 // A row that was found as numbers, with its origin; or all zeros.

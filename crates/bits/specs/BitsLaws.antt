@@ -164,8 +164,8 @@ pub and-assoc : (a b c : ℕ) → bitAnd (bitAnd a b) c ≡ bitAnd a (bitAnd b c
 and-assoc a b c = bits-ext _ _ (λ k. omega (arith, bit-and k (bitAnd a b) c, bit-and k a b, bit-and k a (bitAnd b c), bit-and k b c))
 
 -- (a ∧ m) ∧ (b ∧ m) is (a ∧ b) ∧ m
-pub and-both : (a b m : ℕ) → bitAnd (bitAnd a b) m ≡ bitAnd (bitAnd a m) (bitAnd b m)
-and-both a b m =
+pub and-and : (a b m : ℕ) → bitAnd (bitAnd a b) m ≡ bitAnd (bitAnd a m) (bitAnd b m)
+and-and a b m =
     bits-ext _ _ (λ k. omega (arith, bit-and k (bitAnd a b) m, bit-and k a b, bit-and k (bitAnd a m) (bitAnd b m), bit-and k a m, bit-and k b m))
 
 -- (a ∧ b) ∨ m is (a ∨ m) ∧ (b ∨ m)
@@ -181,4 +181,4 @@ clear-unless-and true false m x y = and-assoc x y (2 ^ 32 - 1 - m)
 clear-unless-and false true m x y =
     let n : ℕ = 2 ^ 32 - 1 - m in
     bits-ext _ _ (λ k. omega (arith, bit-and k (bitAnd x y) n, bit-and k x y, bit-and k (bitAnd x n) y, bit-and k x n))
-clear-unless-and false false m x y = and-both x y (2 ^ 32 - 1 - m)
+clear-unless-and false false m x y = and-and x y (2 ^ 32 - 1 - m)

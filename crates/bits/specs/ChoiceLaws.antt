@@ -1,10 +1,15 @@
 -- Laws of choices and tests.
 use mathlib.Core.Path.{_≡_, refl, sym, ap, _∙_}
 use mathlib.Core.Bool.{Bool, true, false, _&&_, false≢true}
+use Prim.Native.Nat.{ℕ}
+use native.Mathlib.Omega.{arith}
 use Rattle.bits.specs.Choice.{pick}
 
 pub never-both : {b : Bool} → b ≡ true → b ≡ false → ⊥
 never-both p q = false≢true (sym q ∙ p)
+
+pub impossible {ℓ} : {A : Type ℓ} → _≡_ {A = ℕ} 0 1 → A
+impossible e = absurd (omega arith)
 
 pub pick-true {ℓ} : {A : Type ℓ} {b : Bool} (x y : A) → b ≡ true → pick b x y ≡ x
 pick-true x y e = rw e
@@ -15,6 +20,10 @@ pick-false x y e = rw e
 pub pick-same {ℓ} : {A : Type ℓ} (b : Bool) (x : A) → pick b x x ≡ x
 pick-same true x = refl
 pick-same false x = refl
+
+pub pick-twice {ℓ} : {A : Type ℓ} (b : Bool) (x y : A) → pick b (pick b x y) y ≡ pick b x y
+pick-twice true x y = refl
+pick-twice false x y = refl
 
 pub and-left : (a b : Bool) → (a && b) ≡ true → a ≡ true
 and-left true b e = refl

@@ -1,6 +1,7 @@
 pub mod Choice
 pub mod Search
 pub mod Lists
+pub mod Ascending
 pub mod Bits
 pub mod BitsLaws
 pub mod ChoiceLaws

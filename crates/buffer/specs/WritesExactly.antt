@@ -8,6 +8,7 @@ use native.Mathlib.Omega.{arith}
 use lib.Dec.{leb}
 use lib.ListN.{length, drop}
 use borrow.Author.Tests.{leb-true, leb-false}
+use Rattle.bits.specs.ChoiceLaws.{impossible}
 use Rattle.table.specs.declared.Refusal.{Refusal}
 use Rattle.table.specs.declared.Refusal.the-variants.{BufferTooShort}
 use Rattle.table.specs.declared.Verdict.{Verdict}
@@ -24,9 +25,6 @@ pub record FrontExactly (v : Verdict) (bytes buffer : List ℕ) (w : AfterWrite)
   pub beyond : (n : ℕ) → w .answer ≡ Bytes n → w .buffer ≡ bytes ++ drop n buffer
 
 -- what follows where two constructors would be equal
-impossible {ℓ} : {A : Type ℓ} → _≡_ {A = ℕ} 0 1 → A
-impossible e = absurd (omega arith)
-
 -- the verdict, which is not itself 9, and whether the bytes fit, settle what is answered and what the buffer then holds
 pub front-exactly : (v : Verdict) (bytes buffer : List ℕ) (w : AfterWrite) → w ≡ writeVerdict v bytes buffer → (v ≡ Refused BufferTooShort → ⊥)
     → FrontExactly v bytes buffer w

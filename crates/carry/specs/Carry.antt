@@ -5,7 +5,7 @@ use mathlib.Core.Bool.{Bool, _&&_, _||_}
 use Prim.Native.Nat.{ℕ}
 use lib.Dec.{eqb, leb}
 use Rattle.bits.specs.Choice.{pick}
-use Rattle.bits.specs.Bits.{has, clear, clearUnless}
+use Rattle.bits.specs.Bits.{has, clearUnless}
 use Rattle.bits.specs.Lists.{tabulate}
 use Rattle.x86defs.specs.declared.CpuidResult.{CpuidResult}
 use Rattle.x86defs.specs.Functions.{result}
@@ -17,7 +17,7 @@ use Rattle.table.specs.Edition.{knownEdition}
 use Rattle.table.specs.Rows.{Row, Rows}
 use Rattle.table.specs.Table.{emptyTable, rowIn}
 use Rattle.checks.specs.ExtendedState.{xfem}
-use Rattle.features.specs.Finish.{edition1, edition2}
+use Rattle.features.specs.Finish.{f16c, xopAndFma4}
 use Rattle.guest_state.specs.State.{stateVerdict}
 use Rattle.table.specs.declared.Refusal.{Refusal}
 use Rattle.table.specs.declared.Refusal.the-variants.{UnknownEdition, EditionBack}
@@ -30,18 +30,11 @@ use Rattle.carry.specs.declared.Carried.{Carried}
 abbrev pub ownRows : CpuidResults → Rows
 ownRows t i = record { present = rowIn t i .present; result = pick (rowIn t i .present) (rowIn t i .result) (result 0 0 0 0) }
 
--- "the same three bits": what edition 2 clears without YMM state and edition 1 does not, in 1.ECX and in 80000001h.ECX
-unfoldable pub f16c : ℕ
-f16c = clear (edition1 .versionEcx) (edition2 .versionEcx)
-
-unfoldable pub xopAndFma4 : ℕ
-xopAndFma4 = clear (edition1 .extendedVersionEcx) (edition2 .extendedVersionEcx)
-
 -- ECX without the bits of m, unless they are kept
 abbrev pub withoutBits : Bool → ℕ → CpuidResult → CpuidResult
 withoutBits keep m r = result (r .eax) (r .ebx) (clearUnless keep m (r .ecx)) (r .edx)
 
--- the registers at a place: two rows lose bits, where they are there
+-- the registers at a place: two rows lose "the same three bits", where they are there
 abbrev pub carriedAt : Bool → ℕ → Row → CpuidResult
 carriedAt keep i r =
     pick (eqb i Place.versionAndFeatures && r .present) (withoutBits keep f16c (r .result))

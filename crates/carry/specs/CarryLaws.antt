@@ -5,7 +5,7 @@ use mathlib.Core.List.{List}
 use Prim.Native.Nat.{ℕ, _+_, _^_}
 use lib.ListN.{length, set}
 use Rattle.bits.specs.Choice.{pick}
-use Rattle.bits.specs.Bits.{maskOf, clear}
+use Rattle.bits.specs.Bits.{maskOf}
 use Rattle.bits.specs.Lists.{tabulate}
 use Rattle.bits.specs.ListsLaws.{tabulated}
 use Rattle.x86defs.specs.declared.CpuidResult.{CpuidResult}
@@ -14,18 +14,18 @@ use Rattle.masking.specs.Kept.{places}
 use Rattle.table.specs.declared.CpuidResults.{CpuidResults}
 use Rattle.table.specs.Rows.{Row, Rows}
 use Rattle.table.specs.Table.{rowIn, rowsOfTable}
-use Rattle.features.specs.Finish.{edition1, edition2}
-use Rattle.carry.specs.Carry.{f16c, xopAndFma4, withoutBits, carriedAt, carriedTable}
+use Rattle.features.specs.Finish.{f16c, xopAndFma4}
+use Rattle.carry.specs.Carry.{withoutBits, carriedAt, carriedTable}
 
 -- ---- the two stores
 
 -- the code's masks: "1.ECX bit 29 and 80000001h.ECX bits 11 (XOP) and 16 (FMA4)"
 f16c-mask : f16c ≡ 2 ^ 29
-unfolding f16c clear edition1 edition2 maskOf
+unfolding f16c maskOf
 f16c-mask = refl
 
 xop-and-fma4-mask : xopAndFma4 ≡ 2 ^ 11 + 2 ^ 16
-unfolding xopAndFma4 clear edition1 edition2 maskOf
+unfolding xopAndFma4 maskOf
 xop-and-fma4-mask = refl
 
 -- a row that is there without bits; else as it is

@@ -1,5 +1,7 @@
 // A running table carried from one edition of the AVX rule to another. A table in lent memory, or its image, and one processor's state come in; it
 // becomes the one under the edition wanted, or a refusal goes out and it stays as it was.
+use features::F16C;
+use features::XOP_AND_FMA4;
 use guest_state::InUse;
 use guest_state::read_row;
 use guest_state::state_in_use;
@@ -24,11 +26,6 @@ ghost use Rattle.carry.specs.Carry.{withoutBits, carriedTable, carry};
 ghost use Rattle.carry.specs.CarriedInPlace.{CarriedIn};
 
 pub mod in_image;
-
-// What goes without YMM state in edition 2 and not in edition 1: F16C of 1.ECX, XOP and FMA4 of 80000001h.ECX.
-const F16C: u32 = 0x20000000;
-
-const XOP_AND_FMA4: u32 = 0x10800;
 
 // Accepted with the table under the edition wanted, or refused with an empty one: the answer of the definition, specs/Carry.antt.
 pub struct Carried {

@@ -2,7 +2,6 @@ pub mod Required
 pub mod ExtendedState
 pub mod TopologyInputs
 pub mod Checks
-pub mod Parts
 pub mod MaskLaws
 pub mod ScanLaws
 pub mod SaveAreaLaws

@@ -5,13 +5,12 @@ use mathlib.Core.List.{List}
 use Prim.Native.Nat.{ℕ, _+_, _-_, _/_, _^_, _≤_, _<_}
 use native.Mathlib.Omega.{arith}
 use lib.Dec.{ltb}
-use lib.ListN.{getD}
 use borrow.Author.Tests.{ltb-true}
 use Rattle.bits.specs.Choice.{pick}
 use Rattle.bits.specs.Search.{Failing, lowest, every}
 use Rattle.bits.specs.SearchLaws.{every-at, lowest-all, lowest-passes, lowest-stops}
 use Rattle.bits.specs.Lists.{tabulate}
-use Rattle.bits.specs.ListsLaws.{getD-tabulate, tabulate-at}
+use Rattle.bits.specs.ListsLaws.{tabulate-at}
 use Rattle.bits.specs.Bits.{has}
 use Rattle.masking.specs.Kept.{keptLeaves, placeOf, places, slot, leafAt, indexedAt, subleafAt}
 use Rattle.masking.specs.Place
@@ -20,11 +19,11 @@ use Rattle.table.specs.declared.Refusal.the-variants.{MissingRequiredResult}
 use Rattle.table.specs.declared.Verdict.{Verdict}
 use Rattle.table.specs.declared.Verdict.the-variants.{Accepted, Refused}
 use Rattle.table.specs.Rows.{Rows}
+use Rattle.table.specs.Numbers.{subleafOf}
 use Rattle.checks.specs.Required.{commonRequiredLeaves, snpRequiredLeaves, requiredAt, requiredCount, placeRequired}
 use Rattle.checks.specs.ExtendedState.{supplied}
 use Rattle.checks.specs.Checks.{refuseAt, missingRequired, missingComponent}
 use Rattle.checks.specs.MaskLaws.{none-from}
-use Rattle.checks.specs.Parts.{subleafWith}
 
 -- refused at the first of the numbers from k up to n that fails the test
 unfoldable pub refuseFrom : (ℕ → Bool) → (ℕ → Refusal) → ℕ → ℕ → Verdict
@@ -52,40 +51,17 @@ all-placed : every (λ j. ltb (placeRequired j) places) requiredCount ≡ true
 unfolding placeRequired requiredAt commonRequiredLeaves snpRequiredLeaves placeOf keptLeaves
 all-placed = refl
 
-required-place : (j : ℕ) → j < requiredCount → placeRequired j < places
+pub required-place : (j : ℕ) → j < requiredCount → placeRequired j < places
 required-place j l = ltb-true (placeRequired j) places (every-at (λ i. ltb (placeRequired i) places) requiredCount all-placed j l)
 
 -- the refusal of a table without a row at place i
 abbrev pub missingAt : ℕ → Refusal
-missingAt i = MissingRequiredResult (leafAt i) (subleafWith (indexedAt i) (subleafAt i))
+missingAt i = MissingRequiredResult (leafAt i) (subleafOf (indexedAt i) (subleafAt i))
 
 -- the place of a required leaf leads back to it
-required-missing : (j : ℕ) → j < requiredCount → missingAt (placeRequired j) ≡ missingRequired j
+pub required-missing : (j : ℕ) → j < requiredCount → missingAt (placeRequired j) ≡ missingRequired j
 unfolding placeRequired requiredAt commonRequiredLeaves snpRequiredLeaves placeOf slot keptLeaves tabulate
 required-missing j l = tabulate-at requiredCount (λ i. missingAt (placeRequired i)) missingRequired refl j l
-
--- the search among them, from row j on
-abbrev pub requiredFrom : List Bool → ℕ → Verdict
-requiredFrom p j = refuseFrom (λ i. getD p (placeRequired i) false) missingRequired requiredCount j
-
--- one turn, at row j of the code's places l
-module _ (p : List Bool) {l : List ℕ} (j : ℕ) (e : l ≡ requiredPlaces) (h : j < requiredCount) where
-  row : getD l j 0 ≡ placeRequired j
-  unfolding requiredPlaces
-  row = rw e (getD-tabulate requiredCount placeRequired j 0 h)
-
-  pub required-row-place : getD l j 0 < places
-  required-row-place = rw row (required-place j h)
-
-  pub required-passes : getD p (getD l j 0) false ≡ true → requiredFrom p j ≡ requiredFrom p (j + 1)
-  required-passes t = scan-passes _ missingRequired requiredCount j h (rw row at t)
-
-  pub required-stops : getD p (getD l j 0) false ≡ false → Refused (missingAt (getD l j 0)) ≡ requiredFrom p j
-  required-stops t =
-      ap (λ (i : ℕ). Refused (missingAt i)) row ∙ ap Refused (required-missing j h) ∙ sym (scan-stops _ missingRequired requiredCount j h (rw row at t))
-
-pub required-ends : (p : List Bool) (j : ℕ) → requiredCount ≤ j → Accepted ≡ requiredFrom p j
-required-ends p j h = sym (scan-ends _ missingRequired requiredCount j (λ i l u. absurd (omega arith)))
 
 -- ---- the subleaves that a mask needs
 

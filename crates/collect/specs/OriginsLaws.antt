@@ -20,6 +20,7 @@ use Rattle.reader.specs.Walk.{firstIndex, incremented, rest}
 use Rattle.reader.specs.WalkLaws.{Valid, turn, rest-first, rest-end}
 use Rattle.pages.specs.Entries.{entries, counts, counted}
 use Rattle.masking.specs.Kept.{places}
+use Rattle.memory.specs.OriginLaws.{number-pick}
 use Rattle.memory.specs.Origin.{Origin, originNumber}
 use Rattle.memory.specs.Origin.Origin.{neither, entry}
 use Rattle.collect.specs.FirstEntries.{placeOfEntry}
@@ -29,10 +30,6 @@ use Rattle.collect.specs.Stands.{standsAt, foundOrigins}
 -- where the first counted entry of place i stands, of a list of entries
 abbrev standsIn : ℕ → List Entry → ℕ
 standsIn i es = originNumber (standsAt i (keepIf counts es))
-
-number-pick : (b : Bool) (x y : Origin) → originNumber (pick b x y) ≡ pick b (originNumber x) (originNumber y)
-number-pick true x y = refl
-number-pick false x y = refl
 
 stands-cons : (i : ℕ) → i < places → (e : Entry) (es : List Entry)
     → standsIn i (e ∷ es) ≡ pick (eqb (storedAt e) i) (originNumber (entry (e .page) (e .position))) (standsIn i es)

@@ -5,24 +5,25 @@ use mathlib.Core.List.{List, [], _∷_}
 use Prim.Native.Nat.{ℕ}
 use native.Mathlib.Omega.{arith}
 use lib.ListN.{getD}
+use Rattle.pages.specs.Layout.{registersAt}
 use Rattle.image.specs.Image.{image, imageIn}
 use Rattle.table.specs.Order.{rowOrder}
 use Rattle.buffer.specs.Front.{writeFront}
 use Rattle.bits.specs.Lists.{tabulate}
 use Rattle.table.specs.Edition.{knownEdition}
-use Rattle.image_read.specs.ReadImage.{registersAt, opens, begins, rowRead, afterRow, left, isImage, readImage}
+use Rattle.image_read.specs.ReadImage.{opens, begins, rowRead, afterRow, left, isImage, readImage}
 use Rattle.guest_state.specs.State.{compacts, compactRegister, allowed, allowedVerdict, compactVerdict, stateVerdict}
 use Rattle.carry.specs.Carry.{keeps, carryVerdict, carry}
 use Rattle.carry.specs.CarryImage.{carryImage}
 use Rattle.page_sets.specs.Evaluation.{evaluated}
 
-abbrev pub notBytes : List ℕ
-notBytes = 2 ∷ 0xD ∷ 0 ∷ 0 ∷ 0 ∷ 0 ∷ 0 ∷ 0 ∷ 0 ∷ 1 ∷ 0 ∷ 0 ∷ 0 ∷ 0 ∷ 0 ∷ 0 ∷ 0 ∷ 0 ∷ 0 ∷ 0 ∷ 0 ∷ 256 ∷ 0 ∷ 0 ∷ 0 ∷ []
+abbrev pub imageWith256 : List ℕ
+imageWith256 = 2 ∷ 0xD ∷ 0 ∷ 0 ∷ 0 ∷ 0 ∷ 0 ∷ 0 ∷ 0 ∷ 1 ∷ 0 ∷ 0 ∷ 0 ∷ 0 ∷ 0 ∷ 0 ∷ 0 ∷ 0 ∷ 0 ∷ 0 ∷ 0 ∷ 256 ∷ 0 ∷ 0 ∷ 0 ∷ []
 
-carried-otherwise : getD (carryImage notBytes 1 1 1 0 .buffer) 21 0 ≡ 0
+carried-otherwise : getD (carryImage imageWith256 1 1 1 0 .buffer) 21 0 ≡ 0
 unfolding evaluated carryImage readImage isImage left afterRow begins opens rowRead registersAt carry carryVerdict knownEdition keeps stateVerdict
     allowedVerdict compactVerdict allowed compactRegister compacts image imageIn rowOrder writeFront tabulate
 carried-otherwise = refl
 
-pub not-the-same : carryImage notBytes 1 1 1 0 .buffer ≡ notBytes → ⊥
+pub not-the-same : carryImage imageWith256 1 1 1 0 .buffer ≡ imageWith256 → ⊥
 not-the-same e = let z : _≡_ {A = ℕ} 0 256 = sym carried-otherwise ∙ ap (λ (l : List ℕ). getD l 21 0) e in omega arith

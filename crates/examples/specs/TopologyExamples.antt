@@ -10,11 +10,9 @@ use Rattle.x86defs.specs.Functions.{result}
 use Rattle.topology.specs.declared.Topology.the-variants.{Processors}
 use Rattle.topology.specs.declared.TopologyError.the-variants.{ProcessorCount}
 use Rattle.topology.specs.Topology.{Inputs, inputs, topologyOf, threadsIn, processors, leastPower, shiftOf, threadLevel, coreLevel}
-use Rattle.masking.specs.Place
 use Rattle.table.specs.declared.Refusal.the-variants.{TopologyInconsistent}
 use Rattle.table.specs.declared.Verdict.the-variants.{Accepted, Refused}
 use Rattle.table.specs.Rows.{Row}
-use Rattle.table.specs.Table.{rowIn}
 use Rattle.checks.specs.TopologyInputs.{inputsOf}
 use Rattle.build.specs.Build.{answer}
 use Rattle.topologies.specs.Topologies.{accepts, acceptedInputs}
@@ -26,6 +24,7 @@ use Rattle.page_sets.specs.PageSets.{entry, page, requiredEntries, stateEntries
 use Rattle.page_sets.specs.Pass.{passedFor}
 use Rattle.page_sets.specs.PassLaws.{rows-passed, verdict-passed}
 use Rattle.page_sets.specs.Evaluation.{firstEdition, passed}
+use Rattle.examples.specs.Chain as Chain
 
 -- server A with entries of leaves 1, 80000008h and 8000001Eh before all others, in which the five inputs stand
 abbrev withInputs : Inputs → List ℕ
@@ -43,7 +42,7 @@ inputs-passed s = ap inputsOf (rows-passed false s)
 
 -- B.0 and B.1
 abbrev pub levelsOf : List ℕ → List CpuidResult
-levelsOf s = rowIn (answer firstEdition s .table) Place.threadLevel .result ∷ rowIn (answer firstEdition s .table) Place.coreLevel .result ∷ []
+levelsOf s = Chain.levelsOf (answer firstEdition s .table)
 
 -- an accepted set with s up to 7: its inputs are listed, and its B.0 and B.1 are those of its inputs
 module _ (s : List ℕ) (i : Inputs) (e : inputsFor firstEdition s ≡ i) where

@@ -94,6 +94,14 @@ edition1 = record {
   extendedVersionEcx = 0;
 }
 
+-- the three bits that edition 2 clears besides: F16C of 1.ECX; XOP and FMA4 of 80000001h.ECX
+unfoldable pub f16c : ℕ
+f16c = maskOf Version.position (Version.VersionAndFeaturesEcx.f16c ∷ [])
+
+unfoldable pub xopAndFma4 : ℕ
+xopAndFma4 =
+    maskOf ExtendedEcx.position (ExtendedEcx.ExtendedVersionAndFeaturesEcx.xop ∷ ExtendedEcx.ExtendedVersionAndFeaturesEcx.fma4 ∷ [])
+
 -- Document 02, P7: "Edition 2 also clears 1.ECX bit 29 and 80000001h.ECX bits 11 (XOP) and 16 (FMA4) when XFEM lacks bit 2"
 unfoldable pub edition2 : YmmClears
 edition2 = record {
@@ -102,8 +110,7 @@ edition2 = record {
       (Version.VersionAndFeaturesEcx.fma ∷ Version.VersionAndFeaturesEcx.avx ∷ Version.VersionAndFeaturesEcx.f16c ∷ []);
   featuresEbx = edition1 .featuresEbx;
   featuresEcx = edition1 .featuresEcx;
-  extendedVersionEcx =
-      maskOf ExtendedEcx.position (ExtendedEcx.ExtendedVersionAndFeaturesEcx.xop ∷ ExtendedEcx.ExtendedVersionAndFeaturesEcx.fma4 ∷ []);
+  extendedVersionEcx = xopAndFma4;
 }
 
 -- the clears of an edition by its number; any number but 1 and 2 is refused before a row is made (crates/build/specs/Build.antt, `editionVerdict`)

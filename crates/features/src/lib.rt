@@ -16,9 +16,9 @@ const YMM_FEATURES_EBX: u32 = 0x20;
 
 const YMM_FEATURES_ECX: u32 = 0x700;
 
-const F16C: u32 = 0x20000000;
+pub const F16C: u32 = 0x20000000;
 
-const XOP_AND_FMA4: u32 = 0x10800;
+pub const XOP_AND_FMA4: u32 = 0x10800;
 
 const EDITION_2: u32 = 2;
 

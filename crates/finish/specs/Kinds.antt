@@ -87,6 +87,12 @@ pub record Registers (R : Kind → ℕ → ℕ → Type 0) (k : Kinds) (a b : Cp
   pub ecx : R (k .ecx) (a .ecx) (b .ecx)
   pub edx : R (k .edx) (a .edx) (b .edx)
 
+-- the same by a test of each
+abbrev pub allRegisters : (Kind → ℕ → ℕ → Bool) → Kinds → CpuidResult → CpuidResult → Bool
+allRegisters test k a b =
+    test (k .eax) (a .eax) (b .eax)
+    && (test (k .ebx) (a .ebx) (b .ebx) && (test (k .ecx) (a .ecx) (b .ecx) && test (k .edx) (a .edx) (b .edx)))
+
 -- rows 0 and 80000000h come from no entry
 abbrev pub fromEntry : Rule → Bool
 fromEntry (made t) = false

@@ -1,4 +1,5 @@
 pub mod Kinds
+pub mod RegisterTestLaws
 pub mod Stores
 pub mod FinishedTable
 pub mod PlaceLaws

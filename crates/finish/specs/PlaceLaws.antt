@@ -13,7 +13,8 @@ use Rattle.bits.specs.SearchLaws.{every-at}
 use Rattle.masking.specs.Kept.{keptLeaves, placeOf, places}
 use Rattle.masking.specs.Place
 use Rattle.checks.specs.Required.{commonRequiredLeaves, snpRequiredLeaves, requiredAt, requiredCount, placeRequired}
-use Rattle.features.specs.Finish.{Rule, ruleAt}
+use Rattle.features.specs.Finish.{Needed, Rule, ruleAt}
+use Rattle.features.specs.Finish.Needed.{versionAndFeatures, extendedFeatures, threadLevelRow, coreLevelRow, extendedState0, extendedState1, extendedVersionAndFeatures, extendedAddressSpaceSizes, untouched}
 use Rattle.features.specs.Finish.Rule.{made as madeRule, needed, component}
 use Rattle.finish.specs.Kinds.{fromEntry}
 
@@ -22,6 +23,23 @@ abbrev pub always : Rule → Bool
 always (madeRule t) = false
 always (needed t) = true
 always (component k) = false
+
+-- the rule of one required row; the rules are told apart by a number
+abbrev neededNumber : Needed → ℕ
+neededNumber versionAndFeatures = 0
+neededNumber extendedFeatures = 1
+neededNumber threadLevelRow = 2
+neededNumber coreLevelRow = 3
+neededNumber extendedState0 = 4
+neededNumber extendedState1 = 5
+neededNumber extendedVersionAndFeatures = 6
+neededNumber extendedAddressSpaceSizes = 7
+neededNumber untouched = 8
+
+abbrev pub isNeeded : Needed → Rule → Bool
+isNeeded n (madeRule t) = false
+isNeeded n (needed t) = eqb (neededNumber n) (neededNumber t)
+isNeeded n (component k) = false
 
 pub always-from-entry : (t : Rule) → always t ≡ true → fromEntry t ≡ true
 always-from-entry (madeRule t) e = e

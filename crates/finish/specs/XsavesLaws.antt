@@ -14,9 +14,10 @@ use Rattle.masking.specs.Kept.{places}
 use Rattle.masking.specs.Place
 use Rattle.table.specs.Rows.{Rows}
 use Rattle.checks.specs.ExtendedStateLaws.{xsaves-ecx}
-use Rattle.features.specs.Finish.{Needed, Rule, Settings, ruleAt, enabledBy, settings, unlessNoXss}
-use Rattle.features.specs.Finish.Needed.{versionAndFeatures, extendedFeatures, threadLevelRow, coreLevelRow, extendedState0, extendedState1, extendedVersionAndFeatures, extendedAddressSpaceSizes, untouched}
-use Rattle.features.specs.Finish.Rule.{made, needed, component}
+use Rattle.features.specs.Finish.{Rule, Settings, ruleAt, enabledBy, settings, unlessNoXss}
+use Rattle.features.specs.Finish.Needed.{extendedState1}
+use Rattle.features.specs.Finish.Rule.{needed}
+use Rattle.finish.specs.PlaceLaws.{isNeeded}
 
 -- what is asked of the row
 pub record XsavesRow (c : Settings) (r : CpuidResult) : Type 0 where
@@ -33,21 +34,8 @@ xsaves-row n m z = record { ecx = xsaves-ecx m; edx = z }
 
 -- ---- the only place under that rule
 
-abbrev neededXsaves : Needed → Bool
-neededXsaves versionAndFeatures = false
-neededXsaves extendedFeatures = false
-neededXsaves threadLevelRow = false
-neededXsaves coreLevelRow = false
-neededXsaves extendedState0 = false
-neededXsaves extendedState1 = true
-neededXsaves extendedVersionAndFeatures = false
-neededXsaves extendedAddressSpaceSizes = false
-neededXsaves untouched = false
-
 abbrev isXsaves : Rule → Bool
-isXsaves (made t) = false
-isXsaves (needed t) = neededXsaves t
-isXsaves (component k) = false
+isXsaves = isNeeded extendedState1
 
 abbrev xsavesTest : ℕ → Bool
 xsavesTest i = pick (isXsaves (ruleAt i)) (eqb i (Place.extendedState 1)) true

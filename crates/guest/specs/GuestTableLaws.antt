@@ -19,10 +19,10 @@ use Rattle.table.specs.declared.Verdict.the-variants.{Accepted, Refused}
 use Rattle.table.specs.Rows.{Row, Rows}
 use Rattle.table.specs.Table.{countRows, rowIn}
 use Rattle.memory.specs.Memory.{isThere, rowOf, rowsIn, rowList}
+use Rattle.memory.specs.MemoryLaws.{Rowed}
 use Rattle.memory.specs.Held.{heldIn, whole-row, whole-ext}
 use Rattle.checks.specs.ExtendedState.{xssOf, xfem, xss, combinedMask}
 use Rattle.rows_checked.specs.Checked.{registersIn}
-use Rattle.rows_finished.specs.FinishedLaws.{Rowed}
 use Rattle.rows_finished.specs.AnsweredLaws.{cleared-whole}
 use Rattle.guest_state.specs.declared.InUse.{InUse}
 use Rattle.guest_state.specs.declared.InUse.the-variants.{Refused as NotInUse, Compacted}
@@ -35,9 +35,6 @@ use Rattle.guest.specs.Guest.{versionSeen, levelSeen, sizeSeen, guestAns
 use Rattle.guest.specs.GuestLaws.{ifThere, given}
 use Rattle.guest.specs.Seen.{seenWith, tableWith, SeenIn}
 use Rattle.guest.specs.FindLaws.{by-verdict, table-kept}
-
-pub rowed : (w : List ℕ) → length w ≡ 4 * places → Rowed w (rowList w)
-rowed w e = record { size = e; rows = refl }
 
 -- D.0 and D.1 keep the registers of which the mask is made
 keeps-eax : (b : Bool) (n : ℕ) (r : CpuidResult) → pick b (sizeSeen n r) r .eax ≡ r .eax

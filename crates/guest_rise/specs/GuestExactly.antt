@@ -3,7 +3,7 @@ use mathlib.Core.Path.{_≡_, refl, sym, ap, _∙_, subst}
 use mathlib.Core.List.{List}
 use mathlib.Core.Logic.{_↔_}
 use Prim.Native.Nat.{ℕ, _≤_, _<_}
-use native.Mathlib.Omega.{arith}
+use Rattle.bits.specs.ChoiceLaws.{impossible}
 use Rattle.table.specs.declared.Choices.{Choices}
 use Rattle.table.specs.declared.Refusal.{Refusal}
 use Rattle.table.specs.declared.Refusal.the-variants.{BufferTooShort, StateBeyondTable, CompactSizeTooLarge}
@@ -42,9 +42,6 @@ pub record GuestExactly (chosen : Choices) (s : List ℕ) (v : Processor) : Type
   pub table : guestPages chosen s v .verdict ≡ Accepted → guestPages chosen s v .table ≡ guestTable (answer chosen s .table) v
 
 -- ---- the proof
-
-impossible {ℓ} : {A : Type ℓ} → _≡_ {A = ℕ} 0 1 → A
-impossible e = absurd (omega arith)
 
 module _ (chosen : Choices) (s : List ℕ) (v : Processor) where
   abbrev g : GuestAnswer

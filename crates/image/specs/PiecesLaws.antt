@@ -7,8 +7,8 @@ use Prim.Native.Nat.{ℕ, suc, _+_, _-_, _≤_, _<_}
 use native.Mathlib.Nat.{add-zero, zero-add}
 use native.Mathlib.Numerals.{add-one, towards-suc}
 use native.Mathlib.Omega.{arith}
-use lib.ListN.{length, set, drop, length-append}
-use lib.Seq.{sets, sets-eq, length-sets, drop-cons}
+use lib.ListN.{length, set, drop}
+use lib.Seq.{sets, sets-eq, drop-cons}
 use Rattle.bits.specs.Choice.{pick}
 use Rattle.bits.specs.Lists.{tabulate}
 use Rattle.bits.specs.ListsLaws.{length-tabulate, getD-tabulate}
@@ -26,7 +26,6 @@ use Rattle.table.specs.Order.{rowOrder}
 use Rattle.table.specs.OrderLaws.{row-order}
 use Rattle.image.specs.Image.{placeBytes, imageIn, image}
 use Rattle.buffer.specs.Front.{wordBytes, registerBytes}
-use Rattle.buffer.specs.FrontLaws.{sets-append}
 use Rattle.image.specs.ImagePieces.{indexedRow, wholeRow, rowsFrom, runRow}
 
 -- ---- stores one after another
@@ -104,41 +103,3 @@ rows-all t = refl
 pub rows-none : (t : CpuidResults) → rowsFrom t places ≡ []
 unfolding rowsFrom imageIn tabulate
 rows-none t = rw row-order
-
--- ---- writing from place to place
-
--- Writing stood at index at₀ and place i₀ of a buffer, and stands at index at and place i: invariant: the bytes still to be written are unchanged.
-pub record Onward (t : CpuidResults) (out₀ : List ℕ) (at₀ i₀ : ℕ) (out : List ℕ) (at i : ℕ) : Type 0 where
-  pub kept : length out ≡ length out₀
-  pub room : at + length (rowsFrom t i) ≡ at₀ + length (rowsFrom t i₀)
-  pub bytes : sets out at (rowsFrom t i) ≡ sets out₀ at₀ (rowsFrom t i₀)
-
-module _ (t : CpuidResults) where
-  pub onward-none : (out : List ℕ) (at i : ℕ) → Onward t out at i out at i
-  onward-none out at i = record { kept = refl; room = refl; bytes = refl }
-
-  pub onward-join : {out₀ out out′ : List ℕ} {at₀ i₀ at i at′ i′ : ℕ}
-      → Onward t out₀ at₀ i₀ out at i → Onward t out at i out′ at′ i′ → Onward t out₀ at₀ i₀ out′ at′ i′
-  onward-join p q = record { kept = q .kept ∙ p .kept; room = q .room ∙ p .room; bytes = q .bytes ∙ p .bytes }
-
-  -- the row of a place is the first of what is left
-  pub row-room : (i : ℕ) (row : List ℕ) → i < places → placeBytes i (rowIn t i) ≡ row → length row ≤ length (rowsFrom t i)
-  row-room i row h e =
-      omega (arith, ap length (rows-more t i h), ap length e, length-append (placeBytes i (rowIn t i)) (rowsFrom t (i + 1)))
-
-  -- one place further
-  pub onward-row : (out out′ row : List ℕ) (at i : ℕ) → i < places → placeBytes i (rowIn t i) ≡ row → out′ ≡ sets out at row
-      → Onward t out at i out′ (at + length row) (i + 1)
-  onward-row out out′ row at i h e w =
-      let more : rowsFrom t i ≡ row ++ rowsFrom t (i + 1) = rows-more t i h ∙ ap (λ l. l ++ rowsFrom t (i + 1)) e in
-      record {
-        kept = ap length w ∙ length-sets out at row;
-        room = omega (arith, ap length more, length-append row (rowsFrom t (i + 1)));
-        bytes = rw (w, sets-append row (rowsFrom t (i + 1)) out at, ← more);
-      }
-
-  -- from the first place to past the last
-  pub onward-all : (out₀ out : List ℕ) (at i : ℕ) → i ≡ places → Onward t out₀ 0 0 out at i → out ≡ sets out₀ 0 (image t)
-  onward-all out₀ out at i e p =
-      let none : rowsFrom t i ≡ [] = ap (rowsFrom t) e ∙ rows-none t in
-      rw (none, rows-all t) at (p .bytes)

@@ -13,12 +13,12 @@ use Rattle.bits.specs.Choice.{pick}
 use Rattle.bits.specs.ChoiceLaws.{and-left}
 use Rattle.x86defs.specs.declared.CpuidFunction.{CpuidFunction}
 use Rattle.x86defs.specs.Functions.{function}
-use Rattle.pages.specs.Layout.{wordAt}
+use Rattle.pages.specs.Layout.{wordAt, registersAt}
 use Rattle.masking.specs.declared.run.Run.{Run}
 use Rattle.masking.specs.Kept.{leafAt, indexedAt, subleafAt}
 use Rattle.masking.specs.Runs.{lawfulRun}
 use Rattle.masking.specs.RunLaws.{leaf-in-run, indexed-in-run, subleaf-in-run}
-use Rattle.image_read.specs.ReadImage.{registersAt, opens, begins}
+use Rattle.image_read.specs.ReadImage.{opens, begins}
 use Rattle.image_read.specs.ImageRuns.{runBegins}
 
 -- ---- what is left, by its index

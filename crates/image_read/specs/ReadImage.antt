@@ -7,18 +7,12 @@ use Prim.Native.Nat.{ℕ, zero, suc, _+_}
 use lib.Dec.{eqb, leb}
 use lib.ListN.{length, getD, drop}
 use Rattle.bits.specs.Choice.{pick}
-use Rattle.x86defs.specs.declared.CpuidResult.{CpuidResult}
-use Rattle.x86defs.specs.Functions.{result}
-use Rattle.pages.specs.Layout.{wordAt}
+use Rattle.pages.specs.Layout.{wordAt, registersAt}
 use Rattle.masking.specs.Kept.{places, leafAt, indexedAt, subleafAt}
 use Rattle.table.specs.Rows.{Row, Rows, row, vacant}
 use Rattle.table.specs.Table.{tableOf, emptyTable}
 use Rattle.checks.specs.ExtendedState.{combinedMask}
 use Rattle.image_read.specs.declared.ReadImage.{ReadImage}
-
--- EAX, EBX, ECX, EDX
-unfoldable pub registersAt : List ℕ → ℕ → CpuidResult
-registersAt l o = result (wordAt l o) (wordAt l (o + 4)) (wordAt l (o + 8)) (wordAt l (o + 12))
 
 -- whether bytes begin with a row's kind and leaf, and are no fewer than its n
 unfoldable pub opens : List ℕ → ℕ → ℕ → ℕ → Bool

@@ -15,6 +15,7 @@ use Rattle.bits.specs.Lists.{tabulate}
 use Rattle.bits.specs.ListsLaws.{tabulate-ext}
 use Rattle.x86defs.specs.declared.CpuidResult.{CpuidResult}
 use Rattle.x86defs.specs.Functions.{result}
+use Rattle.pages.specs.Layout.{registersAt}
 use Rattle.masking.specs.Kept.{places, indexedAt}
 use Rattle.table.specs.Rows.{Row, row, vacant}
 use Rattle.table.specs.Table.{rowIn}
@@ -23,7 +24,7 @@ use Rattle.memory.specs.Origin.Origin.{notKnown}
 use Rattle.memory.specs.Memory.{putRow, layout, rowList}
 use Rattle.memory.specs.MemoryLaws.{put-length, put-is-set, known-by-rows, layout-ext}
 use Rattle.memory.specs.Held.{whole-row}
-use Rattle.image_read.specs.ReadImage.{registersAt, begins, rowRead, afterRow, left, rowsRead, isImage, readImage}
+use Rattle.image_read.specs.ReadImage.{begins, rowRead, afterRow, left, rowsRead, isImage, readImage}
 use Rattle.image_read.specs.BeginsLaws.{registers-end, RowThere}
 use Rattle.image_read.specs.ReadIn.{originOfRead, FoundIn, ReadIn}
 

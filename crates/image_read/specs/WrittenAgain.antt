@@ -13,25 +13,20 @@ use Rattle.bits.specs.Choice.{pick}
 use Rattle.bits.specs.ChoiceLaws.{and-left, and-right}
 use Rattle.bits.specs.ListsLaws.{getD-tabulate}
 use Rattle.x86defs.specs.Functions.{result}
-use Rattle.pages.specs.Layout.{wordAt}
+use Rattle.pages.specs.Layout.{wordAt, registersAt}
 use Rattle.masking.specs.Kept.{places, leafAt, indexedAt, subleafAt}
 use Rattle.table.specs.declared.CpuidResults.{CpuidResults}
 use Rattle.table.specs.Rows.{Row, Rows, row, vacant}
+use Rattle.table.specs.TableLaws.{table-row}
 use Rattle.table.specs.Table.{tableOf, rowIn}
 use Rattle.table.specs.Fits.{Fits}
 use Rattle.buffer.specs.Front.{bytesOf, resultBytes}
 use Rattle.image.specs.Image.{rowBytes, placeBytes, image}
 use Rattle.image.specs.ImagePieces.{rowsFrom}
 use Rattle.image.specs.PiecesLaws.{rows-more, rows-all, rows-none}
-use Rattle.image_read.specs.ReadImage.{registersAt, opens, begins, rowRead, afterRow, left, rowsRead, isImage, readImage}
+use Rattle.image_read.specs.ReadImage.{opens, begins, rowRead, afterRow, left, rowsRead, isImage, readImage}
 
 -- the row of a table at a place
-table-row : (m : Rows) (x i : ℕ) → i < places → rowIn (tableOf m x) i ≡ m i
-table-row m x i l k = record {
-  present = getD-tabulate places (λ j. m j .present) i false l k;
-  result = getD-tabulate places (λ j. m j .result) i (result 0 0 0 0) l k;
-}
-
 empty : (l : List ℕ) → length l ≡ 0 → l ≡ []
 empty [] e = refl
 empty (a ∷ l) e = absurd (omega arith)

@@ -5,16 +5,16 @@ use memory::REGISTERS;
 use memory::clear;
 use memory::origins::NOT_KNOWN;
 use memory::put_row;
+use pages::registers_at;
 use pages::word_at;
 use table::CpuidResults;
 use x86defs::CpuidFunction;
-use x86defs::CpuidResult;
 ghost use mathlib.Core.Path.{_≡_};
 ghost use Prim.Native.Nat.{_+_, _^_, _≤_, _<_};
 ghost use lib.ListN.{length, drop};
 ghost use Rattle.bits.specs.Choice.{pick};
 ghost use Rattle.memory.specs.Held.{heldIn};
-ghost use Rattle.image_read.specs.ReadImage.{registersAt, opens, readImage};
+ghost use Rattle.image_read.specs.ReadImage.{opens, readImage};
 ghost use Rattle.image_read.specs.ReadIn.{FoundIn, ReadIn};
 ghost use Rattle.image_read.specs.ImageRuns.{runBegins};
 
@@ -106,17 +106,4 @@ fn row_opens(bytes: &[u8], at: usize, n: usize, kind: u8, leaf: CpuidFunction) -
         return word_at(bytes, at + 1) == leaf.0;
     }
     false
-}
-
-// EAX, EBX, ECX, EDX.
-fn registers_at(bytes: &[u8], o: usize) -> CpuidResult
-    requires { ⌜ o + 16 ≤ length (now bytes) ⌝ }
-    ensures { λ r. ⌜ r ≡ registersAt (now (bytes .entry)) o ⌝ }
-{
-    CpuidResult {
-        eax: word_at(bytes, o),
-        ebx: word_at(bytes, o + 4),
-        ecx: word_at(bytes, o + 8),
-        edx: word_at(bytes, o + 12),
-    }
 }

@@ -28,11 +28,11 @@ use Rattle.table.specs.declared.Verdict.the-variants.{Accepted, Refused}
 use Rattle.table.specs.Rows.{Row}
 use Rattle.table.specs.Table.{tableOf, emptyTable, rowIn}
 use Rattle.checks.specs.ExtendedState.{xfem, combinedMask}
-use Rattle.features.specs.Finish.{edition1, edition2}
+use Rattle.features.specs.Finish.{f16c, xopAndFma4}
 use Rattle.image.specs.Image.{image}
 use Rattle.image_read.specs.ReadImage.{rowsRead, isImage, readImage}
 use Rattle.image_read.specs.WrittenAgain.{read-has-image}
-use Rattle.carry.specs.Carry.{f16c, xopAndFma4, carriedAt, carriedTable, keeps, carry}
+use Rattle.carry.specs.Carry.{carriedAt, carriedTable, keeps, carry}
 use Rattle.carry.specs.CarryImage.{carryImage}
 use Rattle.images.specs.CarriedLaws.{given, carry-keeps, carries-in-place}
 
@@ -99,11 +99,11 @@ module _ (m : ℕ) (named : ℕ → Bool) where
       go k y false e f = omega (arith, bit-lt k x)
 
 version-gone : (keep : Bool) (x : ℕ) → BitsGone keep ofVersion x (clearUnless keep f16c x)
-unfolding f16c clear edition1 edition2 maskOf bit
+unfolding f16c maskOf bit
 version-gone = bits-gone f16c ofVersion refl
 
 extended-gone : (keep : Bool) (x : ℕ) → BitsGone keep ofExtended x (clearUnless keep xopAndFma4 x)
-unfolding xopAndFma4 clear edition1 edition2 maskOf bit
+unfolding xopAndFma4 maskOf bit
 extended-gone = bits-gone xopAndFma4 ofExtended refl
 
 -- ---- rows

@@ -7,6 +7,7 @@ use Prim.Native.Nat.{ℕ}
 use native.Mathlib.Omega.{arith}
 use lib.Dec.{eqb}
 use borrow.Author.Tests.{eqb-true, eqb-false}
+use Rattle.bits.specs.ChoiceLaws.{impossible}
 use Rattle.table.specs.declared.CpuidResults.{CpuidResults}
 use Rattle.table.specs.declared.Refusal.the-variants.{StateBeyondTable, CompactSizeTooLarge}
 use Rattle.table.specs.declared.Verdict.{Verdict}
@@ -40,9 +41,6 @@ pub record CarryExactly (t : CpuidResults) (from to xcr0 xss : ℕ) : Type 0 whe
   pub empty : (r : Refusal) → carry t from to xcr0 xss .verdict ≡ Refused r → carry t from to xcr0 xss .table ≡ emptyTable
 
 -- ---- the proof
-
-impossible {ℓ} : {A : Type ℓ} → _≡_ {A = ℕ} 0 1 → A
-impossible e = absurd (omega arith)
 
 -- an edition by its number
 data Which (n : ℕ) (b : Bool) : Type 0 where

@@ -62,7 +62,7 @@ indexedBytes i r = 2 ∷ bytesOf (leafAt i .0) ++ bytesOf (subleafAt i) ++ resul
 abbrev wholeBytes : ℕ → CpuidResult → List ℕ
 wholeBytes i r = 1 ∷ bytesOf (leafAt i .0) ++ resultBytes r
 
-abbrev spelt : ℕ → ℕ
+abbrev pub spelt : ℕ → ℕ
 spelt n = n % 256 + 256 * (n / 256 % 256) + 65536 * (n / 65536 % 256) + 16777216 * (n / 16777216 % 256)
 
 module _ (i : ℕ) (r : CpuidResult) (xs : List ℕ) where

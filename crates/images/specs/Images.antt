@@ -6,6 +6,7 @@ use mathlib.Core.List.{List, [], _∷_, _++_}
 use mathlib.Core.Logic.{_↔_}
 use Prim.Native.Nat.{ℕ, _<_}
 use Rattle.bits.specs.Lists.{keepIf}
+use Rattle.bits.specs.Ascending.{Ascending}
 use Rattle.masking.specs.Kept.{places}
 use Rattle.table.specs.declared.Choices.{Choices}
 use Rattle.table.specs.declared.CpuidResults.{CpuidResults}
@@ -14,15 +15,6 @@ use Rattle.table.specs.Table.{rowIn}
 use Rattle.table.specs.Order.{Precedes, rowOrder}
 use Rattle.build.specs.Build.{answer}
 use Rattle.image.specs.Image.{rowBytes, image}
-
--- place i precedes every one of these, by leaf and subleaf; and each of these precedes those after it
-abbrev pub Below : ℕ → List ℕ → Type 0
-Below i [] = Unit
-Below i (j ∷ js) = Precedes i j × Below i js
-
-abbrev pub Ascending : List ℕ → Type 0
-Ascending [] = Unit
-Ascending (i ∷ is) = Below i is × Ascending is
 
 -- the places whose rows a table has, in the order of its image, and the bytes of rows one after another
 abbrev pub rowsInOrder : CpuidResults → List ℕ
@@ -35,7 +27,7 @@ bytesOfRows t (i ∷ is) = rowBytes i (rowIn t i .result) ++ bytesOfRows t is
 -- the image of a table is the bytes of its rows, and these ascend
 pub record ImageAscends (t : CpuidResults) : Type 0 where
   pub bytes : image t ≡ bytesOfRows t (rowsInOrder t)
-  pub ascend : Ascending (rowsInOrder t)
+  pub ascend : Ascending Precedes (rowsInOrder t)
 
 -- two tables have the same rows and the same combined mask
 pub record SameTable (t u : CpuidResults) : Type 0 where

@@ -2,15 +2,14 @@
 use mathlib.Core.Path.{_≡_, refl, sym, ap, _∙_}
 use mathlib.Core.Bool.{Bool, true, false, _&&_}
 use mathlib.Core.List.{List}
-use Prim.Native.Nat.{ℕ, _-_, _^_, _<_}
+use Prim.Native.Nat.{ℕ, _<_}
 use native.Mathlib.Omega.{arith}
-use lib.Bits.{and-zero-l}
 use lib.Dec.{eqb, lit<}
 use lib.ListN.{length}
 use lib.Seq.{ext-getD}
 use borrow.Author.Tests.{ne-eqb}
 use Rattle.bits.specs.Choice.{pick}
-use Rattle.bits.specs.Bits.{has, maskOf, clear, clearUnless}
+use Rattle.bits.specs.Bits.{has}
 use Rattle.bits.specs.ListsLaws.{length-tabulate, getD-tabulate}
 use Rattle.x86defs.specs.declared.CpuidResult.{CpuidResult}
 use Rattle.x86defs.specs.Functions.{result}
@@ -23,7 +22,7 @@ use Rattle.table.specs.Rows.{Row, vacant}
 use Rattle.table.specs.Edition.{knownEdition}
 use Rattle.table.specs.Table.{rowIn, rowsOfTable}
 use Rattle.checks.specs.ExtendedState.{xfem}
-use Rattle.features.specs.Finish.{edition1, edition2}
+use Rattle.features.specs.Finish.{f16c, xopAndFma4}
 use Rattle.build.specs.Build.{answer}
 use Rattle.guest_state.specs.State.{stateVerdict}
 use Rattle.guest_state.specs.StateLaws.{save-of-state, compact-of-state, verdict-of-state}
@@ -35,9 +34,10 @@ use Rattle.rise.specs.RiseProof.{answer-table}
 use Rattle.images.specs.ImageTableLaws.{Plain}
 use Rattle.images.specs.ImagesProof.{accepted-plain}
 use Rattle.rise.specs.Second as Second
+use Rattle.rise.specs.SecondLaws.{zero-clears}
 use Rattle.rise.specs.SecondProof.{second-edition}
 use Rattle.table.specs.declared.Verdict.{Verdict}
-use Rattle.carry.specs.Carry.{ownRows, f16c, xopAndFma4, withoutBits, carriedAt, carriedTable, keeps, carryVerdict, tableGiven, carry}
+use Rattle.carry.specs.Carry.{ownRows, withoutBits, carriedAt, carriedTable, keeps, carryVerdict, tableGiven, carry}
 use Rattle.carry.specs.declared.in_image.CarriedImage.the-variants.{Image}
 use Rattle.carry.specs.CarryImage.{carryImage}
 use Rattle.images.specs.CarriedLaws.{carries-in-place}
@@ -64,11 +64,6 @@ module _ (t : CpuidResults) (p : Plain t) where
 
 -- ---- the three bits are P7's
 
-zero-clears : (keep : Bool) (k : ℕ) → clearUnless keep k 0 ≡ 0
-unfolding clearUnless clear
-zero-clears true k = refl
-zero-clears false k = and-zero-l (2 ^ 32 - 1 - k)
-
 twice : (b : Bool) (x y z : CpuidResult) → pick b x (pick b y z) ≡ pick b x z
 twice true x y z = refl
 twice false x y z = refl
@@ -90,14 +85,13 @@ module _ (t : CpuidResults) (p : Plain t) (keep : Bool) where
   -- the same bits at the same places
   second-at : (i : ℕ) (r : Row) → (r .present ≡ false → r ≡ vacant)
       → record { present = r .present; result = carriedAt keep i r } ≡ Second.secondRow keep i r
-  unfolding f16c xopAndFma4 clear edition1 edition2 maskOf Second.f16c Second.xopAndFma4
   second-at i r absent = go (eqb i Place.versionAndFeatures) (eqb i Place.extendedVersionAndFeatures)
     where
       second : Bool → CpuidResult
       second b = pick (b && r .present) (withoutBits keep xopAndFma4 (r .result)) (r .result)
 
       go : (a b : Bool) → record { present = r .present; result = pick (a && r .present) (withoutBits keep f16c (r .result)) (second b) }
-          ≡ pick a (Second.clearEcx keep Second.f16c r) (pick b (Second.clearEcx keep Second.xopAndFma4 r) r)
+          ≡ pick a (Second.clearEcx keep f16c r) (pick b (Second.clearEcx keep xopAndFma4 r) r)
       go true true = ap (λ (q : CpuidResult). record { present = r .present; result = q }) (twice (r .present) _ _ _) ∙ cleared-row keep f16c r absent
       go true false = cleared-row keep f16c r absent
       go false true = cleared-row keep xopAndFma4 r absent

@@ -12,31 +12,28 @@ use Rattle.bits.specs.ChoiceLaws.{never-both}
 use Rattle.bits.specs.Lists.{tabulate, one}
 use Rattle.bits.specs.ListsLaws.{length-tabulate, getD-tabulate, tabulated, sum-ext}
 use Rattle.x86defs.specs.declared.CpuidResult.{CpuidResult}
+use Rattle.pages.specs.Layout.{registersAt}
 use Rattle.masking.specs.Kept.{places, indexedAt}
 use Rattle.masking.specs.Place
-use Rattle.table.specs.TableLaws.{table-ext}
+use Rattle.table.specs.TableLaws.{table-ext, table-row}
 use Rattle.table.specs.declared.CpuidResults.{CpuidResults}
 use Rattle.table.specs.Rows.{Row, Rows, row, vacant}
 use Rattle.table.specs.Table.{countRows, tableOf, rowIn, rowsOfTable}
 use Rattle.table.specs.Fits.{Fits}
+use Rattle.memory.specs.Held.{mask-ext}
 use Rattle.checks.specs.ExtendedState.{xssOf, xfem, xss, combinedMask}
 use Rattle.build.specs.Build.{answer}
 use Rattle.image.specs.Image.{image}
-use Rattle.rise.specs.RiseProof.{table-row, answer-table, answer-row}
+use Rattle.rise.specs.RiseProof.{answer-table, answer-row}
 use Rattle.rise.specs.BuiltLaws.{built-mask}
 use Rattle.images.specs.ImageTableLaws.{Plain}
 use Rattle.images.specs.ImagesProof.{accepted-plain}
-use Rattle.image_read.specs.ReadImage.{registersAt, begins, rowRead, left, rowsRead, isImage, readImage}
+use Rattle.image_read.specs.ReadImage.{begins, rowRead, left, rowsRead, isImage, readImage}
 use Rattle.image_read.specs.WrittenAgain.{registers-fit, bytes-left, read-has-image}
 use Rattle.images.specs.ReadBack.{ReadsBack, ImageReadsBack, BuiltReadsBack, OnlyImagesRead}
 use Rattle.images.specs.RowsBack.{rows-back, none-left}
 
 -- ---- tables with the same rows
-
-mask-ext : {a b : Rows} → ((i : ℕ) → i < places → a i ≡ b i) → combinedMask a ≡ combinedMask b
-unfolding combinedMask xfem xss
-mask-ext e =
-    ap₂ (λ (d0 d1 : Row). bitOr (d0 .result .eax) (xssOf (d1 .result))) (e (Place.extendedState 0) (lit< tt)) (e (Place.extendedState 1) (lit< tt))
 
 -- ---- the image of a table
 

@@ -12,7 +12,7 @@ use Rattle.bits.specs.Choice.{pick}
 use Rattle.bits.specs.ChoiceLaws.{never-both, and-left, and-right, and-both}
 use Rattle.bits.specs.SearchLaws.{every-at}
 use Rattle.x86defs.specs.declared.CpuidResult.{CpuidResult}
-use Rattle.pages.specs.Layout.{wordAt}
+use Rattle.pages.specs.Layout.{wordAt, registersAt}
 use Rattle.masking.specs.Kept.{places, leafAt, indexedAt, subleafAt, slot, keptLeaves}
 use Rattle.table.specs.declared.CpuidResults.{CpuidResults}
 use Rattle.table.specs.Rows.{row, vacant}
@@ -21,16 +21,13 @@ use Rattle.buffer.specs.Front.{bytesOf, resultBytes}
 use Rattle.image.specs.Image.{rowBytes, image}
 use Rattle.image.specs.ImagePieces.{rowsFrom}
 use Rattle.image.specs.PiecesLaws.{rows-all, rows-none}
-use Rattle.images.specs.ImageRowLaws.{place-told, row-begins, registers-told}
+use Rattle.images.specs.ImageRowLaws.{place-told, row-begins, registers-told, spelt}
 use Rattle.images.specs.ImageTableLaws.{Plain, from-row}
-use Rattle.image_read.specs.ReadImage.{registersAt, opens, begins, rowRead, afterRow, left, rowsRead}
+use Rattle.image_read.specs.ReadImage.{opens, begins, rowRead, afterRow, left, rowsRead}
 use Rattle.image_read.specs.WrittenAgain.{registers-fit, row-again}
 use Rattle.images.specs.ImageBytesLaws.{bytes-from}
 
 -- ---- a row begins with what its place says
-
-abbrev spelt : ℕ → ℕ
-spelt n = n % 256 + 256 * (n / 256 % 256) + 65536 * (n / 65536 % 256) + 16777216 * (n / 16777216 % 256)
 
 -- the four bytes of each place's leaf, and of its subleaf, give it back
 spelt-back : (i : ℕ) → i < places → (eqb (spelt (leafAt i .0)) (leafAt i .0) ≡ true) × (eqb (spelt (subleafAt i)) (subleafAt i) ≡ true)

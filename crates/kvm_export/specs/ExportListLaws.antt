@@ -21,7 +21,7 @@ use Rattle.image.specs.LengthLaws.{among-none, among-more}
 use Rattle.kvm_list.specs.Words.{bytesOfWords}
 use Rattle.kvm_list.specs.WordsLaws.{length-bytes, bytes-append}
 use Rattle.kvm_list.specs.Format.{rowWords, allWords, listBytes}
-use Rattle.kvm_list.specs.FormatLaws.{length-all}
+use Rattle.kvm_list.specs.FormatLaws.{length-all, list-length}
 use Rattle.kvm_list.specs.StoresLaws.{sets-join, word-length}
 use Rattle.kvm_export.specs.Export.{listRow, rowsFrom, listRows, listOf}
 use Rattle.kvm_export.specs.ExportPieces.{runRow, rowsLeft}
@@ -77,14 +77,12 @@ pub count-rows : (t : CpuidResults) → rowsAmong (t .present) 0 places ≡ leng
 unfolding listRows
 count-rows t = omega (arith, count-from t 0 places, among-none (t .present) 0)
 
-pub list-length : (t : CpuidResults) → length (listOf t) ≡ 8 + 40 * length (listRows t)
-unfolding listOf listBytes
-list-length t =
-    length-bytes (length (listRows t) ∷ 0 ∷ allWords (listRows t))
-    ∙ (let e : length (allWords (listRows t)) ≡ 10 * length (listRows t) = length-all (listRows t) in omega arith)
+pub export-length : (t : CpuidResults) → length (listOf t) ≡ 8 + 40 * length (listRows t)
+unfolding listOf
+export-length t = list-length (listRows t)
 
 pub list-size : (t : CpuidResults) {n : ℕ} → n ≡ rowsAmong (t .present) 0 places → 8 + 40 * n ≡ length (listOf t)
-list-size t q = omega (arith, q, count-rows t, list-length t)
+list-size t q = omega (arith, q, count-rows t, export-length t)
 
 pub rows-size : (t : CpuidResults) {n : ℕ} → n ≡ rowsAmong (t .present) 0 places → length (rowsLeft t 0) ≡ 40 * n
 unfolding rowsLeft listRows

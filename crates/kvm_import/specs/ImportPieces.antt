@@ -5,18 +5,11 @@ use Prim.Native.Nat.{ℕ, _+_, _*_}
 use lib.ListN.{length, replicate}
 use lib.Seq.{sets}
 use Rattle.bits.specs.Choice.{pick}
-use Rattle.x86defs.specs.declared.CpuidResult.{CpuidResult}
-use Rattle.x86defs.specs.Functions.{result}
-use Rattle.pages.specs.Layout.{wordAt}
 use Rattle.buffer.specs.Front.{wordBytes}
 use Rattle.kvm_list.specs.Words.{bytesOfWords}
 use Rattle.kvm_list.specs.Format.{ListRow}
 use Rattle.kvm_import.specs.ListChecks.{rowsOn0, rowsOn1}
 use Rattle.kvm_import.specs.ListPages.{entryWords, entriesWords, pageWords}
-
--- the four registers at offset o
-unfoldable pub registersAt : List ℕ → ℕ → CpuidResult
-registersAt l o = result (wordAt l o) (wordAt l (o + 4)) (wordAt l (o + 8)) (wordAt l (o + 12))
 
 -- the count and twelve zeros
 unfoldable pub countBytes : ℕ → List ℕ

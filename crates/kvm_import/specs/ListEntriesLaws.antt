@@ -10,7 +10,7 @@ use Rattle.bits.specs.Choice.{pick}
 use Rattle.bits.specs.Lists.{one}
 use Rattle.x86defs.specs.declared.CpuidResult.{CpuidResult}
 use Rattle.x86defs.specs.Functions.{result}
-use Rattle.pages.specs.Layout.{wordAt}
+use Rattle.pages.specs.Layout.{wordAt, registersAt}
 use Rattle.buffer.specs.Front.{wordBytes, registerBytes}
 use Rattle.buffer.specs.FrontLaws.{sets-append}
 use Rattle.kvm_list.specs.Words.{bytesOfWords}
@@ -21,7 +21,7 @@ use Rattle.kvm_import.specs.ListChecks.{isExtendedState, rowsOn0, rowsOn
 use Rattle.kvm_import.specs.ListRowLaws.{row-leaf, row-index}
 use Rattle.kvm_import.specs.RowsLeftLaws.{rowsLeft, on1-cons, on0-cons, on1-none, on0-none, left-all, left-more, left-none, on-either-in, on-either-left, extended-more}
 use Rattle.kvm_import.specs.ListPages.{entryWords, entriesWords}
-use Rattle.kvm_import.specs.ImportPieces.{registersAt, entryBytes, entriesBytes, entryIndex, entered}
+use Rattle.kvm_import.specs.ImportPieces.{entryBytes, entriesBytes, entryIndex, entered}
 
 -- ---- one entry
 

@@ -10,8 +10,8 @@ use kvm_list::put_zeros;
 use pages::ENTRIES_AT;
 use pages::ENTRY_SIZE;
 use pages::PAGE_SIZE;
+use pages::registers_at;
 use pages::word_at;
-use x86defs::CpuidResult;
 ghost use mathlib.Core.Path.{_≡_};
 ghost use Prim.Native.Nat.{_+_, _*_, _≤_};
 ghost use lib.ListN.{length};
@@ -19,7 +19,7 @@ ghost use lib.Seq.{sets};
 ghost use Rattle.kvm_list.specs.Format.{rowCount, rowAt, rowsListed};
 ghost use Rattle.kvm_import.specs.ListChecks.{rowsOn0, rowsOn1};
 ghost use Rattle.kvm_import.specs.ListPages.{pagesOf};
-ghost use Rattle.kvm_import.specs.ImportPieces.{registersAt, countBytes, entryBytes, entryIndex, entered};
+ghost use Rattle.kvm_import.specs.ImportPieces.{countBytes, entryBytes, entryIndex, entered};
 
 // Writes both pages: the counts, the entries, and zeros after them.
 pub fn put_pages(list: &[u8], others: usize, extended: usize, out: &mut [u8])
@@ -85,17 +85,4 @@ fn put_entry(list: &[u8], q: usize, out: &mut [u8], at: usize)
     put_zeros(out, at + 8, at + 24);
     put_registers(out, at + 24, registers_at(list, o + 12));
     put_zeros(out, at + 40, at + 48);
-}
-
-// The four registers at `o`.
-fn registers_at(list: &[u8], o: usize) -> CpuidResult
-    requires { ⌜ o + 16 ≤ length (now list) ⌝ }
-    ensures { λ r. ⌜ r ≡ registersAt (now (list .entry)) o ⌝ }
-{
-    CpuidResult {
-        eax: word_at(list, o),
-        ebx: word_at(list, o + 4),
-        ecx: word_at(list, o + 8),
-        edx: word_at(list, o + 12),
-    }
 }

@@ -36,6 +36,10 @@ unfolding allWords
 length-all [] = refl
 length-all (r ∷ rs) = let e : length (allWords rs) ≡ 10 * length rs = length-all rs in omega arith
 
+pub list-length : (rs : List ListRow) → length (listBytes rs) ≡ 8 + 40 * length rs
+unfolding listBytes
+list-length rs = length-bytes (length rs ∷ 0 ∷ allWords rs) ∙ (let e : length (allWords rs) ≡ 10 * length rs = length-all rs in omega arith)
+
 module _ (rs : List ListRow) (small : length rs < 4294967296) where
   pub list-count : wordAt (listBytes rs) 0 ≡ length rs
   unfolding listBytes
@@ -56,7 +60,3 @@ module _ (rs : List ListRow) (small : length rs < 4294967296) where
   pub list-rows : rowsListed (listBytes rs) ≡ map cutRow rs
   unfolding rowsListed
   list-rows = ap₂ tabulate list-count (fun-ext list-row) ∙ rows-read rs
-
-  pub list-length : length (listBytes rs) ≡ 8 + 40 * length rs
-  unfolding listBytes
-  list-length = length-bytes (length rs ∷ 0 ∷ allWords rs) ∙ (let e : length (allWords rs) ≡ 10 * length rs = length-all rs in omega arith)

@@ -7,6 +7,7 @@ use lib.Dec.{eqb, leb}
 use Rattle.bits.specs.Choice.{pick}
 use Rattle.table.specs.declared.Subleaf.{Subleaf}
 use Rattle.table.specs.declared.Subleaf.the-variants.{None, Some}
+use Rattle.table.specs.Numbers.{subleafOr0}
 use Rattle.lines.specs.declared.bytes.LineDetails.{LineDetails}
 use Rattle.lines.specs.declared.bytes.names.Named.{Named}
 use Rattle.digits.specs.Digits.{decimal, hex}
@@ -60,10 +61,6 @@ unfoldable pub writable : LineDetails → Bool
 writable d = writableAs (names (d .number)) d
 
 -- "any leaf and subleaf of 32 bits"
-abbrev pub subleafOr0 : Subleaf → ℕ
-subleafOr0 None = 0
-subleafOr0 (Some k) = k
-
 pub record LineFits (d : LineDetails) : Type 0 where
   pub leaf : d .leaf < 2 ^ 32
   pub subleaf : subleafOr0 (d .subleaf) < 2 ^ 32

@@ -10,7 +10,7 @@ use lib.Dec.{eqb, leb}
 use lib.ListN.{length, drop}
 use borrow.Author.Tests.{leb-true, leb-false, eqb-true, eq-eqb, le-leb}
 use Rattle.bits.specs.Choice.{pick}
-use Rattle.bits.specs.ChoiceLaws.{never-both, and-left, and-right, and-both}
+use Rattle.bits.specs.ChoiceLaws.{never-both, and-left, and-right, and-both, impossible}
 use Rattle.table.specs.declared.Subleaf.{Subleaf}
 use Rattle.table.specs.declared.Subleaf.the-variants.{None, Some}
 use Rattle.table.specs.declared.Refusal.{Refusal}
@@ -34,9 +34,6 @@ pub record LineExactly (d : LineDetails) (buffer : List ℕ) (w : AfterLine) : T
   pub noneUntouched : w .answer ≡ NoSuchLine → w .buffer ≡ buffer
   pub shortUntouched : (r : Refusal) → w .answer ≡ Line (Refused r) → w .buffer ≡ buffer
   pub beyond : (n : ℕ) → w .answer ≡ Line (Bytes n) → w .buffer ≡ line d ++ drop n buffer
-
-impossible {ℓ} : {A : Type ℓ} → _≡_ {A = ℕ} 0 1 → A
-impossible e = absurd (omega arith)
 
 exactly-at : (d : LineDetails) (buffer : List ℕ) (w : AfterLine) → w ≡ writeLine d buffer → LineExactly d buffer w
 unfolding writeLine writeFront

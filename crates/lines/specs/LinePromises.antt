@@ -1,21 +1,20 @@
 -- Document 02, P6: every line is read back and nothing else is read, "different refusals, details included, give different lines, and no line
 -- begins another", and every refusal that is given has a line.
 use mathlib.Core.Path.{_≡_, refl, sym, ap, _∙_}
-use mathlib.Core.Bool.{Bool, true, false, _&&_}
+use mathlib.Core.Bool.{Bool, true, false, _&&_, _||_}
 use mathlib.Core.List.{List, [], _∷_, _++_, append-assoc, append-nil}
 use Prim.Native.Nat.{ℕ, _≤_}
 use native.Mathlib.Omega.{arith}
-use lib.Dec.{leb}
+use lib.Dec.{eqb, leb}
 use lib.ListN.{length, take}
 use lib.Seq.{sets}
-use borrow.Author.Tests.{le-leb, leb-true, leb-false}
+use borrow.Author.Tests.{eqb-true, le-leb, leb-true, leb-false}
 use Rattle.bits.specs.Choice.{pick}
-use Rattle.bits.specs.ChoiceLaws.{and-left, and-right}
-use Rattle.topology.specs.declared.TopologyError.the-variants.{Hyperthreading, ProcessorCount, ThreadsPerUnit}
+use Rattle.bits.specs.ChoiceLaws.{and-left, and-right, and-both}
 use Rattle.table.specs.declared.Subleaf.{Subleaf}
 use Rattle.table.specs.declared.Subleaf.the-variants.{None, Some}
 use Rattle.table.specs.declared.Refusal.{Refusal}
-use Rattle.table.specs.declared.Refusal.the-variants.{PagesLength, PageCount, MissingRequiredResult, InvlpgbUnavailable, SaveAreaOverflow, TopologyInconsistent, BufferTooShort, ListLength, ListRows, ListFields, StateBeyondTable, CompactSizeTooLarge, UnknownEdition, EditionBack, ReservedBytes, PoolSets, PoolDiffers, NothingDecides}
+use Rattle.table.specs.declared.Refusal.the-variants.{BufferTooShort}
 use Rattle.table.specs.Refusal.{Details, details}
 use Rattle.buffer.specs.declared.Written.the-variants.{Bytes, Refused}
 use Rattle.lines.specs.declared.bytes.LineDetails.{LineDetails}
@@ -24,7 +23,8 @@ use Rattle.lines.specs.declared.LineRead.the-variants.{Line, NoSuchLine}
 use Rattle.lines.specs.declared.LineWritten.the-variants.{Line as Answered, NoSuchLine as NotWritten}
 use Rattle.digits.specs.Digits.{width, decimal}
 use Rattle.digits.specs.DigitsLaws.{AtLeast, none, next, at-least-append, digits-at-least}
-use Rattle.lines.specs.NumbersInUse.{rows, names}
+use Rattle.lines.specs.NumbersInUse.{names}
+use Rattle.lines.specs.NumbersNamed.{sets-named}
 use Rattle.lines.specs.Line.{newline, space, LineFits, mostS, leafField, subleafField, sField, fieldsAs, fields, writable, line}
 use Rattle.lines.specs.WriteLine.{AfterLine, leaves, writeLine}
 use Rattle.lines.specs.WriteLineLaws.{write-none, write-short, write-whole, front}
@@ -140,25 +140,12 @@ no-line-begins-another d e t q = one-end t [] (body-above d) (body-above e) (sym
 abbrev pub lineDetails : Details → LineDetails
 lineDetails t = record { number = t .number; leaf = t .leaf; subleaf = t .subleaf; s = t .s }
 
+s-taken : (named : Bool) (s : ℕ) → (named || eqb s 0) ≡ true → s ≤ mostS → leb s (pick named mostS 0) ≡ true
+s-taken true s e h = le-leb s mostS h
+s-taken false s e h = le-leb s 0 (omega (arith, eqb-true s 0 e))
+
 pub every-refusal : (r : Refusal) → details r .s ≤ mostS → writable (lineDetails (details r)) ≡ true
-unfolding writable names rows
-every-refusal PagesLength h = refl
-every-refusal PageCount h = refl
-every-refusal (MissingRequiredResult leaf subleaf) h = refl
-every-refusal InvlpgbUnavailable h = refl
-every-refusal SaveAreaOverflow h = refl
-every-refusal (TopologyInconsistent (Hyperthreading s)) h = le-leb s mostS h
-every-refusal (TopologyInconsistent (ProcessorCount s)) h = le-leb s mostS h
-every-refusal (TopologyInconsistent ThreadsPerUnit) h = refl
-every-refusal BufferTooShort h = refl
-every-refusal ListLength h = refl
-every-refusal ListRows h = refl
-every-refusal ListFields h = refl
-every-refusal StateBeyondTable h = refl
-every-refusal CompactSizeTooLarge h = refl
-every-refusal UnknownEdition h = refl
-every-refusal EditionBack h = refl
-every-refusal (ReservedBytes leaf) h = refl
-every-refusal PoolSets h = refl
-every-refusal PoolDiffers h = refl
-every-refusal NothingDecides h = refl
+unfolding writable
+every-refusal r h =
+    let n = sets-named r in
+    and-both (and-both (and-both (n .used) (n .leaf)) (n .subleaf)) (s-taken (names (details r .number) .s) (details r .s) (n .s) h)

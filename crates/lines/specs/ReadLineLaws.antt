@@ -15,10 +15,11 @@ use Rattle.digits.specs.Field.{fieldFrom, after}
 use Rattle.digits.specs.FieldLaws.{decimal-read, hex-read, after-number, field-fits}
 use Rattle.table.specs.declared.Subleaf.{Subleaf}
 use Rattle.table.specs.declared.Subleaf.the-variants.{None, Some}
+use Rattle.table.specs.Numbers.{subleafOr0}
 use Rattle.lines.specs.declared.bytes.LineDetails.{LineDetails}
 use Rattle.lines.specs.NumbersInUse.{names}
 use Rattle.lines.specs.NumbersInUseLaws.{used-below, subleaf-or-s}
-use Rattle.lines.specs.Line.{newline, space, isNone, mostS, subleafOr0, LineFits, writable, subleafField, sField, fields, line}
+use Rattle.lines.specs.Line.{newline, space, isNone, mostS, LineFits, writable, subleafField, sField, fields, line}
 use Rattle.lines.specs.declared.LineRead.the-variants.{Line, NoSuchLine}
 use Rattle.lines.specs.ReadLine.{fieldIf, afterIf, subleafIn, subleafIf, guessAs, guess, sameBytes, readLine}
 

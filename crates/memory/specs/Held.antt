@@ -45,7 +45,7 @@ pub flag-at : (o : List ℕ) (i : ℕ) → i < places → getD (flags o) i false
 flag-at o i h = getD-tabulate places (λ j. isThere (getD o j 0)) i false h
 
 -- rows that are the same give the same
-mask-ext : {a b : Rows} → ((i : ℕ) → i < places → a i ≡ b i) → combinedMask a ≡ combinedMask b
+pub mask-ext : {a b : Rows} → ((i : ℕ) → i < places → a i ≡ b i) → combinedMask a ≡ combinedMask b
 unfolding combinedMask xfem xss
 mask-ext e =
     ap₂ (λ (d0 d1 : Row). bitOr (d0 .result .eax) (xssOf (d1 .result))) (e (Place.extendedState 0) (lit< tt)) (e (Place.extendedState 1) (lit< tt))
@@ -102,6 +102,6 @@ pub count-next : (o : List ℕ) (i : ℕ) {n : ℕ} {b : Bool} → n ≡ countTo
 unfolding sumTo
 count-next o i {n} {b} e f = rw (add-one, e, byte-one b, f, sumTo)
 
-pub count-all : (w o : List ℕ) {n : ℕ} → n ≡ countTo o places → n ≡ heldIn w o .«row_count»
+pub count-ends : (w o : List ℕ) {n : ℕ} → n ≡ countTo o places → n ≡ heldIn w o .«row_count»
 unfolding countRows
-count-all w o e = e
+count-ends w o e = e

@@ -36,7 +36,7 @@ pub not-known-read : originRead (originNumber notKnown) ≡ originTold notKnown
 unfolding originRead
 not-known-read = refl
 
-number-pick : (b : Bool) (x y : Origin) → originNumber (pick b x y) ≡ pick b (originNumber x) (originNumber y)
+pub number-pick : (b : Bool) (x y : Origin) → originNumber (pick b x y) ≡ pick b (originNumber x) (originNumber y)
 number-pick true x y = refl
 number-pick false x y = refl
 

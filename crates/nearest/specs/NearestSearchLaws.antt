@@ -49,7 +49,7 @@ use Rattle.flips.specs.OneBit.{oneBit, xorResult}
 use Rattle.flips.specs.FlippedEntryLaws.{Inside}
 use Rattle.search.specs.SameVerdict.{sameFrom}
 use Rattle.search.specs.Changes.{changes}
-use Rattle.search.specs.PutRow.{putRow}
+use Rattle.search.specs.WithRow.{withRow}
 use Rattle.search.specs.FlippedRowLaws.{firstAmong, first-none, first-cons, first-append}
 use Rattle.search.specs.ChangesLaws.{changes-nothing, changes-row}
 use Rattle.search.specs.declared.deciding.Deciding.{Deciding}
@@ -214,7 +214,7 @@ module _ (c : Choices) (s : List ℕ) (bytes : (n : ℕ) → getD s n 0 < 256) (
         (rest s (incremented s i)) here place small at-place
         (sym (w .marks place small) ∙ new))
         ∙ not-not _
-        ∙ ap (λ (x : CpuidResult). sameFrom (c .edition) (putRow place x (rowsFor c s)) (rowsFor c s))
+        ∙ ap (λ (x : CpuidResult). sameFrom (c .edition) (withRow place x (rowsFor c s)) (rowsFor c s))
         (sym (masks (xorResult (e .registers) (oneBit (n / 32) (n % 32))))))
 
     pub search-none : firstBit (c .edition) (rowsFor c s) kept place (e .registers) ≡ NoNumber

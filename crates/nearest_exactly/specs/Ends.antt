@@ -42,8 +42,8 @@ use Rattle.flips.specs.Flips.{flip, flips}
 use Rattle.flips.specs.OneBit.{oneBit, xorResult}
 use Rattle.search.specs.SameVerdict.{sameFrom}
 use Rattle.search.specs.Changes.{changes}
-use Rattle.search.specs.PutRow.{putRow}
-use Rattle.search.specs.PutRowLaws.{required-same}
+use Rattle.search.specs.WithRow.{withRow}
+use Rattle.search.specs.WithRowLaws.{required-same}
 use Rattle.search.specs.FlippedRowLaws.{firstAmong, rows-present, taken-row}
 use Rattle.search.specs.Quiet.{quiet}
 use Rattle.search.specs.SearchReturnLaws.{quiet-missing, quiet-clear}
@@ -183,7 +183,7 @@ module _ (c : Choices) (s : List ℕ) (bytes : (n : ℕ) → getD s n 0 < 256) (
       keeps-35 seen i f b =
           never-both
           (lowest-none (keeps (c .edition) m (kept sizes) sizes (entry i .registers)) 0 128 (none-of _ b) 35 (omega arith) (omega arith))
-          (ap (λ (y : CpuidResult). sameFrom (c .edition) (putRow sizes y m) m) (masks sizes (xorResult (entry i .registers) (oneBit 1 3)))
+          (ap (λ (y : CpuidResult). sameFrom (c .edition) (withRow sizes y m) m) (masks sizes (xorResult (entry i .registers) (oneBit 1 3)))
           ∙ invlpgb-flip avic (c .edition) m (entry i .registers) e (fresh-row seen i sizes f))
         where
           none-of : (x : Failing) → bitFound x ≡ NoNumber → x ≡ none
@@ -210,14 +210,14 @@ module _ (c : Choices) (s : List ℕ) (bytes : (n : ℕ) → getD s n 0 < 256) (
 
   -- bit 35 of the entry's 128, EBX bit 3
   first-35 : requiredVerdict m ≡ Accepted → invlpgb m ≡ false → (seen : List Bool) (i : CpuidPageIndex) → Fresh seen i sizes → bitAt sizes i ≡ Number 35
-  unfolding firstBit keeps putRow
+  unfolding firstBit keeps withRow
   first-35 e g seen i f =
       ap bitFound (lowest-is (keeps (c .edition) m (kept sizes) sizes (entry i .registers)) 0 128 35 (record {
         from = omega arith;
         below = omega arith;
         fails = at-row 35 ∙ invlpgb-flip avic (c .edition) m (entry i .registers) e there;
         before = λ j a l.
-            at-row j ∙ clear-same (c .edition) m (putRow sizes (flippedRow j i) m) e
+            at-row j ∙ clear-same (c .edition) m (withRow sizes (flippedRow j i) m) e
             (required-same sizes (flippedRow j i) m (ap (λ (x : Row). x .present) there) ∙ e) g
             (flip-below avic (entry i .registers) j l ∙ ap (λ (x : Row). has 3 (x .result .ebx)) (sym there) ∙ g);
       }))
@@ -225,9 +225,9 @@ module _ (c : Choices) (s : List ℕ) (bytes : (n : ℕ) → getD s n 0 < 256) (
       there : m sizes ≡ row (maskedAt avic sizes (entry i .registers))
       there = fresh-row seen i sizes f
 
-      at-row : (j : ℕ) → keeps (c .edition) m (kept sizes) sizes (entry i .registers) j ≡ sameFrom (c .edition) (putRow sizes (flippedRow j i) m) m
+      at-row : (j : ℕ) → keeps (c .edition) m (kept sizes) sizes (entry i .registers) j ≡ sameFrom (c .edition) (withRow sizes (flippedRow j i) m) m
       at-row j =
-          ap (λ (y : CpuidResult). sameFrom (c .edition) (putRow sizes y m) m) (masks sizes (xorResult (entry i .registers) (oneBit (j / 32) (j % 32))))
+          ap (λ (y : CpuidResult). sameFrom (c .edition) (withRow sizes y m) m) (masks sizes (xorResult (entry i .registers) (oneBit (j / 32) (j % 32))))
 
   pub without-invlpgb : requiredVerdict m ≡ Accepted → invlpgb m ≡ false
       → (p : ℕ) × (q : ℕ) × (storedAt (entryAt s p q) ≡ sizes) × (found ≡ Bit (flip p q 1 3))

@@ -37,8 +37,8 @@ use Rattle.flips.specs.OneBit.{bitIn, oneBit, xorResult}
 use Rattle.search.specs.SameVerdict.{sameNumbers, sameAnswer, sameFrom}
 use Rattle.finish.specs.RowsBuilt.{tableFor}
 use Rattle.search.specs.SameLaws.{answer-same}
-use Rattle.search.specs.PutRow.{putRow}
-use Rattle.search.specs.PutRowLaws.{required-same}
+use Rattle.search.specs.WithRow.{withRow}
+use Rattle.search.specs.WithRowLaws.{required-same}
 use Rattle.search.specs.FlippedMaskLaws.{bit-xor}
 
 abbrev number : Verdict → ℕ
@@ -119,8 +119,8 @@ flip-35 avic x =
 
 pub invlpgb-flip : (avic : Bool) (n : ℕ) (m : Rows) (x : CpuidResult) → requiredVerdict m ≡ Accepted
     → m Place.extendedAddressSpaceSizes ≡ row (maskedAt avic Place.extendedAddressSpaceSizes x)
-    → sameFrom n (putRow Place.extendedAddressSpaceSizes (maskedAt avic Place.extendedAddressSpaceSizes (xorResult x (oneBit 1 3))) m) m ≡ false
-unfolding putRow
+    → sameFrom n (withRow Place.extendedAddressSpaceSizes (maskedAt avic Place.extendedAddressSpaceSizes (xorResult x (oneBit 1 3))) m) m ≡ false
+unfolding withRow
 invlpgb-flip avic n m x e f =
     invlpgb-decides n m _ e (required-same Place.extendedAddressSpaceSizes _ m (ap (λ (r : Row). r .present) f) ∙ e)
     (flip-35 avic x ∙ ap (λ (r : Row). not (has 3 (r .result .ebx))) (sym f))

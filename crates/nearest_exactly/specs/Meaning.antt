@@ -6,20 +6,19 @@ use mathlib.Core.Logic.{_↔_}
 use Prim.Native.Nat.{ℕ, _<_}
 use lib.Dec.{eqb}
 use lib.ListN.{getD, length-replicate}
-use borrow.Author.Tests.{eqb-true}
+use borrow.Author.Tests.{eqb-true, ne-eqb}
 use Rattle.bits.specs.Choice.{pick}
-use Rattle.bits.specs.ChoiceLaws.{never-both, and-left, and-right}
+use Rattle.bits.specs.ChoiceLaws.{never-both, and-left, and-right, pick-false}
 use Rattle.bits.specs.SearchLaws.{every-at}
 use Rattle.bits.specs.ListsLaws.{tabulated, length-tabulate}
-use Rattle.x86defs.specs.Functions.{function, result}
+use Rattle.x86defs.specs.Functions.{result}
 use Rattle.masking.specs.Kept.{places}
-use Rattle.topology.specs.declared.TopologyError.the-variants.{Hyperthreading, ProcessorCount, ThreadsPerUnit}
 use Rattle.table.specs.declared.Choices.{Choices}
 use Rattle.table.specs.declared.CpuidResults.{CpuidResults}
 use Rattle.table.specs.declared.Subleaf.{Subleaf}
 use Rattle.table.specs.declared.Subleaf.the-variants.{None, Some}
-use Rattle.table.specs.declared.Refusal.{Refusal}
-use Rattle.table.specs.declared.Refusal.the-variants.{PagesLength, PageCount, MissingRequiredResult, InvlpgbUnavailable, SaveAreaOverflow, TopologyInconsistent, BufferTooShort, ListLength, ListRows, ListFields, StateBeyondTable, CompactSizeTooLarge, UnknownEdition, EditionBack, ReservedBytes, PoolSets, PoolDiffers, NothingDecides}
+use Rattle.table.specs.Refusal.{Details, details, refusalWith}
+use Rattle.table.specs.RefusalLaws.{refusal-told, refusal-numbered}
 use Rattle.table.specs.declared.Verdict.{Verdict}
 use Rattle.table.specs.declared.Verdict.the-variants.{Accepted, Refused}
 use Rattle.table.specs.Rows.{Rows}
@@ -28,7 +27,7 @@ use Rattle.collect.specs.Collect.{Whole}
 use Rattle.finish.specs.RowsBuilt.{tableFor}
 use Rattle.build.specs.Build.{rowsFor, verdictOf, answer}
 use Rattle.table.specs.declared.numbers.AnswerNumbers.{AnswerNumbers}
-use Rattle.table.specs.Numbers.{numbersOf}
+use Rattle.table.specs.Numbers.{named, subleafOr0, detailNumbers, numbersOf}
 use Rattle.flips.specs.declared.Flip.{Flip}
 use Rattle.flips.specs.Flips.{flipped}
 use Rattle.search.specs.SameVerdict.{agree, sameRow, sameRows, sameTable, sameNumbers, sameVerdict, sameAnswer}
@@ -38,46 +37,29 @@ use Rattle.search.specs.Changes.{changes}
 -- ---- a verdict is known by its numbers
 
 subleafFrom : ℕ → ℕ → Subleaf
-subleafFrom named k = pick (eqb named 0) None (Some k)
+subleafFrom flag k = pick (eqb flag 0) None (Some k)
 
-abbrev by : AnswerNumbers → ℕ → Refusal → Refusal → Refusal
-by a n r other = pick (eqb (a .number) n) r other
+detailsFrom : AnswerNumbers → Details
+detailsFrom a = record { number = a .number; leaf = a .leaf; subleaf = subleafFrom (a .«has_subleaf») (a .subleaf); s = a .s }
 
-refusalFrom : AnswerNumbers → Refusal
-refusalFrom a =
-    by a 1 PagesLength (by a 2 PageCount (by a 3 (MissingRequiredResult (function (a .leaf)) (subleafFrom (a .«has_subleaf») (a .subleaf)))
-    (by a 4 InvlpgbUnavailable (by a 5 SaveAreaOverflow (by a 6 (TopologyInconsistent (Hyperthreading (a .s)))
-    (by a 7 (TopologyInconsistent (ProcessorCount (a .s))) (by a 8 (TopologyInconsistent ThreadsPerUnit) (by a 9 BufferTooShort (by a 10 ListLength
-    (by a 11 ListRows (by a 12 ListFields (by a 13 StateBeyondTable (by a 14 CompactSizeTooLarge (by a 15 UnknownEdition (by a 16 EditionBack
-    (by a 17 (ReservedBytes (function (a .leaf))) (by a 18 PoolSets (by a 19 PoolDiffers NothingDecides))))))))))))))))))
+details-told : (d : Details) → detailsFrom (detailNumbers d) ≡ d
+unfolding detailsFrom subleafFrom
+details-told d = λ i. record { number = d .number; leaf = d .leaf; subleaf = go (d .subleaf) i; s = d .s }
+  where
+    go : (k : Subleaf) → subleafFrom (named k) (subleafOr0 k) ≡ k
+    go None = refl
+    go (Some k) = refl
 
 verdictFrom : AnswerNumbers → Verdict
-verdictFrom a = pick (eqb (a .number) 0) Accepted (Refused (refusalFrom a))
+verdictFrom a = pick (eqb (a .number) 0) Accepted (Refused (refusalWith (detailsFrom a)))
 
 known-by-numbers : (v : Verdict) → verdictFrom (numbersOf v) ≡ v
-unfolding verdictFrom refusalFrom subleafFrom
+unfolding verdictFrom
 known-by-numbers Accepted = refl
-known-by-numbers (Refused PagesLength) = refl
-known-by-numbers (Refused PageCount) = refl
-known-by-numbers (Refused (MissingRequiredResult leaf None)) = refl
-known-by-numbers (Refused (MissingRequiredResult leaf (Some k))) = refl
-known-by-numbers (Refused InvlpgbUnavailable) = refl
-known-by-numbers (Refused SaveAreaOverflow) = refl
-known-by-numbers (Refused (TopologyInconsistent (Hyperthreading s))) = refl
-known-by-numbers (Refused (TopologyInconsistent (ProcessorCount s))) = refl
-known-by-numbers (Refused (TopologyInconsistent ThreadsPerUnit)) = refl
-known-by-numbers (Refused BufferTooShort) = refl
-known-by-numbers (Refused ListLength) = refl
-known-by-numbers (Refused ListRows) = refl
-known-by-numbers (Refused ListFields) = refl
-known-by-numbers (Refused StateBeyondTable) = refl
-known-by-numbers (Refused CompactSizeTooLarge) = refl
-known-by-numbers (Refused UnknownEdition) = refl
-known-by-numbers (Refused EditionBack) = refl
-known-by-numbers (Refused (ReservedBytes leaf)) = refl
-known-by-numbers (Refused PoolSets) = refl
-known-by-numbers (Refused PoolDiffers) = refl
-known-by-numbers (Refused NothingDecides) = refl
+known-by-numbers (Refused r) =
+    pick-false Accepted (Refused (refusalWith (detailsFrom (detailNumbers (details r))))) (ne-eqb (details r .number) 0 (refusal-numbered r))
+    ∙ ap (λ (d : Details). Refused (refusalWith d)) (details-told (details r))
+    ∙ ap Refused (refusal-told r)
 
 numbers-equal : (a b : AnswerNumbers) → sameNumbers a b ≡ true → a ≡ b
 unfolding sameNumbers

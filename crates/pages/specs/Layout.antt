@@ -26,6 +26,10 @@ mostEntries = 64
 abbrev pub wordAt : List ℕ → ℕ → ℕ
 wordAt s o = getD s o 0 + 256 * getD s (o + 1) 0 + 65536 * getD s (o + 2) 0 + 16777216 * getD s (o + 3) 0
 
+-- the four registers at offset o: EAX, EBX, ECX, EDX
+unfoldable pub registersAt : List ℕ → ℕ → CpuidResult
+registersAt s o = result (wordAt s o) (wordAt s (o + 4)) (wordAt s (o + 8)) (wordAt s (o + 12))
+
 -- how many whole pages there are; pages are counted from 0
 abbrev pub pagesIn : List ℕ → ℕ
 pagesIn s = length s / pageSize

@@ -4,7 +4,7 @@ use x86defs::CpuidResult;
 ghost use mathlib.Core.Path.{_≡_};
 ghost use Prim.Native.Nat.{_+_, _≤_, _<_};
 ghost use lib.ListN.{length, getD};
-ghost use Rattle.pages.specs.Layout.{wordAt, pagesIn, countOf, badLength, countsFit, entryAt, mostEntries};
+ghost use Rattle.pages.specs.Layout.{wordAt, registersAt, pagesIn, countOf, badLength, countsFit, entryAt, mostEntries};
 ghost use Rattle.pages.specs.Parsed.{parsed};
 
 pub mod reserved;
@@ -40,6 +40,19 @@ pub fn word_at(pages: &[u8], o: usize) -> u32
         + 256 * byte(pages, o + 1)
         + 65536 * byte(pages, o + 2)
         + 16777216 * byte(pages, o + 3)
+}
+
+// The four registers at `o`: EAX, EBX, ECX, EDX.
+pub fn registers_at(bytes: &[u8], o: usize) -> CpuidResult
+    requires { ⌜ o + 16 ≤ length (now bytes) ⌝ }
+    ensures { λ r. ⌜ r ≡ registersAt (now (bytes .entry)) o ⌝ }
+{
+    CpuidResult {
+        eax: word_at(bytes, o),
+        ebx: word_at(bytes, o + 4),
+        ecx: word_at(bytes, o + 8),
+        edx: word_at(bytes, o + 12),
+    }
 }
 
 // How many whole pages there are.

@@ -75,7 +75,7 @@ masked-state avic s = record {
       (λ r. within-trans (and-within-right (r .ecx) (extendedState1 .ecx)) (within-of-and refl)) (within-zero 0x1800));
 }
 
-is-accepted : (v : Verdict) → isAccepted v ≡ true → v ≡ Accepted
+pub is-accepted : (v : Verdict) → isAccepted v ≡ true → v ≡ Accepted
 is-accepted Accepted e = refl
 is-accepted (Refused r) e = absurd (never-both e refl)
 

@@ -10,7 +10,7 @@ use lib.Dec.{eqb, leb}
 use lib.ListN.{length}
 use borrow.Author.Tests.{leb-true, leb-false, eqb-true, eqb-false}
 use Rattle.bits.specs.Choice.{pick}
-use Rattle.bits.specs.ChoiceLaws.{never-both, if-fails}
+use Rattle.bits.specs.ChoiceLaws.{never-both, if-fails, impossible}
 use Rattle.bits.specs.Search.{Failing, every, lowest}
 use Rattle.bits.specs.Search.Failing.{at, none}
 use Rattle.bits.specs.SearchLaws.{Lowest, every-fails, lowest-none, lowest-at}
@@ -40,12 +40,10 @@ use Rattle.pool_sets.specs.Sets.{setStart, setAt, lastOf, lawfulSets, setsVerdi
 use Rattle.pool_sets.specs.SetsLaws.{at-least-two, at-most-sixteen, sums-to-slice}
 use Rattle.pool_sets.specs.Servers.{serverVerdict, serverRows, isAccepted, firstRefused, refusedBy, serversVerdict, numberOf, poolRows}
 use Rattle.pool.specs.Pool.{alikeVerdict, poolVerdict, serverNamed, pooled}
+use Rattle.pool.specs.PooledLaws.{is-accepted}
 use Rattle.pool_laws.specs.PoolRight.{serverTable}
 use Rattle.pool_laws.specs.PoolExactly.{SetsFault, ServerFault, DifferFault, AllAccepted, PoolExactly}
 use Rattle.pool_laws.specs.PoolExactly.SetsFault.{few, many, sum}
-
-impossible {ℓ} : {A : Type ℓ} → _≡_ {A = ℕ} 0 1 → A
-impossible e = absurd (omega arith)
 
 -- ---- 18
 
@@ -88,10 +86,6 @@ data Outcome (c : Choices) (pages lengths : List ℕ) (v : Verdict) (s : ℕ) : 
       → Outcome c pages lengths v s
   accepted : (SetsFault pages lengths → ⊥) → AllAccepted c pages lengths → (DifferFault c pages lengths → ⊥) → v ≡ Accepted → s ≡ 0
       → Outcome c pages lengths v s
-
-is-accepted : (v : Verdict) → isAccepted v ≡ true → v ≡ Accepted
-is-accepted Accepted e = refl
-is-accepted (Refused r) e = absurd (never-both e refl)
 
 is-refused : (v : Verdict) → isAccepted v ≡ false → (r : Refusal) × (v ≡ Refused r)
 is-refused Accepted e = absurd (never-both refl e)

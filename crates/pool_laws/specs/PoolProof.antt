@@ -10,6 +10,7 @@ use Rattle.bits.specs.ListsLaws.{getD-tabulate}
 use Rattle.bits.specs.Bits.{has, Within}
 use Rattle.pages.specs.Entries.{counted}
 use Rattle.masking.specs.Kept.{places}
+use Rattle.table.specs.TableLaws.{table-row}
 use Rattle.table.specs.declared.Choices.{Choices}
 use Rattle.table.specs.declared.CpuidResults.{CpuidResults}
 use Rattle.table.specs.declared.Verdict.{Verdict}
@@ -25,7 +26,7 @@ use Rattle.memory.specs.Origin.{originOf, originNumber}
 use Rattle.collect.specs.Stands.{standsAt}
 use Rattle.build.specs.Build.{rowsFor, originsIn, answer}
 use Rattle.rise.specs.Rise.{Further, TableRises}
-use Rattle.rise.specs.RiseProof.{table-row, answer-row, answer-mask, xsaves-edx}
+use Rattle.rise.specs.RiseProof.{answer-row, answer-mask, xsaves-edx}
 use Rattle.register_masks.specs.Join.{pool, andTo, allTo}
 use Rattle.register_masks.specs.Alike.{AllAlike, allHave}
 use Rattle.register_masks.specs.Features.{FeaturesAre, FeatureWithin}

@@ -2,7 +2,7 @@
 use mathlib.Core.Path.{_≡_, refl}
 use mathlib.Core.List.{List}
 use Prim.Native.Nat.{ℕ}
-use native.Mathlib.Omega.{arith}
+use Rattle.bits.specs.ChoiceLaws.{impossible}
 use Rattle.table.specs.declared.Choices.{Choices}
 use Rattle.table.specs.declared.Refusal.the-variants.{BufferTooShort}
 use Rattle.table.specs.declared.Verdict.the-variants.{Refused}
@@ -14,9 +14,6 @@ use Rattle.pool.specs.Pool.{pooled}
 use Rattle.pool.specs.WritePool.{writePool}
 use Rattle.pool_laws.specs.PoolExactly.{ServerFault}
 use Rattle.pool_laws.specs.PoolExactlyProof.{pool-exactly}
-
-impossible {ℓ} : {A : Type ℓ} → _≡_ {A = ℕ} 0 1 → A
-impossible e = absurd (omega arith)
 
 -- a pool is never refused by 9: that would be a server's own
 never-short : (c : Choices) (pages lengths : List ℕ) → pooled c pages lengths .verdict ≡ Refused BufferTooShort → ⊥

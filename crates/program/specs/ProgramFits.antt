@@ -55,6 +55,6 @@ pub put-bytes : (s buffer : List ℕ) {b : List ℕ} {n : ℕ} → room ≤ leng
     → b ≡ output s ++ drop n buffer
 put-bytes s buffer enough e p = e ∙ ap (λ (w : AfterWrite). w .buffer) (output-written s buffer enough) ∙ rw p
 
-pub put-length : (s buffer : List ℕ) {b : List ℕ} {n : ℕ} → length buffer ≡ room → b ≡ output s ++ drop n buffer → n ≡ length (output s) → length b ≡ room
-put-length s buffer {b} {n} h e p =
+pub put-room : (s buffer : List ℕ) {b : List ℕ} {n : ℕ} → length buffer ≡ room → b ≡ output s ++ drop n buffer → n ≡ length (output s) → length b ≡ room
+put-room s buffer {b} {n} h e p =
     omega (arith, ap length e, length-append (output s) (drop n buffer), length-drop n buffer, output-fits s)

@@ -3,9 +3,8 @@ use mathlib.Core.Path.{_≡_, refl, ap, _∙_}
 use mathlib.Core.Bool.{Bool, true, false, _||_}
 use mathlib.Core.List.{List}
 use Prim.Native.Nat.{ℕ}
-use native.Mathlib.Omega.{arith}
 use lib.Dec.{eqb, ltb}
-use Rattle.bits.specs.ChoiceLaws.{never-both}
+use Rattle.bits.specs.ChoiceLaws.{never-both, impossible}
 use Rattle.table.specs.declared.Choices.{Choices}
 use Rattle.table.specs.declared.Refusal.{Refusal}
 use Rattle.table.specs.declared.Refusal.the-variants.{BufferTooShort}
@@ -24,9 +23,6 @@ use Rattle.refusals.specs.StagesSettled.{checkCount, rank-lt, first-faul
 use Rattle.refusals.specs.StagesSettled.Judged.{accepted, refused}
 
 -- what follows where two constructors would be equal
-impossible {ℓ} : {A : Type ℓ} → _≡_ {A = ℕ} 0 1 → A
-impossible e = absurd (omega arith)
-
 -- ---- building
 
 -- a refused table is empty

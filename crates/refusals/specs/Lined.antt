@@ -3,17 +3,14 @@
 -- leaf and subleaf of 32 bits and any s of 8 bits" wants it, and so are the leaves and subleaves of 3 and the s of 6 and 7.
 use mathlib.Core.Path.{_≡_}
 use mathlib.Core.Bool.{true}
-use mathlib.Core.List.{List, [], _∷_}
+use mathlib.Core.List.{List}
 use Prim.Native.Nat.{ℕ, _≤_}
-use lib.ListN.{length, getD, take}
-use Rattle.x86defs.specs.Functions.{function}
+use lib.ListN.{length, take}
 use Rattle.pages.specs.Bytes.{AreBytes}
-use Rattle.topology.specs.declared.TopologyError.the-variants.{Hyperthreading, ProcessorCount, ThreadsPerUnit}
 use Rattle.table.specs.declared.Choices.{Choices}
 use Rattle.table.specs.declared.Refusal.{Refusal}
-use Rattle.table.specs.declared.Refusal.the-variants.{PagesLength, PageCount, MissingRequiredResult, InvlpgbUnavailable, SaveAreaOverflow, TopologyInconsistent, BufferTooShort, ListLength, ListRows, ListFields, StateBeyondTable, CompactSizeTooLarge, UnknownEdition, EditionBack, ReservedBytes, PoolSets, PoolDiffers, NothingDecides}
 use Rattle.table.specs.declared.Verdict.the-variants.{Refused}
-use Rattle.table.specs.Refusal.{Details, details}
+use Rattle.table.specs.Refusal.{details, refusalWith}
 use Rattle.build.specs.Build.{answer}
 use Rattle.buffer.specs.declared.Written.the-variants.{Bytes}
 use Rattle.lines.specs.declared.bytes.LineDetails.{LineDetails}
@@ -24,33 +21,9 @@ use Rattle.lines.specs.WriteLine.{writeLine}
 use Rattle.lines.specs.ReadLine.{readLine}
 use Rattle.lines.specs.LinePromises.{lineDetails}
 
--- the refusal that a number and its details tell
+-- the refusal that a line's details tell
 abbrev pub refusalOf : LineDetails → Refusal
-refusalOf d =
-    getD
-    (PagesLength
-    ∷ PagesLength
-    ∷ PageCount
-    ∷ MissingRequiredResult (function (d .leaf)) (d .subleaf)
-    ∷ InvlpgbUnavailable
-    ∷ SaveAreaOverflow
-    ∷ TopologyInconsistent (Hyperthreading (d .s))
-    ∷ TopologyInconsistent (ProcessorCount (d .s))
-    ∷ TopologyInconsistent ThreadsPerUnit
-    ∷ BufferTooShort
-    ∷ ListLength
-    ∷ ListRows
-    ∷ ListFields
-    ∷ StateBeyondTable
-    ∷ CompactSizeTooLarge
-    ∷ UnknownEdition
-    ∷ EditionBack
-    ∷ ReservedBytes (function (d .leaf))
-    ∷ PoolSets
-    ∷ PoolDiffers
-    ∷ NothingDecides
-    ∷ [])
-    (d .number) PagesLength
+refusalOf d = refusalWith (record { number = d .number; leaf = d .leaf; subleaf = d .subleaf; s = d .s })
 
 -- what a refusal tells, as a line says it
 abbrev pub told : Refusal → LineDetails

@@ -14,19 +14,21 @@ use Rattle.bits.specs.SearchLaws.{every-at}
 use Rattle.bits.specs.BitsLaws.{field-lt}
 use Rattle.pages.specs.Bytes.{AreBytes}
 use Rattle.pages.specs.Layout.{wordAt, entryStart, entryAt}
-use Rattle.topology.specs.declared.TopologyError.the-variants.{Hyperthreading, ProcessorCount, ThreadsPerUnit}
+use Rattle.topology.specs.declared.TopologyError.the-variants.{ThreadsPerUnit}
 use Rattle.table.specs.declared.Choices.{Choices}
 use Rattle.table.specs.declared.Subleaf.the-variants.{Some}
 use Rattle.table.specs.declared.Refusal.{Refusal}
-use Rattle.table.specs.declared.Refusal.the-variants.{PagesLength, PageCount, MissingRequiredResult, InvlpgbUnavailable, SaveAreaOverflow, TopologyInconsistent, BufferTooShort, ListLength, ListRows, ListFields, StateBeyondTable, CompactSizeTooLarge, UnknownEdition, EditionBack, ReservedBytes, PoolSets, PoolDiffers, NothingDecides}
+use Rattle.table.specs.declared.Refusal.the-variants.{PagesLength, PageCount, MissingRequiredResult, InvlpgbUnavailable, SaveAreaOverflow, TopologyInconsistent, UnknownEdition}
 use Rattle.table.specs.declared.Verdict.the-variants.{Refused}
 use Rattle.table.specs.Refusal.{details}
+use Rattle.table.specs.RefusalLaws.{refusal-told}
+use Rattle.table.specs.Numbers.{subleafOr0}
 use Rattle.checks.specs.Required.{commonRequiredLeaves, snpRequiredLeaves, requiredAt, requiredCount}
 use Rattle.checks.specs.TopologyInputs.{inputsOf}
 use Rattle.build.specs.Build.{rowsFor, answer}
 use Rattle.buffer.specs.declared.Written.the-variants.{Bytes}
 use Rattle.lines.specs.declared.bytes.LineDetails.{LineDetails}
-use Rattle.lines.specs.Line.{LineFits, mostS, subleafOr0, writable, line}
+use Rattle.lines.specs.Line.{LineFits, mostS, writable, line}
 use Rattle.lines.specs.LineLaws.{at-most-22}
 use Rattle.lines.specs.declared.LineRead.the-variants.{Line as Says}
 use Rattle.lines.specs.declared.LineWritten.the-variants.{Line as Answered}
@@ -39,30 +41,6 @@ use Rattle.refusals.specs.Conditions.Check.{edition, pagesLength, pageCo
 use Rattle.refusals.specs.Exactly.{FirstFault}
 use Rattle.refusals.specs.ExactlyProof.{builds-exactly}
 use Rattle.refusals.specs.Lined.{refusalOf, told, Lined, BuildingLined, LinesTell}
-
--- ---- details tell their refusal
-
-refusal-told : (r : Refusal) → refusalOf (told r) ≡ r
-refusal-told PagesLength = refl
-refusal-told PageCount = refl
-refusal-told (MissingRequiredResult leaf subleaf) = refl
-refusal-told InvlpgbUnavailable = refl
-refusal-told SaveAreaOverflow = refl
-refusal-told (TopologyInconsistent (Hyperthreading s)) = refl
-refusal-told (TopologyInconsistent (ProcessorCount s)) = refl
-refusal-told (TopologyInconsistent ThreadsPerUnit) = refl
-refusal-told BufferTooShort = refl
-refusal-told ListLength = refl
-refusal-told ListRows = refl
-refusal-told ListFields = refl
-refusal-told StateBeyondTable = refl
-refusal-told CompactSizeTooLarge = refl
-refusal-told UnknownEdition = refl
-refusal-told EditionBack = refl
-refusal-told (ReservedBytes leaf) = refl
-refusal-told PoolSets = refl
-refusal-told PoolDiffers = refl
-refusal-told NothingDecides = refl
 
 -- ---- bounds
 

@@ -5,7 +5,7 @@ use Rattle.bits.specs.Choice.{pick}
 use Rattle.x86defs.specs.declared.CpuidResult.{CpuidResult}
 use Rattle.masking.specs.Kept.{indexedAt, subleafAt}
 use Rattle.table.specs.declared.Subleaf.{Subleaf}
-use Rattle.table.specs.declared.Subleaf.the-variants.{None, Some}
+use Rattle.table.specs.Numbers.{subleafOf}
 use Rattle.finish.specs.Kinds as Definition
 use Rattle.register_kinds.specs.declared.Register.{Register}
 use Rattle.register_kinds.specs.declared.Register.the-variants.{Eax, Ebx, Ecx, Edx}
@@ -47,4 +47,4 @@ firstToFail t = firstBy (t .eax) (t .ebx) (t .ecx)
 
 -- the subleaf of a place, where its row carries one
 abbrev pub subleafNamed : ℕ → Subleaf
-subleafNamed i = pick (indexedAt i) (Some (subleafAt i)) None
+subleafNamed i = subleafOf (indexedAt i) (subleafAt i)

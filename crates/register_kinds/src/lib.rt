@@ -2,6 +2,7 @@
 // fails.
 use masking::place;
 use table::Subleaf;
+use table::subleaf_of;
 use x86defs::CpuidResult;
 ghost use mathlib.Core.Path.{_≡_};
 ghost use Prim.Native.Nat.{_<_};
@@ -85,8 +86,5 @@ pub fn subleaf_named(place: usize) -> Subleaf
     requires { ⌜ place < places ⌝ }
     ensures { λ r. ⌜ r ≡ subleafNamed place ⌝ }
 {
-    if masking::indexed_at(place) {
-        return Subleaf::Some(masking::subleaf_at(place));
-    }
-    Subleaf::None
+    subleaf_of(masking::indexed_at(place), masking::subleaf_at(place))
 }

@@ -1,7 +1,7 @@
 -- Document 02, P12: "19 where rows that all tables have, B.0 and B.1 apart, differ elsewhere than in feature registers or D.0.ECX, by masked
 -- entry". B.0 and B.1 are of kind `freed` in every register, and so are rows 0 and 80000000h, which come from no entry.
 use mathlib.Core.Path.{_≡_}
-use mathlib.Core.Bool.{Bool, true, _&&_}
+use mathlib.Core.Bool.{Bool, true}
 use Prim.Native.Nat.{ℕ, _≤_, _<_}
 use lib.Dec.{eqb}
 use Rattle.bits.specs.Choice.{pick}
@@ -11,7 +11,7 @@ use Rattle.x86defs.specs.declared.CpuidResult.{CpuidResult}
 use Rattle.masking.specs.Kept.{places}
 use Rattle.table.specs.Rows.{Rows}
 use Rattle.features.specs.Finish.{finished}
-use Rattle.finish.specs.Kinds.{Kind, Kinds, Registers, kindsAt}
+use Rattle.finish.specs.Kinds.{Kind, Kinds, Registers, allRegisters, kindsAt}
 use Rattle.finish.specs.Kinds.Kind.{feature, featureBut28, area, freed, other}
 use Rattle.register_masks.specs.Join.{allTo}
 
@@ -32,9 +32,7 @@ alikeTest freed a b = true
 alikeTest other a b = eqb a b
 
 abbrev pub registersAlike : Kinds → CpuidResult → CpuidResult → Bool
-registersAlike k a b =
-    alikeTest (k .eax) (a .eax) (b .eax)
-    && (alikeTest (k .ebx) (a .ebx) (b .ebx) && (alikeTest (k .ecx) (a .ecx) (b .ecx) && alikeTest (k .edx) (a .edx) (b .edx)))
+registersAlike k a b = allRegisters alikeTest k a b
 
 -- whether the tables of servers 0 to n, under an edition, all have the row of place i
 unfoldable pub allHave : ℕ → (ℕ → Rows) → ℕ → ℕ → Bool

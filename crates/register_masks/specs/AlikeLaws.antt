@@ -5,7 +5,7 @@ use Prim.Native.Nat.{ℕ, zero, suc, _≤_, _<_}
 use native.Mathlib.Omega.{arith}
 use borrow.Author.Tests.{eqb-true, eq-eqb}
 use Rattle.bits.specs.Choice.{pick}
-use Rattle.bits.specs.ChoiceLaws.{and-left, and-right, and-both, if-holds}
+use Rattle.bits.specs.ChoiceLaws.{and-both, if-holds}
 use Rattle.bits.specs.Search.{every}
 use Rattle.bits.specs.SearchLaws.{every-at}
 use Rattle.bits.specs.Bits.{bit}
@@ -14,6 +14,7 @@ use Rattle.masking.specs.Kept.{places}
 use Rattle.table.specs.Rows.{Rows}
 use Rattle.finish.specs.Kinds.{Kind, Kinds, Registers, kindsAt}
 use Rattle.finish.specs.Kinds.Kind.{feature, featureBut28, area, freed, other}
+use Rattle.finish.specs.RegisterTestLaws.{registers-hold, registers-tested}
 use Rattle.register_masks.specs.Join.{pool}
 use Rattle.register_masks.specs.Alike.{Alike, alikeTest, registersAlike, allHave, alikeTo, allAlike, AlikeAt, AllAlike}
 use Rattle.register_masks.specs.RegisterRunLaws.{all-at, all-of}
@@ -35,23 +36,10 @@ alike-test freed a b h = refl
 alike-test other a b h = eq-eqb a b h
 
 pub test-registers : (k : Kinds) (a b : CpuidResult) → registersAlike k a b ≡ true → Registers Alike k a b
-test-registers k a b e =
-    let p = alikeTest (k .eax) (a .eax) (b .eax) in
-    let q = alikeTest (k .ebx) (a .ebx) (b .ebx) in
-    let r = alikeTest (k .ecx) (a .ecx) (b .ecx) in
-    let e₁ = and-right p _ e in
-    let e₂ = and-right q _ e₁ in
-    record {
-      eax = test-alike (k .eax) _ _ (and-left p _ e);
-      ebx = test-alike (k .ebx) _ _ (and-left q _ e₁);
-      ecx = test-alike (k .ecx) _ _ (and-left r _ e₂);
-      edx = test-alike (k .edx) _ _ (and-right r _ e₂);
-    }
+test-registers = registers-hold alikeTest Alike test-alike
 
 pub registers-test : (k : Kinds) (a b : CpuidResult) → Registers Alike k a b → registersAlike k a b ≡ true
-registers-test k a b h =
-    and-both (alike-test (k .eax) _ _ (h .eax))
-    (and-both (alike-test (k .ebx) _ _ (h .ebx)) (and-both (alike-test (k .ecx) _ _ (h .ecx)) (alike-test (k .edx) _ _ (h .edx))))
+registers-test = registers-tested alikeTest Alike alike-test
 
 -- two tests that imply each other
 pub same-truth : (p q : Bool) → (p ≡ true → q ≡ true) → (q ≡ true → p ≡ true) → p ≡ q

@@ -7,6 +7,7 @@ use Prim.Native.Nat.{ℕ, _^_, _<_}
 use native.Mathlib.Omega.{arith}
 use lib.Dec.{lit<}
 use lib.Bits.{bitOr}
+use Rattle.bits.specs.ChoiceLaws.{pick-twice}
 use Rattle.bits.specs.Choice.{pick}
 use Rattle.bits.specs.Bits.{has}
 use Rattle.x86defs.specs.declared.CpuidResult.{CpuidResult}
@@ -35,10 +36,6 @@ use Rattle.rise.specs.RiseProof.{answer-row, accepted-rows}
 size-fits : (n : ℕ) (z : Size) → z ≡ sizeOf n → sizeVerdict z ≡ Accepted → n < 2 ^ 32
 size-fits n (Bytes k) e f = let h = size-bytes n k e in omega (arith, h .0, h .1)
 size-fits n TooLarge e f = absurd (let z : _≡_ {A = ℕ} 0 1 = cc in omega arith)
-
-twice : (p : Bool) (x : ℕ) → pick p (pick p x 0) 0 ≡ pick p x 0
-twice true x = refl
-twice false x = refl
 
 module _ (chosen : Choices) (s : List ℕ) (e : answer chosen s .verdict ≡ Accepted) where
   abbrev m : Rows
@@ -85,7 +82,7 @@ module _ (chosen : Choices) (s : List ℕ) (e : answer chosen s .verdict ≡ Acc
   unfolding xss
   built-xss =
       ap₂ (λ (a c : ℕ). pick (has 1 a && has 3 a) c 0) built-eax built-ecx
-      ∙ twice (has 1 (m (Place.extendedState 1) .result .eax) && has 3 (m (Place.extendedState 1) .result .eax)) (m (Place.extendedState 1) .result .ecx)
+      ∙ pick-twice (has 1 (m (Place.extendedState 1) .result .eax) && has 3 (m (Place.extendedState 1) .result .eax)) (m (Place.extendedState 1) .result .ecx) 0
 
   pub built-mask : combinedMask (rowsOfTable t) ≡ combinedMask m
   unfolding combinedMask

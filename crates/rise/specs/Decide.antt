@@ -18,8 +18,9 @@ use Rattle.table.specs.declared.Choices.{Choices}
 use Rattle.table.specs.declared.Verdict.the-variants.{Accepted}
 use Rattle.table.specs.Rows.{Row, Rows}
 use Rattle.features.specs.Finish.{ruleAt}
-use Rattle.finish.specs.Kinds.{Kind, Kinds, EntryAtLeast, Registers, kindsAt, fromEntry}
+use Rattle.finish.specs.Kinds.{Kind, Kinds, EntryAtLeast, allRegisters, kindsAt, fromEntry}
 use Rattle.finish.specs.Kinds.Kind.{feature, featureBut28, area, freed, other}
+use Rattle.finish.specs.RegisterTestLaws.{registers-hold, registers-tested}
 use Rattle.table.specs.Table.{rowIn}
 use Rattle.build.specs.Build.{rowsFor, answer}
 use Rattle.collect.specs.Lawful.{lawfulVerdict}
@@ -52,28 +53,7 @@ pub test-fails : (k : Kind) (a b : ℕ) → risesTest k a b ≡ false → EntryA
 test-fails k a b e h = never-both (rises-test k a b h) e
 
 abbrev pub registersTest : Kinds → CpuidResult → CpuidResult → Bool
-registersTest k a b =
-    risesTest (k .eax) (a .eax) (b .eax)
-    && (risesTest (k .ebx) (a .ebx) (b .ebx) && (risesTest (k .ecx) (a .ecx) (b .ecx) && risesTest (k .edx) (a .edx) (b .edx)))
-
-registers-rise : (k : Kinds) (a b : CpuidResult) → registersTest k a b ≡ true → Registers EntryAtLeast k a b
-registers-rise k a b e =
-    let p = risesTest (k .eax) (a .eax) (b .eax) in
-    let q = risesTest (k .ebx) (a .ebx) (b .ebx) in
-    let r = risesTest (k .ecx) (a .ecx) (b .ecx) in
-    let e₁ = and-right p _ e in
-    let e₂ = and-right q _ e₁ in
-    record {
-      eax = test-rises (k .eax) _ _ (and-left p _ e);
-      ebx = test-rises (k .ebx) _ _ (and-left q _ e₁);
-      ecx = test-rises (k .ecx) _ _ (and-left r _ e₂);
-      edx = test-rises (k .edx) _ _ (and-right r _ e₂);
-    }
-
-rise-registers : (k : Kinds) (a b : CpuidResult) → Registers EntryAtLeast k a b → registersTest k a b ≡ true
-rise-registers k a b h =
-    and-both (rises-test (k .eax) _ _ (h .eax))
-    (and-both (rises-test (k .ebx) _ _ (h .ebx)) (and-both (rises-test (k .ecx) _ _ (h .ecx)) (rises-test (k .edx) _ _ (h .edx))))
+registersTest k a b = allRegisters risesTest k a b
 
 -- at a place: asked where A's table has a row that comes from an entry
 abbrev pub rowTest : ℕ → Bool → CpuidResult → Row → Bool
@@ -87,14 +67,14 @@ module _ (inA : ℕ → Bool) (A B : Rows) (i : ℕ) where
   place-rises t f p =
       let e : (B i .present && registersTest (kindsAt i) (A i .result) (B i .result)) ≡ true =
       if-holds (fromEntry (ruleAt i) && inA i) _ t (and-both f p) in
-      record { present = and-left _ _ e; registers = registers-rise _ _ _ (and-right (B i .present) _ e) }
+      record { present = and-left _ _ e; registers = registers-hold risesTest EntryAtLeast test-rises _ _ _ (and-right (B i .present) _ e) }
 
   pub rises-place : (fromEntry (ruleAt i) ≡ true → inA i ≡ true → EntryRises i (A i) (B i)) → placeTest inA A B i ≡ true
   rises-place h = go (fromEntry (ruleAt i)) refl (inA i) refl
     where
       go : (f : Bool) → fromEntry (ruleAt i) ≡ f → (p : Bool) → inA i ≡ p
           → pick (f && p) (B i .present && registersTest (kindsAt i) (A i .result) (B i .result)) true ≡ true
-      go true f true p = and-both (h f p .present) (rise-registers _ _ _ (h f p .registers))
+      go true f true p = and-both (h f p .present) (registers-tested risesTest EntryAtLeast rises-test _ _ _ (h f p .registers))
       go true f false p = refl
       go false f p e = refl
 

@@ -36,6 +36,7 @@ use Rattle.finish.specs.Kinds.Kind.{area, other}
 use Rattle.checks.specs.Checks.{missingComponent, componentsVerdict, areaVerdict, rowsVerdict}
 use Rattle.checks.specs.ChecksLaws.{component-present, then-left, then-right, then-skips}
 use Rattle.finish.specs.RowsBuilt.{tableFor}
+use Rattle.table.specs.TableLaws.{table-row}
 use Rattle.table.specs.Table.{tableOf, rowIn}
 use Rattle.collect.specs.FirstEntries.{firstAt, maskRow, maskedAt, legacyFeatures, rowsOf}
 use Rattle.collect.specs.FirstEntriesLaws.{row-of-place}
@@ -55,12 +56,6 @@ pub answer-table : (chosen : Choices) (s : List ℕ) → answer chosen s .verdic
     → answer chosen s .table ≡ tableOf (finished (chosen .edition) (rowsFor chosen s)) (combinedMask (rowsFor chosen s))
 unfolding answer
 answer-table chosen s e = ap (λ (v : Verdict). tableFor (chosen .edition) v (rowsFor chosen s)) e
-
-pub table-row : (m : Rows) (x i : ℕ) → i < places → rowIn (tableOf m x) i ≡ m i
-table-row m x i l k = record {
-  present = getD-tabulate places (λ j. m j .present) i false l k;
-  result = getD-tabulate places (λ j. m j .result) i (result 0 0 0 0) l k;
-}
 
 pub accepted-rows : (chosen : Choices) (s : List ℕ) → answer chosen s .verdict ≡ Accepted → rowsVerdict (rowsFor chosen s) ≡ Accepted
 unfolding answer verdictOf

@@ -2,14 +2,12 @@
 -- what edition 1 refuses, and its table is edition 1's without these three bits.
 use mathlib.Core.Path.{_≡_}
 use mathlib.Core.Bool.{Bool}
-use mathlib.Core.List.{List, [], _∷_}
+use mathlib.Core.List.{List}
 use Prim.Native.Nat.{ℕ, _<_}
 use lib.Dec.{eqb}
 use Rattle.bits.specs.Choice.{pick}
-use Rattle.bits.specs.Bits.{has, maskOf, clearUnless}
+use Rattle.bits.specs.Bits.{has, clearUnless}
 use Rattle.x86defs.specs.Functions.{result}
-use Rattle.x86defs.specs.VersionAndFeaturesEcx as Version
-use Rattle.x86defs.specs.ExtendedVersionAndFeaturesEcx as ExtendedEcx
 use Rattle.masking.specs.Kept.{places}
 use Rattle.masking.specs.Place
 use Rattle.table.specs.declared.Choices.{Choices}
@@ -17,16 +15,9 @@ use Rattle.table.specs.declared.CpuidResults.{CpuidResults}
 use Rattle.table.specs.declared.Verdict.the-variants.{Accepted}
 use Rattle.table.specs.Rows.{Row}
 use Rattle.table.specs.Table.{rowIn}
+use Rattle.features.specs.Finish.{f16c, xopAndFma4}
 use Rattle.build.specs.Build.{rowsFor, answer}
 use Rattle.rise.specs.Rise.{withEdition}
-
--- the three bits: F16C of 1.ECX; XOP and FMA4 of 80000001h.ECX
-unfoldable pub f16c : ℕ
-f16c = maskOf Version.position (Version.VersionAndFeaturesEcx.f16c ∷ [])
-
-unfoldable pub xopAndFma4 : ℕ
-xopAndFma4 =
-    maskOf ExtendedEcx.position (ExtendedEcx.ExtendedVersionAndFeaturesEcx.xop ∷ ExtendedEcx.ExtendedVersionAndFeaturesEcx.fma4 ∷ [])
 
 -- a row with bits of ECX cleared, unless they are kept
 abbrev pub clearEcx : Bool → ℕ → Row → Row

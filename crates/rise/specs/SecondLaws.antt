@@ -19,9 +19,9 @@ use Rattle.masking.specs.Kept.{places}
 use Rattle.masking.specs.Place
 use Rattle.table.specs.Rows.{Row, Rows, row, vacant}
 use Rattle.checks.specs.ExtendedState.{xfem}
-use Rattle.features.specs.Finish.{Enabled, Rule, edition1, edition2, ymmClears, ruleAt, enabledBy, settings, versionEcx, featuresEbx, featuresEcx, extendedVersionEcx, hasYmm, finish, remains, finished, hypervisorPresent}
+use Rattle.features.specs.Finish.{Enabled, Rule, edition1, edition2, f16c, xopAndFma4, ymmClears, ruleAt, enabledBy, settings, versionEcx, featuresEbx, featuresEcx, extendedVersionEcx, hasYmm, finish, remains, finished, hypervisorPresent}
 use Rattle.features.specs.Finish.Rule.{made, needed, component}
-use Rattle.rise.specs.Second.{f16c, xopAndFma4, clearEcx, secondRow}
+use Rattle.rise.specs.Second.{clearEcx, secondRow}
 
 -- ---- the two registers, where state is missing
 
@@ -81,7 +81,7 @@ same-elsewhere : (m : Rows) (r : ℕ → CpuidResult) (i : ℕ) → i < places �
     → finish (settings 2 m) (ruleAt i) (r i) ≡ finish (settings 1 m) (ruleAt i) (r i)
 same-elsewhere m r i l e = sym (pick-false _ _ e) ∙ tabulate-at places _ _ (all-same m r) i l ∙ pick-false _ _ e
 
-zero-clears : (keep : Bool) (k : ℕ) → clearUnless keep k 0 ≡ 0
+pub zero-clears : (keep : Bool) (k : ℕ) → clearUnless keep k 0 ≡ 0
 unfolding clearUnless clear
 zero-clears true k = refl
 zero-clears false k = and-zero-l (2 ^ 32 - 1 - k)

@@ -23,13 +23,13 @@ use Rattle.checks.specs.ExtendedState.{xfem}
 use Rattle.memory.specs.Origin.{originOf, originNumber}
 use Rattle.collect.specs.Stands.{standsAt}
 use Rattle.collect.specs.RowsFit.{rows-fit}
-use Rattle.features.specs.Finish.{ymmClears, enabledBy, settings, finished}
+use Rattle.features.specs.Finish.{f16c, xopAndFma4, ymmClears, enabledBy, settings, finished}
 use Rattle.build.specs.Build.{editionVerdict, rowsFor, verdictOf, originsIn, answer, originAt}
 use Rattle.rise.specs.Rise.{withEdition}
 use Rattle.rise.specs.RiseProof.{answer-table, answer-row, answer-mask}
 use Rattle.rise.specs.BuiltLaws.{always-finished, result-at, built-xfem}
 use Rattle.rise.specs.LocatedProof.{refused-has-none}
-use Rattle.rise.specs.Second.{f16c, xopAndFma4, clearEcx, secondRow, hasYmmState, SecondTable, SecondEdition, FirstEdition}
+use Rattle.rise.specs.Second.{clearEcx, secondRow, hasYmmState, SecondTable, SecondEdition, FirstEdition}
 use Rattle.rise.specs.SecondLaws.{extended-first, finished-second}
 
 -- clearing bits of ECX leaves which rows are there

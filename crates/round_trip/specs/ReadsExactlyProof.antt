@@ -8,7 +8,7 @@ use native.Mathlib.Omega.{arith}
 use lib.Dec.{eqb, leb, ltb}
 use lib.ListN.{length, drop}
 use borrow.Author.Tests.{leb-true, leb-false, le-leb, eqb-true, eq-eqb, ltb-true, ltb-false, le-ltb, not-true}
-use Rattle.bits.specs.ChoiceLaws.{never-both, and-left, and-right, and-both}
+use Rattle.bits.specs.ChoiceLaws.{never-both, and-left, and-right, and-both, impossible}
 use Rattle.bits.specs.Lists.{tabulate}
 use Rattle.table.specs.declared.Refusal.{Refusal}
 use Rattle.table.specs.declared.Refusal.the-variants.{ListLength, ListRows, ListFields, BufferTooShort}
@@ -92,9 +92,6 @@ rows-fail l e h = never-both (and-both (le-leb _ 64 (h .0)) (le-leb _ 64 (h .1))
 -- ---- all answers
 
 -- what follows where two constructors would be equal
-impossible {ℓ} : {A : Type ℓ} → _≡_ {A = ℕ} 0 1 → A
-impossible e = absurd (omega arith)
-
 module _ (l buffer : List ℕ) where
   abbrev s : List ℕ
   s = pagesOf (rowsListed l)

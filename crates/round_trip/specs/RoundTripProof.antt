@@ -37,7 +37,7 @@ use Rattle.kvm_import.specs.ListPages.{pagesOf}
 use Rattle.kvm_import.specs.PagesLaws.{pages-length as two-pages}
 use Rattle.kvm_import.specs.Import.{listVerdict, readList}
 use Rattle.kvm_export.specs.Export.{listRows, listOf, writeList}
-use Rattle.kvm_export.specs.ExportListLaws.{count-rows, list-length}
+use Rattle.kvm_export.specs.ExportListLaws.{count-rows, export-length}
 use Rattle.round_trip.specs.Again.{readAgain, again}
 use Rattle.round_trip.specs.RowsAgain.{built-again}
 use Rattle.round_trip.specs.MaskedRows.{rows-masked}
@@ -98,7 +98,7 @@ list-size m x =
     let n : rowsAmong (t .present) 0 places ≡ countRows m =
     sum-ext (λ i. one (getD (t .present) (0 + i) false)) (λ i. one (m i .present)) places
     (λ i l. ap (λ (k : ℕ). one (getD (t .present) k false)) (zero-add i) ∙ ap one (getD-tabulate places (λ j. m j .present) i false l)) in
-    list-length t ∙ omega (arith, count-rows t, n)
+    export-length t ∙ omega (arith, count-rows t, n)
 
 answer-size : (chosen : Choices) (s : List ℕ) → answer chosen s .verdict ≡ Accepted → length (listOf (answer chosen s .table)) ≡ listLength chosen s
 answer-size chosen s e = rw (answer-table chosen s e) (list-size _ _)

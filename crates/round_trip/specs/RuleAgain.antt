@@ -16,6 +16,7 @@ use Rattle.features.specs.Finish.{Needed, Rule, changeRow, Enabled, YmmClears, 
 use Rattle.features.specs.Finish.Needed.{versionAndFeatures, extendedFeatures, threadLevelRow, coreLevelRow, extendedState0, extendedState1, extendedVersionAndFeatures, extendedAddressSpaceSizes, untouched}
 use Rattle.features.specs.Finish.Rule.{made, needed, component}
 use Rattle.finish.specs.Kinds.{fromEntry}
+use Rattle.finish.specs.PlaceLaws.{isNeeded}
 use Rattle.collect.specs.FirstEntries.{maskedAt}
 
 -- ---- rules that keep some bits and set some, bit by bit
@@ -130,24 +131,11 @@ addressSizesEbx-again m x h e =
 
 -- ---- each rule: a row that masking leaves as it is
 
-abbrev sizesNeeded : Needed → Bool
-sizesNeeded extendedAddressSpaceSizes = true
-sizesNeeded versionAndFeatures = false
-sizesNeeded extendedFeatures = false
-sizesNeeded threadLevelRow = false
-sizesNeeded coreLevelRow = false
-sizesNeeded extendedState0 = false
-sizesNeeded extendedState1 = false
-sizesNeeded extendedVersionAndFeatures = false
-sizesNeeded untouched = false
-
 abbrev pub isSizes : Rule → Bool
-isSizes (made t) = false
-isSizes (needed t) = sizesNeeded t
-isSizes (component k) = false
+isSizes = isNeeded extendedAddressSpaceSizes
 
 module _ (c : Settings) (avic : Bool) (i : ℕ) (r : CpuidResult) where
-  change-again : (t : Needed) → maskedAt avic i r ≡ r → (sizesNeeded t ≡ true → bit 12 (masksAt avic i .ebx) ≡ 1)
+  change-again : (t : Needed) → maskedAt avic i r ≡ r → (isSizes (needed t) ≡ true → bit 12 (masksAt avic i .ebx) ≡ 1)
       → changeRow c t (maskedAt avic i (changeRow c t r)) ≡ changeRow c t r
   change-again versionAndFeatures e h = λ k.
       result (e k .eax) (e k .ebx) (versionEcx-again (c .clears) (c .enabled) _ _ (λ j. e j .ecx) k) (e k .edx)

@@ -108,8 +108,8 @@ module _ (t : CpuidResults) where
   unfolding badListLength listOf
   good-length =
       let e : eqb (length (listOf t)) (8 + 40 * rowCount (listOf t)) ≡ true =
-      eq-eqb _ _ (list-length (listRows t) small ∙ ap (λ (n : ℕ). 8 + 40 * n) (sym (list-count (listRows t) small))) in
-      rw (le-ltb (length (listOf t)) 8 (omega (arith, list-length (listRows t) small)), e)
+      eq-eqb _ _ (list-length (listRows t) ∙ ap (λ (n : ℕ). 8 + 40 * n) (sym (list-count (listRows t) small))) in
+      rw (le-ltb (length (listOf t)) 8 (omega (arith, list-length (listRows t))), e)
 
   good-fields : fieldsLawful (listOf t) ≡ true
   unfolding fieldsLawful listOf listRows

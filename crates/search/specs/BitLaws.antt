@@ -21,8 +21,8 @@ use Rattle.rows_finished.specs.Finished.{Answered}
 use Rattle.flips.specs.OneBit.{oneBit, xorResult}
 use Rattle.search.specs.SameVerdict.{sameResult, sameTable, sameVerdict, sameAnswer, sameFrom}
 use Rattle.search.specs.SameLaws.{result-equal}
-use Rattle.search.specs.PutRow.{putRow}
-use Rattle.search.specs.PutRowLaws.{put-same}
+use Rattle.search.specs.WithRow.{withRow}
+use Rattle.search.specs.WithRowLaws.{put-same}
 use Rattle.search.specs.ChangesLaws.{from-equal}
 use Rattle.search.specs.Quiet.{quiet}
 use Rattle.search.specs.QuietLaws.{quiet-same}
@@ -44,7 +44,7 @@ answer-to n a e = record {
 
 -- whether flip j of an entry's registers x, masked for place i, keeps the answer
 unfoldable pub keeps : ℕ → Rows → KeptLeaf → ℕ → CpuidResult → ℕ → Bool
-keeps n m kept i x j = sameFrom n (putRow i (setLegacy i (applyMask (masksOf kept) (xorResult x (oneBit (j / 32) (j % 32))))) m) m
+keeps n m kept i x j = sameFrom n (withRow i (setLegacy i (applyMask (masksOf kept) (xorResult x (oneBit (j / 32) (j % 32))))) m) m
 
 abbrev pub bitFound : Failing → Deciding
 bitFound (at j) = Number j
@@ -56,10 +56,10 @@ firstBit n m kept i x = bitFound (lowest (keeps n m kept i x) 0 128)
 module _ (n : ℕ) (m : Rows) (kept : KeptLeaf) (i : ℕ) (x : CpuidResult) where
   -- what the code finds of flip j
   pub keeps-found : {y z : CpuidResult} {b : Bool} (j : ℕ) → y ≡ xorResult x (oneBit (j / 32) (j % 32)) → z ≡ setLegacy i (applyMask (masksOf kept) y)
-      → b ≡ sameFrom n (putRow i z m) m → b ≡ keeps n m kept i x j
+      → b ≡ sameFrom n (withRow i z m) m → b ≡ keeps n m kept i x j
   unfolding keeps
   keeps-found j e f g =
-      g ∙ ap (λ (w : CpuidResult). sameFrom n (putRow i w m) m) (f ∙ ap (λ (w : CpuidResult). setLegacy i (applyMask (masksOf kept) w)) e)
+      g ∙ ap (λ (w : CpuidResult). sameFrom n (withRow i w m) m) (f ∙ ap (λ (w : CpuidResult). setLegacy i (applyMask (masksOf kept) w)) e)
 
   -- what is left to search from j on
   unfoldable pub bitFrom : ℕ → Deciding
@@ -87,7 +87,7 @@ module _ (n : ℕ) (m : Rows) (kept : KeptLeaf) (i : ℕ) (x : CpuidResult) wher
   bit-quiet e f = sym (ap bitFound (lowest-all (keeps n m kept i x) 0 128 (λ j l u. quiet-same n i _ m e f)))
 
 -- a row put where it stands already keeps the answer
-pub keeps-there : (n i : ℕ) (x y : CpuidResult) (m : Rows) → m i ≡ row y → sameResult y x ≡ true → true ≡ sameFrom n (putRow i x m) m
+pub keeps-there : (n i : ℕ) (x y : CpuidResult) (m : Rows) → m i ≡ row y → sameResult y x ≡ true → true ≡ sameFrom n (withRow i x m) m
 keeps-there n i x y m f g = sym (from-equal n (put-same i x m (f ∙ ap row (result-equal y x g))))
 
 -- what building from the rows with another row gives, held to the answer before

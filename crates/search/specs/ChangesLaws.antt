@@ -26,8 +26,8 @@ use Rattle.flips.specs.CleanLaws.{length-lawful, counts-lawful, stays-clean}
 use Rattle.search.specs.SameVerdict.{sameAnswer, sameFrom}
 use Rattle.search.specs.SameLaws.{answer-same}
 use Rattle.search.specs.Changes.{changes}
-use Rattle.search.specs.PutRow.{putRow}
-use Rattle.search.specs.PutRowLaws.{put-same}
+use Rattle.search.specs.WithRow.{withRow}
+use Rattle.search.specs.WithRowLaws.{put-same}
 use Rattle.search.specs.FlippedRowLaws.{firstAmong, flip-passed, taken-row, flip-put}
 
 -- ---- the answer of lawful pages
@@ -87,7 +87,7 @@ module _ (c : Choices) (s : List ℕ) (p q r k : ℕ) (h : Inside s p q r k) (kn
 
   -- in a first entry: what building from the 88 rows with that row changed does
   pub changes-row : (i : ℕ) → i < places → storedAt (entryAt s p q) ≡ i → firstAmong i done .present ≡ false → changes c s (flip p q r k)
-      ≡ not (sameFrom (c .edition) (putRow i (maskedAt (c .«secure_avic») i (xorResult (entryAt s p q .registers) (oneBit r k))) m) m)
+      ≡ not (sameFrom (c .edition) (withRow i (maskedAt (c .«secure_avic») i (xorResult (entryAt s p q .registers) (oneBit r k))) m) m)
   changes-row i l e f = changed-by (flip-put (c .«secure_avic») s p q r k h fit done es here i l e f)
 
   -- in a first entry, outside the mask of its place

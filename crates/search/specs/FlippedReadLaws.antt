@@ -20,8 +20,8 @@ use Rattle.checks.specs.ExtendedStateLaws.{area-mono, in-combined}
 use Rattle.checks.specs.TopologyInputs.{inputsOf}
 use Rattle.checks.specs.Checks.{refuseAt, missingComponent, sizeVerdict, topologyRefusal, invlpgbOf, invlpgbVerdict, componentsOf, componentsVerdict, areaVerdict, topologyVerdict, rowsVerdict}
 use Rattle.features.specs.Finish.{enabledBy, ymmClears, settings}
-use Rattle.search.specs.PutRow.{putRow}
-use Rattle.search.specs.PutRowLaws.{put-other, put-present, required-same}
+use Rattle.search.specs.WithRow.{withRow}
+use Rattle.search.specs.WithRowLaws.{put-other, put-present, required-same}
 
 -- place i is none that a check reads the registers of
 pub record Unread (m : Rows) (i : ℕ) : Type 0 where
@@ -34,7 +34,7 @@ pub record Unread (m : Rows) (i : ℕ) : Type 0 where
 
 module _ (i : ℕ) (x : CpuidResult) (m : Rows) (present : m i .present ≡ true) (u : Unread m i) where
   abbrev o : Rows
-  o = putRow i x m
+  o = withRow i x m
 
   xfem-same : xfem o ≡ xfem m
   unfolding xfem

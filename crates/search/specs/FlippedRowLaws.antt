@@ -21,7 +21,7 @@ use Rattle.flips.specs.Flips.{flip, flipped}
 use Rattle.flips.specs.OneBit.{oneBit, xorResult, flipEntry}
 use Rattle.flips.specs.FlippedEntryLaws.{Inside}
 use Rattle.flips.specs.FlippedListLaws.{flip-among}
-use Rattle.search.specs.PutRow.{putRow}
+use Rattle.search.specs.WithRow.{withRow}
 
 -- the first counted of some entries at place i
 unfoldable pub firstAmong : ℕ → List Entry → Row
@@ -119,8 +119,8 @@ module _ (avic : Bool) (s : List ℕ) (p q r k : ℕ) (h : Inside s p q r k) (c 
 
   -- a flip in a first entry gives its row the masked flipped registers
   pub flip-put : (i : ℕ) → i < places → storedAt (entryAt s p q) ≡ i → firstAmong i done .present ≡ false
-      → rowsOf avic (flipped s (flip p q r k)) ≡ putRow i (maskedAt avic i (xorResult (entryAt s p q .registers) (oneBit r k))) (rowsOf avic s)
-  unfolding putRow
+      → rowsOf avic (flipped s (flip p q r k)) ≡ withRow i (maskedAt avic i (xorResult (entryAt s p q .registers) (oneBit r k))) (rowsOf avic s)
+  unfolding withRow
   flip-put i l e f = fun-ext (λ j. go j (ltb j places) (eqb j i) refl refl)
     where
       go : (j : ℕ) (a b : Bool) → ltb j places ≡ a → eqb j i ≡ b → rowsOf avic (flipped s (flip p q r k)) j

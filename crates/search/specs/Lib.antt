@@ -1,8 +1,8 @@
 pub mod SameVerdict
 pub mod SameLaws
 pub mod Changes
-pub mod PutRow
-pub mod PutRowLaws
+pub mod WithRow
+pub mod WithRowLaws
 pub mod FlippedRowLaws
 pub mod ChangesLaws
 pub mod FlippedMaskLaws

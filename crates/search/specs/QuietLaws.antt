@@ -24,8 +24,8 @@ use Rattle.finish.specs.PlaceLaws.{component-rule}
 use Rattle.finish.specs.RowsBuilt.{tableFor}
 use Rattle.search.specs.SameVerdict.{sameFrom}
 use Rattle.search.specs.SameLaws.{answer-same}
-use Rattle.search.specs.PutRow.{putRow}
-use Rattle.search.specs.PutRowLaws.{put-other, required-same}
+use Rattle.search.specs.WithRow.{withRow}
+use Rattle.search.specs.WithRowLaws.{put-other, required-same}
 use Rattle.search.specs.Quiet.{refuses, isComponent, isLevel, isRead, quietAt, quiet}
 use Rattle.search.specs.FlippedReadLaws.{Unread, mask-same, verdict-same, settings-same}
 
@@ -44,7 +44,7 @@ or-right false b e = e
 
 module _ (n i : ℕ) (x : CpuidResult) (m : Rows) (present : m i .present ≡ true) where
   abbrev o : Rows
-  o = putRow i x m
+  o = withRow i x m
 
   -- ---- a required leaf is missing
 
@@ -79,7 +79,7 @@ module _ (n i : ℕ) (x : CpuidResult) (m : Rows) (present : m i .present ≡ tr
   module _ (u : Unread m i) (sev : Place.extendedSevFeatures ≢ i)
       (ends : finishRow (settings n m) (ruleAt i) (row x) ≡ finishRow (settings n m) (ruleAt i) (m i)) where
     finished-same : finished n o ≡ finished n m
-    unfolding finished putRow
+    unfolding finished withRow
     finished-same = fun-ext (λ j. ap (λ (c : Settings). finishRow c (ruleAt j) (o j)) (settings-same i x m present u sev n) ∙ go j (eqb j i) refl)
       where
         go : (j : ℕ) (b : Bool) → eqb j i ≡ b

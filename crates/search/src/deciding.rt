@@ -21,7 +21,7 @@ ghost use Rattle.masking.specs.Kept.{places};
 ghost use Rattle.memory.specs.Memory.{rowsIn};
 ghost use Rattle.memory.specs.Held.{heldIn};
 ghost use Rattle.search.specs.SameVerdict.{sameFrom};
-ghost use Rattle.search.specs.PutRow.{putRow};
+ghost use Rattle.search.specs.WithRow.{withRow};
 ghost use Rattle.search.specs.BitLaws.{AnswerTo, firstBit};
 
 const BITS: u32 = 128;
@@ -89,7 +89,7 @@ fn keeps_answer(
     x: CpuidResult,
 ) -> bool
     requires { ⌜ (place < places) × AnswerTo edition (rowsIn (now registers) (now origins)) verdict (heldIn (now table) (now «table_origins»)) ⌝ }
-    ensures { λ r. ⌜ r ≡ sameFrom edition (putRow place x (rowsIn (now (registers .entry)) (now (origins .entry))))
+    ensures { λ r. ⌜ r ≡ sameFrom edition (withRow place x (rowsIn (now (registers .entry)) (now (origins .entry))))
         (rowsIn (now (registers .entry)) (now (origins .entry))) ⌝ }
 {
     let origin = origins[place];

@@ -4,15 +4,16 @@ use answers::SnpCpuidFound;
 use answers::SnpCpuidWritten;
 use answers::found_at;
 use answers::processor;
-use answers::subleaf_of;
 use answers::table_numbers;
 use answers::written_numbers;
 use masking::PLACES;
 use memory::REGISTERS;
 use table::Choices;
+use table::subleaf_of;
 ghost use mathlib.Core.Path.{_≡_};
 ghost use Rattle.guest.specs.GuestPages.{guestPages, writeGuest};
-ghost use Rattle.answers.specs.Answers.{choicesOf, processorOf, writtenNumbers, subleafOf};
+ghost use Rattle.table.specs.Numbers.{subleafOf};
+ghost use Rattle.answers.specs.Answers.{choicesOf, processorOf, writtenNumbers};
 ghost use Rattle.snp_cpuid.specs.GuestExports.{guestNumbers, guestFound};
 
 // Builds the table of the given pages, and tells whether the processor's guest is given its table.

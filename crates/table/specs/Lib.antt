@@ -1,4 +1,5 @@
 pub mod Refusal
+pub mod RefusalLaws
 pub mod Edition
 pub mod Rows
 pub mod Table

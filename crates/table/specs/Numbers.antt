@@ -1,6 +1,8 @@
 -- Document 01's number and details of each answer (crates/table/specs/Refusal.antt) as plain numbers: 0 for accepted, and a flag for
 -- whether a subleaf is named.
+use mathlib.Core.Bool.{Bool}
 use Prim.Native.Nat.{ℕ}
+use Rattle.bits.specs.Choice.{pick}
 use Rattle.topology.specs.declared.TopologyError.{TopologyError}
 use Rattle.table.specs.declared.Subleaf.{Subleaf}
 use Rattle.table.specs.declared.Subleaf.the-variants.{None, Some}
@@ -17,6 +19,10 @@ named (Some k) = 1
 abbrev pub subleafOr0 : Subleaf → ℕ
 subleafOr0 None = 0
 subleafOr0 (Some k) = k
+
+-- the subleaf of a flag and a number
+abbrev pub subleafOf : Bool → ℕ → Subleaf
+subleafOf has k = pick has (Some k) None
 
 abbrev pub detailNumbers : Details → AnswerNumbers
 detailNumbers d = record { number = d .number; leaf = d .leaf; «has_subleaf» = named (d .subleaf); subleaf = subleafOr0 (d .subleaf); s = d .s }

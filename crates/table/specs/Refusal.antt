@@ -1,6 +1,9 @@
 -- Document 01, "Where each check stands": the number of each refusal, and the leaf, subleaf and s that it carries; those not named
 -- are 0 or none. Numbers from 10 up are document 02's.
+use mathlib.Core.List.{[], _∷_}
 use Prim.Native.Nat.{ℕ}
+use lib.ListN.{getD}
+use Rattle.x86defs.specs.Functions.{function}
 use Rattle.topology.specs.declared.TopologyError.{TopologyError}
 use Rattle.topology.specs.declared.TopologyError.the-variants.{Hyperthreading, ProcessorCount, ThreadsPerUnit}
 use Rattle.table.specs.declared.Subleaf.{Subleaf}
@@ -47,6 +50,34 @@ details (ReservedBytes leaf) = record { number = 17; leaf = leaf .0; subleaf = N
 details PoolSets = alone 18
 details PoolDiffers = alone 19
 details NothingDecides = alone 20
+
+-- the refusal that a number and its details tell
+abbrev pub refusalWith : Details → Refusal
+refusalWith d =
+    getD
+    (PagesLength
+    ∷ PagesLength
+    ∷ PageCount
+    ∷ MissingRequiredResult (function (d .leaf)) (d .subleaf)
+    ∷ InvlpgbUnavailable
+    ∷ SaveAreaOverflow
+    ∷ TopologyInconsistent (Hyperthreading (d .s))
+    ∷ TopologyInconsistent (ProcessorCount (d .s))
+    ∷ TopologyInconsistent ThreadsPerUnit
+    ∷ BufferTooShort
+    ∷ ListLength
+    ∷ ListRows
+    ∷ ListFields
+    ∷ StateBeyondTable
+    ∷ CompactSizeTooLarge
+    ∷ UnknownEdition
+    ∷ EditionBack
+    ∷ ReservedBytes (function (d .leaf))
+    ∷ PoolSets
+    ∷ PoolDiffers
+    ∷ NothingDecides
+    ∷ [])
+    (d .number) PagesLength
 
 -- the first check that fails decides
 abbrev pub andThen : Verdict → Verdict → Verdict

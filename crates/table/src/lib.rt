@@ -6,6 +6,7 @@ use x86defs::CpuidFunction;
 use x86defs::CpuidResult;
 ghost use mathlib.Core.Path.{_≡_};
 ghost use Rattle.table.specs.Edition.{knownEdition};
+ghost use Rattle.table.specs.Numbers.{subleafOf};
 
 pub mod numbers;
 
@@ -29,6 +30,16 @@ pub fn known_edition(edition: u32) -> bool
 pub enum Subleaf {
     None,
     Some(u32),
+}
+
+// The subleaf that is named, or none.
+pub fn subleaf_of(named: bool, number: u32) -> Subleaf
+    ensures { λ r. ⌜ r ≡ subleafOf named number ⌝ }
+{
+    if named {
+        return Subleaf::Some(number);
+    }
+    Subleaf::None
 }
 
 // Why no table is given, or no answer from one. specs/Refusal.antt has the number and the details of each.

@@ -15,7 +15,7 @@ use Rattle.masking.specs.Place
 use Rattle.table.specs.declared.CpuidResults.{CpuidResults}
 use Rattle.table.specs.Rows.{Row}
 use Rattle.table.specs.Table.{rowIn}
-use Rattle.finish.specs.Kinds.{Kind, Kinds, kindsAt}
+use Rattle.finish.specs.Kinds.{Kind, Kinds, allRegisters, kindsAt}
 use Rattle.finish.specs.Kinds.Kind.{feature, featureBut28, area, freed, other}
 use Rattle.rise.specs.Decide.{risesTest}
 use Rattle.register_kinds.specs.declared.Register.{Register}
@@ -32,9 +32,7 @@ tableTest freed a b = eqb a b
 tableTest other a b = eqb a b
 
 abbrev pub registersTest : Kinds → CpuidResult → CpuidResult → Bool
-registersTest k a b =
-    tableTest (k .eax) (a .eax) (b .eax)
-    && (tableTest (k .ebx) (a .ebx) (b .ebx) && (tableTest (k .ecx) (a .ecx) (b .ecx) && tableTest (k .edx) (a .edx) (b .edx)))
+registersTest k a b = allRegisters tableTest k a b
 
 -- whether place i is that of a subleaf of Dh, from 2 up, that the mask y has and x has not
 unfoldable pub furtherTest : ℕ → ℕ → ℕ → Bool

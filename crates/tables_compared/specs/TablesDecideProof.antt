@@ -23,6 +23,7 @@ use Rattle.table.specs.declared.Subleaf.{Subleaf}
 use Rattle.table.specs.Table.{rowIn}
 use Rattle.finish.specs.Kinds.{Kind, Kinds, TableAtLeast, Registers, kindsAt}
 use Rattle.finish.specs.Kinds.Kind.{feature, featureBut28, area, freed, other}
+use Rattle.finish.specs.RegisterTestLaws.{registers-hold, registers-tested}
 use Rattle.rise.specs.Rise.{Further, TableRises}
 use Rattle.rise.specs.Decide.{test-rises, rises-test}
 use Rattle.register_kinds.specs.declared.Register.{Register}
@@ -60,20 +61,10 @@ module _ (k : Kinds) (a b : CpuidResult) where
   AtLeast q = TableAtLeast (kindOf q k) (valueOf q a) (valueOf q b)
 
   registers-pass : registersTest k a b ≡ true → Registers TableAtLeast k a b
-  registers-pass e =
-      let e₁ = and-right (passes Eax) _ e in
-      let e₂ = and-right (passes Ebx) _ e₁ in
-      record {
-        eax = test-at-least (k .eax) _ _ (and-left (passes Eax) _ e);
-        ebx = test-at-least (k .ebx) _ _ (and-left (passes Ebx) _ e₁);
-        ecx = test-at-least (k .ecx) _ _ (and-left (passes Ecx) _ e₂);
-        edx = test-at-least (k .edx) _ _ (and-right (passes Ecx) _ e₂);
-      }
+  registers-pass = registers-hold tableTest TableAtLeast test-at-least k a b
 
   pass-registers : Registers TableAtLeast k a b → registersTest k a b ≡ true
-  pass-registers h =
-      and-both (at-least-test (k .eax) _ _ (h .eax))
-      (and-both (at-least-test (k .ebx) _ _ (h .ebx)) (and-both (at-least-test (k .ecx) _ _ (h .ecx)) (at-least-test (k .edx) _ _ (h .edx))))
+  pass-registers = registers-tested tableTest TableAtLeast at-least-test k a b
 
   passed : (q : Register) → passes q ≡ true → AtLeast q
   passed q e = test-at-least (kindOf q k) (valueOf q a) (valueOf q b) e

@@ -17,11 +17,7 @@ use Rattle.x86defs.specs.Functions.{result}
 use Rattle.masking.specs.Kept.{places}
 use Rattle.table.specs.declared.Choices.{Choices}
 use Rattle.table.specs.declared.Subleaf.{Subleaf}
-use Rattle.topology.specs.declared.TopologyError.{TopologyError}
-use Rattle.topology.specs.declared.TopologyError.the-variants.{Hyperthreading, ProcessorCount, ThreadsPerUnit}
-use Rattle.table.specs.declared.Refusal.{Refusal}
-use Rattle.table.specs.declared.Refusal.the-variants.{PagesLength, PageCount, MissingRequiredResult, InvlpgbUnavailable, SaveAreaOverflow, TopologyInconsistent, BufferTooShort, ListLength, ListRows, ListFields, StateBeyondTable, CompactSizeTooLarge, UnknownEdition, EditionBack, ReservedBytes, PoolSets, PoolDiffers, NothingDecides}
-use Rattle.table.specs.Refusal.{details, topologyDetails}
+use Rattle.table.specs.RefusalLaws.{refusal-numbered}
 use Rattle.table.specs.declared.Verdict.{Verdict}
 use Rattle.table.specs.declared.Verdict.the-variants.{Accepted, Refused}
 use Rattle.table.specs.Rows.{Row, Rows}
@@ -93,32 +89,7 @@ pub record ExportsRise (chosen : Choices) (a b : List ℕ) : Type 0 where
 
 -- ---- the proof
 
--- an answer with number 0 is accepted: a refusal's number is at least 1
-topology-numbered : (e : TopologyError) → topologyDetails e .number ≡ 0 → ⊥
-topology-numbered (Hyperthreading s) e = omega arith
-topology-numbered (ProcessorCount s) e = omega arith
-topology-numbered ThreadsPerUnit e = omega arith
-
-refusal-numbered : (r : Refusal) → details r .number ≡ 0 → ⊥
-refusal-numbered PagesLength e = omega arith
-refusal-numbered PageCount e = omega arith
-refusal-numbered (MissingRequiredResult leaf subleaf) e = omega arith
-refusal-numbered InvlpgbUnavailable e = omega arith
-refusal-numbered SaveAreaOverflow e = omega arith
-refusal-numbered (TopologyInconsistent t) e = topology-numbered t e
-refusal-numbered BufferTooShort e = omega arith
-refusal-numbered ListLength e = omega arith
-refusal-numbered ListRows e = omega arith
-refusal-numbered ListFields e = omega arith
-refusal-numbered StateBeyondTable e = omega arith
-refusal-numbered CompactSizeTooLarge e = omega arith
-refusal-numbered UnknownEdition e = omega arith
-refusal-numbered EditionBack e = omega arith
-refusal-numbered (ReservedBytes leaf) e = omega arith
-refusal-numbered PoolSets e = omega arith
-refusal-numbered PoolDiffers e = omega arith
-refusal-numbered NothingDecides e = omega arith
-
+-- an answer with number 0 is accepted
 pub verdict-numbered : (v : Verdict) → numbersOf v .number ≡ 0 → v ≡ Accepted
 verdict-numbered Accepted e = refl
 verdict-numbered (Refused r) e = absurd (refusal-numbered r e)

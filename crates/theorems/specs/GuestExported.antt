@@ -7,9 +7,8 @@ use mathlib.Core.List.{List}
 use mathlib.Core.Logic.{_⊎_, inl, inr}
 use Prim.Native.Nat.{ℕ, _≤_, _<_}
 use native.Mathlib.Nat.{le-of-eq}
-use native.Mathlib.Omega.{arith}
 use lib.ListN.{length, length-replicate, getD-replicate}
-use Rattle.bits.specs.ChoiceLaws.{never-both}
+use Rattle.bits.specs.ChoiceLaws.{never-both, impossible}
 use Rattle.bits.specs.Bits.{Within}
 use Rattle.x86defs.specs.declared.CpuidFunction.{CpuidFunction}
 use Rattle.x86defs.specs.declared.CpuidResult.{CpuidResult}
@@ -75,9 +74,6 @@ pub record GuestExportsRise (chosen : Choices) (a b : List ℕ) (v : Processor) 
       ⊎ Further (guestPages chosen a v .table) (guestPages chosen b v .table) (placeAsked leaf subleaf enforce)
 
 -- ---- the proof
-
-impossible {ℓ} : {A : Type ℓ} → _≡_ {A = ℕ} 0 1 → A
-impossible e = absurd (omega arith)
 
 -- a guest's table has 88 places, given or not
 guest-whole : (chosen : Choices) (s : List ℕ) (v : Processor) → length (guestPages chosen s v .table .present) ≤ places

@@ -13,10 +13,10 @@ use Rattle.topologies.specs.GatherLaws.{gather-le}
 use Rattle.topologies.specs.Topologies.{acceptedInputs, inputsBytes}
 use Rattle.topologies.specs.CountLaws.{count-all}
 
-pub bytes-append : (a b : List Inputs) → inputsBytes (a ++ b) ≡ inputsBytes a ++ inputsBytes b
+pub inputs-append : (a b : List Inputs) → inputsBytes (a ++ b) ≡ inputsBytes a ++ inputsBytes b
 unfolding inputsBytes
-bytes-append [] b = refl
-bytes-append (i ∷ a) b = rw (bytes-append a b)
+inputs-append [] b = refl
+inputs-append (i ∷ a) b = rw (inputs-append a b)
 
 pub bytes-length : (a : List Inputs) → length (inputsBytes a) ≡ 5 * length a
 unfolding inputsBytes
@@ -43,7 +43,7 @@ wrote-join {a} {b} {c} {i} {j} {k} {xs} {ys} p q =
     let e : j ≡ i + length (inputsBytes xs) = omega (arith, p .index, bytes-length xs) in
     record {
       index = omega (arith, p .index, q .index, length-append xs ys);
-      bytes = q .bytes ∙ rw (p .bytes, e, bytes-append xs ys) (sets-append (inputsBytes xs) (inputsBytes ys) a i);
+      bytes = q .bytes ∙ rw (p .bytes, e, inputs-append xs ys) (sets-append (inputsBytes xs) (inputsBytes ys) a i);
     }
 
 pub wrote-as : {a b : List ℕ} {i j : ℕ} {xs ys : List Inputs} → ys ≡ xs → Wrote a i xs b j → Wrote a i ys b j

@@ -8,6 +8,7 @@ use Prim.Native.Nat.{_<_}
 use lib.Dec.{eqb, ltb}
 use lib.ListN.{length}
 use Rattle.bits.specs.Lists.{keepIf}
+use Rattle.bits.specs.Ascending.{Ascending}
 use Rattle.topology.specs.Topology.{Inputs}
 use Rattle.topologies.specs.Topologies.{accepts, acceptedInputs}
 
@@ -32,20 +33,11 @@ pub data Before (i j : Inputs) : Type 0 where
   by-mt : i .s ≡ j .s → i .nc ≡ j .nc → i .lps ≡ j .lps → i .mt < j .mt → Before i j
   by-t : i .s ≡ j .s → i .nc ≡ j .nc → i .lps ≡ j .lps → i .mt ≡ j .mt → i .t < j .t → Before i j
 
--- i stands before each of these; and each of these before all after it, so that none stands twice
-abbrev pub BeforeAll : Inputs → List Inputs → Type 0
-BeforeAll i [] = Unit
-BeforeAll i (j ∷ js) = Before i j × BeforeAll i js
-
-abbrev pub Ascending : List Inputs → Type 0
-Ascending [] = Unit
-Ascending (i ∷ is) = BeforeAll i is × Ascending is
-
 -- what P14 asks of a list
 pub record ListsAccepted (l : List Inputs) : Type 0 where
   pub each : (i : Inputs) → FieldsFit i → accepts i ≡ true → In i l
   pub no-other : (i : Inputs) → In i l → FieldsFit i × (accepts i ≡ true)
-  pub ascends : Ascending l
+  pub ascends : Ascending Before l
 
 -- the definition's list has it, and any list that has it is the definition's
 pub record Determined : Type 0 where

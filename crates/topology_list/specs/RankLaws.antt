@@ -5,8 +5,9 @@ use mathlib.Core.List.{List, [], _∷_}
 use Prim.Native.Nat.{ℕ, _+_, _*_, _<_}
 use native.Mathlib.Nat.{eq-or-lt-of-le}
 use native.Mathlib.Omega.{arith}
+use Rattle.bits.specs.Ascending.{BeforeAll, Ascending}
 use Rattle.topology.specs.Topology.{Inputs}
-use Rattle.topology_list.specs.Listed.{In, FieldsFit, Before, BeforeAll, Ascending}
+use Rattle.topology_list.specs.Listed.{In, FieldsFit, Before}
 use Rattle.topology_list.specs.Listed.Before.{by-s, by-nc, by-lps, by-mt, by-t}
 
 unfoldable pub rank : Inputs → ℕ
@@ -43,21 +44,21 @@ Rising (i ∷ is) = ((x : Inputs) → In x is → rank i < rank x) × Rising is
 
 -- ---- rising by rank is to ascend
 
-pub ascending-rises : (l : List Inputs) → ((i : Inputs) → In i l → FieldsFit i) → Ascending l → Rising l
+pub ascending-rises : (l : List Inputs) → ((i : Inputs) → In i l → FieldsFit i) → Ascending Before l → Rising l
 ascending-rises [] f a = tt
 ascending-rises (i ∷ is) f a = (below i is (f i (inl refl)) (λ x p. f x (inr p)) (a .0), ascending-rises is (λ x p. f x (inr p)) (a .1))
   where
-    below : (i : Inputs) (is : List Inputs) → FieldsFit i → ((x : Inputs) → In x is → FieldsFit x) → BeforeAll i is → (x : Inputs) → In x is → rank i < rank x
+    below : (i : Inputs) (is : List Inputs) → FieldsFit i → ((x : Inputs) → In x is → FieldsFit x) → BeforeAll Before i is → (x : Inputs) → In x is → rank i < rank x
     below i [] f g b x p = absurd p
     below i (j ∷ js) f g b x (inl e) = rw e (before-rank i j f (g j (inl refl)) (b .0))
     below i (j ∷ js) f g b x (inr p) = below i js f (λ y q. g y (inr q)) (b .1) x p
 
-pub rising-ascends : (l : List Inputs) → ((i : Inputs) → In i l → FieldsFit i) → Rising l → Ascending l
+pub rising-ascends : (l : List Inputs) → ((i : Inputs) → In i l → FieldsFit i) → Rising l → Ascending Before l
 rising-ascends [] f a = tt
 rising-ascends (i ∷ is) f a = (all i is (f i (inl refl)) (λ x p. f x (inr p)) (a .0), rising-ascends is (λ x p. f x (inr p)) (a .1))
   where
     all : (i : Inputs) (is : List Inputs) → FieldsFit i → ((x : Inputs) → In x is → FieldsFit x) → ((x : Inputs) → In x is → rank i < rank x)
-        → BeforeAll i is
+        → BeforeAll Before i is
     all i [] f g h = tt
     all i (j ∷ js) f g h = (rank-before i j f (g j (inl refl)) (h j (inl refl)), all i js f (λ x p. g x (inr p)) (λ x p. h x (inr p)))
 

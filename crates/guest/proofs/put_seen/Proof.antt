@@ -2,8 +2,8 @@
 use borrow.Author.Needs.{needs}
 use lib.Dec.{lit<}
 use Rattle.guest.specs.Guest.{versionSeen, levelSeen, sizeSeen}
-use Rattle.rows_finished.specs.FinishedLaws.{put-rowed}
-use Rattle.guest.specs.GuestTableLaws.{rowed, shown, seen-stored}
+use Rattle.memory.specs.MemoryLaws.{put-rowed, rowed}
+use Rattle.guest.specs.GuestTableLaws.{shown, seen-stored}
 use Rattle.guest.proofs.put_seen.Statement.{statement}
 use Rattle.guest.proofs.put_seen.Tie as tie
 

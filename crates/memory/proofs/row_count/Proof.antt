@@ -3,7 +3,7 @@ use borrow.Author.Needs.{needs}
 use mathlib.Core.Path.{_≡_}
 use Prim.Native.Nat.{_≤_, _-_}
 use native.Mathlib.Omega.{arith}
-use Rattle.memory.specs.Held.{countTo, count-starts, byte-le, count-next, count-all}
+use Rattle.memory.specs.Held.{countTo, count-starts, byte-le, count-next, count-ends}
 use Rattle.memory.proofs.row_count.Statement.{statement}
 use Rattle.memory.proofs.row_count.Tie as tie
 
@@ -17,7 +17,7 @@ loop-holds : tie.Need-loop-holds Inv-loop μ-loop
 loop-holds c = (search needs, search needs, count-starts (c .args .origins .now))
 
 returns : tie.Need-returns Inv-loop μ-loop
-returns c = λ w. let s = c .before in let q : s .loop .i ≡ 88 = omega arith in count-all w (s .before .args .origins .now) (rw q at (s .loop .inv .2))
+returns c = λ w. let s = c .before in let q : s .loop .i ≡ 88 = omega arith in count-ends w (s .before .args .origins .now) (rw q at (s .loop .inv .2))
 
 add-count : tie.Need-add-count Inv-loop μ-loop
 add-count c = omega (arith, byte-le (c .is-there .result))

@@ -4,7 +4,7 @@ use denote.Ref.{now}
 use borrow.Author.Needs.{needs}
 use Prim.Native.Nat.{_≤_}
 use lib.ListN.{length}
-use Rattle.program.specs.ProgramFits.{room, put-length, put-count, put-never, put-bytes}
+use Rattle.program.specs.ProgramFits.{room, put-room, put-count, put-never, put-bytes}
 use Rattle.program.proofs.put_output.Statement.{statement}
 use Rattle.program.proofs.put_output.Tie as tie
 
@@ -15,7 +15,7 @@ returns c =
     let enough : room ≤ length (now (a .out)) = omega arith in
     let n = put-count (now (a .input)) (now (a .out)) enough (w .write-output .ensures .0) (c .before .written .given .1) in
     let whole = put-bytes (now (a .input)) (now (a .out)) enough (w .write-output .ensures .1) n in
-    ((n, whole), put-length (now (a .input)) (now (a .out)) (omega arith) whole n)
+    ((n, whole), put-room (now (a .input)) (now (a .out)) (omega arith) whole n)
 
 returns-2 : tie.Need-returns-2
 returns-2 c =

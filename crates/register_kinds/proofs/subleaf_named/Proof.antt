@@ -1,13 +1,10 @@
--- `register_kinds::subleaf_named` meets its contract: with a subleaf, or none.
+-- `register_kinds::subleaf_named` meets its contract: whether the place has a subleaf, and which.
 use borrow.Author.Needs.{needs}
 use Rattle.register_kinds.proofs.subleaf_named.Statement.{statement}
 use Rattle.register_kinds.proofs.subleaf_named.Tie as tie
 
 returns : tie.Need-returns
-returns c = rw (← c .before .before .indexed-at .ensures, c .before .if1 .taken, c .subleaf-at .ensures)
-
-returns-2 : tie.Need-returns-2
-returns-2 c = rw (← c .before .indexed-at .ensures, c .if1 .left)
+returns c = cc
 
 pub subleaf-named-spec : {M : Type 1} → statement M
-subleaf-named-spec = tie.close (tie.spec (λ c κs. search needs) (λ c κs. search needs) returns returns-2)
+subleaf-named-spec = tie.close (tie.spec (λ c κs. search needs) (λ c κs. search needs) (λ c κs. search needs) returns)

@@ -1,12 +1,12 @@
 -- `features::YmmClears::of` meets its contract: the code's masks are the definition's figures, by edition.
 use borrow.Author.Tests.{eq-eqb, ne-eqb}
 use Rattle.bits.specs.Bits.{maskOf}
-use Rattle.features.specs.Finish.{ymmClears, edition1, edition2}
+use Rattle.features.specs.Finish.{ymmClears, edition1, edition2, xopAndFma4}
 use Rattle.features.proofs.YmmClears.of.Statement.{statement}
 use Rattle.features.proofs.YmmClears.of.Tie as tie
 
 returns : tie.Need-returns
-unfolding ymmClears edition1 edition2 maskOf
+unfolding ymmClears edition1 edition2 xopAndFma4 maskOf
 returns c = rw (eq-eqb _ _ (c .if1 .taken))
 
 returns-2 : tie.Need-returns-2

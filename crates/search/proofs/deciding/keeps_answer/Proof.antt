@@ -8,8 +8,8 @@ use Rattle.x86defs.specs.declared.CpuidResult.{CpuidResult}
 use Rattle.memory.specs.Memory.{rowsIn}
 use Rattle.memory.specs.Held.{heldIn}
 use Rattle.search.specs.SameVerdict.{sameResult}
-use Rattle.search.specs.PutRow.{putRow}
-use Rattle.search.specs.PutRowLaws.{there, put-row}
+use Rattle.search.specs.WithRow.{withRow}
+use Rattle.search.specs.WithRowLaws.{there, put-row}
 use Rattle.search.specs.BitLaws.{AnswerTo, answer-to, keeps-there, keeps-table, verdict-differs}
 use Rattle.search.proofs.deciding.keeps_answer.Statement.{statement}
 use Rattle.search.proofs.deciding.keeps_answer.Tie as tie
@@ -27,7 +27,7 @@ start b = b .before .before .before .before .before .before .before .before .bef
 
 answer : (b : tie.After-build-rows)
     → AnswerTo (start b .args .edition)
-    (putRow (start b .args .place) (start b .args .x) (rowsIn (start b .args .registers .now) (start b .args .origins .now)))
+    (withRow (start b .args .place) (start b .args .x) (rowsIn (start b .args .registers .now) (start b .args .origins .now)))
     (b .build-rows .result) (heldIn (b .build-rows .last .0) (b .build-rows .last .1 .0))
 answer b =
     let put = b .before .before .before in let z = put .before .before .before .before in let s = start b in

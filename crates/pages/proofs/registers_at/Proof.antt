@@ -1,8 +1,8 @@
--- `image_read::registers_at` meets its contract: four words.
+-- `pages::registers_at` meets its contract: four words.
 use borrow.Author.Needs.{needs}
-use Rattle.image_read.specs.ReadImage.{registersAt}
-use Rattle.image_read.proofs.registers_at.Statement.{statement}
-use Rattle.image_read.proofs.registers_at.Tie as tie
+use Rattle.pages.specs.Layout.{registersAt}
+use Rattle.pages.proofs.registers_at.Statement.{statement}
+use Rattle.pages.proofs.registers_at.Tie as tie
 
 returns : tie.Need-returns
 unfolding registersAt

@@ -19,12 +19,12 @@ use Rattle.memory.specs.Memory.{rowOf, isThere, rowsIn}
 use Rattle.memory.specs.MemoryLaws.{set-at, put-at}
 use Rattle.checks.specs.Required.{requiredCount, placeRequired}
 use Rattle.checks.specs.Checks.{refuseAt, missingRequired, requiredVerdict}
-use Rattle.search.specs.PutRow.{putRow}
+use Rattle.search.specs.WithRow.{withRow}
 
 module _ (i : ℕ) (x : CpuidResult) (m : Rows) where
   -- a row put where it stands already changes nothing
-  pub put-same : m i ≡ row x → putRow i x m ≡ m
-  unfolding putRow
+  pub put-same : m i ≡ row x → withRow i x m ≡ m
+  unfolding withRow
   put-same e = fun-ext (λ j. go j (eqb j i) refl)
     where
       go : (j : ℕ) (b : Bool) → eqb j i ≡ b → pick b (row x) (m j) ≡ m j
@@ -32,12 +32,12 @@ module _ (i : ℕ) (x : CpuidResult) (m : Rows) where
       go j false f = refl
 
   -- other places keep their rows
-  pub put-other : (j : ℕ) → j ≢ i → putRow i x m j ≡ m j
-  unfolding putRow
+  pub put-other : (j : ℕ) → j ≢ i → withRow i x m j ≡ m j
+  unfolding withRow
   put-other j n = pick-false _ _ (ne-eqb j i n)
 
-  pub put-present : m i .present ≡ true → (j : ℕ) → putRow i x m j .present ≡ m j .present
-  unfolding putRow
+  pub put-present : m i .present ≡ true → (j : ℕ) → withRow i x m j .present ≡ m j .present
+  unfolding withRow
   put-present e j = go (eqb j i) refl
     where
       go : (b : Bool) → eqb j i ≡ b → pick b (row x) (m j) .present ≡ m j .present
@@ -45,7 +45,7 @@ module _ (i : ℕ) (x : CpuidResult) (m : Rows) where
       go false f = refl
 
   -- so the check of required leaves finds what it found
-  pub required-same : m i .present ≡ true → requiredVerdict (putRow i x m) ≡ requiredVerdict m
+  pub required-same : m i .present ≡ true → requiredVerdict (withRow i x m) ≡ requiredVerdict m
   unfolding requiredVerdict
   required-same e =
       ap (λ (t : ℕ → Bool). refuseAt (lowest t 0 requiredCount) missingRequired) (fun-ext (λ j. put-present e (placeRequired j)))
@@ -56,8 +56,8 @@ there w o i e = λ k. record { present = e k; result = rowOf w i }
 
 -- a row stored in memory, with an origin
 pub put-row : (w o : List ℕ) (i : ℕ) (x : CpuidResult) (n : ℕ) → length w ≡ 4 * places → length o ≡ places → i < places → isThere n ≡ true
-    → rowsIn (Memory.putRow w i x) (set o i n) ≡ putRow i x (rowsIn w o)
-unfolding putRow
+    → rowsIn (Memory.putRow w i x) (set o i n) ≡ withRow i x (rowsIn w o)
+unfolding withRow
 put-row w o i x n a b h e = fun-ext (λ j. go j (eqb j i) refl)
   where
     go : (j : ℕ) (c : Bool) → eqb j i ≡ c → rowsIn (Memory.putRow w i x) (set o i n) j ≡ pick c (row x) (rowsIn w o j)

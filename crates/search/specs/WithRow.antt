@@ -5,5 +5,5 @@ use Rattle.bits.specs.Choice.{pick}
 use Rattle.x86defs.specs.declared.CpuidResult.{CpuidResult}
 use Rattle.table.specs.Rows.{Rows, row}
 
-unfoldable pub putRow : ℕ → CpuidResult → Rows → Rows
-putRow i x m j = pick (eqb j i) (row x) (m j)
+unfoldable pub withRow : ℕ → CpuidResult → Rows → Rows
+withRow i x m j = pick (eqb j i) (row x) (m j)
