@@ -52,8 +52,8 @@ use Rattle.search.specs.Changes.{changes}
 use Rattle.search.specs.WithRow.{withRow}
 use Rattle.search.specs.FlippedRowLaws.{firstAmong, first-none, first-cons, first-append}
 use Rattle.search.specs.ChangesLaws.{changes-nothing, changes-row}
-use Rattle.search.specs.declared.deciding.Deciding.{Deciding}
-use Rattle.search.specs.declared.deciding.Deciding.the-variants.{Number, NoNumber}
+use Rattle.search.specs.declared.decisive.Decisive.{Decisive}
+use Rattle.search.specs.declared.decisive.Decisive.the-variants.{Number, NoNumber}
 use Rattle.nearest.specs.declared.Nearest.{Nearest}
 use Rattle.nearest.specs.declared.Nearest.the-variants.{Bit, NoBit}
 use Rattle.nearest.specs.Nearest.{firstThat}
@@ -292,7 +292,7 @@ module _ {c : Choices} {s : List ℕ} {seen : List Bool} {i : CpuidPageIndex} {e
     entry-not-kept f = passes (not-kept seen at-place f)
 
     -- the first entry of its place; b is what the code finds at the collected rows
-    module _ (small : place < places) (new : getD seen place false ≡ false) {m : Rows} {kept : List KeptLeaf} {row : ℕ} {b : Deciding}
+    module _ (small : place < places) (new : getD seen place false ≡ false) {m : Rows} {kept : List KeptLeaf} {row : ℕ} {b : Decisive}
         (rows : m ≡ rowsFor c s) (table : kept ≡ Kept.table (c .«secure_avic»)) (masks : row ≡ rowOfPlace place)
         (bit : b ≡ firstBit (c .edition) m (getD kept row noRow) place (e .result)) where
       bit-here : firstBit (c .edition) (rowsFor c s) (getD kept row noRow) place (entryHere s i .registers) ≡ b

@@ -6,8 +6,8 @@ use masking::PLACES;
 use memory::REGISTERS;
 use memory::sized;
 use reader::Read;
-use search::deciding::Deciding;
-use search::deciding::first_bit;
+use search::decisive::Decisive;
+use search::decisive::first_bit;
 use table::Choices;
 use table::Refusal;
 use table::Verdict;
@@ -78,7 +78,7 @@ fn search_flips(
                         let row = masking::masks::mask_row(place);
                         let x = entry.result;
                         let bit = first_bit(registers, origins, edition, kept[row], place, x);
-                        if let Deciding::Number(b) = bit {
+                        if let Decisive::Number(b) = bit {
                             let position = index.function_index as u32;
                             return Nearest::Bit(Flip {
                                 page: index.page_index,

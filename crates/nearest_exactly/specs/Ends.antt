@@ -45,11 +45,11 @@ use Rattle.search.specs.Changes.{changes}
 use Rattle.search.specs.WithRow.{withRow}
 use Rattle.search.specs.WithRowLaws.{required-same}
 use Rattle.search.specs.FlippedRowLaws.{firstAmong, rows-present, taken-row}
-use Rattle.search.specs.Quiet.{quiet}
-use Rattle.search.specs.SearchReturnLaws.{quiet-missing, quiet-clear}
-use Rattle.search.specs.declared.deciding.Deciding.{Deciding}
-use Rattle.search.specs.declared.deciding.Deciding.the-variants.{Number, NoNumber}
-use Rattle.search.specs.BitLaws.{keeps, bitFound, firstBit, bit-quiet}
+use Rattle.search.specs.Irrelevant.{irrelevant}
+use Rattle.search.specs.SearchReturnLaws.{irrelevant-missing, irrelevant-clear}
+use Rattle.search.specs.declared.decisive.Decisive.{Decisive}
+use Rattle.search.specs.declared.decisive.Decisive.the-variants.{Number, NoNumber}
+use Rattle.search.specs.BitLaws.{keeps, bitFound, firstBit, bit-irrelevant}
 use Rattle.nearest.specs.declared.Nearest.{Nearest}
 use Rattle.nearest.specs.declared.Nearest.the-variants.{Bit, NoBit}
 use Rattle.nearest.specs.Nearest.{firstThat}
@@ -81,7 +81,7 @@ module _ (c : Choices) (s : List ℕ) (bytes : (n : ℕ) → getD s n 0 < 256) (
   abbrev entry : CpuidPageIndex → Entry
   entry i = entryAt s (i .«page_index») (i .«function_index»)
 
-  abbrev bitAt : ℕ → CpuidPageIndex → Deciding
+  abbrev bitAt : ℕ → CpuidPageIndex → Decisive
   bitAt place i = firstBit (c .edition) m (kept place) place (entry i .registers)
 
   -- an entry that is the first of its place
@@ -147,13 +147,13 @@ module _ (c : Choices) (s : List ℕ) (bytes : (n : ℕ) → getD s n 0 < 256) (
   nothing-decides r e =
       sym (walk (NoBit NothingDecides ≡ found) (λ seen. length seen ≡ places) (λ seen i w l q. searching-last c s seen i w l)
       (λ seen i place f q. inl (
-        sym (bit-quiet (c .edition) m (kept place) place _ (ap (λ (x : Row). x .present) (fresh-row seen i place f)) (missing place)),
+        sym (bit-irrelevant (c .edition) m (kept place) place _ (ap (λ (x : Row). x .present) (fresh-row seen i place f)) (missing place)),
         length-set seen place true ∙ q,
       ))
       (length (rest s (firstIndex s))) (replicate places false) (firstIndex s) (searching-first c s) (omega arith) (searching-first c s .whole))
     where
-      missing : (place : ℕ) → quiet m place ≡ true
-      missing place = sym (quiet-missing m place e)
+      missing : (place : ℕ) → irrelevant m place ≡ true
+      missing place = sym (irrelevant-missing m place e)
 
   -- ---- where none is missing, some flip does: at the latest that of INVLPGB
 
@@ -194,7 +194,7 @@ module _ (c : Choices) (s : List ℕ) (bytes : (n : ℕ) → getD s n 0 < 256) (
           → ((bitAt place i ≡ NoNumber) × (getD (set seen place true) sizes false ≡ false)) ⊎ ⊥
       fresh seen i place f q = go (bitAt place i) refl (eqb sizes place) refl
         where
-          go : (b : Deciding) → bitAt place i ≡ b → (d : Bool) → eqb sizes place ≡ d
+          go : (b : Decisive) → bitAt place i ≡ b → (d : Bool) → eqb sizes place ≡ d
               → ((bitAt place i ≡ NoNumber) × (getD (set seen place true) sizes false ≡ false)) ⊎ ⊥
           go (Number n) g d h =
               let z = search-found c s bytes known lawful seen i (f .searching) (f .on) place (f .small)
@@ -260,7 +260,7 @@ module _ (c : Choices) (s : List ℕ) (bytes : (n : ℕ) → getD s n 0 < 256) (
           go false h =
               let n : sizes ≢ place = eqb-false sizes place h in
               inl (
-                sym (bit-quiet (c .edition) m (kept place) place _ (ap (λ (x : Row). x .present) (fresh-row seen i place f))
-                    (sym (quiet-clear m place e clear) ∙ ap not (ne-eqb place sizes (λ z. n (sym z))))),
+                sym (bit-irrelevant (c .edition) m (kept place) place _ (ap (λ (x : Row). x .present) (fresh-row seen i place f))
+                    (sym (irrelevant-clear m place e clear) ∙ ap not (ne-eqb place sizes (λ z. n (sym z))))),
                 getD-set-other seen place sizes true false n ∙ q,
               )

@@ -24,10 +24,10 @@ use Rattle.search.specs.SameLaws.{result-equal}
 use Rattle.search.specs.WithRow.{withRow}
 use Rattle.search.specs.WithRowLaws.{put-same}
 use Rattle.search.specs.ChangesLaws.{from-equal}
-use Rattle.search.specs.Quiet.{quiet}
-use Rattle.search.specs.QuietLaws.{quiet-same}
-use Rattle.search.specs.declared.deciding.Deciding.{Deciding}
-use Rattle.search.specs.declared.deciding.Deciding.the-variants.{Number, NoNumber}
+use Rattle.search.specs.Irrelevant.{irrelevant}
+use Rattle.search.specs.IrrelevantLaws.{irrelevant-same}
+use Rattle.search.specs.declared.decisive.Decisive.{Decisive}
+use Rattle.search.specs.declared.decisive.Decisive.the-variants.{Number, NoNumber}
 
 -- what building from the rows under edition n gives
 pub record AnswerTo (n : ℕ) (m : Rows) (v : Verdict) (t : CpuidResults) : Type 0 where
@@ -46,11 +46,11 @@ answer-to n a e = record {
 unfoldable pub keeps : ℕ → Rows → KeptLeaf → ℕ → CpuidResult → ℕ → Bool
 keeps n m kept i x j = sameFrom n (withRow i (setLegacy i (applyMask (masksOf kept) (xorResult x (oneBit (j / 32) (j % 32))))) m) m
 
-abbrev pub bitFound : Failing → Deciding
+abbrev pub bitFound : Failing → Decisive
 bitFound (at j) = Number j
 bitFound none = NoNumber
 
-unfoldable pub firstBit : ℕ → Rows → KeptLeaf → ℕ → CpuidResult → Deciding
+unfoldable pub firstBit : ℕ → Rows → KeptLeaf → ℕ → CpuidResult → Decisive
 firstBit n m kept i x = bitFound (lowest (keeps n m kept i x) 0 128)
 
 module _ (n : ℕ) (m : Rows) (kept : KeptLeaf) (i : ℕ) (x : CpuidResult) where
@@ -62,7 +62,7 @@ module _ (n : ℕ) (m : Rows) (kept : KeptLeaf) (i : ℕ) (x : CpuidResult) wher
       g ∙ ap (λ (w : CpuidResult). sameFrom n (withRow i w m) m) (f ∙ ap (λ (w : CpuidResult). setLegacy i (applyMask (masksOf kept) w)) e)
 
   -- what is left to search from j on
-  unfoldable pub bitFrom : ℕ → Deciding
+  unfoldable pub bitFrom : ℕ → Decisive
   bitFrom j = bitFound (lowest (keeps n m kept i x) j (128 - j))
 
   pub bit-first : firstBit n m kept i x ≡ bitFrom 0
@@ -81,10 +81,10 @@ module _ (n : ℕ) (m : Rows) (kept : KeptLeaf) (i : ℕ) (x : CpuidResult) wher
   unfolding bitFrom
   bit-ends j l = ap bitFound (lowest-ends (keeps n m kept i x) 128 j l)
 
-  -- at a quiet place no bit decides
-  pub bit-quiet : m i .present ≡ true → quiet m i ≡ true → NoNumber ≡ firstBit n m kept i x
+  -- at a irrelevant place no bit decides
+  pub bit-irrelevant : m i .present ≡ true → irrelevant m i ≡ true → NoNumber ≡ firstBit n m kept i x
   unfolding firstBit keeps
-  bit-quiet e f = sym (ap bitFound (lowest-all (keeps n m kept i x) 0 128 (λ j l u. quiet-same n i _ m e f)))
+  bit-irrelevant e f = sym (ap bitFound (lowest-all (keeps n m kept i x) 0 128 (λ j l u. irrelevant-same n i _ m e f)))
 
 -- a row put where it stands already keeps the answer
 pub keeps-there : (n i : ℕ) (x y : CpuidResult) (m : Rows) → m i ≡ row y → sameResult y x ≡ true → true ≡ sameFrom n (withRow i x m) m

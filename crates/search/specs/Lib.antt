@@ -6,8 +6,8 @@ pub mod WithRowLaws
 pub mod FlippedRowLaws
 pub mod ChangesLaws
 pub mod FlippedMaskLaws
-pub mod Quiet
+pub mod Irrelevant
 pub mod FlippedReadLaws
-pub mod QuietLaws
+pub mod IrrelevantLaws
 pub mod SearchReturnLaws
 pub mod BitLaws

@@ -1,4 +1,4 @@
--- `quiet`, one case for each return of the function.
+-- `irrelevant`, one case for each return of the function.
 use mathlib.Core.Path.{_≡_, sym, ap, ap₂, _∙_}
 use mathlib.Core.Bool.{Bool, true, false, not}
 use Prim.Native.Nat.{ℕ, _-_, _≤_, _<_}
@@ -15,25 +15,25 @@ use Rattle.checks.specs.Checks.{requiredVerdict, invlpgbVerdict, rowsVerdict}
 use Rattle.rows_checked.specs.declared.Checked.{Checked}
 use Rattle.rows_checked.specs.Checked.{checkedRows, verdictOf}
 use Rattle.rows_checked.specs.CheckedLaws.{verdict-of}
-use Rattle.search.specs.Quiet.{refuses, isComponent, isLevel, isRead, quietAt, quiet}
+use Rattle.search.specs.Irrelevant.{refuses, isComponent, isLevel, isRead, irrelevantAt, irrelevant}
 
 module _ (m : Rows) (i : ℕ) where
-  pub quiet-missing : {r : Refusal} → requiredVerdict m ≡ Refused r → true ≡ quiet m i
-  unfolding quiet
-  quiet-missing e = rw e
+  pub irrelevant-missing : {r : Refusal} → requiredVerdict m ≡ Refused r → true ≡ irrelevant m i
+  unfolding irrelevant
+  irrelevant-missing e = rw e
 
-  pub quiet-clear : {r : Refusal} → requiredVerdict m ≡ Accepted → invlpgbVerdict m ≡ Refused r
-      → not (eqb i Place.extendedAddressSpaceSizes) ≡ quiet m i
-  unfolding quiet
-  quiet-clear e f = rw (e, f)
+  pub irrelevant-clear : {r : Refusal} → requiredVerdict m ≡ Accepted → invlpgbVerdict m ≡ Refused r
+      → not (eqb i Place.extendedAddressSpaceSizes) ≡ irrelevant m i
+  unfolding irrelevant
+  irrelevant-clear e f = rw (e, f)
 
   -- k is what the checks find
-  pub quiet-other : {k : Checked} {b q : Bool} {x : ℕ} → requiredVerdict m ≡ Accepted → invlpgbVerdict m ≡ Accepted
+  pub irrelevant-other : {k : Checked} {b q : Bool} {x : ℕ} → requiredVerdict m ≡ Accepted → invlpgbVerdict m ≡ Accepted
       → k ≡ checkedRows m → b ≡ refuses (verdictOf k) → x ≡ combinedMask m
-      → q ≡ quietAt b x i → q ≡ quiet m i
-  unfolding quiet checkedRows
-  quiet-other e f c g h k =
-      k ∙ ap₂ (λ (b : Bool) (x : ℕ). quietAt b x i) (g ∙ ap (λ (k : Checked). refuses (verdictOf k)) c ∙ ap refuses (verdict-of (rowsVerdict m) m)) h
+      → q ≡ irrelevantAt b x i → q ≡ irrelevant m i
+  unfolding irrelevant checkedRows
+  irrelevant-other e f c g h k =
+      k ∙ ap₂ (λ (b : Bool) (x : ℕ). irrelevantAt b x i) (g ∙ ap (λ (k : Checked). refuses (verdictOf k)) c ∙ ap refuses (verdict-of (rowsVerdict m) m)) h
       ∙ sym (rw (e, f))
 
 module _ (i : ℕ) where
@@ -45,18 +45,18 @@ module _ (i : ℕ) where
   component-below e = ltb-true i _ (and-right (leb (Place.extendedState 2) i) _ e)
 
 module _ (b : Bool) (x i : ℕ) where
-  pub at-component : isComponent i ≡ true → {h : Bool} → h ≡ has (i - Place.extendedState 0) x → not h ≡ quietAt b x i
-  unfolding quietAt
+  pub at-component : isComponent i ≡ true → {h : Bool} → h ≡ has (i - Place.extendedState 0) x → not h ≡ irrelevantAt b x i
+  unfolding irrelevantAt
   at-component e f = rw (e, f)
 
-  pub at-level : isComponent i ≡ false → isLevel i ≡ true → true ≡ quietAt b x i
-  unfolding quietAt
+  pub at-level : isComponent i ≡ false → isLevel i ≡ true → true ≡ irrelevantAt b x i
+  unfolding irrelevantAt
   at-level e f = rw (e, f)
 
-  pub at-read : isComponent i ≡ false → isLevel i ≡ false → isRead i ≡ true → false ≡ quietAt b x i
-  unfolding quietAt
+  pub at-read : isComponent i ≡ false → isLevel i ≡ false → isRead i ≡ true → false ≡ irrelevantAt b x i
+  unfolding irrelevantAt
   at-read e f g = rw (e, f, g)
 
-  pub at-unread : isComponent i ≡ false → isLevel i ≡ false → isRead i ≡ false → b ≡ quietAt b x i
-  unfolding quietAt
+  pub at-unread : isComponent i ≡ false → isLevel i ≡ false → isRead i ≡ false → b ≡ irrelevantAt b x i
+  unfolding irrelevantAt
   at-unread e f g = rw (e, f, g)

@@ -11,8 +11,8 @@ ghost use mathlib.Core.Path.{_≡_};
 ghost use Rattle.memory.specs.Held.{heldIn};
 ghost use Rattle.search.specs.SameVerdict.{sameResult, sameRow, sameTable, sameNumbers, sameVerdict};
 
-pub mod deciding;
-mod quiet;
+pub mod decisive;
+mod irrelevant;
 
 // Whether two verdicts are the same: the number and its details.
 pub fn same_verdict(v: Verdict, w: Verdict) -> bool

@@ -1,12 +1,12 @@
--- `search::deciding::first_bit` meets its contract: at a quiet place no bit decides; else the bits passed keep the answer.
+-- `search::decisive::first_bit` meets its contract: at a irrelevant place no bit decides; else the bits passed keep the answer.
 use borrow.Author.Needs.{needs}
 use native.Mathlib.Omega.{arith}
 use mathlib.Core.Path.{_≡_, refl, sym, _∙_}
 use Prim.Native.Nat.{_-_, _≤_}
 use Rattle.memory.specs.Memory.{rowsIn}
-use Rattle.search.specs.BitLaws.{firstBit, answer-to, keeps, keeps-found, bitFrom, bit-first, bit-passes, bit-stops, bit-ends, bit-quiet}
-use Rattle.search.proofs.deciding.first_bit.Statement.{statement}
-use Rattle.search.proofs.deciding.first_bit.Tie as tie
+use Rattle.search.specs.BitLaws.{firstBit, answer-to, keeps, keeps-found, bitFrom, bit-first, bit-passes, bit-stops, bit-ends, bit-irrelevant}
+use Rattle.search.proofs.decisive.first_bit.Statement.{statement}
+use Rattle.search.proofs.decisive.first_bit.Tie as tie
 
 abbrev Inv-loop : tie.InvT-loop
 Inv-loop registers origins edition kept place x origin table table-origins verdict n₀ n =
@@ -18,8 +18,8 @@ abbrev μ-loop : tie.MeasureT-loop
 returns : tie.Need-returns Inv-loop μ-loop
 returns c =
     let q = c .before in let t = q .before in let f = t .before in let s = f .before .before in
-    bit-quiet _ (rowsIn (s .args .registers .now) (s .args .origins .now)) _ _ _ (sym (f .is-there .ensures) ∙ t .if1 .taken)
-    (sym (q .is-quiet .ensures) ∙ c .if2 .taken)
+    bit-irrelevant _ (rowsIn (s .args .registers .now) (s .args .origins .now)) _ _ _ (sym (f .is-there .ensures) ∙ t .if1 .taken)
+    (sym (q .is-irrelevant .ensures) ∙ c .if2 .taken)
 
 keeps-answer-requires : tie.Need-keeps-answer-requires Inv-loop μ-loop
 keeps-answer-requires c κs =

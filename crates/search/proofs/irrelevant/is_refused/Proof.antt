@@ -1,7 +1,7 @@
--- `search::quiet::is_refused` meets its contract: by what the checks found.
+-- `search::irrelevant::is_refused` meets its contract: by what the checks found.
 use borrow.Author.Needs.{needs}
-use Rattle.search.proofs.quiet.is_refused.Statement.{statement}
-use Rattle.search.proofs.quiet.is_refused.Tie as tie
+use Rattle.search.proofs.irrelevant.is_refused.Statement.{statement}
+use Rattle.search.proofs.irrelevant.is_refused.Tie as tie
 
 returns : tie.Need-returns
 returns c = rw (c .before .checked .given .1)

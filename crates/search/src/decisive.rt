@@ -1,6 +1,6 @@
 // The bits of one first entry. Collected rows in lent memory and an entry's registers come in; the first of the 128 bits whose flip changes what
 // building answers to the rows goes out.
-use crate::quiet::is_quiet;
+use crate::irrelevant::is_irrelevant;
 use crate::same_result;
 use crate::same_table;
 use crate::same_verdict;
@@ -30,7 +30,7 @@ const BITS: u32 = 128;
 const TRIED: u64 = 1;
 
 // The first of an entry's 128 result bits that decides, by number: 32 times the register, and the bit.
-pub enum Deciding {
+pub enum Decisive {
     Number(u32),
     NoNumber,
 }
@@ -43,14 +43,14 @@ pub fn first_bit(
     kept: KeptLeaf,
     place: usize,
     x: CpuidResult,
-) -> Deciding
+) -> Decisive
     requires { ⌜ place < places ⌝ }
     ensures { λ r. ⌜ r ≡ firstBit edition (rowsIn (now (registers .entry)) (now (origins .entry))) kept place x ⌝ }
 {
     let origin = origins[place];
     if is_there(origin) {
-        if is_quiet(registers, origins, place) {
-            return Deciding::NoNumber;
+        if is_irrelevant(registers, origins, place) {
+            return Decisive::NoNumber;
         }
     }
     let mut table = *registers;
@@ -71,10 +71,10 @@ pub fn first_bit(
         ) {
             n += 1;
         } else {
-            return Deciding::Number(n);
+            return Decisive::Number(n);
         }
     }
-    Deciding::NoNumber
+    Decisive::NoNumber
 }
 
 // Whether another row at a place keeps the answer, which is the verdict and the table in the second memory. A row that is there already does.

@@ -31,11 +31,11 @@ isRead i =
     || (eqb i Place.extendedAddressSpaceSizes || (eqb i (Place.extendedState 0) || eqb i (Place.extendedState 1)))
 
 -- once the required leaves are there and INVLPGB is set; x is the combined mask
-unfoldable pub quietAt : Bool → ℕ → ℕ → Bool
-quietAt refused x i =
+unfoldable pub irrelevantAt : Bool → ℕ → ℕ → Bool
+irrelevantAt refused x i =
     pick (isComponent i) (not (has (i - Place.extendedState 0) x)) (pick (isLevel i) true (pick (isRead i) false refused))
 
-unfoldable pub quiet : Rows → ℕ → Bool
-quiet m i =
+unfoldable pub irrelevant : Rows → ℕ → Bool
+irrelevant m i =
     pick (refuses (requiredVerdict m)) true
-    (pick (refuses (invlpgbVerdict m)) (not (eqb i Place.extendedAddressSpaceSizes)) (quietAt (refuses (rowsVerdict m)) (combinedMask m) i))
+    (pick (refuses (invlpgbVerdict m)) (not (eqb i Place.extendedAddressSpaceSizes)) (irrelevantAt (refuses (rowsVerdict m)) (combinedMask m) i))

@@ -1,4 +1,4 @@
--- `search::deciding::keeps_answer` meets its contract: a row that is there already, or building anew.
+-- `search::decisive::keeps_answer` meets its contract: a row that is there already, or building anew.
 use borrow.Author.Needs.{needs}
 use mathlib.Core.Path.{_≡_, refl, sym, ap, _∙_}
 use mathlib.Core.List.{List}
@@ -11,8 +11,8 @@ use Rattle.search.specs.SameVerdict.{sameResult}
 use Rattle.search.specs.WithRow.{withRow}
 use Rattle.search.specs.WithRowLaws.{there, put-row}
 use Rattle.search.specs.BitLaws.{AnswerTo, answer-to, keeps-there, keeps-table, verdict-differs}
-use Rattle.search.proofs.deciding.keeps_answer.Statement.{statement}
-use Rattle.search.proofs.deciding.keeps_answer.Tie as tie
+use Rattle.search.proofs.decisive.keeps_answer.Statement.{statement}
+use Rattle.search.proofs.decisive.keeps_answer.Tie as tie
 
 returns : tie.Need-returns
 returns c =

@@ -1,4 +1,4 @@
--- At a quiet place no row changes the answer.
+-- At a irrelevant place no row changes the answer.
 use mathlib.Core.Path.{_≡_, refl, sym, ap, _∙_, fun-ext}
 use mathlib.Core.Bool.{Bool, true, false, not, _||_}
 use mathlib.Core.Logic.{_≢_}
@@ -26,7 +26,7 @@ use Rattle.search.specs.SameVerdict.{sameFrom}
 use Rattle.search.specs.SameLaws.{answer-same}
 use Rattle.search.specs.WithRow.{withRow}
 use Rattle.search.specs.WithRowLaws.{put-other, required-same}
-use Rattle.search.specs.Quiet.{refuses, isComponent, isLevel, isRead, quietAt, quiet}
+use Rattle.search.specs.Irrelevant.{refuses, isComponent, isLevel, isRead, irrelevantAt, irrelevant}
 use Rattle.search.specs.FlippedReadLaws.{Unread, mask-same, verdict-same, settings-same}
 
 -- a refused answer has an empty table, whatever the rows
@@ -48,17 +48,17 @@ module _ (n i : ℕ) (x : CpuidResult) (m : Rows) (present : m i .present ≡ tr
 
   -- ---- a required leaf is missing
 
-  required-quiet : (r : Refusal) → requiredVerdict m ≡ Refused r → sameFrom n o m ≡ true
-  required-quiet r e = refused-same n m o r (found m e) (found o (required-same i x m present ∙ e))
+  required-irrelevant : (r : Refusal) → requiredVerdict m ≡ Refused r → sameFrom n o m ≡ true
+  required-irrelevant r e = refused-same n m o r (found m e) (found o (required-same i x m present ∙ e))
     where
       found : (m : Rows) → requiredVerdict m ≡ Refused r → rowsVerdict m ≡ Refused r
       found m f = unfold rowsVerdict in rw f
 
   -- ---- INVLPGB is clear
 
-  invlpgb-quiet : (r : Refusal) → requiredVerdict m ≡ Accepted → invlpgbVerdict m ≡ Refused r → i ≢ Place.extendedAddressSpaceSizes
+  invlpgb-irrelevant : (r : Refusal) → requiredVerdict m ≡ Accepted → invlpgbVerdict m ≡ Refused r → i ≢ Place.extendedAddressSpaceSizes
       → sameFrom n o m ≡ true
-  invlpgb-quiet r e f d =
+  invlpgb-irrelevant r e f d =
       refused-same n m o r (found m e f)
       (found o (required-same i x m present ∙ e)
       (unfold invlpgbVerdict in ap (λ (q : Row). invlpgbOf (q .result)) (put-other i x m Place.extendedAddressSpaceSizes (λ z. d (sym z))) ∙ f))
@@ -97,8 +97,8 @@ module _ (n i : ℕ) (x : CpuidResult) (m : Rows) (present : m i .present ≡ tr
         (ap (λ (v : Verdict). tableFor n v o) (verdict-same i x m present u) ∙ table-same (rowsVerdict m))
 
   -- a D subleaf that the mask lacks is dropped
-  component-quiet : (k : ℕ) → i ≡ Place.extendedState k → 2 ≤ k → k < 64 → has k (combinedMask m) ≡ false → sameFrom n o m ≡ true
-  component-quiet k e l h f = unread-finished unread (λ z. omega arith) (dropped (row x) ∙ sym (dropped (m i)))
+  component-irrelevant : (k : ℕ) → i ≡ Place.extendedState k → 2 ≤ k → k < 64 → has k (combinedMask m) ≡ false → sameFrom n o m ≡ true
+  component-irrelevant k e l h f = unread-finished unread (λ z. omega arith) (dropped (row x) ∙ sym (dropped (m i)))
     where
       unread : Unread m i
       unread = record {
@@ -119,8 +119,8 @@ module _ (n i : ℕ) (x : CpuidResult) (m : Rows) (present : m i .present ≡ tr
     not-state k l h z = never-both (and-both (le-leb (Place.extendedState 2) i (omega arith)) (lt-ltb i (Place.extendedState 64) (omega arith))) c
 
     -- B.0 and B.1 are made here
-    level-quiet : isLevel i ≡ true → sameFrom n o m ≡ true
-    level-quiet e = go (eqb i Place.threadLevel) refl e
+    level-irrelevant : isLevel i ≡ true → sameFrom n o m ≡ true
+    level-irrelevant e = go (eqb i Place.threadLevel) refl e
       where
         unread : (i < 6) → (1 < i) → Unread m i
         unread l h = record {
@@ -161,9 +161,9 @@ module _ (n i : ℕ) (x : CpuidResult) (m : Rows) (present : m i .present ≡ tr
           states = λ k l h f. not-state k l h;
         }
 
-  at-quiet : quietAt (refuses (rowsVerdict m)) (combinedMask m) i ≡ true → sameFrom n o m ≡ true
-  unfolding quietAt
-  at-quiet = go (isComponent i) refl
+  at-irrelevant : irrelevantAt (refuses (rowsVerdict m)) (combinedMask m) i ≡ true → sameFrom n o m ≡ true
+  unfolding irrelevantAt
+  at-irrelevant = go (isComponent i) refl
     where
       k : ℕ
       k = i - Place.extendedState 0
@@ -172,7 +172,7 @@ module _ (n i : ℕ) (x : CpuidResult) (m : Rows) (present : m i .present ≡ tr
       component c e =
           let l : Place.extendedState 2 ≤ i = leb-true _ i (and-left _ _ c) in
           let h : i < Place.extendedState 64 = ltb-true i _ (and-right (leb (Place.extendedState 2) i) _ c) in
-          component-quiet k (omega arith) (omega arith) (omega arith) (lacks (has k (combinedMask m)) e)
+          component-irrelevant k (omega arith) (omega arith) (omega arith) (lacks (has k (combinedMask m)) e)
         where
           lacks : (b : Bool) → not b ≡ true → b ≡ false
           lacks true f = absurd (never-both f refl)
@@ -180,7 +180,7 @@ module _ (n i : ℕ) (x : CpuidResult) (m : Rows) (present : m i .present ≡ tr
 
       other : isComponent i ≡ false → (a b : Bool) → isLevel i ≡ a → isRead i ≡ b → pick a true (pick b false (refuses (rowsVerdict m))) ≡ true
           → sameFrom n o m ≡ true
-      other c true b f g e = level-quiet c f
+      other c true b f g e = level-irrelevant c f
       other c false true f g e = absurd (never-both e refl)
       other c false false f g e = unread-refused (not-read c g) e
 
@@ -190,9 +190,9 @@ module _ (n i : ℕ) (x : CpuidResult) (m : Rows) (present : m i .present ≡ tr
       go true c e = component c e
       go false c e = other c (isLevel i) (isRead i) refl refl e
 
-  pub quiet-same : quiet m i ≡ true → sameFrom n o m ≡ true
-  unfolding quiet
-  quiet-same = go (requiredVerdict m) (invlpgbVerdict m) refl refl
+  pub irrelevant-same : irrelevant m i ≡ true → sameFrom n o m ≡ true
+  unfolding irrelevant
+  irrelevant-same = go (requiredVerdict m) (invlpgbVerdict m) refl refl
     where
       differs : (b : Bool) → eqb i Place.extendedAddressSpaceSizes ≡ b → not b ≡ true → i ≢ Place.extendedAddressSpaceSizes
       differs true f g = absurd (never-both g refl)
@@ -200,9 +200,9 @@ module _ (n i : ℕ) (x : CpuidResult) (m : Rows) (present : m i .present ≡ tr
 
       go : (v w : Verdict) → requiredVerdict m ≡ v → invlpgbVerdict m ≡ w
           → pick (refuses v) true
-          (pick (refuses w) (not (eqb i Place.extendedAddressSpaceSizes)) (quietAt (refuses (rowsVerdict m)) (combinedMask m) i))
+          (pick (refuses w) (not (eqb i Place.extendedAddressSpaceSizes)) (irrelevantAt (refuses (rowsVerdict m)) (combinedMask m) i))
           ≡ true
           → sameFrom n o m ≡ true
-      go (Refused r) w f g e = required-quiet r f
-      go Accepted (Refused r) f g e = invlpgb-quiet r f g (differs (eqb i Place.extendedAddressSpaceSizes) refl e)
-      go Accepted Accepted f g e = at-quiet e
+      go (Refused r) w f g e = required-irrelevant r f
+      go Accepted (Refused r) f g e = invlpgb-irrelevant r f g (differs (eqb i Place.extendedAddressSpaceSizes) refl e)
+      go Accepted Accepted f g e = at-irrelevant e

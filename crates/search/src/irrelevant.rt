@@ -13,11 +13,11 @@ use table::Verdict;
 ghost use mathlib.Core.Path.{_≡_};
 ghost use Rattle.memory.specs.Memory.{rowsIn};
 ghost use Rattle.rows_checked.specs.Checked.{verdictOf};
-ghost use Rattle.search.specs.Quiet.{refuses, isRead, quietAt, quiet};
+ghost use Rattle.search.specs.Irrelevant.{refuses, isRead, irrelevantAt, irrelevant};
 
 // Whether no row at a place would change the answer to the rows in memory.
-pub fn is_quiet(registers: &[u32; REGISTERS], origins: &[u64; PLACES], place: usize) -> bool
-    ensures { λ r. ⌜ r ≡ quiet (rowsIn (now (registers .entry)) (now (origins .entry))) place ⌝ }
+pub fn is_irrelevant(registers: &[u32; REGISTERS], origins: &[u64; PLACES], place: usize) -> bool
+    ensures { λ r. ⌜ r ≡ irrelevant (rowsIn (now (registers .entry)) (now (origins .entry))) place ⌝ }
 {
     let required = validate_required(origins);
     if let Verdict::Refused(_r) = required {
@@ -31,7 +31,7 @@ pub fn is_quiet(registers: &[u32; REGISTERS], origins: &[u64; PLACES], place: us
     let checked = check_rows(registers, origins);
     let subleaf0 = row_at(registers, place::EXTENDED_STATE_0);
     let subleaf1 = row_at(registers, place::EXTENDED_STATE_1);
-    quiet_at(
+    irrelevant_at(
         is_refused(checked),
         max_extended_state(subleaf0.eax, max_xss(subleaf1)),
         place,
@@ -50,8 +50,8 @@ fn is_refused(checked: Checked) -> bool
 
 // The same once the required leaves are there and INVLPGB is set: D subleaves that the combined mask lacks, B.0 and B.1, and of a refused set each
 // place that no check reads.
-fn quiet_at(refused: bool, mask: u64, place: usize) -> bool
-    ensures { λ r. ⌜ r ≡ quietAt refused mask place ⌝ }
+fn irrelevant_at(refused: bool, mask: u64, place: usize) -> bool
+    ensures { λ r. ⌜ r ≡ irrelevantAt refused mask place ⌝ }
 {
     if (place >= place::EXTENDED_STATE_0 + 2) & (place < place::EXTENDED_STATE_0 + 64) {
         return !bits::has_bit64(mask, (place - place::EXTENDED_STATE_0) as u32);

@@ -1,10 +1,10 @@
--- `search::quiet::quiet_at` meets its contract: one return a case.
+-- `search::irrelevant::irrelevant_at` meets its contract: one return a case.
 use borrow.Author.Needs.{needs}
 use native.Mathlib.Omega.{arith}
 use mathlib.Core.Path.{sym, _∙_}
 use Rattle.search.specs.SearchReturnLaws.{component-from, component-below, at-component, at-level, at-read, at-unread}
-use Rattle.search.proofs.quiet.quiet_at.Statement.{statement}
-use Rattle.search.proofs.quiet.quiet_at.Tie as tie
+use Rattle.search.proofs.irrelevant.irrelevant_at.Statement.{statement}
+use Rattle.search.proofs.irrelevant.irrelevant_at.Tie as tie
 
 sub-has-bit64 : tie.Need-sub-has-bit64
 sub-has-bit64 c = omega (arith, component-from (c .before .args .place) (c .if1 .taken))
@@ -28,8 +28,8 @@ returns-3 c = let l = c .before .before in at-read _ _ _ (l .before .if1 .left) 
 returns-4 : tie.Need-returns-4
 returns-4 c = let l = c .before .before in at-unread _ _ _ (l .before .if1 .left) (l .if2 .left) (sym (c .before .is-read .ensures) ∙ c .if3 .left)
 
-pub quiet-at-spec : {M : Type 1} → statement M
-quiet-at-spec =
+pub irrelevant-at-spec : {M : Type 1} → statement M
+irrelevant-at-spec =
     tie.close
     (tie.spec
     (λ c. search needs)
