@@ -103,17 +103,13 @@ impl exports::Found {
     /// The row that a lookup found.
     #[inline]
     pub(crate) fn row(self) -> Option<Found> {
-        // tests, the commonest first: a `match` becomes a table of jumps, which takes longer
-        let origin = if self.origin == 2 {
-            entry(self.page, self.entry)
-        } else if self.origin == 0 {
-            return None;
-        } else if self.origin == 1 {
-            Origin::MadeHere
-        } else {
+        let origin = match self.origin {
+            0 => return None,
+            1 => Origin::MadeHere,
+            2 => entry(self.page, self.entry),
+            3 => Origin::Unknown,
             // the library is proved to give no other
-            assert!(self.origin == 3, "origin {}", self.origin);
-            Origin::Unknown
+            other => unreachable!("origin {other}"),
         };
         Some(Found { result: CpuidResult { eax: self.eax, ebx: self.ebx, ecx: self.ecx, edx: self.edx }, origin })
     }
