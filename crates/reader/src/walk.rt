@@ -65,7 +65,7 @@ fn later_page(pages: &[u8], page: usize) -> CpuidPageIndex
 }
 
 // The first entry of the pages from `page` on, or the end: empty pages are passed over, as in the source's `next_valid_index`. The bound is in bytes:
-// the compiler then leaves the end of the pages out of the step from one entry to the next, which is four instructions shorter.
+// the compiler then leaves the end of the pages out of the step from one entry to the next, which is three instructions shorter.
 fn skip_empty(pages: &[u8], page: usize) -> CpuidPageIndex
     requires { ⌜ page ≤ pagesIn (now pages) ⌝ }
     ensures { λ r. ⌜ r ≡ firstFrom (now (pages .entry)) page ⌝ }
