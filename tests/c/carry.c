@@ -13,19 +13,11 @@
 #include <stdio.h>
 #include <stdlib.h>
 #include <string.h>
+#include "same.h"
 
 enum { PAGE = 4096, STATE_EAX = PAGE + 16 + 24, SUBLEAF_2_EAX = STATE_EAX + 2 * 48, ROOM = SNP_CPUID_MOST_IMAGE_BYTES + 16, FILL = 0xA5 };
 
 static uint8_t pages[2 * PAGE];
-static unsigned compared, different;
-
-static void same(bool is, const char *what) {
-    compared++;
-    if (!is) {
-        different++;
-        printf("not as it must be: %s\n", what);
-    }
-}
 
 /* The image of the pages under an edition, in a buffer whose other bytes are FILL. */
 static size_t image_of(uint32_t edition, uint8_t *image) {

@@ -11,20 +11,12 @@
 
 #include <stdio.h>
 #include <string.h>
+#include "same.h"
 
 enum { PAGE = 4096, SET = 2 * PAGE, MOST = 17, LEAF_1 = 16 + 48, ROOM = SNP_CPUID_MOST_IMAGE_BYTES + 16, FILL = 0xA5 };
 
 static uint8_t pages[MOST * SET];
 static uint64_t lengths[MOST];
-static unsigned compared, different;
-
-static void same(bool is, const char *what) {
-    compared++;
-    if (!is) {
-        different++;
-        printf("not as it must be: %s\n", what);
-    }
-}
 
 /* Server k is a copy of the first without some bits of a byte of leaf 1's ECX. */
 static void copy(unsigned k, unsigned byte, uint8_t gone) {

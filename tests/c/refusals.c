@@ -12,6 +12,7 @@
 
 #include <stdio.h>
 #include <string.h>
+#include "same.h"
 
 #if defined(__cplusplus)
 #define HOLDS(what, text) static_assert(what, text)
@@ -120,16 +121,6 @@ AT(tables_compared, subleaf, 12);
 AT(tables_compared, register_index, 16);
 
 enum { ROOM = 256, FILL = 0x5A };
-
-static unsigned compared, different;
-
-static void same(bool is, const char *what) {
-    compared++;
-    if (!is) {
-        different++;
-        printf("not as it must be: %s\n", what);
-    }
-}
 
 /* The message under every room from 0 to a little more than it takes. */
 static void says(struct snp_cpuid_refusal refusal, const char *message) {
