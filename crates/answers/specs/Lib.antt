@@ -4,3 +4,4 @@ pub mod LineAnswers
 pub mod CarriedAnswers
 pub mod PoolAnswers
 pub mod NearestAnswers
+pub mod Told

@@ -3,6 +3,7 @@ pub mod ExtendedState
 pub mod TopologyInputs
 pub mod Checks
 pub mod MaskLaws
+pub mod LowestLaws
 pub mod ScanLaws
 pub mod SaveAreaLaws
 pub mod ExtendedStateLaws

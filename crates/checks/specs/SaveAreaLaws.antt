@@ -6,6 +6,8 @@ use Prim.Native.Nat.{ℕ, zero, suc, _+_, _-_, _/_, _^_, _≤_, _<_, max}
 use native.Mathlib.Nat.{le-refl, le-trans, le-of-eq, eq-or-lt-of-le}
 use native.Mathlib.Numerals.{add-one}
 use native.Mathlib.Omega.{arith}
+use lib.Bits.{bitAnd}
+use lib.Count.{trailingZeros}
 use lib.Dec.{ltb, leb}
 use borrow.Author.Tests.{ltb-true, ltb-false, lt-ltb, le-ltb, le-leb}
 use Rattle.bits.specs.Choice.{pick}
@@ -13,7 +15,7 @@ use Rattle.bits.specs.Bits.{has}
 use Rattle.checks.specs.declared.Size.the-variants.{Bytes, TooLarge}
 use Rattle.table.specs.Rows.{Rows}
 use Rattle.checks.specs.ExtendedState.{sumAt, grown, areaBelow, saveArea, sizeOf}
-use Rattle.checks.specs.MaskLaws.{none-from}
+use Rattle.checks.specs.LowestLaws.{Left, Taken, left-taken, left-none}
 
 area-up : (m : Rows) (x j n : ℕ) → j ≤ n → areaBelow m x j ≤ areaBelow m x n
 unfolding areaBelow
@@ -25,14 +27,14 @@ area-next : (m : Rows) (x k : ℕ) → 2 ≤ k → areaBelow m x (k + 1) ≡ gro
 unfolding areaBelow
 area-next m x k l = rw (add-one, areaBelow, le-leb 2 k l)
 
--- no bit from k up: nothing is added any more
-area-stays : (m : Rows) (x k n : ℕ) → k ≤ n → ((j : ℕ) → k ≤ j → has j x ≡ false) → areaBelow m x n ≡ areaBelow m x k
+-- no bit from k up to n: nothing is added
+area-stays : (m : Rows) (x k n : ℕ) → k ≤ n → ((j : ℕ) → k ≤ j → j < n → has j x ≡ false) → areaBelow m x n ≡ areaBelow m x k
 unfolding areaBelow
 area-stays m x k zero h f = let q : 0 ≡ k = omega arith in ap (areaBelow m x) q
 area-stays m x k (suc n) h f =
     elim (eq-or-lt-of-le h) [
       | inl q ↦ sym (ap (areaBelow m x) q)
-      | inr q ↦ step (leb 2 n) (f n (omega arith)) ∙ area-stays m x k n (omega arith) f
+      | inr q ↦ step (leb 2 n) (f n (omega arith) (omega arith)) ∙ area-stays m x k n (omega arith) (λ j l u. f j l (omega arith))
     ]
   where
     step : (b : Bool) → has n x ≡ false → grown (areaBelow m x n) (b && has n x) (sumAt m n) ≡ areaBelow m x n
@@ -82,19 +84,57 @@ module _ (n : ℕ) {used : Bool} (sum : ℕ) where
 
 -- ---- the loop, at subleaf k with the area n so far
 
-pub area-starts : (m : Rows) (x : ℕ) → _≡_ {A = ℕ} 576 (areaBelow m x 2)
+area-starts : (m : Rows) (x : ℕ) → _≡_ {A = ℕ} 576 (areaBelow m x 2)
 unfolding areaBelow
 area-starts m x = refl
 
-module _ (m : Rows) (x n k : ℕ) (l : 2 ≤ k) (e : n ≡ areaBelow m x k) where
-  pub area-grows : {used : Bool} {v : ℕ} → used ≡ has k x → Bytes v ≡ sizeOf (grown n used (sumAt m k)) → (v ≡ areaBelow m x (k + 1)) × (v < 2 ^ 32)
-  area-grows {used} {v} f g =
-      let h : (v ≡ _) × (v < 2 ^ 32) = size-bytes _ v (rw (e, f) at g) in
-      (h .0 ∙ sym (area-next m x k l), h .1)
+-- the bits of the mask from bit k up are left, and the area is that of the subleaves below k
+pub record Growing (m : Rows) (x area rest : ℕ) : Type 0 where
+  pub k : ℕ
+  pub low : 2 ≤ k
+  pub high : k ≤ 64
+  pub below : area ≡ areaBelow m x k
+  pub small : area < 2 ^ 32
+  pub left : Left x rest k
 
-  pub area-overflows : {used : Bool} → k < 64 → used ≡ has k x → TooLarge ≡ sizeOf (grown n used (sumAt m k)) → TooLarge ≡ sizeOf (saveArea m x)
-  area-overflows u f g =
-      exceeds _ (le-trans (size-large _ (rw (e, f) at g)) (le-trans (le-of-eq (sym (area-next m x k l))) (area-up m x (k + 1) 64 (omega arith))))
+module _ (m : Rows) (x : ℕ) where
+  pub growing-starts : {rest : ℕ} → Left x rest 2 → Growing m x 576 rest
+  growing-starts l = record { k = 2; low = omega arith; high = omega arith; below = area-starts m x; small = omega arith; left = l }
 
-  pub area-ends : k ≤ 64 → n < 2 ^ 32 → x / 2 ^ k ≡ 0 → Bytes n ≡ sizeOf (saveArea m x)
-  area-ends u h z = rw (area-stays m x k 64 u (none-from x k z), ← e) (fits n h)
+  module _ {area rest : ℕ} (p : Growing m x area rest) where
+    module _ (n : ¬ (rest ≡ 0)) where
+      abbrev z : ℕ
+      z = trailingZeros 64 rest
+
+      pub growing-taken : Taken x rest (p .k) z
+      growing-taken = left-taken (p .left) n
+
+      two : 2 ≤ z
+      two = omega (arith, growing-taken .from, p .low)
+
+      -- the area with the subleaf that is taken
+      more : grown area true (sumAt m z) ≡ areaBelow m x (z + 1)
+      more =
+          let e : area ≡ areaBelow m x z = p .below ∙ sym (area-stays m x (p .k) z (growing-taken .from) (growing-taken .between)) in
+          sym (area-next m x z two ∙ rw (growing-taken .here, ← e))
+
+      pub growing-next : {v : ℕ} → Bytes v ≡ sizeOf (grown area true (sumAt m z)) → Growing m x v (bitAnd rest (rest - 1))
+      growing-next {v} g =
+          let h : (v ≡ _) × (v < 2 ^ 32) = size-bytes _ v g in
+          record {
+            k = z + 1;
+            low = omega (arith, two);
+            high = omega (arith, growing-taken .inside);
+            below = h .0 ∙ more;
+            small = h .1;
+            left = growing-taken .next;
+          }
+
+      pub growing-overflows : TooLarge ≡ sizeOf (grown area true (sumAt m z)) → TooLarge ≡ sizeOf (saveArea m x)
+      growing-overflows g =
+          exceeds _ (le-trans (size-large _ g) (le-trans (le-of-eq more) (area-up m x (z + 1) 64 (omega (arith, growing-taken .inside)))))
+
+    pub growing-ends : rest ≡ 0 → Bytes area ≡ sizeOf (saveArea m x)
+    growing-ends e =
+        fits area (p .small)
+        ∙ ap sizeOf (p .below ∙ sym (area-stays m x (p .k) 64 (p .high) (λ j a b. left-none (p .left) e j a)))

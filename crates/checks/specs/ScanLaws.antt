@@ -2,8 +2,10 @@
 use mathlib.Core.Path.{_≡_, refl, sym, ap, _∙_}
 use mathlib.Core.Bool.{Bool, true, false, not, _&&_}
 use mathlib.Core.List.{List}
-use Prim.Native.Nat.{ℕ, _+_, _-_, _/_, _^_, _≤_, _<_}
+use Prim.Native.Nat.{ℕ, zero, suc, _+_, _-_, _≤_, _<_}
 use native.Mathlib.Omega.{arith}
+use lib.Bits.{bitAnd}
+use lib.Count.{trailingZeros}
 use lib.Dec.{ltb}
 use borrow.Author.Tests.{ltb-true}
 use Rattle.bits.specs.Choice.{pick}
@@ -22,8 +24,8 @@ use Rattle.table.specs.Rows.{Rows}
 use Rattle.table.specs.Numbers.{subleafOf}
 use Rattle.checks.specs.Required.{commonRequiredLeaves, snpRequiredLeaves, requiredAt, requiredCount, placeRequired}
 use Rattle.checks.specs.ExtendedState.{supplied}
-use Rattle.checks.specs.Checks.{refuseAt, missingRequired, missingComponent}
-use Rattle.checks.specs.MaskLaws.{none-from}
+use Rattle.checks.specs.Checks.{refuseAt, missingRequired, missingComponent, componentsOf}
+use Rattle.checks.specs.LowestLaws.{Left, Taken, left-taken, left-none}
 
 -- refused at the first of the numbers from k up to n that fails the test
 unfoldable pub refuseFrom : (ℕ → Bool) → (ℕ → Refusal) → ℕ → ℕ → Verdict
@@ -87,6 +89,52 @@ module _ (m : Rows) (x k : ℕ) {used : Bool} (h : k < 64) (e : used ≡ has k x
   component-stops t =
       sym (scan-stops (supplied m x) missingComponent 64 k h (needed-missing (has k x) (m (Place.extendedState k) .present) (rw e at t)))
 
--- no bit is left
-pub components-none : (m : Rows) (x k : ℕ) → x / 2 ^ k ≡ 0 → Accepted ≡ componentsFrom m x k
-components-none m x k z = sym (scan-ends (supplied m x) missingComponent 64 k (λ j l u. rw (none-from x k z j l)))
+-- n subleaves from k on that the mask does not have
+components-skip : (m : Rows) (x n k : ℕ) → k + n ≤ 64 → ((j : ℕ) → k ≤ j → j < k + n → has j x ≡ false) → componentsFrom m x k ≡ componentsFrom m x (k + n)
+components-skip m x zero k u f = let e : k ≡ k + 0 = omega arith in ap (componentsFrom m x) e
+components-skip m x (suc n) k u f =
+    let e : k + 1 + n ≡ k + suc n = omega arith in
+    component-passes m x k (omega arith) refl (rw (f k (omega arith) (omega arith)))
+    ∙ components-skip m x n (k + 1) (omega arith) (λ j a b. f j (omega arith) (omega arith))
+    ∙ ap (componentsFrom m x) e
+
+-- what is left of the mask is its bits from k up, and what is refused from there on is what is refused
+pub record Scanning (m : Rows) (x rest : ℕ) : Type 0 where
+  pub k : ℕ
+  pub from : componentsOf m x ≡ componentsFrom m x k
+  pub left : Left x rest k
+
+module _ (m : Rows) (x : ℕ) where
+  pub scanning-starts : {rest : ℕ} → Left x rest 2 → Scanning m x rest
+  unfolding componentsOf refuseFrom
+  scanning-starts l = record { k = 2; from = refl; left = l }
+
+  module _ {rest : ℕ} (d : Scanning m x rest) where
+    module _ (n : ¬ (rest ≡ 0)) where
+      abbrev z : ℕ
+      z = trailingZeros 64 rest
+
+      pub scanning-taken : Taken x rest (d .k) z
+      scanning-taken = left-taken (d .left) n
+
+      here : componentsOf m x ≡ componentsFrom m x z
+      here =
+          let t : Taken x rest (d .k) z = scanning-taken in
+          let e : d .k + (z - d .k) ≡ z = omega (arith, t .from) in
+          d .from
+          ∙ components-skip m x (z - d .k) (d .k) (omega (arith, t .from, t .inside)) (λ j a b. t .between j a (omega (arith, t .from)))
+          ∙ ap (componentsFrom m x) e
+
+      module _ {there : Bool} (f : there ≡ m (Place.extendedState z) .present) where
+        pub scanning-next : there ≡ true → Scanning m x (bitAnd rest (rest - 1))
+        scanning-next t = record {
+          k = z + 1;
+          from = here ∙ component-passes m x z (scanning-taken .inside) (sym (scanning-taken .here)) (rw (sym f ∙ t));
+          left = scanning-taken .next;
+        }
+
+        pub scanning-stops : there ≡ false → Refused (missingComponent z) ≡ componentsOf m x
+        scanning-stops t = component-stops m x z (scanning-taken .inside) (sym (scanning-taken .here)) (rw (sym f ∙ t)) ∙ sym here
+
+    pub scanning-ends : rest ≡ 0 → Accepted ≡ componentsOf m x
+    scanning-ends e = sym (scan-ends (supplied m x) missingComponent 64 (d .k) (λ j l u. rw (left-none (d .left) e j l))) ∙ sym (d .from)

@@ -1,4 +1,4 @@
--- Collecting entry by entry, where the first at a place wins, gives the masked first entry of every place.
+-- Collecting entry by entry, where the first at a place wins, gives the first entry of every place.
 use mathlib.Core.Path.{_≡_, refl, sym, ap, ap₂, _∙_, subst, fun-ext}
 use mathlib.Core.Bool.{Bool, true, false}
 use mathlib.Core.List.{List, [], _∷_}
@@ -30,8 +30,8 @@ use Rattle.masking.specs.KeptTableLaws.{masks-of-row}
 use Rattle.table.specs.declared.CpuidResults.{CpuidResults}
 use Rattle.table.specs.Rows.{Row, row, vacant}
 use Rattle.table.specs.Table.{emptyTable, rowIn, rowsOfTable}
-use Rattle.collect.specs.FirstEntriesLaws.{row-of-place, row-beyond}
-use Rattle.collect.specs.FirstEntries.{placeOfEntry, firstAt, setLegacy, maskedAt, maskRow, rowsOf}
+use Rattle.collect.specs.FirstEntriesLaws.{first-of-place, row-beyond}
+use Rattle.collect.specs.FirstEntries.{placeOfEntry, firstAt, words, wordRow, firstsOf, setLegacy, maskedAt, rowsOf}
 
 -- where an entry is stored: its place if it counts, else 88, past the last
 unfoldable pub storedAt : Entry → ℕ
@@ -69,14 +69,23 @@ store t i r = record {
 }
 
 -- one entry: stored unless its place has a row
-unfoldable pub insert : Bool → CpuidResults → Entry → CpuidResults
-insert avic t e = pick (getD (t .present) (storedAt e) false) t (store t (storedAt e) (maskedAt avic (storedAt e) (e .registers)))
+unfoldable pub insert : CpuidResults → Entry → CpuidResults
+insert t e = pick (getD (t .present) (storedAt e) false) t (store t (storedAt e) (words (e .registers)))
 
-unfoldable pub insertAll : Bool → CpuidResults → List Entry → CpuidResults
-insertAll avic t [] = t
-insertAll avic t (e ∷ es) = insertAll avic (insert avic t e) es
+unfoldable pub insertAll : CpuidResults → List Entry → CpuidResults
+insertAll t [] = t
+insertAll t (e ∷ es) = insertAll (insert t e) es
 
--- the table of a page set's masked first entries, not yet finished
+-- the table of a page set's first entries, as they stand
+unfoldable pub gathered : List ℕ → CpuidResults
+gathered s = record {
+  present = tabulate places (λ i. firstsOf s i .present);
+  results = tabulate places (λ i. firstsOf s i .result);
+  «row_count» = 0;
+  «max_extended_state» = 0;
+}
+
+-- the table of its masked first entries, not yet finished
 unfoldable pub collected : Bool → List ℕ → CpuidResults
 collected avic s = record {
   present = tabulate places (λ i. rowsOf avic s i .present);
@@ -95,13 +104,13 @@ pub record Whole (t : CpuidResults) : Type 0 where
 whole-store : {t : CpuidResults} (i : ℕ) (r : CpuidResult) → Whole t → Whole (store t i r)
 whole-store {t} i r w = record { present = length-set (t .present) i true ∙ w .present; results = length-set (t .results) i r ∙ w .results }
 
-whole-insert : (avic : Bool) (t : CpuidResults) (e : Entry) → Whole t → Whole (insert avic t e)
+whole-insert : (t : CpuidResults) (e : Entry) → Whole t → Whole (insert t e)
 unfolding insert
-whole-insert avic t e w = go (getD (t .present) (storedAt e) false)
+whole-insert t e w = go (getD (t .present) (storedAt e) false)
   where
-    go : (b : Bool) → Whole (pick b t (store t (storedAt e) (maskedAt avic (storedAt e) (e .registers))))
+    go : (b : Bool) → Whole (pick b t (store t (storedAt e) (words (e .registers))))
     go true = w
-    go false = whole-store (storedAt e) (maskedAt avic (storedAt e) (e .registers)) w
+    go false = whole-store (storedAt e) (words (e .registers)) w
 
 store-same : (t : CpuidResults) → Whole t → (i : ℕ) → i < places → (r : CpuidResult) → rowIn (store t i r) i ≡ row r
 store-same t w i l r k = record {
@@ -116,35 +125,35 @@ store-other t i j r n k = record {
 }
 
 -- what a place holds after an entry
-insert-row : (avic : Bool) (t : CpuidResults) (e : Entry) → Whole t → (i : ℕ) → i < places
-    → rowIn (insert avic t e) i ≡ pick (rowIn t i .present) (rowIn t i) (pick (eqb (storedAt e) i) (row (maskedAt avic i (e .registers))) (rowIn t i))
+insert-row : (t : CpuidResults) (e : Entry) → Whole t → (i : ℕ) → i < places
+    → rowIn (insert t e) i ≡ pick (rowIn t i .present) (rowIn t i) (pick (eqb (storedAt e) i) (row (words (e .registers))) (rowIn t i))
 unfolding insert
-insert-row avic t e w i l = go (eqb (storedAt e) i) refl (getD (t .present) (storedAt e) false) refl
+insert-row t e w i l = go (eqb (storedAt e) i) refl (getD (t .present) (storedAt e) false) refl
   where
     go : (p : Bool) → eqb (storedAt e) i ≡ p → (b : Bool) → getD (t .present) (storedAt e) false ≡ b
-        → rowIn (pick b t (store t (storedAt e) (maskedAt avic (storedAt e) (e .registers)))) i
-        ≡ pick (rowIn t i .present) (rowIn t i) (pick p (row (maskedAt avic i (e .registers))) (rowIn t i))
+        → rowIn (pick b t (store t (storedAt e) (words (e .registers)))) i
+        ≡ pick (rowIn t i .present) (rowIn t i) (pick p (row (words (e .registers))) (rowIn t i))
     go true f true g = let q : storedAt e ≡ i = eqb-true (storedAt e) i f in rw (rw q at g)
     go true f false g =
         let q : storedAt e ≡ i = eqb-true (storedAt e) i f in
-        rw (rw q at g) (rw q (store-same t w i l (maskedAt avic i (e .registers))))
+        rw (rw q at g) (rw q (store-same t w i l (words (e .registers))))
     go false f true g = sym (pick-same (rowIn t i .present) (rowIn t i))
     go false f false g =
-        store-other t (storedAt e) i (maskedAt avic (storedAt e) (e .registers)) (λ q. eqb-false (storedAt e) i f (sym q))
+        store-other t (storedAt e) i (words (e .registers)) (λ q. eqb-false (storedAt e) i f (sym q))
         ∙ sym (pick-same (rowIn t i .present) (rowIn t i))
 
--- the first counted entry of a place, masked, from a list of entries
-abbrev firstIn : Bool → ℕ → List Entry → Row
-firstIn avic i es = maskRow avic i (firstAt i (keepIf counts es))
+-- the first counted entry of a place, from a list of entries
+abbrev firstIn : ℕ → List Entry → Row
+firstIn i es = wordRow (firstAt i (keepIf counts es))
 
-first-in-cons : (avic : Bool) (i : ℕ) → i < places → (e : Entry) (es : List Entry)
-    → firstIn avic i (e ∷ es) ≡ pick (eqb (storedAt e) i) (row (maskedAt avic i (e .registers))) (firstIn avic i es)
+first-in-cons : (i : ℕ) → i < places → (e : Entry) (es : List Entry)
+    → firstIn i (e ∷ es) ≡ pick (eqb (storedAt e) i) (row (words (e .registers))) (firstIn i es)
 unfolding keepIf firstAt storedAt
-first-in-cons avic i l e es = go (counts e) (eqb (placeOfEntry e) i) refl
+first-in-cons i l e es = go (counts e) (eqb (placeOfEntry e) i) refl
   where
     go : (c p : Bool) → eqb (placeOfEntry e) i ≡ p
-        → maskRow avic i (firstAt i (pick c (e ∷ keepIf counts es) (keepIf counts es)))
-        ≡ pick (eqb (pick c (placeOfEntry e) places) i) (row (maskedAt avic i (e .registers))) (firstIn avic i es)
+        → wordRow (firstAt i (pick c (e ∷ keepIf counts es) (keepIf counts es)))
+        ≡ pick (eqb (pick c (placeOfEntry e) places) i) (row (words (e .registers))) (firstIn i es)
     go true true f = rw f
     go true false f = rw f
     go false p f = sym (pick-false _ _ (ne-eqb places i (λ (q : places ≡ i). omega arith)))
@@ -154,57 +163,57 @@ abbrev Clean : CpuidResults → ℕ → Type 0
 Clean t i = rowIn t i .present ≡ false → rowIn t i ≡ vacant
 
 -- and after all of a list
-insertAll-row : (avic : Bool) (es : List Entry) (t : CpuidResults) → Whole t → (i : ℕ) → i < places → Clean t i
-    → rowIn (insertAll avic t es) i ≡ pick (rowIn t i .present) (rowIn t i) (firstIn avic i es)
+insertAll-row : (es : List Entry) (t : CpuidResults) → Whole t → (i : ℕ) → i < places → Clean t i
+    → rowIn (insertAll t es) i ≡ pick (rowIn t i .present) (rowIn t i) (firstIn i es)
 unfolding insertAll
-insertAll-row avic [] t w i l v = go (rowIn t i .present) refl
+insertAll-row [] t w i l v = go (rowIn t i .present) refl
   where
-    go : (b : Bool) → rowIn t i .present ≡ b → rowIn t i ≡ pick b (rowIn t i) (firstIn avic i [])
+    go : (b : Bool) → rowIn t i .present ≡ b → rowIn t i ≡ pick b (rowIn t i) (firstIn i [])
     go true e = refl
     go false e = v e ∙ unfold keepIf firstAt in refl
-insertAll-row avic (e ∷ es) t w i l v =
-    go (rowIn t i .present) refl (eqb (storedAt e) i) refl (insertAll-row avic es (insert avic t e) (whole-insert avic t e w) i l)
+insertAll-row (e ∷ es) t w i l v =
+    go (rowIn t i .present) refl (eqb (storedAt e) i) refl (insertAll-row es (insert t e) (whole-insert t e w) i l)
   where
     go : (p : Bool) → rowIn t i .present ≡ p → (q : Bool) → eqb (storedAt e) i ≡ q
-        → (Clean (insert avic t e) i
-        → rowIn (insertAll avic (insert avic t e) es) i ≡ pick (rowIn (insert avic t e) i .present) (rowIn (insert avic t e) i) (firstIn avic i es))
-        → rowIn (insertAll avic (insert avic t e) es) i ≡ pick p (rowIn t i) (firstIn avic i (e ∷ es))
+        → (Clean (insert t e) i
+        → rowIn (insertAll (insert t e) es) i ≡ pick (rowIn (insert t e) i .present) (rowIn (insert t e) i) (firstIn i es))
+        → rowIn (insertAll (insert t e) es) i ≡ pick p (rowIn t i) (firstIn i (e ∷ es))
     go true f q g ih =
-        let r : rowIn (insert avic t e) i ≡ rowIn t i = insert-row avic t e w i l ∙ pick-true _ _ f in
-        let h : rowIn (insert avic t e) i .present ≡ true = ap (λ (x : Row). x .present) r ∙ f in
+        let r : rowIn (insert t e) i ≡ rowIn t i = insert-row t e w i l ∙ pick-true _ _ f in
+        let h : rowIn (insert t e) i .present ≡ true = ap (λ (x : Row). x .present) r ∙ f in
         ih (λ n. absurd (never-both h n)) ∙ pick-true _ _ h ∙ r
     go false f true g ih =
-        let r : rowIn (insert avic t e) i ≡ row (maskedAt avic i (e .registers)) = insert-row avic t e w i l ∙ pick-false _ _ f ∙ pick-true _ _ g in
-        let h : rowIn (insert avic t e) i .present ≡ true = ap (λ (x : Row). x .present) r in
-        ih (λ n. absurd (never-both h n)) ∙ pick-true _ _ h ∙ r ∙ sym (first-in-cons avic i l e es ∙ pick-true _ _ g)
+        let r : rowIn (insert t e) i ≡ row (words (e .registers)) = insert-row t e w i l ∙ pick-false _ _ f ∙ pick-true _ _ g in
+        let h : rowIn (insert t e) i .present ≡ true = ap (λ (x : Row). x .present) r in
+        ih (λ n. absurd (never-both h n)) ∙ pick-true _ _ h ∙ r ∙ sym (first-in-cons i l e es ∙ pick-true _ _ g)
     go false f false g ih =
-        let r : rowIn (insert avic t e) i ≡ rowIn t i = insert-row avic t e w i l ∙ pick-false _ _ f ∙ pick-false _ _ g in
-        let h : rowIn (insert avic t e) i .present ≡ false = ap (λ (x : Row). x .present) r ∙ f in
-        ih (λ n. r ∙ v f) ∙ pick-false _ _ h ∙ sym (first-in-cons avic i l e es ∙ pick-false _ _ g)
+        let r : rowIn (insert t e) i ≡ rowIn t i = insert-row t e w i l ∙ pick-false _ _ f ∙ pick-false _ _ g in
+        let h : rowIn (insert t e) i .present ≡ false = ap (λ (x : Row). x .present) r ∙ f in
+        ih (λ n. r ∙ v f) ∙ pick-false _ _ h ∙ sym (first-in-cons i l e es ∙ pick-false _ _ g)
 
-whole-all : (avic : Bool) (es : List Entry) (t : CpuidResults) → Whole t → Whole (insertAll avic t es)
+whole-all : (es : List Entry) (t : CpuidResults) → Whole t → Whole (insertAll t es)
 unfolding insertAll
-whole-all avic [] t w = w
-whole-all avic (e ∷ es) t w = whole-all avic es (insert avic t e) (whole-insert avic t e w)
+whole-all [] t w = w
+whole-all (e ∷ es) t w = whole-all es (insert t e) (whole-insert t e w)
 
 -- the count and the mask are not touched
-rest-insert : (avic : Bool) (t : CpuidResults) (e : Entry)
-    → (insert avic t e .«row_count» ≡ t .«row_count») × (insert avic t e .«max_extended_state» ≡ t .«max_extended_state»)
+rest-insert : (t : CpuidResults) (e : Entry)
+    → (insert t e .«row_count» ≡ t .«row_count») × (insert t e .«max_extended_state» ≡ t .«max_extended_state»)
 unfolding insert
-rest-insert avic t e = go (getD (t .present) (storedAt e) false)
+rest-insert t e = go (getD (t .present) (storedAt e) false)
   where
-    go : (b : Bool) → (pick b t (store t (storedAt e) (maskedAt avic (storedAt e) (e .registers))) .«row_count» ≡ t .«row_count»)
-        × (pick b t (store t (storedAt e) (maskedAt avic (storedAt e) (e .registers))) .«max_extended_state» ≡ t .«max_extended_state»)
+    go : (b : Bool) → (pick b t (store t (storedAt e) (words (e .registers))) .«row_count» ≡ t .«row_count»)
+        × (pick b t (store t (storedAt e) (words (e .registers))) .«max_extended_state» ≡ t .«max_extended_state»)
     go true = (refl, refl)
     go false = (refl, refl)
 
-rest-all : (avic : Bool) (es : List Entry) (t : CpuidResults)
-    → (insertAll avic t es .«row_count» ≡ t .«row_count») × (insertAll avic t es .«max_extended_state» ≡ t .«max_extended_state»)
+rest-all : (es : List Entry) (t : CpuidResults)
+    → (insertAll t es .«row_count» ≡ t .«row_count») × (insertAll t es .«max_extended_state» ≡ t .«max_extended_state»)
 unfolding insertAll
-rest-all avic [] t = (refl, refl)
-rest-all avic (e ∷ es) t =
-    let p = rest-all avic es (insert avic t e) in
-    let q = rest-insert avic t e in
+rest-all [] t = (refl, refl)
+rest-all (e ∷ es) t =
+    let p = rest-all es (insert t e) in
+    let q = rest-insert t e in
     (p .0 ∙ q .0, p .1 ∙ q .1)
 
 -- ---- from nothing
@@ -218,47 +227,47 @@ empty-row i l k = record {
 empty-whole : Whole emptyTable
 empty-whole = record { present = length-replicate places false; results = length-replicate places (result 0 0 0 0) }
 
-collected-row : (avic : Bool) (s : List ℕ) (i : ℕ) → i < places → rowIn (insertAll avic emptyTable (entries s)) i ≡ rowsOf avic s i
+collected-row : (s : List ℕ) (i : ℕ) → i < places → rowIn (insertAll emptyTable (entries s)) i ≡ firstsOf s i
 unfolding counted
-collected-row avic s i l =
+collected-row s i l =
     let e : rowIn emptyTable i ≡ vacant = empty-row i l in
-    insertAll-row avic (entries s) emptyTable empty-whole i l (λ _. e)
+    insertAll-row (entries s) emptyTable empty-whole i l (λ _. e)
     ∙ pick-false _ _ (ap (λ (x : Row). x .present) e)
-    ∙ sym (row-of-place avic s i l)
+    ∙ sym (first-of-place s i l)
 
 -- all entries of a page set, inserted into the empty table
-pub collect-all : (avic : Bool) (s : List ℕ) → insertAll avic emptyTable (entries s) ≡ collected avic s
-unfolding collected
-collect-all avic s k = record {
-  present = tabulated places (λ i. rowsOf avic s i .present) (insertAll avic emptyTable (entries s) .present) false (whole-all avic (entries s) emptyTable empty-whole .present)
-      (λ i l. ap (λ (x : Row). x .present) (collected-row avic s i l)) k;
-  results = tabulated places (λ i. rowsOf avic s i .result) (insertAll avic emptyTable (entries s) .results) (result 0 0 0 0) (whole-all avic (entries s) emptyTable empty-whole .results)
-      (λ i l. ap (λ (x : Row). x .result) (collected-row avic s i l)) k;
-  «row_count» = rest-all avic (entries s) emptyTable .0 k;
-  «max_extended_state» = rest-all avic (entries s) emptyTable .1 k;
+pub collect-all : (s : List ℕ) → insertAll emptyTable (entries s) ≡ gathered s
+unfolding gathered
+collect-all s k = record {
+  present = tabulated places (λ i. firstsOf s i .present) (insertAll emptyTable (entries s) .present) false (whole-all (entries s) emptyTable empty-whole .present)
+      (λ i l. ap (λ (x : Row). x .present) (collected-row s i l)) k;
+  results = tabulated places (λ i. firstsOf s i .result) (insertAll emptyTable (entries s) .results) (result 0 0 0 0) (whole-all (entries s) emptyTable empty-whole .results)
+      (λ i l. ap (λ (x : Row). x .result) (collected-row s i l)) k;
+  «row_count» = rest-all (entries s) emptyTable .0 k;
+  «max_extended_state» = rest-all (entries s) emptyTable .1 k;
 }
 
 -- ---- a turn of the loop, by what it finds at the entry's place
 
-pub insert-kept : (avic : Bool) (t : CpuidResults) (e : Entry) → getD (t .present) (storedAt e) false ≡ true → t ≡ insert avic t e
+pub insert-kept : (t : CpuidResults) (e : Entry) → getD (t .present) (storedAt e) false ≡ true → t ≡ insert t e
 unfolding insert
-insert-kept avic t e p = sym (pick-true _ _ p)
+insert-kept t e p = sym (pick-true _ _ p)
 
-pub insert-new : (avic : Bool) (t : CpuidResults) (e : Entry) → getD (t .present) (storedAt e) false ≡ false
-    → store t (storedAt e) (maskedAt avic (storedAt e) (e .registers)) ≡ insert avic t e
+pub insert-new : (t : CpuidResults) (e : Entry) → getD (t .present) (storedAt e) false ≡ false
+    → store t (storedAt e) (words (e .registers)) ≡ insert t e
 unfolding insert
-insert-new avic t e p = sym (pick-false _ _ p)
+insert-new t e p = sym (pick-false _ _ p)
 
 -- past the last place nothing is stored
-pub insert-none : (avic : Bool) (t : CpuidResults) (e : Entry) → Whole t → places ≤ storedAt e → t ≡ insert avic t e
+pub insert-none : (t : CpuidResults) (e : Entry) → Whole t → places ≤ storedAt e → t ≡ insert t e
 unfolding insert
-insert-none avic t e w h =
+insert-none t e w h =
     let p : length (t .present) ≤ storedAt e = omega (arith, w .present) in
     let q : length (t .results) ≤ storedAt e = omega (arith, w .results) in
     sym (pick-false _ _ (List·getD-eq-default (t .present) false p)
     ∙ (λ k. record {
       present = set-out (t .present) (storedAt e) true p k;
-      results = set-out (t .results) (storedAt e) (maskedAt avic (storedAt e) (e .registers)) q k;
+      results = set-out (t .results) (storedAt e) (words (e .registers)) q k;
       «row_count» = t .«row_count»;
       «max_extended_state» = t .«max_extended_state»;
     }))
@@ -269,48 +278,46 @@ pub row-masks : (avic : Bool) (place row : ℕ) (kept : List KeptLeaf) (r : Cpui
 row-masks avic place row kept r p q = rw (p, q) (ap (λ (m : Masks). setLegacy place (applyMask m r)) (masks-of-row avic place))
 
 -- the same in the code's terms: the place found, and the table after the turn
-module _ (avic : Bool) (t u : CpuidResults) (e : Entry) (place : ℕ) (at : place ≡ storedAt e) where
-  pub turn-kept : getD (t .present) place false ≡ true → u ≡ t → u ≡ insert avic t e
-  turn-kept p q = q ∙ insert-kept avic t e (rw at at p)
+module _ (t u : CpuidResults) (e : Entry) (place : ℕ) (at : place ≡ storedAt e) where
+  pub turn-kept : getD (t .present) place false ≡ true → u ≡ t → u ≡ insert t e
+  turn-kept p q = q ∙ insert-kept t e (rw at at p)
 
-  pub turn-new : (kept : List KeptLeaf) (row : ℕ) (p : ParsedCpuidEntry) (r : CpuidResult) → kept ≡ table avic → row ≡ rowOfPlace place → p ≡ parsed e
-      → getD (t .present) place false ≡ false → r ≡ setLegacy place (applyMask (masksOf (getD kept row noRow)) (p .result)) → u ≡ store t place r
-      → u ≡ insert avic t e
-  turn-new kept row p r k n parse free m q =
-      q ∙ ap₂ (store t) at (m ∙ row-masks avic place row kept (p .result) k n ∙ ap₂ (maskedAt avic) at (ap (λ (x : ParsedCpuidEntry). x .result) parse))
-      ∙ insert-new avic t e (rw at at free)
+  pub turn-new : (p : ParsedCpuidEntry) (r : CpuidResult) → p ≡ parsed e → getD (t .present) place false ≡ false → r ≡ words (p .result)
+      → u ≡ store t place r → u ≡ insert t e
+  turn-new p r parse free m q =
+      q ∙ ap₂ (store t) at (m ∙ ap words (ap (λ (x : ParsedCpuidEntry). x .result) parse)) ∙ insert-new t e (rw at at free)
 
-  pub turn-none : Whole t → places ≤ place → u ≡ t → u ≡ insert avic t e
-  turn-none w l q = q ∙ insert-none avic t e w (rw at at l)
+  pub turn-none : Whole t → places ≤ place → u ≡ t → u ≡ insert t e
+  turn-none w l q = q ∙ insert-none t e w (rw at at l)
 
 -- what holds before each turn: the entries that are left give what all give
-pub record Collecting (avic : Bool) (s : List ℕ) (t : CpuidResults) (i : CpuidPageIndex) : Type 0 where
+pub record Collecting (s : List ℕ) (t : CpuidResults) (i : CpuidPageIndex) : Type 0 where
   pub whole : Whole t
   pub valid : Valid s i
-  pub left : insertAll avic t (rest s i) ≡ collected avic s
+  pub left : insertAll t (rest s i) ≡ gathered s
 
-pub collecting-first : (avic : Bool) (s : List ℕ) → Collecting avic s emptyTable (firstIndex s)
-collecting-first avic s = record {
+pub collecting-first : (s : List ℕ) → Collecting s emptyTable (firstIndex s)
+collecting-first s = record {
   whole = empty-whole;
   valid = first-valid s;
-  left = ap (insertAll avic emptyTable) (rest-first s) ∙ collect-all avic s;
+  left = ap (insertAll emptyTable) (rest-first s) ∙ collect-all s;
 }
 
-pub collecting-next : (avic : Bool) (s : List ℕ) (t u : CpuidResults) (i : CpuidPageIndex) → Collecting avic s t i → i .«page_index» < pagesIn s
-    → u ≡ insert avic t (entryAt s (i .«page_index») (i .«function_index»)) → Collecting avic s u (incremented s i)
+pub collecting-next : (s : List ℕ) (t u : CpuidResults) (i : CpuidPageIndex) → Collecting s t i → i .«page_index» < pagesIn s
+    → u ≡ insert t (entryAt s (i .«page_index») (i .«function_index»)) → Collecting s u (incremented s i)
 unfolding insertAll
-collecting-next avic s t u i c h e =
+collecting-next s t u i c h e =
     let turn-i : Turn s i = turn s i (c .valid) h in
     record {
-      whole = subst Whole (sym e) (whole-insert avic t (entryAt s (i .«page_index») (i .«function_index»)) (c .whole));
+      whole = subst Whole (sym e) (whole-insert t (entryAt s (i .«page_index») (i .«function_index»)) (c .whole));
       valid = turn-i .valid;
-      left = ap (λ (x : CpuidResults). insertAll avic x (rest s (incremented s i))) e ∙ sym (ap (insertAll avic t) (turn-i .taken)) ∙ c .left;
+      left = ap (λ (x : CpuidResults). insertAll x (rest s (incremented s i))) e ∙ sym (ap (insertAll t) (turn-i .taken)) ∙ c .left;
     }
 
-pub collecting-last : (avic : Bool) (s : List ℕ) (t : CpuidResults) (i : CpuidPageIndex) → Collecting avic s t i → pagesIn s ≤ i .«page_index»
-    → t ≡ collected avic s
+pub collecting-last : (s : List ℕ) (t : CpuidResults) (i : CpuidPageIndex) → Collecting s t i → pagesIn s ≤ i .«page_index»
+    → t ≡ gathered s
 unfolding insertAll
-collecting-last avic s t i c h = sym (ap (insertAll avic t) (rest-end s i h)) ∙ c .left
+collecting-last s t i c h = sym (ap (insertAll t) (rest-end s i h)) ∙ c .left
 
 -- the collected table's rows are the masked first entries, at every number
 pub collected-rows : (avic : Bool) (s : List ℕ) → rowsOfTable (collected avic s) ≡ rowsOf avic s

@@ -40,11 +40,14 @@ mask-present avic i r = go (r .present)
     go true = refl
     go false = refl
 
-has-row : (avic : Bool) (s : List ℕ) (i : ℕ) → i < places → isThere (getD (foundOrigins s) i 0) ≡ rowsOf avic s i .present
+pub stands-there : (s : List ℕ) (i : ℕ) → i < places → isThere (getD (foundOrigins s) i 0) ≡ firstAt i (counted s) .present
 unfolding foundOrigins
+stands-there s i h =
+    ap (λ (n : ℕ). not (eqb n 0)) (getD-tabulate places (λ j. originNumber (standsAt j (counted s))) i 0 h) ∙ stands-present i (counted s)
+
+has-row : (avic : Bool) (s : List ℕ) (i : ℕ) → i < places → isThere (getD (foundOrigins s) i 0) ≡ rowsOf avic s i .present
 has-row avic s i h =
-    ap (λ (n : ℕ). not (eqb n 0)) (getD-tabulate places (λ j. originNumber (standsAt j (counted s))) i 0 h)
-    ∙ stands-present i (counted s)
+    stands-there s i h
     ∙ sym (ap (λ (x : Row). x .present) (row-of-place avic s i h) ∙ mask-present avic i (firstAt i (counted s)))
 
 pub walked-collected : (avic : Bool) (s : List ℕ) → tableIn (layout (λ i. rowsOf avic s i .result)) (foundOrigins s) ≡ collected avic s

@@ -12,7 +12,7 @@ use Rattle.x86defs.specs.Functions.{result}
 use Rattle.x86defs.specs.ExtendedStateEnumerationSubleaf0Eax as Subleaf0Eax
 use Rattle.pages.specs.Layout.{Entry}
 use Rattle.pages.specs.Entries.{counted}
-use Rattle.masking.specs.Masks.{applyMask}
+use Rattle.masking.specs.Masks.{allOnes, applyMask}
 use Rattle.masking.specs.Kept.{placeOf, masksAt, places}
 use Rattle.masking.specs.Place
 use Rattle.table.specs.Rows.{Row, Rows, row, vacant}
@@ -25,6 +25,17 @@ placeOfEntry e = placeOf (e .leaf) (e .subleaf)
 unfoldable pub firstAt : ℕ → List Entry → Row
 firstAt i [] = vacant
 firstAt i (e ∷ es) = pick (eqb (placeOfEntry e) i) (row (e .registers)) (firstAt i es)
+
+-- an entry's registers as they stand, of which each is a word of 32 bits
+abbrev pub words : CpuidResult → CpuidResult
+words r = applyMask allOnes r
+
+abbrev pub wordRow : Row → Row
+wordRow r = pick (r .present) (row (words (r .result))) vacant
+
+-- the first entries of a page set
+unfoldable pub firstsOf : List ℕ → Rows
+firstsOf s i = pick (ltb i places) (wordRow (firstAt i (counted s))) vacant
 
 -- x87 and SSE state: XCR0 bits 0 and 1
 unfoldable pub legacyFeatures : ℕ

@@ -11,7 +11,7 @@ use Rattle.pages.specs.Layout.{Entry}
 use Rattle.pages.specs.Entries.{counted}
 use Rattle.masking.specs.Kept.{places}
 use Rattle.table.specs.Rows.{Row, row, vacant}
-use Rattle.collect.specs.FirstEntries.{placeOfEntry, firstAt, maskRow, rowsOf}
+use Rattle.collect.specs.FirstEntries.{placeOfEntry, firstAt, wordRow, firstsOf, maskRow, rowsOf}
 
 -- whatever comes after it
 pub first-wins : (i : ℕ) (e : Entry) (es : List Entry) → placeOfEntry e ≡ i → firstAt i (e ∷ es) ≡ row (e .registers)
@@ -21,6 +21,10 @@ first-wins i e es p = pick-true _ _ (eq-eqb _ _ p)
 pub first-passes : (i : ℕ) (e : Entry) (es : List Entry) → (placeOfEntry e ≡ i → ⊥) → firstAt i (e ∷ es) ≡ firstAt i es
 unfolding firstAt
 first-passes i e es n = pick-false _ _ (ne-eqb _ _ n)
+
+pub first-of-place : (s : List ℕ) (i : ℕ) → i < places → firstsOf s i ≡ wordRow (firstAt i (counted s))
+unfolding firstsOf
+first-of-place s i l = pick-true _ _ (lt-ltb i places l)
 
 pub row-of-place : (avic : Bool) (s : List ℕ) (i : ℕ) → i < places → rowsOf avic s i ≡ maskRow avic i (firstAt i (counted s))
 unfolding rowsOf

@@ -8,6 +8,8 @@ pub mod Walked
 pub mod StoreLaws
 pub mod WalkingLaws
 pub mod CollectedLaws
+pub mod Mask
+pub mod MaskLaws
 pub mod Lawful
 pub mod LawfulLaws
 pub mod WalkedPages

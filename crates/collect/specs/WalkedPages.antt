@@ -1,6 +1,6 @@
 -- What one walk over any bytes gives: whether they are lawful pages, and where they are, the masked first entries and where each stands.
 use mathlib.Core.Path.{_≡_, sym, ap₂, _∙_}
-use mathlib.Core.Bool.{Bool}
+use mathlib.Core.Bool.{Bool, true}
 use mathlib.Core.List.{List}
 use Prim.Native.Nat.{ℕ}
 use Rattle.pages.specs.declared.reserved.Reserved.{Reserved}
@@ -8,12 +8,15 @@ use Rattle.table.specs.declared.Refusal.{Refusal}
 use Rattle.table.specs.declared.Verdict.{Verdict}
 use Rattle.table.specs.declared.Verdict.the-variants.{Accepted, Refused}
 use Rattle.table.specs.declared.CpuidResults.{CpuidResults}
-use Rattle.collect.specs.FirstEntries.{rowsOf}
+use Rattle.collect.specs.FirstEntries.{maskRow, rowsOf}
 use Rattle.collect.specs.Collect.{collected}
 use Rattle.collect.specs.Stands.{foundOrigins}
-use Rattle.memory.specs.Memory.{layout, tableIn}
+use Rattle.memory.specs.Memory.{rowsIn, layout, tableIn}
 use Rattle.collect.specs.Walked.{Walked}
 use Rattle.collect.specs.CollectedLaws.{walked-collected}
+use Rattle.pages.specs.Reserved.{allClean}
+use Rattle.collect.specs.Mask.{Unmasked}
+use Rattle.collect.specs.MaskLaws.{firsts-unmasked, firsts-masked}
 use Rattle.collect.specs.Lawful.{lawfulVerdict}
 use Rattle.collect.specs.LawfulLaws.{lawful-clean}
 
@@ -26,10 +29,20 @@ pub record WalkedPages (avic : Bool) (s : List ℕ) (r : Verdict) (w o : List �
 pub refused-walk : (avic : Bool) (s w o : List ℕ) {x : Refusal} → Refused x ≡ lawfulVerdict s → WalkedPages avic s (Refused x) w o
 refused-walk avic s w o e = record { verdict = e; rows = λ a. cc; stands = λ a. cc }
 
-pub accepted-walk : (avic : Bool) (s w o : List ℕ) {b : Reserved} → Accepted ≡ lawfulVerdict s → Walked avic s b w o → WalkedPages avic s Accepted w o
-accepted-walk avic s w o e k =
-    let c = lawful-clean s (sym e) in
-    record { verdict = e; rows = λ _. k .rows c; stands = λ _. k .stands c }
+-- what the walk collects of lawful pages is ready to be masked, and is then the masked first entries
+module _ (s w o : List ℕ) {b : Reserved} (e : Accepted ≡ lawfulVerdict s) (k : Walked s b w o) where
+  clean : allClean s ≡ true
+  clean = lawful-clean s (sym e)
+
+  pub walk-unmasked : Unmasked w o
+  walk-unmasked = rw (k .rows clean, k .stands clean) (firsts-unmasked s)
+
+  pub accepted-walk : (avic : Bool) (v : List ℕ) → v ≡ layout (λ i. maskRow avic i (rowsIn w o i) .result) → WalkedPages avic s Accepted v o
+  accepted-walk avic v m = record {
+    verdict = e;
+    rows = λ _. m ∙ rw (k .rows clean, k .stands clean) (firsts-masked s avic);
+    stands = λ _. k .stands clean;
+  }
 
 -- the table that the arrays stand for is that of the masked first entries
 pub walked-table : (avic : Bool) (s w o : List ℕ) {r : Verdict} {t : CpuidResults} → WalkedPages avic s r w o → r ≡ Accepted → t ≡ tableIn w o

@@ -27,15 +27,12 @@ use Rattle.reader.specs.declared.Read.the-variants.{Unclean}
 use Rattle.reader.specs.Read.{entryHere, cleanHere, readAt}
 use Rattle.reader.specs.ReadLaws.{read-unclean}
 use Rattle.masking.specs.Kept.{places}
-use Rattle.masking.specs.Masks.{applyMask}
-use Rattle.masking.specs.declared.masks.KeptLeaf.{KeptLeaf}
-use Rattle.masking.specs.MaskTable.{table, noRow, masksOf, rowOfPlace}
 use Rattle.table.specs.Table.{emptyTable}
 use Rattle.table.specs.declared.CpuidResults.{CpuidResults}
 use Rattle.memory.specs.Origin.{originNumber}
 use Rattle.memory.specs.Origin.Origin.{entry}
-use Rattle.collect.specs.FirstEntries.{setLegacy, rowsOf}
-use Rattle.collect.specs.Collect.{collected, countedPlace, counted-place-stored, storedAt, store, turn-kept, turn-new, turn-none, Collecting, collecting-first, collecting-next, collecting-last}
+use Rattle.collect.specs.FirstEntries.{words, firstsOf}
+use Rattle.collect.specs.Collect.{gathered, countedPlace, counted-place-stored, storedAt, store, turn-kept, turn-new, turn-none, Collecting, collecting-first, collecting-next, collecting-last}
 use Rattle.collect.specs.Stands.{foundOrigins}
 use Rattle.collect.specs.OriginsLaws.{Locating, locating-first, locating-kept, locating-none, locating-new, locating-last}
 use Rattle.memory.specs.Memory.{rowOf, putRow, isThere, tableIn}
@@ -43,56 +40,56 @@ use Rattle.memory.specs.MemoryLaws.{put-length, known-by-rows}
 use Rattle.collect.specs.Walked.{Walked}
 use Rattle.collect.specs.StoreLaws.{put-is-store, cleared}
 
-pub record Walking (avic : Bool) (s : List ℕ) (w o : List ℕ) (i : CpuidPageIndex) : Type 0 where
+pub record Walking (s : List ℕ) (w o : List ℕ) (i : CpuidPageIndex) : Type 0 where
   pub size : length w ≡ 4 * places
-  pub rows : Collecting avic s (tableIn w o) i
+  pub rows : Collecting s (tableIn w o) i
   pub stands : Locating s (tableIn w o .present) o i
   pub answer : firstNonzero s (rest s i) ≡ reservedOf s
 
-pub walking-first : (avic : Bool) (s : List ℕ) → Walking avic s (replicate (4 * places) 0) (replicate places 0) (firstIndex s)
+pub walking-first : (s : List ℕ) → Walking s (replicate (4 * places) 0) (replicate places 0) (firstIndex s)
 unfolding reservedOf
-walking-first avic s = record {
+walking-first s = record {
   size = length-replicate {A = ℕ} (4 * places) 0;
-  rows = subst (λ t. Collecting avic s t (firstIndex s)) (sym cleared) (collecting-first avic s);
+  rows = subst (λ t. Collecting s t (firstIndex s)) (sym cleared) (collecting-first s);
   stands = subst (λ t. Locating s (t .present) (replicate places 0) (firstIndex s)) (sym cleared) (locating-first s);
   answer = ap (firstNonzero s) (rest-first s);
 }
 
-pub walking-last : (avic : Bool) (s w o : List ℕ) (i : CpuidPageIndex) → Walking avic s w o i → pagesIn s ≤ i .«page_index» → Walked avic s Zero w o
-unfolding firstNonzero collected
-walking-last avic s w o i k h =
-    let t : tableIn w o ≡ collected avic s = collecting-last avic s (tableIn w o) i (k .rows) h in
+pub walking-last : (s w o : List ℕ) (i : CpuidPageIndex) → Walking s w o i → pagesIn s ≤ i .«page_index» → Walked s Zero w o
+unfolding firstNonzero gathered
+walking-last s w o i k h =
+    let t : tableIn w o ≡ gathered s = collecting-last s (tableIn w o) i (k .rows) h in
     record {
       answer = sym (ap (firstNonzero s) (rest-end s i h)) ∙ k .answer;
-      rows = λ _. known-by-rows w (λ j. rowsOf avic s j .result) (k .size) (ap (λ (x : CpuidResults). x .results) t);
+      rows = λ _. known-by-rows w (λ j. firstsOf s j .result) (k .size) (ap (λ (x : CpuidResults). x .results) t);
       stands = λ _. locating-last s (tableIn w o .present) o i (k .stands) h;
     }
 
 -- the answer, from what the reader finds at the first entry that is left
-turn-answer : (avic : Bool) (s w o : List ℕ) (i : CpuidPageIndex) → Walking avic s w o i → i .«page_index» < pagesIn s
+turn-answer : (s w o : List ℕ) (i : CpuidPageIndex) → Walking s w o i → i .«page_index» < pagesIn s
     → pick (cleanHere s i) (firstNonzero s (rest s (incremented s i))) (Nonzero (entryHere s i .leaf)) ≡ reservedOf s
 unfolding firstNonzero entryAt
-turn-answer avic s w o i k h = sym (ap (firstNonzero s) (turn s i (k .rows .valid) h .taken)) ∙ k .answer
+turn-answer s w o i k h = sym (ap (firstNonzero s) (turn s i (k .rows .valid) h .taken)) ∙ k .answer
 
 -- a turn at an entry that is not clean ends the walk
-pub walking-stops : (avic : Bool) (s w o : List ℕ) (i : CpuidPageIndex) → Walking avic s w o i → i .«page_index» < pagesIn s
-    → {l : CpuidFunction} → Unclean l ≡ readAt s i → Walked avic s (Nonzero l) w o
-walking-stops avic s w o i k h {l} f =
+pub walking-stops : (s w o : List ℕ) (i : CpuidPageIndex) → Walking s w o i → i .«page_index» < pagesIn s
+    → {l : CpuidFunction} → Unclean l ≡ readAt s i → Walked s (Nonzero l) w o
+walking-stops s w o i k h {l} f =
     let (e, n) = read-unclean s i f in
-    let a : Nonzero l ≡ reservedOf s = ap Nonzero e ∙ sym (pick-false _ _ n) ∙ turn-answer avic s w o i k h in
+    let a : Nonzero l ≡ reservedOf s = ap Nonzero e ∙ sym (pick-false _ _ n) ∙ turn-answer s w o i k h in
     let no : allClean s ≡ true → ⊥ = λ c. let z : _≡_ {A = ℕ} 0 1 = cc (clean-zero s c) in omega arith in
     record { answer = a; rows = λ c. absurd (no c); stands = λ c. absurd (no c) }
 
 -- a turn at one that is, which the reader promises with it: e is the entry, and place where it is stored
-pub record AtEntry (avic : Bool) (s w o : List ℕ) (i : CpuidPageIndex) (e : ParsedCpuidEntry) (place : ℕ) : Type 0 where
-  pub walking : Walking avic s w o i
+pub record AtEntry (s w o : List ℕ) (i : CpuidPageIndex) (e : ParsedCpuidEntry) (place : ℕ) : Type 0 where
+  pub walking : Walking s w o i
   pub inside : i .«page_index» < pagesIn s
   pub entry : e ≡ parsed (entryHere s i)
   pub clean : cleanHere s i ≡ true
   pub stored : place ≡ countedPlace e
 
-module _ {avic : Bool} {s w o : List ℕ} {i : CpuidPageIndex} {e : ParsedCpuidEntry} {place : ℕ} (a : AtEntry avic s w o i e place) where
-  abbrev k : Walking avic s w o i
+module _ {s w o : List ℕ} {i : CpuidPageIndex} {e : ParsedCpuidEntry} {place : ℕ} (a : AtEntry s w o i e place) where
+  abbrev k : Walking s w o i
   k = a .walking
 
   abbrev h : i .«page_index» < pagesIn s
@@ -102,42 +99,44 @@ module _ {avic : Bool} {s w o : List ℕ} {i : CpuidPageIndex} {e : ParsedCpuidE
   at = a .stored ∙ ap countedPlace (a .entry) ∙ counted-place-stored (entryHere s i)
 
   onward : firstNonzero s (rest s (incremented s i)) ≡ reservedOf s
-  onward = sym (pick-true _ _ (a .clean)) ∙ turn-answer avic s w o i k h
+  onward = sym (pick-true _ _ (a .clean)) ∙ turn-answer s w o i k h
 
-  -- fewer entries are left, and the page is no earlier one
+  -- fewer entries are left, and the page is the same one, or a later one where the step comes to position 0
   pub walking-falls : length (rest s (incremented s i)) < length (rest s i)
   walking-falls = turn s i (k .rows .valid) h .falls
 
-  pub walking-rises : i .«page_index» ≤ incremented s i .«page_index»
-  walking-rises = turn s i (k .rows .valid) h .rises
+  pub walking-leaves : incremented s i .«function_index» ≡ 0 → i .«page_index» < incremented s i .«page_index»
+  walking-leaves = turn s i (k .rows .valid) h .leaves
+
+  pub walking-stays : incremented s i .«function_index» ≢ 0 → incremented s i .«page_index» ≡ i .«page_index»
+  walking-stays = turn s i (k .rows .valid) h .stays
 
   -- by what is found at the place: a row, no place at all, or nothing yet
-  pub walking-kept : place < places → getD o place 0 ≢ 0 → Walking avic s w o (incremented s i)
+  pub walking-kept : place < places → getD o place 0 ≢ 0 → Walking s w o (incremented s i)
   walking-kept l n =
       let t : CpuidResults = tableIn w o in
       let g : getD (t .present) place false ≡ true = getD-tabulate places (λ j. isThere (getD o j 0)) place false l ∙ ap not (ne-eqb _ 0 n) in
       record {
         size = k .size;
-        rows = collecting-next avic s t t i (k .rows) h (turn-kept avic t t (entryHere s i) place at g refl);
+        rows = collecting-next s t t i (k .rows) h (turn-kept t t (entryHere s i) place at g refl);
         stands = locating-kept s (t .present) o i (k .stands) (k .rows .valid) h place at g;
         answer = onward;
       }
 
-  pub walking-none : places ≤ place → Walking avic s w o (incremented s i)
+  pub walking-none : places ≤ place → Walking s w o (incremented s i)
   walking-none l =
       let t : CpuidResults = tableIn w o in
       record {
         size = k .size;
-        rows = collecting-next avic s t t i (k .rows) h (turn-none avic t t (entryHere s i) place at (k .rows .whole) l refl);
+        rows = collecting-next s t t i (k .rows) h (turn-none t t (entryHere s i) place at (k .rows .whole) l refl);
         stands = locating-none s (t .present) o i (k .stands) (k .rows .valid) h place at l;
         answer = onward;
       }
 
-  -- r is the row as the code masks it
-  pub walking-new : place < places → getD o place 0 ≡ 0 → {kept : List KeptLeaf} {row : ℕ} {r : CpuidResult} → kept ≡ table avic
-      → row ≡ rowOfPlace place → r ≡ setLegacy place (applyMask (masksOf (getD kept row noRow)) (e .result))
-      → Walking avic s (putRow w place r) (set o place (originNumber (entry (i .«page_index») (i .«function_index»)))) (incremented s i)
-  walking-new l n {kept} {row} {r} q m d =
+  -- r is the row as the code stores it
+  pub walking-new : place < places → getD o place 0 ≡ 0 → {r : CpuidResult} → r ≡ words (e .result)
+      → Walking s (putRow w place r) (set o place (originNumber (entry (i .«page_index») (i .«function_index»)))) (incremented s i)
+  walking-new l n {r} d =
       let t : CpuidResults = tableIn w o in
       let g : getD (t .present) place false ≡ false = getD-tabulate places (λ j. isThere (getD o j 0)) place false l ∙ ap not (eq-eqb _ 0 n) in
       let number : ℕ = originNumber (entry (i .«page_index») (i .«function_index»)) in
@@ -145,7 +144,7 @@ module _ {avic : Bool} {s w o : List ℕ} {i : CpuidPageIndex} {e : ParsedCpuidE
       let z : u ≡ store t place r = put-is-store w o place number r (k .size) (k .stands .size) l (λ x. omega arith) in
       record {
         size = put-length w place r (k .size) l;
-        rows = collecting-next avic s t u i (k .rows) h (turn-new avic t u (entryHere s i) place at kept row e r q m (a .entry) g d z);
+        rows = collecting-next s t u i (k .rows) h (turn-new t u (entryHere s i) place at e r (a .entry) g d z);
         stands = subst (λ (x : CpuidResults). Locating s (x .present) (set o place number) (incremented s i)) (sym z)
             (locating-new s (t .present) o i (k .stands) (k .rows .valid) h place at (k .rows .whole .present) l g);
         answer = onward;

@@ -1,5 +1,7 @@
-// From pages to the 88 rows. Pages come in; refusal 1, 2 or 17 goes out, or the masked first entry of each place, and where it stands, in lent
-// memory.
+// From pages to the 88 rows. Pages come in; refusal 1, 2 or 17 goes out, or the first entry of each place, masked, and where it stands, in lent
+// memory. One walk collects the entries as they stand, and `mask` masks them there.
+pub mod mask;
+
 use masking::PLACES;
 use masking::masks::KeptLeaf;
 use masking::place;
@@ -16,7 +18,7 @@ use x86defs::leaf;
 ghost use mathlib.Core.Path.{_≡_};
 ghost use Rattle.masking.specs.Masks.{applyMask};
 ghost use Rattle.masking.specs.MaskTable.{masksOf};
-ghost use Rattle.collect.specs.FirstEntries.{setLegacy};
+ghost use Rattle.collect.specs.FirstEntries.{words, setLegacy};
 ghost use Rattle.collect.specs.Collect.{countedPlace};
 ghost use mathlib.Core.Bool.{true};
 ghost use Rattle.pages.specs.Layout.{countsFit};
@@ -25,7 +27,9 @@ ghost use Rattle.collect.specs.Walked.{Walked};
 ghost use Rattle.collect.specs.WalkedPages.{WalkedPages};
 ghost use Rattle.collect.specs.FirstEntry.{firstEntry};
 
-const LEGACY_FEATURES: u32 = 3;
+pub const LEGACY_FEATURES: u32 = 3;
+
+const WORD: u32 = 0xFFFF_FFFF;
 
 // Refusals 1, 2 and 17, in this order: whether length and counts of the pages are lawful, and their reserved bytes zero. The same walk stores the masked
 // first entries and where each stands in memory that comes without rows. Where the pages are lawful it holds the rows; where they are not, what it
@@ -43,50 +47,53 @@ pub fn walk_pages(
         return Verdict::Refused(Refusal::PagesLength);
     }
     if pages::counts_fit(pages) {
-        let walked = collect_into(pages, secure_avic, registers, origins);
+        let walked = collect_into(pages, registers, origins);
         if let Reserved::Nonzero(leaf) = walked {
             return Verdict::Refused(Refusal::ReservedBytes(leaf));
         }
+        mask::mask_rows(secure_avic, registers, origins);
         return Verdict::Accepted;
     }
     Verdict::Refused(Refusal::PageCount)
 }
 
-// The masked first entry of every place and where it stands, from pages whose counts are lawful: what the reader gives, page by page, up to the first
-// entry that is not clean. The memory comes without rows; a place whose origin is 0 has none yet.
+// The first entry of every place as it stands and where, from pages whose counts are lawful: what the reader gives, page by page, up to the first
+// entry that is not clean. The memory comes without rows; a place whose origin is 0 has none yet. A step to position 0 has left the page: with the
+// count read once, that makes the inner loop a count of its entries.
 pub fn collect_into(
     pages: &[u8],
-    secure_avic: bool,
     registers: &mut [u32; REGISTERS],
     origins: &mut [u64; PLACES],
 ) -> Reserved
     requires { ⌜ (countsFit (now pages) ≡ true) × Cleared (now registers) (now origins) ⌝ }
-    ensures { λ r. ⌜ Walked «secure_avic» (now (pages .entry)) r (now (registers .exit)) (now (origins .exit)) ⌝ }
+    ensures { λ r. ⌜ Walked (now (pages .entry)) r (now (registers .exit)) (now (origins .exit)) ⌝ }
 {
-    let kept = masking::masks::kept_leaves(secure_avic);
     let n = pages::page_count(pages);
     let mut index = reader::start(pages);
     while index.page_index < n {
         let page = index.page_index;
-        while index.page_index == page {
+        let count = pages::count_of(pages, page) as usize;
+        loop {
             let read = reader::take(pages, index);
             match read {
                 Read::Entry(entry) => {
                     let place = counted_place(entry);
                     if place < PLACES {
                         if origins[place] == 0 {
-                            let row = masking::masks::mask_row(place);
                             let r = entry.result;
-                            let masked = masked_at(kept[row], place, r);
-                            put_row(registers, place, masked);
+                            let row = words(r);
+                            put_row(registers, place, row);
                             origins[place] = memory::origins::entry_number(
                                 index.page_index,
                                 index.function_index,
                             );
                         }
                     }
-                    let next = reader::step(pages, index);
+                    let next = reader::step(pages, index, count);
                     index = next;
+                    if index.function_index == 0 {
+                        break;
+                    }
                 }
                 Read::Unclean(leaf) => {
                     return Reserved::Nonzero(leaf);
@@ -95,6 +102,18 @@ pub fn collect_into(
         }
     }
     Reserved::Zero
+}
+
+// The registers as words of 32 bits, which they are: so a proof knows it of what the walk stores, and nothing is left of it in the compiled code.
+fn words(r: CpuidResult) -> CpuidResult
+    ensures { λ q. ⌜ q ≡ words r ⌝ }
+{
+    CpuidResult {
+        eax: r.eax & WORD,
+        ebx: r.ebx & WORD,
+        ecx: r.ecx & WORD,
+        edx: r.edx & WORD,
+    }
 }
 
 // The place of an entry, or 88 where its leaf is filtered or it does not count: leaf Dh counts on page 1 alone.
@@ -111,7 +130,7 @@ pub fn counted_place(entry: ParsedCpuidEntry) -> usize
     masking::place_of(leaf, entry.subleaf)
 }
 
-// An entry's registers at its place: masked, and for D.0 with bits 0 and 1 of EAX set.
+// The registers of one entry at its place, masked by a row of the table of kept leaves that the caller has.
 pub fn masked_at(kept: KeptLeaf, place: usize, r: CpuidResult) -> CpuidResult
     ensures { λ q. ⌜ q ≡ setLegacy place (applyMask (masksOf kept) r) ⌝ }
 {

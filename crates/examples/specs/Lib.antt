@@ -27,3 +27,4 @@ pub mod Differ
 pub mod Beyond
 pub mod Instances
 pub mod Letter28
+pub mod Lives

@@ -23,7 +23,10 @@ ghost use mathlib.Core.Path.{_≡_};
 ghost use Rattle.bits.specs.Choice.{pick};
 ghost use Rattle.table.specs.Rows.{row};
 ghost use Rattle.memory.specs.Held.{heldIn};
-ghost use Rattle.lookup.specs.Lookup.{found};
+ghost use mathlib.Core.Bool.{Bool};
+ghost use Rattle.x86defs.specs.declared.CpuidFunction.{CpuidFunction};
+ghost use Rattle.table.specs.declared.Subleaf.{Subleaf};
+ghost use Rattle.lookup.specs.Lookup.{placeAsked, found};
 ghost use Rattle.rows_checked.specs.Checked.{registersIn};
 ghost use Rattle.guest_state.specs.State.{saveRegister};
 ghost use Rattle.guest.specs.Guest.{osxsaveSeen, versionSeen, levelSeen, sizeSeen, seenAt, guestAnswer};
@@ -66,15 +69,10 @@ pub fn guest_find(
     let state = state_in_use(registers, origins, false, v.xcr0, v.xss);
     match state {
         InUse::Refused(r) => GuestFound::Refused(r),
-        InUse::Compacted(size) => GuestFound::Looked(find_kept(
-            registers,
-            origins,
-            v,
-            size,
-            leaf,
-            subleaf,
-            enforce_subleaf,
-        )),
+        InUse::Compacted(size) => {
+            let i = place_asked(leaf, subleaf, enforce_subleaf);
+            GuestFound::Looked(seen_row(registers, origins, v, size, i))
+        }
     }
 }
 
@@ -93,6 +91,21 @@ pub fn find_kept(
         (now (origins .entry)) leaf subleaf «enforce_subleaf» ⌝ }
 {
     let i = place_asked(leaf, subleaf, enforce_subleaf);
+    seen_row(registers, origins, v, size, i)
+}
+
+// The row of the place that is asked for, as the guest sees it, where it is there. `find_kept` and `guest_find` ask for the place themselves: so this is
+// small enough for the compiler to put it into both.
+fn seen_row(
+    registers: &[u32; REGISTERS],
+    origins: &[u64; PLACES],
+    v: Processor,
+    size: u32,
+    i: usize,
+) -> Found
+    ensures { λ r. ⌜ ((l : CpuidFunction) (sub : Subleaf) (enforce : Bool) → i ≡ placeAsked l sub enforce
+        → r ≡ found (tableWith (heldIn (now (registers .entry)) (now (origins .entry))) v size) (now (origins .entry)) l sub enforce) ⌝ }
+{
     if i < PLACES {
         let origin = origins[i];
         if is_there(origin) {

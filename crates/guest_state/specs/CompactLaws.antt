@@ -2,10 +2,12 @@
 use mathlib.Core.Path.{_≡_, refl, sym, ap, _∙_}
 use mathlib.Core.Bool.{Bool, true, false, _&&_}
 use mathlib.Core.Logic.{inl, inr}
-use Prim.Native.Nat.{ℕ, zero, suc, _+_, _/_, _^_, _≤_, _<_}
+use Prim.Native.Nat.{ℕ, zero, suc, _+_, _-_, _*_, _^_, _≤_, _<_}
 use native.Mathlib.Nat.{eq-or-lt-of-le}
 use native.Mathlib.Numerals.{add-one}
 use native.Mathlib.Omega.{arith}
+use lib.Bits.{bitAnd}
+use lib.Count.{trailingZeros}
 use lib.Dec.{leb}
 use borrow.Author.Tests.{leb-true, le-leb}
 use Rattle.bits.specs.ChoiceLaws.{and-left, and-right}
@@ -13,21 +15,21 @@ use Rattle.bits.specs.Bits.{has}
 use Rattle.x86defs.specs.declared.CpuidResult.{CpuidResult}
 use Rattle.masking.specs.Place
 use Rattle.table.specs.Rows.{Rows}
-use Rattle.checks.specs.MaskLaws.{none-from}
+use Rattle.checks.specs.LowestLaws.{Left, Taken, left-taken, left-none}
 use Rattle.guest_state.specs.Compact.{raised, componentStart, placed, compactBelow, compactSize}
 
 -- ---- one subleaf
 
-module _ {used : Bool} (r : CpuidResult) (n : ℕ) where
-  pub placed-raised : used ≡ true → has 1 (r .ecx) ≡ true → raised n + r .eax ≡ placed used r n
+module _ (r : CpuidResult) (n : ℕ) where
+  pub placed-raised : has 1 (r .ecx) ≡ true → raised n + r .eax ≡ placed true r n
   unfolding placed componentStart
-  placed-raised e f = rw (e, f)
+  placed-raised f = rw f
 
-  pub placed-packed : used ≡ true → has 1 (r .ecx) ≡ false → n + r .eax ≡ placed used r n
+  pub placed-packed : has 1 (r .ecx) ≡ false → n + r .eax ≡ placed true r n
   unfolding placed componentStart
-  placed-packed e f = rw (e, f)
+  placed-packed f = rw f
 
-  pub placed-unused : used ≡ false → n ≡ placed used r n
+  placed-unused : {used : Bool} → used ≡ false → n ≡ placed used r n
   unfolding placed
   placed-unused e = rw e
 
@@ -37,27 +39,61 @@ pub compact-starts : (m : Rows) (x : ℕ) → _≡_ {A = ℕ} 576 (compactBelow 
 unfolding compactBelow placed
 compact-starts m x = refl
 
-pub compact-next : (m : Rows) (x k : ℕ) {n s : ℕ} {used : Bool} → 2 ≤ k → n ≡ compactBelow m x k → used ≡ has k x
-    → s ≡ placed used (m (Place.extendedState k) .result) n → s ≡ compactBelow m x (k + 1)
+compact-next : (m : Rows) (x k : ℕ) {n s : ℕ} → 2 ≤ k → n ≡ compactBelow m x k → has k x ≡ true
+    → s ≡ placed true (m (Place.extendedState k) .result) n → s ≡ compactBelow m x (k + 1)
 unfolding compactBelow
-compact-next m x k l e f g = g ∙ rw (e, f, add-one, compactBelow, le-leb 2 k l)
+compact-next m x k l e f g = g ∙ rw (e, add-one, compactBelow, le-leb 2 k l, f)
 
--- no bit from k up: nothing is added any more
-compact-stays : (m : Rows) (x k n : ℕ) → k ≤ n → ((j : ℕ) → k ≤ j → has j x ≡ false) → compactBelow m x n ≡ compactBelow m x k
+-- no bit from k up to n: nothing is added
+compact-stays : (m : Rows) (x k n : ℕ) → k ≤ n → ((j : ℕ) → k ≤ j → j < n → has j x ≡ false) → compactBelow m x n ≡ compactBelow m x k
 unfolding compactBelow
 compact-stays m x k zero h f = let q : 0 ≡ k = omega arith in ap (compactBelow m x) q
 compact-stays m x k (suc n) h f =
     elim (eq-or-lt-of-le h) [
       | inl q ↦ sym (ap (compactBelow m x) q)
-      | inr q ↦ step (leb 2 n) (f n (omega arith)) ∙ compact-stays m x k n (omega arith) f
+      | inr q ↦ step (leb 2 n) (f n (omega arith) (omega arith)) ∙ compact-stays m x k n (omega arith) (λ j l u. f j l (omega arith))
     ]
   where
     step : (b : Bool) → has n x ≡ false → placed (b && has n x) (m (Place.extendedState n) .result) (compactBelow m x n) ≡ compactBelow m x n
     step true e = sym (placed-unused _ _ e)
     step false e = sym (placed-unused _ _ refl)
 
-pub compact-ends : (m : Rows) (x k : ℕ) → k ≤ 64 → x / 2 ^ k ≡ 0 → compactBelow m x k ≡ compactSize m x
-compact-ends m x k u z = sym (compact-stays m x k 64 u (none-from x k z))
+-- the bits of the mask from bit k up are left, and the size is that of the subleaves below k: at most 576 and 2^33 for each
+pub record Placing (m : Rows) (x size rest : ℕ) : Type 0 where
+  pub k : ℕ
+  pub low : 2 ≤ k
+  pub high : k ≤ 64
+  pub area : size ≡ compactBelow m x k
+  pub most : size ≤ 576 + k * 2 ^ 33
+  pub left : Left x rest k
+
+module _ (m : Rows) (x : ℕ) where
+  pub placing-starts : {rest : ℕ} → Left x rest 2 → Placing m x 576 rest
+  placing-starts l = record { k = 2; low = omega arith; high = omega arith; area = compact-starts m x; most = omega arith; left = l }
+
+  module _ {size rest : ℕ} (p : Placing m x size rest) where
+    pub placing-small : size < 2 ^ 40
+    placing-small = omega (arith, p .most, p .high)
+
+    pub placing-taken : ¬ (rest ≡ 0) → Taken x rest (p .k) (trailingZeros 64 rest)
+    placing-taken e = left-taken (p .left) e
+
+    pub placing-next : {s : ℕ} → ¬ (rest ≡ 0) → s ≡ placed true (m (Place.extendedState (trailingZeros 64 rest)) .result) size → s ≤ size + 2 ^ 33
+        → Placing m x s (bitAnd rest (rest - 1))
+    placing-next {s} n e l =
+        let t : Taken x rest (p .k) (trailingZeros 64 rest) = placing-taken n in
+        record {
+          k = trailingZeros 64 rest + 1;
+          low = omega (arith, t .from, p .low);
+          high = omega (arith, t .inside);
+          area = compact-next m x (trailingZeros 64 rest) (omega (arith, t .from, p .low))
+              (p .area ∙ sym (compact-stays m x (p .k) (trailingZeros 64 rest) (t .from) (t .between))) (t .here) e;
+          most = omega (arith, p .most, t .from);
+          left = t .next;
+        }
+
+    pub placing-ends : rest ≡ 0 → size ≡ compactSize m x
+    placing-ends e = p .area ∙ sym (compact-stays m x (p .k) 64 (p .high) (λ j a b. left-none (p .left) e j a))
 
 -- ---- only the subleaves of the mask matter
 

@@ -13,12 +13,16 @@ use x86defs::CpuidResult;
 use x86defs::xsave_c;
 use x86defs::xsave_s;
 ghost use mathlib.Core.Path.{_≡_};
+ghost use mathlib.Core.Bool.{true};
 ghost use Prim.Native.Nat.{_+_, _≤_, _<_, _^_};
 ghost use Rattle.masking.specs.Kept.{places};
 ghost use Rattle.rows_checked.specs.Checked.{registersIn};
 ghost use Rattle.guest_state.specs.Compact.{placed, compactSize};
 ghost use Rattle.guest_state.specs.State.{isWithin, allowed, compactRegister, saveRegister};
 ghost use Rattle.guest_state.specs.InUse.{readRows, inUse};
+
+// The bits from 2 up: bits 0 and 1 stand for the legacy area.
+const FROM_2: u64 = 0xFFFF_FFFF_FFFF_FFFC;
 
 // Refused, or given: D.1.EBX.
 pub enum InUse {
@@ -107,38 +111,32 @@ fn compact_register(
     0
 }
 
-// The compacted area over any mask, of which `rest` is left from bit `k` up: at most 62 subleaves of less than 2^32 bytes and 63 bytes of
-// alignment, so it never wraps.
+// The compacted area over any mask, from its lowest subleaf up; `rest` has the bits that are left. There are at most 62 subleaves of less than 2^32
+// bytes and 63 bytes of alignment, so it never wraps.
 fn compact_size(registers: &[u32; REGISTERS], origins: &[u64; PLACES], own: bool, mask: u64) -> u64
     ensures { λ r. ⌜ r ≡ compactSize (readRows own (now (registers .entry)) (now (origins .entry))) mask ⌝ }
 {
     let mut size: u64 = 576;
-    let mut rest = mask >> 2;
-    let mut k: u32 = 2;
+    let mut rest = mask & FROM_2;
     while rest != 0 {
-        let place = place::EXTENDED_STATE_0 + k as usize;
+        let place = place::EXTENDED_STATE_0 + u64::trailing_zeros(rest) as usize;
         let subleaf = read_row(registers, origins, own, place);
-        let used = bits::has_bit64(rest, 0);
-        size = place_component(used, subleaf, size);
-        rest = rest >> 1;
-        k += 1;
+        size = place_component(subleaf, size);
+        rest = rest & (rest - 1);
     }
     size
 }
 
-// The compacted area so far, with one more subleaf behind it if it is used.
-fn place_component(used: bool, subleaf: CpuidResult, size: u64) -> u64
+// The compacted area so far, with one more subleaf behind it.
+fn place_component(subleaf: CpuidResult, size: u64) -> u64
     requires { ⌜ size < 2 ^ 40 ⌝ }
-    ensures { λ r. ⌜ r ≡ placed used subleaf size ⌝ }
+    ensures { λ r. ⌜ r ≡ placed true subleaf size ⌝ }
     ensures small { λ r. ⌜ r ≤ size + 2 ^ 33 ⌝ }
 {
-    if used {
-        if bits::has_bit(subleaf.ecx, 1) {
-            return (size + 63) / 64 * 64 + subleaf.eax as u64;
-        }
-        return size + subleaf.eax as u64;
+    if bits::has_bit(subleaf.ecx, 1) {
+        return (size + 63) / 64 * 64 + subleaf.eax as u64;
     }
-    size
+    size + subleaf.eax as u64
 }
 
 // D.0.EBX.

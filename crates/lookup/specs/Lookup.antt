@@ -3,6 +3,7 @@
 use mathlib.Core.Bool.{Bool, _||_}
 use mathlib.Core.List.{List}
 use Prim.Native.Nat.{ℕ}
+use lib.Dec.{eqb}
 use lib.ListN.{getD}
 use Rattle.bits.specs.Choice.{pick}
 use Rattle.x86defs.specs.declared.CpuidFunction.{CpuidFunction}
@@ -14,6 +15,7 @@ use Rattle.table.specs.declared.Subleaf.{Subleaf}
 use Rattle.table.specs.declared.Subleaf.the-variants.{None, Some}
 use Rattle.table.specs.Rows.{Row}
 use Rattle.table.specs.Table.{rowIn}
+use Rattle.lookup.specs.declared.Span.{Span}
 use Rattle.lookup.specs.declared.LeafResult.{LeafResult}
 use Rattle.lookup.specs.declared.LeafResult.the-variants.{Some as Found, None as Nothing}
 use Rattle.lookup.specs.declared.Found.{Found as Location}
@@ -30,6 +32,18 @@ unfoldable pub placeWhole : CpuidFunction → ℕ
 placeWhole l =
     pick (sameFunction l VendorAndMaxFunction) Place.vendorAndMaxFunction
     (pick (sameFunction l ExtendedMaxFunction) Place.extendedMaxFunction (placeOf l 0))
+
+-- the same, and 88 for a leaf with subleaves
+unfoldable pub placeAlone : CpuidFunction → ℕ
+placeAlone l = pick (withSubleaves l) places (placeWhole l)
+
+abbrev span : ℕ → ℕ → Span
+span first count = record { first = first; count = count }
+
+-- the places of a leaf with subleaves; none for any other
+unfoldable pub spanOf : CpuidFunction → Span
+spanOf l =
+    pick (eqb (l .0) 0xD) (span 6 64) (pick (eqb (l .0) 0x8000001D) (span 82 4) (pick (eqb (l .0) 0xB) (span 4 2) (pick (eqb (l .0) 0x7) (span 3 1) (span 0 0))))
 
 abbrev pub rowResult : Row → LeafResult
 rowResult r = pick (r .present) (Found (r .result)) Nothing

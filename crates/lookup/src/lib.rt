@@ -1,12 +1,15 @@
 // Lookup in a table in lent memory, as the source's leaf_result_ref. A leaf, a subleaf or none, and whether to enforce come in; a row with its
 // origin, or nothing, goes out.
 ghost use mathlib.Core.Path.{_≡_};
-ghost use Prim.Native.Nat.{_≤_};
+ghost use Prim.Native.Nat.{_+_, _≤_};
+ghost use lib.Dec.{ltb};
+ghost use Rattle.bits.specs.Choice.{pick};
 ghost use Rattle.masking.specs.Kept.{places};
 ghost use Rattle.memory.specs.Held.{heldIn};
-ghost use Rattle.lookup.specs.Lookup.{withSubleaves, placeWhole, placeAsked, found};
+ghost use Rattle.lookup.specs.Lookup.{spanOf, placeAlone, placeAsked, found};
 use masking::PLACES;
 use masking::place;
+use masking::run;
 use memory::REGISTERS;
 use memory::is_there;
 use memory::row_at;
@@ -48,52 +51,99 @@ pub fn find(
     Found::NoRow
 }
 
-// The place that is asked for, or 88 where the question has no answer.
+// The place that is asked for, or 88 where the question has no answer. It is kept small, so that the compiler puts it into each function that looks up.
 pub fn place_asked(leaf: CpuidFunction, subleaf: Subleaf, enforce_subleaf: bool) -> usize
     ensures { λ r. ⌜ (r ≡ placeAsked leaf subleaf «enforce_subleaf») × (r ≤ places) ⌝ }
 {
-    let indexed = with_subleaves(leaf);
-    match subleaf {
-        Subleaf::Some(k) => {
-            if indexed {
-                return masking::place_of(leaf, k);
-            }
-            if enforce_subleaf {
-                return PLACES;
-            }
-            place_whole(leaf)
+    if let Subleaf::Some(k) = subleaf {
+        let span = span_of(leaf);
+        if span.count != 0 {
+            return place_within(span, k);
         }
-        Subleaf::None => {
-            if indexed {
-                return PLACES;
-            }
-            place_whole(leaf)
+        if enforce_subleaf {
+            return PLACES;
         }
     }
+    place_alone(leaf)
 }
 
-// Whether a leaf has subleaves, by its number: four leaves of the table do.
-fn with_subleaves(leaf: CpuidFunction) -> bool
-    ensures { λ r. ⌜ r ≡ withSubleaves leaf ⌝ }
+// The places of a leaf with subleaves: the first, and how many.
+pub struct Span {
+    pub first: usize,
+    pub count: u32,
+}
+
+// The places of the four leaves with subleaves; none for any other leaf.
+fn span_of(leaf: CpuidFunction) -> Span
+    ensures { λ r. ⌜ r ≡ spanOf leaf ⌝ }
 {
     let n = leaf.0;
     match n {
-        leaf::EXTENDED_FEATURES => true,
-        leaf::EXTENDED_TOPOLOGY_ENUMERATION => true,
-        leaf::EXTENDED_STATE_ENUMERATION => true,
-        leaf::CACHE_TOPOLOGY_DEFINITION => true,
-        _ => false,
+        leaf::EXTENDED_STATE_ENUMERATION => Span {
+            first: run::EXTENDED_STATE.first,
+            count: run::EXTENDED_STATE.count,
+        },
+        leaf::CACHE_TOPOLOGY_DEFINITION => Span {
+            first: run::CACHE_TOPOLOGY.first,
+            count: run::CACHE_TOPOLOGY.count,
+        },
+        leaf::EXTENDED_TOPOLOGY_ENUMERATION => Span {
+            first: run::EXTENDED_TOPOLOGY.first,
+            count: run::EXTENDED_TOPOLOGY.count,
+        },
+        leaf::EXTENDED_FEATURES => Span {
+            first: run::EXTENDED_FEATURES.first,
+            count: run::EXTENDED_FEATURES.count,
+        },
+        _ => Span { first: 0, count: 0 },
     }
 }
 
-// The place of a leaf without subleaves, the two made here included; 88 where no table has it.
-fn place_whole(leaf: CpuidFunction) -> usize
-    ensures { λ r. ⌜ (r ≡ placeWhole leaf) × (r ≤ places) ⌝ }
+// The place of a subleaf, or 88 where there is none.
+fn place_within(span: Span, subleaf: u32) -> usize
+    requires { ⌜ span .first + span .count ≤ places ⌝ }
+    ensures { λ r. ⌜ r ≡ pick (ltb subleaf (span .count)) (span .first + subleaf) places ⌝ }
+    ensures small { λ r. ⌜ r ≤ places ⌝ }
+{
+    if subleaf < span.count {
+        return span.first + subleaf as usize;
+    }
+    PLACES
+}
+
+// The place of a leaf without subleaves, the two made here included; 88 for a leaf with subleaves, and where no table has it.
+fn place_alone(leaf: CpuidFunction) -> usize
+    ensures { λ r. ⌜ (r ≡ placeAlone leaf) × (r ≤ places) ⌝ }
 {
     let n = leaf.0;
-    match n {
-        leaf::VENDOR_AND_MAX_FUNCTION => place::VENDOR_AND_MAX_FUNCTION,
-        leaf::EXTENDED_MAX_FUNCTION => place::EXTENDED_MAX_FUNCTION,
-        _ => masking::place_of(leaf, 0),
+    if n < leaf::EXTENDED_MAX_FUNCTION {
+        if n <= leaf::VERSION_AND_FEATURES {
+            return n as usize;
+        }
+        if n == leaf::MONITOR_MWAIT {
+            return place::MONITOR_MWAIT;
+        }
+        return PLACES;
     }
+    if n <= leaf::EXTENDED_ADDRESS_SPACE_SIZES {
+        return run::EXTENDED.first + (n - leaf::EXTENDED_MAX_FUNCTION) as usize;
+    }
+    if n < leaf::EXTENDED_TLB1GB_IDENTIFIERS {
+        if n == leaf::EXTENDED_SVM_VERSION_AND_FEATURES {
+            return place::EXTENDED_SVM_VERSION_AND_FEATURES;
+        }
+        return PLACES;
+    }
+    if n < leaf::PROCESSOR_TOPOLOGY_DEFINITION {
+        if n <= leaf::EXTENDED_OPTIMIZATION_IDENTIFIERS {
+            return run::TLB_AND_OPTIMIZATION.first
+                + (n - leaf::EXTENDED_TLB1GB_IDENTIFIERS) as usize;
+        }
+        return PLACES;
+    }
+    if n <= leaf::EXTENDED_SEV_FEATURES {
+        return run::PROCESSOR_TOPOLOGY_AND_SEV.first
+            + (n - leaf::PROCESSOR_TOPOLOGY_DEFINITION) as usize;
+    }
+    PLACES
 }

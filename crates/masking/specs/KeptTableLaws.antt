@@ -1,11 +1,12 @@
 -- The code's table of kept leaves gives each of the 88 places its masks.
-use mathlib.Core.Path.{_≡_, refl, ap}
-use mathlib.Core.Bool.{Bool, true, false}
+use mathlib.Core.Path.{_≡_, refl, sym, ap, _∙_}
+use mathlib.Core.Bool.{Bool, true, false, _||_}
 use mathlib.Core.List.{List, [], _∷_, map}
 use Prim.Native.Nat.{ℕ, _-_, _<_}
 use lib.Dec.{eqb, ltb}
 use lib.ListN.{getD}
 use Rattle.bits.specs.Choice.{pick}
+use Rattle.bits.specs.ChoiceLaws.{pick-false}
 use Rattle.bits.specs.Bits.{maskOf, fieldMask}
 use Rattle.bits.specs.Lists.{tabulate}
 use Rattle.bits.specs.ListsLaws.{tabulate-at}
@@ -13,7 +14,7 @@ use Rattle.x86defs.specs.declared.CpuidResult.{CpuidResult}
 use Rattle.x86defs.specs.Functions.{result}
 use Rattle.x86defs.specs.Fields.{fieldsMask}
 use Rattle.masking.specs.declared.masks.KeptLeaf.{KeptLeaf}
-use Rattle.masking.specs.Masks.{Masks, applyMask, combine, versionAndFeatures, extendedFeatures, extendedState0, extendedState1, extendedVersionAndFeatures, extendedAddressSpaceSizes, extendedSvm, extendedOptimization, extendedSev, secureAvicMask}
+use Rattle.masking.specs.Masks.{Masks, allOnes, combine, versionAndFeatures, extendedFeatures, extendedState0, extendedState1, extendedVersionAndFeatures, extendedAddressSpaceSizes, extendedSvm, extendedOptimization, extendedSev, secureAvicMask}
 use Rattle.masking.specs.Kept.{Kept, keptLeaves, placesOf, places, slotIn, slot, masksAt}
 use Rattle.masking.specs.Place
 use Rattle.masking.specs.MaskTable.{keptLeaf, table, noRow, rowAt, masksOf, rowNumberIn, rowOfPlace}
@@ -43,3 +44,24 @@ pub secure-avic-adds : (avic : Bool) (i : ℕ) → i < places → masksAt avic i
 unfolding slot keptLeaves versionAndFeatures extendedFeatures extendedState0 extendedState1 extendedVersionAndFeatures extendedAddressSpaceSizes extendedSvm extendedOptimization extendedSev secureAvicMask maskOf fieldsMask fieldMask tabulate
 secure-avic-adds true i h = tabulate-at places (masksAt true) (addedTo true) refl i h
 secure-avic-adds false i h = tabulate-at places (masksAt false) (addedTo false) refl i h
+
+-- ---- the places whose masks are not all ones, the last first
+
+abbrev isOne : List ℕ → ℕ → Bool
+isOne [] i = false
+isOne (n ∷ ns) i = eqb i n || isOne ns i
+
+abbrev pub isMasked : ℕ → Bool
+isMasked =
+    isOne
+    (Place.extendedSevFeatures ∷ Place.processorTopologyDefinition ∷ Place.extendedOptimizationIdentifiers ∷ 80 ∷ 79
+    ∷ Place.extendedAddressSpaceSizes ∷ Place.extendedVersionAndFeatures ∷ Place.extendedMaxFunction
+    ∷ Place.extendedState 1 ∷ Place.extendedState 0 ∷ Place.extendedFeatures ∷ Place.versionAndFeatures ∷ Place.vendorAndMaxFunction ∷ [])
+
+others : (avic : Bool) (i : ℕ) → i < places → pick (isMasked i) allOnes (masksAt avic i) ≡ allOnes
+unfolding slot keptLeaves versionAndFeatures extendedFeatures extendedState0 extendedState1 extendedVersionAndFeatures extendedAddressSpaceSizes extendedSvm extendedOptimization extendedSev secureAvicMask maskOf fieldsMask fieldMask tabulate
+others true i h = tabulate-at places (λ i. pick (isMasked i) allOnes (masksAt true i)) (λ i. allOnes) refl i h
+others false i h = tabulate-at places (λ i. pick (isMasked i) allOnes (masksAt false i)) (λ i. allOnes) refl i h
+
+pub all-ones : (avic : Bool) (i : ℕ) → i < places → isMasked i ≡ false → masksAt avic i ≡ allOnes
+all-ones avic i h n = sym (pick-false _ _ n) ∙ others avic i h

@@ -90,7 +90,8 @@ fn search_flips(
                         seen[place] = true;
                     }
                 }
-                let next = reader::step(pages, index);
+                let count = pages::count_of(pages, index.page_index) as usize;
+                let next = reader::step(pages, index, count);
                 index = next;
             }
             Read::Unclean(leaf) => {

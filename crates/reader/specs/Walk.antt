@@ -1,5 +1,6 @@
 -- The walk over the entries, by `CpuidPageIndex` as snp.rs has it. Document 01, "Corners of snp.rs": entries at positions below the page's
 -- count are read, pages in order; empty pages are passed over, also first, last and several running.
+use mathlib.Core.Path.{_≡_}
 use mathlib.Core.Bool.{Bool, _&&_}
 use mathlib.Core.List.{List, [], _++_}
 use Prim.Native.Nat.{ℕ, _+_, _-_, _<_}
@@ -24,6 +25,11 @@ isEntry s i = ltb (i .«page_index») (pagesIn s) && ltb (i .«function_index»)
 pub record Inside (s : List ℕ) (i : CpuidPageIndex) : Type 0 where
   pub page : i .«page_index» < pagesIn s
   pub position : i .«function_index» < countOf s (i .«page_index»)
+
+-- an entry of a page, and the count of that page
+pub record Counted (s : List ℕ) (i : CpuidPageIndex) (n : ℕ) : Type 0 where
+  pub inside : Inside s i
+  pub count : n ≡ countOf s (i .«page_index»)
 
 -- whether page p has no entry
 abbrev pub isEmpty : List ℕ → ℕ → Bool

@@ -2,6 +2,7 @@
 use mathlib.Core.Path.{_≡_, refl, sym, ap, _∙_}
 use mathlib.Core.Bool.{Bool, true, false}
 use mathlib.Core.List.{List, [], _∷_, _++_}
+use mathlib.Core.Logic.{_≢_}
 use Prim.Native.Nat.{ℕ, zero, suc, _+_, _-_, _≤_, _<_}
 use native.Mathlib.Numerals.{add-one}
 use native.Mathlib.Omega.{arith}
@@ -146,6 +147,33 @@ incremented-rises s p q h = go (ltb (q + 1) (countOf s p)) refl
     go true e = rw (incremented-inside s p q h, next-here s p (q + 1) h (ltb-true _ _ e)) (omega arith)
     go false e = rw (incremented-inside s p q h, next-later s p (q + 1) h (ltb-false _ _ e)) (omega (arith, first-from-rises s (p + 1) (omega arith)))
 
+-- where it comes to is the start of a page
+first-from-start : (s : List ℕ) (p : ℕ) → firstFrom s p .«function_index» ≡ 0
+unfolding firstFrom
+first-from-start s p = go (lowest (isEmpty s) p (pagesIn s - p))
+  where
+    go : (f : Failing) → pageStart s f .«function_index» ≡ 0
+    go (at j) = refl
+    go none = refl
+
+-- a step that comes to position 0 has left the page, and any other has not
+incremented-leaves : (s : List ℕ) (p q : ℕ) → p < pagesIn s → incremented s (index p q) .«function_index» ≡ 0 → p < incremented s (index p q) .«page_index»
+incremented-leaves s p q h = go (ltb (q + 1) (countOf s p)) refl
+  where
+    go : (b : Bool) → ltb (q + 1) (countOf s p) ≡ b → incremented s (index p q) .«function_index» ≡ 0 → p < incremented s (index p q) .«page_index»
+    go true e z =
+        let y : q + 1 ≡ 0 = rw (incremented-inside s p q h, next-here s p (q + 1) h (ltb-true _ _ e)) at z in
+        absurd (omega arith)
+    go false e z = rw (incremented-inside s p q h, next-later s p (q + 1) h (ltb-false _ _ e)) (omega (arith, first-from-rises s (p + 1) (omega arith)))
+
+incremented-stays : (s : List ℕ) (p q : ℕ) → p < pagesIn s → incremented s (index p q) .«function_index» ≢ 0 → incremented s (index p q) .«page_index» ≡ p
+incremented-stays s p q h = go (ltb (q + 1) (countOf s p)) refl
+  where
+    go : (b : Bool) → ltb (q + 1) (countOf s p) ≡ b → incremented s (index p q) .«function_index» ≢ 0 → incremented s (index p q) .«page_index» ≡ p
+    go true e z = rw (incremented-inside s p q h, next-here s p (q + 1) h (ltb-true _ _ e))
+    go false e z =
+        absurd (z (rw (incremented-inside s p q h, next-later s p (q + 1) h (ltb-false _ _ e)) (first-from-start s (p + 1))))
+
 pub next-valid : (s : List ℕ) (i : CpuidPageIndex) → Valid s (nextValid s i)
 unfolding nextValid
 next-valid s i = go (isEntry s i) refl
@@ -180,6 +208,8 @@ pub record Turn (s : List ℕ) (i : CpuidPageIndex) : Type 0 where
   pub falls : length (rest s (incremented s i)) < length (rest s i)
   pub valid : Valid s (incremented s i)
   pub rises : i .«page_index» ≤ incremented s i .«page_index»
+  pub leaves : incremented s i .«function_index» ≡ 0 → i .«page_index» < incremented s i .«page_index»
+  pub stays : incremented s i .«function_index» ≢ 0 → incremented s i .«page_index» ≡ i .«page_index»
 
 pub turn : (s : List ℕ) (i : CpuidPageIndex) → Valid s i → i .«page_index» < pagesIn s → Turn s i
 turn s i v h =
@@ -193,4 +223,6 @@ turn s i v h =
       falls = omega (arith, ap length e);
       valid = incremented-valid s i;
       rises = incremented-rises s p q h;
+      leaves = incremented-leaves s p q h;
+      stays = incremented-stays s p q h;
     }

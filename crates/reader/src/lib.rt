@@ -4,7 +4,7 @@ use pages::CpuidPageIndex;
 use pages::ParsedCpuidEntry;
 use x86defs::CpuidFunction;
 ghost use mathlib.Core.Path.{_≡_};
-ghost use Rattle.reader.specs.Walk.{Inside, firstIndex, incremented};
+ghost use Rattle.reader.specs.Walk.{Counted, firstIndex, incremented};
 ghost use Rattle.reader.specs.Read.{Readable, readAt};
 
 mod walk;
@@ -31,12 +31,12 @@ pub fn new<'a>(cpuid_pages: &'a [u8]) -> SnpCpuidIterator<'a>
     }
 }
 
-// The index stepped in the caller's own record, as `CpuidPageIndex::increment` does.
-pub fn increment(index: &mut CpuidPageIndex, pages: &[u8])
-    requires { ⌜ Inside (now pages) (now index) ⌝ }
+// The index stepped in the caller's own record, as `CpuidPageIndex::increment` does, where the count of its page is known.
+pub fn increment(index: &mut CpuidPageIndex, pages: &[u8], count: usize)
+    requires { ⌜ Counted (now pages) (now index) count ⌝ }
     ensures { λ _. ⌜ now (index .exit) ≡ incremented (now (pages .entry)) (now (index .entry)) ⌝ }
 {
-    *index = walk::increment(pages, *index);
+    *index = walk::increment(pages, *index, count);
 }
 
 // Where a new reader stands.
@@ -60,15 +60,16 @@ pub fn take(pages: &[u8], index: CpuidPageIndex) -> Read
     Read::Unclean(leaf)
 }
 
-// Where a reader that stands at `index` stands next: its index is lent to `increment`.
-pub fn step(pages: &[u8], index: CpuidPageIndex) -> CpuidPageIndex
-    requires { ⌜ Inside (now pages) index ⌝ }
+// Where a reader that stands at `index`, on a page with this count, stands next: its index is lent to `increment`. A caller reads the count once for
+// all entries of a page.
+pub fn step(pages: &[u8], index: CpuidPageIndex, count: usize) -> CpuidPageIndex
+    requires { ⌜ Counted (now pages) index count ⌝ }
     ensures { λ r. ⌜ r ≡ incremented (now (pages .entry)) index ⌝ }
 {
     let mut r = SnpCpuidIterator {
         cpuid_pages: pages,
         index,
     };
-    increment(&mut r.index, r.cpuid_pages);
+    increment(&mut r.index, r.cpuid_pages, count);
     r.index
 }

@@ -6,7 +6,7 @@ use pages::page_count;
 ghost use mathlib.Core.Path.{_≡_};
 ghost use Prim.Native.Nat.{_+_, _≤_, _<_};
 ghost use Rattle.pages.specs.Layout.{pagesIn};
-ghost use Rattle.reader.specs.Walk.{Inside, firstIndex, nextValid, incremented, firstFrom};
+ghost use Rattle.reader.specs.Walk.{Counted, firstIndex, nextValid, incremented, firstFrom};
 
 // The index of the first entry, or the end. The source's `CpuidPageIndex::new`.
 pub fn first_index(pages: &[u8]) -> CpuidPageIndex
@@ -38,14 +38,13 @@ pub fn next_valid_index(pages: &[u8], index: CpuidPageIndex) -> CpuidPageIndex
     }
 }
 
-// The index of the entry after the one that an index stands at, or the end. What leads to a later page stands in a function of its own, so that a
-// loop over one page's entries stays short when this is compiled into it.
-pub fn increment(pages: &[u8], index: CpuidPageIndex) -> CpuidPageIndex
-    requires { ⌜ Inside (now pages) index ⌝ }
+// The index of the entry after the one that an index stands at, or the end, where the page's count is known. What leads to a later page stands in a
+// function of its own, so that a loop over one page's entries stays short when this is compiled into it.
+pub fn increment(pages: &[u8], index: CpuidPageIndex, count: usize) -> CpuidPageIndex
+    requires { ⌜ Counted (now pages) index count ⌝ }
     ensures { λ r. ⌜ r ≡ incremented (now (pages .entry)) index ⌝ }
 {
     let page = index.page_index;
-    let count = count_of(pages, page) as usize;
     let after = index.function_index + 1;
     if after < count {
         return CpuidPageIndex {

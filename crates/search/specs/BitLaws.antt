@@ -3,6 +3,8 @@ use mathlib.Core.Path.{_≡_, refl, sym, ap, _∙_}
 use mathlib.Core.Bool.{Bool, true, false}
 use mathlib.Core.List.{List}
 use Prim.Native.Nat.{ℕ, _+_, _-_, _/_, _%_, _≤_, _<_}
+use borrow.Author.Tests.{eqb-true}
+use Rattle.bits.specs.ChoiceLaws.{and-left}
 use Rattle.bits.specs.Search.{Failing, lowest}
 use Rattle.bits.specs.Search.Failing.{at, none}
 use Rattle.bits.specs.SearchLaws.{lowest-all, lowest-passes, lowest-stops, lowest-ends}
@@ -11,7 +13,11 @@ use Rattle.masking.specs.Masks.{applyMask}
 use Rattle.masking.specs.declared.masks.KeptLeaf.{KeptLeaf}
 use Rattle.masking.specs.MaskTable.{masksOf}
 use Rattle.table.specs.declared.CpuidResults.{CpuidResults}
+use Rattle.table.specs.declared.Refusal.{Refusal}
 use Rattle.table.specs.declared.Verdict.{Verdict}
+use Rattle.table.specs.declared.Verdict.the-variants.{Accepted, Refused}
+use Rattle.table.specs.RefusalLaws.{refusal-numbered}
+use Rattle.table.specs.Table.{emptyTable}
 use Rattle.table.specs.Rows.{Rows, row}
 use Rattle.memory.specs.Held.{heldIn}
 use Rattle.collect.specs.FirstEntries.{setLegacy}
@@ -19,8 +25,8 @@ use Rattle.checks.specs.Checks.{rowsVerdict}
 use Rattle.finish.specs.RowsBuilt.{tableFor, builtFrom}
 use Rattle.rows_finished.specs.Finished.{Answered}
 use Rattle.flips.specs.OneBit.{oneBit, xorResult}
-use Rattle.search.specs.SameVerdict.{sameResult, sameTable, sameVerdict, sameAnswer, sameFrom}
-use Rattle.search.specs.SameLaws.{result-equal}
+use Rattle.search.specs.SameVerdict.{sameResult, sameTable, sameNumbers, sameVerdict, sameAnswer, sameFrom}
+use Rattle.search.specs.SameLaws.{table-same, result-equal}
 use Rattle.search.specs.WithRow.{withRow}
 use Rattle.search.specs.WithRowLaws.{put-same}
 use Rattle.search.specs.ChangesLaws.{from-equal}
@@ -102,3 +108,19 @@ module _ (n : ℕ) {o m : Rows} {v u : Verdict} {t z : CpuidResults} (a : Answer
   pub verdict-differs : {p : Bool} → p ≡ sameVerdict v u → p ≡ false → false ≡ sameFrom n o m
   unfolding sameAnswer
   verdict-differs e f = sym (rw (sym e ∙ f)) ∙ held-to
+
+-- a verdict, with the table that goes with it
+pub answer-of : (n : ℕ) (o : Rows) {v : Verdict} → v ≡ rowsVerdict o → AnswerTo n o v (tableFor n (rowsVerdict o) o)
+answer-of n o e = record { verdict = e; table = refl }
+
+-- a refusal that is the same has the same table: both are empty
+module _ (n : ℕ) (o : Rows) {m : Rows} {v u : Verdict} {z : CpuidResults} (e : v ≡ rowsVerdict o) (b : AnswerTo n m u z) where
+  pub refused-same : {r : Refusal} {p : Bool} → v ≡ Refused r → p ≡ sameVerdict v u → p ≡ true → true ≡ sameFrom n o m
+  unfolding sameNumbers
+  refused-same {r} f g h =
+      keeps-table n (record { verdict = e; table = sym (ap (λ (d : Verdict). tableFor n d o) (sym e ∙ f)) }) b g h
+      (sym (table-same emptyTable) ∙ ap (sameTable emptyTable) (sym (empty u (b .verdict) (rw f at (sym g ∙ h)))))
+    where
+      empty : (d : Verdict) → d ≡ rowsVerdict m → sameVerdict (Refused r) d ≡ true → z ≡ emptyTable
+      empty Accepted i k = absurd (refusal-numbered r (eqb-true _ _ (and-left _ _ k)))
+      empty (Refused q) i k = b .table ∙ ap (λ (d : Verdict). tableFor n d m) (sym i)

@@ -13,6 +13,7 @@ use memory::put_row;
 use memory::row_at;
 use memory::sized;
 use rows_finished::build_rows;
+use rows_finished::finish_rows;
 use table::Verdict;
 use x86defs::CpuidResult;
 ghost use mathlib.Core.Path.{_≡_};
@@ -77,7 +78,8 @@ pub fn first_bit(
     Decisive::NoNumber
 }
 
-// Whether another row at a place keeps the answer, which is the verdict and the table in the second memory. A row that is there already does.
+// Whether another row at a place keeps the answer, which is the verdict and the table in the second memory. A row that is there already does. A refusal
+// has no table to compare.
 fn keeps_answer(
     registers: &[u32; REGISTERS],
     origins: &[u64; PLACES],
@@ -103,8 +105,11 @@ fn keeps_answer(
     let mut tried_origins = *origins;
     put_row(&mut tried, place, x);
     tried_origins[place] = TRIED;
-    let tried_verdict = build_rows(&mut tried, &mut tried_origins, edition);
+    let tried_verdict = finish_rows(&mut tried, &mut tried_origins, edition);
     if same_verdict(tried_verdict, verdict) {
+        if let Verdict::Refused(_) = tried_verdict {
+            return true;
+        }
         return same_table(&tried, &tried_origins, table, table_origins);
     }
     false

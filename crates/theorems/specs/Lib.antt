@@ -16,3 +16,5 @@ pub mod PoolTheorems
 pub mod Theorems
 pub mod NearestBit
 pub mod KeptTable
+pub mod NumbersTheorems
+pub mod LifeTheorems

@@ -1,47 +1,12 @@
--- `guest::find_kept` meets its contract: a lookup in the guest's table is the asked row changed by its rule.
+-- `guest::find_kept` meets its contract: the row of the place that is asked for.
 use borrow.Author.Needs.{needs}
-use mathlib.Core.Path.{ap, _∙_}
-use Rattle.x86defs.specs.declared.CpuidResult.{CpuidResult}
-use Rattle.table.specs.Rows.{row}
-use Rattle.guest_state.specs.State.{saveRegister}
-use Rattle.rows_checked.specs.Checked.{registersIn}
-use Rattle.guest.specs.Guest.{seenAt}
-use Rattle.guest.specs.FindLaws.{seen-there, seen-absent, seen-past}
 use Rattle.guest.proofs.find_kept.Statement.{statement}
 use Rattle.guest.proofs.find_kept.Tie as tie
-
-returns : tie.Need-returns
-returns c =
-    let r = c .before in let t = r .before in let i = t .before in let b = i .before .before in let p = b .before in let s = p .before in
-    let a = s .args in
-    seen-there (a .registers .now) (a .origins .now) (a .v) (a .size) (a .leaf) (a .subleaf) (a .enforce-subleaf)
-    (p .place-asked .ensures .0) (b .if1 .taken) (i .is-there .ensures) (t .if2 .taken)
-    (c .seen-at .ensures
-    ∙ ap (λ (q : CpuidResult). seenAt (a .v) (saveRegister (registersIn (a .registers .now)) (a .v .xcr0)) (a .size) (p .place-asked .result) (row q))
-    (r .row-at .ensures))
-
-returns-2 : tie.Need-returns-2
-returns-2 c =
-    let i = c .before in let b = i .before .before in let p = b .before in let a = p .before .args in
-    seen-absent (a .registers .now) (a .origins .now) (a .v) (a .size) (a .leaf) (a .subleaf) (a .enforce-subleaf)
-    (p .place-asked .ensures .0) (b .if1 .taken) (i .is-there .ensures) (c .if2 .left)
-
-returns-3 : tie.Need-returns-3
-returns-3 c =
-    let p = c .before in let a = p .before .args in
-    seen-past (a .registers .now) (a .origins .now) (a .v) (a .size) (a .leaf) (a .subleaf) (a .enforce-subleaf)
-    (p .place-asked .ensures .0) (c .if1 .left)
 
 pub find-kept-spec : {M : Type 1} → statement M
 find-kept-spec =
     tie.close
     (tie.spec
     (λ c κs. search needs)
-    (λ c. search needs)
-    (λ c. search needs)
     (λ c κs. search needs)
-    (λ c κs. search needs)
-    (λ c κs. search needs)
-    returns
-    returns-2
-    returns-3)
+    (λ c. c .seen-row .ensures _ _ _ (c .before .place-asked .ensures .0)))

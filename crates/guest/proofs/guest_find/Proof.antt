@@ -14,8 +14,8 @@ returns c =
 
 returns-2 : tie.Need-returns-2
 returns-2 c =
-    let k = c .before in let u = k .before .before .before in let a = u .before .args in
-    ap Looked (c .find-kept .ensures)
+    let p = c .before in let k = p .before in let u = k .before .before .before in let a = u .before .args in
+    ap Looked (c .seen-row .ensures _ _ _ (p .place-asked .ensures .0))
     ∙ kept-found (a .registers .now) (a .origins .now) (a .v) (u .state-in-use .ensures) (a .leaf) (a .subleaf) (a .enforce-subleaf)
     (k .before .state2 .given .1)
 
@@ -26,6 +26,7 @@ guest-find-spec =
     (λ c κs. search needs)
     (λ c. search needs)
     (λ c. search needs)
+    (λ c κs. search needs)
     (λ c κs. search needs)
     returns
     returns-2)

@@ -1,23 +1,20 @@
--- `guest_state::place_component` meets its contract: a start raised, one as it is, or no subleaf; each sum is small.
+-- `guest_state::place_component` meets its contract: a start raised, or one as it is; each sum is small.
 use borrow.Author.Needs.{needs}
 use native.Mathlib.Omega.{arith}
 use mathlib.Core.Path.{sym, _∙_}
-use Rattle.guest_state.specs.CompactLaws.{placed-raised, placed-packed, placed-unused}
+use Rattle.guest_state.specs.CompactLaws.{placed-raised, placed-packed}
 use Rattle.guest_state.proofs.place_component.Statement.{statement}
 use Rattle.guest_state.proofs.place_component.Tie as tie
 
 returns : tie.Need-returns
 returns c =
-    let b = c .before .before in let s = b .before .before in
-    (placed-raised (s .args .subleaf) (s .args .size) (b .before .if1 .taken) (sym (b .has-bit .ensures) ∙ c .before .if2 .taken), omega arith)
+    let b = c .before .before in let s = b .before in
+    (placed-raised (s .args .subleaf) (s .args .size) (sym (b .has-bit .ensures) ∙ c .before .if1 .taken), omega arith)
 
 returns-2 : tie.Need-returns-2
 returns-2 c =
-    let b = c .before .before in let s = b .before .before in
-    (placed-packed (s .args .subleaf) (s .args .size) (b .before .if1 .taken) (sym (b .has-bit .ensures) ∙ c .before .if2 .left), omega arith)
-
-returns-3 : tie.Need-returns-3
-returns-3 c = (placed-unused (c .before .args .subleaf) (c .before .args .size) (c .if1 .left), omega arith)
+    let b = c .before .before in let s = b .before in
+    (placed-packed (s .args .subleaf) (s .args .size) (sym (b .has-bit .ensures) ∙ c .before .if1 .left), omega arith)
 
 pub place-component-spec : {M : Type 1} → statement M
 place-component-spec =
@@ -31,5 +28,4 @@ place-component-spec =
     returns
     (λ c. search needs)
     (λ c. search needs)
-    returns-2
-    returns-3)
+    returns-2)

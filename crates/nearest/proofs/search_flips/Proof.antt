@@ -92,7 +92,7 @@ passed c =
     ]
 
 loop-again : tie.Need-loop-again Inv-loop μ-loop
-loop-again c = rw (c .step .ensures) (passed (c .before))
+loop-again c = rw (c .step .ensures) (passed (c .before .before))
 
 returns-2 : tie.Need-returns-2 Inv-loop μ-loop
 returns-2 c =
@@ -129,8 +129,10 @@ search-flips-spec =
     returns
     (λ c. search needs)
     (λ c. search needs)
-    (λ c κs. let k = c .before .before .before .before .before in take-requires (k .before) (k .take .lifetimes) .inside)
-    (λ c. rw (c .step .ensures) (entry-falls (at-entry (c .before .before))))
+    (λ c κs. let k = c .before .before .before .before .before in take-requires (k .before) (k .take .lifetimes) .inside .page)
+    (λ c. search needs)
+    (λ c κs. let k = c .before .before .before .before .before .before in record { inside = take-requires (k .before) (k .take .lifetimes) .inside; count = c .count-of .ensures })
+    (λ c. rw (c .step .ensures) (entry-falls (at-entry (c .before .before .before))))
     loop-again
     (λ c. search needs)
     returns-2

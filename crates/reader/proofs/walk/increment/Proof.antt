@@ -7,17 +7,19 @@ use Rattle.reader.proofs.walk.increment.Statement.{statement}
 use Rattle.reader.proofs.walk.increment.Tie as tie
 
 returns : tie.Need-returns
-returns c = sym (incremented-inside _ _ _ (omega arith) ∙ next-here _ _ _ (omega arith) (omega arith))
+returns c =
+    let k = c .before .before .before .pre in
+    sym (incremented-inside _ _ _ (k .inside .page) ∙ next-here _ _ _ (k .inside .page) (omega (arith, k .count)))
 
 returns-2 : tie.Need-returns-2
-returns-2 c = c .later-page .ensures ∙ sym (incremented-inside _ _ _ (omega arith) ∙ next-later _ _ _ (omega arith) (omega arith))
+returns-2 c =
+    let k = c .before .before .before .before .pre in
+    c .later-page .ensures ∙ sym (incremented-inside _ _ _ (k .inside .page) ∙ next-later _ _ _ (k .inside .page) (omega (arith, k .count)))
 
 pub increment-spec : {M : Type 1} → statement M
 increment-spec =
     tie.close
     (tie.spec
-    (λ c κs. search needs)
-    (λ c. search needs)
     (λ c. omega arith)
     returns
     (λ c κs. search needs)

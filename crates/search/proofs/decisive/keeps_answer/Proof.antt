@@ -6,11 +6,13 @@ use Prim.Native.Nat.{ℕ}
 use lib.ListN.{set}
 use Rattle.x86defs.specs.declared.CpuidResult.{CpuidResult}
 use Rattle.memory.specs.Memory.{rowsIn}
-use Rattle.memory.specs.Held.{heldIn}
+use Rattle.table.specs.Rows.{Rows}
+use Rattle.checks.specs.Checks.{rowsVerdict}
+use Rattle.finish.specs.RowsBuilt.{builtFrom}
 use Rattle.search.specs.SameVerdict.{sameResult}
 use Rattle.search.specs.WithRow.{withRow}
 use Rattle.search.specs.WithRowLaws.{there, put-row}
-use Rattle.search.specs.BitLaws.{AnswerTo, answer-to, keeps-there, keeps-table, verdict-differs}
+use Rattle.search.specs.BitLaws.{answer-to, answer-of, keeps-there, keeps-table, verdict-differs, refused-same}
 use Rattle.search.proofs.decisive.keeps_answer.Statement.{statement}
 use Rattle.search.proofs.decisive.keeps_answer.Tie as tie
 
@@ -21,30 +23,40 @@ returns c =
     (there (s .args .registers .now) (s .args .origins .now) (s .args .place) (sym (f .is-there .ensures) ∙ t .if1 .taken))
     (ap (λ (y : CpuidResult). sameResult y (s .args .x)) (sym (a .row-at .ensures)) ∙ sym (r .same-result .ensures) ∙ c .if2 .taken)
 
--- where the code started, and what building answers to the rows with the row that is tried
-abbrev start : tie.After-build-rows → tie.Start
+-- where the code started, and the rows with the row that is tried
+abbrev start : tie.After-finish-rows → tie.Start
 start b = b .before .before .before .before .before .before .before .before .before .before .before
 
-answer : (b : tie.After-build-rows)
-    → AnswerTo (start b .args .edition)
-    (withRow (start b .args .place) (start b .args .x) (rowsIn (start b .args .registers .now) (start b .args .origins .now)))
-    (b .build-rows .result) (heldIn (b .build-rows .last .0) (b .build-rows .last .1 .0))
-answer b =
+abbrev tried : tie.After-finish-rows → Rows
+tried b = let s = start b in withRow (s .args .place) (s .args .x) (rowsIn (s .args .registers .now) (s .args .origins .now))
+
+put : (b : tie.After-finish-rows) → rowsIn (b .before .before .before .put-row .last .0) (set (start b .args .origins .now) (start b .args .place) 1) ≡ tried b
+put b =
     let put = b .before .before .before in let z = put .before .before .before .before in let s = start b in
-    answer-to (s .args .edition) (b .build-rows .ensures)
-    (ap (λ (w : List ℕ). rowsIn w (set (s .args .origins .now) (s .args .place) 1)) (put .put-row .ensures)
+    ap (λ (w : List ℕ). rowsIn w (set (s .args .origins .now) (s .args .place) 1)) (put .put-row .ensures)
     ∙ put-row (s .args .registers .now) (s .args .origins .now) (s .args .place) (s .args .x) 1
-    (z .sized .ensures .0) (z .sized .ensures .1) (s .pre .0) refl)
+    (z .sized .ensures .0) (z .sized .ensures .1) (s .pre .0) refl
+
+-- the verdict on them
+verdict : (b : tie.After-finish-rows) → b .finish-rows .result ≡ rowsVerdict (tried b)
+unfolding builtFrom
+verdict b = b .finish-rows .ensures .verdict ∙ ap rowsVerdict (put b)
 
 returns-2 : tie.Need-returns-2
 returns-2 c =
-    let t = c .before .before .before in let v = t .before in let b = v .before in
-    keeps-table _ (answer b) (start b .pre .1) (v .same-verdict .ensures) (t .if3 .taken) (c .same-table .ensures)
+    let t = c .before .before in let v = t .before in let b = v .before in
+    refused-same _ (tried b) (verdict b) (start b .pre .1) (c .enum-told .given .1) (v .same-verdict .ensures) (t .if3 .taken)
 
 returns-3 : tie.Need-returns-3
 returns-3 c =
+    let k = c .before .before .before in let t = k .before .before in let v = t .before in let b = v .before in
+    keeps-table _ (answer-to _ (b .finish-rows .ensures .accepted (k .enum-told2 .given .1)) (put b)) (start b .pre .1)
+    (v .same-verdict .ensures) (t .if3 .taken) (c .same-table .ensures)
+
+returns-4 : tie.Need-returns-4
+returns-4 c =
     let v = c .before in let b = v .before in
-    verdict-differs _ (answer b) (start b .pre .1) (v .same-verdict .ensures) (c .if3 .left)
+    verdict-differs _ (answer-of _ (tried b) (verdict b)) (start b .pre .1) (v .same-verdict .ensures) (c .if3 .left)
 
 pub keeps-answer-spec : {M : Type 1} → statement M
 keeps-answer-spec =
@@ -62,6 +74,9 @@ keeps-answer-spec =
     (λ c. search needs)
     (λ c κs. search needs)
     (λ c κs. search needs)
-    (λ c κs. search needs)
+    (λ c. search needs)
     returns-2
-    returns-3)
+    (λ c. search needs)
+    (λ c κs. search needs)
+    returns-3
+    returns-4)

@@ -1,0 +1,11 @@
+pub mod Paper
+pub mod Names
+pub mod Computed
+pub mod FirstEntry
+pub mod TableProof
+pub mod CountedProof
+pub mod VerdictProof
+pub mod ImageProof
+pub mod LookupProof
+pub mod ByTheLetter
+pub mod ExportedFields

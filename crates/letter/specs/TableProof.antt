@@ -1,0 +1,177 @@
+-- The table of an accepted page set is the paper's.
+use mathlib.Core.Path.{_≡_, refl, sym, ap, ap₂, _∙_, fun-ext}
+use mathlib.Core.Bool.{Bool, true, false}
+use mathlib.Core.List.{List, map}
+use Prim.Native.Nat.{ℕ, _^_}
+use lib.Dec.{eqb, ltb}
+use lib.ListN.{getD}
+use borrow.Author.Tests.{eq-eqb, ne-eqb, le-ltb}
+use Rattle.bits.specs.Choice.{pick}
+use Rattle.bits.specs.ChoiceLaws.{never-both, pick-true, pick-false, and-implied}
+use Rattle.bits.specs.Lists.{tabulate}
+use Rattle.bits.specs.ListsLaws.{getD-tabulate}
+use Rattle.bits.specs.Bits.{has, bit, field, fieldMask, maskOf}
+use Rattle.x86defs.specs.declared.CpuidResult.{CpuidResult}
+use Rattle.x86defs.specs.Functions.{result}
+use Rattle.x86defs.specs.Fields.{fieldsMask}
+use Rattle.pages.specs.Layout.{Entry}
+use Rattle.pages.specs.Entries.{counted}
+use Rattle.masking.specs.Masks as Masks
+use Rattle.masking.specs.Kept.{keptLeaves, placeOf, slot, places}
+use Rattle.table.specs.declared.Subleaf.{Subleaf}
+use Rattle.table.specs.declared.Choices.{Choices}
+use Rattle.table.specs.declared.Verdict.{Verdict}
+use Rattle.table.specs.declared.Verdict.the-variants.{Accepted}
+use Rattle.table.specs.Rows.{Row, Rows, row, vacant}
+use Rattle.table.specs.Table.{tableOf}
+use Rattle.table.specs.TableLaws.{table-ext}
+use Rattle.topology.specs.declared.Topology.{Topology}
+use Rattle.topology.specs.declared.Topology.the-variants.{Processors, Inconsistent}
+use Rattle.topology.specs.Topology.{Inputs, topologyOf, processors}
+use Rattle.checks.specs.ExtendedState as State
+use Rattle.checks.specs.TopologyInputs.{inputsOf}
+use Rattle.checks.specs.Checks.{topologyRefusal, topologyVerdict, rowsVerdict}
+use Rattle.checks.specs.ChecksLaws.{all-pass}
+use Rattle.collect.specs.FirstEntries.{firstAt, legacyFeatures, maskedAt, rowsOf}
+use Rattle.collect.specs.FirstEntriesLaws.{row-beyond}
+use Rattle.features.specs.Finish.{finished}
+use Rattle.finish.specs.RowsBuilt.{tableFor, builtFrom}
+use Rattle.finish.specs.declared.RowsBuilt.{RowsBuilt}
+use Rattle.build.specs.Build.{rowsFor, answer}
+use Rattle.rise.specs.Added.{Covered}
+use Rattle.rise.specs.KeepsLaws.{Keeps}
+use Rattle.rise.specs.KeptRowsLaws.{verdict-same, built-same}
+use Rattle.rise.specs.RiseProof.{answer-table, accepted-rows}
+use Rattle.rise.specs.Levels.{CountOf, topology-gives}
+use Rattle.rise.specs.Levels.CountOf.{one, legacy, power}
+use Rattle.letter.specs.Paper.{Line, first, linesWith, lines, area}
+use Rattle.letter.specs.Paper as Paper
+use Rattle.letter.specs.Names.{placeFor}
+use Rattle.letter.specs.Computed as Computed
+use Rattle.letter.specs.FirstEntry.{kept, told, kept-told}
+
+-- ---- v
+
+accepts : (o : Topology) → topologyRefusal o ≡ Accepted → o ≡ Processors (processors o)
+accepts (Processors v) e = refl
+accepts (Inconsistent x) e = cc
+
+count-said : (i : Inputs) (v : ℕ) → CountOf i v → v ≡ pick (eqb (i .s) 0) (pick (eqb (i .mt) 0) 1 (i .lps)) (2 ^ i .s)
+count-said i v (one a b c) = c ∙ sym (pick-true _ _ (eq-eqb _ _ a) ∙ pick-true _ _ (eq-eqb _ _ b))
+count-said i v (legacy a b c d) = c ∙ sym (pick-true _ _ (eq-eqb _ _ a) ∙ pick-false _ _ (ne-eqb _ _ b))
+count-said i v (power a b) = b ∙ sym (pick-false _ _ (ne-eqb _ _ a))
+
+-- ---- entries by place, entries by leaf and subleaf
+
+module _ (es : List Entry) where
+  abbrev byPlace : ℕ → CpuidResult
+  byPlace i = firstAt i es .result
+
+  abbrev byLeaf : ℕ → Subleaf → CpuidResult
+  byLeaf l k = first es l k .result
+
+  abbrev at : (ℕ → CpuidResult) → ℕ → Subleaf → CpuidResult
+  at g l k = g (placeFor l k)
+
+  module _ (second avic : Bool) where
+    lines-kept : lines second avic (at byPlace) ≡ lines second avic (at (λ i. kept es i .result))
+    unfolding placeOf keptLeaves tabulate area
+    lines-kept = refl
+
+    lines-told : lines second avic (at (λ i. told es i .result)) ≡ lines second avic byLeaf
+    unfolding placeOf keptLeaves slot tabulate area
+    lines-told = refl
+
+    pub lines-same : lines second avic (at byPlace) ≡ lines second avic byLeaf
+    lines-same = lines-kept ∙ ap (λ (g : ℕ → Row). lines second avic (at (λ i. g i .result))) (kept-told es) ∙ lines-told
+
+  combined-kept : Paper.combined (at byPlace) ≡ Paper.combined (at (λ i. kept es i .result))
+  unfolding placeOf keptLeaves
+  combined-kept = refl
+
+  combined-told : Paper.combined (at (λ i. told es i .result)) ≡ Paper.combined byLeaf
+  unfolding placeOf keptLeaves slot
+  combined-told = refl
+
+  pub combined-same : Paper.combined (at byPlace) ≡ Paper.combined byLeaf
+  combined-same = combined-kept ∙ ap (λ (g : ℕ → Row). Paper.combined (at (λ i. g i .result))) (kept-told es) ∙ combined-told
+
+-- ---- an accepted page set
+
+module _ (chosen : Choices) (s : List ℕ) (accepted : answer chosen s .verdict ≡ Accepted) where
+  abbrev avic : Bool
+  avic = chosen .«secure_avic»
+
+  abbrev second : Bool
+  second = eqb (chosen .edition) 2
+
+  abbrev g : ℕ → CpuidResult
+  g = byPlace (counted s)
+
+  -- the masked first entries, with a row at every place
+  abbrev full : Rows
+  full = Computed.m g avic
+
+  keeps : Keeps (rowsFor chosen s) full
+  unfolding rowsOf
+  keeps = record {
+    kept = λ i. at′ i (ltb i places) (firstAt i (counted s) .present);
+    beyond = λ i l. pick-false _ _ (le-ltb i places l) ∙ sym (row-beyond avic s i l);
+  }
+    where
+      at′ : (i : ℕ) (q p : Bool)
+          → pick q (pick p (row (maskedAt avic i (firstAt i (counted s) .result))) vacant) vacant .present ≡ true
+          → pick q (row (maskedAt avic i (g i))) vacant ≡ pick q (pick p (row (maskedAt avic i (firstAt i (counted s) .result))) vacant) vacant
+      at′ i true true h = refl
+      at′ i true false h = absurd (never-both h refl)
+      at′ i false p h = absurd (never-both h refl)
+
+  rows-accepted : rowsVerdict (rowsFor chosen s) ≡ Accepted
+  rows-accepted = accepted-rows chosen s accepted
+
+  covered : Covered (rowsVerdict (rowsFor chosen s))
+  covered = rw rows-accepted tt
+
+  full-accepted : rowsVerdict full ≡ Accepted
+  full-accepted = verdict-same (rowsFor chosen s) full keeps covered ∙ rows-accepted
+
+  of-built : (m : Rows) → rowsVerdict m ≡ Accepted → builtFrom (chosen .edition) m .table ≡ tableOf (finished (chosen .edition) m) (State.combinedMask m)
+  unfolding builtFrom
+  of-built m e = ap (λ (v : Verdict). tableFor (chosen .edition) v m) e
+
+  table-full : answer chosen s .table ≡ tableOf (finished (chosen .edition) full) (State.combinedMask full)
+  table-full =
+      answer-table chosen s accepted
+      ∙ sym (of-built (rowsFor chosen s) rows-accepted)
+      ∙ sym (ap (λ (b : RowsBuilt). b .table) (built-same (rowsFor chosen s) full keeps covered (chosen .edition)))
+      ∙ of-built full full-accepted
+
+  inputs-given : inputsOf full ≡ Paper.given (at (counted s) g)
+  unfolding inputsOf placeOf keptLeaves slot Masks.versionAndFeatures Masks.extendedAddressSpaceSizes maskOf fieldsMask fieldMask field bit
+  inputs-given = refl
+
+  v-said : processors (topologyOf (inputsOf full)) ≡ Paper.processors (at (counted s) g)
+  unfolding topologyVerdict
+  v-said =
+      count-said (inputsOf full) _ (topology-gives (inputsOf full) _ (accepts _ (all-pass full full-accepted .topology)) .count)
+      ∙ ap (λ (i : Inputs). pick (eqb (i .s) 0) (pick (eqb (i .mt) 0) 1 (i .lps)) (2 ^ i .s)) inputs-given
+
+  mask-full : State.combinedMask full ≡ Paper.combined (at (counted s) g)
+  unfolding State.combinedMask State.xfem State.xss placeOf keptLeaves slot Masks.extendedState0 Masks.extendedState1 maskOf legacyFeatures
+  mask-full = refl
+
+  rows-full : tabulate 88 (finished (chosen .edition) full) ≡ map (λ (l : Line). l .row) (lines second avic (byLeaf (counted s)))
+  rows-full =
+      Computed.table-same g (chosen .edition) second avic refl
+      ∙ ap₂ (λ (v : ℕ) (f : ℕ → Bool). map (λ (l : Line). l .row) (linesWith second avic (at (counted s) g) v f)) v-said
+      (fun-ext (λ k. and-implied (has k (Paper.combined (at (counted s) g))) true (λ h. refl)))
+      ∙ ap (map (λ (l : Line). l .row)) (lines-same (counted s) second avic)
+
+  pub table-by-figures : answer chosen s .table
+      ≡ tableOf (λ i. getD (map (λ (l : Line). l .row) (lines second avic (byLeaf (counted s)))) i vacant)
+      (Paper.combined (byLeaf (counted s)))
+  table-by-figures =
+      table-full
+      ∙ table-ext
+      (λ i l. sym (getD-tabulate 88 (finished (chosen .edition) full) i vacant l) ∙ ap (λ (x : List Row). getD x i vacant) rows-full)
+      (mask-full ∙ combined-same (counted s))

@@ -1,0 +1,13 @@
+-- `lookup::place_within` meets its contract: each branch is one case of the choice.
+use borrow.Author.Needs.{needs}
+use borrow.Author.Tests.{lt-ltb, le-ltb}
+use Rattle.lookup.proofs.place_within.Statement.{statement}
+use Rattle.lookup.proofs.place_within.Tie as tie
+
+pub place-within-spec : {M : Type 1} → statement M
+place-within-spec =
+    tie.close
+    (tie.spec
+    (λ c. search needs)
+    (λ c. (rw (lt-ltb _ _ (c .before .if1 .taken)), search needs))
+    (λ c. (rw (le-ltb _ _ (c .if1 .left)), search needs)))
