@@ -9,24 +9,31 @@ ghost use Rattle.memory.specs.Held.{heldIn, flags};
 ghost use Rattle.image.specs.Image.{image};
 ghost use Rattle.image.specs.ImagePieces.{rowsAmong};
 use masking::PLACES;
-use masking::run;
+use masking::place;
 use memory::is_there;
 
 pub mod from_pages;
 pub mod write;
 
+// The first place of a leaf from 80000000h on.
+const EXTENDED: usize = place::EXTENDED_MAX_FUNCTION;
+
 // How many bytes the image of a table has: 25 for a row with a subleaf, 21 for one without.
 pub fn image_length(origins: &[u64; PLACES]) -> usize
     ensures { λ r. ⌜ ((w : List ℕ) → r ≡ length (image (heldIn w (now (origins .entry))))) ⌝ }
 {
-    let whole = rows_among(origins, run::BASIC.first, run::EXTENDED_FEATURES.first)
-        + rows_among(origins, run::EXTENDED.first, run::CACHE_TOPOLOGY.first)
-        + rows_among(origins, run::PROCESSOR_TOPOLOGY_AND_SEV.first, PLACES);
-    let indexed = rows_among(origins, run::EXTENDED_FEATURES.first, run::EXTENDED.first)
+    let whole = rows_among(
+        origins,
+        place::VENDOR_AND_MAX_FUNCTION,
+        place::EXTENDED_FEATURES,
+    )
+        + rows_among(origins, EXTENDED, place::CACHE_TOPOLOGY_0)
+        + rows_among(origins, place::PROCESSOR_TOPOLOGY_DEFINITION, PLACES);
+    let indexed = rows_among(origins, place::EXTENDED_FEATURES, EXTENDED)
         + rows_among(
             origins,
-            run::CACHE_TOPOLOGY.first,
-            run::PROCESSOR_TOPOLOGY_AND_SEV.first,
+            place::CACHE_TOPOLOGY_0,
+            place::PROCESSOR_TOPOLOGY_DEFINITION,
         );
     21 * (whole as usize) + 25 * (indexed as usize)
 }

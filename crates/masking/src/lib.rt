@@ -33,7 +33,7 @@ pub fn place_of(leaf: CpuidFunction, subleaf: u32) -> usize
         leaf::EXTENDED_TOPOLOGY_ENUMERATION => subleaf_place(run::EXTENDED_TOPOLOGY, subleaf),
         leaf::EXTENDED_STATE_ENUMERATION => subleaf_place(run::EXTENDED_STATE, subleaf),
         leaf::EXTENDED_VERSION_AND_FEATURES..=leaf::EXTENDED_ADDRESS_SPACE_SIZES => {
-            run::EXTENDED.first + (n - leaf::EXTENDED_MAX_FUNCTION) as usize
+            place::EXTENDED_MAX_FUNCTION + (n - leaf::EXTENDED_MAX_FUNCTION) as usize
         }
         leaf::EXTENDED_SVM_VERSION_AND_FEATURES => place::EXTENDED_SVM_VERSION_AND_FEATURES,
         leaf::EXTENDED_TLB1GB_IDENTIFIERS => place::EXTENDED_TLB1GB_IDENTIFIERS,
@@ -63,7 +63,7 @@ pub fn run_at(place: usize) -> Run
     requires { ⌜ place < places ⌝ }
     ensures { λ r. ⌜ (lawfulRun r ≡ true) × (r .first ≤ place) × (place < r .first + r .count) × (rowsTied r ≡ true) ⌝ }
 {
-    if place < run::EXTENDED.first {
+    if place < place::EXTENDED_MAX_FUNCTION {
         return basic_run_at(place);
     }
     extended_run_at(place)
@@ -74,13 +74,13 @@ fn basic_run_at(place: usize) -> Run
     requires { ⌜ place < extendedMaxFunction ⌝ }
     ensures { λ r. ⌜ (lawfulRun r ≡ true) × (r .first ≤ place) × (place < r .first + r .count) × (rowsTied r ≡ true) ⌝ }
 {
-    if place < run::MONITOR_MWAIT.first {
+    if place < place::MONITOR_MWAIT {
         run::BASIC
-    } else if place < run::EXTENDED_FEATURES.first {
+    } else if place < place::EXTENDED_FEATURES {
         run::MONITOR_MWAIT
-    } else if place < run::EXTENDED_TOPOLOGY.first {
+    } else if place < place::THREAD_LEVEL {
         run::EXTENDED_FEATURES
-    } else if place < run::EXTENDED_STATE.first {
+    } else if place < place::EXTENDED_STATE_0 {
         run::EXTENDED_TOPOLOGY
     } else {
         run::EXTENDED_STATE
@@ -92,13 +92,13 @@ fn extended_run_at(place: usize) -> Run
     requires { ⌜ (extendedMaxFunction ≤ place) × (place < places) ⌝ }
     ensures { λ r. ⌜ (lawfulRun r ≡ true) × (r .first ≤ place) × (place < r .first + r .count) × (rowsTied r ≡ true) ⌝ }
 {
-    if place < run::SVM.first {
+    if place < place::EXTENDED_SVM_VERSION_AND_FEATURES {
         run::EXTENDED
-    } else if place < run::TLB_AND_OPTIMIZATION.first {
+    } else if place < place::EXTENDED_TLB1GB_IDENTIFIERS {
         run::SVM
-    } else if place < run::CACHE_TOPOLOGY.first {
+    } else if place < place::CACHE_TOPOLOGY_0 {
         run::TLB_AND_OPTIMIZATION
-    } else if place < run::PROCESSOR_TOPOLOGY_AND_SEV.first {
+    } else if place < place::PROCESSOR_TOPOLOGY_DEFINITION {
         run::CACHE_TOPOLOGY
     } else {
         run::PROCESSOR_TOPOLOGY_AND_SEV

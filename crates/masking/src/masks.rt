@@ -5,15 +5,15 @@ ghost use Rattle.masking.specs.Masks.{secureAvicMask, applyMask};
 ghost use Rattle.masking.specs.Kept.{places};
 ghost use Rattle.masking.specs.MaskTable.{rows, table, masksOf, rowOfPlace};
 use crate::Run;
+use crate::place;
 use crate::run;
-use x86defs::CpuidFunction;
 use x86defs::CpuidResult;
 use x86defs::leaf;
 
-// One row of the table: a leaf, its four masks, and whether the leaf has subleaves. Leaf Dh has three rows, for subleaf 0, for subleaf 1,
-// and for subleaves 2 to 63.
+// One row of the table: the number of a leaf, its four masks, and whether the leaf has subleaves. Leaf Dh has three rows, for subleaf 0, for
+// subleaf 1, and for subleaves 2 to 63.
 pub struct KeptLeaf {
-    pub leaf: CpuidFunction,
+    pub leaf: u32,
     pub eax: u32,
     pub ebx: u32,
     pub ecx: u32,
@@ -24,15 +24,22 @@ pub struct KeptLeaf {
 // The bit that the secure-AVIC choice adds to the mask of 8000001Fh.EAX.
 pub const SECURE_AVIC: u32 = 0x0400_0000;
 
-// The row of 8000001Fh.
-const SECURE_AVIC_ROW: usize = run::PROCESSOR_TOPOLOGY_AND_SEV.last_row;
+// The last row of each stretch of places whose rows rise by one; the last of all is that of 8000001Fh. They are numbers and no fields of a `Run`
+// where code compares them: a field of a constant struct has the whole struct written out at each use, which the check of the function pays for.
+const TOPOLOGY_ROW: usize = run::EXTENDED_TOPOLOGY.last_row;
+
+const STATE_ROW: usize = run::EXTENDED_STATE.last_row;
+
+const CACHE_ROW: usize = run::CACHE_TOPOLOGY.last_row;
+
+const SEV_ROW: usize = run::PROCESSOR_TOPOLOGY_AND_SEV.last_row;
 
 // The table for a secure-AVIC choice. Call this once for all entries: the compiler writes the whole table out at each call.
 pub fn kept_leaves(secure_avic: bool) -> [KeptLeaf; 23]
     ensures { λ r. ⌜ r ≡ table «secure_avic» ⌝ }
 {
     let mut kept = KEPT_LEAVES;
-    kept[SECURE_AVIC_ROW].eax = kept[SECURE_AVIC_ROW].eax | secure_avic_mask(secure_avic);
+    kept[SEV_ROW].eax = kept[SEV_ROW].eax | secure_avic_mask(secure_avic);
     kept
 }
 
@@ -50,20 +57,16 @@ pub fn mask_row(place: usize) -> usize
     ensures { λ r. ⌜ r ≡ rowOfPlace place ⌝ }
     ensures small { λ r. ⌜ r < rows ⌝ }
 {
-    if place < run::EXTENDED_STATE.first {
-        return row_from(run::BASIC, place, run::EXTENDED_TOPOLOGY.last_row);
+    if place < place::EXTENDED_STATE_0 {
+        return row_from(run::BASIC, place, TOPOLOGY_ROW);
     }
-    if place < run::EXTENDED.first {
-        return row_from(run::EXTENDED_STATE, place, run::EXTENDED_STATE.last_row);
+    if place < place::EXTENDED_MAX_FUNCTION {
+        return row_from(run::EXTENDED_STATE, place, STATE_ROW);
     }
-    if place < run::PROCESSOR_TOPOLOGY_AND_SEV.first {
-        return row_from(run::EXTENDED, place, run::CACHE_TOPOLOGY.last_row);
+    if place < place::PROCESSOR_TOPOLOGY_DEFINITION {
+        return row_from(run::EXTENDED, place, CACHE_ROW);
     }
-    row_from(
-        run::PROCESSOR_TOPOLOGY_AND_SEV,
-        place,
-        run::PROCESSOR_TOPOLOGY_AND_SEV.last_row,
-    )
+    row_from(run::PROCESSOR_TOPOLOGY_AND_SEV, place, SEV_ROW)
 }
 
 // The row of a place, counted from the first place and the first row of `run`; `last` if that is less. The place may belong to a later run.
@@ -94,7 +97,7 @@ const ONES: u32 = 0xFFFF_FFFF;
 pub const KEPT_LEAVES: [KeptLeaf; 23] = [
     // the builder makes this row; no page entry is kept for it
     KeptLeaf {
-        leaf: CpuidFunction(leaf::VENDOR_AND_MAX_FUNCTION),
+        leaf: leaf::VENDOR_AND_MAX_FUNCTION,
         eax: 0,
         ebx: 0,
         ecx: 0,
@@ -102,7 +105,7 @@ pub const KEPT_LEAVES: [KeptLeaf; 23] = [
         subleaf: false,
     },
     KeptLeaf {
-        leaf: CpuidFunction(leaf::VERSION_AND_FEATURES),
+        leaf: leaf::VERSION_AND_FEATURES,
         eax: 0x0FFF_3FFF,
         ebx: ONES,
         ecx: 0x7EDA_3203,
@@ -110,7 +113,7 @@ pub const KEPT_LEAVES: [KeptLeaf; 23] = [
         subleaf: false,
     },
     KeptLeaf {
-        leaf: CpuidFunction(leaf::MONITOR_MWAIT),
+        leaf: leaf::MONITOR_MWAIT,
         eax: ONES,
         ebx: ONES,
         ecx: ONES,
@@ -118,7 +121,7 @@ pub const KEPT_LEAVES: [KeptLeaf; 23] = [
         subleaf: false,
     },
     KeptLeaf {
-        leaf: CpuidFunction(leaf::EXTENDED_FEATURES),
+        leaf: leaf::EXTENDED_FEATURES,
         eax: ONES,
         ebx: 0xF1BF_27A9,
         ecx: 0x1A40_5FE6,
@@ -126,7 +129,7 @@ pub const KEPT_LEAVES: [KeptLeaf; 23] = [
         subleaf: true,
     },
     KeptLeaf {
-        leaf: CpuidFunction(leaf::EXTENDED_TOPOLOGY_ENUMERATION),
+        leaf: leaf::EXTENDED_TOPOLOGY_ENUMERATION,
         eax: ONES,
         ebx: ONES,
         ecx: ONES,
@@ -135,7 +138,7 @@ pub const KEPT_LEAVES: [KeptLeaf; 23] = [
     },
     // subleaf 0
     KeptLeaf {
-        leaf: CpuidFunction(leaf::EXTENDED_STATE_ENUMERATION),
+        leaf: leaf::EXTENDED_STATE_ENUMERATION,
         eax: 0x0000_00E7,
         ebx: ONES,
         ecx: ONES,
@@ -144,7 +147,7 @@ pub const KEPT_LEAVES: [KeptLeaf; 23] = [
     },
     // subleaf 1
     KeptLeaf {
-        leaf: CpuidFunction(leaf::EXTENDED_STATE_ENUMERATION),
+        leaf: leaf::EXTENDED_STATE_ENUMERATION,
         eax: 0x0000_000B,
         ebx: ONES,
         ecx: 0x0000_1800,
@@ -153,7 +156,7 @@ pub const KEPT_LEAVES: [KeptLeaf; 23] = [
     },
     // subleaves 2 to 63
     KeptLeaf {
-        leaf: CpuidFunction(leaf::EXTENDED_STATE_ENUMERATION),
+        leaf: leaf::EXTENDED_STATE_ENUMERATION,
         eax: ONES,
         ebx: ONES,
         ecx: ONES,
@@ -162,7 +165,7 @@ pub const KEPT_LEAVES: [KeptLeaf; 23] = [
     },
     // the builder makes this row; no page entry is kept for it
     KeptLeaf {
-        leaf: CpuidFunction(leaf::EXTENDED_MAX_FUNCTION),
+        leaf: leaf::EXTENDED_MAX_FUNCTION,
         eax: 0,
         ebx: 0,
         ecx: 0,
@@ -171,7 +174,7 @@ pub const KEPT_LEAVES: [KeptLeaf; 23] = [
     },
     // the masks of masking.rs and of snp.rs, joined by or
     KeptLeaf {
-        leaf: CpuidFunction(leaf::EXTENDED_VERSION_AND_FEATURES),
+        leaf: leaf::EXTENDED_VERSION_AND_FEATURES,
         eax: 0x0FFF_3FFF,
         ebx: 0xF000_FFFF,
         ecx: 0x0041_0DF3,
@@ -179,7 +182,7 @@ pub const KEPT_LEAVES: [KeptLeaf; 23] = [
         subleaf: false,
     },
     KeptLeaf {
-        leaf: CpuidFunction(leaf::EXTENDED_BRANDING_STRING_1),
+        leaf: leaf::EXTENDED_BRANDING_STRING_1,
         eax: ONES,
         ebx: ONES,
         ecx: ONES,
@@ -187,7 +190,7 @@ pub const KEPT_LEAVES: [KeptLeaf; 23] = [
         subleaf: false,
     },
     KeptLeaf {
-        leaf: CpuidFunction(leaf::EXTENDED_BRANDING_STRING_2),
+        leaf: leaf::EXTENDED_BRANDING_STRING_2,
         eax: ONES,
         ebx: ONES,
         ecx: ONES,
@@ -195,7 +198,7 @@ pub const KEPT_LEAVES: [KeptLeaf; 23] = [
         subleaf: false,
     },
     KeptLeaf {
-        leaf: CpuidFunction(leaf::EXTENDED_BRANDING_STRING_3),
+        leaf: leaf::EXTENDED_BRANDING_STRING_3,
         eax: ONES,
         ebx: ONES,
         ecx: ONES,
@@ -203,7 +206,7 @@ pub const KEPT_LEAVES: [KeptLeaf; 23] = [
         subleaf: false,
     },
     KeptLeaf {
-        leaf: CpuidFunction(leaf::EXTENDED_L1_CACHE_PARAMETERS),
+        leaf: leaf::EXTENDED_L1_CACHE_PARAMETERS,
         eax: ONES,
         ebx: ONES,
         ecx: ONES,
@@ -211,7 +214,7 @@ pub const KEPT_LEAVES: [KeptLeaf; 23] = [
         subleaf: false,
     },
     KeptLeaf {
-        leaf: CpuidFunction(leaf::EXTENDED_L2_CACHE_PARAMETERS),
+        leaf: leaf::EXTENDED_L2_CACHE_PARAMETERS,
         eax: ONES,
         ebx: ONES,
         ecx: ONES,
@@ -219,7 +222,7 @@ pub const KEPT_LEAVES: [KeptLeaf; 23] = [
         subleaf: false,
     },
     KeptLeaf {
-        leaf: CpuidFunction(leaf::EXTENDED_POWER_MANAGEMENT),
+        leaf: leaf::EXTENDED_POWER_MANAGEMENT,
         eax: ONES,
         ebx: ONES,
         ecx: ONES,
@@ -228,7 +231,7 @@ pub const KEPT_LEAVES: [KeptLeaf; 23] = [
     },
     // the masks of masking.rs and of snp.rs, joined by or
     KeptLeaf {
-        leaf: CpuidFunction(leaf::EXTENDED_ADDRESS_SPACE_SIZES),
+        leaf: leaf::EXTENDED_ADDRESS_SPACE_SIZES,
         eax: 0x0000_FFFF,
         ebx: 0x3112_D21F,
         ecx: 0x0000_F0FF,
@@ -236,7 +239,7 @@ pub const KEPT_LEAVES: [KeptLeaf; 23] = [
         subleaf: false,
     },
     KeptLeaf {
-        leaf: CpuidFunction(leaf::EXTENDED_SVM_VERSION_AND_FEATURES),
+        leaf: leaf::EXTENDED_SVM_VERSION_AND_FEATURES,
         eax: 0x0000_00FF,
         ebx: 0,
         ecx: 0,
@@ -244,7 +247,7 @@ pub const KEPT_LEAVES: [KeptLeaf; 23] = [
         subleaf: false,
     },
     KeptLeaf {
-        leaf: CpuidFunction(leaf::EXTENDED_TLB1GB_IDENTIFIERS),
+        leaf: leaf::EXTENDED_TLB1GB_IDENTIFIERS,
         eax: ONES,
         ebx: ONES,
         ecx: 0,
@@ -252,7 +255,7 @@ pub const KEPT_LEAVES: [KeptLeaf; 23] = [
         subleaf: false,
     },
     KeptLeaf {
-        leaf: CpuidFunction(leaf::EXTENDED_OPTIMIZATION_IDENTIFIERS),
+        leaf: leaf::EXTENDED_OPTIMIZATION_IDENTIFIERS,
         eax: 0x0000_0007,
         ebx: 0,
         ecx: 0,
@@ -260,7 +263,7 @@ pub const KEPT_LEAVES: [KeptLeaf; 23] = [
         subleaf: false,
     },
     KeptLeaf {
-        leaf: CpuidFunction(leaf::CACHE_TOPOLOGY_DEFINITION),
+        leaf: leaf::CACHE_TOPOLOGY_DEFINITION,
         eax: ONES,
         ebx: ONES,
         ecx: ONES,
@@ -268,7 +271,7 @@ pub const KEPT_LEAVES: [KeptLeaf; 23] = [
         subleaf: true,
     },
     KeptLeaf {
-        leaf: CpuidFunction(leaf::PROCESSOR_TOPOLOGY_DEFINITION),
+        leaf: leaf::PROCESSOR_TOPOLOGY_DEFINITION,
         eax: ONES,
         ebx: ONES,
         ecx: ONES,
@@ -277,7 +280,7 @@ pub const KEPT_LEAVES: [KeptLeaf; 23] = [
     },
     // without the secure-AVIC bit, which `kept_leaves` adds
     KeptLeaf {
-        leaf: CpuidFunction(leaf::EXTENDED_SEV_FEATURES),
+        leaf: leaf::EXTENDED_SEV_FEATURES,
         eax: 0x0000_027F,
         ebx: 0x0000_FFFF,
         ecx: ONES,
