@@ -25,7 +25,7 @@ pub bit-or : (k a b : ℕ) → bit k (bitOr a b) ≡ max (bit k a) (bit k b)
 unfolding bit
 bit-or k a b = rw (or-shr) (omega (arith, or-step (a / 2 ^ k) (b / 2 ^ k)))
 
-bit-zero : (n : ℕ) → bit 0 n ≡ n % 2
+pub bit-zero : (n : ℕ) → bit 0 n ≡ n % 2
 unfolding bit
 bit-zero n = omega arith
 
@@ -33,7 +33,7 @@ pub bit-shr : (k j n : ℕ) → bit j (n / 2 ^ k) ≡ bit (k + j) n
 unfolding bit
 bit-shr k j n = ap (λ (x : ℕ). x % 2) (shr-shr n k j)
 
-bit-suc : (k n : ℕ) → bit (suc k) n ≡ bit k (n / 2)
+pub bit-suc : (k n : ℕ) → bit (suc k) n ≡ bit k (n / 2)
 bit-suc k n = ap (λ (x : ℕ). bit x n) (omega arith) ∙ sym (bit-shr 1 k n)
 
 pub zero-bit : (k : ℕ) → bit k 0 ≡ 0
