@@ -51,7 +51,7 @@ module _ (c : Choices) (s w o : List ℕ) where
       pub server-refused : {r : Refusal} → x ≡ NotReady r → ServerIn c s (Refused r) w o
       server-refused g = refused-with (judged ∙ ap verdictOf g)
 
-      pub server-accepted : {size n : ℕ} → x ≡ Ready size n → ServerIn c s Accepted w o
+      pub server-accepted : {mask size n : ℕ} → x ≡ Ready mask size n → ServerIn c s Accepted w o
       unfolding answer
       server-accepted g = record {
         verdict = sym (judged ∙ ap verdictOf g);

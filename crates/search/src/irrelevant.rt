@@ -43,7 +43,7 @@ fn is_refused(checked: Checked) -> bool
     ensures { λ r. ⌜ r ≡ refuses (verdictOf checked) ⌝ }
 {
     match checked {
-        Checked::Ready(_size, _processors) => false,
+        Checked::Ready(_mask, _size, _processors) => false,
         Checked::Refused(_r) => true,
     }
 }
