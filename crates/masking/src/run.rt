@@ -1,6 +1,6 @@
 // The layout of the 88 places: ten runs, each of which begins where the one before it ends. specs/Runs.antt ties them to the table of kept leaves.
 use x86defs::CpuidFunction;
-use x86defs::leaf;
+use crate::masks::KEPT_LEAVES;
 
 // A run of `count` places from `first` on. An indexed run has the subleaves of `leaf` from 0 on, any other run the leaves from `leaf` on. The
 // first place has its masks in row `row` of the table of kept leaves, and each next place in the next row, but in no row after `last_row`.
@@ -16,8 +16,8 @@ pub struct Run {
 pub const BASIC: Run = Run {
     first: 0,
     count: 2,
-    leaf: CpuidFunction(leaf::VENDOR_AND_MAX_FUNCTION),
-    indexed: false,
+    leaf: CpuidFunction(KEPT_LEAVES[0].leaf.0),
+    indexed: KEPT_LEAVES[0].subleaf,
     row: 0,
     last_row: 1,
 };
@@ -25,8 +25,8 @@ pub const BASIC: Run = Run {
 pub const MONITOR_MWAIT: Run = Run {
     first: 2,
     count: 1,
-    leaf: CpuidFunction(leaf::MONITOR_MWAIT),
-    indexed: false,
+    leaf: CpuidFunction(KEPT_LEAVES[2].leaf.0),
+    indexed: KEPT_LEAVES[2].subleaf,
     row: 2,
     last_row: 2,
 };
@@ -34,8 +34,8 @@ pub const MONITOR_MWAIT: Run = Run {
 pub const EXTENDED_FEATURES: Run = Run {
     first: 3,
     count: 1,
-    leaf: CpuidFunction(leaf::EXTENDED_FEATURES),
-    indexed: true,
+    leaf: CpuidFunction(KEPT_LEAVES[3].leaf.0),
+    indexed: KEPT_LEAVES[3].subleaf,
     row: 3,
     last_row: 3,
 };
@@ -43,8 +43,8 @@ pub const EXTENDED_FEATURES: Run = Run {
 pub const EXTENDED_TOPOLOGY: Run = Run {
     first: 4,
     count: 2,
-    leaf: CpuidFunction(leaf::EXTENDED_TOPOLOGY_ENUMERATION),
-    indexed: true,
+    leaf: CpuidFunction(KEPT_LEAVES[4].leaf.0),
+    indexed: KEPT_LEAVES[4].subleaf,
     row: 4,
     last_row: 4,
 };
@@ -52,8 +52,8 @@ pub const EXTENDED_TOPOLOGY: Run = Run {
 pub const EXTENDED_STATE: Run = Run {
     first: 6,
     count: 64,
-    leaf: CpuidFunction(leaf::EXTENDED_STATE_ENUMERATION),
-    indexed: true,
+    leaf: CpuidFunction(KEPT_LEAVES[5].leaf.0),
+    indexed: KEPT_LEAVES[5].subleaf,
     row: 5,
     last_row: 7,
 };
@@ -61,8 +61,8 @@ pub const EXTENDED_STATE: Run = Run {
 pub const EXTENDED: Run = Run {
     first: 70,
     count: 9,
-    leaf: CpuidFunction(leaf::EXTENDED_MAX_FUNCTION),
-    indexed: false,
+    leaf: CpuidFunction(KEPT_LEAVES[8].leaf.0),
+    indexed: KEPT_LEAVES[8].subleaf,
     row: 8,
     last_row: 16,
 };
@@ -70,8 +70,8 @@ pub const EXTENDED: Run = Run {
 pub const SVM: Run = Run {
     first: 79,
     count: 1,
-    leaf: CpuidFunction(leaf::EXTENDED_SVM_VERSION_AND_FEATURES),
-    indexed: false,
+    leaf: CpuidFunction(KEPT_LEAVES[17].leaf.0),
+    indexed: KEPT_LEAVES[17].subleaf,
     row: 17,
     last_row: 17,
 };
@@ -79,8 +79,8 @@ pub const SVM: Run = Run {
 pub const TLB_AND_OPTIMIZATION: Run = Run {
     first: 80,
     count: 2,
-    leaf: CpuidFunction(leaf::EXTENDED_TLB1GB_IDENTIFIERS),
-    indexed: false,
+    leaf: CpuidFunction(KEPT_LEAVES[18].leaf.0),
+    indexed: KEPT_LEAVES[18].subleaf,
     row: 18,
     last_row: 19,
 };
@@ -88,8 +88,8 @@ pub const TLB_AND_OPTIMIZATION: Run = Run {
 pub const CACHE_TOPOLOGY: Run = Run {
     first: 82,
     count: 4,
-    leaf: CpuidFunction(leaf::CACHE_TOPOLOGY_DEFINITION),
-    indexed: true,
+    leaf: CpuidFunction(KEPT_LEAVES[20].leaf.0),
+    indexed: KEPT_LEAVES[20].subleaf,
     row: 20,
     last_row: 20,
 };
@@ -97,8 +97,8 @@ pub const CACHE_TOPOLOGY: Run = Run {
 pub const PROCESSOR_TOPOLOGY_AND_SEV: Run = Run {
     first: 86,
     count: 2,
-    leaf: CpuidFunction(leaf::PROCESSOR_TOPOLOGY_DEFINITION),
-    indexed: false,
+    leaf: CpuidFunction(KEPT_LEAVES[21].leaf.0),
+    indexed: KEPT_LEAVES[21].subleaf,
     row: 21,
     last_row: 22,
 };
