@@ -1,9 +1,11 @@
 // The layout of the 88 places: ten runs, each of which begins where the one before it ends. specs/Runs.antt ties them to the table of kept leaves.
-use x86defs::CpuidFunction;
 use crate::masks::KEPT_LEAVES;
+use crate::place;
+use x86defs::CpuidFunction;
 
 // A run of `count` places from `first` on. An indexed run has the subleaves of `leaf` from 0 on, any other run the leaves from `leaf` on. The
-// first place has its masks in row `row` of the table of kept leaves, and each next place in the next row, but in no row after `last_row`.
+// first place has its row `row` in the table of kept leaves, which names its leaf and whether that has subleaves; each next place has the next row,
+// but none has a row after `last_row`.
 pub struct Run {
     pub first: usize,
     pub count: u32,
@@ -14,7 +16,7 @@ pub struct Run {
 }
 
 pub const BASIC: Run = Run {
-    first: 0,
+    first: place::VENDOR_AND_MAX_FUNCTION,
     count: 2,
     leaf: CpuidFunction(KEPT_LEAVES[0].leaf.0),
     indexed: KEPT_LEAVES[0].subleaf,
@@ -23,7 +25,7 @@ pub const BASIC: Run = Run {
 };
 
 pub const MONITOR_MWAIT: Run = Run {
-    first: 2,
+    first: place::MONITOR_MWAIT,
     count: 1,
     leaf: CpuidFunction(KEPT_LEAVES[2].leaf.0),
     indexed: KEPT_LEAVES[2].subleaf,
@@ -32,7 +34,7 @@ pub const MONITOR_MWAIT: Run = Run {
 };
 
 pub const EXTENDED_FEATURES: Run = Run {
-    first: 3,
+    first: place::EXTENDED_FEATURES,
     count: 1,
     leaf: CpuidFunction(KEPT_LEAVES[3].leaf.0),
     indexed: KEPT_LEAVES[3].subleaf,
@@ -41,7 +43,7 @@ pub const EXTENDED_FEATURES: Run = Run {
 };
 
 pub const EXTENDED_TOPOLOGY: Run = Run {
-    first: 4,
+    first: place::THREAD_LEVEL,
     count: 2,
     leaf: CpuidFunction(KEPT_LEAVES[4].leaf.0),
     indexed: KEPT_LEAVES[4].subleaf,
@@ -50,7 +52,7 @@ pub const EXTENDED_TOPOLOGY: Run = Run {
 };
 
 pub const EXTENDED_STATE: Run = Run {
-    first: 6,
+    first: place::EXTENDED_STATE_0,
     count: 64,
     leaf: CpuidFunction(KEPT_LEAVES[5].leaf.0),
     indexed: KEPT_LEAVES[5].subleaf,
@@ -59,7 +61,7 @@ pub const EXTENDED_STATE: Run = Run {
 };
 
 pub const EXTENDED: Run = Run {
-    first: 70,
+    first: place::EXTENDED_MAX_FUNCTION,
     count: 9,
     leaf: CpuidFunction(KEPT_LEAVES[8].leaf.0),
     indexed: KEPT_LEAVES[8].subleaf,
@@ -68,7 +70,7 @@ pub const EXTENDED: Run = Run {
 };
 
 pub const SVM: Run = Run {
-    first: 79,
+    first: place::EXTENDED_SVM_VERSION_AND_FEATURES,
     count: 1,
     leaf: CpuidFunction(KEPT_LEAVES[17].leaf.0),
     indexed: KEPT_LEAVES[17].subleaf,
@@ -77,7 +79,7 @@ pub const SVM: Run = Run {
 };
 
 pub const TLB_AND_OPTIMIZATION: Run = Run {
-    first: 80,
+    first: place::EXTENDED_TLB1GB_IDENTIFIERS,
     count: 2,
     leaf: CpuidFunction(KEPT_LEAVES[18].leaf.0),
     indexed: KEPT_LEAVES[18].subleaf,
@@ -86,7 +88,7 @@ pub const TLB_AND_OPTIMIZATION: Run = Run {
 };
 
 pub const CACHE_TOPOLOGY: Run = Run {
-    first: 82,
+    first: place::CACHE_TOPOLOGY_0,
     count: 4,
     leaf: CpuidFunction(KEPT_LEAVES[20].leaf.0),
     indexed: KEPT_LEAVES[20].subleaf,
@@ -95,7 +97,7 @@ pub const CACHE_TOPOLOGY: Run = Run {
 };
 
 pub const PROCESSOR_TOPOLOGY_AND_SEV: Run = Run {
-    first: 86,
+    first: place::PROCESSOR_TOPOLOGY_DEFINITION,
     count: 2,
     leaf: CpuidFunction(KEPT_LEAVES[21].leaf.0),
     indexed: KEPT_LEAVES[21].subleaf,
