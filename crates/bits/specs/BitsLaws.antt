@@ -75,6 +75,12 @@ pub bit-has-not : (k n : ℕ) → bit k n ≡ 0 → has k n ≡ false
 unfolding has
 bit-has-not k n e = ne-eqb (bit k n) 1 (λ f. omega arith)
 
+-- a number shifted to 0 has no bit left
+pub none-from : (x k : ℕ) → x / 2 ^ k ≡ 0 → (j : ℕ) → k ≤ j → has j x ≡ false
+none-from x k e j l =
+    let q : j ≡ k + (j - k) = omega arith in
+    bit-has-not j x (ap (λ (n : ℕ). bit n x) q ∙ sym (bit-shr k (j - k) x) ∙ ap (bit (j - k)) e ∙ zero-bit (j - k))
+
 -- ---- fields, tied to shift and mask
 
 pub field-shift-mask : (k w n : ℕ) → field k w n ≡ bitAnd (n / 2 ^ k) (2 ^ w - 1)
