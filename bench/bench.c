@@ -30,9 +30,7 @@ enum { ROOM = 1024, EDITION = 1 };
     {#maker, maker##_write_image, maker##_table_build, maker##_table_find, maker##_table_guest_find, maker##_table_guest_find_kept}
 
 DECLARE(gcc)
-DECLARE(gcc_once)
 DECLARE(clang)
-DECLARE(clang_once)
 
 static const struct maker {
     const char *name;
@@ -44,10 +42,8 @@ static const struct maker {
 } MAKERS[] = {
     MAKER(snp_cpuid),
     MAKER(gcc),
-    MAKER(gcc_once),
 #ifdef WITH_CLANG
     MAKER(clang),
-    MAKER(clang_once),
 #endif
 };
 
