@@ -92,27 +92,40 @@ static void builds(const struct maker *m, const struct input *in, int calls)
         sink += m->build(in->pages, in->length, false, EDITION, t.registers, t.origins).row_count + t.registers[0];
 }
 
+/* A row is handed on as a handler of CPUID exits does: each register to where its guest finds it, and where the row came from. */
+static volatile uint64_t guest[5];
+#define HAND_ON(f) (guest[0] = (f).eax, guest[1] = (f).ebx, guest[2] = (f).ecx, guest[3] = (f).edx, guest[4] = (f).page + (f).entry)
+
 static void finds(const struct maker *m, const struct input *in, int calls)
 {
     (void)in;
-    for (int i = 0; i < calls; i++)
-        sink += m->find(table.registers, table.origins, EXITS[i % N_EXITS][0], true, EXITS[i % N_EXITS][1], false).eax;
+    for (int i = 0; i < calls; i++) {
+        struct snp_cpuid_found f = m->find(table.registers, table.origins, EXITS[i % N_EXITS][0], true, EXITS[i % N_EXITS][1], false);
+        if (f.found)
+            HAND_ON(f);
+    }
 }
 
 static void guest_finds(const struct maker *m, const struct input *in, int calls)
 {
     (void)in;
-    for (int i = 0; i < calls; i++)
-        sink += m->guest_find(table.registers, table.origins, CPU.x2apic, CPU.xcr0, CPU.xss, CPU.osxsave, EXITS[i % N_EXITS][0], true,
-                              EXITS[i % N_EXITS][1], false).eax;
+    for (int i = 0; i < calls; i++) {
+        struct snp_cpuid_guest_found f = m->guest_find(table.registers, table.origins, CPU.x2apic, CPU.xcr0, CPU.xss, CPU.osxsave,
+                                                       EXITS[i % N_EXITS][0], true, EXITS[i % N_EXITS][1], false);
+        if (f.found)
+            HAND_ON(f);
+    }
 }
 
 static void guest_finds_kept(const struct maker *m, const struct input *in, int calls)
 {
     (void)in;
-    for (int i = 0; i < calls; i++)
-        sink += m->guest_find_kept(table.registers, table.origins, CPU.x2apic, CPU.xcr0, CPU.xss, CPU.osxsave, kept.size, EXITS[i % N_EXITS][0], true,
-                                   EXITS[i % N_EXITS][1], false).eax;
+    for (int i = 0; i < calls; i++) {
+        struct snp_cpuid_found f = m->guest_find_kept(table.registers, table.origins, CPU.x2apic, CPU.xcr0, CPU.xss, CPU.osxsave, kept.size,
+                                                      EXITS[i % N_EXITS][0], true, EXITS[i % N_EXITS][1], false);
+        if (f.found)
+            HAND_ON(f);
+    }
 }
 
 enum { IMAGE, BUILD, FIND, GUEST_FIND, GUEST_FIND_KEPT, N_WORKS };
