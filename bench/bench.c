@@ -470,17 +470,19 @@ static void measure_all(void)
 #endif
 }
 
-/* ---- counting: bench/run has callgrind dump its counts behind each call of a function whose name begins with counted */
+/* ---- counting: bench/run has callgrind begin where count_functions or count_loops is called, and dump behind each call of counted or
+ * counted_crate */
 
+#define NOINLINE static __attribute__((noinline))
 enum { CALLS_COUNTED = 2 * N_EXITS };
 
-static __attribute__((noinline)) void counted(const struct work *work, const struct maker *m, int i, const char *name, const char *by)
+NOINLINE void counted(const struct work *work, const struct maker *m, int i, const char *name, const char *by)
 {
     work->run(m, &inputs[i], CALLS_COUNTED);
     printf("%s\t%s\t%s\n", name, input_name(work, i), by);
 }
 
-static void count_functions(void)
+NOINLINE void count_functions(void)
 {
     for (int k = 0; k < N_WORKS; k++)
         for (int i = 0; i < WORKS[k].inputs; i++)
@@ -489,13 +491,13 @@ static void count_functions(void)
 }
 
 #ifdef WITH_CRATE
-static __attribute__((noinline)) void counted_crate(const struct crate_work *by_crate, int i)
+NOINLINE void counted_crate(const struct crate_work *by_crate, int i)
 {
     run_by_crate(by_crate, &inputs[i], CALLS_COUNTED);
     printf("%s\t%s\tcrate\n", by_crate->name, input_name(&WORKS[by_crate->work], i));
 }
 
-static void count_loops(void)
+NOINLINE void count_loops(void)
 {
     for (int k = 0; k < N_CRATE_WORKS; k++)
         for (int i = 0; i < WORKS[CRATE_WORKS[k].work].inputs; i++) {

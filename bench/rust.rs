@@ -1,6 +1,6 @@
 //! The Rust that bench.c calls: here the crate's own functions, and in map.rs a table in the shape of OpenHCL's.
 //!
-//! A function that is timed makes all calls of a round, so that a call takes what it takes a caller in Rust; it uses a table and a row as bench.c does.
+//! A function that is timed makes all calls of a round, so that a call takes what it takes a caller in Rust; it uses tables and rows as bench.c does.
 //! Those of the library's own types are for the comparison before anything is timed.
 use snp_cpuid::{CpuidResult, Details, Found, Options, Origin, Processor, Refusal, State, Table, exports};
 use std::hint::black_box;
