@@ -99,7 +99,7 @@ impl Origin {
     }
 }
 
-/// Where this is called the compiler puts the code behind the rest.
+/// Stands on a way that few calls take, so that the compiler asks for it last.
 #[inline]
 #[cold]
 fn rare() {}
