@@ -66,6 +66,8 @@ impl Table {
     }
 
     /// Builds the table of CPUID pages that stand end to end: one call of the library. [`build`](crate::build) is the same.
+    // inline, so that a caller who takes the table out of the answer copies it once and not twice
+    #[inline]
     pub fn build(pages: &[u8], options: Options) -> Result<Table, Refusal> {
         let Options { secure_avic, edition } = options;
         let mut made = Made::new();
@@ -89,6 +91,7 @@ impl Table {
     /// assert_eq!(table.rebuild(&[], Options::new()), Err(Refusal::PagesLength));
     /// assert_eq!(*table, Table::new());
     /// ```
+    #[inline]
     pub fn rebuild(&mut self, pages: &[u8], options: Options) -> Result<(), Refusal> {
         let Options { secure_avic, edition } = options;
         let (registers, origins) = self.arrays_mut();
