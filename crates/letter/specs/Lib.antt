@@ -7,5 +7,6 @@ pub mod CountedProof
 pub mod VerdictProof
 pub mod ImageProof
 pub mod LookupProof
-pub mod ByTheLetter
-pub mod ExportedFields
+pub mod RegistersProof
+pub mod CountsProof
+pub mod DeterminedProof

@@ -1,3 +1,4 @@
+pub mod Document01
 pub mod Looked
 pub mod Exported
 pub mod CompareOrder

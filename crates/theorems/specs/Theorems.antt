@@ -2,6 +2,7 @@
 -- that meet their hypotheses. The contracts tie the code to the definition: `build::build_into` promises `answer`, and every other entry point an equation
 -- with a definition over it. docs/STATEMENTS.md lists the statements by name.
 --
+--   Document01.antt            Document 01 sentence by sentence, in its own figures: the page to read first.
 --   BuildingTheorems.antt      Building: any page bytes end in one table or one refusal, each under exactly its condition.
 --   RiseTheorems.antt          The rise from server A to server B, and what added entries change.
 --   ComparisonTheorems.antt    May a guest of server A move to server B? What the comparison of two page sets answers.
