@@ -17,5 +17,6 @@ pub mod PoolTheorems
 pub mod Theorems
 pub mod NearestBit
 pub mod KeptTable
+pub mod WithoutRows
 pub mod NumbersTheorems
 pub mod LifeTheorems
