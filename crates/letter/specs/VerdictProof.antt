@@ -77,7 +77,7 @@ lowest-chain test r k (suc n) = go (test k) (lowest-chain test r (suc k) n)
 
 -- ---- the topology
 
-topology-same : (i : Inputs) → topologyRefusal (topologyOf i) ≡ topology i
+pub topology-same : (i : Inputs) → topologyRefusal (topologyOf i) ≡ topology i
 unfolding topologyOf topology threadsIn
 topology-same i =
     go (eqb (i .s) 0) (eqb (i .mt) 0) (eqb (i .nc) 0 && leb (i .lps) 1) (eqb (i .lps) (i .nc + 1)) (ltb (i .s) 8)

@@ -1,4 +1,5 @@
 pub mod Document01
+pub mod Document02
 pub mod Looked
 pub mod Exported
 pub mod CompareOrder
