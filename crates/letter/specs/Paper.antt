@@ -145,7 +145,8 @@ levelB1 v = result (leastFrom v 0 32) v 0x201 0
 
 -- ======== "Corners of mod.rs"
 
--- "The first counted, kept entry of a leaf and subleaf wins. A leaf without subleaves takes its first entry for any ECX_IN."
+-- "The first counted, kept entry of a leaf and subleaf wins. A leaf without subleaves takes its first entry for any ECX_IN." Demand 3's section says the
+-- same: "A counted entry stands below its page's count and, for leaf Dh, on page 1; pages and positions in order give the first."
 abbrev pub isOf : ℕ → Subleaf → Entry → Bool
 isOf l None e = eqb (e .leaf .0) l
 isOf l (Some k) e = eqb (e .leaf .0) l && eqb (e .subleaf) k
@@ -469,7 +470,8 @@ module _ (avic : Bool) (f : ℕ → Subleaf → Row) where
   firstMissing [] = Accepted
   firstMissing (n ∷ ns) = pick (f (n .leaf) (n .subleaf) .present) (firstMissing ns) (Refused (MissingRequiredResult (function (n .leaf)) (n .subleaf)))
 
-  -- 3: "extended state, ascending", "a needed D subleaf is absent": the n subleaves from k on
+  -- 3: "extended state, ascending", "a needed D subleaf is absent": the n subleaves from k on. "Refusal 3 names the lowest needed subleaf without an
+  -- entry; 5 is given where none is missing and a masked EAX + EBX over B's XFEM from 2 up is too large." (demand 3's section)
   unfoldable pub components : ℕ → ℕ → Verdict
   components k zero = Accepted
   components k (suc n) =
@@ -538,6 +540,14 @@ table chosen s = tableAfter (verdict chosen s) (tableWith (combinedOf chosen s) 
 
 -- ======== "Feature registers of demand 3"
 
+-- "Length and counts are lawful where neither 1 nor 2 applies; a set is accepted where building refuses nothing, and the tables and refusals demand 3
+-- speaks of are the port's, each the one that demand 2's definition gives. B's own XFEM, XSS and combined mask are what the rules above make of its
+-- masked first entries D.0 and D.1, also where B is refused." P10: "the pages of P9 and of servers A and B must be clean".
+abbrev pub lawful : List ℕ → Verdict
+lawful s = givenUnless (lengthLawful s) PagesLength then (givenUnless (countsLawful s) PageCount then firstUnclean s (readEntries s))
+
+-- "Should the mask leave D.1.EDX any bit, then where A's XSS is 0 its D.1.EDX was cleared, and B's is its masked entry if B's XSS isn't 0: the one
+-- exception to equal registers." The mask leaves it none (`kept`), so there is no exception.
 -- the kinds of EAX, EBX, ECX and EDX of a row
 pub record Kinded : Type 0 where
   pub leaf : ℕ

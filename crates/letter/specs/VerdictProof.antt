@@ -285,6 +285,17 @@ then-assoc Accepted Accepted w x = then-is w x
 then-assoc Accepted (Refused r) w x = refl
 then-assoc (Refused r) v w x = refl
 
+-- 1, 2 and 17 by themselves
+then-three : (u v w : Verdict) → andThen u (andThen v w) ≡ u then (v then w)
+then-three Accepted v w = then-is v w
+then-three (Refused r) v w = refl
+
+pub lawful-same : (s : List ℕ) → lawfulVerdict s ≡ Paper.lawful s
+unfolding lawfulVerdict lengthVerdict badLength countsVerdict countsFit
+lawful-same s =
+    then-three (lengthVerdict s) (countsVerdict s) (reservedVerdict s)
+    ∙ ap (λ (w : Verdict). lengthVerdict s then (countsVerdict s then w)) (reserved-same s)
+
 pub verdict-by-figures : (chosen : Choices) (s : List ℕ) → answer chosen s .verdict ≡ Paper.verdict chosen s
 unfolding answer verdictOf editionVerdict knownEdition lawfulVerdict lengthVerdict badLength countsVerdict countsFit
 verdict-by-figures chosen s =

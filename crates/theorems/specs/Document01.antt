@@ -1,7 +1,8 @@
--- Document 01, sentence by sentence: the page to read first. crates/letter/specs/Paper.antt quotes its sentences in order and says each in the paper's
--- own figures; here is that the answers are these, for any page bytes s and any choices. `answer` (crates/build/specs/Build.antt), `write`, `image`,
--- `lookup` and `output` are what the contracts promise of the code: of how they are defined nothing has to be believed, since the equations below
--- determine them. What is quoted here is what Paper.antt cannot say of a single definition.
+-- Document 01, sentence by sentence: the page to read first.
+--
+-- crates/letter/specs/Paper.antt quotes the sentences in order and says each in the paper's own figures; here is that the answers are these, for any
+-- page bytes s and any choices. `answer` (crates/build/specs/Build.antt), `write`, `image`, `lookup` and `output` are what the contracts promise of the
+-- code: of how they are defined nothing has to be believed, since the equations below determine them.
 use mathlib.Core.Path.{_≡_, refl, sym, _∙_}
 use mathlib.Core.Bool.{Bool, not, _&&_, _||_}
 use mathlib.Core.List.{List, [], _∷_, map}
@@ -29,16 +30,17 @@ use Rattle.table.specs.Rows.{Row, vacant}
 use Rattle.table.specs.Table.{rowIn}
 use Rattle.finish.specs.Kinds.{kindsAt, EntryAtLeast, TableAtLeast}
 use Rattle.finish.specs.Kinds.Kind.{feature, featureBut28, area, freed, other}
+use Rattle.collect.specs.Lawful.{lawfulVerdict}
 use Rattle.build.specs.Build.{answer}
 use Rattle.lookup.specs.Lookup.{lookup}
 use Rattle.image.specs.Image.{image}
 use Rattle.image.specs.Write.{write}
 use Rattle.program.specs.Output.{output}
 use Rattle.counts.specs.CountsProof.{single-page-refused, at-most-32}
-use Rattle.letter.specs.Paper.{readEntries, counted, topology, hyperthreading, processorCount, processors, leastFrom, isKept, lines, linesOf, combinedOf, countFrom, without, fromD2, Equations, verdict, table, rowsVerdict, carried, registers, written, wrote, find, findAfter, program}
+use Rattle.letter.specs.Paper.{readEntries, counted, topology, hyperthreading, processorCount, processors, leastFrom, isKept, lines, linesOf, combinedOf, countFrom, without, fromD2, Equations, verdict, table, rowsVerdict, carried, lawful, registers, written, wrote, find, findAfter, program}
 use Rattle.letter.specs.Names.{subAt}
 use Rattle.letter.specs.CountedProof as Counted
-use Rattle.letter.specs.VerdictProof.{verdict-by-figures}
+use Rattle.letter.specs.VerdictProof.{verdict-by-figures, lawful-same}
 use Rattle.letter.specs.DeterminedProof as Determined
 use Rattle.letter.specs.ImageProof as Images
 use Rattle.letter.specs.ImageProof.{told}
@@ -115,7 +117,12 @@ write-by-the-letter = Images.write-by-figures
 
 -- ======== "Feature registers of demand 3"
 
--- which registers are features, over the 88 rows
+-- which pages of B are lawful
+pub lawful-by-the-letter : (s : List ℕ) → lawfulVerdict s ≡ lawful s
+lawful-by-the-letter = lawful-same
+
+-- which registers are features, over the 88 rows. "Demand 3 is due whole with the first delivery that builds a table from page bytes.": RiseTheorems.antt
+-- has it, and `rise-by-the-letter` there asks of B's entries what is said here.
 pub registers-by-the-letter : tabulate 88 (λ i. record { leaf = leafAt i .0; subleaf = subAt i; kinds = kindsAt i }) ≡ registers
 registers-by-the-letter = Registers.registers-same
 

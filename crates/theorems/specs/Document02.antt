@@ -1,5 +1,7 @@
--- Document 02's figures: where each is said by a theorem in literal numbers, so that it cannot change in definition and code together unseen. What
--- only a definition said is said below once more.
+-- Document 02's figures: where each is said.
+--
+-- Each stands in a theorem or an instance in literal numbers, so that it cannot change in definition and code together unseen. What only a definition
+-- said is said below once more.
 --
 --   P1   rows ascend by leaf, then subleaf            `rows-ascend` (BuildingTheorems), the list of rows itself (crates/letter/specs/Paper.antt)
 --   P2   8 + 40 bytes, 64 rows, 8,192 bytes, flags    `kvm-reads-exactly`, `flags-by-place`, `indexes-by-place`, `row-of-d-2-listed`, `two-rows-read`
