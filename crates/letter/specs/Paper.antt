@@ -47,7 +47,7 @@ count s p = word s (4096 * p)
 
 -- "Entry: EAX_IN at 0, ECX_IN 4, XCR0_IN 8 (8 bytes), XSS_IN 16 (8 bytes), EAX 24, EBX 28, ECX 32, EDX 36, 8 reserved at 40. Only the two IN numbers
 -- and four results are read."
-abbrev entry : List ℕ → ℕ → ℕ → Entry
+abbrev pub entry : List ℕ → ℕ → ℕ → Entry
 entry s p q = record {
   page = p;
   position = q;
