@@ -50,8 +50,7 @@ module _ (chosen : Choices) (s : List ℕ) where
       λ k. record { present = e .present k; results = same k; «row_count» = e .rows k; «max_extended_state» = e .mask k }
 
   pub determined : answer chosen s .verdict ≡ Accepted → (t : CpuidResults) → Equations chosen s t ↔ (t ≡ answer chosen s .table)
-  determined a t =
-      (
-        λ e. whole t e ∙ sym (table-by-figures chosen s a),
-        λ q. subst (Equations chosen s) (sym (q ∙ table-by-figures chosen s a)) holds,
-      )
+  determined a t = (
+    λ e. whole t e ∙ sym (table-by-figures chosen s a),
+    λ q. subst (Equations chosen s) (sym (q ∙ table-by-figures chosen s a)) holds,
+  )

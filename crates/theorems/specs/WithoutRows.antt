@@ -86,8 +86,7 @@ pub refused-leaves-no-rows : (chosen : Choices) (s w o : List ℕ) (r : Refusal)
     → (w ≡ noRegisters) × (o ≡ noOrigins) × (heldIn w o ≡ noRows)
 unfolding answer
 refused-leaves-no-rows chosen s w o r e k =
-    let empty : answer chosen s .table ≡ emptyTable = builds-exactly chosen s .empty r e in
-    (
+    let empty : answer chosen s .table ≡ emptyTable = builds-exactly chosen s .empty r e in (
       k .registers ∙ ap (λ (t : CpuidResults). layout (λ i. rowIn t i .result)) empty ∙ layout-empty,
       k .origins ∙ ap (λ (t : CpuidResults). originsIn t s) empty ∙ sym (no-origins s),
       k .table ∙ empty ∙ sym cleared-held,
@@ -227,9 +226,8 @@ pub no-rows-compared : (chosen : Choices) (s : List ℕ) → answer chosen s .ve
     × (comparedTables noRows (answer chosen s .table) ≡ Beyond (function 0) None)
     × (comparedTables (answer chosen s .table) noRows ≡ NoRow (function 0) None)
 unfolding comparedTables lowest furtherTest slot keptLeaves
-no-rows-compared chosen s e =
-    (
-      Order.compared-itself noRows,
-      ap₂ comparedTables cleared-held (table-by-figures chosen s e),
-      ap₂ comparedTables (table-by-figures chosen s e) cleared-held,
-    )
+no-rows-compared chosen s e = (
+  Order.compared-itself noRows,
+  ap₂ comparedTables cleared-held (table-by-figures chosen s e),
+  ap₂ comparedTables (table-by-figures chosen s e) cleared-held,
+)
