@@ -47,9 +47,9 @@ use Rattle.rise.specs.Levels.CountOf.{one, legacy, power}
 use Rattle.letter.specs.Paper.{Line, first, linesWith, lines, tableWith, area}
 use Rattle.letter.specs.Paper as Paper
 use Rattle.letter.specs.Names.{placeFor}
-use Rattle.letter.specs.Computed as Computed
+use Rattle.letter.specs.Figures as Figures
 use Rattle.letter.specs.CountedProof.{counted-same}
-use Rattle.letter.specs.FirstEntry.{kept, told, kept-told}
+use Rattle.letter.specs.FirstProof.{kept, told, kept-told}
 
 -- ---- v
 
@@ -126,7 +126,7 @@ module _ (chosen : Choices) (s : List ℕ) (accepted : answer chosen s .verdict 
 
   -- the masked first entries, with a row at every place
   abbrev full : Rows
-  full = Computed.m g avic
+  full = Figures.m g avic
 
   keeps : Keeps (rowsFor chosen s) full
   unfolding rowsOf
@@ -178,7 +178,7 @@ module _ (chosen : Choices) (s : List ℕ) (accepted : answer chosen s .verdict 
 
   rows-full : tabulate 88 (finished (chosen .edition) full) ≡ map (λ (l : Line). l .row) (lines second avic (byLeaf (counted s)))
   rows-full =
-      Computed.table-same g (chosen .edition) second avic refl
+      Figures.table-same g (chosen .edition) second avic refl
       ∙ ap₂ (λ (v : ℕ) (f : ℕ → Bool). map (λ (l : Line). l .row) (linesWith second masked v f)) v-said
       (fun-ext (λ k. and-implied (has k (Paper.combined masked)) true (λ h. refl)))
       ∙ ap (map (λ (l : Line). l .row)) (lines-same (counted s) second avic)

@@ -46,7 +46,7 @@ use Rattle.build.specs.Build.{editionVerdict, rowsFor, verdictOf, answer}
 use Rattle.letter.specs.Paper.{first, _then_, area, topology, required, firstMissing, components, firstUnclean, readEntries}
 use Rattle.letter.specs.Paper as Paper
 use Rattle.letter.specs.Names.{placeFor}
-use Rattle.letter.specs.FirstEntry.{kept, told, kept-told}
+use Rattle.letter.specs.FirstProof.{kept, told, kept-told}
 use Rattle.letter.specs.CountedProof.{entries-same, counted-same}
 
 -- ---- words

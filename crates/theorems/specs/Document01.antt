@@ -46,8 +46,8 @@ use Rattle.letter.specs.ImageProof as Images
 use Rattle.letter.specs.ImageProof.{told}
 use Rattle.letter.specs.LookupProof as Lookups
 use Rattle.letter.specs.RegistersProof as Registers
-use Rattle.letter.specs.CountsProof as Counts
-use Rattle.letter.specs.CountsProof.{furtherBits}
+use Rattle.letter.specs.LengthProof as Counts
+use Rattle.letter.specs.LengthProof.{furtherBits}
 use Rattle.page_sets.specs.PageSets.{serverA, serverWithoutD12}
 use Rattle.page_sets.specs.Evaluation.{firstEdition}
 use Rattle.examples.specs.Computed as Computed
