@@ -23,7 +23,7 @@ use Rattle.table.specs.Rows.{Rows}
 use Rattle.table.specs.Table.{rowIn}
 use Rattle.table.specs.OrderLaws.{row-order}
 use Rattle.build.specs.Build.{answer}
-use Rattle.buffer.specs.Front.{AfterWrite, writeFront, writeVerdict}
+use Rattle.buffer.specs.Front.{writeFront, writeVerdict}
 use Rattle.image.specs.Image.{imageIn, image}
 use Rattle.image.specs.Write.{write}
 use Rattle.program.specs.Output.{subleafCode, output, outputFor}

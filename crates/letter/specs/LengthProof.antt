@@ -1,7 +1,7 @@
 -- Rows, bytes and mask of an accepted page set, counted by the paper's combined mask.
 use mathlib.Core.Path.{_≡_, ap, _∙_, subst}
 use mathlib.Core.List.{List}
-use Prim.Native.Nat.{ℕ, _+_, _*_, _≤_}
+use Prim.Native.Nat.{ℕ, _+_, _*_}
 use lib.ListN.{length}
 use Rattle.bits.specs.Lists.{sumTo, one}
 use Rattle.bits.specs.Bits.{has, Within}
@@ -12,9 +12,8 @@ use Rattle.build.specs.Build.{answer}
 use Rattle.image.specs.Image.{image}
 use Rattle.counts.specs.Counts.{componentsIn}
 use Rattle.counts.specs.CountsProof.{rows-counted}
-use Rattle.letter.specs.Paper.{combinedOf, linesOf, written}
+use Rattle.letter.specs.Paper.{combinedOf}
 use Rattle.letter.specs.TableProof.{table-by-figures}
-use Rattle.letter.specs.ImageProof.{image-by-figures}
 
 -- the combined bits from 2 up, counted
 abbrev pub furtherBits : ℕ → ℕ

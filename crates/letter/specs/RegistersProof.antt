@@ -11,7 +11,7 @@ use Rattle.masking.specs.Kept.{keptLeaves, slot, leafAt}
 use Rattle.table.specs.declared.Subleaf.{Subleaf}
 use Rattle.table.specs.Rows.{Row, vacant}
 use Rattle.finish.specs.Kinds.{kindsAt, registerKinds}
-use Rattle.letter.specs.Paper.{Line, Kinded, registers, lines, countFrom, without, fromD2, isKept, area, components, rowsVerdict}
+use Rattle.letter.specs.Paper.{registers, lines, countFrom, without, fromD2, isKept, area, components, rowsVerdict}
 use Rattle.letter.specs.Names.{subAt}
 
 pub registers-same : tabulate 88 (λ i. record { leaf = leafAt i .0; subleaf = subAt i; kinds = kindsAt i }) ≡ registers

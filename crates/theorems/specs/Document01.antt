@@ -19,7 +19,7 @@ use Rattle.masking.specs.Kept.{leafAt}
 use Rattle.topology.specs.Topology.{Inputs, inputs}
 use Rattle.topology.specs.declared.TopologyError.the-variants.{ThreadsPerUnit}
 use Rattle.table.specs.declared.Subleaf.{Subleaf}
-use Rattle.table.specs.declared.Subleaf.the-variants.{None, Some}
+use Rattle.table.specs.declared.Subleaf.the-variants.{Some}
 use Rattle.table.specs.declared.Choices.{Choices}
 use Rattle.table.specs.declared.CpuidResults.{CpuidResults}
 use Rattle.table.specs.declared.Refusal.{Refusal}

@@ -23,7 +23,7 @@ use mathlib.Core.Bool.{Bool, true, false, _&&_}
 use mathlib.Core.List.{List, [], _∷_, _++_, map}
 use Prim.Native.Nat.{ℕ, zero, suc, _+_, _*_, _/_, _%_, _^_, max}
 use lib.Bits.{bitXor}
-use lib.Dec.{eqb, leb}
+use lib.Dec.{leb}
 use lib.ListN.{getD, set}
 use Rattle.bits.specs.Choice.{pick}
 use Rattle.bits.specs.Bits.{has}
@@ -42,7 +42,7 @@ use Rattle.checks.specs.Checks.{topologyRefusal}
 use Rattle.checks.specs.ExtendedState.{areaBelow, saveArea}
 use Rattle.memory.specs.Origin.{originNumber, isMadeHere}
 use Rattle.memory.specs.Origin.Origin.{neither, madeHere, notKnown, entry}
-use Rattle.kvm_list.specs.Format.{ListRow, rowAt}
+use Rattle.kvm_list.specs.Format.{rowAt}
 use Rattle.guest_state.specs.Compact.{componentStart, placed, compactBelow, compactSize}
 use Rattle.letter.specs.Paper.{Name, topology}
 use Rattle.letter.specs.Names.{subAt}

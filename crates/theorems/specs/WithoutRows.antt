@@ -4,19 +4,16 @@
 use mathlib.Core.Path.{_≡_, refl, sym, ap, ap₂, _∙_}
 use mathlib.Core.Bool.{Bool, true, false}
 use mathlib.Core.List.{List, [], _∷_, _++_}
-use Prim.Native.Nat.{ℕ, _≤_, _<_}
+use Prim.Native.Nat.{ℕ, _≤_}
 use native.Mathlib.Nat.{le-of-eq}
 use native.Mathlib.Omega.{arith}
-use lib.Dec.{leb, ltb}
+use lib.Dec.{ltb}
 use lib.ListN.{length, getD, drop, replicate, length-replicate, getD-replicate, List·getD-eq-default}
-use borrow.Author.Tests.{le-leb, lt-leb, ltb-true, ltb-false}
-use Rattle.bits.specs.Choice.{pick}
+use borrow.Author.Tests.{le-leb, ltb-true, ltb-false}
 use Rattle.bits.specs.ChoiceLaws.{pick-false}
 use Rattle.bits.specs.Bits.{bit, has}
 use Rattle.bits.specs.Lists.{tabulate, sumTo}
 use Rattle.bits.specs.Search.{lowest}
-use Rattle.x86defs.specs.declared.CpuidFunction.{CpuidFunction}
-use Rattle.x86defs.specs.declared.CpuidResult.{CpuidResult}
 use Rattle.x86defs.specs.Functions.{function}
 use Rattle.masking.specs.Kept.{places, slot, keptLeaves}
 use Rattle.table.specs.declared.Choices.{Choices}
@@ -42,7 +39,7 @@ use Rattle.lookup.specs.declared.LeafResult.{LeafResult}
 use Rattle.lookup.specs.declared.LeafResult.the-variants.{None as Nothing}
 use Rattle.lookup.specs.Lookup.{lookup, lookupOrigin, placeAsked, found, withOrigin}
 use Rattle.lookup.specs.LookupLaws.{lookup-at, empty-finds-nothing}
-use Rattle.buffer.specs.declared.Written.the-variants.{Bytes, Refused as NotWritten}
+use Rattle.buffer.specs.declared.Written.the-variants.{Bytes}
 use Rattle.buffer.specs.Front.{writeFront}
 use Rattle.image.specs.Image.{imageIn, image}
 use Rattle.image_read.specs.ReadImage.{readImage, isImage, left, afterRow, rowRead, begins, opens}
