@@ -60,7 +60,17 @@ pub struct Table {
 }
 
 impl Table {
-    /// A table without rows, for [`Table::rebuild`].
+    /// A table without rows, for [`Table::rebuild`], which leaves one where it refuses. Nothing is found in it, no processor's state is allowed in it
+    /// (13), its image has no bytes and its list for KVM 8, and it compares as at least itself.
+    ///
+    /// ```
+    /// use snp_cpuid::{Table, TableComparison};
+    ///
+    /// let none = Table::new();
+    /// assert_eq!((none.rows().count(), none.row(0, None)), (0, None));
+    /// assert_eq!((none.write_image(&mut []), none.write_kvm(&mut [7; 8])), (Ok(0), Ok(8)));
+    /// assert_eq!(none.compare(&none), TableComparison::Rises);
+    /// ```
     pub const fn new() -> Table {
         Table { memory: exports::Table { registers: [0; 4 * PLACES], origins: [0; PLACES] } }
     }
