@@ -79,7 +79,15 @@ fn search_flips(
                     if seen[place] {} else {
                         let row = masking::masks::mask_row(place);
                         let x = entry.result;
-                        let bit = first_bit(registers, origins, edition, found, kept[row], place, x);
+                        let bit = first_bit(
+                            registers,
+                            origins,
+                            edition,
+                            found,
+                            kept[row],
+                            place,
+                            x,
+                        );
                         if let Decisive::Number(b) = bit {
                             let position = index.function_index as u32;
                             return Nearest::Bit(Flip {

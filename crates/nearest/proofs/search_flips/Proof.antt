@@ -62,9 +62,11 @@ bytes c i = omega (arith, turned c .before .before .before .before .before .shar
 -- what was found in the rows once, and the row of a first entry
 first-bit-requires : tie.Need-first-bit-requires Inv-loop μ-loop
 first-bit-requires c κs =
-    let n = c .before .before .before in let p = n .before .before in
-    (n .before .if2 .taken, entry-present (at-entry p) (bytes p) (n .before .if2 .taken) (n .if3 .left) (start p .pre .2),
-    turned p .before .before .before .find .ensures)
+    let n = c .before .before .before in let p = n .before .before in (
+      n .before .if2 .taken,
+      entry-present (at-entry p) (bytes p) (n .before .if2 .taken) (n .if3 .left) (start p .pre .2),
+      turned p .before .before .before .find .ensures,
+    )
 
 -- an entry stands among the first 64
 cast-position : tie.Need-cast-position Inv-loop μ-loop

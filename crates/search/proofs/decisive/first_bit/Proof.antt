@@ -61,14 +61,16 @@ stored p =
 keeps-answer-requires : tie.Need-keeps-answer-requires Inv-loop μ-loop
 unfolding foundIn
 keeps-answer-requires c κs =
-    let p = c .before in let s = start p in let l = turned p .before .before .before in
-    (record {
-      small = s .pre .0;
-      present = s .pre .1;
-      required = relevant-required (rows s) (s .args .place) (judged (l .before) ∙ l .if1 .left);
-      tried = p .before .before .masked-at .result;
-      changed = stored p;
-    }, ap (λ (q : Found). q .checked) (s .pre .2))
+    let p = c .before in let s = start p in let l = turned p .before .before .before in (
+      record {
+        small = s .pre .0;
+        present = s .pre .1;
+        required = relevant-required (rows s) (s .args .place) (judged (l .before) ∙ l .if1 .left);
+        tried = p .before .before .masked-at .result;
+        changed = stored p;
+      },
+      ap (λ (q : Found). q .checked) (s .pre .2),
+    )
 
 -- what is found of its bit
 found : (k : tie.After-keeps-answer Inv-loop μ-loop) → let p = k .before .before in let a = start p .args in
@@ -80,9 +82,11 @@ found k =
 
 loop-again : tie.Need-loop-again Inv-loop μ-loop
 loop-again c =
-    let k = c .before in let p = k .before .before in let l = turned p in let s = start p in
-    (omega arith, l .loop .inv .1 ∙ bit-passes _ _ _ _ _ (l .loop .n) (omega arith) (sym (found k) ∙ c .if2 .taken),
-    stored-elsewhere (s .args .origins .now) (s .args .place) (s .pre .0) (s .pre .1) _ (l .loop .inv .2) (p .put-row .ensures))
+    let k = c .before in let p = k .before .before in let l = turned p in let s = start p in (
+      omega arith,
+      l .loop .inv .1 ∙ bit-passes _ _ _ _ _ (l .loop .n) (omega arith) (sym (found k) ∙ c .if2 .taken),
+      stored-elsewhere (s .args .origins .now) (s .args .place) (s .pre .0) (s .pre .1) _ (l .loop .inv .2) (p .put-row .ensures),
+    )
 
 returns-2 : tie.Need-returns-2 Inv-loop μ-loop
 returns-2 c =
