@@ -8,7 +8,7 @@ use memory::sized;
 use reader::Read;
 use search::decisive::Decisive;
 use search::decisive::first_bit;
-use search::irrelevant::find;
+use search::irrelevant::check_unflipped;
 use table::Choices;
 use table::Refusal;
 use table::Verdict;
@@ -66,7 +66,7 @@ fn search_flips(
     ensures { λ r. ⌜ r ≡ firstThat (changes (chosen «secure_avic» edition) (now (pages .entry))) (flips (now (pages .entry))) ⌝ }
 {
     let kept = masking::masks::kept_leaves(secure_avic);
-    let found = find(registers, origins);
+    let found = check_unflipped(registers, origins);
     let n = pages::page_count(pages);
     let mut seen = [false; PLACES];
     let mut index = reader::start(pages);

@@ -9,7 +9,7 @@ use Rattle.x86defs.specs.declared.CpuidResult.{CpuidResult}
 use Rattle.masking.specs.Masks.{applyMask}
 use Rattle.masking.specs.declared.masks.KeptLeaf.{KeptLeaf}
 use Rattle.masking.specs.MaskTable.{masksOf}
-use Rattle.table.specs.Rows.{Rows, row}
+use Rattle.table.specs.Rows.{Rows}
 use Rattle.collect.specs.FirstEntries.{setLegacy}
 use Rattle.flips.specs.OneBit.{oneBit, xorResult}
 use Rattle.search.specs.SameVerdict.{sameFrom}

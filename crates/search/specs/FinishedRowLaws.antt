@@ -1,6 +1,6 @@
 -- Of two accepted sets that differ at one place, the finished row there decides: finishing keeps in a row all that other rows depend on, so that the
 -- same finished row leaves all others the same.
-use mathlib.Core.Path.{_≡_, refl, sym, ap, ap₂, _∙_, fun-ext}
+use mathlib.Core.Path.{_≡_, refl, sym, ap, _∙_, fun-ext}
 use mathlib.Core.Bool.{Bool, true, false, _&&_}
 use Prim.Native.Nat.{ℕ, _+_, _≤_, _<_}
 use native.Mathlib.Omega.{arith}
@@ -30,7 +30,9 @@ use Rattle.checks.specs.ExtendedState.{xfem, xssOf, xss, combinedMask, sumAt, s
 use Rattle.checks.specs.ExtendedStateLaws.{area-mono, in-combined, xsaves-ecx}
 use Rattle.checks.specs.TopologyInputs.{inputsOf}
 use Rattle.checks.specs.Checks.{rowsVerdict}
-use Rattle.features.specs.Finish.{Rule, ruleAt, finish, finishRow, remains, enabledBy, ymmClears, unlessNoXss, settings, finished}
+use Rattle.features.specs.Finish.{Needed, Rule, Settings, ruleAt, changeRow, finish, finishRow, remains, enabledBy, ymmClears, unlessNoXss, settings, finished}
+use Rattle.features.specs.Finish.Needed.{versionAndFeatures, extendedState0, extendedState1, extendedAddressSpaceSizes, untouched}
+use Rattle.features.specs.Finish.Rule.{needed}
 use Rattle.finish.specs.PlaceLaws.{component-rule}
 use Rattle.finish.specs.RemainsLaws.{finished-present, finished-result, component-finished}
 use Rattle.finish.specs.RowsBuilt.{tableFor}
@@ -42,21 +44,27 @@ use Rattle.search.specs.WithRowLaws.{put-other, put-present}
 -- ---- what finishing keeps of a row that is there
 
 module _ (n : ℕ) (m : Rows) where
+  -- of a required row: what its rule keeps
+  needed-kept : (j : ℕ) (t : Needed) → ruleAt j ≡ needed t → m j .present ≡ true → finished n m j .result ≡ changeRow (settings n m) t (m j .result)
+  needed-kept j t e p =
+      finished-result n m j (finished-present n m j ∙ ap (λ (u : Rule). remains (settings n m) u (m j .present)) e ∙ p)
+      ∙ ap (λ (u : Rule). finish (settings n m) u (m j .result)) e
+
+  -- of D.1: XSS
+  xss-kept : let j = Place.extendedState 1 in m j .present ≡ true → xssOf (finished n m j .result) ≡ xssOf (m j .result)
+  unfolding settings enabledBy unlessNoXss xss
+  xss-kept p =
+      let s = m (Place.extendedState 1) .result in
+      ap xssOf (needed-kept (Place.extendedState 1) extendedState1 refl p)
+      ∙ ap (λ (c : ℕ). pick (has 1 (s .eax) && has 3 (s .eax)) c 0) (xsaves-ecx m)
+      ∙ pick-twice (has 1 (s .eax) && has 3 (s .eax)) (s .ecx) 0
+
   -- of a D subleaf in the mask: all
   component-kept : (k : ℕ) → 2 ≤ k → k < 64 → has k (combinedMask m) ≡ true → m (Place.extendedState k) .present ≡ true
       → finished n m (Place.extendedState k) .result ≡ m (Place.extendedState k) .result
   component-kept k l u e p =
       finished-result n m (Place.extendedState k) (component-finished n m k l u ∙ and-both e p)
       ∙ ap (λ (t : Rule). finish (settings n m) t (m (Place.extendedState k) .result)) (component-rule k l u)
-
-  -- of D.1: XSS
-  xss-kept : m (Place.extendedState 1) .present ≡ true → xssOf (finished n m (Place.extendedState 1) .result) ≡ xssOf (m (Place.extendedState 1) .result)
-  unfolding settings enabledBy unlessNoXss xss
-  xss-kept p =
-      let s = m (Place.extendedState 1) .result in
-      ap xssOf (finished-result n m (Place.extendedState 1) (finished-present n m (Place.extendedState 1) ∙ p))
-      ∙ ap (λ (c : ℕ). pick (has 1 (s .eax) && has 3 (s .eax)) c 0) (xsaves-ecx m)
-      ∙ pick-twice (has 1 (s .eax) && has 3 (s .eax)) (s .ecx) 0
 
 -- ---- the same finished row
 
@@ -78,26 +86,28 @@ module _ (n i : ℕ) (x : CpuidResult) (m : Rows) (present : m i .present ≡ tr
           ∙ ap read (ap (λ (k : ℕ). finished n o k .result) q ∙ same ∙ sym (ap (λ (k : ℕ). finished n m k .result) q)) ∙ g there
       go false e = ap (λ (r : Row). read (r .result)) (put-other i x m j (eqb-false j i e))
 
-  -- a register of a required row
-  needed-same : (read : CpuidResult → ℕ) (j : ℕ)
-      → ((q : Rows) → q j .present ≡ true → read (finished n q j .result) ≡ read (q j .result)) → read (o j .result) ≡ read (m j .result)
-  needed-same read j f = kept-same read j (f o) (f m)
+  -- a register that the rule of a required row keeps
+  register-same : (read : CpuidResult → ℕ) (j : ℕ) (t : Needed) → ruleAt j ≡ needed t
+      → ((c : Settings) (r : CpuidResult) → read (changeRow c t r) ≡ read r) → read (o j .result) ≡ read (m j .result)
+  register-same read j t e f = kept-same read j (kept o) (kept m)
+    where
+      kept : (q : Rows) → q j .present ≡ true → read (finished n q j .result) ≡ read (q j .result)
+      kept q p = ap read (needed-kept n q j t e p) ∙ f (settings n q) (q j .result)
 
   xfem-same : xfem o ≡ xfem m
   unfolding xfem
-  xfem-same = needed-same (λ r. r .eax) (Place.extendedState 0) (λ q p. ap (λ (r : CpuidResult). r .eax) (finished-result n q _ (finished-present n q _ ∙ p)))
+  xfem-same = register-same (λ r. r .eax) (Place.extendedState 0) extendedState0 refl (λ c r. refl)
 
   xss-same : xss o ≡ xss m
   unfolding xss
-  xss-same = needed-same xssOf (Place.extendedState 1) (λ q p. xss-kept n q p)
+  xss-same = kept-same xssOf (Place.extendedState 1) (xss-kept n o) (xss-kept n m)
 
   mask-same : combinedMask o ≡ combinedMask m
   unfolding combinedMask
   mask-same k = bitOr (xfem-same k) (xss-same k)
 
   sev-same : o Place.extendedSevFeatures .result .eax ≡ m Place.extendedSevFeatures .result .eax
-  sev-same =
-      needed-same (λ r. r .eax) Place.extendedSevFeatures (λ q p. ap (λ (r : CpuidResult). r .eax) (finished-result n q _ (finished-present n q _ ∙ p)))
+  sev-same = register-same (λ r. r .eax) Place.extendedSevFeatures untouched refl (λ c r. refl)
 
   sum-same : (k : ℕ) → 2 ≤ k → k < 64 → has k (xfem m) ≡ true → sumAt o k ≡ sumAt m k
   sum-same k l u e =
@@ -117,17 +127,13 @@ module _ (n i : ℕ) (x : CpuidResult) (m : Rows) (present : m i .present ≡ tr
   unfolding inputsOf
   inputs-same =
       let sizes : o Place.extendedAddressSpaceSizes .result .ecx ≡ m Place.extendedAddressSpaceSizes .result .ecx =
-      needed-same (λ r. r .ecx) Place.extendedAddressSpaceSizes
-      (λ q p. ap (λ (r : CpuidResult). r .ecx) (finished-result n q _ (finished-present n q _ ∙ p))) in
+      register-same (λ r. r .ecx) Place.extendedAddressSpaceSizes extendedAddressSpaceSizes refl (λ c r. refl) in
       let count : o Place.versionAndFeatures .result .ebx ≡ m Place.versionAndFeatures .result .ebx =
-      needed-same (λ r. r .ebx) Place.versionAndFeatures
-      (λ q p. ap (λ (r : CpuidResult). r .ebx) (finished-result n q _ (finished-present n q _ ∙ p))) in
+      register-same (λ r. r .ebx) Place.versionAndFeatures versionAndFeatures refl (λ c r. refl) in
       let threaded : o Place.versionAndFeatures .result .edx ≡ m Place.versionAndFeatures .result .edx =
-      needed-same (λ r. r .edx) Place.versionAndFeatures
-      (λ q p. ap (λ (r : CpuidResult). r .edx) (finished-result n q _ (finished-present n q _ ∙ p))) in
+      register-same (λ r. r .edx) Place.versionAndFeatures versionAndFeatures refl (λ c r. refl) in
       let definition : o Place.processorTopologyDefinition .result .ebx ≡ m Place.processorTopologyDefinition .result .ebx =
-      needed-same (λ r. r .ebx) Place.processorTopologyDefinition
-      (λ q p. ap (λ (r : CpuidResult). r .ebx) (finished-result n q _ (finished-present n q _ ∙ p))) in
+      register-same (λ r. r .ebx) Place.processorTopologyDefinition untouched refl (λ c r. refl) in
       λ k. inputs (cut apic-core-id-size (sizes k)) (cut nc (sizes k)) (cut lps-per-package (count k))
       (bit (VersionAndFeaturesEdx.position VersionAndFeaturesEdx.VersionAndFeaturesEdx.mt-per-socket) (threaded k))
       (cut threads-per-compute-unit (definition k))
@@ -180,10 +186,12 @@ finished-differs n i q m l f a b = go (sameFrom n q m) refl
         let h : sameTable t u ≡ true = and-right (sameVerdict Accepted Accepted) _
         (sym (λ k. sameAnswer (a k) (tableFor n (a k) q) (b k) (tableFor n (b k) m)) ∙ e) in
         let r : sameRow (rowIn t i) (rowIn u i) ≡ true =
-        every-at (λ j. sameRow (rowIn t j) (rowIn u j)) places (and-right (eqb (combinedMask q) (combinedMask m)) _ (and-right (eqb (t .«row_count») (u .«row_count»)) _ h)) i l in
+        every-at (λ j. sameRow (rowIn t j) (rowIn u j)) places
+        (and-right (eqb (combinedMask q) (combinedMask m)) _ (and-right (eqb (t .«row_count») (u .«row_count»)) _ h)) i l in
         absurd (never-both
         (sym (λ k. sameResult (getD-tabulate places (λ j. finished n q j .result) i (result 0 0 0 0) l k)
-        (getD-tabulate places (λ j. finished n m j .result) i (result 0 0 0 0) l k)) ∙ and-right (agree (rowIn t i .present) (rowIn u i .present)) _ r) f)
+        (getD-tabulate places (λ j. finished n m j .result) i (result 0 0 0 0) l k))
+        ∙ and-right (agree (rowIn t i .present) (rowIn u i .present)) _ r) f)
     go false e = refl
 
 -- ---- so the row decides

@@ -1,23 +1,19 @@
--- The same answer: an answer is the same as itself, equal registers, and tables in memory compared row by row as the code does.
-use mathlib.Core.Path.{_≡_, refl, sym, ap, _∙_}
+-- The same answer: an answer is the same as itself, and the same registers are equal.
+use mathlib.Core.Path.{_≡_, refl, sym}
 use mathlib.Core.Bool.{Bool, true, false}
-use Prim.Native.Nat.{ℕ, zero, suc, _+_, _<_}
-use native.Mathlib.Numerals.{add-one}
+use Prim.Native.Nat.{ℕ, zero, suc}
 use lib.Dec.{eqb}
 use borrow.Author.Tests.{eq-eqb, eqb-true}
-use Rattle.bits.specs.ChoiceLaws.{never-both, and-both, and-left, and-right}
+use Rattle.bits.specs.ChoiceLaws.{and-both, and-left, and-right}
 use Rattle.bits.specs.Search.{every}
-use Rattle.bits.specs.SearchLaws.{every-at}
 use Rattle.x86defs.specs.declared.CpuidResult.{CpuidResult}
 use Rattle.masking.specs.Kept.{places}
 use Rattle.table.specs.declared.CpuidResults.{CpuidResults}
 use Rattle.table.specs.declared.Verdict.{Verdict}
-use Rattle.table.specs.Rows.{Row, Rows}
 use Rattle.table.specs.Table.{rowIn}
-use Rattle.memory.specs.Held.{wholeOf, whole-row, whole-ext}
 use Rattle.table.specs.declared.numbers.AnswerNumbers.{AnswerNumbers}
 use Rattle.table.specs.Numbers.{numbersOf}
-use Rattle.search.specs.SameVerdict.{agree, sameResult, sameRow, sameRows, sameTable, sameNumbers, sameAnswer}
+use Rattle.search.specs.SameVerdict.{agree, sameResult, sameRows, sameTable, sameNumbers, sameAnswer}
 
 -- ---- an answer is the same as itself
 

@@ -16,7 +16,7 @@ use Rattle.checks.specs.ExtendedState.{combinedMask}
 use Rattle.checks.specs.Checks.{requiredVerdict, invlpgbVerdict, rowsVerdict}
 use Rattle.rows_checked.specs.Checked.{checkedRows}
 use Rattle.rows_checked.specs.CheckedLaws.{verdict-of}
-use Rattle.search.specs.Irrelevant.{refuses, isComponent, isLevel, isRead, irrelevantAt, irrelevant, foundIn, irrelevantBy}
+use Rattle.search.specs.Irrelevant.{refuses, isComponent, isLevel, isRead, irrelevantAt, irrelevant, unflippedIn, irrelevantBy}
 
 module _ (m : Rows) (i : ℕ) where
   pub irrelevant-missing : {r : Refusal} → requiredVerdict m ≡ Refused r → true ≡ irrelevant m i
@@ -29,8 +29,8 @@ module _ (m : Rows) (i : ℕ) where
   irrelevant-clear e f = rw (e, f)
 
   -- what the checks find tells it
-  pub irrelevant-found : irrelevantBy (foundIn m) i ≡ irrelevant m i
-  unfolding irrelevant irrelevantBy foundIn checkedRows
+  pub irrelevant-found : irrelevantBy (unflippedIn m) i ≡ irrelevant m i
+  unfolding irrelevant irrelevantBy unflippedIn checkedRows
   irrelevant-found = rw (verdict-of (rowsVerdict m) m)
 
   -- where a place is relevant, the required leaves are there
@@ -39,7 +39,8 @@ module _ (m : Rows) (i : ℕ) where
   relevant-required = go (requiredVerdict m)
     where
       go : (v : Verdict) → pick (refuses v) true
-          (pick (refuses (invlpgbVerdict m)) (not (eqb i Place.extendedAddressSpaceSizes)) (irrelevantAt (refuses (rowsVerdict m)) (combinedMask m) i))
+          (pick (refuses (invlpgbVerdict m)) (not (eqb i Place.extendedAddressSpaceSizes))
+          (irrelevantAt (refuses (rowsVerdict m)) (combinedMask m) i))
           ≡ false
           → v ≡ Accepted
       go Accepted e = refl

@@ -22,7 +22,6 @@ use Rattle.rows_checked.specs.CheckedLaws.{verdict-of}
 use Rattle.rows_finished.specs.AnsweredLaws.{checked-accepts, checked-refuses}
 use Rattle.search.specs.SameVerdict.{sameResult, sameTable, sameNumbers, sameVerdict, sameAnswer, sameFrom}
 use Rattle.search.specs.SameLaws.{table-same, result-equal}
-use Rattle.search.specs.WithRow.{withRow}
 use Rattle.search.specs.WithRowLaws.{put-same, put-here, required-same}
 use Rattle.search.specs.ChangesLaws.{from-equal}
 use Rattle.search.specs.Tried.{TriedAt}

@@ -1,6 +1,6 @@
 // The bits of one first entry. Collected rows in lent memory and an entry's registers come in; the first of the 128 bits whose flip changes what
 // building answers to the rows goes out.
-use crate::irrelevant::Found;
+use crate::irrelevant::Unflipped;
 use crate::irrelevant::is_irrelevant;
 use crate::irrelevant::verdict_of;
 use crate::same_result;
@@ -27,7 +27,7 @@ ghost use Rattle.features.specs.Finish.{finished};
 ghost use Rattle.finish.specs.Stores.{Ready};
 ghost use Rattle.rows_checked.specs.Checked.{checkedRows};
 ghost use Rattle.search.specs.SameVerdict.{sameFrom};
-ghost use Rattle.search.specs.Irrelevant.{foundIn};
+ghost use Rattle.search.specs.Irrelevant.{unflippedIn};
 ghost use Rattle.search.specs.Tried.{TriedAt};
 ghost use Rattle.search.specs.BitLaws.{firstBit};
 
@@ -45,13 +45,13 @@ pub fn first_bit(
     registers: &[u32; REGISTERS],
     origins: &[u64; PLACES],
     edition: u32,
-    found: Found,
+    found: Unflipped,
     kept: KeptLeaf,
     place: usize,
     x: CpuidResult,
 ) -> Decisive
     requires { ⌜ (place < places) × (rowsIn (now registers) (now origins) place .present ≡ true)
-        × (found ≡ foundIn (rowsIn (now registers) (now origins))) ⌝ }
+        × (found ≡ unflippedIn (rowsIn (now registers) (now origins))) ⌝ }
     ensures { λ r. ⌜ r ≡ firstBit edition (rowsIn (now (registers .entry)) (now (origins .entry))) kept place x ⌝ }
 {
     if is_irrelevant(found, place) {

@@ -13,22 +13,22 @@ use table::Verdict;
 ghost use mathlib.Core.Path.{_≡_};
 ghost use Rattle.memory.specs.Memory.{rowsIn};
 ghost use Rattle.rows_checked.specs.Checked.{verdictOf};
-ghost use Rattle.search.specs.Irrelevant.{refuses, isRead, irrelevantAt, foundIn, irrelevantBy};
+ghost use Rattle.search.specs.Irrelevant.{refuses, isRead, irrelevantAt, unflippedIn, irrelevantBy};
 
-// What the checks find in the rows of a page set, once for all its entries: whether a required leaf is missing, whether INVLPGB is clear, the combined
-// mask, and the answer of all checks.
-pub struct Found {
+// What the checks find in the rows of a page set before any flip, once for all its entries: whether a required leaf is missing, whether INVLPGB is
+// clear, the combined mask, and what all checks answer.
+pub struct Unflipped {
     pub missing: bool,
     pub clear: bool,
     pub mask: u64,
     pub checked: Checked,
 }
 
-pub fn find(registers: &[u32; REGISTERS], origins: &[u64; PLACES]) -> Found
-    ensures { λ r. ⌜ r ≡ foundIn (rowsIn (now (registers .entry)) (now (origins .entry))) ⌝ }
+pub fn check_unflipped(registers: &[u32; REGISTERS], origins: &[u64; PLACES]) -> Unflipped
+    ensures { λ r. ⌜ r ≡ unflippedIn (rowsIn (now (registers .entry)) (now (origins .entry))) ⌝ }
 {
     let sizes = row_at(registers, place::EXTENDED_ADDRESS_SPACE_SIZES);
-    Found {
+    Unflipped {
         missing: is_refused(validate_required(origins)),
         clear: is_refused(validate_invlpgb(sizes)),
         mask: combined_mask(registers),
@@ -46,7 +46,7 @@ fn is_refused(verdict: Verdict) -> bool
 }
 
 // Whether no row at a place would change the answer to the rows.
-pub fn is_irrelevant(found: Found, place: usize) -> bool
+pub fn is_irrelevant(found: Unflipped, place: usize) -> bool
     ensures { λ r. ⌜ r ≡ irrelevantBy found place ⌝ }
 {
     if found.missing {

@@ -65,7 +65,7 @@ first-bit-requires c κs =
     let n = c .before .before .before in let p = n .before .before in (
       n .before .if2 .taken,
       entry-present (at-entry p) (bytes p) (n .before .if2 .taken) (n .if3 .left) (start p .pre .2),
-      turned p .before .before .before .find .ensures,
+      turned p .before .before .before .check-unflipped .ensures,
     )
 
 -- an entry stands among the first 64

@@ -3,15 +3,14 @@
 use borrow.Author.Needs.{needs}
 use native.Mathlib.Omega.{arith}
 use mathlib.Core.Path.{_≡_, refl, sym, ap, _∙_}
-use mathlib.Core.Bool.{Bool}
 use Prim.Native.Nat.{_-_, _≤_}
 use Rattle.table.specs.Rows.{Rows}
 use Rattle.memory.specs.Memory.{rowsIn}
-use Rattle.search.specs.declared.irrelevant.Found.{Found}
+use Rattle.search.specs.declared.irrelevant.Unflipped.{Unflipped}
 use Rattle.search.specs.SameVerdict.{sameFrom}
 use Rattle.search.specs.WithRow.{withRow}
 use Rattle.search.specs.WithRowLaws.{Elsewhere, stored-rows, stored-elsewhere}
-use Rattle.search.specs.Irrelevant.{irrelevant, foundIn, irrelevantBy}
+use Rattle.search.specs.Irrelevant.{irrelevant, unflippedIn, irrelevantBy}
 use Rattle.search.specs.SearchReturnLaws.{irrelevant-found, relevant-required}
 use Rattle.search.specs.BitLaws.{firstBit, keeps, keeps-found, bitFrom, bit-first, bit-passes, bit-stops, bit-ends, bit-irrelevant}
 use Rattle.search.proofs.decisive.first_bit.Statement.{statement}
@@ -35,7 +34,8 @@ rows s = rowsIn (s .args .registers .now) (s .args .origins .now)
 judged : (f : tie.After-is-irrelevant Inv-loop μ-loop) → irrelevant (rows (f .before)) (f .before .args .place) ≡ f .is-irrelevant .result
 judged f =
     let s = f .before in
-    sym (irrelevant-found (rows s) (s .args .place)) ∙ ap (λ (q : Found). irrelevantBy q (s .args .place)) (sym (s .pre .2)) ∙ sym (f .is-irrelevant .ensures)
+    sym (irrelevant-found (rows s) (s .args .place)) ∙ ap (λ (q : Unflipped). irrelevantBy q (s .args .place)) (sym (s .pre .2))
+    ∙ sym (f .is-irrelevant .ensures)
 
 returns : tie.Need-returns Inv-loop μ-loop
 returns c = let f = c .before in let s = f .before in bit-irrelevant _ (rows s) _ _ _ (s .pre .1) (judged f ∙ c .if1 .taken)
@@ -53,13 +53,14 @@ turned p = p .before .before .before .before .before
 abbrev start : Put → Start
 start p = turned p .before .before .before .before .before
 
-stored : (p : Put) → rowsIn (p .put-row .last .0) (start p .args .origins .now) ≡ withRow (start p .args .place) (p .before .before .masked-at .result) (rows (start p))
+stored : (p : Put) → let s = start p in
+    rowsIn (p .put-row .last .0) (s .args .origins .now) ≡ withRow (s .args .place) (p .before .before .masked-at .result) (rows s)
 stored p =
     let s = start p in
     stored-rows (s .args .origins .now) (s .args .place) (s .pre .0) (s .pre .1) _ (turned p .loop .inv .2) (p .put-row .ensures)
 
 keeps-answer-requires : tie.Need-keeps-answer-requires Inv-loop μ-loop
-unfolding foundIn
+unfolding unflippedIn
 keeps-answer-requires c κs =
     let p = c .before in let s = start p in let l = turned p .before .before .before in (
       record {
@@ -69,7 +70,7 @@ keeps-answer-requires c κs =
         tried = p .before .before .masked-at .result;
         changed = stored p;
       },
-      ap (λ (q : Found). q .checked) (s .pre .2),
+      ap (λ (q : Unflipped). q .checked) (s .pre .2),
     )
 
 -- what is found of its bit

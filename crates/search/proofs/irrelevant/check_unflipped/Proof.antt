@@ -1,14 +1,14 @@
--- `search::irrelevant::find` meets its contract: field by field.
+-- `search::irrelevant::check_unflipped` meets its contract: field by field.
 use borrow.Author.Needs.{needs}
 use mathlib.Core.Path.{sym, ap, _∙_}
 use Rattle.memory.specs.Held.{mask-held}
 use Rattle.checks.specs.Checks.{invlpgbOf, requiredVerdict, invlpgbVerdict}
-use Rattle.search.specs.Irrelevant.{refuses, foundIn}
-use Rattle.search.proofs.irrelevant.find.Statement.{statement}
-use Rattle.search.proofs.irrelevant.find.Tie as tie
+use Rattle.search.specs.Irrelevant.{refuses, unflippedIn}
+use Rattle.search.proofs.irrelevant.check_unflipped.Statement.{statement}
+use Rattle.search.proofs.irrelevant.check_unflipped.Tie as tie
 
 returns : tie.Need-returns
-unfolding foundIn requiredVerdict invlpgbVerdict
+unfolding unflippedIn requiredVerdict invlpgbVerdict
 returns c =
     let mask = c .before in let clear = mask .before in let invlpgb = clear .before in
     let missing = invlpgb .before in let required = missing .before in let sizes = required .before in let s = sizes .before in λ k.
@@ -19,8 +19,8 @@ returns c =
       checked = c .check-rows .ensures k;
     }
 
-pub find-spec : {M : Type 1} → statement M
-find-spec =
+pub check-unflipped-spec : {M : Type 1} → statement M
+check-unflipped-spec =
     tie.close
     (tie.spec
     (λ c κs. search needs)
