@@ -50,8 +50,8 @@ accepted-differs n o m r e f =
 
 module _ (n : ℕ) {m o : Rows} {i : ℕ} (t : TriedAt m o i) where
   -- the row that was there
-  pub tried-there : {a b : CpuidResult} {q : Bool} → a ≡ m i .result → b ≡ o i .result → q ≡ sameResult a b → q ≡ true → true ≡ sameFrom n o m
-  tried-there {a} {b} e f g h =
+  pub judged-there : {a b : CpuidResult} {q : Bool} → a ≡ m i .result → b ≡ o i .result → q ≡ sameResult a b → q ≡ true → true ≡ sameFrom n o m
+  judged-there {a} {b} e f g h =
       let own : b ≡ t .tried = f ∙ ap (λ (q : Rows). q i .result) (t .changed) ∙ put-here i (t .tried) m in
       let here : m i ≡ row (t .tried) =
       (λ k. record { present = t .present k; result = m i .result }) ∙ ap row (sym e ∙ result-equal a b (sym g ∙ h) ∙ own) in
@@ -64,22 +64,22 @@ module _ (n : ℕ) {m o : Rows} {i : ℕ} (t : TriedAt m o i) where
 
   -- k is what the checks find in o, b what they found in m
   module _ {k b : Checked} (e : k ≡ checkedBy (fromInvlpgb o) o) (f : b ≡ checkedRows m) where
-    pub tried-ready : {x size p : ℕ} → k ≡ IsReady x size p → IsReady x size p ≡ checkedRows o
-    tried-ready g = sym g ∙ e ∙ all-checks
+    pub judged-ready : {x size p : ℕ} → k ≡ IsReady x size p → IsReady x size p ≡ checkedRows o
+    judged-ready g = sym g ∙ e ∙ all-checks
 
-    pub tried-refused : {r : Refusal} {v : Verdict} {q : Bool} → k ≡ NotReady r → v ≡ verdictOf b → q ≡ sameVerdict (Refused r) v → q ≡ sameFrom n o m
+    pub judged-refused : {r : Refusal} {v : Verdict} {q : Bool} → k ≡ NotReady r → v ≡ verdictOf b → q ≡ sameVerdict (Refused r) v → q ≡ sameFrom n o m
     unfolding checkedRows
-    tried-refused {r} g h j =
+    judged-refused {r} g h j =
         j ∙ ap (sameVerdict (Refused r)) (h ∙ ap verdictOf f ∙ verdict-of (rowsVerdict m) m)
         ∙ refused-decides n o m r (checked-refuses o (sym g ∙ e ∙ all-checks))
 
-    pub tried-accepted : {x size p : ℕ} {r : Refusal} → k ≡ IsReady x size p → b ≡ NotReady r → false ≡ sameFrom n o m
-    tried-accepted g h = accepted-differs n o m _ (checked-accepts o (tried-ready g)) (checked-refuses m (sym h ∙ f))
+    pub judged-accepted : {x size p : ℕ} {r : Refusal} → k ≡ IsReady x size p → b ≡ NotReady r → false ≡ sameFrom n o m
+    judged-accepted g h = accepted-differs n o m _ (checked-accepts o (judged-ready g)) (checked-refuses m (sym h ∙ f))
 
-    pub tried-finished : {x size p x′ size′ p′ : ℕ} {a c : CpuidResult} {q : Bool} → k ≡ IsReady x size p → b ≡ IsReady x′ size′ p′
+    pub judged-finished : {x size p x′ size′ p′ : ℕ} {a c : CpuidResult} {q : Bool} → k ≡ IsReady x size p → b ≡ IsReady x′ size′ p′
         → a ≡ finished n o i .result → c ≡ finished n m i .result → q ≡ sameResult a c → q ≡ sameFrom n o m
-    tried-finished g h j l u =
+    judged-finished g h j l u =
         u ∙ ap₂ sameResult (j ∙ ap (λ (q : Rows). finished n q i .result) (t .changed)) l
-        ∙ row-decides n i (t .tried) m (t .small) (t .present) (sym (ap rowsVerdict (t .changed)) ∙ checked-accepts o (tried-ready g))
+        ∙ row-decides n i (t .tried) m (t .small) (t .present) (sym (ap rowsVerdict (t .changed)) ∙ checked-accepts o (judged-ready g))
         (checked-accepts m (sym h ∙ f))
         ∙ sym (ap (λ (q : Rows). sameFrom n q m) (t .changed))

@@ -65,7 +65,7 @@ put-twice i x y m = fun-ext (λ j. go j (eqb j i))
 
 -- ---- memory that has the rows m but for place i, where o says that a row is there
 
-pub record Elsewhere (m : Rows) (o w : List ℕ) (i : ℕ) : Type 0 where
+pub record AllBut (m : Rows) (o w : List ℕ) (i : ℕ) : Type 0 where
   pub size : length w ≡ 4 * places
   pub rows : (x : CpuidResult) → withRow i x (rowsIn w o) ≡ withRow i x m
 
@@ -82,12 +82,12 @@ module _ (o : List ℕ) (i : ℕ) (small : i < places) (there : isThere (getD o 
       go j false f = λ k. record { present = isThere (getD o j 0); result = (put-at w i x e small j ∙ pick-false _ _ f) k }
 
   -- a row stored there
-  module _ {m : Rows} {w v : List ℕ} (x : CpuidResult) (d : Elsewhere m o w i) (e : v ≡ Memory.putRow w i x) where
+  module _ {m : Rows} {w v : List ℕ} (x : CpuidResult) (d : AllBut m o w i) (e : v ≡ Memory.putRow w i x) where
     pub stored-rows : rowsIn v o ≡ withRow i x m
     stored-rows = ap (λ (l : List ℕ). rowsIn l o) e ∙ put-row w x (d .size) ∙ d .rows x
 
-    pub stored-elsewhere : Elsewhere m o v i
-    stored-elsewhere = record {
+    pub stored-all-but : AllBut m o v i
+    stored-all-but = record {
       size = ap length e ∙ put-length w i x (d .size) small;
       rows = λ y. ap (withRow i y) stored-rows ∙ put-twice i y x m;
     }

@@ -9,7 +9,7 @@ use Rattle.memory.specs.Memory.{rowsIn}
 use Rattle.search.specs.declared.irrelevant.Unflipped.{Unflipped}
 use Rattle.search.specs.SameVerdict.{sameFrom}
 use Rattle.search.specs.WithRow.{withRow}
-use Rattle.search.specs.WithRowLaws.{Elsewhere, stored-rows, stored-elsewhere}
+use Rattle.search.specs.WithRowLaws.{AllBut, stored-rows, stored-all-but}
 use Rattle.search.specs.Irrelevant.{irrelevant, unflippedIn, irrelevantBy}
 use Rattle.search.specs.SearchReturnLaws.{irrelevant-found, relevant-required}
 use Rattle.search.specs.BitLaws.{firstBit, keeps, keeps-found, bitFrom, bit-first, bit-passes, bit-stops, bit-ends, bit-irrelevant}
@@ -19,7 +19,7 @@ use Rattle.search.proofs.decisive.first_bit.Tie as tie
 abbrev Inv-loop : tie.InvT-loop
 Inv-loop registers origins edition kept place x checked tried₀ n₀ tried n =
     (n ≤ 128) × (firstBit edition (rowsIn registers origins) kept place x ≡ bitFrom edition (rowsIn registers origins) kept place x n)
-    × Elsewhere (rowsIn registers origins) origins tried place
+    × AllBut (rowsIn registers origins) origins tried place
 
 abbrev μ-loop : tie.MeasureT-loop
 μ-loop registers origins edition kept place x checked tried₀ n₀ tried n = 128 - n
@@ -86,7 +86,7 @@ loop-again c =
     let k = c .before in let p = k .before .before in let l = turned p in let s = start p in (
       omega arith,
       l .loop .inv .1 ∙ bit-passes _ _ _ _ _ (l .loop .n) (omega arith) (sym (found k) ∙ c .if2 .taken),
-      stored-elsewhere (s .args .origins .now) (s .args .place) (s .pre .0) (s .pre .1) _ (l .loop .inv .2) (p .put-row .ensures),
+      stored-all-but (s .args .origins .now) (s .args .place) (s .pre .0) (s .pre .1) _ (l .loop .inv .2) (p .put-row .ensures),
     )
 
 returns-2 : tie.Need-returns-2 Inv-loop μ-loop

@@ -3,14 +3,14 @@ use borrow.Author.Needs.{needs}
 use mathlib.Core.Path.{sym, _∙_}
 use Rattle.memory.specs.Memory.{rowsIn}
 use Rattle.rows_finished.specs.AnsweredLaws.{checked-ready}
-use Rattle.search.specs.TriedLaws.{tried-there, tried-refused, tried-accepted, tried-finished, tried-ready}
+use Rattle.search.specs.TriedLaws.{judged-there, judged-refused, judged-accepted, judged-finished, judged-ready}
 use Rattle.search.proofs.decisive.keeps_answer.Statement.{statement}
 use Rattle.search.proofs.decisive.keeps_answer.Tie as tie
 
 returns : tie.Need-returns
 returns c =
     let r = c .before in let b = r .before in let a = b .before in let s = a .before in
-    tried-there (s .args .edition) (s .pre .0) (a .row-at .ensures) (b .row-at2 .ensures) (r .same-result .ensures) (c .if1 .taken)
+    judged-there (s .args .edition) (s .pre .0) (a .row-at .ensures) (b .row-at2 .ensures) (r .same-result .ensures) (c .if1 .taken)
 
 -- where the code started, once the rows are checked
 abbrev start : tie.After-from-invlpgb → tie.Start
@@ -19,13 +19,13 @@ start f = f .before .before .before .before .before
 returns-2 : tie.Need-returns-2
 returns-2 c =
     let v = c .before .before .before in let f = v .before .before in let s = start f in
-    tried-accepted (s .args .edition) (s .pre .0) (f .from-invlpgb .ensures) (s .pre .1) (v .checked2 .given .1) (c .enum-told .given .1)
+    judged-accepted (s .args .edition) (s .pre .0) (f .from-invlpgb .ensures) (s .pre .1) (v .checked2 .given .1) (c .enum-told .given .1)
 
 finished-row-requires : tie.Need-finished-row-requires
 finished-row-requires c κs =
     let v = c .before .before .before .before in let f = v .before .before in let s = start f in
     let r = checked-ready (rowsIn (s .args .tried .now) (s .args .origins .now))
-    (tried-ready (s .args .edition) (s .pre .0) (f .from-invlpgb .ensures) (s .pre .1) (v .checked2 .given .1)) in
+    (judged-ready (s .args .edition) (s .pre .0) (f .from-invlpgb .ensures) (s .pre .1) (v .checked2 .given .1)) in
     (s .pre .0 .small, r .0, r .1)
 
 finished-row-requires-2 : tie.Need-finished-row-requires-2
@@ -37,14 +37,14 @@ finished-row-requires-2 c κs =
 returns-3 : tie.Need-returns-3
 returns-3 c =
     let d = c .before in let v = d .before .before in let f = v .before .before in let s = start f in
-    tried-refused (s .args .edition) (s .pre .0) (f .from-invlpgb .ensures) (s .pre .1) (v .checked .given .1) (d .verdict-of .ensures)
+    judged-refused (s .args .edition) (s .pre .0) (f .from-invlpgb .ensures) (s .pre .1) (v .checked .given .1) (d .verdict-of .ensures)
     (c .same-verdict .ensures)
 
 returns-4 : tie.Need-returns-4
 returns-4 c =
     let b = c .before in let a = b .before in let w = a .before .before in let v = w .before .before .before in
     let f = v .before .before in let s = start f in
-    tried-finished (s .args .edition) (s .pre .0) (f .from-invlpgb .ensures) (s .pre .1) (v .checked2 .given .1) (w .found .given .1)
+    judged-finished (s .args .edition) (s .pre .0) (f .from-invlpgb .ensures) (s .pre .1) (v .checked2 .given .1) (w .found .given .1)
     (a .finished-row .ensures) (b .finished-row2 .ensures) (c .same-result2 .ensures)
 
 pub keeps-answer-spec : {M : Type 1} → statement M
