@@ -1,4 +1,5 @@
-# make            prove the program, build the library and the command, and print the table of the shipped page set
+# make            prove program and library, and build the command: the proved program prints the table of the shipped page set as soon as it is proved,
+#                 and at the end the command does, with names; a line tells of each proved crate how many are left
 # make install    put the command, the header, the library with its pkg-config file, the manual page and the completions below PREFIX, in DESTDIR
 # make uninstall  remove exactly these files
 # make ring0      the library for ring 0, in target/ring0 (docs/EMBEDDING.md)
@@ -40,11 +41,14 @@ $(LIBRARY):
 all: stage
 else
 LIBRARY = target/staticlib/libsnp_cpuid.a
-# what the proved program writes is what the command writes
-all: stage
-	$(kit)@rt check snp_cpuid_image | grep '^rt: '
-	@target/bin/snp_cpuid_image < $(PAGES) > target/epyc-milan.image
-	@$(COMMAND) image $(PAGES) -o - | cmp - target/epyc-milan.image
+# The program's crates are proved first, and no crate twice: what the library needs beyond them goes on beside the first table. What the proved program
+# writes is what the command writes.
+all:
+	$(kit)@install/in-memory install/prove 'snp_cpuid_image=install/first-table $(PAGES)' \
+	    'snp_cpuid=env -u MAKEFLAGS $(MAKE) --silent --no-print-directory $(LIBRARY)'
+	@echo 'proved: the library is $(LIBRARY); cargo builds the command'
+	@$(MAKE) --no-print-directory stage
+	@$(COMMAND) image $(PAGES) -o - | cmp - target/first.image
 endif
 	@$(COMMAND) table $(PAGES)
 
@@ -57,9 +61,9 @@ test:
 clean:
 	rm -rf target
 
-# the library for C and Rust
-target/staticlib/libsnp_cpuid.a: crates.txt $(wildcard crates/*/src/*.rt)
-	$(kit)@mkdir -p target && rt staticlib snp_cpuid > target/staticlib.log || { cat target/staticlib.log; exit 1; }
+# the library for C and Rust, made again after an edit of any source, specification or proof; a folder is newer where a file of it went
+target/staticlib/libsnp_cpuid.a: crates.txt $(shell find crates/*/src crates/*/specs crates/*/proofs 2>/dev/null)
+	$(kit)@install/in-memory install/prove 'snp_cpuid=install/library $(@D)'
 
 # cargo tells what is to be built again
 command: $(LIBRARY)
