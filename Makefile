@@ -3,24 +3,28 @@
 # make install    put the command, the header, the library with its pkg-config file, the manual page and the completions below PREFIX, in DESTDIR
 # make uninstall  remove exactly these files
 # make ring0      the library for ring 0, in target/ring0 (docs/EMBEDDING.md)
-# make dist       an archive of the same with the documents, tried out from an empty folder
+# make dist       an archive of the same with the documents and a file of sums, tried out from an empty folder; the same bytes each time
 # make proved     print what is proved
 # make test       the whole gate: proofs from nothing, must-fail edits, programs, and the tests in tests/
 # make bench      image, build and lookups against plain C by gcc and by clang, as ratios of time, over six link orders, and of instructions;
 #                 and build and lookups by the Rust crate against the same calls from C
 # make bench-rust against the Rust too, with overflow checks and without; OPENVMM_CVM_CPUID names its folder (differential/README.md)
 #
-# SNP_CPUID_LIB=FOLDER takes libsnp_cpuid.a from there, and the Rattle kit is not needed: nothing is proved then.
-.PHONY: all command stage staged install uninstall ring0 dist proved test bench bench-rust clean
+# SNP_CPUID_LIB=FOLDER takes libsnp_cpuid.a from there, and the Rattle kit is not needed: nothing is proved then. It must be the library that was
+# proved at this commit, by its sha256 (install/library.sha256); SNP_CPUID_SUM=SUM takes the one with that sum, as one of other options of a compiler.
+.PHONY: all given-sum command stage staged install uninstall ring0 dist proved test bench bench-rust clean
 
 .DEFAULT_GOAL = all
 # the manual page does not depend on the width of a terminal
 unexport COLUMNS
 PREFIX = /usr/local
 VERSION := $(shell sed -n 's/^version = "\(.*\)"/\1/p' rust/Cargo.toml)
+# the day of the version, which every file of the archive has
+DAY := $(shell sed -n 's/^\#\# .* (\([0-9-]*\))$$/\1/p' CHANGELOG.md | sed 1q)
 PAGES = tests/data/epyc-milan.pages
 COMMAND = target/rust/release/snp-cpuid
 STAGE = target/stage
+SMOKE = install/smoke
 ARCHIVE = snp-cpuid-$(VERSION)-x86_64-linux
 
 # what an installation has, below PREFIX
@@ -38,6 +42,10 @@ ifdef SNP_CPUID_LIB
 LIBRARY = $(SNP_CPUID_LIB)/libsnp_cpuid.a
 $(LIBRARY):
 	$(error there is no $(LIBRARY), where SNP_CPUID_LIB says that it is)
+given-sum: $(LIBRARY)
+	@$(if $(SNP_CPUID_SUM),echo '$(SNP_CPUID_SUM)  $<' | sha256sum --check --status,install/sum $<) || { \
+	    echo 'so it is not the library that was proved at this commit; SNP_CPUID_SUM=SUM takes the one with another sum' >&2; exit 1; }
+command: given-sum
 all: stage
 else
 LIBRARY = target/staticlib/libsnp_cpuid.a
@@ -106,9 +114,11 @@ dist: stage
 	@cp -r rust/Cargo.toml rust/build.rs rust/src target/dist/$(ARCHIVE)/share/snp-cpuid/rust
 	@rm -r target/dist/$(ARCHIVE)/share/snp-cpuid/rust/src/bin
 	@cp -r differential/replacement target/dist/$(ARCHIVE)/share/snp-cpuid/snp_cvm_cpuid
+	@cd target/dist/$(ARCHIVE) && find . -type f | sed 's,^\./,,' | LC_ALL=C sort | xargs sha256sum > ../SHA256SUMS && mv ../SHA256SUMS .
 	@chmod -R u=rwX,go=rX target/dist/$(ARCHIVE)
-	@tar -C target/dist --sort=name --owner=0 --group=0 --numeric-owner -czf target/dist/$(ARCHIVE).tar.gz $(ARCHIVE)
-	@install/smoke target/dist/$(ARCHIVE).tar.gz
+	@tar -C target/dist --sort=name --mtime='$(DAY) 00:00Z' --owner=0 --group=0 --numeric-owner -cf - $(ARCHIVE) | gzip -9n > target/dist/$(ARCHIVE).tar.gz
+	@cd target/dist && sha256sum $(ARCHIVE).tar.gz > $(ARCHIVE).tar.gz.sha256
+	@$(SMOKE) target/dist/$(ARCHIVE).tar.gz
 	@echo target/dist/$(ARCHIVE).tar.gz
 
 bench: target/staticlib/libsnp_cpuid.a
