@@ -1,5 +1,5 @@
-# make            prove program and library, and build the command: the proved program prints the table of the shipped page set as soon as it is proved,
-#                 and at the end the command does, with names; a line tells of each proved crate how many are left
+# make            prove program and library, and build the command: the proved program prints the table of the shipped page set as soon as it is
+#                 proved, and at the end the command does, with names; a line for each proved crate says how many are left
 # make install    put the command, the header, the library with its pkg-config file, the manual page and the completions below PREFIX, in DESTDIR
 # make uninstall  remove exactly these files
 # make ring0      the library for ring 0, in target/ring0 (docs/EMBEDDING.md)
@@ -35,8 +35,8 @@ DOCUMENTS = CHANGELOG.md NOTICE docs/COMMAND.md docs/DIFFERENCES.md docs/EMBEDDI
 found = $(shell command -v $(1))
 kit = $(if $(call found,rt),,$(error no Rattle kit: 'rt' is not on the PATH, so nothing can be proved. With a built library, SNP_CPUID_LIB=FOLDER \
     with libsnp_cpuid.a, 'make', 'make install' and 'make dist' work without it))
-cargo = $(if $(call found,cargo),,$(error no 'cargo' (Debian package cargo, or rustup), which builds the command. From C, include/snp_cpuid.h and \
-    libsnp_cpuid.a are enough))
+cargo = $(if $(call found,cargo),,$(error no 'cargo', which builds the command: Rust 1.85 or newer, by rustup or of Debian 13; Debian 12's is too \
+    old. From C, include/snp_cpuid.h and libsnp_cpuid.a are enough))
 
 ifdef SNP_CPUID_LIB
 LIBRARY = $(SNP_CPUID_LIB)/libsnp_cpuid.a
@@ -49,8 +49,8 @@ command: given-sum
 all: stage
 else
 LIBRARY = target/staticlib/libsnp_cpuid.a
-# The program's crates are proved first, and no crate twice: what the library needs beyond them goes on beside the first table. What the proved program
-# writes is what the command writes.
+# The program's crates are proved first, and no crate twice: what the library needs beyond them goes on beside the first table. What the proved
+# program writes is what the command writes.
 all:
 	$(kit)@install/in-memory install/prove 'snp_cpuid_image=install/first-table $(PAGES)' \
 	    'snp_cpuid=env -u MAKEFLAGS $(MAKE) --silent --no-print-directory $(LIBRARY)'
@@ -116,7 +116,8 @@ dist: stage
 	@cp -r differential/replacement target/dist/$(ARCHIVE)/share/snp-cpuid/snp_cvm_cpuid
 	@cd target/dist/$(ARCHIVE) && find . -type f | sed 's,^\./,,' | LC_ALL=C sort | xargs sha256sum > ../SHA256SUMS && mv ../SHA256SUMS .
 	@chmod -R u=rwX,go=rX target/dist/$(ARCHIVE)
-	@tar -C target/dist --sort=name --mtime='$(DAY) 00:00Z' --owner=0 --group=0 --numeric-owner -cf - $(ARCHIVE) | gzip -9n > target/dist/$(ARCHIVE).tar.gz
+	@tar -C target/dist --sort=name --mtime='$(DAY) 00:00Z' --owner=0 --group=0 --numeric-owner -cf - $(ARCHIVE) \
+	    | gzip -9n > target/dist/$(ARCHIVE).tar.gz
 	@cd target/dist && sha256sum $(ARCHIVE).tar.gz > $(ARCHIVE).tar.gz.sha256
 	@$(SMOKE) target/dist/$(ARCHIVE).tar.gz
 	@echo target/dist/$(ARCHIVE).tar.gz

@@ -1,5 +1,5 @@
-//! Links the proved static library. `SNP_CPUID_LIB` names a folder that has libsnp_cpuid.a; without it the repository's own is taken, and `make` proves
-//! and builds it where it is not there yet, or older than a source, a specification or a proof.
+//! Links the proved static library. `SNP_CPUID_LIB` names a folder that has libsnp_cpuid.a; without it the repository's own is taken, and `make`
+//! proves and builds it where it is not there yet, or older than a source, a specification or a proof.
 
 use std::path::{Path, PathBuf};
 use std::process::{Command, exit};

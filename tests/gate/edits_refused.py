@@ -4,9 +4,9 @@
 An edit shows something only where what it says is what cannot be proved. An error about a name, a line that cannot be read, an import, or a proof
 that no longer fits the shape of the code would also come of an edit that changes nothing. Prints each edit whose first error is such a one.
 
-A file may hold several edits, each under a comment that opens with its name and with a line `at: FILE` or `at: FILE DECLARATION`: one check then tries
-them all. Such an edit must be refused at a fact of its own, in the file of the crate that it names or in that declaration of it, and no two of them
-name one place.
+A file may hold several edits, each under a comment that opens with its name and with a line `at: FILE` or `at: FILE DECLARATION`: one check then
+tries them all. Such an edit must be refused at a fact of its own, in the file of the crate that it names or in that declaration of it, and no two of
+them name one place.
 """
 from collections import Counter
 from pathlib import Path

@@ -118,8 +118,8 @@ class Dist(unittest.TestCase):
         self.assertTrue((ROOT / name).is_file(), name)
 
     def test_a_broken_archive_is_found(self):
-        """One without the header, one whose command is of another version, one whose manual page is old, each with sums that fit; and two whose sums do
-        not."""
+        """One without the header, one whose command is of another version, one whose manual page is old, each with sums that fit; and two whose sums
+        do not."""
         name = self.name
         fit = '; find . -type f ! -name SHA256SUMS | xargs sha256sum >sums; mv sums SHA256SUMS'
         damages = ('rm include/snp_cpuid.h' + fit, 'sed -i s/^Version:.*/Version:/ lib/pkgconfig/snp_cpuid.pc' + fit,
@@ -186,11 +186,11 @@ class Missing(unittest.TestCase):
 
     def test_a_given_library_needs_no_kit(self):
         with tempfile.TemporaryDirectory() as folder:
-            shutil.copy(ROOT / 'target' / 'staticlib' / 'libsnp_cpuid.a', folder)
             # a kit that does not work, before any other
             Path(folder, 'rt').write_text('#!/bin/sh\necho rt was called >&2\nexit 1\n')
             Path(folder, 'rt').chmod(0o755)
-            ran = make(f'SNP_CPUID_LIB={folder}', path=f'{folder}{os.pathsep}{os.environ["PATH"]}')
+            # the repository's own folder is given as any other is, and cargo has the command built for it
+            ran = make(f'SNP_CPUID_LIB={ROOT}/target/staticlib', path=f'{folder}{os.pathsep}{os.environ["PATH"]}')
         self.assertEqual((ran.returncode, ran.stderr), (0, ''))
         self.assertTrue(ran.stdout.startswith('leaf '), ran.stdout)
 

@@ -132,7 +132,8 @@ class Prove(unittest.TestCase):
         (self.root / 'crates.txt').write_text(LINES.replace('program: base left io\n', ''))
         rt = [shutil.which('rt'), 'check', 'above']
         self.prove('long')
-        said = subprocess.run(rt, cwd=self.root, env=self.environment, stdout=subprocess.PIPE, stderr=subprocess.STDOUT, text=True, check=False).stdout
+        ran = subprocess.run(rt, cwd=self.root, env=self.environment, stdout=subprocess.PIPE, stderr=subprocess.STDOUT, text=True, check=False)
+        said = ran.stdout
         self.assertEqual(self.asked.read_text().split(), ['base', 'long', 'above'], said)
         self.assertIn('rt: long proved (unchanged since it was last proved)', said)
         self.assertEqual(self.prove('above')[2], [])

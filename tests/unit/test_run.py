@@ -1,4 +1,4 @@
-"""Tests of the gate's own script, tests/run, with commands in place of rt, python3, cargo, gcc, make, nm and cpuid that print what a case asks for."""
+"""Tests of the gate's own script, tests/run, with commands in place of rt, python3, gcc, make, nm and cpuid that print what a case asks for."""
 from pathlib import Path
 import os
 import shutil
@@ -37,20 +37,21 @@ class Gate(unittest.TestCase):
             for name in 'bin', 'repository/differential', 'repository/target', 'repository/crates/one/src':
                 Path(folder, name).mkdir(parents=True)
             (root / 'crates.txt').write_text('one:\n')
-            for name, script in {f'bin/{name}': script for name, script in commands.items()}.items() | {
-                    ('repository/tests/gate/kvm_header', f'echo {SAME} rows')}:
+            scripts = {f'bin/{name}': script for name, script in commands.items()}
+            scripts |= {'repository/tests/gate/kvm_header': f'echo {SAME} rows', 'repository/install/sum': 'true'}
+            for name, script in scripts.items():
                 path = Path(folder, name)
                 path.parent.mkdir(parents=True, exist_ok=True)
                 path.write_text(f'#!/bin/sh\n{script}\n')
                 path.chmod(0o755)
-            (root / 'install').mkdir()
             shutil.copy(ROOT / 'tests/run', root / 'tests')
             shutil.copy(ROOT / 'install/in-memory', root / 'install')
             (root / 'tests/parts.txt').write_text(parts())
             self.before(root)
             environment = {**os.environ, 'PATH': f'{bin_folder}:{os.environ["PATH"]}', 'OPENVMM_CVM_CPUID': '',
                            'KVM_DEVICE': str(bin_folder if kvm else bin_folder / 'none')}
-            ran = subprocess.run([root / 'tests/run', *words], env=environment, stdout=subprocess.PIPE, stderr=subprocess.STDOUT, text=True, check=False)
+            ran = subprocess.run([root / 'tests/run', *words], env=environment, stdout=subprocess.PIPE, stderr=subprocess.STDOUT, text=True,
+                                 check=False)
             self.counted = (root / 'target/parts.txt').read_text() if (root / 'target/parts.txt').exists() else None
             self.kept = (root / 'target').is_dir() and {path.name for path in (root / 'target').iterdir()}
             return ran.returncode, ran.stdout.splitlines()
@@ -69,7 +70,8 @@ class Gate(unittest.TestCase):
         for number in SAME - 1, SAME + 1:
             status, lines = self.run_gate(f'{number} tests ran')
             self.assertEqual((status, lines[-1]), (1, f'{TESTS - PYTHON + 7} passed, {PYTHON} failed'))
-            self.assertIn(f'vectors: failed: it has {number} parts, and tests/parts.txt says {SAME}. If that is right, write: {number} vectors', lines)
+            said = f'vectors: failed: it has {number} parts, and tests/parts.txt says {SAME}. If that is right, write: {number} vectors'
+            self.assertIn(said, lines)
             self.assertIn(f'{number} vectors\n', self.counted)
 
     def test_a_test_that_does_not_say_fails(self):
@@ -94,7 +96,8 @@ class Gate(unittest.TestCase):
         skipped = "skipped: Debian's cpuid is not installed\n" * 2 + "..skipped: Debian's jq is not installed (apt-get install jq)\n" \
             + "test_x (a.b) ... skipped 'fish is not installed'\n"
         _, lines = self.run_gate(said=f'{skipped}{SAME - 4} tests ran, 4 passed over')
-        for said in ("vectors: 2 of them, as Debian's cpuid is there and fails: cpuid: no such device", 'vectors: 1 of them, as fish is not installed'):
+        for said in ("vectors: 2 of them, as Debian's cpuid is there and fails: cpuid: no such device",
+                     'vectors: 1 of them, as fish is not installed'):
             self.assertIn(said, lines[-2].split('passed over: ')[1].split('; '))
 
     def test_without_kvm(self):
