@@ -120,7 +120,7 @@ class Prove(unittest.TestCase):
         self.assertEqual((status, asked), (0, ['base', 'left', 'long']))
 
     def test_bad_words(self):
-        for words, environment in ([], {}), (['nobody'], {}), (['base'], {'RT_JOBS': 'x'}), (['base'], {'RT_JOBS': '0'}):
+        for words, environment in ([], {}), (['nobody'], {}), (['program'], {}), (['base'], {'RT_JOBS': 'x'}), (['base'], {'RT_JOBS': '0'}):
             status, lines, asked = self.prove(*words, **environment)
             self.assertEqual((status, asked), (2, []), lines)
         self.assertEqual(self.prove('--help')[0], 0)
