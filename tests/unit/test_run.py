@@ -150,8 +150,8 @@ class Gate(unittest.TestCase):
 
     def test_lines_come_one_by_one_into_a_file(self):
         """The line of a crate, and that of a test, are there while rt still works."""
-        seen = 'for i in $(seq 200); do grep -q "^lines: " "$SAID" && grep -q "one proved" "$SAID" && break; sleep 0.1; done; ' \
-            'echo "rt: seen $(grep -c "^lines: " "$SAID")"'
+        seen = 'for i in $(seq 600); do grep -q "^Python tests: " "$SAID" && grep -q "one proved" "$SAID" && break; sleep 0.1; done; ' \
+            'echo "rt: seen $(grep -c "^Python tests: " "$SAID")"'
         with tempfile.NamedTemporaryFile('r') as said:
             os.environ['SAID'] = said.name
             self.addCleanup(os.environ.pop, 'SAID')
