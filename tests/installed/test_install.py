@@ -140,7 +140,7 @@ class Missing(unittest.TestCase):
         """A PATH with the usual small tools and these."""
         folder = tempfile.TemporaryDirectory()
         self.addCleanup(folder.cleanup)
-        for tool in 'sh', 'sed', 'make', 'true', 'rm', 'mkdir', 'cut', 'dirname', 'find', 'readlink', 'sha256sum', *tools:
+        for tool in 'sh', 'sed', 'make', 'true', 'rm', 'mkdir', 'cut', 'dirname', 'find', 'grep', 'readlink', 'sha256sum', 'xargs', *tools:
             Path(folder.name, tool).symlink_to(shutil.which(tool))
         return folder.name
 
@@ -167,7 +167,7 @@ class Missing(unittest.TestCase):
             ran = make('given-sum', f'SNP_CPUID_LIB={folder}')
             self.assertNotEqual(ran.returncode, 0)
             wanted = (ROOT / 'install' / 'library.sha256').read_text().split()[0]
-            self.assertIn(f'{library} has the sha256 {sha256(library)}, and install/library.sha256 has {wanted}\n', ran.stderr)
+            self.assertIn(f'{library} has the sha256 {sha256(library)}, and install/library.sha256 has {wanted}', ran.stderr)
             self.assertIn('SNP_CPUID_SUM=SUM', ran.stderr)
             self.assertEqual(make('given-sum', f'SNP_CPUID_LIB={folder}', f'SNP_CPUID_SUM={sha256(library)}').returncode, 0)
             self.assertNotEqual(make('given-sum', f'SNP_CPUID_LIB={folder}', f'SNP_CPUID_SUM={wanted}').returncode, 0)
