@@ -38,6 +38,9 @@ kit = $(if $(call found,rt),,$(error no Rattle kit: 'rt' is not on the PATH, so 
 cargo = $(if $(call found,cargo),,$(error no 'cargo', which builds the command: Rust 1.85 or newer, by rustup or of Debian 13; Debian 12's is too \
     old. From C, include/snp_cpuid.h and libsnp_cpuid.a are enough))
 
+# builds the library of the proved crates
+BUILD = install/library target/staticlib
+
 ifdef SNP_CPUID_LIB
 LIBRARY = $(SNP_CPUID_LIB)/libsnp_cpuid.a
 $(LIBRARY):
@@ -53,7 +56,7 @@ LIBRARY = target/staticlib/libsnp_cpuid.a
 # program writes is what the command writes.
 all:
 	$(kit)@install/in-memory install/prove 'snp_cpuid_image=install/first-table $(PAGES)' \
-	    'snp_cpuid=env -u MAKEFLAGS $(MAKE) --silent --no-print-directory $(LIBRARY)'
+	    'snp_cpuid=env -u MAKEFLAGS $(MAKE) --question --no-print-directory $(LIBRARY) || $(BUILD)'
 	@echo 'proved: the library is $(LIBRARY); cargo builds the command'
 	@$(MAKE) --no-print-directory stage
 	@$(COMMAND) image $(PAGES) -o - | cmp - target/first.image
@@ -71,7 +74,7 @@ clean:
 
 # the library for C and Rust, made again after an edit of any source, specification or proof; a folder is newer where a file of it went
 target/staticlib/libsnp_cpuid.a: crates.txt $(shell find crates/*/src crates/*/specs crates/*/proofs 2>/dev/null)
-	$(kit)@install/in-memory install/prove 'snp_cpuid=install/library $(@D)'
+	$(kit)@install/in-memory install/prove 'snp_cpuid=$(BUILD)'
 
 # cargo tells what is to be built again
 command: $(LIBRARY)
