@@ -1,25 +1,30 @@
-# make            prove the program, build the library and the command, and print the table of the shipped page set
+# make            prove program and library, and build the command: the proved program prints the table of the shipped page set as soon as it is
+#                 proved, and at the end the command does, with names; a line for each proved crate says how many are left
 # make install    put the command, the header, the library with its pkg-config file, the manual page and the completions below PREFIX, in DESTDIR
 # make uninstall  remove exactly these files
 # make ring0      the library for ring 0, in target/ring0 (docs/EMBEDDING.md)
-# make dist       an archive of the same with the documents, tried out from an empty folder
+# make dist       an archive of the same with the documents and a file of sums, tried out from an empty folder; the same bytes each time
 # make proved     print what is proved
 # make test       the whole gate: proofs from nothing, must-fail edits, programs, and the tests in tests/
 # make bench      image, build and lookups against the best C that we can write, by gcc and by clang, as ratios of instructions and of time over six
 #                 link orders; build and lookups by the Rust crate against the same calls from C; and the nearest bit
 # make bench-rust against the Rust too, with overflow checks and without; OPENVMM_CVM_CPUID names its folder (differential/README.md)
 #
-# SNP_CPUID_LIB=FOLDER takes libsnp_cpuid.a from there, and the Rattle kit is not needed: nothing is proved then.
-.PHONY: all command stage staged install uninstall ring0 dist proved test bench bench-rust clean
+# SNP_CPUID_LIB=FOLDER takes libsnp_cpuid.a from there, and the Rattle kit is not needed: nothing is proved then. It must be the library that was
+# proved at this commit, by its sha256 (install/library.sha256); SNP_CPUID_SUM=SUM takes the one with that sum, as one of other options of a compiler.
+.PHONY: all given-sum command stage staged install uninstall ring0 dist proved test bench bench-rust clean
 
 .DEFAULT_GOAL = all
 # the manual page does not depend on the width of a terminal
 unexport COLUMNS
 PREFIX = /usr/local
 VERSION := $(shell sed -n 's/^version = "\(.*\)"/\1/p' rust/Cargo.toml)
+# the day of the version, which every file of the archive has
+DAY := $(shell sed -n 's/^\#\# .* (\([0-9-]*\))$$/\1/p' CHANGELOG.md | sed 1q)
 PAGES = tests/data/epyc-milan.pages
 COMMAND = target/rust/release/snp-cpuid
 STAGE = target/stage
+SMOKE = install/smoke
 ARCHIVE = snp-cpuid-$(VERSION)-x86_64-linux
 
 # what an installation has, below PREFIX
@@ -30,21 +35,31 @@ DOCUMENTS = CHANGELOG.md NOTICE docs/COMMAND.md docs/DIFFERENCES.md docs/EMBEDDI
 found = $(shell command -v $(1))
 kit = $(if $(call found,rt),,$(error no Rattle kit: 'rt' is not on the PATH, so nothing can be proved. With a built library, SNP_CPUID_LIB=FOLDER \
     with libsnp_cpuid.a, 'make', 'make install' and 'make dist' work without it))
-cargo = $(if $(call found,cargo),,$(error no 'cargo' (Debian package cargo, or rustup), which builds the command. From C, include/snp_cpuid.h and \
-    libsnp_cpuid.a are enough))
+cargo = $(if $(call found,cargo),,$(error no 'cargo', which builds the command: Rust 1.85 or newer, by rustup or of Debian 13; Debian 12's is too \
+    old. From C, include/snp_cpuid.h and libsnp_cpuid.a are enough))
+
+# builds the library of the proved crates
+BUILD = install/library target/staticlib
 
 ifdef SNP_CPUID_LIB
 LIBRARY = $(SNP_CPUID_LIB)/libsnp_cpuid.a
 $(LIBRARY):
 	$(error there is no $(LIBRARY), where SNP_CPUID_LIB says that it is)
+given-sum: $(LIBRARY)
+	@$(if $(SNP_CPUID_SUM),echo '$(SNP_CPUID_SUM)  $<' | sha256sum --check --status,install/sum $<) || { \
+	    echo 'so it is not the library that was proved at this commit; SNP_CPUID_SUM=SUM takes the one with another sum' >&2; exit 1; }
+command: given-sum
 all: stage
 else
 LIBRARY = target/staticlib/libsnp_cpuid.a
-# what the proved program writes is what the command writes
-all: stage
-	$(kit)@rt check snp_cpuid_image | grep '^rt: '
-	@target/bin/snp_cpuid_image < $(PAGES) > target/epyc-milan.image
-	@$(COMMAND) image $(PAGES) -o - | cmp - target/epyc-milan.image
+# The program's crates are proved first, and no crate twice: what the library needs beyond them goes on beside the first table. What the proved
+# program writes is what the command writes.
+all:
+	$(kit)@install/in-memory install/prove 'snp_cpuid_image=install/first-table $(PAGES)' \
+	    'snp_cpuid=env -u MAKEFLAGS $(MAKE) --question --no-print-directory $(LIBRARY) || $(BUILD)'
+	@echo 'proved: the library is $(LIBRARY); cargo builds the command'
+	@$(MAKE) --no-print-directory stage
+	@$(COMMAND) image $(PAGES) -o - | cmp - target/first.image
 endif
 	@$(COMMAND) table $(PAGES)
 
@@ -57,9 +72,9 @@ test:
 clean:
 	rm -rf target
 
-# the library for C and Rust
-target/staticlib/libsnp_cpuid.a: crates.txt $(wildcard crates/*/src/*.rt)
-	$(kit)@mkdir -p target && rt staticlib snp_cpuid > target/staticlib.log || { cat target/staticlib.log; exit 1; }
+# the library for C and Rust, made again after an edit of any source, specification or proof; a folder is newer where a file of it went
+target/staticlib/libsnp_cpuid.a: crates.txt $(shell find crates/*/src crates/*/specs crates/*/proofs 2>/dev/null)
+	$(kit)@install/in-memory install/prove 'snp_cpuid=$(BUILD)'
 
 # cargo tells what is to be built again
 command: $(LIBRARY)
@@ -102,9 +117,12 @@ dist: stage
 	@cp -r rust/Cargo.toml rust/build.rs rust/src target/dist/$(ARCHIVE)/share/snp-cpuid/rust
 	@rm -r target/dist/$(ARCHIVE)/share/snp-cpuid/rust/src/bin
 	@cp -r differential/replacement target/dist/$(ARCHIVE)/share/snp-cpuid/snp_cvm_cpuid
+	@cd target/dist/$(ARCHIVE) && find . -type f | sed 's,^\./,,' | LC_ALL=C sort | xargs sha256sum > ../SHA256SUMS && mv ../SHA256SUMS .
 	@chmod -R u=rwX,go=rX target/dist/$(ARCHIVE)
-	@tar -C target/dist --sort=name --owner=0 --group=0 --numeric-owner -czf target/dist/$(ARCHIVE).tar.gz $(ARCHIVE)
-	@install/smoke target/dist/$(ARCHIVE).tar.gz
+	@tar -C target/dist --sort=name --mtime='$(DAY) 00:00Z' --owner=0 --group=0 --numeric-owner -cf - $(ARCHIVE) \
+	    | gzip -9n > target/dist/$(ARCHIVE).tar.gz
+	@cd target/dist && sha256sum $(ARCHIVE).tar.gz > $(ARCHIVE).tar.gz.sha256
+	@$(SMOKE) target/dist/$(ARCHIVE).tar.gz
 	@echo target/dist/$(ARCHIVE).tar.gz
 
 bench: $(LIBRARY)

@@ -1,40 +1,24 @@
-//! Links the proved static library. `SNP_CPUID_LIB` names a folder that has libsnp_cpuid.a; without it the repository's own is taken, and built by
-//! `rt staticlib snp_cpuid` where it is not there yet or a source of it is newer.
+//! Links the proved static library. `SNP_CPUID_LIB` names a folder that has libsnp_cpuid.a; without it the repository's own is taken, and `make`
+//! proves and builds it where it is not there yet, or older than a source, a specification or a proof.
 
-use std::fs;
-use std::io;
 use std::path::{Path, PathBuf};
 use std::process::{Command, exit};
-use std::time::SystemTime;
 
 fn fail(text: String) -> ! {
     eprintln!("snp-cpuid: {text}");
     exit(1)
 }
 
-fn build(repository: &Path) {
-    match Command::new("rt").args(["staticlib", "snp_cpuid"]).current_dir(repository).status() {
+/// The library of the repository, made again where it is stale: the Makefile knows of what it is made.
+fn make(repository: &Path, library: &str) {
+    let mut make = Command::new("make");
+    // cargo may itself run under make, whose words are not for this one
+    make.args(["--silent", "--no-print-directory", library]).env_remove("MAKEFLAGS").env_remove("MFLAGS");
+    match make.current_dir(repository).status() {
         Ok(status) if status.success() => {}
-        Ok(status) => fail(format!("`rt staticlib snp_cpuid` ended with {status}")),
-        Err(error) => fail(format!("`rt` cannot be started ({error}): install the Rattle kit, or set SNP_CPUID_LIB to a folder with libsnp_cpuid.a")),
+        Ok(status) => fail(format!("`make {library}` ended with {status}; or set SNP_CPUID_LIB to a folder with libsnp_cpuid.a")),
+        Err(error) => fail(format!("`make` cannot be started ({error}): install it, or set SNP_CPUID_LIB to a folder with libsnp_cpuid.a")),
     }
-}
-
-/// The time of the newest source of the library: crates.txt, and crates/*/src.
-fn newest_source(repository: &Path) -> io::Result<SystemTime> {
-    let mut newest = fs::metadata(repository.join("crates.txt"))?.modified()?;
-    for krate in fs::read_dir(repository.join("crates"))? {
-        for source in fs::read_dir(krate?.path().join("src"))? {
-            newest = newest.max(source?.metadata()?.modified()?);
-        }
-    }
-    Ok(newest)
-}
-
-/// Whether the library is there and no source is newer.
-fn fresh(library: &Path, repository: &Path) -> bool {
-    let made = fs::metadata(library).and_then(|there| there.modified());
-    matches!((made, newest_source(repository)), (Ok(made), Ok(newest)) if made >= newest)
 }
 
 fn main() {
@@ -43,13 +27,10 @@ fn main() {
         Some(given) => PathBuf::from(given),
         None => {
             let repository = Path::new(env!("CARGO_MANIFEST_DIR")).join("..");
-            let folder = repository.join("target/staticlib");
             println!("cargo::rerun-if-changed={}", repository.join("crates").display());
             println!("cargo::rerun-if-changed={}", repository.join("crates.txt").display());
-            if !fresh(&folder.join("libsnp_cpuid.a"), &repository) {
-                build(&repository);
-            }
-            folder
+            make(&repository, "target/staticlib/libsnp_cpuid.a");
+            repository.join("target/staticlib")
         }
     };
     let library = folder.join("libsnp_cpuid.a");

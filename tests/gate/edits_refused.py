@@ -4,9 +4,11 @@
 An edit shows something only where what it says is what cannot be proved. An error about a name, a line that cannot be read, an import, or a proof
 that no longer fits the shape of the code would also come of an edit that changes nothing. Prints each edit whose first error is such a one.
 
-A file may hold several edits, each under a comment that opens with its name and with a line `at: FILE`: one check then tries them all. Such an edit
-must be refused at a fact of its own, in the file of the crate that it names, and no two of them name one file.
+A file may hold several edits, each under a comment that opens with its name and with a line `at: FILE` or `at: FILE DECLARATION`: one check then
+tries them all. Such an edit must be refused at a fact of its own, in the file of the crate that it names or in that declaration of it, and no two of
+them name one place.
 """
+from collections import Counter
 from pathlib import Path
 import re
 import sys
@@ -33,21 +35,22 @@ NO_FACT = (
 )
 
 
-def anywhere(path):
+def anywhere(path, message):
     return True
 
 
-def within(file):
-    """Whether a path of a log is that file of the crate."""
-    return lambda path: path.endswith('/' + file)
+def within(place):
+    """Whether an error of a log stands in that file of the crate, or in that declaration of the file."""
+    file, _, declaration = place.partition(' ')
+    return lambda path, message: path.endswith('/' + file) and (not declaration or message.startswith(f'`{declaration}`: '))
 
 
 def no_fact(text, own=anywhere):
     """Why the first error of a log, of those that are its own, is no fact that is refused, with that error; None where it is a fact."""
-    errors = (message for path, message in ERROR.findall(text) if own(path))
+    errors = (message for path, message in ERROR.findall(text) if own(path, message))
     first = next((message for message in errors if not REPEATS.match(message)), None)
     if first is None:
-        return None if any(map(own, UNPROVED.findall(text))) else ('no error', '')
+        return None if any(own(path, '') for path in UNPROVED.findall(text)) else ('no error', '')
     line = first.split('\n')[0]
     inside = DECLARATION.match(line)
     if OTHER_NEED.search(first):
@@ -62,7 +65,7 @@ def no_fact(text, own=anywhere):
 
 
 def sections(path):
-    """[(name, comment, file that it must be refused at, or None)] of the edits that a file holds: each opens with a comment. Where there is one it has
+    """[(name, comment, place that it must be refused at, or None)] of the edits that a file holds: each opens with a comment. Where there is one it has
     the file's name, and may be refused anywhere."""
     found = []
     for line in path.read_text(encoding='utf-8').splitlines():
@@ -79,8 +82,11 @@ def sections(path):
     found = [(' '.join(comment), at) for comment, at, changes in found if changes]
     if len(found) == 1:
         return [(path.stem, *found[0])]
-    if len({at for _, at in found}) < len(found) or any(not at or ': ' not in comment for comment, at in found):
-        raise ValueError(f'{path}: of several edits in a file each has a name, and a file of its own to be refused at')
+    places = [at for _, at in found]
+    # a file without a declaration is the only one of that file
+    files = Counter(at.split(' ')[0] for at in places if at)
+    if len(set(places)) < len(places) or any(not at or ' ' not in at and files[at] > 1 or ': ' not in comment for comment, at in found):
+        raise ValueError(f'{path}: of several edits in a file each has a name, and a place of its own to be refused at')
     return [(*comment.split(': ', 1), at) for comment, at in found]
 
 

@@ -16,7 +16,8 @@ A word in capitals, * and .. in a path stand for any name (crates/NAME/must-fail
 gone: docs/CHANGES.md tells what has moved away, and only its links are checked; docs/DECISIONS.md tells what was not chosen, and its other names are
 not checked.
 
-Each thing that is not there is a line FILE:LINE: what. The last line is 'N names are there', and the exit status is 0 only where none is missing.
+Each thing that is not there is a line FILE:LINE: what. The last line counts the documents and the names that are there, and the exit status is 0 only
+where none is missing.
 """
 from functools import cache
 from pathlib import Path
@@ -284,7 +285,9 @@ def main(words):
         reading.read(path)
     for line in reading.missing:
         print(line)
-    print(f'{reading.count} names are there' + (f', {len(reading.missing)} are not' if reading.missing else ''))
+    documents = sum(not path.startswith('crates/') for path in reading.files())
+    print(f'{documents} documents and the comments of the crates: {reading.count} names are there'
+          + (f', {len(reading.missing)} are not' if reading.missing else ''))
     return 1 if reading.missing else 0
 
 

@@ -1,5 +1,6 @@
 """`make install`, `make uninstall` and `make dist`: what is there afterwards, that it works, and what make says where a tool is missing."""
 from pathlib import Path
+import hashlib
 import os
 import re
 import shutil
@@ -86,10 +87,29 @@ class Install(unittest.TestCase):
         self.assertEqual(files(tree.destination), set())
 
 
+def sha256(path):
+    return hashlib.sha256(Path(path).read_bytes()).hexdigest()
+
+
 class Dist(unittest.TestCase):
+    name = f'snp-cpuid-{version()}-x86_64-linux'
+    archive = ROOT / 'target' / 'dist' / f'{name}.tar.gz'
+
     @classmethod
     def setUpClass(cls):
+        make('dist', 'SMOKE=:')
+        cls.first = cls.archive.is_file() and sha256(cls.archive)
         cls.ran = make('dist')
+
+    def test_the_same_archive_twice_with_its_sum(self):
+        self.assertEqual(sha256(self.archive), self.first)
+        self.assertEqual(Path(f'{self.archive}.sha256').read_text(), f'{self.first}  {self.archive.name}\n')
+
+    def test_the_archive_has_the_sum_of_every_file(self):
+        folder = ROOT / 'target' / 'dist' / self.name
+        lines = (folder / 'SHA256SUMS').read_text().splitlines()
+        self.assertEqual({line.split('  ', 1)[1]: line.split()[0] for line in lines},
+                         {name: sha256(folder / name) for name in files(folder) - {'SHA256SUMS'}})
 
     def test_the_archive_is_tried_out(self):
         self.assertEqual(self.ran.returncode, 0, self.ran.stderr)
@@ -98,9 +118,12 @@ class Dist(unittest.TestCase):
         self.assertTrue((ROOT / name).is_file(), name)
 
     def test_a_broken_archive_is_found(self):
-        """One without the header, one whose command is of another version, one whose manual page is old."""
-        name = f'snp-cpuid-{version()}-x86_64-linux'
-        damages = 'rm include/snp_cpuid.h', 'sed -i s/^Version:.*/Version:/ lib/pkgconfig/snp_cpuid.pc', 'echo >>share/man/man1/snp-cpuid.1'
+        """One without the header, one whose command is of another version, one whose manual page is old, each with sums that fit; and two whose sums
+        do not."""
+        name = self.name
+        fit = '; find . -type f ! -name SHA256SUMS | xargs sha256sum >sums; mv sums SHA256SUMS'
+        damages = ('rm include/snp_cpuid.h' + fit, 'sed -i s/^Version:.*/Version:/ lib/pkgconfig/snp_cpuid.pc' + fit,
+                   'echo >>share/man/man1/snp-cpuid.1' + fit, 'echo >>share/doc/snp-cpuid/NOTICE', 'touch share/doc/snp-cpuid/MORE')
         for damage in damages:
             with tempfile.TemporaryDirectory() as folder:
                 shutil.copytree(ROOT / 'target' / 'dist' / name, Path(folder, name))
@@ -117,7 +140,7 @@ class Missing(unittest.TestCase):
         """A PATH with the usual small tools and these."""
         folder = tempfile.TemporaryDirectory()
         self.addCleanup(folder.cleanup)
-        for tool in 'sh', 'sed', 'make', 'true', 'rm', 'mkdir', *tools:
+        for tool in 'sh', 'sed', 'make', 'true', 'rm', 'mkdir', 'cut', 'dirname', 'find', 'grep', 'readlink', 'sha256sum', 'xargs', *tools:
             Path(folder.name, tool).symlink_to(shutil.which(tool))
         return folder.name
 
@@ -136,6 +159,19 @@ class Missing(unittest.TestCase):
     def test_without_the_library(self):
         self.assertIn('there is no /nowhere/libsnp_cpuid.a', self.one_line(make('SNP_CPUID_LIB=/nowhere')))
 
+    def test_a_library_with_another_sum(self):
+        """An older one, or one of other options of a compiler, is not taken unless its sum is named."""
+        with tempfile.TemporaryDirectory() as folder:
+            library = Path(folder, 'libsnp_cpuid.a')
+            library.write_bytes((ROOT / 'target' / 'staticlib' / 'libsnp_cpuid.a').read_bytes() + b'\n')
+            ran = make('given-sum', f'SNP_CPUID_LIB={folder}')
+            self.assertNotEqual(ran.returncode, 0)
+            wanted = (ROOT / 'install' / 'library.sha256').read_text().split()[0]
+            self.assertIn(f'{library} has the sha256 {sha256(library)}, and install/library.sha256 has {wanted}', ran.stderr)
+            self.assertIn('SNP_CPUID_SUM=SUM', ran.stderr)
+            self.assertEqual(make('given-sum', f'SNP_CPUID_LIB={folder}', f'SNP_CPUID_SUM={sha256(library)}').returncode, 0)
+            self.assertNotEqual(make('given-sum', f'SNP_CPUID_LIB={folder}', f'SNP_CPUID_SUM={wanted}').returncode, 0)
+
     def test_without_cargo(self):
         said = self.one_line(make('command', f'SNP_CPUID_LIB={ROOT}/target/staticlib', path=self.only()))
         self.assertIn("no 'cargo'", said)
@@ -150,11 +186,11 @@ class Missing(unittest.TestCase):
 
     def test_a_given_library_needs_no_kit(self):
         with tempfile.TemporaryDirectory() as folder:
-            shutil.copy(ROOT / 'target' / 'staticlib' / 'libsnp_cpuid.a', folder)
             # a kit that does not work, before any other
             Path(folder, 'rt').write_text('#!/bin/sh\necho rt was called >&2\nexit 1\n')
             Path(folder, 'rt').chmod(0o755)
-            ran = make(f'SNP_CPUID_LIB={folder}', path=f'{folder}{os.pathsep}{os.environ["PATH"]}')
+            # the repository's own folder is given as any other is, and cargo has the command built for it
+            ran = make(f'SNP_CPUID_LIB={ROOT}/target/staticlib', path=f'{folder}{os.pathsep}{os.environ["PATH"]}')
         self.assertEqual((ran.returncode, ran.stderr), (0, ''))
         self.assertTrue(ran.stdout.startswith('leaf '), ran.stdout)
 

@@ -118,6 +118,17 @@ class Folder(unittest.TestCase):
             status, lines = self.answer(added=log(FACTS[0]), several=self.SECOND + at('proofs/first/Proof.antt', error) + self.FIRST)
             self.assertEqual((status, lines[0].split(': ')[:2]), (1, ['bits/one_more', why]))
 
+    def test_each_of_several_is_held_to_its_own_declaration(self):
+        several = SEVERAL.replace('at: proofs/first/Proof.antt', 'at: specs/Laws.antt returns').replace('at: specs/Laws.antt\n', 'at: specs/Laws.antt low\n')
+        repository = {**REPOSITORY, 'crates/bits/must-fail/several.edit': several}
+
+        def said(*errors):
+            return self.answer(repository, added=log(FACTS[0]), several=''.join(at('specs/Laws.antt', error) for error in errors))
+        returns, low = (f'`{name}`: no proof of `bits` could be found here' for name in ('returns', 'low'))
+        self.assertEqual(said(returns, low), (0, ['3 edits refused at a fact']))
+        self.assertEqual(said(low)[1], ['bits/one_more: no error: ', '2 edits refused at a fact, 1 not'])
+        self.assertEqual(said(returns.replace('returns', 'returns-2'), low)[1][0], 'bits/one_more: no error: ')
+
     def test_an_edit_that_the_prover_tells_by_a_note(self):
         note = 'note: /r/target/must-fail/bits/several/proofs/first/Proof.antt:7:5: it is not proved that the sum fits\n'
         self.assertEqual(self.answer(added=log(FACTS[0]), several=note + self.SECOND), (0, ['3 edits refused at a fact']))
@@ -128,7 +139,10 @@ class Folder(unittest.TestCase):
             path.write_text(SEVERAL, encoding='utf-8')
             self.assertEqual(edits_refused.sections(path), [
                 ('one_more', 'One more is added.', 'proofs/first/Proof.antt'), ('low', 'Two more.', 'specs/Laws.antt')])
-            for wrong in SEVERAL.replace('at: specs/Laws.antt\n', ''), SEVERAL.replace('specs/Laws', 'proofs/first/Proof'), SEVERAL.replace('low: ', ''):
+            path.write_text(SEVERAL.replace('at: proofs/first/Proof.antt', 'at: specs/Laws.antt high').replace('Laws.antt\n', 'Laws.antt low\n'))
+            self.assertEqual([place for *_, place in edits_refused.sections(path)], ['specs/Laws.antt high', 'specs/Laws.antt low'])
+            for wrong in (SEVERAL.replace('at: specs/Laws.antt\n', ''), SEVERAL.replace('specs/Laws', 'proofs/first/Proof'), SEVERAL.replace('low: ', ''),
+                          SEVERAL.replace('at: proofs/first/Proof.antt', 'at: specs/Laws.antt high')):
                 path.write_text(wrong, encoding='utf-8')
                 self.assertRaises(ValueError, edits_refused.sections, path)
 

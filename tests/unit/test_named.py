@@ -54,12 +54,12 @@ class Trees(unittest.TestCase):
         status, lines = self.read()
         self.assertEqual(status, 0, lines)
         self.assertEqual(len(lines), 1)
-        self.assertRegex(lines[0], r'^[3-9]\d names are there$')
+        self.assertRegex(lines[0], r'^7 documents and the comments of the crates: [3-9]\d names are there$')
 
     def refused(self, file, old, new, line, what):
         status, lines = self.read((file, old, new))
         self.assertEqual((status, lines[:-1]), (1, [f'{file}:{line}: {what}']))
-        self.assertRegex(lines[-1], r'^\d+ names are there, 1 are not$')
+        self.assertRegex(lines[-1], r'^7 documents .*: \d+ names are there, 1 are not$')
 
     def test_links(self):
         self.refused('README.md', 'docs/LAWS.md#laws-of-bits', 'docs/LAW.md', 3, 'there is no docs/LAW.md')
