@@ -43,10 +43,11 @@ impl From<[u8; FINGERPRINT_BYTES]> for Fingerprint {
 /// The fingerprint of the table of CPUID pages, built in the library. [`Table::fingerprint`] gives the same of a table that stands.
 ///
 /// ```
-/// use snp_cpuid::{Options, Refusal, fingerprint};
+/// use snp_cpuid::{Options, Refusal, Table, fingerprint};
 ///
 /// let pages = std::fs::read("../tests/data/epyc-milan.pages").unwrap();
-/// assert_ne!(fingerprint(&pages, Options::new()), fingerprint(&pages, Options::new().secure_avic(true)));
+/// let table = Table::build(&pages, Options::new()).unwrap();
+/// assert_eq!(fingerprint(&pages, Options::new()), Ok(table.fingerprint()));
 /// assert_eq!(fingerprint(&[], Options::new()), Err(Refusal::PagesLength));
 /// ```
 pub fn fingerprint(pages: &[u8], options: Options) -> Result<Fingerprint, Refusal> {
