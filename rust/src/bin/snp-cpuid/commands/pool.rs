@@ -68,12 +68,13 @@ fn run(arguments: &Arguments) -> Result<(), Failure> {
         let answer = object([("answer", "accepted".into()), ("edition", building.edition().into()), ("image", output::file_json(arguments))]);
         return output::print(answer.with(servers.json()).with(super::table::members(&table, table.fingerprint())).to_string());
     }
-    if arguments.has(&IMAGE) {
-        output::say(&format!("note: fingerprint {}", table.fingerprint()));
-    } else {
+    if !arguments.has(&IMAGE) {
         output::print(super::table::text(&table, Form::of(arguments), table.fingerprint()))?;
     }
     servers.notes().iter().for_each(|note| output::say(&format!("note: {note}")));
+    if arguments.has(&IMAGE) {
+        output::say(&format!("note: fingerprint {}", table.fingerprint()));
+    }
     Ok(())
 }
 

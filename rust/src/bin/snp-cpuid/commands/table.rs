@@ -21,10 +21,10 @@ pub const COMMAND: Command = Command {
     summary: "print the table, its features and its topology in words",
     about: "\
 Prints the table of the pages: for each row its leaf, subleaf and registers in hexadecimal, under it
-the feature bits that are set, by the AMD manual's names, and fields in words; then the combined
-mask of extended states, the size of their save area, the topology, and the table's fingerprint: the
-SHA-256 of its image, which 'sha256sum' gives of the bytes that 'image' writes. Servers that give
-one table have one fingerprint, and others have another. With --origins a row's line
+the feature bits that are set, by the AMD manual's names, and fields in words; then the table's
+fingerprint, the combined mask of extended states, the size of their save area, and the topology.
+The fingerprint is the SHA-256 of the bytes that 'image' writes: servers that give one table have
+one, and others have another. With --origins a row's line
 ends in its source entry, by page and entry, both counted from 0, or in 'made here', for 0, 80000000
 and the two rows of leaf B, or in 'unknown' where PAGES is an image.
 ",
@@ -71,13 +71,13 @@ pub fn members(table: &Table, fingerprint: Fingerprint) -> [(&'static str, Json)
 /// A table in words, or a processor's view of it: its rows, what a reader asks of the whole, and the table's fingerprint.
 pub fn text(table: &Table, form: Form, fingerprint: Fingerprint) -> String {
     let rows: String = table.rows().map(|row| form.row(&row)).collect();
-    form.heading().to_string() + &rows + &summary(table) + &format!("{:15}{fingerprint}\n", "fingerprint")
+    form.heading().to_string() + &rows + &summary(table, fingerprint)
 }
 
 /// What a reader asks of the whole table.
-fn summary(table: &Table) -> String {
+fn summary(table: &Table, fingerprint: Fingerprint) -> String {
     let mask = table.max_extended_state();
-    let mut text = format!("\n{:15}{}\n", "rows", table.rows().count());
+    let mut text = format!("\n{:15}{}\n{:15}{fingerprint}\n", "rows", table.rows().count(), "fingerprint");
     text += &wrapped(&format!("{:15}", "combined mask"), &format!("{mask:08X}: {}", components::names(mask).join(" ")));
     if let Some(first) = table.row(0xD, Some(0)) {
         text += &format!("{:15}{} bytes\n", "save area", first.ecx);
