@@ -184,6 +184,9 @@ struct snp_cpuid_first {
 /* The bytes of the list of topologies. */
 #define SNP_CPUID_TOPOLOGIES_BYTES 5095
 
+/* The bytes of a fingerprint. */
+#define SNP_CPUID_FINGERPRINT_BYTES 32
+
 /* Enough room for any message of snp_cpuid_message, its final 0 included. */
 #define SNP_CPUID_MOST_MESSAGE_BYTES 160
 
@@ -306,6 +309,12 @@ struct snp_cpuid_nearest snp_cpuid_nearest(const uint8_t *pages, size_t length, 
  * and there are 1,019. Pages whose inputs are on the list are refused by none of 6, 7 and 8; other pages with s up to 7 are never accepted. Number 9,
  * where room is below SNP_CPUID_TOPOLOGIES_BYTES, leaves out as it was; bytes beyond the list are as they were. */
 struct snp_cpuid_written snp_cpuid_write_topologies(uint8_t *out, size_t room);
+
+/* Builds, and writes the table's fingerprint to the 32 bytes at digest: the SHA-256 (FIPS 180-4) of the image that snp_cpuid_write_image writes. Two
+ * tables have one fingerprint where their rows and combined masks are equal, and otherwise only if their images are a collision of SHA-256. Print it
+ * beside a figure, and the figure says under which table it was computed. A refusal has the table without rows, whose fingerprint is the SHA-256 of
+ * no bytes, e3b0c442..: look at the number first. */
+struct snp_cpuid_built snp_cpuid_fingerprint(const uint8_t *pages, size_t length, bool secure_avic, uint32_t edition, uint8_t *digest);
 
 /* ---- a table that the caller keeps
  *
@@ -438,6 +447,10 @@ struct snp_cpuid_counts snp_cpuid_table_counts(const uint32_t *registers, const 
 /* Takes the table from one edition to another in place, as snp_cpuid_carry does: 0, or 15, 16, 13 or 14 and the table as it was. Origins are only
  * read. A place without a row reads as zeros here. */
 uint32_t snp_cpuid_table_carry(uint32_t *registers, const uint64_t *origins, uint32_t from, uint32_t to, uint64_t xcr0, uint64_t xss);
+
+/* Writes the table's fingerprint to the 32 bytes at digest, as snp_cpuid_fingerprint does, and gives its counts. Origins do not count. A table without
+ * rows has the fingerprint of no bytes. */
+struct snp_cpuid_counts snp_cpuid_table_fingerprint(const uint32_t *registers, const uint64_t *origins, uint8_t *digest);
 
 /* ---- the same with structs: define SNP_CPUID_NO_INLINE to leave these out */
 #ifndef SNP_CPUID_NO_INLINE

@@ -251,6 +251,7 @@ unsafe extern "C" {
     ) -> Written;
     pub fn snp_cpuid_nearest(pages: *const u8, length: usize, secure_avic: bool, edition: u32) -> Nearest;
     pub fn snp_cpuid_write_topologies(out: *mut u8, room: usize) -> Written;
+    pub fn snp_cpuid_fingerprint(pages: *const u8, length: usize, secure_avic: bool, edition: u32, digest: *mut u8) -> Built;
     pub fn snp_cpuid_table_build(pages: *const u8, length: usize, secure_avic: bool, edition: u32, registers: *mut u32, origins: *mut u64) -> Built;
     pub fn snp_cpuid_table_pool(
         pages: *const u8,
@@ -303,4 +304,5 @@ unsafe extern "C" {
     pub fn snp_cpuid_table_compare(a_registers: *const u32, a_origins: *const u64, b_registers: *const u32, b_origins: *const u64) -> TablesCompared;
     pub fn snp_cpuid_table_counts(registers: *const u32, origins: *const u64) -> Counts;
     pub fn snp_cpuid_table_carry(registers: *mut u32, origins: *const u64, from: u32, to: u32, xcr0: u64, xss: u64) -> u32;
+    pub fn snp_cpuid_table_fingerprint(registers: *const u32, origins: *const u64, digest: *mut u8) -> Counts;
 }

@@ -13,7 +13,8 @@
 //! ```
 //!
 //! A [`Table`] is built once and kept: [`Table::guest_row`] answers a CPUID exit, [`Table::compare`] says whether a guest may move, [`Table::carry`]
-//! takes it to another edition, [`Table::image`] and [`Table::write_kvm`] write it. The functions of this root that take pages build anew at each
+//! takes it to another edition, [`Table::image`] and [`Table::write_kvm`] write it, [`Table::fingerprint`] tells it apart from
+//! others. The functions of this root that take pages build anew at each
 //! call.
 //!
 //! What is proved is what the library's exported functions return (the repository's README has the statements). This crate turns their numbers into
@@ -29,6 +30,7 @@ mod carry;
 mod comparison;
 pub mod exports;
 pub mod features;
+mod fingerprint;
 mod guest;
 mod image;
 mod kvm;
@@ -46,6 +48,7 @@ use answer::Answer;
 
 pub use carry::{NotCarried, carry_image};
 pub use comparison::{Comparison, Register, TableComparison};
+pub use fingerprint::{FINGERPRINT_BYTES, Fingerprint, NotAFingerprint, fingerprint};
 pub use guest::{Processor, State, guest, guest_lookup, write_guest_image};
 pub use image::{ANY_IMAGE_BYTES, ANY_KVM_BYTES, Image, NotAnImage};
 pub use kvm::{KVM_PAGES_BYTES, MOST_KVM_BYTES, read_kvm, write_kvm};

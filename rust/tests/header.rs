@@ -131,6 +131,7 @@ fn the_constants_are_the_headers() {
         ("ANY_KVM", snp_cpuid::ANY_KVM_BYTES),
         ("MOST_LINE", snp_cpuid::MOST_LINE_BYTES),
         ("TOPOLOGIES", snp_cpuid::TOPOLOGIES_BYTES),
+        ("FINGERPRINT", snp_cpuid::FINGERPRINT_BYTES),
     ] {
         let line = text.lines().find_map(|l| l.strip_prefix(&format!("#define SNP_CPUID_{name}_BYTES "))).expect("the constant");
         assert_eq!(line.trim().parse(), Ok(value));

@@ -151,6 +151,10 @@ impl Standing {
             "image" => return self.write(n[0] as usize, Table::write_image),
             "kvm" => return self.write(n[0] as usize, Table::write_kvm),
             "counts" => counts(&self.table),
+            "fingerprint" => {
+                let digest = self.table.fingerprint().bytes().to_vec();
+                return Answer { numbers: counts(&self.table), bytes: Some((vec![0xA5; digest.len()], digest)) };
+            }
             "state" => self.table.state(n[0], n[1]).map_or_else(|why| vec![why.number().into(), 0], |state| vec![0, state.size.into()]),
             "find" => {
                 let (leaf, subleaf, enforce) = place(&n);
@@ -195,5 +199,5 @@ fn answers_and_memory_are_the_models() {
         assert_eq!(numbers, expected.into_iter().map(number).collect::<Vec<_>>(), "{line}");
         *asked.entry(words[0]).or_default() += 1;
     }
-    assert!(asked.len() == 13 && asked.values().all(|&count| count >= 9), "{asked:?}");
+    assert!(asked.len() == 14 && asked.values().all(|&count| count >= 9), "{asked:?}");
 }

@@ -242,12 +242,22 @@ static void ask_counts(void) {
     SAME(0, c.row_count), SAME(1, c.max_extended_state);
 }
 
+static void ask_fingerprint(void) {
+    resize(&out, SNP_CPUID_FINGERPRINT_BYTES);
+    resize(&made, SNP_CPUID_FINGERPRINT_BYTES);
+    memset(out.at, FILL, out.length), memset(made.at, FILL, made.length);
+    struct snp_cpuid_counts c = snp_cpuid_table_fingerprint(BOTH(0), out.at);
+    SAME(0, c.row_count), SAME(1, c.max_extended_state);
+    edit(&made, last_word[1]);
+    same(!memcmp(out.at, made.at, out.length));
+}
+
 static const struct {
     const char *name;
     void (*ask)(void);
 } ASKED[] = {{"build", ask_build},   {"pool", ask_pool},   {"read", ask_read},   {"find", ask_find},   {"guest_find", ask_guest_find},
              {"state", ask_state},   {"guest", ask_guest}, {"image", ask_image}, {"kvm", ask_kvm},     {"guest_find_kept", ask_guest_find_kept},
-             {"carry", ask_carry},   {"compare", ask_compare}, {"counts", ask_counts}};
+             {"carry", ask_carry},   {"compare", ask_compare}, {"counts", ask_counts}, {"fingerprint", ask_fingerprint}};
 
 /* One line: an edit of what is asked, or a question. */
 static void replay(char *line) {
@@ -365,6 +375,14 @@ static void bytes_agree(bool avic, uint32_t edition) {
     same(snp_cpuid_table_write_image(BOTH(0), from_table, sizeof from_table).length == w.length && !memcmp(from_pages, from_table, w.length));
 }
 
+/* The fingerprint, also where building refuses. */
+static void fingerprints_agree(bool avic, uint32_t edition) {
+    uint8_t from_pages[SNP_CPUID_FINGERPRINT_BYTES], from_table[SNP_CPUID_FINGERPRINT_BYTES];
+    same(same_built(snp_cpuid_fingerprint(WHOLE, from_pages), snp_cpuid_build(WHOLE)));
+    snp_cpuid_table_fingerprint(BOTH(0), from_table);
+    same(!memcmp(from_pages, from_table, sizeof from_pages));
+}
+
 /* A pool of the shipped set and the one with a bit flipped, in turn the first. */
 static void pools_agree(unsigned turn, const uint8_t *shipped, bool avic, uint32_t edition) {
     static uint8_t sets[4 * PAGE];
@@ -398,6 +416,7 @@ static void flip_every_bit(const uint8_t *shipped) {
             struct snp_cpuid_counts counts = snp_cpuid_table_counts(BOTH(0));
             same(counts.row_count == b.row_count && counts.max_extended_state == b.max_extended_state);
             rows_agree(turn, avic, edition);
+            fingerprints_agree(avic, edition);
             guests_agree(turn, avic, edition);
             pools_agree(turn, shipped, avic, edition);
             bytes_agree(avic, edition);

@@ -109,6 +109,8 @@ static size_t make_calls(struct call *out, uint32_t edition) {
         CALL(snp_cpuid_table_compare, struct snp_cpuid_tables_compared, TABLE, TABLE),
         CALL(snp_cpuid_table_counts, struct snp_cpuid_counts, TABLE),
         CALL(snp_cpuid_table_carry, uint32_t, TABLE, 1, edition, 7, 0x800),
+        CALL(snp_cpuid_fingerprint, struct snp_cpuid_built, AT(pages), length, CHOICES, AT(lent)),
+        CALL(snp_cpuid_table_fingerprint, struct snp_cpuid_counts, TABLE, AT(lent)),
     };
     memcpy(out, calls, sizeof calls);
     return sizeof calls / sizeof *calls;

@@ -3,8 +3,8 @@
 Numbers are hexadecimal and edits are those of replayed.py. A line `p EDITS`, `i EDITS` or `t EDITS` makes the pages, the image or the bytes of the
 table's struct of those before, the first of none. Every other line is a question, a bar and the answer's numbers in the order of its struct. `build`,
 `pool` and `read` end with the edits that make the table of zeros, which the next lines ask; `guest` and `carry` end with the edits that make theirs of
-the table, which stays, or with z for all zeros; `image` and `kvm` end with the edits that make the buffer of ROOM bytes A5. `compare` begins with the
-edits that make the second table of the first.
+the table, which stays, or with z for all zeros; `image` and `kvm` end with the edits that make the buffer of ROOM bytes A5, `fingerprint` with those of
+32 bytes A5. `compare` begins with the edits that make the second table of the first.
 """
 from itertools import product
 import random
@@ -162,6 +162,11 @@ class List:
     def counts(self):
         self.ask('counts', 'given', [], numbers(*kept.counts(self.table)))
 
+    def fingerprint(self):
+        digest = kept.fingerprint(self.table)
+        kind = 'of rows' if kept.image(self.table) else 'of no bytes'
+        self.ask('fingerprint', kind, [], [*numbers(*kept.counts(self.table)), edits(FILL * len(digest), digest)])
+
 
 # What is asked of each table
 
@@ -185,6 +190,7 @@ def of_a_processor(out, processor, places=SEEN + UNSEEN[:3], whole=True):
 def of_a_table(out, processors, places, whole=True):
     """All that can be asked of the table that stands; `whole` with what writes all of it."""
     out.counts()
+    out.fingerprint()
     for leaf, subleaf in places:
         out.find(leaf, subleaf, True)
     for processor in processors:
@@ -330,7 +336,8 @@ GROUPS = built, refused, pooled, read, at_random, compared
 KINDS = {
     'build': (0, 1, 2, 3, 4, 5, 6, 7, 8, 15, 17), 'pool': (0, 1, 3, 15, 18, 19), 'read': (0, 1), 'find': ('found', 'nothing'),
     'guest_find': (13, 14, 'found', 'nothing'), 'guest_find_kept': ('found', 'nothing'), 'state': (0, 13, 14), 'guest': (0, 13, 14),
-    'image': (0, 9), 'kvm': (0, 9), 'carry': (0, 13, 14, 15, 16), 'compare': (0, 1, 2, 3, 4), 'counts': ('given',)}
+    'image': (0, 9), 'kvm': (0, 9), 'carry': (0, 13, 14, 15, 16), 'compare': (0, 1, 2, 3, 4), 'counts': ('given',),
+    'fingerprint': ('of rows', 'of no bytes')}
 
 
 def made():

@@ -3,6 +3,7 @@
 Memory is (registers, origins), tuples of 352 and of 88 numbers, of any content. The rows in it have model.py's form; what is made of them is what
 documents 01 and 02 say, by the other models. Quotations in the comments are the header's.
 """
+import hashlib
 import struct
 
 import model
@@ -153,6 +154,11 @@ def guest(memory, apic, xcr0, xss, osxsave):
 
 def image(memory):
     return model.image(table(memory))
+
+
+def fingerprint(memory):
+    """ "the SHA-256 (FIPS 180-4) of the image"; "a table without rows has the fingerprint of no bytes" """
+    return hashlib.sha256(image(memory)).digest()
 
 
 def kvm(memory):

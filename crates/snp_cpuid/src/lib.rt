@@ -26,6 +26,7 @@ ghost use Rattle.answers.specs.ComparedAnswers.{comparedNumbers};
 ghost use Rattle.snp_cpuid.specs.Exports.{foundIn, firstNumbers};
 
 mod carry_exports;
+mod fingerprint_exports;
 mod guest_exports;
 mod kvm;
 mod line_exports;

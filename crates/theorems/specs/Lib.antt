@@ -9,6 +9,7 @@ pub mod BuildingTheorems
 pub mod RiseTheorems
 pub mod ComparisonTheorems
 pub mod EditionTheorems
+pub mod FingerprintTheorems
 pub mod GuestTheorems
 pub mod OriginTheorems
 pub mod TopologyTheorems

@@ -17,6 +17,7 @@
 --   NearestBit.antt            The first bit of the pages whose flip changes the answer.
 --   KeptTable.antt             The table that a caller keeps.
 --   WithoutRows.antt           What each function over a kept table gives for a table without rows.
+--   FingerprintTheorems.antt   A table's fingerprint: the SHA-256 of its image, and what an equal one tells.
 --   LifeTheorems.antt          A guest's life: what its view tells, where its save areas lie, what stays along moves and carries.
 --   NumbersTheorems.antt       The numbers that the exported functions give and take, field by field.
 --   CompareOrder, Exported, GuestExported, PoolExported, Looked: the same of what the exported functions return.

@@ -3,6 +3,7 @@
 use crate::features::{FEATURES, REGISTERS};
 use crate::page_sets::{epyc, page, position, rich, set, topology, unclean, with, without};
 use crate::run::{EPYC, Folder, Ran, run, run_on};
+use snp_cpuid::{Options, fingerprint as of_pages};
 use std::fs;
 
 /// Compares two sets.
@@ -10,7 +11,7 @@ fn compare(folder: &Folder, a: &[u8], b: &[u8], flags: &[&str]) -> Ran {
     let (a, b) = (folder.file("a", a), folder.file("b", b));
     let ran = run(&[&["compare", &a, &b], flags].concat());
     let (verdict, rest) = ran.text().split_once("\n\n").expect("the answer comes first");
-    assert!(verdict.starts_with(if ran.status == 0 { "yes: " } else { "no: " }), "{verdict}");
+    assert!(if ran.status == 0 { ["same: ", "yes: "] } else { ["no: "; 2] }.iter().any(|word| verdict.starts_with(word)), "{verdict}");
     let (servers, rest) = rest.split_once("\n\n").expect("the two servers");
     assert!(servers.starts_with(&format!("A  {a}: ")) && servers.contains(&format!("\nB  {b}: ")), "{servers}");
     assert!(servers.ends_with("\nunder edition 1 of the AVX rule"), "{servers}");
@@ -41,6 +42,10 @@ fn parts(ran: &Ran) -> Parts {
     Parts { verdict, in_the_way: under("In the way"), free: under("Not in the way"), there: there.into(), back: back.into() }
 }
 
+fn fingerprint(pages: &[u8]) -> String {
+    of_pages(pages, Options::new()).unwrap().to_string()
+}
+
 /// What the table of the one has where the library says yes.
 fn promise(from: &str, to: &str) -> String {
     format!("{to}'s table has every row of {from}'s, at least {from}'s features, a save area no smaller, and everything else equal.")
@@ -59,9 +64,14 @@ fn lacks(from: &str, to: &str, name: &str, place: &str, bit: u32, at: &str) -> S
     format!("{to} lacks {name}, leaf {place} bit {bit}: {from} has it at {at}, {to} has not at {at}")
 }
 
-const MAY: &str = "yes: a guest of A may move to B. ";
+/// A guest may move, and programs that start there may see these bits; by some of them libraries choose their code.
+fn may(more: &str, chosen: &str) -> String {
+    let figures = if chosen.is_empty() { String::new() } else { format!("By {chosen} libraries choose how they compute, so figures may change. ") };
+    format!("yes: a running guest of A may move to B, and programs that start there may see more: {more}. {figures}{}", promise("A", "B"))
+}
+
 const MAY_NOT: &str = "no: a guest of A may not move to B. ";
-const EQUAL: &str = "yes: a guest of A may move to B. The tables are equal, row for row.";
+const EQUAL: &str = "same: A and B give a guest the same table, row for row.";
 
 fn texts(lines: &[&str]) -> Vec<String> {
     lines.iter().map(|line| line.to_string()).collect()
@@ -75,7 +85,8 @@ fn a_set_and_itself() {
     assert_eq!(parts(&ran), Parts { verdict: EQUAL.into(), in_the_way: vec![], free: vec![], there: yes("A", "B"), back: yes("B", "A") });
     let pages = fs::read(EPYC).unwrap();
     let piped = run_on(&pages, &["compare", "-", EPYC]);
-    assert!(piped.text().contains(&format!("\nA  standard input: accepted, 29 rows\nB  {EPYC}: accepted, 29 rows\n")), "{}", piped.text());
+    let told = format!("accepted, 29 rows\n   fingerprint {}\n", fingerprint(&pages));
+    assert!(piped.text().contains(&format!("\nA  standard input: {told}B  {EPYC}: {told}")), "{}", piped.text());
 }
 
 #[test]
@@ -90,7 +101,7 @@ fn one_bit_fewer() {
     let first = |from, to| lacks(from, to, "FMA", "00000001 ECX", 12, &at);
     let expected = Parts {
         verdict: format!("{MAY_NOT}B lacks FMA, leaf 00000001 ECX bit 12."),
-        in_the_way: texts(&[&entries, "00000001    ECX  FMA (bit 12): A has it, B has not"]),
+        in_the_way: texts(&[&entries, "00000001    ECX  FMA (bit 12): A has it, B has not (libm, libmvec)"]),
         free: vec![],
         there: no("A", "B", &first("A", "B")),
         back: yes("B", "A"),
@@ -99,13 +110,24 @@ fn one_bit_fewer() {
     let rises = compare(&folder, &less, &full, &[]);
     assert_eq!((rises.status, rises.err.as_str()), (0, ""));
     let expected = Parts {
-        verdict: format!("{MAY}{}", promise("A", "B")),
+        verdict: may("FMA", "FMA"),
         in_the_way: vec![],
-        free: texts(&[&entries, "00000001    ECX  FMA (bit 12): B has it, A has not"]),
+        free: texts(&[&entries, "00000001    ECX  FMA (bit 12): B has it, A has not (libm, libmvec)"]),
         there: yes("A", "B"),
         back: no("B", "A", &first("B", "A")),
     };
     assert_eq!(parts(&rises), expected);
+    // the same table is asked for
+    let same = |a: &[u8], b: &[u8]| compare_same(&folder, a, b);
+    assert_eq!((same(&full, &full), same(&less, &full), same(&full, &less)), (0, 1, 1));
+}
+
+/// The status of `compare --same`; what it prints is as without.
+fn compare_same(folder: &Folder, a: &[u8], b: &[u8]) -> i32 {
+    let (a, b) = (folder.file("a", a), folder.file("b", b));
+    let (asked, plain) = (run(&["compare", &a, &b, "--same"]), run(&["compare", &a, &b]));
+    assert_eq!(asked.out, plain.out);
+    asked.status
 }
 
 /// Every feature bit that a server may lack stands in the way and is named; the other way round nothing does.
@@ -132,7 +154,7 @@ fn every_feature_bit_by_name() {
             };
             assert_eq!(verdict, format!("{MAY_NOT}B lacks {first}."));
             assert_eq!(there, no("A", "B", &lacks("A", "B", name, &format!("{place} {}", REGISTERS[f.register]), *bit, &at)));
-            let line = format!("{place:12}{}  {name} (bit {bit}): A has it, B has not", REGISTERS[f.register]);
+            let line = format!("{place:12}{}  {name} (bit {bit}): A has it, B has not{}", REGISTERS[f.register], chosen_by(name));
             assert!(lines.contains(&line), "{line}: {lines:?}");
             // with it go the features that hang on it: IBRS and STIBP on IBPB, in the same row, RDTSCP and RDPID on the TSC_AUX bit, in two others; a
             // row that differs has one line more, its entries
@@ -149,6 +171,19 @@ fn every_feature_bit_by_name() {
     assert_eq!(tried, 16 + 22 + 20 + 15 + 4 + 11 + 27 + 12 + 3 + 9);
 }
 
+/// The mark behind a bit by which libraries choose their code: glibc's libm by FMA with AVX2 and by FMA4, libmvec by FMA with AVX2 and by AVX512DQ,
+/// OpenBLAS by AVX2 and by AVX-512.
+fn chosen_by(name: &str) -> &'static str {
+    match name {
+        "FMA" => " (libm, libmvec)",
+        "AVX2" => " (libm, libmvec, OpenBLAS)",
+        "AVX512DQ" => " (libmvec, OpenBLAS)",
+        "AVX512F" | "AVX512BW" | "AVX512VL" => " (OpenBLAS)",
+        "FMA4" => " (libm)",
+        _ => "",
+    }
+}
+
 /// AVX-512 and its states: rows of one table alone, a larger save area, a wider mask.
 #[test]
 fn bits_of_states() {
@@ -160,9 +195,11 @@ fn bits_of_states() {
     }
     let ran = compare(&folder, &set(&less), &set(&rich()), &[]);
     let Parts { verdict, in_the_way, free: lines, .. } = parts(&ran);
-    assert_eq!((ran.status, verdict, in_the_way), (0, format!("{MAY}{}", promise("A", "B")), vec![]));
+    let more = "AVX512F, AVX512DQ, AVX512_IFMA, AVX512CD, AVX512BW, AVX512VL, AVX512_VBMI, AVX512_VBMI2, AVX512_VNNI, AVX512_BITALG, \
+                AVX512_VPOPCNTDQ, AVX512_VP2INTERSECT, AVX512_FP16, opmask, ZMM_Hi256 and Hi16_ZMM";
+    assert_eq!((ran.status, verdict, in_the_way), (0, may(more, "AVX512F, AVX512DQ, AVX512BW and AVX512VL"), vec![]));
     for line in [
-        "00000007.0  EBX  AVX512F (bit 16): B has it, A has not",
+        "00000007.0  EBX  AVX512F (bit 16): B has it, A has not (OpenBLAS)",
         "00000007.0  EDX  AVX512_FP16 (bit 23): B has it, A has not",
         "0000000D.0  EAX  opmask (bit 5): B has it, A has not",
         "0000000D.0  EAX  ZMM_Hi256 (bit 6): B has it, A has not",
@@ -285,9 +322,9 @@ fn a_table_may_rise_where_entries_do_not() {
     let ran = compare(&folder, &set(&a), &set(&b), &[]);
     let entries = format!("00000001    A {0}, B {0}", position(&set(&a), 1, 0));
     let expected = Parts {
-        verdict: format!("{MAY}{}", promise("A", "B")),
+        verdict: may("FMA", "FMA"),
         in_the_way: vec![],
-        free: texts(&[&entries, "00000001    ECX  FMA (bit 12): B has it, A has not"]),
+        free: texts(&[&entries, "00000001    ECX  FMA (bit 12): B has it, A has not (libm, libmvec)"]),
         there: no("A", "B", &hidden),
         back: no("B", "A", &lacks("B", "A", "FMA", "00000001 ECX", 12, &position(&set(&a), 1, 0))),
     };

@@ -75,7 +75,7 @@ fn what_the_library_answers_of_pages_with_its_rows() {
             assert_eq!(list(&image, &[]), list(pages, words));
             let compared = run(&[&["compare", &image, pages], words].concat());
             assert_eq!(compared.status, 0, "{}", compared.text());
-            assert!(compared.text().starts_with("yes: a guest of A may move to B. The tables are equal, row for row.\n"));
+            assert!(compared.text().starts_with("same: A and B give a guest the same table, row for row.\n"));
             assert!(compared.text().ends_with("\n\nOf an image nobody knows the entries.\n"));
         }
     }

@@ -9,6 +9,7 @@ mod browser;
 mod cache_words;
 mod capture;
 mod carry;
+mod check;
 mod compare;
 mod debian;
 #[path = "differences.rs"]
@@ -42,9 +43,12 @@ mod topologies;
 mod usage;
 
 // the command's own tables and writers: names, the rows that go into pages, JSON
-#[allow(dead_code)]
 #[path = "../../src/bin/snp-cpuid/arguments.rs"]
 mod arguments;
+#[allow(dead_code)]
+#[allow(dead_code)]
+#[path = "../../src/bin/snp-cpuid/arithmetic.rs"]
+mod arithmetic;
 #[allow(dead_code)]
 #[path = "../../src/bin/snp-cpuid/caches.rs"]
 mod caches;

@@ -17,7 +17,9 @@ fn rows(arguments: &[&str]) -> Vec<(String, String)> {
     let mut found = vec![];
     for (line, without) in ran.text().lines().zip(plain.text().lines()).skip(1) {
         match line.strip_prefix(without).expect("the same line, or longer") {
-            "" => assert!(line.is_empty() || line.starts_with("    ") || ["rows ", "comb", "save", "topo"].iter().any(|word| line.starts_with(word))),
+            "" => assert!(
+                line.is_empty() || line.starts_with("    ") || ["rows ", "fing", "comb", "save", "topo"].iter().any(|word| line.starts_with(word))
+            ),
             origin => found.push((line[..12].trim_end().to_string(), origin.strip_prefix("  ").expect("two spaces").to_string())),
         }
         assert!(line.len() <= 100);

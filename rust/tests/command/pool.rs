@@ -39,6 +39,11 @@ fn image(file: &str, words: &[&str]) -> Vec<u8> {
     run(&[&["image", file, "-o", "-"], words].concat()).out
 }
 
+/// The note under a written table.
+fn fingerprint(image: &[u8]) -> String {
+    note(&format!("fingerprint {}", snp_cpuid::Table::try_from(image).unwrap().fingerprint()))
+}
+
 #[test]
 fn what_each_server_cost() {
     let folder = Folder::new("pool_cost");
@@ -51,7 +56,7 @@ fn what_each_server_cost() {
     let costs = ["no feature bit", "FMA (00000001 ECX)", "RDSEED (00000007.0 EBX)", "no feature bit"];
     let mut expected: String = files.iter().zip(costs).map(|(file, cost)| note(&format!("{file} cost the pool {cost}"))).collect();
     expected += &note(&format!("{} and {} lack MOVBE (00000001 ECX)", files[2], files[3]));
-    assert_eq!(notes, expected);
+    assert_eq!(notes, expected.clone() + &fingerprint(&bytes));
 
     // the image is that of one server with the bits that all four have
     let mut joined = third;
@@ -77,7 +82,8 @@ fn costs_are_those_of_tables() {
              AVX512_VBMI AVX512_VBMI2 GFNI VAES VPCLMULQDQ AVX512_VNNI AVX512_BITALG AVX512_VPOPCNTDQ (00000007.0 ECX), \
              AVX512_VP2INTERSECT AVX512_FP16 (00000007.0 EDX), AVX opmask ZMM_Hi256 Hi16_ZMM (0000000D.0 EAX){extended}"
         );
-        assert_eq!(notes, note(&format!("{} cost the pool no feature bit", files[0])) + &note(&format!("{} cost the pool {cost}", files[1])));
+        let costs = note(&format!("{} cost the pool no feature bit", files[0])) + &note(&format!("{} cost the pool {cost}", files[1]));
+        assert_eq!(notes, costs + &fingerprint(&bytes));
         assert_eq!(bytes, image(&files[1], &["--edition", edition]));
     }
 }
@@ -146,7 +152,7 @@ fn refusals_in_their_order() {
 fn sixteen_servers_of_one_kind_cost_nothing() {
     let folder = Folder::new("pool_sixteen");
     let (notes, bytes) = written(&folder, &vec![EPYC.to_string(); 16], &[]);
-    assert_eq!(notes, note(&format!("{EPYC} cost the pool no feature bit")).repeat(16));
+    assert_eq!(notes, note(&format!("{EPYC} cost the pool no feature bit")).repeat(16) + &fingerprint(&bytes));
     assert_eq!(bytes, fs::read("../crates/snp_cpuid_image/stdout").unwrap());
 }
 

@@ -55,7 +55,8 @@ fn rows_are_those_of_the_models_image() {
 fn the_image_is_the_models() {
     let folder = Folder::new("image");
     let ran = run(&["image", EPYC, "-o", &folder.path("image")]);
-    assert_eq!((ran.status, ran.out.len(), ran.err.as_str()), (0, 0, ""));
+    let note = format!("snp-cpuid: note: fingerprint {MILAN}\n");
+    assert_eq!((ran.status, ran.out.len(), ran.err), (0, 0, note));
     assert_eq!(fs::read(folder.path("image")).unwrap(), model_image());
     assert_eq!(folder.names(), ["image"]);
 }
@@ -128,13 +129,19 @@ fn family_and_model_of_other_processors() {
     }
 }
 
-/// The lines after the rows.
+/// The fingerprint of the shipped set's table: what sha256sum gives of the model's image, as tests/unit/test_model_fingerprint.py has it.
+const MILAN: &str = "18a69858efbc8500ce6cfc1fe79e04adaaa9e75a36de1f72e208f7402b289eeb";
+
+/// The lines after the rows, but for the fingerprint, which is the library's.
 fn summary(pages: &[u8]) -> String {
     let folder = Folder::new("summary");
     let file = folder.file("pages", pages);
     let ran = run(&["table", &file]);
     assert_eq!(ran.status, 0, "{}", ran.err);
-    ran.text().split_once("\n\n").expect("an empty line").1.to_string()
+    let line = format!("fingerprint    {}\n", snp_cpuid::fingerprint(pages, snp_cpuid::Options::new()).unwrap());
+    let text = ran.text().split_once("\n\n").expect("an empty line").1;
+    assert!(text.contains(&line), "{text}");
+    text.replace(&line, "")
 }
 
 /// Document 01: the rows T1, T3, T5, T9 and X1, X2, and the widest mask.

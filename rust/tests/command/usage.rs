@@ -56,11 +56,11 @@ const SHARED: [&str; 3] = [
 #[test]
 fn shared_options_are_told_alike() {
     for name in commands() {
-        let builds = ["compare", "nearest", "entries", "fleet"].contains(&name.as_str()) || BUILDING.iter().any(|run| run[0] == name);
+        let builds = ["check", "compare", "nearest", "entries", "fleet"].contains(&name.as_str()) || BUILDING.iter().any(|run| run[0] == name);
         let ran = run(&[name.as_str(), "--help"]);
         for told in SHARED {
             let (option, _) = told.split_once(' ').unwrap();
-            let builds = builds && ![("--edition", "carry"), ("--line", "fleet")].contains(&(option, name.as_str()));
+            let builds = builds && ![("--edition", "carry"), ("--line", "fleet"), ("--line", "check")].contains(&(option, name.as_str()));
             let line = ran.text().lines().find(|line| line.trim_start().starts_with(&format!("{option} ")));
             let words = line.map(|line| line.split_whitespace().collect::<Vec<_>>().join(" "));
             assert_eq!(words.as_deref(), builds.then_some(told), "{name}");
@@ -139,7 +139,8 @@ fn lines_are_as_wide_as_columns_says() {
         let table = finish(command().args(["table", EPYC]).env("COLUMNS", columns));
         let words = |ran: &crate::run::Ran| ran.text().split_whitespace().map(String::from).collect::<Vec<_>>();
         assert_eq!(words(&table), words(&run(&["table", EPYC])), "the same words");
-        assert!(table.text().lines().all(|line| line.len() <= most.max(60)), "{columns}");
+        // a fingerprint is one word
+        assert!(table.text().lines().all(|line| line.len() <= most.max(60) || line.starts_with("fingerprint ")), "{columns}");
     }
 }
 
@@ -165,7 +166,10 @@ fn bytes_do_not_go_to_a_terminal() {
     }
     let (status, text) = on_terminal("to-dump ../tests/data/epyc-milan.pages -o -");
     assert_eq!((status, text.as_bytes()), (0, &run(&["to-dump", EPYC]).out[..]));
-    assert_eq!(on_terminal(&format!("image ../tests/data/epyc-milan.pages -o {}", folder.path("image"))), (0, String::new()));
+    assert_eq!(
+        on_terminal(&format!("image ../tests/data/epyc-milan.pages -o {}", folder.path("image"))),
+        (0, run(&["image", EPYC, "-o", &folder.path("again")]).err)
+    );
 }
 
 #[test]

@@ -132,9 +132,13 @@ impl Building {
 
     /// The table of a file as a processor's guest sees it; as the paravisor has it where no processor is given.
     pub fn seen(&self, file: &OsStr, processor: Option<Processor>) -> Result<Table, Failure> {
-        let table = self.table(file)?;
-        let Some(processor) = processor else { return Ok(table) };
-        let refused = |refusal| self.refused(shown(file), refusal, &reasons::of_guest(refusal, &table, processor.xcr0, processor.xss));
+        self.view(file, &self.table(file)?, processor)
+    }
+
+    /// The same of the table that the file has given.
+    pub fn view(&self, file: &OsStr, table: &Table, processor: Option<Processor>) -> Result<Table, Failure> {
+        let Some(processor) = processor else { return Ok(table.clone()) };
+        let refused = |refusal| self.refused(shown(file), refusal, &reasons::of_guest(refusal, table, processor.xcr0, processor.xss));
         table.guest(processor).map_err(refused)
     }
 

@@ -1,6 +1,7 @@
 //! What two tables differ in: rows, feature bits by name, and other registers by value.
 
-use crate::features::{self, ECX, EDX, REGISTERS};
+use crate::arithmetic::chosen_by;
+use crate::features::{self, ECX, EDX, FeatureBit, REGISTERS};
 use crate::json::{Json, hex, object};
 use crate::print::place_json;
 use crate::{print, words};
@@ -127,7 +128,7 @@ impl Difference {
         match self.what {
             What::Bit { register, bit, name, first } => {
                 let (has, lacks) = if first { (a, b) } else { (b, a) };
-                format!("{}  {name} (bit {bit}): {has} has it, {lacks} has not", REGISTERS[register])
+                format!("{}  {name} (bit {bit}): {has} has it, {lacks} has not{}", REGISTERS[register], self.marked())
             }
             What::Value { register, values: [in_a, in_b] } => format!("{}  {a} {in_a:08X}, {b} {in_b:08X}", REGISTERS[register]),
             What::Alone { first, .. } => {
@@ -135,6 +136,13 @@ impl Difference {
                 format!("a row of {} alone{}", if first { a } else { b }, origin.map_or(String::new(), |origin| format!(", {origin}")))
             }
         }
+    }
+
+    /// The libraries that choose their code by a feature bit, behind its line.
+    fn marked(&self) -> String {
+        let What::Bit { register, bit, name, .. } = self.what else { return String::new() };
+        let libraries = chosen_by(&FeatureBit { leaf: self.leaf, subleaf: self.subleaf, register, bit, name });
+        if libraries.is_empty() { String::new() } else { format!(" ({})", libraries.join(", ")) }
     }
 
     /// The entries of a row that both tables have; the rows of leaf Bh have none.

@@ -1,13 +1,14 @@
 //! What the machine that the command runs on reports: the CPUID instruction on one processor, and the list that KVM supports.
 
 #[cfg(all(target_arch = "x86_64", target_os = "linux"))]
-pub use here::{cpuid, stay, supported};
+pub use here::{allowed, cpuid, stay, stay_on, supported, xcr0};
 
 /// The device that gives KVM's list.
 pub const KVM: &str = "/dev/kvm";
 
 #[cfg(all(target_arch = "x86_64", target_os = "linux"))]
 mod here {
+    use std::arch::asm;
     use std::arch::x86_64::__cpuid_count;
     use std::ffi::{c_int, c_ulong, c_void};
     use std::fs::File;
@@ -16,22 +17,51 @@ mod here {
 
     unsafe extern "C" {
         fn sched_getcpu() -> c_int;
+        fn sched_getaffinity(process: c_int, bytes: usize, mask: *mut c_void) -> c_int;
         fn sched_setaffinity(process: c_int, bytes: usize, mask: *const c_void) -> c_int;
         fn ioctl(file: c_int, request: c_ulong, argument: *mut c_void) -> c_int;
     }
 
+    /// Processors as Linux has them: bit n of the mask is processor n.
+    type Mask = [u64; 128];
+
     /// Stays on the processor that runs this thread, and gives its number: the rows of two processors must not be mixed.
     pub fn stay() -> io::Result<usize> {
         // SAFETY: it takes nothing
-        let processor = unsafe { sched_getcpu() };
-        let mut mask = [0u64; 128];
-        let Some(word) = mask.get_mut(processor.max(0) as usize / 64).filter(|_| processor >= 0) else { return Err(io::Error::last_os_error()) };
-        *word = 1 << (processor % 64);
+        let processor = usize::try_from(unsafe { sched_getcpu() }).map_err(|_| io::Error::last_os_error())?;
+        stay_on(processor).map(|()| processor)
+    }
+
+    /// Goes to a processor and stays there.
+    pub fn stay_on(processor: usize) -> io::Result<()> {
+        let mut mask: Mask = [0; 128];
+        *mask.get_mut(processor / 64).ok_or(io::ErrorKind::Unsupported)? = 1 << (processor % 64);
         // SAFETY: the pointer and length are those of the array, which it only reads
         match unsafe { sched_setaffinity(0, size_of_val(&mask), mask.as_ptr().cast()) } {
-            0 => Ok(processor as usize),
+            0 => Ok(()),
             _ => Err(io::Error::last_os_error()),
         }
+    }
+
+    /// The processors that this thread may run on.
+    pub fn allowed() -> io::Result<Vec<usize>> {
+        let mut mask: Mask = [0; 128];
+        // SAFETY: the pointer and length are those of the array, which it writes
+        match unsafe { sched_getaffinity(0, size_of_val(&mask), mask.as_mut_ptr().cast()) } {
+            0 => Ok((0..64 * mask.len()).filter(|processor| mask[processor / 64] >> (processor % 64) & 1 == 1).collect()),
+            _ => Err(io::Error::last_os_error()),
+        }
+    }
+
+    /// XCR0 of this processor; its value after reset where the operating system has not switched XSAVE on, since nobody can read it then.
+    pub fn xcr0() -> u64 {
+        if cpuid(1, 0)[2] >> 27 & 1 == 0 {
+            return 1;
+        }
+        let (low, high): (u32, u32);
+        // SAFETY: OSXSAVE is on, so that the instruction is there, and register 0 is XCR0
+        unsafe { asm!("xgetbv", in("ecx") 0, out("eax") low, out("edx") high, options(nomem, nostack, preserves_flags)) };
+        u64::from(high) << 32 | u64::from(low)
     }
 
     /// EAX, EBX, ECX and EDX.
@@ -83,6 +113,18 @@ mod elsewhere {
         none()
     }
 
+    pub fn stay_on(_processor: usize) -> io::Result<()> {
+        none()
+    }
+
+    pub fn allowed() -> io::Result<Vec<usize>> {
+        none()
+    }
+
+    pub fn xcr0() -> u64 {
+        1
+    }
+
     pub fn cpuid(_leaf: u32, _subleaf: u32) -> [u32; 4] {
         [0; 4]
     }
@@ -93,4 +135,4 @@ mod elsewhere {
 }
 
 #[cfg(not(all(target_arch = "x86_64", target_os = "linux")))]
-pub use elsewhere::{cpuid, stay, supported};
+pub use elsewhere::{allowed, cpuid, stay, stay_on, supported, xcr0};

@@ -4,6 +4,7 @@
 //! A further command is a file in commands/ and its line in commands/mod.rs.
 
 mod arguments;
+mod arithmetic;
 mod building;
 mod caches;
 mod command;
@@ -33,6 +34,7 @@ mod source;
 mod standing;
 mod suggest;
 mod topology;
+mod view;
 mod words;
 mod wrap;
 

@@ -1,14 +1,18 @@
 //! `compare`: whether a guest of one server may move to another, why not, and what their tables differ in.
 
 use crate::arguments::Arguments;
+use crate::arithmetic::chosen_by;
 use crate::building::{self, Building, refusal_json, told};
 use crate::command::Command;
 use crate::differences::{Difference, HTT, Tables, differences, lines};
 use crate::failure::Failure;
-use crate::features::{self, REGISTERS};
+use crate::features::{self, FeatureBit, REGISTERS};
+use crate::fleet::bits::{self, Bits};
+use crate::fleet::text::listed;
 use crate::json::{self, Json, array, hex, object};
 use crate::masks::kept;
-use crate::print::{place, place_json};
+use crate::option::Opt;
+use crate::print::{bit_json, place, place_json};
 use crate::source::Source;
 use crate::standing::Standing;
 use crate::wrap::wrapped;
@@ -31,11 +35,12 @@ impl Server {
         self.standing.first(leaf, subleaf).expect("the library has compared this entry").name()
     }
 
-    /// Its line under the answer.
-    fn line(&self) -> String {
+    /// Its lines under the answer.
+    fn lines(&self) -> String {
         let answer = match &self.table {
             Ok(table) => {
-                format!("{}, {}", if self.is_image { "an image" } else { "accepted" }, words::counted(table.rows().count() as u32, "row"))
+                let (what, rows) = (if self.is_image { "an image" } else { "accepted" }, words::counted(table.rows().count() as u32, "row"));
+                format!("{what}, {rows}\n   fingerprint {}", table.fingerprint())
             }
             Err(refusal) => told(*refusal),
         };
@@ -44,23 +49,33 @@ impl Server {
 
     fn json(&self, building: Building) -> Json {
         let refusal = self.table.as_ref().err().map(|refusal| refusal_json(*refusal, &building.reason(*refusal, &self.pages)));
+        let fingerprint = self.table.as_ref().ok().map(|table| table.fingerprint().to_string());
         let answer = [("accepted", self.table.is_ok().into()), ("image", self.is_image.into()), ("refusal", refusal.into())];
-        object([("file", self.file.as_str().into())]).with(answer)
+        object([("file", self.file.as_str().into())]).with(answer).with([("fingerprint", fingerprint.into())])
     }
 }
+
+const SAME: Opt = Opt::flag(&["--same"], "exit with 0 only where A and B give a guest the same table");
 
 pub const COMMAND: Command = Command {
     name: "compare",
     operands: &["A", "B"],
-    options: &[&[json::OPTION], building::OPTIONS],
-    summary: "say whether a guest of server A may move to server B, and why not",
+    options: &[&[SAME, json::OPTION], building::OPTIONS],
+    summary: "say whether A and B give one table, or a guest of A may move to B, and why not",
     about: "\
-Compares two servers. The first line says whether a guest of A may move to B: 'yes' where B's table
-has every row of A's, at least A's features, a save area no smaller, and everything else equal; else
-'no' and the first bit, register or row in the way. Then come the differences of the two tables:
-first those in the way from A to B, each feature bit by name, each other register by value and each
-row that B lacks, with the page and entry of A's and B's, counted from 0; then those that are not,
-where B has more.
+Compares two servers. The first line begins with one of three words. 'same': A and B give a guest
+the same table, so programs see no difference. 'yes': a running guest of A may move to B, because
+B's table has every row of A's, at least A's features, a save area no smaller, and everything else
+equal; programs that start there may see more, and the line names the feature bits. 'no', and the
+first bit, register or row in the way. Then come the two fingerprints, and the differences of the
+two tables: first those in the way from A to B, each feature bit by name, each other register by
+value and each row that B lacks, with the page and entry of A's and B's, counted from 0; then those
+that are not, where B has more.
+
+By some bits libraries choose the code that computes, so a program that starts may print another
+last decimal: by FMA with AVX2, and by FMA4, glibc's libm; by FMA with AVX2, and by AVX512DQ, its
+vector library libmvec; by AVX2 and AVX-512 OpenBLAS. Such bits are marked with these names. A guest
+that must print the same figures after a restart needs --same, or the table of a pool.
 
 The last lines compare the entries, in both directions. There 'yes' says more: for every row of A's
 table but 0 and 80000000 B has a first entry with at least the bits of A's in feature registers, and
@@ -73,8 +88,8 @@ that the servers have, or both from dumps of the same kind: pages made from the 
 of to-dump hold what the table's rules have set and cleared, such as BTC_NO.
 ",
     status: "\
-Exit status: 0 yes, 1 no, also where one of them is refused, which standard error says; 2 bad usage
-or a file that cannot be read.
+Exit status: 0 same or yes, with --same only same; else 1, also where one of them is refused, which
+standard error says; 2 bad usage or a file that cannot be read.
 ",
     run,
 };
@@ -106,7 +121,7 @@ fn run(arguments: &Arguments) -> Result<(), Failure> {
     match (&a.table, &b.table) {
         (Err(refusal), _) => refused(&a, *refusal),
         (_, Err(refusal)) => refused(&b, *refusal),
-        _ if report.answer() == "yes" => Ok(()),
+        _ if report.equal() || report.answer() == "yes" && !arguments.has(&SAME) => Ok(()),
         _ => Err(Failure::AnswerNo),
     }
 }
@@ -144,10 +159,28 @@ impl Report<'_> {
             (Err(a), Err(b)) => format!("no: A is refused, by {}, and B, by {}.", a.number(), b.number()),
             (Err(refusal), Ok(_)) => format!("no: A is refused, by {}, so it has no guest.", refusal.number()),
             (Ok(_), Err(refusal)) => format!("no: B is refused, by {}.", refusal.number()),
-            _ if self.equal() => "yes: a guest of A may move to B. The tables are equal, row for row.".into(),
-            _ if self.answer() == "yes" => format!("yes: a guest of A may move to B. {}.", self.rises.promise()),
+            _ if self.equal() => "same: A and B give a guest the same table, row for row.".into(),
+            _ if self.answer() == "yes" => format!("yes: a running guest of A may move to B, {}. {}.", self.seen_there(), self.rises.promise()),
             _ => format!("no: a guest of A may not move to B. {}.", self.obstacle().unwrap_or_default()),
         }
+    }
+
+    /// The feature bits that B's table has and A's has not.
+    fn more(&self) -> Vec<FeatureBit> {
+        match self.servers() {
+            (Server { table: Ok(a), .. }, Server { table: Ok(b), .. }) => bits::lacked(b, a).iter().flat_map(Bits::each).collect(),
+            _ => vec![],
+        }
+    }
+
+    /// What a program that starts on B may see, and whether it may compute otherwise.
+    fn seen_there(&self) -> String {
+        let more = self.more();
+        let names = |bits: &mut dyn Iterator<Item = &FeatureBit>| bits.map(|bit| bit.name.to_string()).collect::<Vec<_>>();
+        let (all, marked) = (names(&mut more.iter()), names(&mut more.iter().filter(|bit| !chosen_by(bit).is_empty())));
+        let seen = if all.is_empty() { "a larger save area".into() } else { listed(&all) };
+        let seen = format!("and programs that start there may see more: {seen}");
+        if marked.is_empty() { seen } else { format!("{seen}. By {} libraries choose how they compute, so figures may change", listed(&marked)) }
     }
 
     /// The first thing in the way, by the tables.
@@ -168,7 +201,7 @@ impl Report<'_> {
     fn text(&self) -> String {
         let (a, b) = self.servers();
         let edition = self.edition().map_or(String::new(), |edition| format!("under edition {edition} of the AVX rule\n"));
-        let mut text = wrapped("", &self.verdict()) + "\n" + &a.line() + &b.line() + &edition + "\n";
+        let mut text = wrapped("", &self.verdict()) + "\n" + &a.lines() + &b.lines() + &edition + "\n";
         let all = self.differences();
         for (heading, blocks) in [("In the way from A to B:", true), ("Not in the way from A to B:", false)] {
             let lines = lines(&NAMES, all.iter().filter(|difference| difference.blocks() == blocks));
@@ -196,6 +229,7 @@ impl Report<'_> {
             ("edition", self.edition().into()),
             ("equal", self.equal().into()),
             ("words", self.verdict().into()),
+            ("more", array(if self.answer() == "yes" { self.more() } else { vec![] }.iter().map(marked_json))),
             ("a", a.json(self.building)),
             ("b", b.json(self.building)),
             ("differences", array(self.differences().iter().map(Difference::json))),
@@ -203,6 +237,11 @@ impl Report<'_> {
             ("b_to_a", direction(&self.falls)),
         ])
     }
+}
+
+/// A feature bit, and the libraries that choose their code by it.
+fn marked_json(bit: &FeatureBit) -> Json {
+    bit_json(bit).with([("libraries", array(chosen_by(bit).iter().copied()))])
 }
 
 /// What lines call the two.

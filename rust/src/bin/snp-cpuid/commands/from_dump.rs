@@ -63,6 +63,20 @@ pub fn taken(text: &[u8]) -> Result<Taken, String> {
     Ok(Taken { pages: two_pages(&kept)?, cpus: dump.cpus, kept: kept.len(), left: left.len() })
 }
 
+/// The rows of each CPU of a dump.
+pub fn by_cpu(text: &[u8]) -> Result<Vec<Vec<Entry>>, String> {
+    let lines: Vec<&[u8]> = text.split(|byte| *byte == b'\n').collect();
+    let is_heading = |line: &&[u8]| matches!(line_of(&String::from_utf8_lossy(line)), Some(Line::Cpu));
+    let mut starts: Vec<usize> = (0..lines.len()).filter(|line| is_heading(&lines[*line])).collect();
+    if starts.is_empty() {
+        starts.push(0);
+    }
+    let end = |cpu: usize| starts.get(cpu + 1).copied().unwrap_or(lines.len());
+    // empty lines in front, so that a message has the number of its line in the file
+    let part = |cpu: usize| [vec![&b""[..]; starts[cpu]], lines[starts[cpu]..end(cpu)].to_vec()].concat().join(&b'\n');
+    (0..starts.len()).map(|cpu| parse(&part(cpu)).map(|dump| dump.rows)).collect()
+}
+
 /// The rows of a dump's first CPU, and how many CPUs it has.
 struct Dump {
     rows: Vec<Entry>,

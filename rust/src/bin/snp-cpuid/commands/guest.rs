@@ -20,7 +20,7 @@ Prints the table of the pages as the guest of one processor sees it, in the form
 differs from what 'table' prints in the processor's number (1.EBX bits 24-31, B.0.EDX, B.1.EDX), in
 1.ECX bit 27 (OSXSAVE), in D.0.EBX, the size of the save area of XCR0, and in D.1.EBX, the size of
 the compacted area of XCR0 and XSS. N and X are hexadecimal, with or without 0x. Rows have the
-origins that 'table' gives them.
+origins that 'table' gives them, and the fingerprint is the table's, the same for every processor.
 ",
     status: "\
 Exit status: 0 accepted, 1 refused (13 and 14 are the guest's), 2 bad usage or a file that cannot be
@@ -33,10 +33,11 @@ fn run(arguments: &Arguments) -> Result<(), Failure> {
     let seen = processor::of(arguments, COMMAND.name)?;
     let building = Building::of(arguments, COMMAND.name)?;
     let file = &arguments.operands[0];
-    let table = building.seen(file, seen)?;
+    let whole = building.table(file)?;
+    let (table, fingerprint) = (building.view(file, &whole, seen)?, whole.fingerprint());
     if building.json() {
-        let of = seen.map(processor::json);
-        return output::print(table::accepted(&shown(file), building.edition(), &table).with([("processor", of.into())]).to_string());
+        let answer = table::accepted(&shown(file), building.edition(), &table, fingerprint);
+        return output::print(answer.with([("processor", seen.map(processor::json).into())]).to_string());
     }
-    output::print(table::text(&table, Form::of(arguments)))
+    output::print(table::text(&table, Form::of(arguments), fingerprint))
 }

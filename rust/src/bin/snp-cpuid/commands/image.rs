@@ -13,7 +13,8 @@ pub const COMMAND: Command = Command {
     summary: "write the table as bytes",
     about: "\
 Writes the table of the pages as bytes: for each row byte 1, leaf, EAX, EBX, ECX, EDX, or byte 2,
-leaf, subleaf and the four registers, each number 4 bytes little-endian.
+leaf, subleaf and the four registers, each number 4 bytes little-endian. A note on standard error
+has the table's fingerprint, the SHA-256 of these bytes.
 ",
     status: "\
 Exit status: 0 accepted and written, 1 refused, 2 bad usage or a file that cannot be read or
@@ -24,5 +25,7 @@ written.
 
 fn run(arguments: &Arguments) -> Result<(), Failure> {
     let table = Building::of(arguments, COMMAND.name)?.table(&arguments.operands[0])?;
-    output::write(arguments, &table.image())
+    output::write(arguments, &table.image())?;
+    output::say(&format!("note: fingerprint {}", table.fingerprint()));
+    Ok(())
 }

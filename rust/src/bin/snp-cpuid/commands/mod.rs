@@ -2,6 +2,7 @@
 
 mod capture;
 mod carry;
+mod check;
 mod compare;
 mod completion;
 mod entries;
@@ -29,6 +30,7 @@ pub const ALL: &[Command] = &[
     image::COMMAND,
     lookup::COMMAND,
     guest::COMMAND,
+    check::COMMAND,
     carry::COMMAND,
     capture::COMMAND,
     from_dump::COMMAND,

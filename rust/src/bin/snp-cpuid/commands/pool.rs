@@ -31,9 +31,9 @@ pub const COMMAND: Command = Command {
 Makes one table of the page sets of 2 to 16 servers, for a guest that moves between them: a feature
 bit or an extended state is in it where every server's table has it, the save area is that of the
 states that are left, and all else is the first server's. With -o the table is written as bytes, in
-the form of 'image'; without, it is printed as by 'table', and --origins says where a row stands in
-the first server's pages. PAGES may be an image too, also that of another pool: then the tables are
-pooled, and nobody knows where the pool's rows came from.
+the form of 'image', and a note has its fingerprint; without, it is printed as by 'table', and
+--origins says where a row stands in the first server's pages. PAGES may be an image too, also that
+of another pool: then the tables are pooled, and nobody knows where the pool's rows came from.
 
 Notes on standard error say which feature bits each server cost the pool: those that the tables of
 all other servers have and its own has not. A bit that more than one server lacks is no single
@@ -66,12 +66,15 @@ fn run(arguments: &Arguments) -> Result<(), Failure> {
     }
     if building.json() {
         let answer = object([("answer", "accepted".into()), ("edition", building.edition().into()), ("image", output::file_json(arguments))]);
-        return output::print(answer.with(servers.json()).with(super::table::members(&table)).to_string());
+        return output::print(answer.with(servers.json()).with(super::table::members(&table, table.fingerprint())).to_string());
     }
     if !arguments.has(&IMAGE) {
-        output::print(super::table::text(&table, Form::of(arguments)))?;
+        output::print(super::table::text(&table, Form::of(arguments), table.fingerprint()))?;
     }
     servers.notes().iter().for_each(|note| output::say(&format!("note: {note}")));
+    if arguments.has(&IMAGE) {
+        output::say(&format!("note: fingerprint {}", table.fingerprint()));
+    }
     Ok(())
 }
 

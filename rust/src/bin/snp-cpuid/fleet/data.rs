@@ -16,6 +16,9 @@ use snp_cpuid::{Comparison, Register, TableComparison};
 /// Beyond so many classes the moves are not listed pair by pair.
 const MOST_LISTED: usize = 100;
 
+/// The version of this form: it rises where a member goes or means something else.
+pub const FORM: u32 = 1;
+
 /// The report.
 pub fn of(fleet: &Fleet) -> Json {
     let place = |class: &usize| fleet.classes[*class].name.as_str();
@@ -26,6 +29,8 @@ pub fn of(fleet: &Fleet) -> Json {
     };
     object([
         ("answer", answer.into()),
+        ("version", FORM.into()),
+        ("tool", crate::VERSION.trim_end().into()),
         ("edition", fleet.building.edition().into()),
         ("secure_avic", fleet.building.secure_avic().into()),
         ("accepted", fleet.accepted().into()),
@@ -48,6 +53,7 @@ fn names(fleet: &Fleet, classes: &[usize]) -> Json {
 
 fn server(fleet: &Fleet, server: &Server) -> Json {
     let source = &server.source;
+    let fingerprint = if let Answer::Class(class) = server.answer { Some(fleet.classes[class].fingerprint.to_string()) } else { None };
     let (answer, class, refusal, why) = match &server.answer {
         Answer::Class(class) => ("accepted", fleet.classes[*class].name.as_str().into(), Json::Null, Json::Null),
         Answer::Refused(refusal) => {
@@ -62,6 +68,7 @@ fn server(fleet: &Fleet, server: &Server) -> Json {
         ("kind", source.kind.name().into()),
         ("answer", answer.into()),
         ("class", class),
+        ("fingerprint", fingerprint.into()),
         ("refusal", refusal),
         ("why", why),
     ])
@@ -82,9 +89,10 @@ fn group(fleet: &Fleet, group: &Group) -> Json {
 }
 
 fn class(fleet: &Fleet, place: usize) -> Json {
-    let Class { name, group, servers, table } = &fleet.classes[place];
+    let Class { name, group, servers, table, fingerprint } = &fleet.classes[place];
     object([
         ("name", name.as_str().into()),
+        ("fingerprint", fingerprint.to_string().into()),
         ("group", fleet.groups[*group].letter.as_str().into()),
         ("servers", array(servers.iter().map(|server| fleet.servers[*server].source.name.as_str()))),
         ("row_count", table.rows().count().into()),
@@ -92,6 +100,7 @@ fn class(fleet: &Fleet, place: usize) -> Json {
         ("save_area_bytes", groups::save_area(table).into()),
         ("lacks", array(bits::names(&differing::lacks(fleet, place)))),
         ("may_go_to", fleet.moves.rises[place].as_ref().map_or(Json::Null, |to| names(fleet, to))),
+        ("image", table.image().iter().map(|byte| format!("{byte:02x}")).collect::<String>().into()),
     ])
 }
 

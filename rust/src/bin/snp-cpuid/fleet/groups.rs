@@ -36,7 +36,8 @@ pub fn named(tables: Tables) -> (Vec<Class>, Vec<Group>) {
         group.sort_by_cached_key(|(servers, table)| (u32::MAX - bits::count(table), usize::MAX - servers.len(), table.image().to_vec()));
         let named = group.into_iter().enumerate().map(|(number, (servers, table))| {
             let name = format!("{letter}{}", number + 1);
-            Class { name, group: place, servers, table }
+            let fingerprint = table.fingerprint();
+            Class { name, group: place, servers, table, fingerprint }
         });
         classes.extend(named);
         let tables: Vec<&Table> = classes[first..].iter().map(|class: &Class| &class.table).collect();

@@ -16,7 +16,7 @@ use groups::Group;
 use moves::Moves;
 use pools::Pool;
 use refused::Refused;
-use snp_cpuid::{Refusal, Table};
+use snp_cpuid::{Fingerprint, Refusal, Table};
 use source::{Given, Source};
 use std::collections::HashMap;
 
@@ -48,6 +48,8 @@ pub struct Class {
     /// the places of its servers
     pub servers: Vec<usize>,
     pub table: Table,
+    /// by which it is known whatever servers come and go
+    pub fingerprint: Fingerprint,
 }
 
 /// All that a report says. Servers stand in the order of their files' names: the same files in another order give the same report.

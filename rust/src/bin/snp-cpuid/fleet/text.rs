@@ -101,7 +101,7 @@ fn classes(fleet: &Fleet) -> String {
     if fleet.classes.is_empty() {
         return String::new();
     }
-    let mut text = "Classes: all servers of a class give a guest the same table\n".to_string();
+    let mut text = "Classes: all servers of a class give a guest one table, of this fingerprint\n".to_string();
     for group in fleet.groups.iter().take(CLASSES) {
         let name = groups::processor(&fleet.classes[group.classes.start].table);
         text += &wrapped(&format!("{:3}", group.letter), &format!("{name}: {}", described(group, &fleet.classes)));
@@ -109,7 +109,8 @@ fn classes(fleet: &Fleet) -> String {
             let (class, lacks) = (&fleet.classes[place], bits::names(&differing::lacks(fleet, place)));
             let lacks: Vec<String> = lacks.into_iter().map(String::from).collect();
             let without = if lacks.is_empty() { String::new() } else { format!("; without {}", folded(&lacks)) };
-            text += &wrapped(&format!("   {:5}{:>5}  ", class.name, class.servers.len()), &(folded(&server_names(fleet, &class.servers)) + &without));
+            let label = format!("   {:5}{:.8}{:>5}  ", class.name, class.fingerprint, class.servers.len());
+            text += &wrapped(&label, &(folded(&server_names(fleet, &class.servers)) + &without));
         }
         text += &more_classes(group);
     }

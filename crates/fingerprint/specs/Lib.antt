@@ -1,0 +1,2 @@
+pub mod Fingerprint
+pub mod FingerprintLaws
