@@ -6,8 +6,8 @@
 # make dist       an archive of the same with the documents and a file of sums, tried out from an empty folder; the same bytes each time
 # make proved     print what is proved
 # make test       the whole gate: proofs from nothing, must-fail edits, programs, and the tests in tests/
-# make bench      image, build and lookups against plain C by gcc and by clang, as ratios of time, over six link orders, and of instructions;
-#                 and build and lookups by the Rust crate against the same calls from C
+# make bench      image, build and lookups against the best C that we can write, by gcc and by clang, as ratios of instructions and of time over six
+#                 link orders; build and lookups by the Rust crate against the same calls from C; and the nearest bit
 # make bench-rust against the Rust too, with overflow checks and without; OPENVMM_CVM_CPUID names its folder (differential/README.md)
 #
 # SNP_CPUID_LIB=FOLDER takes libsnp_cpuid.a from there, and the Rattle kit is not needed: nothing is proved then. It must be the library that was
@@ -125,13 +125,15 @@ dist: stage
 	@$(SMOKE) target/dist/$(ARCHIVE).tar.gz
 	@echo target/dist/$(ARCHIVE).tar.gz
 
-bench: target/staticlib/libsnp_cpuid.a
-	@bench/run
+bench: $(LIBRARY)
+	@SNP_CPUID_LIB=$(abspath $(dir $(LIBRARY))) bench/run
+	@echo
+	@SNP_CPUID_LIB=$(abspath $(dir $(LIBRARY))) bench/nearest
 
 # the Rust with each of its two profiles, as a library for the same driver
-bench-rust: target/staticlib/libsnp_cpuid.a
+bench-rust: $(LIBRARY)
 	@for profile in release unchecked; do \
 	    (cd differential && cargo rustc --offline --quiet --profile $$profile -p oracle --crate-type staticlib --target-dir ../target/differential) \
 	        || exit 1; \
 	done
-	@bench/run release unchecked
+	@SNP_CPUID_LIB=$(abspath $(dir $(LIBRARY))) bench/run release unchecked

@@ -1,4 +1,4 @@
-/* The proved library beside plain C of one compiler or two and, with WITH_RUST, the Rust of differential/oracle, in one process.
+/* The proved library beside the C of one compiler or two and, with WITH_RUST, the Rust of differential/oracle, in one process.
  *
  *   bench PAGES
  *
@@ -8,9 +8,10 @@
  * With WITH_CRATE there are lines with the functions of the crate in rust/ (rust.rs): the function, the input, the port's median as C calls it, the
  * crate's, and crate / port; and the last has finds by the port and in the map of map.rs, and map / port.
  *
- *   bench PAGES MAKER WORK INPUT CALLS
+ *   bench PAGES functions|loops
  *
- * calls one function and no other of its kind, for a count of its instructions. The crate is the maker after the last, and has works of its own. */
+ * calls all in turn, for counts of instructions: a line with work, input and maker for each call of `counted`. Functions are those of port and C;
+ * loops are the crate's, and those that make the same calls from C. */
 #include "plain.h"
 #include "timing.h"
 
@@ -30,9 +31,7 @@ enum { ROOM = 1024, EDITION = 1 };
     {#maker, maker##_write_image, maker##_table_build, maker##_table_find, maker##_table_guest_find, maker##_table_guest_find_kept}
 
 DECLARE(gcc)
-DECLARE(gcc_once)
 DECLARE(clang)
-DECLARE(clang_once)
 
 static const struct maker {
     const char *name;
@@ -44,10 +43,8 @@ static const struct maker {
 } MAKERS[] = {
     MAKER(snp_cpuid),
     MAKER(gcc),
-    MAKER(gcc_once),
 #ifdef WITH_CLANG
     MAKER(clang),
-    MAKER(clang_once),
 #endif
 };
 
@@ -60,6 +57,9 @@ static struct input {
     const uint8_t *pages;
     size_t length;
 } inputs[5];
+
+/* two full pages with every state that a table can have: compared, not measured */
+static uint8_t *rich;
 
 static struct snp_cpuid_table table;
 static struct snp_cpuid_state kept;
@@ -92,27 +92,40 @@ static void builds(const struct maker *m, const struct input *in, int calls)
         sink += m->build(in->pages, in->length, false, EDITION, t.registers, t.origins).row_count + t.registers[0];
 }
 
+/* A row is handed on as a handler of CPUID exits does: each register to where its guest finds it, and where the row came from. */
+static volatile uint64_t guest[5];
+#define HAND_ON(f) (guest[0] = (f).eax, guest[1] = (f).ebx, guest[2] = (f).ecx, guest[3] = (f).edx, guest[4] = (f).page + (f).entry)
+
 static void finds(const struct maker *m, const struct input *in, int calls)
 {
     (void)in;
-    for (int i = 0; i < calls; i++)
-        sink += m->find(table.registers, table.origins, EXITS[i % N_EXITS][0], true, EXITS[i % N_EXITS][1], false).eax;
+    for (int i = 0; i < calls; i++) {
+        struct snp_cpuid_found f = m->find(table.registers, table.origins, EXITS[i % N_EXITS][0], true, EXITS[i % N_EXITS][1], false);
+        if (f.found)
+            HAND_ON(f);
+    }
 }
 
 static void guest_finds(const struct maker *m, const struct input *in, int calls)
 {
     (void)in;
-    for (int i = 0; i < calls; i++)
-        sink += m->guest_find(table.registers, table.origins, CPU.x2apic, CPU.xcr0, CPU.xss, CPU.osxsave, EXITS[i % N_EXITS][0], true,
-                              EXITS[i % N_EXITS][1], false).eax;
+    for (int i = 0; i < calls; i++) {
+        struct snp_cpuid_guest_found f = m->guest_find(table.registers, table.origins, CPU.x2apic, CPU.xcr0, CPU.xss, CPU.osxsave,
+                                                       EXITS[i % N_EXITS][0], true, EXITS[i % N_EXITS][1], false);
+        if (f.found)
+            HAND_ON(f);
+    }
 }
 
 static void guest_finds_kept(const struct maker *m, const struct input *in, int calls)
 {
     (void)in;
-    for (int i = 0; i < calls; i++)
-        sink += m->guest_find_kept(table.registers, table.origins, CPU.x2apic, CPU.xcr0, CPU.xss, CPU.osxsave, kept.size, EXITS[i % N_EXITS][0], true,
-                                   EXITS[i % N_EXITS][1], false).eax;
+    for (int i = 0; i < calls; i++) {
+        struct snp_cpuid_found f = m->guest_find_kept(table.registers, table.origins, CPU.x2apic, CPU.xcr0, CPU.xss, CPU.osxsave, kept.size,
+                                                      EXITS[i % N_EXITS][0], true, EXITS[i % N_EXITS][1], false);
+        if (f.found)
+            HAND_ON(f);
+    }
 }
 
 enum { IMAGE, BUILD, FIND, GUEST_FIND, GUEST_FIND_KEPT, N_WORKS };
@@ -196,11 +209,27 @@ static void compare_rows(const struct maker *m, uint32_t leaf, bool has, uint32_
     }
 }
 
+/* both pages with each bit of their counts and of their counted entries changed, one at a time: every check refuses some of these */
+static void compare_flips(const struct maker *m, const uint8_t *pages)
+{
+    static uint8_t flipped[8192];
+    const struct input in = {"a set with one bit changed", flipped, sizeof flipped};
+    memcpy(flipped, pages, sizeof flipped);
+    for (int p = 0; p < 2; p++)
+        for (int bit = 0; bit < 8 * (16 + 48 * pages[4096 * p]); bit++) {
+            flipped[4096 * p + bit / 8] ^= 1 << bit % 8;
+            compare_sets(m, &in, bit / 8 % 2, bit % 2 + 1);
+            flipped[4096 * p + bit / 8] ^= 1 << bit % 8;
+        }
+}
+
 static void compare(const struct maker *m)
 {
     for (int i = 0; i < 5; i++)
         for (int choice = 0; choice < 6; choice++)
             compare_sets(m, &inputs[i], choice % 2, choice / 2 + 1);
+    compare_flips(m, inputs[0].pages);
+    compare_flips(m, rich);
     for (int i = 0; i < N_EXITS; i++)
         for (int choice = 0; choice < 12; choice++)
             compare_rows(m, EXITS[i][0], choice % 2, EXITS[i][1] + choice / 4, choice / 2 % 2);
@@ -389,8 +418,19 @@ static uint8_t *full_pages(const uint8_t *pages)
     return full;
 }
 
+/* full pages where copies of D.2 are D.5 to D.7, and D.0.EAX has their bits */
+static uint8_t *rich_pages(const uint8_t *pages)
+{
+    uint8_t *full = full_pages(pages), *entries = full + 4096 + 16;
+    for (int k = 0; k < 3; k++)
+        entries[48 * (8 + 6 * k) + 4] = 5 + k;
+    entries[24] = 0xe7;
+    return full;
+}
+
 static void make_inputs(const uint8_t *pages)
 {
+    rich = rich_pages(pages);
     uint8_t *full = full_pages(pages), *sixteen = malloc(16 * 4096), *unclean = malloc(16 * 4096), *refused = malloc(8192);
     memcpy(sixteen, full, 8192);
     for (int p = 2; p < 16; p++)
@@ -430,29 +470,63 @@ static void measure_all(void)
 #endif
 }
 
+/* ---- counting: bench/run has callgrind begin where count_functions or count_loops is called, and dump behind each call of counted or
+ * counted_crate */
+
+#define NOINLINE static __attribute__((noinline))
+enum { CALLS_COUNTED = 2 * N_EXITS };
+
+NOINLINE void counted(const struct work *work, const struct maker *m, int i, const char *name, const char *by)
+{
+    work->run(m, &inputs[i], CALLS_COUNTED);
+    printf("%s\t%s\t%s\n", name, input_name(work, i), by);
+}
+
+NOINLINE void count_functions(void)
+{
+    for (int k = 0; k < N_WORKS; k++)
+        for (int i = 0; i < WORKS[k].inputs; i++)
+            for (int maker = 0; maker < N_MAKERS; maker++)
+                counted(&WORKS[k], &MAKERS[maker], i, WORKS[k].name, MAKERS[maker].name);
+}
+
+#ifdef WITH_CRATE
+NOINLINE void counted_crate(const struct crate_work *by_crate, int i)
+{
+    run_by_crate(by_crate, &inputs[i], CALLS_COUNTED);
+    printf("%s\t%s\tcrate\n", by_crate->name, input_name(&WORKS[by_crate->work], i));
+}
+
+NOINLINE void count_loops(void)
+{
+    for (int k = 0; k < N_CRATE_WORKS; k++)
+        for (int i = 0; i < WORKS[CRATE_WORKS[k].work].inputs; i++) {
+            counted(&WORKS[CRATE_WORKS[k].work], &MAKERS[PORT], i, CRATE_WORKS[k].name, "C");
+            counted_crate(&CRATE_WORKS[k], i);
+        }
+}
+#endif
+
 int main(int argc, char **argv)
 {
     static uint8_t pages[8192];
-    FILE *f = argc == 2 || argc == 6 ? fopen(argv[1], "rb") : NULL;
+    const char *count = argc == 3 ? argv[2] : "";
+    FILE *f = argc == 2 || argc == 3 ? fopen(argv[1], "rb") : NULL;
     if (!f || fread(pages, 1, sizeof pages, f) != sizeof pages) {
-        fprintf(stderr, "usage: bench PAGES [MAKER WORK INPUT CALLS] (two pages, numbers)\n");
+        fprintf(stderr, "usage: bench PAGES [functions|loops] (two pages)\n");
         return 2;
     }
     fclose(f);
     make_inputs(pages);
     snp_cpuid_table_build(pages, sizeof pages, false, EDITION, table.registers, table.origins);
     kept = snp_cpuid_table_state(table.registers, table.origins, CPU.xcr0, CPU.xss);
-    if (argc == 2) {
-        measure_all();
-        return 0;
-    }
-    int maker = atoi(argv[2]), work = atoi(argv[3]), calls = atoi(argv[5]);
-    const struct input *in = &inputs[atoi(argv[4])];
-    if (maker < N_MAKERS)
-        WORKS[work].run(&MAKERS[maker], in, calls);
+    if (!strcmp(count, "functions"))
+        count_functions();
 #ifdef WITH_CRATE
-    else
-        run_by_crate(&CRATE_WORKS[work], in, calls);
+    else if (!strcmp(count, "loops"))
+        count_loops();
 #endif
+    else
+        measure_all();
     return 0;
 }

@@ -1,10 +1,10 @@
 //! The Rust that bench.c calls: here the crate's own functions, and in map.rs a table in the shape of OpenHCL's.
 //!
-//! A function that is timed makes all calls of a round, so that a call takes what it takes a caller in Rust; `black_box` has every answer stand whole
-//! in memory, as it does in C. Those of the library's own types are for the comparison before anything is timed.
-use snp_cpuid::{Details, Found, Options, Origin, Processor, Refusal, State, Table, exports};
+//! A function that is timed makes all calls of a round, so that a call takes what it takes a caller in Rust; it uses tables and rows as bench.c does.
+//! Those of the library's own types are for the comparison before anything is timed.
+use snp_cpuid::{CpuidResult, Details, Found, Options, Origin, Processor, Refusal, State, Table, exports};
 use std::hint::black_box;
-use std::slice;
+use std::{ptr, slice};
 
 mod map;
 
@@ -71,11 +71,24 @@ pub unsafe extern "C" fn crate_rebuilds(_: &Questions, pages: *const u8, length:
     }
 }
 
+/// Hands a row on as a handler of CPUID exits does: each register to where its guest finds it, and where the row came from.
+#[inline(always)]
+fn hand_on(row: Option<Found>, guest: &mut [u64; 5]) {
+    let Some(Found { result: CpuidResult { eax, ebx, ecx, edx }, origin }) = row else { return };
+    let place = if let Origin::Entry { page, entry } = origin { page + entry } else { 0 };
+    for (register, value) in guest.iter_mut().zip([eax.into(), ebx.into(), ecx.into(), edx.into(), place as u64]) {
+        // SAFETY: it is a reference
+        unsafe { ptr::write_volatile(register, value) };
+    }
+}
+
 /// One call for each exit in turn.
 #[inline(always)]
-fn each_exit<Answer>(questions: &Questions, calls: usize, call: impl Fn(&Guest, u32, Option<u32>) -> Answer) {
-    for &[leaf, subleaf] in questions.exits.iter().cycle().take(calls) {
-        black_box(&call(&questions.guest, leaf, Some(subleaf)));
+fn each_exit(questions: &Questions, calls: usize, call: impl Fn(&Guest, u32, Option<u32>) -> Option<Found>) {
+    let mut registers = [0; 5];
+    for i in 0..calls {
+        let [leaf, subleaf] = questions.exits[i % questions.exits.len()];
+        hand_on(call(&questions.guest, leaf, Some(subleaf)), &mut registers);
     }
 }
 
@@ -86,7 +99,7 @@ pub extern "C" fn crate_finds(questions: &Questions, _: *const u8, _: usize, cal
 
 #[unsafe(no_mangle)]
 pub extern "C" fn crate_guest_finds(questions: &Questions, _: *const u8, _: usize, calls: usize) {
-    each_exit(questions, calls, |guest, leaf, subleaf| guest.table.guest_row(guest.processor, leaf, subleaf, false));
+    each_exit(questions, calls, |guest, leaf, subleaf| guest.table.guest_row(guest.processor, leaf, subleaf, false).unwrap_or(None));
 }
 
 #[unsafe(no_mangle)]

@@ -104,7 +104,8 @@ struct snp_cpuid_written {
 };
 
 /* What a comparison gives. answer:
- *   0 a guest of A may move to B: B's pages have what A's table has, and more only in feature bits
+ *   0 B's pages have what A's table has, and more only in feature bits. So B's table, where building B gives one, has at least A's, and a guest of
+ *     A may move to it; but building B may still refuse, by 3 or 5: see snp_cpuid_compare
  *   1 A itself is refused: number and its details say why
  *   2 B's length (number 1) or a count of its pages (number 2) is not lawful, or a reserved byte of an entry is not zero (number 17, which
  *     names the leaf)
@@ -237,12 +238,12 @@ struct snp_cpuid_written snp_cpuid_write_guest_image(const uint8_t *pages, size_
                                                      uint32_t x2apic, uint64_t xcr0, uint64_t xss, bool osxsave, uint8_t *out,
                                                      size_t room);
 
-/* Compares two servers by their pages, under the same choices: may a guest of A move to B? Each row of A's table must have its entry in B's pages,
+/* Compares two servers by their pages, under the same choices: has B at least what A has? Each row of A's table must have its entry in B's pages,
  * but for rows 0 and 80000000h, which are made here. Registers are compared as masked, D.0.EAX with bits 0 and 1 set on both sides, whatever the
  * edition. Feature registers of B must have every bit of A's; D.0.ECX and all of B.0 and B.1 are left free; all else must be equal, bit 28 of 1.EDX
  * too. An edition that is neither 1 nor 2 is answer 1 with number 15. After a yes, building B gives a table with every row of A's, at least A's bits
  * in every feature register, a save area no smaller and all else equal; or refuses it by 3, for a subleaf of leaf Dh that B's own further state
- * needs, or by 5. */
+ * needs, or by 5. So build B's table too before a guest of A moves there. */
 struct snp_cpuid_compared snp_cpuid_compare(const uint8_t *a, size_t a_length, const uint8_t *b, size_t b_length, bool secure_avic,
                                             uint32_t edition);
 
@@ -320,7 +321,16 @@ struct snp_cpuid_written snp_cpuid_write_topologies(uint8_t *out, size_t room);
  *
  * What builds, pools or reads a table writes both arrays whole, with zeros at places without a row. Where a caller's own memory has other numbers at
  * such a place of leaf Dh, the combined mask, 13 and 14 and the sizes of save areas are those of the registers as they stand, whether or not there is
- * a row; snp_cpuid_table_carry alone reads them as zeros. */
+ * a row; snp_cpuid_table_carry alone reads them as zeros.
+ *
+ * A refusal of building, pooling or of a guest's view, and bytes that are no image, leave a table without rows: every word is 0. The functions below
+ * do not know of that refusal, so keep its number. Of a table without rows
+ *   snp_cpuid_table_find and .._guest_find_kept find nothing
+ *   snp_cpuid_table_guest_find, .._state and .._guest give 13, whatever the state is, and .._carry does after 15 and 16
+ *   snp_cpuid_table_write_image gives number 0 and length 0, as its image has no bytes, and no bytes are read as its image
+ *   snp_cpuid_table_write_kvm writes 8 zero bytes, a list of no rows
+ *   snp_cpuid_table_counts gives 0 and 0
+ *   snp_cpuid_table_compare gives 0 with itself; against a table that was built 3, leaf 0, and from one 1, leaf 0. */
 struct snp_cpuid_table {
     uint32_t registers[352];
     uint64_t origins[88];
@@ -384,12 +394,12 @@ struct snp_cpuid_pooled snp_cpuid_table_pool(const uint8_t *pages, size_t length
 /* Reads an image, as snp_cpuid_carry reads one. The rows' origins are 3, as an image has none. Bytes that are no image leave a table without rows. */
 struct snp_cpuid_read snp_cpuid_table_read_image(const uint8_t *image, size_t length, uint32_t *registers, uint64_t *origins);
 
-/* Looks a row up, as snp_cpuid_lookup does. */
+/* Looks a row up, as snp_cpuid_lookup does; nothing is found in a table without rows. */
 struct snp_cpuid_found snp_cpuid_table_find(const uint32_t *registers, const uint64_t *origins, uint32_t leaf, bool has_subleaf, uint32_t subleaf,
                                             bool enforce_subleaf);
 
-/* Looks a row up as the guest of a processor sees it, as snp_cpuid_guest_lookup does: 13 and 14 first, then one row. D.0.EBX is FFFFFFFFh where it
- * does not fit 32 bits, which is never so of a table that was built or pooled. */
+/* Looks a row up as the guest of a processor sees it, as snp_cpuid_guest_lookup does of pages that are accepted: 13 and 14 first, then one row.
+ * D.0.EBX is FFFFFFFFh where it does not fit 32 bits, which is never so of a table that was built or pooled. */
 struct snp_cpuid_guest_found snp_cpuid_table_guest_find(const uint32_t *registers, const uint64_t *origins, uint32_t x2apic, uint64_t xcr0,
                                                         uint64_t xss, bool osxsave, uint32_t leaf, bool has_subleaf, uint32_t subleaf,
                                                         bool enforce_subleaf);
@@ -408,10 +418,12 @@ struct snp_cpuid_found snp_cpuid_table_guest_find_kept(const uint32_t *registers
  * where the paravisor's is still needed. */
 struct snp_cpuid_built snp_cpuid_table_guest(uint32_t *registers, uint64_t *origins, uint32_t x2apic, uint64_t xcr0, uint64_t xss, bool osxsave);
 
-/* Writes the table's image at the front of out, as snp_cpuid_write_image does; number 9 where it is too short. */
+/* Writes the table's image at the front of out, as snp_cpuid_write_image does of pages that are accepted; number 9 where it is too short. The image
+ * of a table without rows has no bytes: number 0, length 0. */
 struct snp_cpuid_written snp_cpuid_table_write_image(const uint32_t *registers, const uint64_t *origins, uint8_t *out, size_t room);
 
-/* Writes the table as struct kvm_cpuid2 at the front of out, as snp_cpuid_write_kvm does; number 9 where it is too short. */
+/* Writes the table as struct kvm_cpuid2 at the front of out, as snp_cpuid_write_kvm does of pages that are accepted; number 9 where it is too short.
+ * The list of a table without rows has 8 bytes, all 0. */
 struct snp_cpuid_written snp_cpuid_table_write_kvm(const uint32_t *registers, const uint64_t *origins, uint8_t *out, size_t room);
 
 /* Whether the second table has every row of the first, at least its features, a save area no smaller and all else equal, rows 0, 80000000h, B.0 and

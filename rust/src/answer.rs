@@ -12,6 +12,7 @@ pub(crate) trait Answer: Copy {
     fn details(&self) -> Details;
 
     /// The answer where it is no refusal.
+    #[inline]
     fn accepted(self) -> Result<Self, Refusal> {
         match self.number() {
             0 => Ok(self),
@@ -24,6 +25,7 @@ pub(crate) trait Answer: Copy {
 macro_rules! answers {
     ($($name:ident),*) => {
         $(impl Answer for $name {
+            #[inline]
             fn number(&self) -> u32 {
                 self.number
             }

@@ -4,12 +4,12 @@ use crate::answer::Answer;
 use crate::{Details, Refusal, exports};
 use core::fmt;
 
-/// Whether a guest of server A may move to server B, or the first thing in the way.
+/// Whether the pages of server B have at least what server A's table has, or the first thing in the way.
 #[derive(Clone, Copy, Debug, PartialEq, Eq, Hash)]
 #[non_exhaustive]
 pub enum Comparison {
-    /// It may. Building B then gives a table with every row of A's, at least A's bits in every feature register, a save area no smaller and all else
-    /// equal; or refuses it by 3, for a subleaf of leaf Dh that B's own further state needs, or by 5.
+    /// They have. Building B then gives a table with every row of A's, at least A's bits in every feature register, a save area no smaller and all
+    /// else equal, to which a guest of A may move; or it refuses B by 3, for a subleaf of leaf Dh that B's own further state needs, or by 5.
     Rises,
     /// A itself gives no table, so it has no guest.
     RefusedA(Refusal),
@@ -130,7 +130,7 @@ impl Register {
 impl fmt::Display for Comparison {
     fn fmt(&self, f: &mut fmt::Formatter<'_>) -> fmt::Result {
         match self {
-            Comparison::Rises => write!(f, "a guest of A may move to B"),
+            Comparison::Rises => write!(f, "B has at least what A has"),
             Comparison::RefusedA(why) => write!(f, "A is refused: {why}"),
             Comparison::UnlawfulB(why) => write!(f, "B's pages cannot be read: {why}"),
             Comparison::NoEntry { leaf, subleaf } => write!(f, "B has no entry for {}, which A's table has", Place(*leaf, *subleaf)),

@@ -98,7 +98,8 @@ pub fn lookup(pages: &[u8], options: Options, leaf: u32, subleaf: Option<u32>, e
     found.row()
 }
 
-/// Compares two servers by their pages, under the same options: may a guest of `a` move to `b`? What is said of a pair holds under either edition.
+/// Compares two servers by their pages, under the same options: have the entries of `b` at least what the table of `a` has? After a yes, a guest of
+/// `a` may move to the table of `b`, where building gives one: it may still refuse `b`, by 3 or 5. What is said of a pair holds under either edition.
 ///
 /// ```
 /// use snp_cpuid::{Comparison, Options, Register, compare};
@@ -114,7 +115,7 @@ pub fn lookup(pages: &[u8], options: Options, leaf: u32, subleaf: Option<u32>, e
 /// assert_eq!(answer, Comparison::Differs { leaf: 1, subleaf: None, register: Register::Ecx });
 /// assert_eq!(answer.to_string(), "B's 1h.ECX lacks a feature bit of A's, or differs from A's where it must be equal");
 ///
-/// // to the server with FMA a guest may move
+/// // the server with FMA has at least what the one without has
 /// assert_eq!(compare(&b, &a, Options::new()), Comparison::Rises);
 /// ```
 pub fn compare(a: &[u8], b: &[u8], options: Options) -> Comparison {

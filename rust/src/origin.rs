@@ -99,17 +99,25 @@ impl Origin {
     }
 }
 
+/// Stands on a way that few calls take, so that the compiler asks for it last.
+#[inline]
+#[cold]
+fn rare() {}
+
 impl exports::Found {
     /// The row that a lookup found.
     #[inline]
     pub(crate) fn row(self) -> Option<Found> {
-        let origin = match self.origin {
-            0 => return None,
-            1 => Origin::MadeHere,
-            2 => entry(self.page, self.entry),
-            3 => Origin::Unknown,
-            // the library is proved to give no other
-            other => unreachable!("origin {other}"),
+        let origin = if self.origin == 2 {
+            entry(self.page, self.entry)
+        } else {
+            rare();
+            match self.origin {
+                1 => Origin::MadeHere,
+                3 => Origin::Unknown,
+                // 0: the library is proved to give no other
+                _ => return None,
+            }
         };
         Some(Found { result: CpuidResult { eax: self.eax, ebx: self.ebx, ecx: self.ecx, edx: self.edx }, origin })
     }

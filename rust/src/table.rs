@@ -60,12 +60,24 @@ pub struct Table {
 }
 
 impl Table {
-    /// A table without rows, for [`Table::rebuild`].
+    /// A table without rows, for [`Table::rebuild`], which leaves one where it refuses. Nothing is found in it, no processor's state is allowed in it
+    /// (13), its image has no bytes and its list for KVM 8, and it compares as at least itself.
+    ///
+    /// ```
+    /// use snp_cpuid::{Table, TableComparison};
+    ///
+    /// let none = Table::new();
+    /// assert_eq!((none.rows().count(), none.row(0, None)), (0, None));
+    /// assert_eq!((none.write_image(&mut []), none.write_kvm(&mut [7; 8])), (Ok(0), Ok(8)));
+    /// assert_eq!(none.compare(&none), TableComparison::Rises);
+    /// ```
     pub const fn new() -> Table {
         Table { memory: exports::Table { registers: [0; 4 * PLACES], origins: [0; PLACES] } }
     }
 
     /// Builds the table of CPUID pages that stand end to end: one call of the library. [`build`](crate::build) is the same.
+    // inline, so that a caller who takes the table out of the answer copies it once and not twice
+    #[inline]
     pub fn build(pages: &[u8], options: Options) -> Result<Table, Refusal> {
         let Options { secure_avic, edition } = options;
         let mut made = Made::new();
@@ -89,6 +101,7 @@ impl Table {
     /// assert_eq!(table.rebuild(&[], Options::new()), Err(Refusal::PagesLength));
     /// assert_eq!(*table, Table::new());
     /// ```
+    #[inline]
     pub fn rebuild(&mut self, pages: &[u8], options: Options) -> Result<(), Refusal> {
         let Options { secure_avic, edition } = options;
         let (registers, origins) = self.arrays_mut();

@@ -74,7 +74,7 @@ fn answers_are_the_models() {
 #[test]
 fn texts_name_what_to_look_at() {
     let texts = |a: &str, b: &str| compare(&edited(a), &edited(b), Options::new()).to_string();
-    assert_eq!(texts("-", "-"), "a guest of A may move to B");
+    assert_eq!(texts("-", "-"), "B has at least what A has");
     assert!(texts("#0", "-").starts_with("A is refused: the CPUID pages must be"));
     assert!(texts("-", "#1").starts_with("B's pages cannot be read: "));
     // byte 40 of the entry of leaf 1, the second of page 0

@@ -1,6 +1,7 @@
 // Answers as C and Rust are given them. The answers of the crates below come in; structs of plain numbers go out, each documented in
 // include/snp_cpuid.h.
 use buffer::Written;
+use counts::built_rows;
 use guest::GuestFound;
 use guest::Processor;
 use guest_state::InUse;
@@ -15,7 +16,8 @@ use table::Subleaf;
 use table::Verdict;
 use x86defs::CpuidFunction;
 ghost use mathlib.Core.Path.{_≡_};
-ghost use Rattle.memory.specs.Held.{heldIn};
+ghost use Rattle.memory.specs.Held.{heldIn, maskHeld};
+ghost use Rattle.counts.specs.BuiltRows.{builtRows};
 ghost use Rattle.answers.specs.Answers.{processorOf, builtGiven, heldNumbers, countsOf, readWith, stateNumbers, guestFoundWith, guestFoundNumbers, foundNumbers, foundAt, firstGiven, writtenNumbers};
 
 pub mod carried_image;
@@ -131,6 +133,15 @@ pub fn built_numbers(verdict: Verdict, row_count: usize, max_extended_state: u64
         row_count: row_count as u64,
         max_extended_state,
     }
+}
+
+// A verdict with the count of rows and the combined mask of the table that building left with it in memory. No row is counted: the mask tells how
+// many there are.
+pub fn built_table_numbers(verdict: Verdict, registers: &[u32; REGISTERS]) -> SnpCpuidBuilt
+    ensures { λ r. ⌜ r ≡ builtGiven verdict (builtRows verdict (maskHeld (now (registers .entry)))) (maskHeld (now (registers .entry))) ⌝ }
+{
+    let mask = combined_mask(registers);
+    built_numbers(verdict, built_rows(verdict, mask), mask)
 }
 
 // A row that was found as numbers, with its origin; or all zeros.
@@ -255,7 +266,7 @@ pub fn read_numbers(
     }
 }
 
-// A verdict with the count of rows and the combined mask of the table that goes with it.
+// A verdict with the count of rows and the combined mask of a table of any content.
 pub fn table_numbers(
     verdict: Verdict,
     registers: &[u32; REGISTERS],

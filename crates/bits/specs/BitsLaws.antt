@@ -25,7 +25,7 @@ pub bit-or : (k a b : ℕ) → bit k (bitOr a b) ≡ max (bit k a) (bit k b)
 unfolding bit
 bit-or k a b = rw (or-shr) (omega (arith, or-step (a / 2 ^ k) (b / 2 ^ k)))
 
-bit-zero : (n : ℕ) → bit 0 n ≡ n % 2
+pub bit-zero : (n : ℕ) → bit 0 n ≡ n % 2
 unfolding bit
 bit-zero n = omega arith
 
@@ -33,7 +33,7 @@ pub bit-shr : (k j n : ℕ) → bit j (n / 2 ^ k) ≡ bit (k + j) n
 unfolding bit
 bit-shr k j n = ap (λ (x : ℕ). x % 2) (shr-shr n k j)
 
-bit-suc : (k n : ℕ) → bit (suc k) n ≡ bit k (n / 2)
+pub bit-suc : (k n : ℕ) → bit (suc k) n ≡ bit k (n / 2)
 bit-suc k n = ap (λ (x : ℕ). bit x n) (omega arith) ∙ sym (bit-shr 1 k n)
 
 pub zero-bit : (k : ℕ) → bit k 0 ≡ 0
@@ -74,6 +74,12 @@ bit-has k n e = eq-eqb (bit k n) 1 e
 pub bit-has-not : (k n : ℕ) → bit k n ≡ 0 → has k n ≡ false
 unfolding has
 bit-has-not k n e = ne-eqb (bit k n) 1 (λ f. omega arith)
+
+-- a number shifted to 0 has no bit left
+pub none-from : (x k : ℕ) → x / 2 ^ k ≡ 0 → (j : ℕ) → k ≤ j → has j x ≡ false
+none-from x k e j l =
+    let q : j ≡ k + (j - k) = omega arith in
+    bit-has-not j x (ap (λ (n : ℕ). bit n x) q ∙ sym (bit-shr k (j - k) x) ∙ ap (bit (j - k)) e ∙ zero-bit (j - k))
 
 -- ---- fields, tied to shift and mask
 

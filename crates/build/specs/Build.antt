@@ -8,7 +8,6 @@ use Rattle.pages.specs.Entries.{counted}
 use Rattle.table.specs.declared.Refusal.the-variants.{UnknownEdition}
 use Rattle.table.specs.declared.Choices.{Choices}
 use Rattle.table.specs.declared.Verdict.{Verdict}
-use Rattle.table.specs.declared.Verdict.the-variants.{Accepted}
 use Rattle.table.specs.Refusal.{andThen}
 use Rattle.table.specs.Edition.{knownEdition}
 use Rattle.table.specs.Rows.{Rows}
@@ -67,8 +66,3 @@ pub record InMemory (b : Built) (v : Verdict) (w o : List ℕ) : Type 0 where
 -- the memory w, o holds the table of the answer b, and where its rows came from
 abbrev pub TableIn : Built → List ℕ → List ℕ → Type 0
 TableIn b w o = InMemory b (b .verdict) w o
-
--- the verdict v is that of the answer b and, where it accepts, the memory w, o is the answer; where it refuses, the memory is left open
-pub record BuiltPages (b : Built) (v : Verdict) (w o : List ℕ) : Type 0 where
-  pub verdict : v ≡ b .verdict
-  pub accepted : v ≡ Accepted → InMemory b v w o

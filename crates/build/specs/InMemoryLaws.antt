@@ -1,9 +1,8 @@
--- Laws of the answer in lent memory: where the walk left the masked first entries and where they stand, `finish_rows` leaves the answer of the pages.
+-- Laws of the answer in lent memory: where the walk left the masked first entries and where they stand, `build_rows` leaves the answer of the pages.
 use mathlib.Core.Path.{_≡_, refl, sym, ap, _∙_, subst}
 use mathlib.Core.Bool.{true}
 use mathlib.Core.List.{List, []}
 use Prim.Native.Nat.{ℕ, _*_}
-use native.Mathlib.Omega.{arith}
 use lib.ListN.{length}
 use Rattle.pages.specs.Entries.{counted}
 use Rattle.masking.specs.Kept.{places}
@@ -24,31 +23,23 @@ use Rattle.collect.specs.Lawful.{lawfulVerdict}
 use Rattle.collect.specs.WalkedPages.{WalkedPages, walked-table}
 use Rattle.finish.specs.declared.RowsBuilt.{RowsBuilt}
 use Rattle.finish.specs.RowsBuilt.{builtFrom}
-use Rattle.rows_finished.specs.Finished.{Answered, Tried}
+use Rattle.rows_finished.specs.Finished.{Answered}
 use Rattle.rows_finished.specs.AnsweredLaws.{cleared, cleared-whole}
 use Rattle.build.specs.declared.Built.{Built}
 use Rattle.build.specs.Built.{withoutOrigins, notBuilt}
-use Rattle.build.specs.Build.{editionVerdict, rowsFor, answer, InMemory, BuiltPages}
-use Rattle.build.specs.BuildLaws.{answer-of-rows, answer-refused, located-origins}
+use Rattle.build.specs.Build.{editionVerdict, rowsFor, answer, InMemory}
+use Rattle.build.specs.BuildLaws.{answer-of-rows, located-origins}
 
--- the two answers
-pub pages-refused : {r : Refusal} {b : Built} {w o : List ℕ} → notBuilt r ≡ b → BuiltPages b (Refused r) w o
-pages-refused e = record { verdict = ap (λ (k : Built). k .verdict) e; accepted = λ a. absurd (let z : _≡_ {A = ℕ} 0 1 = cc in omega arith) }
-
-pub pages-accepted : {b : Built} {v : Verdict} {w o : List ℕ} → BuiltPages b v w o → v ≡ Accepted → InMemory b Accepted w o
-pages-accepted {b} {v} {w} {o} k e = subst (λ (u : Verdict). InMemory b u w o) e (k .accepted e)
-
--- a refusal, and the memory cleared then
-pub refused-in-memory : (c : Choices) (s : List ℕ) {r : Refusal} {v : Verdict} {w₁ o₁ w o : List ℕ} → BuiltPages (answer c s) v w₁ o₁ → v ≡ Refused r → Cleared w o
-    → InMemory (answer c s) (Refused r) w o
-refused-in-memory c s {r} {v} {w} {o} k e d =
+-- a refusal is in memory without rows
+pub refused-in-memory : {r : Refusal} {b : Built} {w o : List ℕ} → notBuilt r ≡ b → Cleared w o → InMemory b (Refused r) w o
+refused-in-memory {r} {b} {w} {o} e d =
     let n : InMemory (notBuilt r) (Refused r) w o = record {
       verdict = refl;
       registers = cleared [] (d .0) (d .1) .registers;
       origins = d .1;
       table = cleared-whole (d .0) (d .1);
     } in
-    subst (λ (k : Built). InMemory k (Refused r) w o) (answer-refused c s (sym (k .verdict) ∙ e)) n
+    subst (λ (k : Built). InMemory k (Refused r) w o) e n
 
 -- what building makes of the rows that the walk left
 module _ (c : Choices) (s w o : List ℕ) (a : length w ≡ 4 * places) (b : length o ≡ places) {r : Verdict}
@@ -73,13 +64,6 @@ module _ (c : Choices) (s w o : List ℕ) (a : length w ≡ 4 * places) (b : len
             ∙ ap (finishedOrigins (answer c s .table .present)) (k .stands z)
             ∙ located-origins (answer c s .table) s;
       }
-
-  pub answer-in-pages : editionVerdict (c .edition) ≡ Accepted → {v : Verdict} {w₁ o₁ : List ℕ}
-      → Tried (builtFrom (c .edition) (rowsIn w o)) w o v w₁ o₁ → BuiltPages (answer c s) v w₁ o₁
-  answer-in-pages e {v} {w₁} {o₁} t = record {
-    verdict = t .verdict ∙ ap (λ (x : RowsBuilt). x .verdict) (answered-rows e);
-    accepted = λ a. answer-in-memory e (t .accepted a);
-  }
 
 pub edition-known : (n : ℕ) → knownEdition n ≡ true → editionVerdict n ≡ Accepted
 unfolding editionVerdict

@@ -4,14 +4,14 @@ use masking::PLACES;
 use memory::REGISTERS;
 use memory::clear;
 use memory::sized;
-use rows_finished::finish_rows;
+use rows_finished::build_rows;
 use table::Choices;
 use table::CpuidResults;
 use table::Refusal;
 use table::Verdict;
 use table::known_edition;
 ghost use Rattle.memory.specs.Memory.{Cleared};
-ghost use Rattle.build.specs.Build.{answer, InMemory, BuiltPages};
+ghost use Rattle.build.specs.Build.{answer, InMemory};
 
 // The answer of the definition, specs/Build.antt: the verdict, the table, and where each row came from (document 02, P11), by the numbers of
 // `memory::origins`.
@@ -31,15 +31,10 @@ pub fn build_into(
     ensures { λ r. ⌜ InMemory (answer choices (now (pages .entry))) r (now (registers .exit)) (now (origins .exit)) ⌝ }
 {
     clear(registers, origins);
-    let verdict = build_pages(pages, choices, registers, origins);
-    if let Verdict::Refused(r) = verdict {
-        clear(registers, origins);
-        return Verdict::Refused(r);
-    }
-    Verdict::Accepted
+    build_pages(pages, choices, registers, origins)
 }
 
-// The same into memory that comes without rows, as a caller makes it for one answer. What it holds after a refusal is left open.
+// As `build_into`, into memory that comes without rows, as a caller makes it for one answer.
 pub fn build_pages(
     pages: &[u8],
     choices: Choices,
@@ -47,7 +42,7 @@ pub fn build_pages(
     origins: &mut [u64; PLACES],
 ) -> Verdict
     requires { ⌜ Cleared (now registers) (now origins) ⌝ }
-    ensures { λ r. ⌜ BuiltPages (answer choices (now (pages .entry))) r (now (registers .exit)) (now (origins .exit)) ⌝ }
+    ensures { λ r. ⌜ InMemory (answer choices (now (pages .entry))) r (now (registers .exit)) (now (origins .exit)) ⌝ }
 {
     if known_edition(choices.edition) {} else {
         return Verdict::Refused(Refusal::UnknownEdition);
@@ -57,5 +52,5 @@ pub fn build_pages(
         return Verdict::Refused(r);
     }
     sized(registers, origins);
-    finish_rows(registers, origins, choices.edition)
+    build_rows(registers, origins, choices.edition)
 }

@@ -2,7 +2,6 @@ pub mod Required
 pub mod ExtendedState
 pub mod TopologyInputs
 pub mod Checks
-pub mod MaskLaws
 pub mod LowestLaws
 pub mod ScanLaws
 pub mod SaveAreaLaws

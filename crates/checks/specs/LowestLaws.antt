@@ -12,15 +12,8 @@ use borrow.Author.Tests.{eqb-true, leb-true, leb-false, le-leb}
 use Rattle.bits.specs.Choice.{pick}
 use Rattle.bits.specs.ChoiceLaws.{pick-true, pick-false}
 use Rattle.bits.specs.Bits.{bit, has}
-use Rattle.bits.specs.BitsLaws.{bit-lt, bit-and, bit-shr, zero-bit, bit-has, bit-has-not}
+use Rattle.bits.specs.BitsLaws.{bit-lt, bit-and, bit-zero, bit-suc, zero-bit, bit-has, bit-has-not}
 use Rattle.bits.specs.SearchLaws.{every-at}
-
-bit-zero : (n : ℕ) → bit 0 n ≡ n % 2
-unfolding bit
-bit-zero n = omega arith
-
-bit-suc : (k n : ℕ) → bit (suc k) n ≡ bit k (n / 2)
-bit-suc k n = ap (λ (x : ℕ). bit x n) (omega arith) ∙ sym (bit-shr 1 k n)
 
 -- bit z of n is its lowest, and n ∧ (n - 1) has all others
 record Lowest (n z : ℕ) : Type 0 where

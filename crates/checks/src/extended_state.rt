@@ -6,6 +6,9 @@ ghost use mathlib.Core.Path.{_≡_};
 ghost use lib.Bits.{bitOr};
 ghost use Rattle.checks.specs.ExtendedState.{xssOf};
 
+// The bits of a mask from 2 up: bits 0 and 1 stand for the legacy area, and have no subleaf of their own.
+pub const FROM_2: u64 = 0xFFFF_FFFF_FFFF_FFFC;
+
 // XSS, from the row of D.1: none unless it has XSAVEC and XSAVES both.
 pub fn max_xss(subleaf1: CpuidResult) -> u32
     ensures { λ r. ⌜ r ≡ xssOf subleaf1 ⌝ }

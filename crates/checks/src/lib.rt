@@ -9,6 +9,7 @@ ghost use Rattle.checks.specs.Checks.{invlpgbOf};
 
 mod extended_state;
 
+pub use extended_state::FROM_2;
 pub use extended_state::max_extended_state;
 pub use extended_state::max_xss;
 

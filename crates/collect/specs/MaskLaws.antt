@@ -4,7 +4,7 @@ use mathlib.Core.Bool.{Bool, true, false, _||_}
 use mathlib.Core.List.{List}
 use Prim.Native.Nat.{ℕ, _*_, _^_, _<_}
 use native.Mathlib.Nat.{mod-eq-of-lt}
-use lib.Bits.{bitAnd, and-mask, and-comm, and-zero-l}
+use lib.Bits.{bitAnd, and-mask, and-comm, and-self, and-zero-l}
 use lib.Dec.{eqb, lit<}
 use lib.ListN.{length, getD}
 use borrow.Author.Tests.{eqb-true, eqb-false}
@@ -30,7 +30,7 @@ use Rattle.collect.specs.FirstEntries.{firstAt, words, wordRow, firstsOf
 use Rattle.collect.specs.FirstEntriesLaws.{first-of-place, row-of-place}
 use Rattle.collect.specs.Stands.{foundOrigins}
 use Rattle.collect.specs.CollectedLaws.{stands-there}
-use Rattle.collect.specs.Mask.{Unmasked, legacyRow}
+use Rattle.collect.specs.Mask.{Unmasked, Masked, legacyRow}
 
 -- ---- a row
 
@@ -95,11 +95,7 @@ module _ (s : List ℕ) where
           ∙ go i h (firstAt i (counted s)) (firstAt i (counted s) .present)
           ∙ sym (ap (λ (x : Row). x .result) (row-of-place avic s i h))
 
--- ---- what masking one place after the other has done: `v` is memory `w` with the places masked that `done` has
-
-pub record Masked (avic : Bool) (w v : List ℕ) (done : ℕ → Bool) : Type 0 where
-  pub size : length v ≡ 4 * places
-  pub at : (j : ℕ) → rowOf v j ≡ pick (done j) (applyMask (masksAt avic j) (rowOf w j)) (rowOf w j)
+-- ---- places masked one after the other
 
 pub masked-none : (avic : Bool) (w : List ℕ) → length w ≡ 4 * places → Masked avic w w (λ j. false)
 masked-none avic w e = record { size = e; at = λ j. refl }
@@ -121,6 +117,29 @@ masked-next {avic} {w} {v} {done} {kept} t k i j h n r {x} e = record {
     go l true q =
         ap₂ applyMask f (k .at i ∙ pick-false _ _ n) ∙ ap (λ (y : ℕ). applyMask (masksAt avic y) (rowOf w y)) (sym (eqb-true l i q))
     go l false q = k .at l
+
+mask-twice : (m : Masks) (r : CpuidResult) → applyMask m (applyMask m r) ≡ applyMask m r
+mask-twice m r =
+    rw (
+      and-assoc (r .eax) (m .eax) (m .eax),
+      and-assoc (r .ebx) (m .ebx) (m .ebx),
+      and-assoc (r .ecx) (m .ecx) (m .ecx),
+      and-assoc (r .edx) (m .edx) (m .edx),
+      and-self (m .eax),
+      and-self (m .ebx),
+      and-self (m .ecx),
+      and-self (m .edx),
+    )
+
+-- some places, and then others
+pub masked-both : {avic : Bool} {w v x : List ℕ} {a b : ℕ → Bool} → Masked avic w v a → Masked avic v x b → Masked avic w x (λ j. b j || a j)
+masked-both {avic} {w} {v} {x} {a} {b} k m = record { size = m .size; at = λ j. m .at j ∙ go j (b j) (a j) (k .at j) }
+  where
+    go : (j : ℕ) (p q : Bool) → rowOf v j ≡ pick q (applyMask (masksAt avic j) (rowOf w j)) (rowOf w j)
+        → pick p (applyMask (masksAt avic j) (rowOf v j)) (rowOf v j) ≡ pick (p || q) (applyMask (masksAt avic j) (rowOf w j)) (rowOf w j)
+    go j true true e = ap (applyMask (masksAt avic j)) e ∙ mask-twice (masksAt avic j) (rowOf w j)
+    go j true false e = ap (applyMask (masksAt avic j)) e
+    go j false q e = e
 
 -- all of them, and then the two bits of D.0.EAX
 pub masked-last : {avic : Bool} {w v o : List ℕ} → Unmasked w o → Masked avic w v isMasked → {x : List ℕ}

@@ -1,8 +1,9 @@
--- What one walk over any bytes gives: whether they are lawful pages, and where they are, the masked first entries and where each stands.
+-- What one walk over any bytes gives: whether they are lawful pages; where they are, the masked first entries and where each stands; else no rows.
 use mathlib.Core.Path.{_≡_, sym, ap₂, _∙_}
 use mathlib.Core.Bool.{Bool, true}
 use mathlib.Core.List.{List}
 use Prim.Native.Nat.{ℕ}
+use native.Mathlib.Omega.{arith}
 use Rattle.pages.specs.declared.reserved.Reserved.{Reserved}
 use Rattle.table.specs.declared.Refusal.{Refusal}
 use Rattle.table.specs.declared.Verdict.{Verdict}
@@ -11,7 +12,7 @@ use Rattle.table.specs.declared.CpuidResults.{CpuidResults}
 use Rattle.collect.specs.FirstEntries.{maskRow, rowsOf}
 use Rattle.collect.specs.Collect.{collected}
 use Rattle.collect.specs.Stands.{foundOrigins}
-use Rattle.memory.specs.Memory.{rowsIn, layout, tableIn}
+use Rattle.memory.specs.Memory.{rowsIn, layout, tableIn, Cleared}
 use Rattle.collect.specs.Walked.{Walked}
 use Rattle.collect.specs.CollectedLaws.{walked-collected}
 use Rattle.pages.specs.Reserved.{allClean}
@@ -24,10 +25,10 @@ pub record WalkedPages (avic : Bool) (s : List ℕ) (r : Verdict) (w o : List �
   pub verdict : r ≡ lawfulVerdict s
   pub rows : r ≡ Accepted → w ≡ layout (λ i. rowsOf avic s i .result)
   pub stands : r ≡ Accepted → o ≡ foundOrigins s
+  pub refused : (x : Refusal) → r ≡ Refused x → Cleared w o
 
--- a refusal leaves nothing to say of the arrays
-pub refused-walk : (avic : Bool) (s w o : List ℕ) {x : Refusal} → Refused x ≡ lawfulVerdict s → WalkedPages avic s (Refused x) w o
-refused-walk avic s w o e = record { verdict = e; rows = λ a. cc; stands = λ a. cc }
+pub refused-walk : (avic : Bool) (s : List ℕ) {w o : List ℕ} {x : Refusal} → Refused x ≡ lawfulVerdict s → Cleared w o → WalkedPages avic s (Refused x) w o
+refused-walk avic s e z = record { verdict = e; rows = λ a. cc; stands = λ a. cc; refused = λ _ _. z }
 
 -- what the walk collects of lawful pages is ready to be masked, and is then the masked first entries
 module _ (s w o : List ℕ) {b : Reserved} (e : Accepted ≡ lawfulVerdict s) (k : Walked s b w o) where
@@ -42,6 +43,7 @@ module _ (s w o : List ℕ) {b : Reserved} (e : Accepted ≡ lawfulVerdict s) (k
     verdict = e;
     rows = λ _. m ∙ rw (k .rows clean, k .stands clean) (firsts-masked s avic);
     stands = λ _. k .stands clean;
+    refused = λ x f. absurd (let z : _≡_ {A = ℕ} 0 1 = cc in omega arith);
   }
 
 -- the table that the arrays stand for is that of the masked first entries

@@ -6,6 +6,7 @@ use masking::PLACES;
 use masking::masks::KeptLeaf;
 use masking::place;
 use memory::REGISTERS;
+use memory::clear;
 use memory::put_row;
 use pages::ParsedCpuidEntry;
 use pages::reserved::Reserved;
@@ -32,8 +33,7 @@ pub const LEGACY_FEATURES: u32 = 3;
 const WORD: u32 = 0xFFFF_FFFF;
 
 // Refusals 1, 2 and 17, in this order: whether length and counts of the pages are lawful, and their reserved bytes zero. The same walk stores the masked
-// first entries and where each stands in memory that comes without rows. Where the pages are lawful it holds the rows; where they are not, what it
-// holds is left open.
+// first entries and where each stands in memory that comes without rows. Pages that are not lawful leave it without rows.
 pub fn walk_pages(
     pages: &[u8],
     secure_avic: bool,
@@ -49,6 +49,7 @@ pub fn walk_pages(
     if pages::counts_fit(pages) {
         let walked = collect_into(pages, registers, origins);
         if let Reserved::Nonzero(leaf) = walked {
+            clear(registers, origins);
             return Verdict::Refused(Refusal::ReservedBytes(leaf));
         }
         mask::mask_rows(secure_avic, registers, origins);
@@ -60,7 +61,7 @@ pub fn walk_pages(
 // The first entry of every place as it stands and where, from pages whose counts are lawful: what the reader gives, page by page, up to the first
 // entry that is not clean. The memory comes without rows; a place whose origin is 0 has none yet. A step to position 0 has left the page: with the
 // count read once, that makes the inner loop a count of its entries.
-pub fn collect_into(
+fn collect_into(
     pages: &[u8],
     registers: &mut [u32; REGISTERS],
     origins: &mut [u64; PLACES],

@@ -5,3 +5,4 @@ pub mod Sizes
 pub mod Mask
 pub mod SinglePage
 pub mod CountsProof
+pub mod BuiltRows

@@ -28,3 +28,4 @@ pub mod Beyond
 pub mod Instances
 pub mod Letter28
 pub mod Lives
+pub mod RowsOfA

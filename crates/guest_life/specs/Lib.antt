@@ -3,7 +3,7 @@ pub mod Sound
 pub mod StatesAgree
 pub mod ViewsTell
 pub mod ViewsTellProof
-pub mod Second
+pub mod CarriedOrder
 pub mod SaveAreas
 pub mod AreaLaws
 pub mod SaveAreasProof

@@ -35,7 +35,7 @@ use Rattle.guest.specs.GuestPages.{guestPages}
 use Rattle.guest_rise.specs.GuestRise.{compactsIn}
 use Rattle.images.specs.CarriedRows.{ownYmm}
 use Rattle.guest_life.specs.Sound.{Sound}
-use Rattle.guest_life.specs.Second.{second}
+use Rattle.guest_life.specs.CarriedOrder.{second}
 use Rattle.guest_life.specs.SaveAreas.{subleaf}
 
 -- ---- steps

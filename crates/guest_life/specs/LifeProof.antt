@@ -55,7 +55,7 @@ use Rattle.images.specs.CarriedLaws as CarriedLaws
 use Rattle.images.specs.CarriedRows.{ownYmm}
 use Rattle.guest_life.specs.Sound.{Sound, built-sound}
 use Rattle.guest_life.specs.StatesAgree.{StatesAgree, mask-agrees, save-agrees, compact-agrees, verdict-agrees}
-use Rattle.guest_life.specs.Second.{second, carried-row, carried-there, carried-mono, carried-twice, kept-same, carried-below, ymm-carried, ymm-mono, keeps-ymm, version-feature, extended-feature}
+use Rattle.guest_life.specs.CarriedOrder.{second, carried-row, carried-there, carried-mono, carried-twice, kept-same, carried-below, ymm-carried, ymm-mono, keeps-ymm, version-feature, extended-feature}
 use Rattle.guest_life.specs.SaveAreas.{SameAreas}
 use Rattle.guest_life.specs.SaveAreasProof.{accepted-of, in-mask, areas-same}
 use Rattle.guest_life.specs.Life.{Life, threeBits, lostBit, StillShown, RowShown, AskedShown, ViewLasts, LifeOutcome, LifeShows, KeptLifeShows, LifeComesBack, EndsSeeTheSame, LivesSeeTheSame}

@@ -33,7 +33,8 @@ use Rattle.guest_rise.specs.BuiltState.{Supplied, built-supplied}
 use Rattle.images.specs.ImageTableLaws.{Plain}
 use Rattle.images.specs.ImagesProof.{accepted-plain}
 
--- it has 88 places; the rows that its masks name are there; EDX of B.0 and B.1 is 0; absent rows are zeros and registers fit 32 bits; D.0.ECX is the area over D.0.EAX;
+-- it has 88 places; the rows that its masks name are there; EDX of B.0 and B.1 is 0; absent rows are zeros and registers fit 32 bits; D.0.ECX is the
+-- area over D.0.EAX;
 -- count and mask are those of its rows
 pub record Sound (t : CpuidResults) : Type 0 where
   pub whole : length (t .present) ≤ places

@@ -1,5 +1,6 @@
 // Extended state in use, over a table in lent memory. XCR0 and XSS come in; refusals 13 and 14, the compacted size and the size of the save area go
 // out.
+use checks::FROM_2;
 use checks::Size;
 use checks::max_xss;
 use masking::PLACES;
@@ -20,9 +21,6 @@ ghost use Rattle.rows_checked.specs.Checked.{registersIn};
 ghost use Rattle.guest_state.specs.Compact.{placed, compactSize};
 ghost use Rattle.guest_state.specs.State.{isWithin, allowed, compactRegister, saveRegister};
 ghost use Rattle.guest_state.specs.InUse.{readRows, inUse};
-
-// The bits from 2 up: bits 0 and 1 stand for the legacy area.
-const FROM_2: u64 = 0xFFFF_FFFF_FFFF_FFFC;
 
 // Refused, or given: D.1.EBX.
 pub enum InUse {

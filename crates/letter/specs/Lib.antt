@@ -1,11 +1,12 @@
 pub mod Paper
 pub mod Names
-pub mod Computed
-pub mod FirstEntry
+pub mod Figures
+pub mod FirstProof
 pub mod TableProof
 pub mod CountedProof
 pub mod VerdictProof
 pub mod ImageProof
 pub mod LookupProof
-pub mod ByTheLetter
-pub mod ExportedFields
+pub mod RegistersProof
+pub mod LengthProof
+pub mod DeterminedProof

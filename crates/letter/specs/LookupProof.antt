@@ -1,7 +1,9 @@
--- The lookup is the paper's search through the rows of a table.
+-- The table of any page bytes is the paper's, and the lookup is the paper's search through its rows.
 use mathlib.Core.Path.{_≡_, refl, sym, ap, ap₂, _∙_}
 use mathlib.Core.Bool.{Bool, true, false, _&&_, false≢true}
+use mathlib.Core.List.{List}
 use Prim.Native.Nat.{ℕ, zero, suc, _<_, _≤_}
+use native.Mathlib.Nat.{le-of-eq}
 use native.Mathlib.Omega.{arith}
 use lib.Dec.{eqb, ltb}
 use lib.ListN.{length, List·getD-eq-default}
@@ -14,16 +16,23 @@ use Rattle.x86defs.specs.declared.CpuidFunction.{CpuidFunction}
 use Rattle.x86defs.specs.Functions.{function, sameFunction, VendorAndMaxFunction, ExtendedMaxFunction}
 use Rattle.masking.specs.Kept.{keptLeaves, placeOf, slot, leafAt, indexedAt, subleafAt}
 use Rattle.masking.specs.KeptLaws.{madeHere, place-of-slot, Belongs, entry-belongs}
+use Rattle.table.specs.declared.Choices.{Choices}
 use Rattle.table.specs.declared.Subleaf.{Subleaf}
 use Rattle.table.specs.declared.Subleaf.the-variants.{None, Some}
 use Rattle.table.specs.declared.CpuidResults.{CpuidResults}
+use Rattle.table.specs.declared.Verdict.{Verdict}
+use Rattle.table.specs.declared.Verdict.the-variants.{Accepted, Refused}
 use Rattle.table.specs.Table.{rowIn}
 use Rattle.lookup.specs.declared.LeafResult.the-variants.{None as Nothing}
 use Rattle.lookup.specs.Lookup.{withSubleaves, placeWhole, placeAsked, rowResult, lookup}
-use Rattle.lookup.specs.LookupLaws.{lookup-at}
-use Rattle.letter.specs.Paper.{Line, asked, find}
+use Rattle.lookup.specs.LookupLaws.{lookup-at, empty-finds-nothing}
+use Rattle.build.specs.Build.{answer}
+use Rattle.refusals.specs.ExactlyProof.{builds-exactly}
+use Rattle.letter.specs.Paper.{Line, asked, find, findAfter, linesOf, combinedOf, tableWith, tableAfter, table, verdict}
 use Rattle.letter.specs.Names.{subAt}
-use Rattle.letter.specs.ImageProof.{told}
+use Rattle.letter.specs.TableProof.{table-by-figures}
+use Rattle.letter.specs.VerdictProof.{verdict-by-figures}
+use Rattle.letter.specs.ImageProof.{told, rows-by-figures}
 
 -- ---- a search whose test holds at one place
 
@@ -168,3 +177,33 @@ lookup-told t whole l k enforce =
     go false e =
         let past : length (t .present) ≤ p = omega (arith, whole, ltb-false p 88 e) in
         pick-false _ _ (List·getD-eq-default (t .present) false past)
+
+-- ---- of any page bytes
+
+module _ (chosen : Choices) (s : List ℕ) where
+  pub table-by-the-letter : answer chosen s .table ≡ table chosen s
+  table-by-the-letter =
+      go (answer chosen s .verdict) refl
+      ∙ ap (λ (v : Verdict). tableAfter v (tableWith (combinedOf chosen s) (linesOf chosen s))) (verdict-by-figures chosen s)
+    where
+      go : (v : Verdict) → answer chosen s .verdict ≡ v → answer chosen s .table ≡ tableAfter v (tableWith (combinedOf chosen s) (linesOf chosen s))
+      go Accepted e = table-by-figures chosen s e
+      go (Refused r) e = builds-exactly chosen s .empty r e
+
+  rows-88 : length (tableWith (combinedOf chosen s) (linesOf chosen s) .present) ≡ 88
+  unfolding tabulate
+  rows-88 = refl
+
+  pub lookup-by-the-letter : (l : ℕ) (k : Subleaf) (enforce : Bool)
+      → lookup (answer chosen s .table) (function l) k enforce ≡ findAfter (verdict chosen s) (linesOf chosen s) l k enforce
+  lookup-by-the-letter l k enforce =
+      go (answer chosen s .verdict) refl ∙ ap (λ (v : Verdict). findAfter v (linesOf chosen s) l k enforce) (verdict-by-figures chosen s)
+    where
+      go : (v : Verdict) → answer chosen s .verdict ≡ v
+          → lookup (answer chosen s .table) (function l) k enforce ≡ findAfter v (linesOf chosen s) l k enforce
+      go Accepted e =
+          lookup-told (answer chosen s .table)
+          (le-of-eq (ap (λ (t : CpuidResults). length (t .present)) (table-by-figures chosen s e) ∙ rows-88)) l k enforce
+          ∙ ap (λ (r : List Line). find r l k enforce) (rows-by-figures chosen s e)
+      go (Refused r) e =
+          ap (λ (t : CpuidResults). lookup t (function l) k enforce) (builds-exactly chosen s .empty r e) ∙ empty-finds-nothing (function l) k enforce

@@ -2,13 +2,13 @@
 use mathlib.Core.Path.{_≡_, refl, sym, ap, ap₂, _∙_, fun-ext}
 use mathlib.Core.Bool.{Bool, true, false}
 use mathlib.Core.List.{List, map}
-use Prim.Native.Nat.{ℕ, _^_}
+use Prim.Native.Nat.{ℕ}
 use lib.Dec.{eqb, ltb}
 use lib.ListN.{getD}
 use borrow.Author.Tests.{eq-eqb, ne-eqb, le-ltb}
 use Rattle.bits.specs.Choice.{pick}
 use Rattle.bits.specs.ChoiceLaws.{never-both, pick-true, pick-false, and-implied}
-use Rattle.bits.specs.Lists.{tabulate}
+use Rattle.bits.specs.Lists.{tabulate, sumTo}
 use Rattle.bits.specs.ListsLaws.{getD-tabulate}
 use Rattle.bits.specs.Bits.{has, bit, field, fieldMask, maskOf}
 use Rattle.x86defs.specs.declared.CpuidResult.{CpuidResult}
@@ -23,7 +23,7 @@ use Rattle.table.specs.declared.Choices.{Choices}
 use Rattle.table.specs.declared.Verdict.{Verdict}
 use Rattle.table.specs.declared.Verdict.the-variants.{Accepted}
 use Rattle.table.specs.Rows.{Row, Rows, row, vacant}
-use Rattle.table.specs.Table.{tableOf}
+use Rattle.table.specs.Table.{tableOf, countRows}
 use Rattle.table.specs.TableLaws.{table-ext}
 use Rattle.topology.specs.declared.Topology.{Topology}
 use Rattle.topology.specs.declared.Topology.the-variants.{Processors, Inconsistent}
@@ -44,11 +44,12 @@ use Rattle.rise.specs.KeptRowsLaws.{verdict-same, built-same}
 use Rattle.rise.specs.RiseProof.{answer-table, accepted-rows}
 use Rattle.rise.specs.Levels.{CountOf, topology-gives}
 use Rattle.rise.specs.Levels.CountOf.{one, legacy, power}
-use Rattle.letter.specs.Paper.{Line, first, linesWith, lines, area}
+use Rattle.letter.specs.Paper.{Line, first, linesWith, lines, tableWith, area}
 use Rattle.letter.specs.Paper as Paper
 use Rattle.letter.specs.Names.{placeFor}
-use Rattle.letter.specs.Computed as Computed
-use Rattle.letter.specs.FirstEntry.{kept, told, kept-told}
+use Rattle.letter.specs.Figures as Figures
+use Rattle.letter.specs.CountedProof.{counted-same}
+use Rattle.letter.specs.FirstProof.{kept, told, kept-told}
 
 -- ---- v
 
@@ -56,7 +57,7 @@ accepts : (o : Topology) → topologyRefusal o ≡ Accepted → o ≡ Processors
 accepts (Processors v) e = refl
 accepts (Inconsistent x) e = cc
 
-count-said : (i : Inputs) (v : ℕ) → CountOf i v → v ≡ pick (eqb (i .s) 0) (pick (eqb (i .mt) 0) 1 (i .lps)) (2 ^ i .s)
+count-said : (i : Inputs) (v : ℕ) → CountOf i v → v ≡ Paper.processors i
 count-said i v (one a b c) = c ∙ sym (pick-true _ _ (eq-eqb _ _ a) ∙ pick-true _ _ (eq-eqb _ _ b))
 count-said i v (legacy a b c d) = c ∙ sym (pick-true _ _ (eq-eqb _ _ a) ∙ pick-false _ _ (ne-eqb _ _ b))
 count-said i v (power a b) = b ∙ sym (pick-false _ _ (ne-eqb _ _ a))
@@ -85,16 +86,27 @@ module _ (es : List Entry) where
     pub lines-same : lines second avic (at byPlace) ≡ lines second avic byLeaf
     lines-same = lines-kept ∙ ap (λ (g : ℕ → Row). lines second avic (at (λ i. g i .result))) (kept-told es) ∙ lines-told
 
-  combined-kept : Paper.combined (at byPlace) ≡ Paper.combined (at (λ i. kept es i .result))
-  unfolding placeOf keptLeaves
-  combined-kept = refl
+    -- the combined mask
+    abbrev mask : (ℕ → Subleaf → CpuidResult) → ℕ
+    mask e = Paper.combined (Paper.masked avic e)
 
-  combined-told : Paper.combined (at (λ i. told es i .result)) ≡ Paper.combined byLeaf
-  unfolding placeOf keptLeaves slot
-  combined-told = refl
+    mask-kept : mask (at byPlace) ≡ mask (at (λ i. kept es i .result))
+    unfolding placeOf keptLeaves
+    mask-kept = refl
 
-  pub combined-same : Paper.combined (at byPlace) ≡ Paper.combined byLeaf
-  combined-same = combined-kept ∙ ap (λ (g : ℕ → Row). Paper.combined (at (λ i. g i .result))) (kept-told es) ∙ combined-told
+    mask-told : mask (at (λ i. told es i .result)) ≡ mask byLeaf
+    unfolding placeOf keptLeaves slot
+    mask-told = refl
+
+    pub mask-same : mask (at byPlace) ≡ mask byLeaf
+    mask-same = mask-kept ∙ ap (λ (g : ℕ → Row). mask (at (λ i. g i .result))) (kept-told es) ∙ mask-told
+
+-- ---- a table of rows at the 88 places, written out
+
+places-whole : (second avic : Bool) (e : ℕ → Subleaf → CpuidResult) (x : ℕ)
+    → tableOf (λ i. getD (map (λ (l : Line). l .row) (lines second avic e)) i vacant) x ≡ tableWith x (lines second avic e)
+unfolding tabulate countRows sumTo
+places-whole second avic e x = refl
 
 -- ---- an accepted page set
 
@@ -108,9 +120,13 @@ module _ (chosen : Choices) (s : List ℕ) (accepted : answer chosen s .verdict 
   abbrev g : ℕ → CpuidResult
   g = byPlace (counted s)
 
+  -- the first entries as masked
+  abbrev masked : ℕ → Subleaf → CpuidResult
+  masked = Paper.masked avic (at (counted s) g)
+
   -- the masked first entries, with a row at every place
   abbrev full : Rows
-  full = Computed.m g avic
+  full = Figures.m g avic
 
   keeps : Keeps (rowsFor chosen s) full
   unfolding rowsOf
@@ -146,32 +162,37 @@ module _ (chosen : Choices) (s : List ℕ) (accepted : answer chosen s .verdict 
       ∙ sym (ap (λ (b : RowsBuilt). b .table) (built-same (rowsFor chosen s) full keeps covered (chosen .edition)))
       ∙ of-built full full-accepted
 
-  inputs-given : inputsOf full ≡ Paper.given (at (counted s) g)
+  inputs-given : inputsOf full ≡ Paper.given masked
   unfolding inputsOf placeOf keptLeaves slot Masks.versionAndFeatures Masks.extendedAddressSpaceSizes maskOf fieldsMask fieldMask field bit
   inputs-given = refl
 
-  v-said : processors (topologyOf (inputsOf full)) ≡ Paper.processors (at (counted s) g)
+  v-said : processors (topologyOf (inputsOf full)) ≡ Paper.processors (Paper.given masked)
   unfolding topologyVerdict
   v-said =
       count-said (inputsOf full) _ (topology-gives (inputsOf full) _ (accepts _ (all-pass full full-accepted .topology)) .count)
-      ∙ ap (λ (i : Inputs). pick (eqb (i .s) 0) (pick (eqb (i .mt) 0) 1 (i .lps)) (2 ^ i .s)) inputs-given
+      ∙ ap Paper.processors inputs-given
 
-  mask-full : State.combinedMask full ≡ Paper.combined (at (counted s) g)
+  mask-full : State.combinedMask full ≡ Paper.combined masked
   unfolding State.combinedMask State.xfem State.xss placeOf keptLeaves slot Masks.extendedState0 Masks.extendedState1 maskOf legacyFeatures
   mask-full = refl
 
   rows-full : tabulate 88 (finished (chosen .edition) full) ≡ map (λ (l : Line). l .row) (lines second avic (byLeaf (counted s)))
   rows-full =
-      Computed.table-same g (chosen .edition) second avic refl
-      ∙ ap₂ (λ (v : ℕ) (f : ℕ → Bool). map (λ (l : Line). l .row) (linesWith second avic (at (counted s) g) v f)) v-said
-      (fun-ext (λ k. and-implied (has k (Paper.combined (at (counted s) g))) true (λ h. refl)))
+      Figures.table-same g (chosen .edition) second avic refl
+      ∙ ap₂ (λ (v : ℕ) (f : ℕ → Bool). map (λ (l : Line). l .row) (linesWith second masked v f)) v-said
+      (fun-ext (λ k. and-implied (has k (Paper.combined masked)) true (λ h. refl)))
       ∙ ap (map (λ (l : Line). l .row)) (lines-same (counted s) second avic)
 
-  pub table-by-figures : answer chosen s .table
-      ≡ tableOf (λ i. getD (map (λ (l : Line). l .row) (lines second avic (byLeaf (counted s)))) i vacant)
-      (Paper.combined (byLeaf (counted s)))
-  table-by-figures =
+  by-entries : answer chosen s .table
+      ≡ tableWith (Paper.combined (Paper.masked avic (byLeaf (counted s)))) (lines second avic (byLeaf (counted s)))
+  by-entries =
       table-full
       ∙ table-ext
       (λ i l. sym (getD-tabulate 88 (finished (chosen .edition) full) i vacant l) ∙ ap (λ (x : List Row). getD x i vacant) rows-full)
-      (mask-full ∙ combined-same (counted s))
+      (mask-full ∙ mask-same (counted s) second avic)
+      ∙ places-whole second avic (byLeaf (counted s)) _
+
+  pub table-by-figures : answer chosen s .table ≡ tableWith (Paper.combinedOf chosen s) (Paper.linesOf chosen s)
+  table-by-figures =
+      by-entries
+      ∙ ap (λ (x : List Entry). tableWith (Paper.combined (Paper.masked avic (byLeaf x))) (lines second avic (byLeaf x))) (counted-same s)

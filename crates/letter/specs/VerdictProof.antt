@@ -5,7 +5,7 @@ use mathlib.Core.List.{List, [], _∷_}
 use Prim.Native.Nat.{ℕ, zero, suc, _+_, _*_, _^_, _<_, _≤_}
 use native.Mathlib.Nat.{le-antisymm}
 use lib.Dec.{eqb, ltb, leb, lit<}
-use lib.Bits.{bitAnd, bitOr}
+use lib.Bits.{bitOr}
 use Rattle.bits.specs.Choice.{pick}
 use Rattle.bits.specs.ChoiceLaws.{never-both}
 use Rattle.bits.specs.Search.{lowest}
@@ -46,7 +46,7 @@ use Rattle.build.specs.Build.{editionVerdict, rowsFor, verdictOf, answer}
 use Rattle.letter.specs.Paper.{first, _then_, area, topology, required, firstMissing, components, firstUnclean, readEntries}
 use Rattle.letter.specs.Paper as Paper
 use Rattle.letter.specs.Names.{placeFor}
-use Rattle.letter.specs.FirstEntry.{kept, told, kept-told}
+use Rattle.letter.specs.FirstProof.{kept, told, kept-told}
 use Rattle.letter.specs.CountedProof.{entries-same, counted-same}
 
 -- ---- words
@@ -77,7 +77,7 @@ lowest-chain test r k (suc n) = go (test k) (lowest-chain test r (suc k) n)
 
 -- ---- the topology
 
-topology-same : (i : Inputs) → topologyRefusal (topologyOf i) ≡ topology i
+pub topology-same : (i : Inputs) → topologyRefusal (topologyOf i) ≡ topology i
 unfolding topologyOf topology threadsIn
 topology-same i =
     go (eqb (i .s) 0) (eqb (i .mt) 0) (eqb (i .nc) 0 && leb (i .lps) 1) (eqb (i .lps) (i .nc + 1)) (ltb (i .s) 8)
@@ -151,7 +151,7 @@ module _ (avic : Bool) (s : List ℕ) where
       go true false h = absurd (never-both h refl)
       go false b h = refl
 
-  required-same : requiredVerdict A ≡ firstMissing f required
+  required-same : requiredVerdict A ≡ firstMissing avic f required
   unfolding requiredVerdict requiredAt commonRequiredLeaves snpRequiredLeaves placeRequired placeOf keptLeaves
   required-same =
       lowest-chain _ _ 0 24 ∙ ap (λ (p : ℕ → Bool). chain (λ j. p (placeRequired j)) missingRequired 0 24) (fun-ext present-same)
@@ -217,23 +217,23 @@ module _ (avic : Bool) (s : List ℕ) where
 
   -- ---- computed to the paper's figures
 
-  invlpgb-figures : invlpgbVerdict B ≡ pick (has 3 (bitAnd (f 0x80000008 None .result .ebx) 0x3112D21F)) Accepted (Refused InvlpgbUnavailable)
+  invlpgb-figures : invlpgbVerdict B ≡ pick (has 3 (Paper.asMasked avic f 0x80000008 None .ebx)) Accepted (Refused InvlpgbUnavailable)
   unfolding invlpgbVerdict placeOf keptLeaves slot Masks.extendedAddressSpaceSizes maskOf
   invlpgb-figures = refl
 
-  components-figures : componentsVerdict B ≡ components f 2 62
+  components-figures : componentsVerdict B ≡ components avic f 2 62
   unfolding componentsVerdict componentsOf State.combinedMask State.xfem State.xss placeOf keptLeaves slot Masks.extendedState0 Masks.extendedState1 maskOf legacyFeatures components
   components-figures = lowest-chain _ _ 2 62
 
-  area-figures : areaVerdict B ≡ pick (ltb (area (Paper.of f) 62) (2 ^ 32)) Accepted (Refused SaveAreaOverflow)
+  area-figures : areaVerdict B ≡ pick (ltb (area (Paper.asMasked avic f) 62) 4294967296) Accepted (Refused SaveAreaOverflow)
   unfolding areaVerdict State.areaBelow State.xfem State.sizeOf placeOf keptLeaves slot Masks.extendedState0 maskOf legacyFeatures area
-  area-figures = go (ltb (area (Paper.of f) 62) (2 ^ 32))
+  area-figures = go (ltb (area (Paper.asMasked avic f) 62) 4294967296)
     where
-      go : (b : Bool) → sizeVerdict (pick b (Bytes (area (Paper.of f) 62)) TooLarge) ≡ pick b Accepted (Refused SaveAreaOverflow)
+      go : (b : Bool) → sizeVerdict (pick b (Bytes (area (Paper.asMasked avic f) 62)) TooLarge) ≡ pick b Accepted (Refused SaveAreaOverflow)
       go true = refl
       go false = refl
 
-  topology-figures : topologyVerdict B ≡ topology (Paper.given (Paper.of f))
+  topology-figures : topologyVerdict B ≡ topology (Paper.given (Paper.asMasked avic f))
   unfolding topologyVerdict inputsOf placeOf keptLeaves slot Masks.versionAndFeatures Masks.extendedAddressSpaceSizes maskOf fieldsMask fieldMask field bit
   topology-figures = topology-same _
 
@@ -241,7 +241,7 @@ module _ (avic : Bool) (s : List ℕ) where
   chain-same : (u u′ v v′ : Verdict) → u ≡ u′ → (u ≡ Accepted → v ≡ v′) → andThen u v ≡ u′ then v′
   chain-same u u′ v v′ p q = then-both u v v′ q ∙ ap (λ (w : Verdict). w then v′) p
 
-  pub rows-verdict-same : rowsVerdict A ≡ Paper.rowsVerdict f
+  pub rows-verdict-same : rowsVerdict A ≡ Paper.rowsVerdict avic f
   unfolding rowsVerdict topologyVerdict
   rows-verdict-same =
       chain-same _ _ _ _ required-same (λ found.
@@ -252,17 +252,17 @@ module _ (avic : Bool) (s : List ℕ) where
 
 -- ---- entries by place, entries by leaf and subleaf
 
-module _ (es : List Entry) where
-  verdict-kept : Paper.rowsVerdict (λ l k. firstAt (placeFor l k) es) ≡ Paper.rowsVerdict (λ l k. kept es (placeFor l k))
+module _ (avic : Bool) (es : List Entry) where
+  verdict-kept : Paper.rowsVerdict avic (λ l k. firstAt (placeFor l k) es) ≡ Paper.rowsVerdict avic (λ l k. kept es (placeFor l k))
   unfolding placeOf keptLeaves components area
   verdict-kept = refl
 
-  verdict-told : Paper.rowsVerdict (λ l k. told es (placeFor l k)) ≡ Paper.rowsVerdict (first es)
+  verdict-told : Paper.rowsVerdict avic (λ l k. told es (placeFor l k)) ≡ Paper.rowsVerdict avic (first es)
   unfolding placeOf keptLeaves slot components area
   verdict-told = refl
 
-  pub by-leaf : Paper.rowsVerdict (λ l k. firstAt (placeFor l k) es) ≡ Paper.rowsVerdict (first es)
-  by-leaf = verdict-kept ∙ ap (λ (g : ℕ → Row). Paper.rowsVerdict (λ l k. g (placeFor l k))) (kept-told es) ∙ verdict-told
+  pub by-leaf : Paper.rowsVerdict avic (λ l k. firstAt (placeFor l k) es) ≡ Paper.rowsVerdict avic (first es)
+  by-leaf = verdict-kept ∙ ap (λ (g : ℕ → Row). Paper.rowsVerdict avic (λ l k. g (placeFor l k))) (kept-told es) ∙ verdict-told
 
 -- ---- the pages
 
@@ -285,6 +285,17 @@ then-assoc Accepted Accepted w x = then-is w x
 then-assoc Accepted (Refused r) w x = refl
 then-assoc (Refused r) v w x = refl
 
+-- 1, 2 and 17 by themselves
+then-three : (u v w : Verdict) → andThen u (andThen v w) ≡ u then (v then w)
+then-three Accepted v w = then-is v w
+then-three (Refused r) v w = refl
+
+pub lawful-same : (s : List ℕ) → lawfulVerdict s ≡ Paper.lawful s
+unfolding lawfulVerdict lengthVerdict badLength countsVerdict countsFit
+lawful-same s =
+    then-three (lengthVerdict s) (countsVerdict s) (reservedVerdict s)
+    ∙ ap (λ (w : Verdict). lengthVerdict s then (countsVerdict s then w)) (reserved-same s)
+
 pub verdict-by-figures : (chosen : Choices) (s : List ℕ) → answer chosen s .verdict ≡ Paper.verdict chosen s
 unfolding answer verdictOf editionVerdict knownEdition lawfulVerdict lengthVerdict badLength countsVerdict countsFit
 verdict-by-figures chosen s =
@@ -293,5 +304,5 @@ verdict-by-figures chosen s =
     (then-assoc (lengthVerdict s) (countsVerdict s) (reservedVerdict s) (rowsVerdict (rowsFor chosen s))
     ∙ ap₂ (λ (v w : Verdict). lengthVerdict s then (countsVerdict s then (v then w))) (reserved-same s)
     (rows-verdict-same (chosen .«secure_avic») s
-    ∙ by-leaf (Entries.counted s)
-    ∙ ap (λ (x : List Entry). Paper.rowsVerdict (first x)) (counted-same s)))
+    ∙ by-leaf (chosen .«secure_avic») (Entries.counted s)
+    ∙ ap (λ (x : List Entry). Paper.rowsVerdict (chosen .«secure_avic») (first x)) (counted-same s)))

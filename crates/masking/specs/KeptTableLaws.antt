@@ -51,12 +51,18 @@ abbrev isOne : List ℕ → ℕ → Bool
 isOne [] i = false
 isOne (n ∷ ns) i = eqb i n || isOne ns i
 
-abbrev pub isMasked : ℕ → Bool
-isMasked =
+abbrev pub isBasicMasked : ℕ → Bool
+isBasicMasked =
+    isOne (Place.extendedState 1 ∷ Place.extendedState 0 ∷ Place.extendedFeatures ∷ Place.versionAndFeatures ∷ Place.vendorAndMaxFunction ∷ [])
+
+abbrev pub isExtendedMasked : ℕ → Bool
+isExtendedMasked =
     isOne
     (Place.extendedSevFeatures ∷ Place.processorTopologyDefinition ∷ Place.extendedOptimizationIdentifiers ∷ 80 ∷ 79
-    ∷ Place.extendedAddressSpaceSizes ∷ Place.extendedVersionAndFeatures ∷ Place.extendedMaxFunction
-    ∷ Place.extendedState 1 ∷ Place.extendedState 0 ∷ Place.extendedFeatures ∷ Place.versionAndFeatures ∷ Place.vendorAndMaxFunction ∷ [])
+    ∷ Place.extendedAddressSpaceSizes ∷ Place.extendedVersionAndFeatures ∷ Place.extendedMaxFunction ∷ [])
+
+abbrev pub isMasked : ℕ → Bool
+isMasked i = isExtendedMasked i || isBasicMasked i
 
 others : (avic : Bool) (i : ℕ) → i < places → pick (isMasked i) allOnes (masksAt avic i) ≡ allOnes
 unfolding slot keptLeaves versionAndFeatures extendedFeatures extendedState0 extendedState1 extendedVersionAndFeatures extendedAddressSpaceSizes extendedSvm extendedOptimization extendedSev secureAvicMask maskOf fieldsMask fieldMask tabulate

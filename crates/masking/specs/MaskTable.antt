@@ -5,7 +5,7 @@ use Prim.Native.Nat.{ℕ, suc, _-_}
 use lib.Dec.{ltb}
 use lib.ListN.{getD}
 use Rattle.bits.specs.Choice.{pick}
-use Rattle.x86defs.specs.Functions.{result}
+use Rattle.x86defs.specs.Functions.{function, result}
 use Rattle.masking.specs.declared.masks.KeptLeaf.{KeptLeaf}
 use Rattle.masking.specs.Masks.{Masks}
 use Rattle.masking.specs.Kept.{Kept, keptLeaves, placesOf, hasSubleaf}
@@ -13,7 +13,7 @@ use Rattle.masking.specs.Kept.{Kept, keptLeaves, placesOf, hasSubleaf}
 abbrev pub keptLeaf : Kept → KeptLeaf
 keptLeaf r =
     record {
-      leaf = r .leaf .0;
+      leaf = r .leaf;
       eax = r .masks .eax;
       ebx = r .masks .ebx;
       ecx = r .masks .ecx;
@@ -29,7 +29,7 @@ table avic = map keptLeaf (keptLeaves avic)
 
 -- what `getD` gives past the end of the table
 abbrev pub noRow : KeptLeaf
-noRow = record { leaf = 0; eax = 0; ebx = 0; ecx = 0; edx = 0; subleaf = false }
+noRow = record { leaf = function 0; eax = 0; ebx = 0; ecx = 0; edx = 0; subleaf = false }
 
 abbrev pub rowAt : Bool → ℕ → KeptLeaf
 rowAt avic j = getD (table avic) j noRow

@@ -7,13 +7,14 @@ ghost use Rattle.masking.specs.MaskTable.{rows, table, masksOf, rowOfPla
 use crate::Run;
 use crate::place;
 use crate::run;
+use x86defs::CpuidFunction;
 use x86defs::CpuidResult;
 use x86defs::leaf;
 
-// One row of the table: the number of a leaf, its four masks, and whether the leaf has subleaves. Leaf Dh has three rows, for subleaf 0, for
-// subleaf 1, and for subleaves 2 to 63.
+// One row of the table: a leaf, its four masks, and whether the leaf has subleaves. Leaf Dh has three rows, for subleaf 0, for subleaf 1,
+// and for subleaves 2 to 63.
 pub struct KeptLeaf {
-    pub leaf: u32,
+    pub leaf: CpuidFunction,
     pub eax: u32,
     pub ebx: u32,
     pub ecx: u32,
@@ -97,7 +98,7 @@ const ONES: u32 = 0xFFFF_FFFF;
 pub const KEPT_LEAVES: [KeptLeaf; 23] = [
     // the builder makes this row; no page entry is kept for it
     KeptLeaf {
-        leaf: leaf::VENDOR_AND_MAX_FUNCTION,
+        leaf: CpuidFunction(leaf::VENDOR_AND_MAX_FUNCTION),
         eax: 0,
         ebx: 0,
         ecx: 0,
@@ -105,7 +106,7 @@ pub const KEPT_LEAVES: [KeptLeaf; 23] = [
         subleaf: false,
     },
     KeptLeaf {
-        leaf: leaf::VERSION_AND_FEATURES,
+        leaf: CpuidFunction(leaf::VERSION_AND_FEATURES),
         eax: 0x0FFF_3FFF,
         ebx: ONES,
         ecx: 0x7EDA_3203,
@@ -113,7 +114,7 @@ pub const KEPT_LEAVES: [KeptLeaf; 23] = [
         subleaf: false,
     },
     KeptLeaf {
-        leaf: leaf::MONITOR_MWAIT,
+        leaf: CpuidFunction(leaf::MONITOR_MWAIT),
         eax: ONES,
         ebx: ONES,
         ecx: ONES,
@@ -121,7 +122,7 @@ pub const KEPT_LEAVES: [KeptLeaf; 23] = [
         subleaf: false,
     },
     KeptLeaf {
-        leaf: leaf::EXTENDED_FEATURES,
+        leaf: CpuidFunction(leaf::EXTENDED_FEATURES),
         eax: ONES,
         ebx: 0xF1BF_27A9,
         ecx: 0x1A40_5FE6,
@@ -129,7 +130,7 @@ pub const KEPT_LEAVES: [KeptLeaf; 23] = [
         subleaf: true,
     },
     KeptLeaf {
-        leaf: leaf::EXTENDED_TOPOLOGY_ENUMERATION,
+        leaf: CpuidFunction(leaf::EXTENDED_TOPOLOGY_ENUMERATION),
         eax: ONES,
         ebx: ONES,
         ecx: ONES,
@@ -138,7 +139,7 @@ pub const KEPT_LEAVES: [KeptLeaf; 23] = [
     },
     // subleaf 0
     KeptLeaf {
-        leaf: leaf::EXTENDED_STATE_ENUMERATION,
+        leaf: CpuidFunction(leaf::EXTENDED_STATE_ENUMERATION),
         eax: 0x0000_00E7,
         ebx: ONES,
         ecx: ONES,
@@ -147,7 +148,7 @@ pub const KEPT_LEAVES: [KeptLeaf; 23] = [
     },
     // subleaf 1
     KeptLeaf {
-        leaf: leaf::EXTENDED_STATE_ENUMERATION,
+        leaf: CpuidFunction(leaf::EXTENDED_STATE_ENUMERATION),
         eax: 0x0000_000B,
         ebx: ONES,
         ecx: 0x0000_1800,
@@ -156,7 +157,7 @@ pub const KEPT_LEAVES: [KeptLeaf; 23] = [
     },
     // subleaves 2 to 63
     KeptLeaf {
-        leaf: leaf::EXTENDED_STATE_ENUMERATION,
+        leaf: CpuidFunction(leaf::EXTENDED_STATE_ENUMERATION),
         eax: ONES,
         ebx: ONES,
         ecx: ONES,
@@ -165,7 +166,7 @@ pub const KEPT_LEAVES: [KeptLeaf; 23] = [
     },
     // the builder makes this row; no page entry is kept for it
     KeptLeaf {
-        leaf: leaf::EXTENDED_MAX_FUNCTION,
+        leaf: CpuidFunction(leaf::EXTENDED_MAX_FUNCTION),
         eax: 0,
         ebx: 0,
         ecx: 0,
@@ -174,7 +175,7 @@ pub const KEPT_LEAVES: [KeptLeaf; 23] = [
     },
     // the masks of masking.rs and of snp.rs, joined by or
     KeptLeaf {
-        leaf: leaf::EXTENDED_VERSION_AND_FEATURES,
+        leaf: CpuidFunction(leaf::EXTENDED_VERSION_AND_FEATURES),
         eax: 0x0FFF_3FFF,
         ebx: 0xF000_FFFF,
         ecx: 0x0041_0DF3,
@@ -182,7 +183,7 @@ pub const KEPT_LEAVES: [KeptLeaf; 23] = [
         subleaf: false,
     },
     KeptLeaf {
-        leaf: leaf::EXTENDED_BRANDING_STRING_1,
+        leaf: CpuidFunction(leaf::EXTENDED_BRANDING_STRING_1),
         eax: ONES,
         ebx: ONES,
         ecx: ONES,
@@ -190,7 +191,7 @@ pub const KEPT_LEAVES: [KeptLeaf; 23] = [
         subleaf: false,
     },
     KeptLeaf {
-        leaf: leaf::EXTENDED_BRANDING_STRING_2,
+        leaf: CpuidFunction(leaf::EXTENDED_BRANDING_STRING_2),
         eax: ONES,
         ebx: ONES,
         ecx: ONES,
@@ -198,7 +199,7 @@ pub const KEPT_LEAVES: [KeptLeaf; 23] = [
         subleaf: false,
     },
     KeptLeaf {
-        leaf: leaf::EXTENDED_BRANDING_STRING_3,
+        leaf: CpuidFunction(leaf::EXTENDED_BRANDING_STRING_3),
         eax: ONES,
         ebx: ONES,
         ecx: ONES,
@@ -206,7 +207,7 @@ pub const KEPT_LEAVES: [KeptLeaf; 23] = [
         subleaf: false,
     },
     KeptLeaf {
-        leaf: leaf::EXTENDED_L1_CACHE_PARAMETERS,
+        leaf: CpuidFunction(leaf::EXTENDED_L1_CACHE_PARAMETERS),
         eax: ONES,
         ebx: ONES,
         ecx: ONES,
@@ -214,7 +215,7 @@ pub const KEPT_LEAVES: [KeptLeaf; 23] = [
         subleaf: false,
     },
     KeptLeaf {
-        leaf: leaf::EXTENDED_L2_CACHE_PARAMETERS,
+        leaf: CpuidFunction(leaf::EXTENDED_L2_CACHE_PARAMETERS),
         eax: ONES,
         ebx: ONES,
         ecx: ONES,
@@ -222,7 +223,7 @@ pub const KEPT_LEAVES: [KeptLeaf; 23] = [
         subleaf: false,
     },
     KeptLeaf {
-        leaf: leaf::EXTENDED_POWER_MANAGEMENT,
+        leaf: CpuidFunction(leaf::EXTENDED_POWER_MANAGEMENT),
         eax: ONES,
         ebx: ONES,
         ecx: ONES,
@@ -231,7 +232,7 @@ pub const KEPT_LEAVES: [KeptLeaf; 23] = [
     },
     // the masks of masking.rs and of snp.rs, joined by or
     KeptLeaf {
-        leaf: leaf::EXTENDED_ADDRESS_SPACE_SIZES,
+        leaf: CpuidFunction(leaf::EXTENDED_ADDRESS_SPACE_SIZES),
         eax: 0x0000_FFFF,
         ebx: 0x3112_D21F,
         ecx: 0x0000_F0FF,
@@ -239,7 +240,7 @@ pub const KEPT_LEAVES: [KeptLeaf; 23] = [
         subleaf: false,
     },
     KeptLeaf {
-        leaf: leaf::EXTENDED_SVM_VERSION_AND_FEATURES,
+        leaf: CpuidFunction(leaf::EXTENDED_SVM_VERSION_AND_FEATURES),
         eax: 0x0000_00FF,
         ebx: 0,
         ecx: 0,
@@ -247,7 +248,7 @@ pub const KEPT_LEAVES: [KeptLeaf; 23] = [
         subleaf: false,
     },
     KeptLeaf {
-        leaf: leaf::EXTENDED_TLB1GB_IDENTIFIERS,
+        leaf: CpuidFunction(leaf::EXTENDED_TLB1GB_IDENTIFIERS),
         eax: ONES,
         ebx: ONES,
         ecx: 0,
@@ -255,7 +256,7 @@ pub const KEPT_LEAVES: [KeptLeaf; 23] = [
         subleaf: false,
     },
     KeptLeaf {
-        leaf: leaf::EXTENDED_OPTIMIZATION_IDENTIFIERS,
+        leaf: CpuidFunction(leaf::EXTENDED_OPTIMIZATION_IDENTIFIERS),
         eax: 0x0000_0007,
         ebx: 0,
         ecx: 0,
@@ -263,7 +264,7 @@ pub const KEPT_LEAVES: [KeptLeaf; 23] = [
         subleaf: false,
     },
     KeptLeaf {
-        leaf: leaf::CACHE_TOPOLOGY_DEFINITION,
+        leaf: CpuidFunction(leaf::CACHE_TOPOLOGY_DEFINITION),
         eax: ONES,
         ebx: ONES,
         ecx: ONES,
@@ -271,7 +272,7 @@ pub const KEPT_LEAVES: [KeptLeaf; 23] = [
         subleaf: true,
     },
     KeptLeaf {
-        leaf: leaf::PROCESSOR_TOPOLOGY_DEFINITION,
+        leaf: CpuidFunction(leaf::PROCESSOR_TOPOLOGY_DEFINITION),
         eax: ONES,
         ebx: ONES,
         ecx: ONES,
@@ -280,7 +281,7 @@ pub const KEPT_LEAVES: [KeptLeaf; 23] = [
     },
     // without the secure-AVIC bit, which `kept_leaves` adds
     KeptLeaf {
-        leaf: leaf::EXTENDED_SEV_FEATURES,
+        leaf: CpuidFunction(leaf::EXTENDED_SEV_FEATURES),
         eax: 0x0000_027F,
         ebx: 0x0000_FFFF,
         ecx: ONES,

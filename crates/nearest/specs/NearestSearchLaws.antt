@@ -50,7 +50,7 @@ use Rattle.flips.specs.FlippedEntryLaws.{Inside}
 use Rattle.search.specs.SameVerdict.{sameFrom}
 use Rattle.search.specs.Changes.{changes}
 use Rattle.search.specs.WithRow.{withRow}
-use Rattle.search.specs.FlippedRowLaws.{firstAmong, first-none, first-cons, first-append}
+use Rattle.search.specs.FlippedRowLaws.{firstAmong, first-none, first-cons, first-append, taken-row}
 use Rattle.search.specs.ChangesLaws.{changes-nothing, changes-row}
 use Rattle.search.specs.declared.decisive.Decisive.{Decisive}
 use Rattle.search.specs.declared.decisive.Decisive.the-variants.{Number, NoNumber}
@@ -203,7 +203,13 @@ module _ (c : Choices) (s : List ℕ) (bytes : (n : ℕ) → getD s n 0 < 256) (
       mark j l false true u v = absurd (n j l u (eqb-true (storedAt e) j v))
       mark j l false false u v = refl
 
-  -- the first entry of its place
+  -- the first entry of its place gives it its row
+  fresh-row : (place : ℕ) → place < places → storedAt e ≡ place → getD seen place false ≡ false
+      → rowsFor c s place ≡ row (maskedAt (c .«secure_avic») place (e .registers))
+  fresh-row place small at-place new =
+      taken-row (c .«secure_avic») s p q 0 0 (inside 0 (omega arith)) (lawful-counts s lawful) (w .done) (rest s (incremented s i)) here
+      place small at-place (sym (w .marks place small) ∙ new)
+
   module _ (place : ℕ) (small : place < places) (at-place : storedAt e ≡ place) (new : getD seen place false ≡ false) (kept : KeptLeaf)
       (masks : (x : CpuidResult) → setLegacy place (applyMask (masksOf kept) x) ≡ maskedAt (c .«secure_avic») place x) where
     agrees : lowest (λ n. not (test n)) 0 128 ≡ lowest (keeps (c .edition) (rowsFor c s) kept place (e .registers)) 0 128
@@ -287,6 +293,13 @@ module _ {c : Choices} {s : List ℕ} {seen : List Bool} {i : CpuidPageIndex} {e
 
     pub entry-seen : getD seen place false ≡ true → Searching c s seen (incremented s i)
     entry-seen f = passes (seen-taken seen at-place f)
+
+    -- the first entry of its place has a row there
+    pub entry-present : place < places → getD seen place false ≡ false → {m : Rows} → m ≡ rowsFor c s → m place .present ≡ true
+    entry-present small new e =
+        ap (λ (q : Rows). q place .present) e
+        ∙ ap (λ (x : Row). x .present)
+        (fresh-row c s bytes (a .known) (a .lawful) seen i (a .searching) (a .inside) place small (sym at-place) new)
 
     pub entry-not-kept : places ≤ place → Searching c s seen (incremented s i)
     entry-not-kept f = passes (not-kept seen at-place f)

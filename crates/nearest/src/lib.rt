@@ -8,6 +8,7 @@ use memory::sized;
 use reader::Read;
 use search::decisive::Decisive;
 use search::decisive::first_bit;
+use search::irrelevant::check_unflipped;
 use table::Choices;
 use table::Refusal;
 use table::Verdict;
@@ -51,8 +52,8 @@ pub fn nearest_bit(pages: &[u8], choices: Choices) -> Nearest
     )
 }
 
-// The search, in the order of the entries, at the rows that the walk left in memory. A flip in an entry that is not the first of its place is passed
-// over, and one in a first entry is tried at these rows. Lawful pages have no unclean entry.
+// The search, in the order of the entries, at the rows that the walk left in memory, which are checked once. A flip in an entry that is not the first
+// of its place is passed over, and one in a first entry is tried at these rows. Lawful pages have no unclean entry.
 fn search_flips(
     pages: &[u8],
     secure_avic: bool,
@@ -65,6 +66,7 @@ fn search_flips(
     ensures { λ r. ⌜ r ≡ firstThat (changes (chosen «secure_avic» edition) (now (pages .entry))) (flips (now (pages .entry))) ⌝ }
 {
     let kept = masking::masks::kept_leaves(secure_avic);
+    let found = check_unflipped(registers, origins);
     let n = pages::page_count(pages);
     let mut seen = [false; PLACES];
     let mut index = reader::start(pages);
@@ -77,7 +79,15 @@ fn search_flips(
                     if seen[place] {} else {
                         let row = masking::masks::mask_row(place);
                         let x = entry.result;
-                        let bit = first_bit(registers, origins, edition, kept[row], place, x);
+                        let bit = first_bit(
+                            registers,
+                            origins,
+                            edition,
+                            found,
+                            kept[row],
+                            place,
+                            x,
+                        );
                         if let Decisive::Number(b) = bit {
                             let position = index.function_index as u32;
                             return Nearest::Bit(Flip {

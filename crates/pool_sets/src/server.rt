@@ -13,7 +13,7 @@ use table::Verdict;
 use table::known_edition;
 ghost use Rattle.pool_sets.specs.Server.{ServerIn};
 
-// The pages, walked once and judged: nothing is finished.
+// The pages, walked once and judged: nothing is finished. A refusal leaves memory without rows.
 pub fn server_into(
     pages: &[u8],
     choices: Choices,
@@ -22,10 +22,10 @@ pub fn server_into(
 ) -> Verdict
     ensures { λ r. ⌜ ServerIn choices (now (pages .entry)) r (now (registers .exit)) (now (origins .exit)) ⌝ }
 {
+    clear(registers, origins);
     if known_edition(choices.edition) {} else {
         return Verdict::Refused(Refusal::UnknownEdition);
     }
-    clear(registers, origins);
     let lawful = walk_pages(pages, choices.secure_avic, registers, origins);
     if let Verdict::Refused(r) = lawful {
         return Verdict::Refused(r);
@@ -33,6 +33,7 @@ pub fn server_into(
     sized(registers, origins);
     let checked = check_rows(registers, origins);
     if let Checked::Refused(r) = checked {
+        clear(registers, origins);
         return Verdict::Refused(r);
     }
     Verdict::Accepted

@@ -11,7 +11,7 @@ use Rattle.table.specs.declared.Verdict.{Verdict}
 use Rattle.table.specs.declared.Verdict.the-variants.{Accepted, Refused as NotBuilt}
 use Rattle.table.specs.Refusal.{Details, details}
 use Rattle.memory.specs.Held.{heldIn}
-use Rattle.build.specs.Build.{underEdition, answer, BuiltPages}
+use Rattle.build.specs.Build.{underEdition, answer, InMemory}
 use Rattle.table.specs.declared.numbers.AnswerNumbers.{AnswerNumbers}
 use Rattle.table.specs.Numbers.{detailNumbers, refusalNumbers}
 use Rattle.buffer.specs.Front.{bytesOf}
@@ -32,11 +32,11 @@ code-of (Some k) number leaf t = refl
 number-bytes : (d : Details) → numberBytes (detailNumbers d) ≡ refusalBytes d
 number-bytes d = ap (λ (k : ℕ). 3 ∷ d .number ∷ bytesOf (d .leaf) ++ bytesOf k ++ (d .s ∷ [])) (code-of (d .subleaf) (d .number) (d .leaf) (d .s))
 
-module _ (s : List ℕ) (short : length s ≤ longestInput) {d : Verdict} {w o : List ℕ} (built : BuiltPages (answer (underEdition 1) s) d w o) where
+module _ (s : List ℕ) (short : length s ≤ longestInput) {d : Verdict} {w o : List ℕ} (built : InMemory (answer (underEdition 1) s) d w o) where
   pub output-refused : (r : Refusal) (n : AnswerNumbers) → d ≡ NotBuilt r → n ≡ refusalNumbers r → numberBytes n ≡ output s
   unfolding output
   output-refused r n e p = ap numberBytes p ∙ number-bytes (details r) ∙ rw (le-leb (length s) longestInput short, ← built .verdict, e)
 
   pub output-accepted : d ≡ Accepted → image (heldIn w o) ≡ output s
   unfolding output
-  output-accepted e = rw (le-leb (length s) longestInput short, ← built .verdict, ← built .accepted e .table, e)
+  output-accepted e = rw (le-leb (length s) longestInput short, ← built .verdict, ← built .table, e)

@@ -10,9 +10,8 @@ use borrow.Author.Tests.{eqb-true, eqb-false, ltb-true, ltb-false}
 use Rattle.bits.specs.Search.{every}
 use Rattle.bits.specs.SearchLaws.{every-at}
 use Rattle.bits.specs.Bits.{bit}
-use Rattle.bits.specs.BitsLaws.{bit-and, bit-or, bit-lt, bits-ext, has-not}
+use Rattle.bits.specs.BitsLaws.{bit-and, bit-or, bit-lt, bits-ext, has-not, none-from}
 use Rattle.x86defs.specs.declared.CpuidResult.{CpuidResult}
-use Rattle.checks.specs.MaskLaws.{none-from}
 use Rattle.finish.specs.Kinds.{Kind, Kinds, Registers}
 use Rattle.finish.specs.Kinds.Kind.{feature, featureBut28, area, freed, other}
 use Rattle.finish.specs.JoinLaws.{joined, joinResults}

@@ -11,6 +11,8 @@ use Rattle.table.specs.declared.Verdict.the-variants.{Accepted, Refused}
 use Rattle.table.specs.Rows.{Rows}
 use Rattle.checks.specs.ExtendedState.{combinedMask}
 use Rattle.checks.specs.Checks.{requiredVerdict, invlpgbVerdict, rowsVerdict}
+use Rattle.rows_checked.specs.Checked.{checkedRows, verdictOf}
+use Rattle.search.specs.declared.irrelevant.Unflipped.{Unflipped}
 
 abbrev pub refuses : Verdict → Bool
 refuses Accepted = false
@@ -39,3 +41,17 @@ unfoldable pub irrelevant : Rows → ℕ → Bool
 irrelevant m i =
     pick (refuses (requiredVerdict m)) true
     (pick (refuses (invlpgbVerdict m)) (not (eqb i Place.extendedAddressSpaceSizes)) (irrelevantAt (refuses (rowsVerdict m)) (combinedMask m) i))
+
+-- the same from what the checks find in the rows
+unfoldable pub unflippedIn : Rows → Unflipped
+unflippedIn m = record {
+  missing = refuses (requiredVerdict m);
+  clear = refuses (invlpgbVerdict m);
+  mask = combinedMask m;
+  checked = checkedRows m;
+}
+
+unfoldable pub irrelevantBy : Unflipped → ℕ → Bool
+irrelevantBy f i =
+    pick (f .missing) true
+    (pick (f .clear) (not (eqb i Place.extendedAddressSpaceSizes)) (irrelevantAt (refuses (verdictOf (f .checked))) (f .mask) i))

@@ -3,6 +3,8 @@ pub mod SameLaws
 pub mod Changes
 pub mod WithRow
 pub mod WithRowLaws
+pub mod Tried
+pub mod FinishedRowLaws
 pub mod FlippedRowLaws
 pub mod ChangesLaws
 pub mod FlippedMaskLaws
@@ -10,4 +12,5 @@ pub mod Irrelevant
 pub mod FlippedReadLaws
 pub mod IrrelevantLaws
 pub mod SearchReturnLaws
+pub mod TriedLaws
 pub mod BitLaws

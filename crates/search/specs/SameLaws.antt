@@ -1,23 +1,19 @@
--- The same answer: an answer is the same as itself, equal registers, and tables in memory compared row by row as the code does.
-use mathlib.Core.Path.{_≡_, refl, sym, ap, _∙_}
+-- The same answer: an answer is the same as itself, and the same registers are equal.
+use mathlib.Core.Path.{_≡_, refl, sym}
 use mathlib.Core.Bool.{Bool, true, false}
-use Prim.Native.Nat.{ℕ, zero, suc, _+_, _<_}
-use native.Mathlib.Numerals.{add-one}
+use Prim.Native.Nat.{ℕ, zero, suc}
 use lib.Dec.{eqb}
 use borrow.Author.Tests.{eq-eqb, eqb-true}
-use Rattle.bits.specs.ChoiceLaws.{never-both, and-both, and-left, and-right}
+use Rattle.bits.specs.ChoiceLaws.{and-both, and-left, and-right}
 use Rattle.bits.specs.Search.{every}
-use Rattle.bits.specs.SearchLaws.{every-at}
 use Rattle.x86defs.specs.declared.CpuidResult.{CpuidResult}
 use Rattle.masking.specs.Kept.{places}
 use Rattle.table.specs.declared.CpuidResults.{CpuidResults}
 use Rattle.table.specs.declared.Verdict.{Verdict}
-use Rattle.table.specs.Rows.{Row, Rows}
 use Rattle.table.specs.Table.{rowIn}
-use Rattle.memory.specs.Held.{wholeOf, whole-row, whole-ext}
 use Rattle.table.specs.declared.numbers.AnswerNumbers.{AnswerNumbers}
 use Rattle.table.specs.Numbers.{numbersOf}
-use Rattle.search.specs.SameVerdict.{agree, sameResult, sameRow, sameRows, sameTable, sameNumbers, sameAnswer}
+use Rattle.search.specs.SameVerdict.{agree, sameResult, sameRows, sameTable, sameNumbers, sameAnswer}
 
 -- ---- an answer is the same as itself
 
@@ -71,51 +67,3 @@ pub agree-equal : (a b : Bool) → agree a b ≡ true → a ≡ b
 agree-equal true b e = sym e
 agree-equal false true e = e
 agree-equal false false e = refl
-
-row-equal : (a b : Row) → sameRow a b ≡ true → a ≡ b
-row-equal a b e =
-    let p = agree-equal (a .present) (b .present) (and-left _ _ e) in
-    let r = result-equal (a .result) (b .result) (and-right (agree (a .present) (b .present)) _ e) in λ k.
-    record { present = p k; result = r k }
-
--- ---- tables in memory compared: the rows decide, since count and mask follow from them
-
-abbrev pub rowsAgree : Rows → Rows → ℕ → Bool
-rowsAgree m o i = sameRow (m i) (o i)
-
-unfoldable pub rowsSameTo : Rows → Rows → ℕ → Bool
-rowsSameTo m o n = every (rowsAgree m o) n
-
-module _ (m o : Rows) where
-  -- what the code finds at a place
-  pub rows-found : (i : ℕ) {p q r : Bool} {a b : CpuidResult} → p ≡ m i .present → a ≡ m i .result → q ≡ o i .present → b ≡ o i .result
-      → r ≡ sameRow (record { present = p; result = a }) (record { present = q; result = b }) → r ≡ rowsAgree m o i
-  rows-found i e f g h j = j ∙ (λ k. sameRow (record { present = e k; result = f k }) (record { present = g k; result = h k }))
-
-  pub rows-same-none : rowsSameTo m o 0 ≡ true
-  unfolding rowsSameTo
-  rows-same-none = refl
-
-  pub rows-same-more : (i : ℕ) → rowsSameTo m o i ≡ true → rowsAgree m o i ≡ true → rowsSameTo m o (i + 1) ≡ true
-  unfolding rowsSameTo
-  rows-same-more i e f = rw add-one (and-both f e)
-
-  pub rows-same-all : (i : ℕ) → i ≡ places → rowsSameTo m o i ≡ true → true ≡ sameTable (wholeOf m) (wholeOf o)
-  unfolding rowsSameTo
-  rows-same-all i q e =
-      let f : every (rowsAgree m o) places ≡ true = rw q at e in
-      let w : wholeOf m ≡ wholeOf o = whole-ext (λ j l. row-equal (m j) (o j) (every-at (rowsAgree m o) places f j l)) in
-      sym (ap (sameTable (wholeOf m)) (sym w) ∙ table-same (wholeOf m))
-
-  pub rows-differ : (i : ℕ) → i < places → rowsAgree m o i ≡ false → false ≡ sameTable (wholeOf m) (wholeOf o)
-  unfolding sameTable sameRows
-  rows-differ i l f = go (sameTable (wholeOf m) (wholeOf o)) refl
-    where
-      go : (b : Bool) → sameTable (wholeOf m) (wholeOf o) ≡ b → false ≡ b
-      go true e =
-          let g = and-right (eqb (wholeOf m .«max_extended_state») (wholeOf o .«max_extended_state»)) _
-          (and-right (eqb (wholeOf m .«row_count») (wholeOf o .«row_count»)) _ e) in
-          let h : sameRow (rowIn (wholeOf m) i) (rowIn (wholeOf o) i) ≡ true =
-          every-at (λ j. sameRow (rowIn (wholeOf m) j) (rowIn (wholeOf o) j)) places g i l in
-          absurd (never-both (sym (λ k. sameRow (whole-row m i l k) (whole-row o i l k)) ∙ h) f)
-      go false e = refl

@@ -1,21 +1,22 @@
 -- `irrelevant`, one case for each return of the function.
-use mathlib.Core.Path.{_≡_, sym, ap, ap₂, _∙_}
+use mathlib.Core.Path.{_≡_, refl}
 use mathlib.Core.Bool.{Bool, true, false, not}
 use Prim.Native.Nat.{ℕ, _-_, _≤_, _<_}
 use lib.Dec.{eqb, leb}
 use borrow.Author.Tests.{ltb-true, leb-true}
-use Rattle.bits.specs.ChoiceLaws.{and-left, and-right}
+use Rattle.bits.specs.Choice.{pick}
+use Rattle.bits.specs.ChoiceLaws.{never-both, and-left, and-right}
 use Rattle.bits.specs.Bits.{has}
 use Rattle.masking.specs.Place
 use Rattle.table.specs.declared.Refusal.{Refusal}
+use Rattle.table.specs.declared.Verdict.{Verdict}
 use Rattle.table.specs.declared.Verdict.the-variants.{Accepted, Refused}
 use Rattle.table.specs.Rows.{Rows}
 use Rattle.checks.specs.ExtendedState.{combinedMask}
 use Rattle.checks.specs.Checks.{requiredVerdict, invlpgbVerdict, rowsVerdict}
-use Rattle.rows_checked.specs.declared.Checked.{Checked}
-use Rattle.rows_checked.specs.Checked.{checkedRows, verdictOf}
+use Rattle.rows_checked.specs.Checked.{checkedRows}
 use Rattle.rows_checked.specs.CheckedLaws.{verdict-of}
-use Rattle.search.specs.Irrelevant.{refuses, isComponent, isLevel, isRead, irrelevantAt, irrelevant}
+use Rattle.search.specs.Irrelevant.{refuses, isComponent, isLevel, isRead, irrelevantAt, irrelevant, unflippedIn, irrelevantBy}
 
 module _ (m : Rows) (i : ℕ) where
   pub irrelevant-missing : {r : Refusal} → requiredVerdict m ≡ Refused r → true ≡ irrelevant m i
@@ -27,14 +28,23 @@ module _ (m : Rows) (i : ℕ) where
   unfolding irrelevant
   irrelevant-clear e f = rw (e, f)
 
-  -- k is what the checks find
-  pub irrelevant-other : {k : Checked} {b q : Bool} {x : ℕ} → requiredVerdict m ≡ Accepted → invlpgbVerdict m ≡ Accepted
-      → k ≡ checkedRows m → b ≡ refuses (verdictOf k) → x ≡ combinedMask m
-      → q ≡ irrelevantAt b x i → q ≡ irrelevant m i
-  unfolding irrelevant checkedRows
-  irrelevant-other e f c g h k =
-      k ∙ ap₂ (λ (b : Bool) (x : ℕ). irrelevantAt b x i) (g ∙ ap (λ (k : Checked). refuses (verdictOf k)) c ∙ ap refuses (verdict-of (rowsVerdict m) m)) h
-      ∙ sym (rw (e, f))
+  -- what the checks find tells it
+  pub irrelevant-found : irrelevantBy (unflippedIn m) i ≡ irrelevant m i
+  unfolding irrelevant irrelevantBy unflippedIn checkedRows
+  irrelevant-found = rw (verdict-of (rowsVerdict m) m)
+
+  -- where a place is relevant, the required leaves are there
+  pub relevant-required : irrelevant m i ≡ false → requiredVerdict m ≡ Accepted
+  unfolding irrelevant
+  relevant-required = go (requiredVerdict m)
+    where
+      go : (v : Verdict) → pick (refuses v) true
+          (pick (refuses (invlpgbVerdict m)) (not (eqb i Place.extendedAddressSpaceSizes))
+          (irrelevantAt (refuses (rowsVerdict m)) (combinedMask m) i))
+          ≡ false
+          → v ≡ Accepted
+      go Accepted e = refl
+      go (Refused r) e = absurd (never-both refl e)
 
 module _ (i : ℕ) where
   -- the bounds of a component

@@ -4,10 +4,9 @@ use mathlib.Core.Bool.{Bool, true, false}
 use mathlib.Core.List.{List}
 use mathlib.Core.Logic.{_≢_}
 use Prim.Native.Nat.{ℕ, _*_, _<_}
-use native.Mathlib.Omega.{arith}
 use lib.Dec.{eqb}
-use lib.ListN.{length, getD, set}
-use borrow.Author.Tests.{eqb-true, eqb-false, ne-eqb}
+use lib.ListN.{length, getD}
+use borrow.Author.Tests.{eqb-true, eq-eqb, ne-eqb}
 use Rattle.bits.specs.Choice.{pick}
 use Rattle.bits.specs.ChoiceLaws.{pick-true, pick-false}
 use Rattle.bits.specs.Search.{lowest}
@@ -15,8 +14,8 @@ use Rattle.x86defs.specs.declared.CpuidResult.{CpuidResult}
 use Rattle.masking.specs.Kept.{places}
 use Rattle.table.specs.Rows.{Rows, row}
 use Rattle.memory.specs.Memory as Memory
-use Rattle.memory.specs.Memory.{rowOf, isThere, rowsIn}
-use Rattle.memory.specs.MemoryLaws.{set-at, put-at}
+use Rattle.memory.specs.Memory.{isThere, rowsIn}
+use Rattle.memory.specs.MemoryLaws.{put-at, put-length}
 use Rattle.checks.specs.Required.{requiredCount, placeRequired}
 use Rattle.checks.specs.Checks.{refuseAt, missingRequired, requiredVerdict}
 use Rattle.search.specs.WithRow.{withRow}
@@ -30,6 +29,11 @@ module _ (i : ℕ) (x : CpuidResult) (m : Rows) where
       go : (j : ℕ) (b : Bool) → eqb j i ≡ b → pick b (row x) (m j) ≡ m j
       go j true f = rw (eqb-true j i f) (sym e)
       go j false f = refl
+
+  -- the row that is put
+  pub put-here : withRow i x m i .result ≡ x
+  unfolding withRow
+  put-here = rw (eq-eqb i i refl)
 
   -- other places keep their rows
   pub put-other : (j : ℕ) → j ≢ i → withRow i x m j ≡ m j
@@ -50,22 +54,40 @@ module _ (i : ℕ) (x : CpuidResult) (m : Rows) where
   required-same e =
       ap (λ (t : ℕ → Bool). refuseAt (lowest t 0 requiredCount) missingRequired) (fun-ext (λ j. put-present e (placeRequired j)))
 
--- a row that is there in memory
-pub there : (w o : List ℕ) (i : ℕ) → isThere (getD o i 0) ≡ true → rowsIn w o i ≡ row (rowOf w i)
-there w o i e = λ k. record { present = e k; result = rowOf w i }
-
--- a row stored in memory, with an origin
-pub put-row : (w o : List ℕ) (i : ℕ) (x : CpuidResult) (n : ℕ) → length w ≡ 4 * places → length o ≡ places → i < places → isThere n ≡ true
-    → rowsIn (Memory.putRow w i x) (set o i n) ≡ withRow i x (rowsIn w o)
+-- of two rows put at one place the second stands
+put-twice : (i : ℕ) (x y : CpuidResult) (m : Rows) → withRow i x (withRow i y m) ≡ withRow i x m
 unfolding withRow
-put-row w o i x n a b h e = fun-ext (λ j. go j (eqb j i) refl)
+put-twice i x y m = fun-ext (λ j. go j (eqb j i))
   where
-    go : (j : ℕ) (c : Bool) → eqb j i ≡ c → rowsIn (Memory.putRow w i x) (set o i n) j ≡ pick c (row x) (rowsIn w o j)
-    go j true f = λ k. record {
-      present = (ap isThere (set-at o i j n 0 (omega (arith, b)) ∙ pick-true _ _ f) ∙ e) k;
-      result = (put-at w i x a h j ∙ pick-true _ _ f) k;
-    }
-    go j false f = λ k. record {
-      present = ap isThere (set-at o i j n 0 (omega (arith, b)) ∙ pick-false _ _ f) k;
-      result = (put-at w i x a h j ∙ pick-false _ _ f) k;
+    go : (j : ℕ) (b : Bool) → pick b (row x) (pick b (row y) (m j)) ≡ pick b (row x) (m j)
+    go j true = refl
+    go j false = refl
+
+-- ---- memory that has the rows m but for place i, where o says that a row is there
+
+pub record AllBut (m : Rows) (o w : List ℕ) (i : ℕ) : Type 0 where
+  pub size : length w ≡ 4 * places
+  pub rows : (x : CpuidResult) → withRow i x (rowsIn w o) ≡ withRow i x m
+
+module _ (o : List ℕ) (i : ℕ) (small : i < places) (there : isThere (getD o i 0) ≡ true) where
+  put-row : (w : List ℕ) (x : CpuidResult) → length w ≡ 4 * places → rowsIn (Memory.putRow w i x) o ≡ withRow i x (rowsIn w o)
+  unfolding withRow
+  put-row w x e = fun-ext (λ j. go j (eqb j i) refl)
+    where
+      go : (j : ℕ) (b : Bool) → eqb j i ≡ b → rowsIn (Memory.putRow w i x) o j ≡ pick b (row x) (rowsIn w o j)
+      go j true f = λ k. record {
+        present = (ap (λ (n : ℕ). isThere (getD o n 0)) (eqb-true j i f) ∙ there) k;
+        result = (put-at w i x e small j ∙ pick-true _ _ f) k;
+      }
+      go j false f = λ k. record { present = isThere (getD o j 0); result = (put-at w i x e small j ∙ pick-false _ _ f) k }
+
+  -- a row stored there
+  module _ {m : Rows} {w v : List ℕ} (x : CpuidResult) (d : AllBut m o w i) (e : v ≡ Memory.putRow w i x) where
+    pub stored-rows : rowsIn v o ≡ withRow i x m
+    stored-rows = ap (λ (l : List ℕ). rowsIn l o) e ∙ put-row w x (d .size) ∙ d .rows x
+
+    pub stored-all-but : AllBut m o v i
+    stored-all-but = record {
+      size = ap length e ∙ put-length w i x (d .size) small;
+      rows = λ y. ap (withRow i y) stored-rows ∙ put-twice i y x m;
     }

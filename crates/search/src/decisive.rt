@@ -1,34 +1,37 @@
 // The bits of one first entry. Collected rows in lent memory and an entry's registers come in; the first of the 128 bits whose flip changes what
 // building answers to the rows goes out.
+use crate::irrelevant::Unflipped;
 use crate::irrelevant::is_irrelevant;
+use crate::irrelevant::verdict_of;
 use crate::same_result;
-use crate::same_table;
 use crate::same_verdict;
 use flips::flip_bit;
 use masking::PLACES;
 use masking::masks::KeptLeaf;
 use memory::REGISTERS;
-use memory::is_there;
 use memory::put_row;
 use memory::row_at;
 use memory::sized;
-use rows_finished::build_rows;
-use rows_finished::finish_rows;
+use rows_checked::Checked;
+use rows_checked::from_invlpgb;
+use rows_finished::finish;
 use table::Verdict;
 use x86defs::CpuidResult;
 ghost use mathlib.Core.Path.{_≡_};
+ghost use mathlib.Core.Bool.{true};
 ghost use Prim.Native.Nat.{_<_};
 ghost use Rattle.masking.specs.Kept.{places};
 ghost use Rattle.memory.specs.Memory.{rowsIn};
-ghost use Rattle.memory.specs.Held.{heldIn};
+ghost use Rattle.checks.specs.ExtendedState.{combinedMask};
+ghost use Rattle.features.specs.Finish.{finished};
+ghost use Rattle.finish.specs.Stores.{Ready};
+ghost use Rattle.rows_checked.specs.Checked.{checkedRows};
 ghost use Rattle.search.specs.SameVerdict.{sameFrom};
-ghost use Rattle.search.specs.WithRow.{withRow};
-ghost use Rattle.search.specs.BitLaws.{AnswerTo, firstBit};
+ghost use Rattle.search.specs.Irrelevant.{unflippedIn};
+ghost use Rattle.search.specs.Tried.{TriedAt};
+ghost use Rattle.search.specs.BitLaws.{firstBit};
 
 const BITS: u32 = 128;
-
-// The origin of a row that is tried: any number but 0 says that it is there, and origins don't count.
-const TRIED: u64 = 1;
 
 // The first of an entry's 128 result bits that decides, by number: 32 times the register, and the bit.
 pub enum Decisive {
@@ -36,40 +39,32 @@ pub enum Decisive {
     NoNumber,
 }
 
-// The first of an entry's bits that decides at its row; none is tried where no row there would change the answer.
+// The first of an entry's bits that decides at its row; none is tried where no row there would change the answer. The rows are copied once, and each
+// flip overwrites the row of the flip before.
 pub fn first_bit(
     registers: &[u32; REGISTERS],
     origins: &[u64; PLACES],
     edition: u32,
+    found: Unflipped,
     kept: KeptLeaf,
     place: usize,
     x: CpuidResult,
 ) -> Decisive
-    requires { ⌜ place < places ⌝ }
+    requires { ⌜ (place < places) × (rowsIn (now registers) (now origins) place .present ≡ true)
+        × (found ≡ unflippedIn (rowsIn (now registers) (now origins))) ⌝ }
     ensures { λ r. ⌜ r ≡ firstBit edition (rowsIn (now (registers .entry)) (now (origins .entry))) kept place x ⌝ }
 {
-    let origin = origins[place];
-    if is_there(origin) {
-        if is_irrelevant(registers, origins, place) {
-            return Decisive::NoNumber;
-        }
+    if is_irrelevant(found, place) {
+        return Decisive::NoNumber;
     }
-    let mut table = *registers;
-    let mut table_origins = *origins;
-    let verdict = build_rows(&mut table, &mut table_origins, edition);
+    sized(registers, origins);
+    let checked = found.checked;
+    let mut tried = *registers;
     let mut n = 0;
     while n < BITS {
         let row = collect::masked_at(kept, place, flip_bit(x, n));
-        if keeps_answer(
-            registers,
-            origins,
-            edition,
-            verdict,
-            &table,
-            &table_origins,
-            place,
-            row,
-        ) {
+        put_row(&mut tried, place, row);
+        if keeps_answer(registers, origins, edition, checked, &tried, place) {
             n += 1;
         } else {
             return Decisive::Number(n);
@@ -78,39 +73,70 @@ pub fn first_bit(
     Decisive::NoNumber
 }
 
-// Whether another row at a place keeps the answer, which is the verdict and the table in the second memory. A row that is there already does. A refusal
-// has no table to compare.
+// Whether other rows, which differ at one place at most, have the same answer. The row that was there changes nothing. Else the verdict decides, and
+// the finished row at the place where both are accepted: finishing keeps in a row all that other rows depend on.
 fn keeps_answer(
     registers: &[u32; REGISTERS],
     origins: &[u64; PLACES],
     edition: u32,
-    verdict: Verdict,
-    table: &[u32; REGISTERS],
-    table_origins: &[u64; PLACES],
+    found: Checked,
+    tried: &[u32; REGISTERS],
     place: usize,
-    x: CpuidResult,
 ) -> bool
-    requires { ⌜ (place < places) × AnswerTo edition (rowsIn (now registers) (now origins)) verdict (heldIn (now table) (now «table_origins»)) ⌝ }
-    ensures { λ r. ⌜ r ≡ sameFrom edition (withRow place x (rowsIn (now (registers .entry)) (now (origins .entry))))
+    requires { ⌜ TriedAt (rowsIn (now registers) (now origins)) (rowsIn (now tried) (now origins)) place
+        × (found ≡ checkedRows (rowsIn (now registers) (now origins))) ⌝ }
+    ensures { λ r. ⌜ r ≡ sameFrom edition (rowsIn (now (tried .entry)) (now (origins .entry)))
         (rowsIn (now (registers .entry)) (now (origins .entry))) ⌝ }
 {
-    let origin = origins[place];
-    if is_there(origin) {
-        if same_result(row_at(registers, place), x) {
-            return true;
+    if same_result(row_at(registers, place), row_at(tried, place)) {
+        return true;
+    }
+    let checked = from_invlpgb(tried, origins);
+    match checked {
+        Checked::Refused(r) => same_verdict(Verdict::Refused(r), verdict_of(found)),
+        Checked::Ready(mask, size, processors) => {
+            let Checked::Ready(mask_before, size_before, processors_before) = found else {
+                return false;
+            };
+            same_result(
+                finished_row(tried, origins, edition, mask, size, processors, place),
+                finished_row(
+                    registers,
+                    origins,
+                    edition,
+                    mask_before,
+                    size_before,
+                    processors_before,
+                    place,
+                ),
+            )
         }
     }
-    sized(registers, origins);
-    let mut tried = *registers;
-    let mut tried_origins = *origins;
-    put_row(&mut tried, place, x);
-    tried_origins[place] = TRIED;
-    let tried_verdict = finish_rows(&mut tried, &mut tried_origins, edition);
-    if same_verdict(tried_verdict, verdict) {
-        if let Verdict::Refused(_) = tried_verdict {
-            return true;
-        }
-        return same_table(&tried, &tried_origins, table, table_origins);
-    }
-    false
+}
+
+// The row at a place of the table that accepted rows become, from what the checks worked out.
+fn finished_row(
+    registers: &[u32; REGISTERS],
+    origins: &[u64; PLACES],
+    edition: u32,
+    mask: u64,
+    size: u32,
+    processors: u32,
+    place: usize,
+) -> CpuidResult
+    requires { ⌜ (place < places) × (mask ≡ combinedMask (rowsIn (now registers) (now origins)))
+        × Ready (rowsIn (now registers) (now origins)) size processors ⌝ }
+    ensures { λ r. ⌜ r ≡ finished edition (rowsIn (now (registers .entry)) (now (origins .entry))) place .result ⌝ }
+{
+    let mut rows = *registers;
+    let mut rows_origins = *origins;
+    finish(
+        &mut rows,
+        &mut rows_origins,
+        edition,
+        mask,
+        size,
+        processors,
+    );
+    row_at(&rows, place)
 }

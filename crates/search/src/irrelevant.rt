@@ -1,10 +1,10 @@
-// Places whose registers decide nothing, whatever row stands there. Collected rows in lent memory come in; yes or no goes out.
-use checks::max_extended_state;
-use checks::max_xss;
+// Places whose registers decide nothing, whatever row stands there. Collected rows in lent memory come in; what the checks find in them goes out, and
+// for a place yes or no.
 use checks::validate_invlpgb;
 use masking::PLACES;
 use masking::place;
 use memory::REGISTERS;
+use memory::combined_mask;
 use memory::row_at;
 use rows_checked::Checked;
 use rows_checked::check_rows;
@@ -13,38 +13,59 @@ use table::Verdict;
 ghost use mathlib.Core.Path.{_≡_};
 ghost use Rattle.memory.specs.Memory.{rowsIn};
 ghost use Rattle.rows_checked.specs.Checked.{verdictOf};
-ghost use Rattle.search.specs.Irrelevant.{refuses, isRead, irrelevantAt, irrelevant};
+ghost use Rattle.search.specs.Irrelevant.{refuses, isRead, irrelevantAt, unflippedIn, irrelevantBy};
 
-// Whether no row at a place would change the answer to the rows in memory.
-pub fn is_irrelevant(registers: &[u32; REGISTERS], origins: &[u64; PLACES], place: usize) -> bool
-    ensures { λ r. ⌜ r ≡ irrelevant (rowsIn (now (registers .entry)) (now (origins .entry))) place ⌝ }
-{
-    let required = validate_required(origins);
-    if let Verdict::Refused(_r) = required {
-        return true;
-    }
-    let sizes = row_at(registers, place::EXTENDED_ADDRESS_SPACE_SIZES);
-    let invlpgb = validate_invlpgb(sizes);
-    if let Verdict::Refused(_r) = invlpgb {
-        return place != place::EXTENDED_ADDRESS_SPACE_SIZES;
-    }
-    let checked = check_rows(registers, origins);
-    let subleaf0 = row_at(registers, place::EXTENDED_STATE_0);
-    let subleaf1 = row_at(registers, place::EXTENDED_STATE_1);
-    irrelevant_at(
-        is_refused(checked),
-        max_extended_state(subleaf0.eax, max_xss(subleaf1)),
-        place,
-    )
+// What the checks find in the rows of a page set before any flip, once for all its entries: whether a required leaf is missing, whether INVLPGB is
+// clear, the combined mask, and what all checks answer.
+pub struct Unflipped {
+    pub missing: bool,
+    pub clear: bool,
+    pub mask: u64,
+    pub checked: Checked,
 }
 
-// Whether the checks refuse.
-fn is_refused(checked: Checked) -> bool
-    ensures { λ r. ⌜ r ≡ refuses (verdictOf checked) ⌝ }
+pub fn check_unflipped(registers: &[u32; REGISTERS], origins: &[u64; PLACES]) -> Unflipped
+    ensures { λ r. ⌜ r ≡ unflippedIn (rowsIn (now (registers .entry)) (now (origins .entry))) ⌝ }
+{
+    let sizes = row_at(registers, place::EXTENDED_ADDRESS_SPACE_SIZES);
+    Unflipped {
+        missing: is_refused(validate_required(origins)),
+        clear: is_refused(validate_invlpgb(sizes)),
+        mask: combined_mask(registers),
+        checked: check_rows(registers, origins),
+    }
+}
+
+fn is_refused(verdict: Verdict) -> bool
+    ensures { λ r. ⌜ r ≡ refuses verdict ⌝ }
+{
+    match verdict {
+        Verdict::Accepted => false,
+        Verdict::Refused(_r) => true,
+    }
+}
+
+// Whether no row at a place would change the answer to the rows.
+pub fn is_irrelevant(found: Unflipped, place: usize) -> bool
+    ensures { λ r. ⌜ r ≡ irrelevantBy found place ⌝ }
+{
+    if found.missing {
+        return true;
+    }
+    if found.clear {
+        return place != place::EXTENDED_ADDRESS_SPACE_SIZES;
+    }
+    let checked = found.checked;
+    irrelevant_at(is_refused(verdict_of(checked)), found.mask, place)
+}
+
+// The verdict of the checks.
+pub fn verdict_of(checked: Checked) -> Verdict
+    ensures { λ r. ⌜ r ≡ verdictOf checked ⌝ }
 {
     match checked {
-        Checked::Ready(_size, _processors) => false,
-        Checked::Refused(_r) => true,
+        Checked::Ready(_mask, _size, _processors) => Verdict::Accepted,
+        Checked::Refused(r) => Verdict::Refused(r),
     }
 }
 

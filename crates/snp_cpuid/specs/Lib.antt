@@ -1,3 +1,4 @@
 pub mod Exports
+pub mod ExportsLaws
 pub mod GuestExports
 pub mod PoolExports

@@ -3,11 +3,11 @@ use answers::SnpCpuidBuilt;
 use answers::SnpCpuidFirst;
 use answers::SnpCpuidFound;
 use answers::SnpCpuidWritten;
+use answers::built_table_numbers;
 use answers::comparison::SnpCpuidCompared;
 use answers::comparison::compared_numbers;
 use answers::first_numbers;
 use answers::found_at;
-use answers::table_numbers;
 use answers::written_numbers;
 use build::build_into;
 use masking::PLACES;
@@ -46,7 +46,7 @@ pub extern "C" fn snp_cpuid_build(pages: &[u8], secure_avic: bool, edition: u32)
     let mut registers: [u32; REGISTERS] = [0; REGISTERS];
     let mut origins: [u64; PLACES] = [0; PLACES];
     let verdict = build_into(pages, choices, &mut registers, &mut origins);
-    table_numbers(verdict, &registers, &origins)
+    built_table_numbers(verdict, &registers)
 }
 
 // Builds, and looks a row up as leaf_result_ref does; with the row it tells where it came from.

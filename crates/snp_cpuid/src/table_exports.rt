@@ -7,6 +7,7 @@ use answers::SnpCpuidGuestFound;
 use answers::SnpCpuidRead;
 use answers::SnpCpuidState;
 use answers::SnpCpuidWritten;
+use answers::built_table_numbers;
 use answers::comparison::SnpCpuidTablesCompared;
 use answers::comparison::tables_compared_numbers;
 use answers::found_at;
@@ -68,7 +69,7 @@ pub extern "C" fn snp_cpuid_table_build(
         edition,
     };
     let verdict = build_into(pages, choices, registers, origins);
-    table_numbers(verdict, registers, origins)
+    built_table_numbers(verdict, registers)
 }
 
 // Reads a table's image into the caller's memory; bytes that are no image leave a table without rows.

@@ -1,11 +1,13 @@
 -- Building: any page bytes end in one table or one refusal, each under exactly its condition.
 -- `answer chosen s` is the answer of the definition (crates/build/specs/Build.antt) to the page bytes s under what the caller chooses.
-use mathlib.Core.Path.{_≡_}
+use mathlib.Core.Path.{_≡_, refl}
 use mathlib.Core.Bool.{Bool, true, false}
 use mathlib.Core.List.{List, [], _∷_, map}
-use Prim.Native.Nat.{ℕ, _≤_}
-use lib.ListN.{length}
-use Rattle.x86defs.specs.Functions.{function, VersionAndFeatures, ExtendedStateEnumeration}
+use Prim.Native.Nat.{ℕ, _+_, _*_, _≤_, _<_}
+use lib.Dec.{eqb}
+use lib.ListN.{length, getD}
+use borrow.Author.Tests.{eqb-true}
+use Rattle.x86defs.specs.Functions.{function, result, VersionAndFeatures, ExtendedStateEnumeration}
 use Rattle.x86defs.specs.declared.CpuidFunction.{CpuidFunction}
 use Rattle.table.specs.declared.Choices.{Choices}
 use Rattle.table.specs.declared.Subleaf.{Subleaf}
@@ -15,12 +17,17 @@ use Rattle.table.specs.declared.Refusal.the-variants.{ReservedBytes, PagesLengt
 use Rattle.table.specs.declared.CpuidResults.{CpuidResults}
 use Rattle.table.specs.declared.Verdict.the-variants.{Accepted, Refused}
 use Rattle.bits.specs.Lists.{keepIf}
+use Rattle.bits.specs.SearchLaws.{every-at}
+use Rattle.pages.specs.declared.CpuidPageIndex.{CpuidPageIndex}
+use Rattle.pages.specs.declared.ParsedCpuidEntry.{ParsedCpuidEntry}
+use Rattle.pages.specs.Layout.{entryAt}
 use Rattle.pages.specs.Entries.{entries, counted}
 use Rattle.pages.specs.Parsed.{parsed, countsRead}
 use Rattle.reader.specs.Walk.{firstIndex}
 use Rattle.build.specs.Build.{answer}
-use Rattle.reader.specs.Read.{given}
-use Rattle.reader.specs.ReadLaws.{reader-gives, reader-gives-counted, reader-gives-clean}
+use Rattle.reader.specs.declared.Read.the-variants.{Entry as ReadEntry}
+use Rattle.reader.specs.Read.{readAt, given}
+use Rattle.reader.specs.ReadLaws.{read-entry, reader-gives, reader-gives-counted, reader-gives-clean}
 use Rattle.lookup.specs.declared.LeafResult.the-variants.{None as Nothing}
 use Rattle.lookup.specs.Lookup.{lookup}
 use Rattle.lookup.specs.LookupLaws.{empty-finds-nothing}
@@ -36,7 +43,8 @@ use Rattle.rise.specs.Rise.{RiseHypothesis}
 use Rattle.register_kinds.specs.declared.Register.the-variants.{Ecx}
 use Rattle.compare.specs.declared.Compared.the-variants.{Rises as Yes, RefusedA, UnlawfulB, NoEntry, Differs}
 use Rattle.compare.specs.Compare.{compared}
-use Rattle.pages.specs.Reserved.{clean, allClean}
+use Rattle.pages.specs.Reserved.{eightZeros, clean, allClean}
+use Rattle.letter.specs.Paper.{entry}
 use Rattle.examples.specs.Unclean as Unclean
 use Rattle.page_sets.specs.Evaluation.{firstEdition}
 use Rattle.page_sets.specs.PageSets.{serverA, serverB, serverWithoutD12, serverWithLargeD6}
@@ -64,6 +72,23 @@ refused-finds-nothing chosen s r e leaf sub enforce = rw (builds-exactly chosen 
 -- ---- P10, reserved bytes of an entry. crates/pages/specs/Reserved.antt: `allClean` says that the eight reserved bytes of every entry below its
 -- page's count are zero. It is part of what lawful pages are (`lawfulVerdict`, crates/collect/specs/Lawful.antt), which demand 3, the comparison and
 -- P9 ask.
+
+-- "The reader promises from now on, with each entry, that these bytes are zero": what it gives as an entry is the one that stands there, by document 01's
+-- offsets, and its eight bytes from 40 on are zero. crates/reader/specs/ReadLaws.antt; `readAt` is what `reader::take` promises
+pub each-entry-read-is-clean : (s : List ℕ) (i : CpuidPageIndex) (e : ParsedCpuidEntry) → ReadEntry e ≡ readAt s i
+    → (e ≡ parsed (entry s (i .«page_index») (i .«function_index»)))
+    × ((k : ℕ) → k < 8 → getD s (4096 * i .«page_index» + 16 + 48 * i .«function_index» + 40 + k) 0 ≡ 0)
+unfolding entryAt eightZeros
+each-entry-read-is-clean s i e r = (read-entry s i r .0, λ k l. eqb-true _ _ (every-at zeroAt 8 (read-entry s i r .1) k l))
+  where
+    zeroAt : ℕ → Bool
+    zeroAt k = eqb (getD s (4096 * i .«page_index» + 16 + 48 * i .«function_index» + 40 + k) 0) 0
+
+-- server A's first entry as it is read: leaf 1
+pub a-first-entry-read : readAt serverA (record { «page_index» = 0; «function_index» = 0 })
+    ≡ ReadEntry (record { page = 0; leaf = function 1; subleaf = 0; result = result 0xA00F11 0x10000 0x3ED83203 0x178BFBFF })
+unfolding readAt serverA entryAt eightZeros
+a-first-entry-read = refl
 
 -- of clean pages every entry that a reader gives is clean: the entries whose reserved bytes are zero are all of them
 pub reader-gives-clean-entries : (s : List ℕ) (n : ℕ) → length (entries s) ≤ n → allClean s ≡ true

@@ -1,3 +1,5 @@
+pub mod Document01
+pub mod Document02
 pub mod Looked
 pub mod Exported
 pub mod CompareOrder
@@ -16,5 +18,6 @@ pub mod PoolTheorems
 pub mod Theorems
 pub mod NearestBit
 pub mod KeptTable
+pub mod WithoutRows
 pub mod NumbersTheorems
 pub mod LifeTheorems

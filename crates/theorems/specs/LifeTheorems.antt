@@ -14,7 +14,7 @@ use Rattle.page_sets.specs.Evaluation.{firstEdition}
 use Rattle.images.specs.CarriedRows.{ownYmm}
 use Rattle.guest_life.specs.ViewsTell.{TablesAgree, SameView, ViewsTell, AgreeGives}
 use Rattle.guest_life.specs.ViewsTellProof as Views
-use Rattle.guest_life.specs.Second.{second}
+use Rattle.guest_life.specs.CarriedOrder.{second}
 use Rattle.guest_life.specs.SaveAreas.{StandardForm, CompactedForm, SaveAreas, AreasStay}
 use Rattle.guest_life.specs.SaveAreasProof as Areas
 use Rattle.guest_life.specs.Life.{Life, LifeOutcome, lostBit, LifeShows, KeptLifeShows, LifeComesBack, EndsSeeTheSame, LivesSeeTheSame}

@@ -1,31 +1,58 @@
--- The numbers that the exported functions give and take (include/snp_cpuid.h), field by field, against the definition's answers: figures and fields alone,
--- so that no change of the functions that make the numbers goes unseen. crates/answers/specs/Told.antt has each statement's words, among them one
--- table of the refusals' numbers and details, `RefusalTold`.
-use mathlib.Core.Path.{_≡_}
-use mathlib.Core.Bool.{Bool}
+-- The numbers that the exported functions give and take (include/snp_cpuid.h), field by field.
+--
+-- They are said against the definition's answers, in figures and fields alone, so that no change of the functions that make the numbers goes unseen.
+-- crates/answers/specs/Told.antt has each statement's words, among them one table of the refusals' numbers and details, `RefusalTold`. Which statement
+-- says what each of the 31 functions returns:
+--
+--   snp_cpuid_build, snp_cpuid_table_build                     `build-told`
+--   snp_cpuid_lookup, snp_cpuid_guest_lookup                   `build-lookup-told`, `guest-lookup-told`
+--   snp_cpuid_pool_lookup, snp_cpuid_table_find                `pool-lookup-told`, `lookup-told`
+--   snp_cpuid_guest_build, snp_cpuid_table_guest               `guest-build-told`
+--   snp_cpuid_table_guest_find, snp_cpuid_table_guest_find_kept, snp_cpuid_table_state   `guest-found-told`, `found-told`, `state-told`
+--   snp_cpuid_write_image, snp_cpuid_write_guest_image, snp_cpuid_write_pool_image, snp_cpuid_table_write_image   `written-told`
+--   snp_cpuid_write_kvm, snp_cpuid_table_write_kvm, snp_cpuid_read_kvm, snp_cpuid_write_topologies                `written-told`
+--   snp_cpuid_table_read_image, snp_cpuid_table_counts         `read-told`, `counts-told`
+--   snp_cpuid_compare, snp_cpuid_table_compare                 `compared-told`, `tables-compared-told`
+--   snp_cpuid_first_entry, snp_cpuid_nearest                   `first-told`, `nearest-told`
+--   snp_cpuid_carry, snp_cpuid_table_carry                     `carried-told`, `verdict-told` (its number)
+--   snp_cpuid_pool, snp_cpuid_table_pool                       `pooled-told`
+--   snp_cpuid_write_line, snp_cpuid_read_line                  `line-written-told`, `line-read-told`
+use mathlib.Core.Path.{_≡_, refl}
+use mathlib.Core.Bool.{Bool, true}
 use mathlib.Core.List.{List}
-use Prim.Native.Nat.{ℕ}
-use Rattle.x86defs.specs.Functions.{function}
+use Prim.Native.Nat.{ℕ, _+_, _*_}
+use Rattle.x86defs.specs.Functions.{function, result}
 use Rattle.table.specs.declared.Choices.{Choices}
 use Rattle.table.specs.declared.CpuidResults.{CpuidResults}
 use Rattle.table.specs.declared.Subleaf.{Subleaf}
+use Rattle.table.specs.declared.Subleaf.the-variants.{Some}
+use Rattle.table.specs.declared.Refusal.the-variants.{MissingRequiredResult, TopologyInconsistent, CompactSizeTooLarge}
 use Rattle.table.specs.declared.Verdict.{Verdict}
+use Rattle.table.specs.declared.Verdict.the-variants.{Refused}
+use Rattle.table.specs.Table.{emptyTable}
+use Rattle.topology.specs.declared.TopologyError.the-variants.{ProcessorCount}
+use Rattle.memory.specs.Origin.{originRead}
 use Rattle.collect.specs.declared.FirstEntry.{FirstEntry}
 use Rattle.build.specs.declared.Built.{Built}
 use Rattle.build.specs.Build.{answer}
 use Rattle.buffer.specs.declared.Written.{Written}
 use Rattle.lookup.specs.declared.Found.{Found}
+use Rattle.lookup.specs.declared.Found.the-variants.{Row as Located}
 use Rattle.lookup.specs.Lookup.{lookup, lookupOrigin}
 use Rattle.guest_state.specs.declared.InUse.{InUse}
+use Rattle.guest_state.specs.declared.InUse.the-variants.{Refused as NotInUse}
 use Rattle.guest.specs.declared.Processor.{Processor}
 use Rattle.guest.specs.declared.GuestAnswer.{GuestAnswer}
 use Rattle.guest.specs.declared.GuestFound.{GuestFound}
 use Rattle.guest.specs.GuestPages.{guestPages}
 use Rattle.carry.specs.declared.in_image.CarriedImage.{CarriedImage}
+use Rattle.register_kinds.specs.declared.Register.the-variants.{Ecx}
 use Rattle.compare.specs.declared.Compared.{Compared}
+use Rattle.compare.specs.declared.Compared.the-variants.{Differs}
 use Rattle.tables_compared.specs.declared.TablesCompared.{TablesCompared}
 use Rattle.pool.specs.declared.Pooled.{Pooled}
 use Rattle.nearest.specs.declared.Nearest.{Nearest}
+use Rattle.nearest.specs.declared.Nearest.the-variants.{Bit}
 use Rattle.lines.specs.declared.LineWritten.{LineWritten}
 use Rattle.lines.specs.declared.LineRead.{LineRead}
 use Rattle.table.specs.Numbers.{numbersOf}
@@ -136,3 +163,37 @@ line-written-told = Told.line-written-told
 
 pub line-read-told : (l : LineRead) → LineTold l (lineReadNumbers l)
 line-read-told = Told.line-told
+
+-- ---- Examples
+
+-- 3 for D.12
+pub missing-d12-told : numbersOf (Refused (MissingRequiredResult (function 0xD) (Some 12)))
+    ≡ record { number = 3; leaf = 0xD; «has_subleaf» = 1; subleaf = 12; s = 0 }
+missing-d12-told = refl
+
+-- a row of the entry at position 5 of page 1
+pub row-of-page-1-told : foundNumbers (Located (result 1 2 3 4) (4 + 64 * 1 + 5))
+    ≡ record { found = 1; eax = 1; ebx = 2; ecx = 3; edx = 4; origin = 2; page = 1; entry = 5 }
+unfolding originRead
+row-of-page-1-told = refl
+
+-- 14, and the processor that a caller describes
+pub too-large-told : stateNumbers (NotInUse CompactSizeTooLarge) ≡ record { number = 14; size = 0 }
+too-large-told = refl
+
+pub processor-given : processorOf 5 7 0x800 true ≡ record { x2apic = 5; xcr0 = 7; xss = 0x800; osxsave = true }
+processor-given = refl
+
+-- a server whose 7.0.ECX is in the way; the third server's own refusal by 7 with s = 1; bit 31 of EDX
+pub ecx-differs-told : comparedNumbers (Differs (function 7) (Some 0) Ecx)
+    ≡ record { answer = 4; number = 0; leaf = 7; «has_subleaf» = 1; subleaf = 0; s = 0; «register_index» = 2 }
+ecx-differs-told = refl
+
+pub third-server-told : (o : List ℕ)
+    → pooledNumbers (record { verdict = Refused (TopologyInconsistent (ProcessorCount 1)); server = 2; table = emptyTable; origins = o })
+    ≡ record { number = 7; leaf = 0; «has_subleaf» = 0; subleaf = 0; s = 1; server = 2; «row_count» = 0; «max_extended_state» = 0 }
+third-server-told o = refl
+
+pub bit-31-told : nearestNumbers (Bit (record { page = 1; entry = 2; register = 3; bit = 31 }))
+    ≡ record { number = 0; leaf = 0; «has_subleaf» = 0; subleaf = 0; s = 0; entry = 2; page = 1; «register_index» = 3; bit = 31 }
+bit-31-told = refl

@@ -2,6 +2,8 @@
 -- that meet their hypotheses. The contracts tie the code to the definition: `build::build_into` promises `answer`, and every other entry point an equation
 -- with a definition over it. docs/STATEMENTS.md lists the statements by name.
 --
+--   Document01.antt            Document 01 sentence by sentence, in its own figures: the page to read first.
+--   Document02.antt            Document 02's figures: where each is said.
 --   BuildingTheorems.antt      Building: any page bytes end in one table or one refusal, each under exactly its condition.
 --   RiseTheorems.antt          The rise from server A to server B, and what added entries change.
 --   ComparisonTheorems.antt    May a guest of server A move to server B? What the comparison of two page sets answers.
@@ -14,6 +16,7 @@
 --   PoolTheorems.antt          One table for a pool of servers.
 --   NearestBit.antt            The first bit of the pages whose flip changes the answer.
 --   KeptTable.antt             The table that a caller keeps.
+--   WithoutRows.antt           What each function over a kept table gives for a table without rows.
 --   LifeTheorems.antt          A guest's life: what its view tells, where its save areas lie, what stays along moves and carries.
 --   NumbersTheorems.antt       The numbers that the exported functions give and take, field by field.
 --   CompareOrder, Exported, GuestExported, PoolExported, Looked: the same of what the exported functions return.

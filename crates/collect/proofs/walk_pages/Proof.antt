@@ -10,17 +10,18 @@ use Rattle.collect.proofs.walk_pages.Statement.{statement}
 use Rattle.collect.proofs.walk_pages.Tie as tie
 
 returns : tie.Need-returns
-returns c = refused-walk _ _ _ _ (lawful-bad-length _ (sym (c .before .bad-length .ensures) ∙ c .if1 .taken))
+returns c = refused-walk _ _ (lawful-bad-length _ (sym (c .before .bad-length .ensures) ∙ c .if1 .taken)) (c .before .before .before .pre)
 
 collect-into-requires : tie.Need-collect-into-requires
 collect-into-requires c κs = let t = c .before .before in (sym (t .before .counts-fit .ensures) ∙ t .if2 .taken, t .before .before .before .before .before .pre)
 
 returns-2 : tie.Need-returns-2
 returns-2 c =
-    let b = c .before .before .before in let t = b .before .before .before in let f = t .before in let g = f .before in
-    refused-walk _ _ _ _
-    (ap cleanVerdict (sym (c .before .walked .given .1))
+    let v = c .before .before .before .before in let b = v .before .before in let t = b .before .before .before in let f = t .before in let g = f .before in
+    refused-walk _ _
+    (ap cleanVerdict (sym (v .walked .given .1))
     ∙ lawful-reserved _ (sym (g .before .bad-length .ensures) ∙ g .if1 .left) (sym (f .counts-fit .ensures) ∙ t .if2 .taken) (b .collect-into .ensures .answer))
+    (c .clear .ensures)
 
 -- the walk came to its end
 lawful : (c : tie.After-enum-told) → Accepted ≡ lawfulVerdict (now (c .before .before .before .before .before .before .before .before .before .before .args .pages))
@@ -40,7 +41,8 @@ returns-3 c =
 returns-4 : tie.Need-returns-4
 returns-4 c =
     let f = c .before in let g = f .before in
-    refused-walk _ _ _ _ (lawful-bad-count _ (sym (g .before .bad-length .ensures) ∙ g .if1 .left) (sym (f .counts-fit .ensures) ∙ c .if2 .left))
+    refused-walk _ _ (lawful-bad-count _ (sym (g .before .bad-length .ensures) ∙ g .if1 .left) (sym (f .counts-fit .ensures) ∙ c .if2 .left))
+    (g .before .before .before .pre)
 
 pub walk-pages-spec : {M : Type 1} → statement M
 walk-pages-spec =
@@ -51,6 +53,7 @@ walk-pages-spec =
     (λ c κs. search needs)
     collect-into-requires
     (λ c. search needs)
+    (λ c κs. search needs)
     returns-2
     (λ c. search needs)
     mask-rows-requires

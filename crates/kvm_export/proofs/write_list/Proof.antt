@@ -21,7 +21,7 @@ returns-2 c =
     let w = c .before .before in let t = w .before .before .before .before in
     let b = t .before .before in let a = b .before .before .before .before .before .args in
     let k = b .build-pages .ensures in
-    let e = verdict-accepted _ (now (a .out)) (k .verdict) (t .enum-told .given .1) (ap listOf (k .accepted (t .enum-told .given .1) .table)) in
+    let e = verdict-accepted _ (now (a .out)) (k .verdict) (t .enum-told .given .1) (ap listOf (k .table)) in
     (w .write-table .ensures .0 ∙ ap (λ (o : AfterWrite). o .answer) e, w .write-table .ensures .1 ∙ ap (λ (o : AfterWrite). o .buffer) e)
 
 pub write-list-spec : {M : Type 1} → statement M

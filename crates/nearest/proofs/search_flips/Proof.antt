@@ -10,15 +10,15 @@ use Rattle.reader.specs.Walk.{incremented, rest}
 use Rattle.reader.specs.WalkLaws.{turn}
 use Rattle.collect.specs.LawfulLaws.{lawful-counts}
 use Rattle.nearest.specs.Nearest.{chosen}
-use Rattle.nearest.specs.NearestSearchLaws.{Searching, searching-first, searching-last, position-fits, AtEntry, entry-falls, entry-seen, entry-not-kept, entry-none, entry-decides, no-unclean}
+use Rattle.nearest.specs.NearestSearchLaws.{Searching, searching-first, searching-last, position-fits, AtEntry, entry-falls, entry-present, entry-seen, entry-not-kept, entry-none, entry-decides, no-unclean}
 use Rattle.nearest.proofs.search_flips.Statement.{statement}
 use Rattle.nearest.proofs.search_flips.Tie as tie
 
 abbrev Inv-loop : tie.InvT-loop
-Inv-loop pages secure-avic edition registers origins kept n seen₀ index₀ seen index = Searching (chosen secure-avic edition) pages seen index
+Inv-loop pages secure-avic edition registers origins kept found n seen₀ index₀ seen index = Searching (chosen secure-avic edition) pages seen index
 
 abbrev μ-loop : tie.MeasureT-loop
-μ-loop pages secure-avic edition registers origins kept n seen₀ index₀ seen index = length (rest pages index)
+μ-loop pages secure-avic edition registers origins kept found n seen₀ index₀ seen index = length (rest pages index)
 
 loop-holds : tie.Need-loop-holds Inv-loop μ-loop
 loop-holds c = rw (c .start .ensures) (searching-first _ _)
@@ -29,7 +29,7 @@ take-requires c κs =
     let n = l .before .before in
     let h : l .loop .index .«page_index» < _ = rw (n .page-count .ensures) at (c .if1 .taken) in
     record {
-      lawful = lawful-counts _ (n .before .before .before .pre .1);
+      lawful = lawful-counts _ (n .before .before .before .before .pre .1);
       inside = record { page = h; position = turn _ _ (l .loop .inv .valid) h .below };
     }
 
@@ -41,7 +41,7 @@ abbrev turned : Counted → tie.At-loop Inv-loop μ-loop
 turned c = c .before .before .before .before .before .before .before
 
 abbrev start : Counted → tie.Start Inv-loop μ-loop
-start c = turned c .before .before .before .before .before
+start c = turned c .before .before .before .before .before .before
 
 at-entry : (c : Counted) → AtEntry (chosen (start c .args .secure-avic) (start c .args .edition)) (now (start c .args .pages)) (turned c .loop .seen)
     (turned c .loop .index) (c .before .before .read .given .0 .0) (c .counted-place .result)
@@ -57,7 +57,16 @@ at-entry c =
     }
 
 bytes : (c : Counted) (i : ℕ) → getD (now (start c .args .pages)) i 0 < 256
-bytes c i = omega (arith, turned c .before .before .before .before .shared-slice-known .given i)
+bytes c i = omega (arith, turned c .before .before .before .before .before .shared-slice-known .given i)
+
+-- what was found in the rows once, and the row of a first entry
+first-bit-requires : tie.Need-first-bit-requires Inv-loop μ-loop
+first-bit-requires c κs =
+    let n = c .before .before .before in let p = n .before .before in (
+      n .before .if2 .taken,
+      entry-present (at-entry p) (bytes p) (n .before .if2 .taken) (n .if3 .left) (start p .pre .2),
+      turned p .before .before .before .check-unflipped .ensures,
+    )
 
 -- an entry stands among the first 64
 cast-position : tie.Need-cast-position Inv-loop μ-loop
@@ -73,7 +82,7 @@ returns c =
     let n = m .before in
     let p = n .before .before in
     entry-decides (at-entry p) (bytes p) (n .before .if2 .taken) (n .if3 .left) (start p .pre .2)
-    (turned p .before .before .before .kept-leaves .ensures) (m .mask-row .ensures .0) (f .first-bit .ensures) (b .bit .given .1)
+    (turned p .before .before .before .before .kept-leaves .ensures) (m .mask-row .ensures .0) (f .first-bit .ensures) (b .bit .given .1)
 
 -- what the three ways through a turn leave: a place that was seen, one that is seen now, or no place
 abbrev Passed : Type 0
@@ -87,7 +96,7 @@ passed c =
       | inl (if2, if3, e) ↦ rw e (entry-seen (at-entry p) (bytes p) (if3 .taken))
       | inr (inl (if2, if3, row, x, arg, bit, match2, told, e)) ↦
           rw e (entry-none (at-entry p) (bytes p) (if2 .taken) (if3 .left) (start p .pre .2)
-          (turned p .before .before .before .kept-leaves .ensures) (row .ensures .0) (bit .ensures) (told .given .1))
+          (turned p .before .before .before .before .kept-leaves .ensures) (row .ensures .0) (bit .ensures) (told .given .1))
       | inr (inr (if2, e)) ↦ rw e (entry-not-kept (at-entry p) (bytes p) (if2 .left))
     ]
 
@@ -97,7 +106,7 @@ loop-again c = rw (c .step .ensures) (passed (c .before .before))
 returns-2 : tie.Need-returns-2 Inv-loop μ-loop
 returns-2 c =
     let k = c .before .before .before in
-    absurd (no-unclean (k .before .before .before .before .before .before .before .before .pre .1) (k .before .before .before .loop .inv)
+    absurd (no-unclean (k .before .before .before .before .before .before .before .before .before .pre .1) (k .before .before .before .loop .inv)
     (take-requires (k .before) (k .take .lifetimes) .inside .page)
     (sym (c .before .read2 .given .1) ∙ k .take .ensures))
 
@@ -115,6 +124,7 @@ search-flips-spec =
     (λ c κs. search needs)
     (λ c κs. search needs)
     (λ c κs. search needs)
+    (λ c κs. search needs)
     loop-holds
     take-requires
     (λ c. search needs)
@@ -123,7 +133,7 @@ search-flips-spec =
     (λ c κs. search needs)
     (λ c. search needs)
     (λ c. search needs)
-    (λ c κs. search needs)
+    first-bit-requires
     (λ c. search needs)
     cast-position
     returns

@@ -27,7 +27,7 @@ returns c =
     tried-accepted (start s .args .edition) (rows s)
     (answered (start s .args .edition) (rows s) Accepted (checked-accepts (rows s) ready) (c .finish .ensures)
     (held-table (start s .args .edition) (start s .args .registers .now) (start s .args .origins .now) (c .finish .ensures)
-    (checked-ready (rows s) ready .required)))
+    (checked-ready (rows s) ready .1 .required)))
 
 returns-2 : tie.Need-returns-2
 returns-2 c =

@@ -22,7 +22,7 @@ returns-2 c =
     let w = c .before .before in let t = w .before .before .before .before in
     let b = t .before .before in let a = b .before .before .before .before .before .args in
     let k = b .build-pages .ensures in
-    let e = verdict-accepted _ (now (a .out)) (k .verdict) (t .enum-told .given .1) (ap image (k .accepted (t .enum-told .given .1) .table)) in
+    let e = verdict-accepted _ (now (a .out)) (k .verdict) (t .enum-told .given .1) (ap image (k .table)) in
     (w .write-table .ensures .0 ∙ ap (λ (o : AfterWrite). o .answer) e, w .write-table .ensures .1 ∙ ap (λ (o : AfterWrite). o .buffer) e)
 
 pub write-image-spec : {M : Type 1} → statement M

@@ -1,82 +1,70 @@
--- `search::decisive::keeps_answer` meets its contract: a row that is there already, or building anew.
+-- `search::decisive::keeps_answer` meets its contract: the row that was there, another verdict, or the finished row.
 use borrow.Author.Needs.{needs}
-use mathlib.Core.Path.{_≡_, refl, sym, ap, _∙_}
-use mathlib.Core.List.{List}
-use Prim.Native.Nat.{ℕ}
-use lib.ListN.{set}
-use Rattle.x86defs.specs.declared.CpuidResult.{CpuidResult}
+use mathlib.Core.Path.{sym, _∙_}
 use Rattle.memory.specs.Memory.{rowsIn}
-use Rattle.table.specs.Rows.{Rows}
-use Rattle.checks.specs.Checks.{rowsVerdict}
-use Rattle.finish.specs.RowsBuilt.{builtFrom}
-use Rattle.search.specs.SameVerdict.{sameResult}
-use Rattle.search.specs.WithRow.{withRow}
-use Rattle.search.specs.WithRowLaws.{there, put-row}
-use Rattle.search.specs.BitLaws.{answer-to, answer-of, keeps-there, keeps-table, verdict-differs, refused-same}
+use Rattle.rows_finished.specs.AnsweredLaws.{checked-ready}
+use Rattle.search.specs.TriedLaws.{judged-there, judged-refused, judged-accepted, judged-finished, judged-ready}
 use Rattle.search.proofs.decisive.keeps_answer.Statement.{statement}
 use Rattle.search.proofs.decisive.keeps_answer.Tie as tie
 
 returns : tie.Need-returns
 returns c =
-    let r = c .before in let a = r .before in let t = a .before in let f = t .before in let s = f .before .before in
-    keeps-there _ (s .args .place) (s .args .x) _ (rowsIn (s .args .registers .now) (s .args .origins .now))
-    (there (s .args .registers .now) (s .args .origins .now) (s .args .place) (sym (f .is-there .ensures) ∙ t .if1 .taken))
-    (ap (λ (y : CpuidResult). sameResult y (s .args .x)) (sym (a .row-at .ensures)) ∙ sym (r .same-result .ensures) ∙ c .if2 .taken)
+    let r = c .before in let b = r .before in let a = b .before in let s = a .before in
+    judged-there (s .args .edition) (s .pre .0) (a .row-at .ensures) (b .row-at2 .ensures) (r .same-result .ensures) (c .if1 .taken)
 
--- where the code started, and the rows with the row that is tried
-abbrev start : tie.After-finish-rows → tie.Start
-start b = b .before .before .before .before .before .before .before .before .before .before .before
-
-abbrev tried : tie.After-finish-rows → Rows
-tried b = let s = start b in withRow (s .args .place) (s .args .x) (rowsIn (s .args .registers .now) (s .args .origins .now))
-
-put : (b : tie.After-finish-rows) → rowsIn (b .before .before .before .put-row .last .0) (set (start b .args .origins .now) (start b .args .place) 1) ≡ tried b
-put b =
-    let put = b .before .before .before in let z = put .before .before .before .before in let s = start b in
-    ap (λ (w : List ℕ). rowsIn w (set (s .args .origins .now) (s .args .place) 1)) (put .put-row .ensures)
-    ∙ put-row (s .args .registers .now) (s .args .origins .now) (s .args .place) (s .args .x) 1
-    (z .sized .ensures .0) (z .sized .ensures .1) (s .pre .0) refl
-
--- the verdict on them
-verdict : (b : tie.After-finish-rows) → b .finish-rows .result ≡ rowsVerdict (tried b)
-unfolding builtFrom
-verdict b = b .finish-rows .ensures .verdict ∙ ap rowsVerdict (put b)
+-- where the code started, once the rows are checked
+abbrev start : tie.After-from-invlpgb → tie.Start
+start f = f .before .before .before .before .before
 
 returns-2 : tie.Need-returns-2
 returns-2 c =
-    let t = c .before .before in let v = t .before in let b = v .before in
-    refused-same _ (tried b) (verdict b) (start b .pre .1) (c .enum-told .given .1) (v .same-verdict .ensures) (t .if3 .taken)
+    let v = c .before .before .before in let f = v .before .before in let s = start f in
+    judged-accepted (s .args .edition) (s .pre .0) (f .from-invlpgb .ensures) (s .pre .1) (v .checked2 .given .1) (c .enum-told .given .1)
+
+finished-row-requires : tie.Need-finished-row-requires
+finished-row-requires c κs =
+    let v = c .before .before .before .before in let f = v .before .before in let s = start f in
+    let r = checked-ready (rowsIn (s .args .tried .now) (s .args .origins .now))
+    (judged-ready (s .args .edition) (s .pre .0) (f .from-invlpgb .ensures) (s .pre .1) (v .checked2 .given .1)) in
+    (s .pre .0 .small, r .0, r .1)
+
+finished-row-requires-2 : tie.Need-finished-row-requires-2
+finished-row-requires-2 c κs =
+    let w = c .before .before in let v = w .before .before .before in let s = start (v .before .before) in
+    let r = checked-ready (rowsIn (s .args .registers .now) (s .args .origins .now)) (sym (w .found .given .1) ∙ s .pre .1) in
+    (s .pre .0 .small, r .0, r .1)
 
 returns-3 : tie.Need-returns-3
 returns-3 c =
-    let k = c .before .before .before in let t = k .before .before in let v = t .before in let b = v .before in
-    keeps-table _ (answer-to _ (b .finish-rows .ensures .accepted (k .enum-told2 .given .1)) (put b)) (start b .pre .1)
-    (v .same-verdict .ensures) (t .if3 .taken) (c .same-table .ensures)
+    let d = c .before in let v = d .before .before in let f = v .before .before in let s = start f in
+    judged-refused (s .args .edition) (s .pre .0) (f .from-invlpgb .ensures) (s .pre .1) (v .checked .given .1) (d .verdict-of .ensures)
+    (c .same-verdict .ensures)
 
 returns-4 : tie.Need-returns-4
 returns-4 c =
-    let v = c .before in let b = v .before in
-    verdict-differs _ (answer-of _ (tried b) (verdict b)) (start b .pre .1) (v .same-verdict .ensures) (c .if3 .left)
+    let b = c .before in let a = b .before in let w = a .before .before in let v = w .before .before .before in
+    let f = v .before .before in let s = start f in
+    judged-finished (s .args .edition) (s .pre .0) (f .from-invlpgb .ensures) (s .pre .1) (v .checked2 .given .1) (w .found .given .1)
+    (a .finished-row .ensures) (b .finished-row2 .ensures) (c .same-result2 .ensures)
 
 pub keeps-answer-spec : {M : Type 1} → statement M
 keeps-answer-spec =
     tie.close
     (tie.spec
-    (λ c. search needs)
-    (λ c. search needs)
     (λ c κs. search needs)
     (λ c κs. search needs)
     (λ c κs. search needs)
     returns
     (λ c κs. search needs)
-    (λ c κs. search needs)
-    (λ c. search needs)
     (λ c. search needs)
     (λ c κs. search needs)
     (λ c κs. search needs)
+    (λ c. search needs)
+    (λ c. search needs)
     (λ c. search needs)
     returns-2
-    (λ c. search needs)
+    finished-row-requires
+    finished-row-requires-2
     (λ c κs. search needs)
     returns-3
     returns-4)

@@ -1,14 +1,14 @@
 -- `snp_cpuid_table_build` meets its contract: the built answer's numbers, and its table in the caller's memory.
 use borrow.Author.Needs.{needs}
-use mathlib.Core.Path.{refl, ap₂, _∙_}
-use Rattle.answers.specs.Answers.{heldNumbers}
+use mathlib.Core.Path.{refl, _∙_}
+use Rattle.snp_cpuid.specs.ExportsLaws.{built-told}
 use Rattle.snp_cpuid.proofs.table_exports.snp_cpuid_table_build.Statement.{statement}
 use Rattle.snp_cpuid.proofs.table_exports.snp_cpuid_table_build.Tie as tie
 
 returns : tie.Need-returns
 returns c =
-    let b = c .before .before .before .build-into .ensures in (
-      c .table-numbers .ensures ∙ ap₂ heldNumbers (b .verdict) (b .table),
+    let b = c .before .before .build-into .ensures in (
+      c .built-table-numbers .ensures ∙ built-told _ _ b,
       record { verdict = refl; registers = b .registers; origins = b .origins; table = b .table },
     )
 

@@ -19,7 +19,7 @@ use Rattle.checks.specs.ExtendedState as State
 use Rattle.checks.specs.TopologyInputs.{inputsOf}
 use Rattle.collect.specs.FirstEntries.{legacyFeatures, maskedAt}
 use Rattle.features.specs.Finish as Finish
-use Rattle.letter.specs.Paper.{Line, linesWith, xfem, xss, combined, area, leastFrom}
+use Rattle.letter.specs.Paper.{Line, masked, linesWith, xfem, combined, area, leastFrom}
 use Rattle.letter.specs.Names.{placeFor}
 
 module _ (g : ℕ → CpuidResult) where
@@ -29,13 +29,14 @@ module _ (g : ℕ → CpuidResult) where
   abbrev pub m : Bool → Rows
   m avic i = pick (ltb i 88) (row (maskedAt avic i (g i))) vacant
 
-  pub xfem-same : (second avic : Bool) → State.xfem (m avic) ≡ xfem e
+  pub xfem-same : (second avic : Bool) → State.xfem (m avic) ≡ xfem (masked avic e)
   unfolding State.xfem placeOf keptLeaves slot Masks.extendedState0 maskOf legacyFeatures
   xfem-same second avic = refl
 
   pub table-same : (n : ℕ) (second avic : Bool) → eqb n 2 ≡ second
       → tabulate 88 (Finish.finished n (m avic))
-      ≡ map (λ (l : Line). l .row) (linesWith second avic e (Topology.processors (Topology.topologyOf (inputsOf (m avic)))) (λ k. has k (combined e) && true))
+      ≡ map (λ (l : Line). l .row)
+      (linesWith second (masked avic e) (Topology.processors (Topology.topologyOf (inputsOf (m avic)))) (λ k. has k (combined (masked avic e)) && true))
   unfolding State.xfem State.xss State.areaBelow Finish.finished Finish.settings Finish.enabledBy Finish.ymmClears Finish.edition1 Finish.edition2 Finish.f16c Finish.xopAndFma4 Finish.avx512FeaturesEbx Finish.avx512FeaturesEcx Finish.avx512FeaturesEdx Finish.cetSs Finish.rdPid Finish.rdtscp Finish.ibrsAndStibp Finish.btcNo Finish.hypervisorPresent Finish.versionEcx Finish.featuresEbx Finish.featuresEcx Finish.featuresEdx Finish.extendedVersionEcx Finish.extendedVersionEdx Finish.addressSizesEbx Finish.unlessNoXss inputsOf Topology.topologyOf Topology.shiftOf Topology.leastPower leastFrom placeOf keptLeaves slot Masks.versionAndFeatures Masks.extendedFeatures Masks.extendedState0 Masks.extendedState1 Masks.extendedVersionAndFeatures Masks.extendedAddressSpaceSizes Masks.extendedSvm Masks.extendedOptimization Masks.secureAvicMask Masks.extendedSev fieldsMask fieldMask maskOf field bit clear clearUnless legacyFeatures AmdMaximum ExtendedAmdMaximum tabulate area
   table-same n true true q = rw q refl
   table-same n true false q = rw q refl

@@ -1,0 +1,38 @@
+-- The registers that demand 3 compares, by leaf and subleaf, and what is kept of the rest: computed.
+use mathlib.Core.Path.{_≡_, refl}
+use mathlib.Core.Bool.{Bool, not, _&&_, _||_}
+use mathlib.Core.List.{[], _∷_}
+use Prim.Native.Nat.{ℕ}
+use Rattle.bits.specs.Choice.{pick}
+use Rattle.bits.specs.Lists.{tabulate}
+use Rattle.x86defs.specs.declared.CpuidResult.{CpuidResult}
+use Rattle.x86defs.specs.Functions.{result}
+use Rattle.masking.specs.Kept.{keptLeaves, slot, leafAt}
+use Rattle.table.specs.declared.Subleaf.{Subleaf}
+use Rattle.table.specs.Rows.{Row, vacant}
+use Rattle.finish.specs.Kinds.{kindsAt, registerKinds}
+use Rattle.letter.specs.Paper.{registers, lines, countFrom, without, fromD2, isKept, area, components, rowsVerdict}
+use Rattle.letter.specs.Names.{subAt}
+
+pub registers-same : tabulate 88 (λ i. record { leaf = leafAt i .0; subleaf = subAt i; kinds = kindsAt i }) ≡ registers
+unfolding tabulate kindsAt registerKinds slot keptLeaves
+registers-same = refl
+
+pub rows-17-and-9 : (second avic : Bool) (e : ℕ → Subleaf → CpuidResult)
+    → countFrom 0 (λ l. without (l .subleaf) && l .row .present) (lines second avic e)
+    ∷ countFrom 0 (λ l. not (without (l .subleaf) || fromD2 (l .leaf) (l .subleaf)) && l .row .present) (lines second avic e)
+    ∷ countFrom 0 (λ l. fromD2 (l .leaf) (l .subleaf)) (lines second avic e)
+    ∷ []
+    ≡ 17 ∷ 9 ∷ 62 ∷ []
+unfolding tabulate
+rows-17-and-9 second avic e = refl
+
+-- "All others are filtered."
+pub rows-filtered : (second avic : Bool) (e : ℕ → Subleaf → CpuidResult)
+    → lines second avic (λ l k. pick (isKept l k) (e l k) (result 0 0 0 0)) ≡ lines second avic e
+unfolding tabulate area
+rows-filtered second avic e = refl
+
+pub verdict-filtered : (avic : Bool) (f : ℕ → Subleaf → Row) → rowsVerdict avic (λ l k. pick (isKept l k) (f l k) vacant) ≡ rowsVerdict avic f
+unfolding components area
+verdict-filtered avic f = refl
