@@ -33,7 +33,8 @@ use Rattle.table.specs.Table.{rowIn}
 use Rattle.features.specs.Finish.{ruleAt}
 use Rattle.finish.specs.Kinds.{kindsAt, fromEntry, EntryAtLeast, TableAtLeast}
 use Rattle.finish.specs.Kinds.Kind.{feature, featureBut28, area, freed, other}
-use Rattle.collect.specs.FirstEntries.{firstAt}
+use Rattle.checks.specs.ExtendedState.{xfem as xfemIn, combinedMask}
+use Rattle.collect.specs.FirstEntries.{firstAt, rowsOf}
 use Rattle.collect.specs.Lawful.{lawfulVerdict}
 use Rattle.build.specs.Build.{answer}
 use Rattle.lookup.specs.Lookup.{lookup}
@@ -41,11 +42,11 @@ use Rattle.image.specs.Image.{image}
 use Rattle.image.specs.Write.{write}
 use Rattle.program.specs.Output.{output}
 use Rattle.counts.specs.CountsProof.{single-page-refused, at-most-32}
-use Rattle.letter.specs.Paper.{readEntries, counted, first, name, masksOf, topology, hyperthreading, processorCount, processors, leastFrom, isKept, lines, linesOf, combinedOf, countFrom, without, fromD2, Equations, verdict, table, rowsVerdict, carried, lawful, registers, written, wrote, find, findAfter, program}
+use Rattle.letter.specs.Paper.{readEntries, counted, first, xfem, combined, entryOf, name, required, firstMissing, masked, masksOf, topology, hyperthreading, processorCount, processors, leastFrom, isKept, lines, linesOf, combinedOf, countFrom, without, fromD2, Equations, verdict, table, rowsVerdict, carried, lawful, registers, written, wrote, find, findAfter, program}
 use Rattle.letter.specs.Names.{subAt}
 use Rattle.letter.specs.FirstProof as Firsts
 use Rattle.letter.specs.CountedProof as Counted
-use Rattle.letter.specs.VerdictProof.{verdict-by-figures, lawful-same}
+use Rattle.letter.specs.VerdictProof.{verdict-by-figures, lawful-same, own-masks}
 use Rattle.letter.specs.DeterminedProof as Determined
 use Rattle.letter.specs.ImageProof as Images
 use Rattle.letter.specs.ImageProof.{told}
@@ -125,6 +126,12 @@ write-by-the-letter = Images.write-by-figures
 -- which pages of B are lawful
 pub lawful-by-the-letter : (s : List ℕ) → lawfulVerdict s ≡ lawful s
 lawful-by-the-letter = lawful-same
+
+-- "B's own XFEM, XSS and combined mask are what the rules above make of its masked first entries D.0 and D.1, also where B is refused.": of any page
+-- bytes that have an entry for every required leaf
+pub own-masks-by-the-letter : (avic : Bool) (s : List ℕ) → firstMissing avic (first (counted s)) required ≡ Accepted
+    → (xfemIn (rowsOf avic s) ≡ xfem (masked avic (entryOf s))) × (combinedMask (rowsOf avic s) ≡ combined (masked avic (entryOf s)))
+own-masks-by-the-letter = own-masks
 
 -- which registers are features, over the 88 rows. "Demand 3 is due whole with the first delivery that builds a table from page bytes.": RiseTheorems.antt
 -- has it, and `rise-by-the-letter` there asks of B's entries what is said here.
