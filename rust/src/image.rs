@@ -63,7 +63,7 @@ impl Table {
     }
 
     /// Writes its image to the front of `out` and gives its length. Where `out` is shorter it is as it was, and the answer is
-    /// [`Refusal::BufferTooShort`]; bytes beyond the image are as they were.
+    /// [`Refusal::BufferTooShort`]; bytes beyond the image are as they were. The image of a table without rows has no bytes.
     pub fn write_image(&self, out: &mut [u8]) -> Result<usize, Refusal> {
         let (registers, origins) = self.arrays();
         // SAFETY: the two arrays are the table's own and only read; the function writes within the slice whose pointer and length come last
@@ -71,8 +71,9 @@ impl Table {
         written.accepted().map(|written| written.length as usize)
     }
 
-    /// Writes it as `struct kvm_cpuid2` to the front of `out` and gives its length, as [`write_kvm`](crate::write_kvm) does of pages. Where `out` is
-    /// shorter it is as it was, and the answer is [`Refusal::BufferTooShort`]; bytes beyond the list are as they were.
+    /// Writes it as `struct kvm_cpuid2` to the front of `out` and gives its length, as [`write_kvm`](crate::write_kvm) does of pages that
+    /// are accepted. Where `out` is shorter it is as it was, and the answer is [`Refusal::BufferTooShort`]; bytes beyond the list are as they were.
+    /// The list of a table without rows has 8 bytes.
     pub fn write_kvm(&self, out: &mut [u8]) -> Result<usize, Refusal> {
         let (registers, origins) = self.arrays();
         // SAFETY: the two arrays are the table's own and only read; the function writes within the slice whose pointer and length come last

@@ -67,7 +67,7 @@ module _ (i : ℕ) (l : i < 88) (made : madeHere i ≡ false) where
       go true false p q = absurd (never-both (comes e (eqb-true _ _ p)) q)
       go false true p q = absurd (never-both (eq-eqb _ _ (goes e q)) p)
 
-  first-same : (es : List Entry) → firstAt i es ≡ first es (leafAt i .0) (subAt i)
+  pub first-same : (es : List Entry) → firstAt i es ≡ first es (leafAt i .0) (subAt i)
   unfolding firstAt first
   first-same [] = refl
   first-same (e ∷ es) = rw (same-test e, first-same es)

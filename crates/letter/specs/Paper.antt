@@ -320,9 +320,12 @@ listed (x ∷ xs) l k = (eqb (x .leaf) l && sameSubleaf (x .subleaf) k) || liste
 abbrev pub isKept : ℕ → Subleaf → Bool
 isKept l k = fromD2 l k || listed (kept false) l k
 
+abbrev pub masksOf : Bool → ℕ → Subleaf → CpuidResult
+masksOf avic l k = pick (fromD2 l k) (result all all all all) (masksIn (kept avic) l k)
+
 -- "Each kept register is joined with its mask by and." e has the first counted entries, by leaf and subleaf.
 abbrev pub masked : Bool → (ℕ → Subleaf → CpuidResult) → ℕ → Subleaf → CpuidResult
-masked avic e l k = joined bitAnd (e l k) (pick (fromD2 l k) (result all all all all) (masksIn (kept avic) l k))
+masked avic e l k = joined bitAnd (e l k) (masksOf avic l k)
 
 -- ======== The table: "An accepted table has 17 rows without subleaf, 9 with, and one for each combined bit from 2 up: 26 to 32."
 
@@ -427,7 +430,7 @@ pub record Name : Type 0 where
   pub leaf : ℕ
   pub subleaf : Subleaf
 
-abbrev name : ℕ → Subleaf → Name
+abbrev pub name : ℕ → Subleaf → Name
 name l k = record { leaf = l; subleaf = k }
 
 -- 3: "`COMMON_REQUIRED_LEAVES`, then `SNP_REQUIRED_LEAVES`, in list order"

@@ -151,7 +151,7 @@ module _ (avic : Bool) (s : List ℕ) where
       go true false h = absurd (never-both h refl)
       go false b h = refl
 
-  required-same : requiredVerdict A ≡ firstMissing avic f required
+  pub required-same : requiredVerdict A ≡ firstMissing avic f required
   unfolding requiredVerdict requiredAt commonRequiredLeaves snpRequiredLeaves placeRequired placeOf keptLeaves
   required-same =
       lowest-chain _ _ 0 24 ∙ ap (λ (p : ℕ → Bool). chain (λ j. p (placeRequired j)) missingRequired 0 24) (fun-ext present-same)
@@ -184,11 +184,11 @@ module _ (avic : Bool) (s : List ℕ) where
     unfolding invlpgbVerdict
     invlpgb-same = rw at-78
 
-    mask-same : State.combinedMask A ≡ State.combinedMask B
+    pub mask-same : State.combinedMask A ≡ State.combinedMask B
     unfolding State.combinedMask State.xfem State.xss
     mask-same = ap₂ (λ (a b : Row). bitOr (a .result .eax) (State.xssOf (b .result))) at-6 at-7
 
-    xfem-same : State.xfem A ≡ State.xfem B
+    pub xfem-same : State.xfem A ≡ State.xfem B
     unfolding State.xfem
     xfem-same = ap (λ (a : Row). a .result .eax) at-6
 
@@ -220,6 +220,10 @@ module _ (avic : Bool) (s : List ℕ) where
   invlpgb-figures : invlpgbVerdict B ≡ pick (has 3 (Paper.asMasked avic f 0x80000008 None .ebx)) Accepted (Refused InvlpgbUnavailable)
   unfolding invlpgbVerdict placeOf keptLeaves slot Masks.extendedAddressSpaceSizes maskOf
   invlpgb-figures = refl
+
+  pub masks-figures : (State.xfem B ≡ Paper.xfem (Paper.asMasked avic f)) × (State.combinedMask B ≡ Paper.combined (Paper.asMasked avic f))
+  unfolding State.combinedMask State.xfem State.xss placeOf keptLeaves slot Masks.extendedState0 Masks.extendedState1 maskOf legacyFeatures
+  masks-figures = (refl, refl)
 
   components-figures : componentsVerdict B ≡ components avic f 2 62
   unfolding componentsVerdict componentsOf State.combinedMask State.xfem State.xss placeOf keptLeaves slot Masks.extendedState0 Masks.extendedState1 maskOf legacyFeatures components
@@ -261,8 +265,40 @@ module _ (avic : Bool) (es : List Entry) where
   unfolding placeOf keptLeaves slot components area
   verdict-told = refl
 
+  -- the required leaves and the two state masks by themselves
+  abbrev read : (ℕ → Subleaf → Row) → Verdict × ℕ × ℕ
+  read g = (firstMissing avic g required, Paper.xfem (Paper.asMasked avic g), Paper.combined (Paper.asMasked avic g))
+
+  read-kept : read (λ l k. firstAt (placeFor l k) es) ≡ read (λ l k. kept es (placeFor l k))
+  unfolding placeOf keptLeaves
+  read-kept = refl
+
+  read-told : read (λ l k. told es (placeFor l k)) ≡ read (first es)
+  unfolding placeOf keptLeaves slot
+  read-told = refl
+
+  pub read-by-leaf : read (λ l k. firstAt (placeFor l k) es) ≡ read (first es)
+  read-by-leaf = read-kept ∙ ap (λ (g : ℕ → Row). read (λ l k. g (placeFor l k))) (kept-told es) ∙ read-told
+
   pub by-leaf : Paper.rowsVerdict avic (λ l k. firstAt (placeFor l k) es) ≡ Paper.rowsVerdict avic (first es)
   by-leaf = verdict-kept ∙ ap (λ (g : ℕ → Row). Paper.rowsVerdict avic (λ l k. g (placeFor l k))) (kept-told es) ∙ verdict-told
+
+-- ---- XFEM and the combined mask of any page bytes that have the required leaves, also where they are refused
+
+module _ (avic : Bool) (s : List ℕ) (found : firstMissing avic (first (Paper.counted s)) required ≡ Accepted) where
+  abbrev three : Verdict × ℕ × ℕ
+  three = read avic (Entries.counted s) (first (Paper.counted s))
+
+  told-three : read avic (Entries.counted s) (f avic s) ≡ three
+  told-three = read-by-leaf avic (Entries.counted s) ∙ ap (λ (x : List Entry). read avic (Entries.counted s) (first x)) (counted-same s)
+
+  pub own-masks : (State.xfem (rowsOf avic s) ≡ Paper.xfem (Paper.masked avic (Paper.entryOf s)))
+      × (State.combinedMask (rowsOf avic s) ≡ Paper.combined (Paper.masked avic (Paper.entryOf s)))
+  own-masks =
+      let there : requiredVerdict (rowsOf avic s) ≡ Accepted = required-same avic s ∙ ap (λ (p : Verdict × ℕ × ℕ). p .0) told-three ∙ found in (
+        xfem-same avic s there ∙ masks-figures avic s .0 ∙ ap (λ (p : Verdict × ℕ × ℕ). p .1) told-three,
+        mask-same avic s there ∙ masks-figures avic s .1 ∙ ap (λ (p : Verdict × ℕ × ℕ). p .2) told-three,
+      )
 
 -- ---- the pages
 

@@ -3,23 +3,25 @@
 -- crates/letter/specs/Paper.antt quotes the sentences in order and says each in the paper's own figures; here is that the answers are these, for any
 -- page bytes s and any choices. `answer` (crates/build/specs/Build.antt), `write`, `image`, `lookup` and `output` are what the contracts promise of the
 -- code: of how they are defined nothing has to be believed, since the equations below determine them.
-use mathlib.Core.Path.{_≡_, refl, sym, _∙_}
-use mathlib.Core.Bool.{Bool, not, _&&_, _||_}
+use mathlib.Core.Path.{_≡_, refl, sym, ap, _∙_}
+use mathlib.Core.Bool.{Bool, false, not, _&&_, _||_}
 use mathlib.Core.List.{List, [], _∷_, map}
 use mathlib.Core.Logic.{_↔_}
-use Prim.Native.Nat.{ℕ, _+_, _*_, _^_, _≤_}
+use Prim.Native.Nat.{ℕ, _+_, _*_, _^_, _≤_, _<_}
 use lib.ListN.{length}
 use Rattle.bits.specs.Choice.{pick}
-use Rattle.bits.specs.Lists.{tabulate}
+use Rattle.bits.specs.Lists.{tabulate, keepIf}
 use Rattle.bits.specs.Bits.{bit, Within}
 use Rattle.x86defs.specs.declared.CpuidResult.{CpuidResult}
 use Rattle.x86defs.specs.Functions.{function, result}
+use Rattle.pages.specs.Layout.{Entry}
 use Rattle.pages.specs.Entries as Entries
-use Rattle.masking.specs.Kept.{leafAt}
+use Rattle.masking.specs.Kept.{leafAt, masksAt}
+use Rattle.masking.specs.KeptLaws.{madeHere}
 use Rattle.topology.specs.Topology.{Inputs, inputs}
 use Rattle.topology.specs.declared.TopologyError.the-variants.{ThreadsPerUnit}
 use Rattle.table.specs.declared.Subleaf.{Subleaf}
-use Rattle.table.specs.declared.Subleaf.the-variants.{Some}
+use Rattle.table.specs.declared.Subleaf.the-variants.{None, Some}
 use Rattle.table.specs.declared.Choices.{Choices}
 use Rattle.table.specs.declared.CpuidResults.{CpuidResults}
 use Rattle.table.specs.declared.Refusal.{Refusal}
@@ -28,8 +30,11 @@ use Rattle.table.specs.declared.Verdict.the-variants.{Accepted, Refused}
 use Rattle.table.specs.Refusal.{details}
 use Rattle.table.specs.Rows.{Row, vacant}
 use Rattle.table.specs.Table.{rowIn}
-use Rattle.finish.specs.Kinds.{kindsAt, EntryAtLeast, TableAtLeast}
+use Rattle.features.specs.Finish.{ruleAt}
+use Rattle.finish.specs.Kinds.{kindsAt, fromEntry, EntryAtLeast, TableAtLeast}
 use Rattle.finish.specs.Kinds.Kind.{feature, featureBut28, area, freed, other}
+use Rattle.checks.specs.ExtendedState.{xfem as xfemIn, combinedMask}
+use Rattle.collect.specs.FirstEntries.{firstAt, rowsOf}
 use Rattle.collect.specs.Lawful.{lawfulVerdict}
 use Rattle.build.specs.Build.{answer}
 use Rattle.lookup.specs.Lookup.{lookup}
@@ -37,10 +42,11 @@ use Rattle.image.specs.Image.{image}
 use Rattle.image.specs.Write.{write}
 use Rattle.program.specs.Output.{output}
 use Rattle.counts.specs.CountsProof.{single-page-refused, at-most-32}
-use Rattle.letter.specs.Paper.{readEntries, counted, topology, hyperthreading, processorCount, processors, leastFrom, isKept, lines, linesOf, combinedOf, countFrom, without, fromD2, Equations, verdict, table, rowsVerdict, carried, lawful, registers, written, wrote, find, findAfter, program}
+use Rattle.letter.specs.Paper.{readEntries, counted, first, xfem, combined, entryOf, name, required, firstMissing, masked, masksOf, topology, hyperthreading, processorCount, processors, leastFrom, isKept, lines, linesOf, combinedOf, countFrom, without, fromD2, Equations, verdict, table, rowsVerdict, carried, lawful, registers, written, wrote, find, findAfter, program}
 use Rattle.letter.specs.Names.{subAt}
+use Rattle.letter.specs.FirstProof as Firsts
 use Rattle.letter.specs.CountedProof as Counted
-use Rattle.letter.specs.VerdictProof.{verdict-by-figures, lawful-same}
+use Rattle.letter.specs.VerdictProof.{verdict-by-figures, lawful-same, own-masks}
 use Rattle.letter.specs.DeterminedProof as Determined
 use Rattle.letter.specs.ImageProof as Images
 use Rattle.letter.specs.ImageProof.{told}
@@ -121,10 +127,30 @@ write-by-the-letter = Images.write-by-figures
 pub lawful-by-the-letter : (s : List ℕ) → lawfulVerdict s ≡ lawful s
 lawful-by-the-letter = lawful-same
 
+-- "B's own XFEM, XSS and combined mask are what the rules above make of its masked first entries D.0 and D.1, also where B is refused.": of any page
+-- bytes that have an entry for every required leaf
+pub own-masks-by-the-letter : (avic : Bool) (s : List ℕ) → firstMissing avic (first (counted s)) required ≡ Accepted
+    → (xfemIn (rowsOf avic s) ≡ xfem (masked avic (entryOf s))) × (combinedMask (rowsOf avic s) ≡ combined (masked avic (entryOf s)))
+own-masks-by-the-letter = own-masks
+
 -- which registers are features, over the 88 rows. "Demand 3 is due whole with the first delivery that builds a table from page bytes.": RiseTheorems.antt
 -- has it, and `rise-by-the-letter` there asks of B's entries what is said here.
 pub registers-by-the-letter : tabulate 88 (λ i. record { leaf = leafAt i .0; subleaf = subAt i; kinds = kindsAt i }) ≡ registers
 registers-by-the-letter = Registers.registers-same
+
+-- "for every row of A's table but 0 and 80000000h, a first counted entry" (demand 3): the rows of which no entry is asked, the first counted entry of each
+-- other row, and the masks under which entries are compared, over the 88 rows
+pub rows-without-entry : map (λ (i : ℕ). name (leafAt i .0) (subAt i)) (keepIf (λ i. not (fromEntry (ruleAt i))) (tabulate 88 (λ i. i)))
+    ≡ name 0x0 None ∷ name 0x80000000 None ∷ []
+rows-without-entry = Registers.made-rows
+
+pub first-entries-by-the-letter : (s : List ℕ) (i : ℕ) → i < 88 → madeHere i ≡ false
+    → firstAt i (Entries.counted s) ≡ first (counted s) (leafAt i .0) (subAt i)
+first-entries-by-the-letter s i l m =
+    Firsts.first-same i l m (Entries.counted s) ∙ ap (λ (es : List Entry). first es (leafAt i .0) (subAt i)) (Counted.counted-same s)
+
+pub masks-by-the-letter : (avic : Bool) → tabulate 88 (masksAt avic) ≡ tabulate 88 (λ i. masksOf avic (leafAt i .0) (subAt i))
+masks-by-the-letter = Registers.masks-same
 
 -- "Entries are compared as masked." ""At least" means every bit set in A's; "no smaller" is unsigned." "Bit 28 of 1.EDX is equal, in entries and tables."
 -- Here entries, then tables, by kind; RiseTheorems.antt has demand 3 over them.

@@ -6,7 +6,7 @@
 --   P1   rows ascend by leaf, then subleaf            `rows-ascend` (BuildingTheorems), the list of rows itself (crates/letter/specs/Paper.antt)
 --   P2   8 + 40 bytes, 64 rows, 8,192 bytes, flags    `kvm-reads-exactly`, `flags-by-place`, `indexes-by-place`, `row-of-d-2-listed`, `two-rows-read`
 --                                                     (ListTheorems); the words of a row, `list-words` below
---   P3   bits 24-31, 27 and 26; 576, 64 and bit 1     `no-other-register-differs` (GuestTheorems); sizes and places below
+--   P3   bits 24-31, 27 and 26; 576, 64 and bit 1     `no-other-register-differs` (GuestTheorems); sizes, 13 and places below
 --   P5   the least k with 2^k at least v              `shift-is-least` (TopologyTheorems), `table-by-the-letter` (Document01)
 --   P6   digits, spaces and newline; what is named    `missing-d12-line`, `longest-length`, `line-of-7` and more (LineTheorems), `numbers-by-the-letter`
 --                                                     (Document01)
@@ -15,18 +15,18 @@
 --   P9   refused by 4 to 8                            `added-entries-change-nothing` (RiseTheorems)
 --   P10  bytes 40 to 47; 17 after 2 and before 3      `verdict-by-the-letter` (Document01)
 --   P11  made here: 0, 80000000h, B.0 and B.1         below, with the numbers of origins
---   P12  2 to 16 servers                              `each-pool-answer-exactly` (PoolTheorems), `registers-by-the-letter` (Document01)
+--   P12  2 to 16 servers                              `each-pool-answer-exactly` (PoolTheorems); how registers are joined and held equal, below
 --   P13  page, entry, register, bit from 0            below, with the byte that is flipped
 --   P14  1,019, 511 and 508, 5,095 bytes              `topologies-1019`, `topologies-5095-bytes` (TopologyTheorems); which inputs are accepted, below
 use mathlib.Core.Path.{_≡_, refl, ap, _∙_}
-use mathlib.Core.Bool.{Bool, true, false, _&&_}
+use mathlib.Core.Bool.{Bool, true, false, _&&_, _||_}
 use mathlib.Core.List.{List, [], _∷_, _++_, map}
 use Prim.Native.Nat.{ℕ, zero, suc, _+_, _*_, _/_, _%_, _^_, max}
-use lib.Bits.{bitXor}
-use lib.Dec.{leb}
+use lib.Bits.{bitAnd, bitOr, bitXor}
+use lib.Dec.{eqb, leb}
 use lib.ListN.{getD, set}
 use Rattle.bits.specs.Choice.{pick}
-use Rattle.bits.specs.Bits.{has}
+use Rattle.bits.specs.Bits.{bit, has}
 use Rattle.bits.specs.Lists.{tabulate, keepIf}
 use Rattle.x86defs.specs.declared.CpuidResult.{CpuidResult}
 use Rattle.x86defs.specs.Functions.{result}
@@ -39,10 +39,14 @@ use Rattle.topology.specs.Topology.{Inputs, topologyOf}
 use Rattle.table.specs.declared.Subleaf.the-variants.{None, Some}
 use Rattle.table.specs.Rows.{Rows}
 use Rattle.checks.specs.Checks.{topologyRefusal}
-use Rattle.checks.specs.ExtendedState.{areaBelow, saveArea}
+use Rattle.checks.specs.ExtendedState.{xfem, xss, areaBelow, saveArea}
 use Rattle.memory.specs.Origin.{originNumber, isMadeHere}
 use Rattle.memory.specs.Origin.Origin.{neither, madeHere, notKnown, entry}
+use Rattle.finish.specs.Kinds.Kind.{feature, featureBut28, area, freed, other}
+use Rattle.register_masks.specs.Join.{joinedRegister}
+use Rattle.register_masks.specs.Alike.{Alike}
 use Rattle.kvm_list.specs.Format.{rowAt}
+use Rattle.guest_state.specs.State.{compacts, allowed}
 use Rattle.guest_state.specs.Compact.{componentStart, placed, compactBelow, compactSize}
 use Rattle.letter.specs.Paper.{Name, topology}
 use Rattle.letter.specs.Names.{subAt}
@@ -135,6 +139,19 @@ compact-same m x (suc k) =
 pub compacted-size : (m : Rows) (x : ℕ) → compactSize m x ≡ behind (λ k. m (6 + k) .result) x 64
 compacted-size m x = compact-same m x 64
 
+-- "it is 0 if D.1.EAX has neither bit 1 nor bit 3"; 13: "XCR0 lacks bit 0 or has a bit beyond XFEM, or the given XSS has one beyond the table's"
+pub compacted-by-bits : (eax : ℕ) → compacts eax ≡ (has 1 eax || has 3 eax)
+unfolding compacts
+compacted-by-bits eax = refl
+
+pub allowed-states : (m : Rows) (x s : ℕ)
+    → allowed (xfem m) (xss m) x s
+    ≡ (has 0 x
+    && (eqb (bitAnd x (m 6 .result .eax)) x
+    && eqb (bitAnd s (pick (has 1 (m 7 .result .eax) && has 3 (m 7 .result .eax)) (m 7 .result .ecx) 0)) s))
+unfolding allowed xfem xss
+allowed-states m x s = refl
+
 -- ---- P11: ""made here" for 0, 80000000h, B.0 and B.1", by rising leaf; and the numbers of origins
 
 pub made-here :
@@ -151,6 +168,19 @@ pub origin-numbers : (page position : ℕ)
     → originNumber neither ∷ originNumber madeHere ∷ originNumber notKnown ∷ originNumber (entry page position) ∷ []
     ≡ 0 ∷ 1 ∷ 3 ∷ (4 + 64 * page + position) ∷ []
 origin-numbers page position = refl
+
+-- ---- P12: "joins the feature registers of their first entries by and, keeps all else from the first"; "19 where rows that all tables have, B.0 and B.1
+-- apart, differ elsewhere than in feature registers or D.0.ECX": a feature register, 1.EDX, the save area, one that is freed and any other
+
+pub pool-joins : (a b : ℕ)
+    → joinedRegister feature a b ∷ joinedRegister featureBut28 a b ∷ joinedRegister area a b ∷ joinedRegister freed a b ∷ joinedRegister other a b ∷ []
+    ≡ bitAnd a b ∷ bitAnd a (bitOr b (2 ^ 28)) ∷ a ∷ a ∷ a ∷ []
+pool-joins a b = refl
+
+pub pool-holds-equal : (a b : ℕ)
+    → Alike feature a b ∷ Alike featureBut28 a b ∷ Alike area a b ∷ Alike freed a b ∷ Alike other a b ∷ []
+    ≡ Unit {0} ∷ (bit 28 a ≡ bit 28 b) ∷ Unit {0} ∷ Unit {0} ∷ (a ≡ b) ∷ []
+pool-holds-equal a b = refl
 
 -- ---- P13: "ordered by page, entry, register (EAX, EBX, ECX, EDX) and bit from 0": the flips of an entry in order, and the byte and bit of a flip
 
