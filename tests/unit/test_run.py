@@ -18,7 +18,7 @@ class Gate(unittest.TestCase):
             'python3': f'echo "{said}"; exit {status}',
             # what it makes is named after -o
             'gcc': 'while [ "$1" != -o ]; do shift; done; mkdir -p target && printf "#!/bin/sh\\necho 99999999 parts\\n" >"$2" && chmod +x "$2"',
-            'nm': 'for i in $(seq 31); do echo "0 T snp_cpuid_$i"; done',
+            'nm': 'for i in $(seq 33); do echo "0 T snp_cpuid_$i"; done',
             'make': 'true',
             'cpuid': 'echo "cpuid: no such device" >&2; exit 1',
             **others,

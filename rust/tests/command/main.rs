@@ -4,6 +4,7 @@
 use snp_cpuid::features;
 
 mod answers;
+mod arithmetic_held;
 mod browser;
 #[path = "caches.rs"]
 mod cache_words;
