@@ -181,7 +181,8 @@ fn every_kind_of_file() {
     assert_eq!(run(&["fleet", &pages, &image]).status, 0);
     let other = run(&["fleet", &pages, &image, "--edition", "2"]);
     assert_eq!(other.status, 0);
-    assert!(other.text().contains("   A1       1  h\n   A2       1  g; without F16C XOP FMA4\n"), "{}", other.text());
+    let of = |name, edition, rest| class(name, &pages, Options::new().edition(edition), 1, rest);
+    assert!(other.text().contains(&(of("A1", 1, "h") + &of("A2", 2, "g; without F16C XOP FMA4"))), "{}", other.text());
     let text = run(&["fleet", EPYC, &folder.file("notes.txt", "nothing\n")]);
     assert_eq!((text.status, text.text().contains("   notes\n      not read: line 1 is no CPUID row and no heading: 'nothing'")), (1, true));
     let empty = run(&["fleet", &folder.file("empty", "")]);
