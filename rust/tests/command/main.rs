@@ -39,6 +39,7 @@ mod reasons;
 mod refusals;
 mod run;
 mod shells;
+mod since;
 mod table;
 mod topologies;
 mod usage;

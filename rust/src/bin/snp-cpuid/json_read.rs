@@ -113,7 +113,11 @@ impl Reader<'_> {
                     't' => '\t',
                     'b' => '\u{8}',
                     'f' => '\u{C}',
-                    'u' => char::from_u32(u32::from_str_radix(chars.as_str().get(..4)?, 16).ok()?).inspect(|_| drop(chars.nth(3)))?,
+                    'u' => {
+                        let code = u32::from_str_radix(chars.as_str().get(..4)?, 16).ok()?;
+                        chars = chars.as_str()[4..].chars();
+                        char::from_u32(code)?
+                    }
                     other => other,
                 }),
                 c => text.push(c),
