@@ -48,6 +48,34 @@ fn what_the_processor_reports_is_what_debians_cpuid_reads() {
     assert!(extra.iter().all(|row| row.starts_with("0000000B.1") || row.starts_with("0000000D.") || row.starts_with("8000001D.")), "{extra:?}");
 }
 
+/// One machine gives the same pages each time, whichever processors the command may run on (util-linux's taskset).
+#[test]
+fn a_hundred_captures_are_one() {
+    if !cfg!(all(target_arch = "x86_64", target_os = "linux")) {
+        return;
+    }
+    let folder = Folder::new("capture_again");
+    let captured = |command: &mut Command| {
+        assert_eq!(finish(command).status, 0);
+        std::fs::read(folder.path("pages")).unwrap()
+    };
+    let words = ["capture", "-o", &folder.path("pages")];
+    let first = captured(crate::run::command().args(words));
+    for _ in 1..100 {
+        assert!(captured(crate::run::command().args(words)) == first);
+    }
+    let processors = std::thread::available_parallelism().unwrap().get();
+    let on = |processor: usize| {
+        let mut command = Command::new("taskset");
+        command.args(["-c", &processor.to_string(), env!("CARGO_BIN_EXE_snp-cpuid")]).args(words);
+        command
+    };
+    if on(0).output().is_ok_and(|ran| ran.status.success()) {
+        let ran = (0..processors).filter(|processor| on(*processor).output().is_ok_and(|ran| ran.status.success()));
+        assert!(ran.map(|processor| captured(&mut on(processor))).all(|pages| pages == first));
+    }
+}
+
 /// What KVM supports, where it can be opened: read by the C program of the gate's KVM test it is the same list; here it must be pages.
 #[test]
 fn what_kvm_supports() {

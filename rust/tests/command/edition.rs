@@ -107,7 +107,7 @@ fn compare_says_under_which() {
     let rows = "accepted, 28 rows";
     for (edition, status, verdict) in [
         ("1", 1, "no: a guest of A may not move to B. B lacks F16C, leaf 00000001 ECX bit 29."),
-        ("2", 0, "yes: a running guest of A may move to B, "),
+        ("2", 0, "same: A and B give a guest the same table, row for row.\n"),
     ] {
         let ran = compared(edition);
         assert_eq!((ran.status, ran.err.as_str()), (status, ""));

@@ -4,6 +4,7 @@ use crate::answers::{documented, members};
 use crate::json_text::jq;
 use crate::page_sets::{Entries, epyc, rich, set, topology, with, without};
 use crate::run::{EPYC, Folder, run, run_on};
+use snp_cpuid::{Options, fingerprint};
 use std::fs;
 
 /// Entries without a bit of a register; 0 is EAX.
@@ -42,6 +43,12 @@ pub fn small(folder: &Folder) {
     }
 }
 
+/// The line of a class: the fingerprint is the library's of a file of pages.
+fn class(name: &str, file: &str, options: Options, servers: usize, rest: &str) -> String {
+    let fingerprint = fingerprint(&fs::read(file).unwrap(), options).unwrap();
+    format!("   {name:5}{fingerprint:.8}{servers:>5}  {rest}\n")
+}
+
 #[test]
 fn a_small_fleet_by_hand() {
     let folder = Folder::new("fleet_small");
@@ -50,19 +57,18 @@ fn a_small_fleet_by_hand() {
     assert_eq!((ran.status, ran.err.as_str()), (1, ""));
     assert!(ran.text().lines().all(|line| line.len() <= 80), "{}", ran.text());
     let parts: Vec<&str> = ran.text().split("\n\n").collect();
+    let line = |name, file, servers, rest| class(name, &folder.path(&format!("{file}.pages")), Options::new(), servers, rest);
+    let [a1, a2, a3, a4, b1] = [
+        line("A1", "a1", 2, "a1 a2"),
+        line("A2", "b1", 1, "b1; without FMA"),
+        line("A3", "b2", 1, "b2; without SHA"),
+        line("A4", "c1", 1, "c1; without FMA SHA"),
+        line("B1", "d1", 2, "d1 d2"),
+    ];
     let refused = "e1\n      refusal 4: INVLPGB (80000008h.EBX bit 3) is required but unavailable\n";
     for (part, lines) in [
         (0, &["9 servers: 7 accepted in 5 classes, 2 refused\nedition 1 of the AVX rule, without secure AVIC"][..]),
-        (
-            1,
-            &[
-                "   A1       2  a1 a2\n",
-                "   A2       1  b1; without FMA\n",
-                "   A3       1  b2; without SHA\n",
-                "   A4       1  c1; without FMA SHA\n",
-            ],
-        ),
-        (1, &["   B1       2  d1 d2"]),
+        (1, &[&a1, &a2, &a3, &a4, b1.trim_end()]),
         (2, &["   A2    to A1; not to A3 and A4 (7.0 EBX SHA)\n", "   A3    to A1; not to A2 and A4 (1 ECX FMA)\n"]),
         (2, &["   A4    to A1, A2 and A3\n", "   A and B: 1 EAX (00A00F11, 00A00F12), 80000001 EAX (00A00F11, 00A00F12)"]),
         (3, &["   A     5 servers in 4 classes, without FMA SHA\n", "         A2 and A4 (b1 c1) together cost FMA\n"]),
@@ -159,14 +165,14 @@ fn every_kind_of_file() {
     let ran = run(&["fleet", &folder.path("")]);
     assert_eq!((ran.status, ran.err.as_str()), (0, ""));
     assert!(ran.text().starts_with("4 servers: all accepted, with one table\n"), "{}", ran.text());
-    assert!(ran.text().contains("   A1       4  a b c d\n"));
+    assert!(ran.text().contains(&class("A1", EPYC, Options::new(), 4, "a b c d")));
     if let Some(kinds) = found(&folder.path(""), "[.servers[] | .kind]") {
         assert_eq!(kinds, r#"["pages","image","list","dump"]"#);
     }
     // a pool's image is an image too
     folder.file("e.pages", set(&less(&epyc(), 1, 2, 12)));
     assert_eq!(run(&["pool", EPYC, &folder.path("e.pages"), "-o", &folder.path("f.image")]).status, 0);
-    assert!(run(&["fleet", &folder.path("")]).text().contains("   A2       2  e f; without FMA\n"));
+    assert!(run(&["fleet", &folder.path("")]).text().contains(&class("A2", &folder.path("e.pages"), Options::new(), 2, "e f; without FMA")));
     // an image is a table that is made, under whichever edition: that of a server without YMM state keeps F16C under the other
     let mut none = rich();
     none.get_mut(&(0xD, 0)).unwrap()[0] = 3;
@@ -175,7 +181,8 @@ fn every_kind_of_file() {
     assert_eq!(run(&["fleet", &pages, &image]).status, 0);
     let other = run(&["fleet", &pages, &image, "--edition", "2"]);
     assert_eq!(other.status, 0);
-    assert!(other.text().contains("   A1       1  h\n   A2       1  g; without F16C XOP FMA4\n"), "{}", other.text());
+    let of = |name, edition, rest| class(name, &pages, Options::new().edition(edition), 1, rest);
+    assert!(other.text().contains(&(of("A1", 1, "h") + &of("A2", 2, "g; without F16C XOP FMA4"))), "{}", other.text());
     let text = run(&["fleet", EPYC, &folder.file("notes.txt", "nothing\n")]);
     assert_eq!((text.status, text.text().contains("   notes\n      not read: line 1 is no CPUID row and no heading: 'nothing'")), (1, true));
     let empty = run(&["fleet", &folder.file("empty", "")]);
@@ -298,7 +305,7 @@ fn options_reach_the_library() {
     assert!(ran(&[]).text().starts_with("2 servers: all accepted, with one table\n"));
     let kept = ran(&["--secure-avic"]);
     assert!(kept.text().starts_with("2 servers: all accepted, in 2 classes\nedition 1 of the AVX rule, with secure AVIC\n"));
-    assert!(kept.text().contains("   A2       1  b; without SecureAvic\n"));
+    assert!(kept.text().contains(&class("A2", &files[1], Options::new().secure_avic(true), 1, "b; without SecureAvic")));
     let third = ran(&["--edition", "3"]);
     assert_eq!((third.status, third.text().starts_with("2 servers: all refused\n")), (1, true));
 }
@@ -321,7 +328,8 @@ fn hyperthreading_keeps_groups_apart() {
 #[test]
 fn standard_input_and_bad_usage() {
     let piped = run_on(&fs::read(EPYC).unwrap(), &["fleet", "-", EPYC]);
-    assert_eq!((piped.status, piped.text().contains("   A1       2  epyc-milan standard input\n")), (0, true), "{}", piped.text());
+    let line = class("A1", EPYC, Options::new(), 2, "epyc-milan standard input");
+    assert_eq!((piped.status, piped.text().contains(&line)), (0, true), "{}", piped.text());
     let help = "(see 'snp-cpuid fleet --help')";
     for (arguments, words) in [
         (&["fleet"][..], format!("fleet: PAGES is missing {help}")),

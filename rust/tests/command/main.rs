@@ -4,6 +4,7 @@
 use snp_cpuid::features;
 
 mod answers;
+mod arithmetic_held;
 mod browser;
 #[path = "caches.rs"]
 mod cache_words;
@@ -38,6 +39,7 @@ mod reasons;
 mod refusals;
 mod run;
 mod shells;
+mod since;
 mod table;
 mod topologies;
 mod usage;

@@ -96,13 +96,14 @@ fn secure_avic_origins_and_standard_output() {
     let files = files(&folder, &[set(&rich()), set(&off)]);
     assert!(!written(&folder, &files, &[]).0.contains("SecureAvic"));
     let (notes, bytes) = written(&folder, &files, &["--secure-avic"]);
-    assert!(notes.ends_with(&note(&format!("{} cost the pool SecureAvic (8000001F EAX)", files[1]))), "{notes}");
+    let cost = note(&format!("{} cost the pool SecureAvic (8000001F EAX)", files[1]));
+    assert!(notes.ends_with(&(cost + &fingerprint(&bytes))), "{notes}");
     assert_eq!(bytes, image(&files[1], &["--secure-avic"]));
     assert_eq!(pooled(&files, &["--secure-avic", "-o", "-"]).out, bytes);
     // standard input may be any one of the servers
     let second = run_on(&set(&off), &["pool", &files[0], "-", "-o", "-", "--secure-avic"]);
     assert_eq!((second.status, &second.out), (0, &bytes));
-    assert!(second.err.ends_with(&note("standard input cost the pool SecureAvic (8000001F EAX)")), "{}", second.err);
+    assert!(second.err.ends_with(&(note("standard input cost the pool SecureAvic (8000001F EAX)") + &fingerprint(&bytes))), "{}", second.err);
 
     // rows are where the first server has them
     let moved = folder.file("moved", [vec![0; 4096], set(&off)[4096..].to_vec(), set(&off)[..4096].to_vec()].concat());

@@ -1,7 +1,7 @@
 //! What the machine that the command runs on reports: the CPUID instruction on one processor, and the list that KVM supports.
 
 #[cfg(all(target_arch = "x86_64", target_os = "linux"))]
-pub use here::{allowed, cpuid, stay, stay_on, supported, xcr0};
+pub use here::{allowed, cpuid, stay_on, supported, xcr0};
 
 /// The device that gives KVM's list.
 pub const KVM: &str = "/dev/kvm";
@@ -16,7 +16,6 @@ mod here {
     use std::os::fd::AsRawFd;
 
     unsafe extern "C" {
-        fn sched_getcpu() -> c_int;
         fn sched_getaffinity(process: c_int, bytes: usize, mask: *mut c_void) -> c_int;
         fn sched_setaffinity(process: c_int, bytes: usize, mask: *const c_void) -> c_int;
         fn ioctl(file: c_int, request: c_ulong, argument: *mut c_void) -> c_int;
@@ -25,14 +24,7 @@ mod here {
     /// Processors as Linux has them: bit n of the mask is processor n.
     type Mask = [u64; 128];
 
-    /// Stays on the processor that runs this thread, and gives its number: the rows of two processors must not be mixed.
-    pub fn stay() -> io::Result<usize> {
-        // SAFETY: it takes nothing
-        let processor = usize::try_from(unsafe { sched_getcpu() }).map_err(|_| io::Error::last_os_error())?;
-        stay_on(processor).map(|()| processor)
-    }
-
-    /// Goes to a processor and stays there.
+    /// Goes to a processor and stays there: the rows of two processors must not be mixed.
     pub fn stay_on(processor: usize) -> io::Result<()> {
         let mut mask: Mask = [0; 128];
         *mask.get_mut(processor / 64).ok_or(io::ErrorKind::Unsupported)? = 1 << (processor % 64);
@@ -109,10 +101,6 @@ mod elsewhere {
         Err(io::Error::new(io::ErrorKind::Unsupported, "this is no x86-64 machine that runs Linux"))
     }
 
-    pub fn stay() -> io::Result<usize> {
-        none()
-    }
-
     pub fn stay_on(_processor: usize) -> io::Result<()> {
         none()
     }
@@ -135,4 +123,4 @@ mod elsewhere {
 }
 
 #[cfg(not(all(target_arch = "x86_64", target_os = "linux")))]
-pub use elsewhere::{allowed, cpuid, stay, stay_on, supported, xcr0};
+pub use elsewhere::{allowed, cpuid, stay_on, supported, xcr0};

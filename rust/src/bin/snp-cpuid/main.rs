@@ -17,6 +17,7 @@ mod fleet;
 mod help;
 mod input;
 mod json;
+mod json_read;
 mod machine;
 mod manual;
 mod masks;

@@ -24,11 +24,13 @@ pub const COMMAND: Command = Command {
     summary: "make pages of the machine that this runs on",
     about: "\
 Makes two CPUID pages of what this machine reports, in the form of 'from-dump': leaf Dh on page 1
-and all other leaves that a table reads on page 0. It asks by the CPUID instruction, on one
-processor from the first row to the last. In a guest that is what the guest is told; on a host it is
-what the processor reports, and a guest's own pages, which the host makes, may say otherwise. A leaf
-above the highest that the machine reports is left out, and so is a state of Dh that it does not
-have.
+and all other leaves that a table reads on page 0. It asks by the CPUID instruction, on the first
+processor that it may run on. Fields that tell processors apart, which are 1.EBX bits 24-31, EDX of
+leaf B, and 8000001E EAX, EBX bits 0-7 and ECX bits 0-7, are set to 0, as on processor 0, so that
+one machine gives the same pages each time; a note says which processor it was, and its XCR0. In a
+guest that is what the guest is told; on a host it is what the processor reports, and a guest's own
+pages, which the host makes, may say otherwise. A leaf above the highest that the machine reports is
+left out, and so is a state of Dh that it does not have.
 
 With --kvm it asks KVM what it can give a guest (KVM_GET_SUPPORTED_CPUID), as 'from-kvm' reads it.
 ",
@@ -55,14 +57,26 @@ fn run(arguments: &Arguments) -> Result<(), Failure> {
 
 /// The rows that a table reads, as one processor gives them, and what is to be said of them.
 fn asked() -> io::Result<(Vec<Entry>, String)> {
-    let processor = machine::stay()?;
+    let processor = *machine::allowed()?.first().ok_or(io::ErrorKind::NotFound)?;
+    machine::stay_on(processor)?;
     let [_, b, c, d] = machine::cpuid(0, 0);
     let last = |leaf: u32| machine::cpuid(leaf & 0x8000_0000, 0)[0];
     let there = required().filter(|(leaf, _)| *leaf <= last(*leaf)).map(|(leaf, subleaf)| (leaf, subleaf.unwrap_or(0)));
     let states = (2..64).map(|state| (0xD, state)).filter(|(leaf, _)| *leaf <= last(*leaf));
-    let entry = |(leaf, subleaf)| Entry { leaf, subleaf, registers: machine::cpuid(leaf, subleaf) };
+    let entry = |(leaf, subleaf)| Entry { leaf, subleaf, registers: as_on_processor_0(leaf, machine::cpuid(leaf, subleaf)) };
     let states = states.map(entry).filter(|entry| entry.registers != [0; 4]);
     let rows: Vec<Entry> = there.map(entry).chain(states).collect();
-    let note = format!("{} of processor {processor}, {}", counted(rows.len() as u32, "row"), text(&[b, d, c]));
+    let (many, xcr0) = (counted(rows.len() as u32, "row"), machine::xcr0());
+    let note = format!("{many} of processor {processor}, {}, XCR0 {xcr0:X}, XSS not known; its numbers are set to 0", text(&[b, d, c]));
     Ok((rows, note))
+}
+
+/// The registers of a row without what tells one processor from another: its APIC number, its core and its node.
+fn as_on_processor_0(leaf: u32, [eax, ebx, ecx, edx]: [u32; 4]) -> [u32; 4] {
+    match leaf {
+        0x1 => [eax, ebx & 0x00FF_FFFF, ecx, edx],
+        0xB => [eax, ebx, ecx, 0],
+        0x8000_001E => [0, ebx & !0xFF, ecx & !0xFF, edx],
+        _ => [eax, ebx, ecx, edx],
+    }
 }

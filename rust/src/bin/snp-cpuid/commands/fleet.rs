@@ -4,9 +4,12 @@ use crate::arguments::Arguments;
 use crate::building::{self, Building};
 use crate::command::Command;
 use crate::failure::Failure;
+use crate::fleet::since::{Before, Since};
 use crate::fleet::{Fleet, data, page, source, text};
+use crate::input::{read, shown};
 use crate::option::{Opt, Value};
 use crate::{json, output};
+use std::ffi::OsStr;
 
 const HTML: Opt = Opt {
     names: &["--html"],
@@ -15,10 +18,17 @@ const HTML: Opt = Opt {
     help: "write the report as a page for a browser too: one file, which loads nothing",
 };
 
+const SINCE: Opt = Opt {
+    names: &["--since"],
+    value: Value::File("OLD"),
+    required: false,
+    help: "tell what changed since a report that --json gave before; status 1 where a table did",
+};
+
 pub const COMMAND: Command = Command {
     name: "fleet",
     operands: &["PAGES.."],
-    options: &[&[HTML, json::OPTION], building::OPTIONS_BUT_LINE],
+    options: &[&[HTML, SINCE, json::OPTION], building::OPTIONS_BUT_LINE],
     summary: "tell which of any number of servers are alike, and where a guest may go",
     about: "\
 Tells of any number of servers which are accepted, which give a guest the same table, and where a
@@ -34,12 +44,16 @@ read, but for hidden ones. The report has:
   features   those that some classes have and some have not
   refused    servers without a table, by the reason
 
+With --since the report ends in what changed since OLD, a report that --json gave before under the
+same choices: servers that came and went, and those that give another table, by which bits.
+
 The order of moves is that of tables. The entries of pages promise less, before the other server is
 built, as 'compare' tells; a note names the moves that they do not promise.
 ",
     status: "\
 Exit status: 0 where every server is accepted, 1 where one is refused or its file holds nothing that
-can be read as pages, 2 bad usage, a file that cannot be opened, or no file at all.
+can be read as pages; with --since 0 where no server's table changed, else 1; 2 bad usage, a file
+that cannot be opened, a report that cannot be read, or no file at all.
 ",
     run,
 };
@@ -55,14 +69,24 @@ fn run(arguments: &Arguments) -> Result<(), Failure> {
     }
     let sources = source::sources(&arguments.operands)?;
     let fleet = Fleet::of(sources, building);
+    let since = arguments.value(SINCE.name()).map(|file| since(file, &fleet)).transpose()?;
     match arguments.value(HTML.name()) {
         Some(file) if !to_output => output::to_file(file, page::of(&fleet).as_bytes())?,
         _ => {}
     }
     output::print(match (to_output, building.json()) {
         (true, _) => page::of(&fleet),
-        (_, true) => data::of(&fleet).to_string(),
-        _ => text::of(&fleet),
+        (_, true) => data::of(&fleet).with(since.iter().map(|(file, since)| ("since", since.json(file)))).to_string(),
+        _ => text::of(&fleet) + &since.iter().map(|(file, since)| format!("\n{}", since.text(file))).collect::<String>(),
     })?;
-    if fleet.accepted() == fleet.servers.len() { Ok(()) } else { Err(Failure::AnswerNo) }
+    let well = since.map_or(fleet.accepted() == fleet.servers.len(), |(_, since)| !since.has_changes());
+    if well { Ok(()) } else { Err(Failure::AnswerNo) }
+}
+
+/// What changed since the report of a file, with the file's name.
+fn since(file: &OsStr, fleet: &Fleet) -> Result<(String, Since), Failure> {
+    let bad = |why: String| Failure::Bad(format!("{}: {why}", shown(file)));
+    let text = String::from_utf8(read(file)?).map_err(|_| bad("is no JSON".into()))?;
+    let before = Before::read(&text, fleet).map_err(bad)?;
+    Ok((shown(file), Since::of(fleet, &before)))
 }

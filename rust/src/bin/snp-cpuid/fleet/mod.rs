@@ -8,6 +8,7 @@ mod moves;
 pub mod page;
 mod pools;
 mod refused;
+pub mod since;
 pub mod source;
 pub mod text;
 
