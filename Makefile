@@ -1,7 +1,7 @@
 # make            prove the program, build the library and the command, and print the table of the shipped page set
 # make install    put the command, the header, the library with its pkg-config file, the manual page and the completions below PREFIX, in DESTDIR
 # make uninstall  remove exactly these files
-# make ring0      the library for ring 0, in target/ring0 (docs/EMBEDDING.md)
+# make libraries  the library, and beside it the one for ring 0, in target/staticlib (docs/EMBEDDING.md)
 # make dist       an archive of the same with the documents, tried out from an empty folder
 # make proved     print what is proved
 # make test       the whole gate: proofs from nothing, must-fail edits, programs, and the tests in tests/
@@ -10,7 +10,7 @@
 # make bench-rust against the Rust too, with overflow checks and without; OPENVMM_CVM_CPUID names its folder (differential/README.md)
 #
 # SNP_CPUID_LIB=FOLDER takes libsnp_cpuid.a from there, and the Rattle kit is not needed: nothing is proved then.
-.PHONY: all command stage staged install uninstall ring0 dist proved test bench bench-rust clean
+.PHONY: all command stage staged install uninstall libraries dist proved test bench bench-rust clean
 
 .DEFAULT_GOAL = all
 # the manual page does not depend on the width of a terminal
@@ -58,8 +58,8 @@ clean:
 	rm -rf target
 
 # the library for C and Rust
-target/staticlib/libsnp_cpuid.a: crates.txt $(wildcard crates/*/src/*.rt)
-	$(kit)@mkdir -p target && rt staticlib snp_cpuid > target/staticlib.log || { cat target/staticlib.log; exit 1; }
+target/staticlib/libsnp_cpuid.a: crates.txt $(wildcard crates/*/src/*.rt) include/snp_cpuid.h install/libraries
+	$(kit)@mkdir -p target && install/libraries > target/staticlib.log || { cat target/staticlib.log; exit 1; }
 
 # cargo tells what is to be built again
 command: $(LIBRARY)
@@ -91,12 +91,13 @@ install: $(if $(call found,cargo),stage,staged)
 uninstall:
 	@for file in $(INSTALLED); do rm -f '$(DESTDIR)$(PREFIX)'/$$file || exit 1; done
 
-ring0: target/staticlib/libsnp_cpuid.a
-	$(kit)@install/ring0
+libraries: target/staticlib/libsnp_cpuid.a
 
 dist: stage
 	@rm -rf target/dist && mkdir -p target/dist/$(ARCHIVE)/share/doc/snp-cpuid
 	@cp -r $(STAGE)/. install/README.md target/dist/$(ARCHIVE)
+	@mkdir target/dist/$(ARCHIVE)/lib/ring0
+	@cp $(dir $(LIBRARY))ring0/libsnp_cpuid.a target/dist/$(ARCHIVE)/lib/ring0
 	@cp $(DOCUMENTS) target/dist/$(ARCHIVE)/share/doc/snp-cpuid
 	@mkdir -p target/dist/$(ARCHIVE)/share/snp-cpuid/rust
 	@cp -r rust/Cargo.toml rust/build.rs rust/src target/dist/$(ARCHIVE)/share/snp-cpuid/rust

@@ -1,5 +1,6 @@
 //! Links the proved static library. `SNP_CPUID_LIB` names a folder that has libsnp_cpuid.a; without it the repository's own is taken, and built by
-//! `rt staticlib snp_cpuid` where it is not there yet or a source of it is newer.
+//! install/libraries where it is not there yet or a source of it is newer. For a target without an operating system it is the library for ring 0, in
+//! the folder ring0 beside it.
 
 use std::fs;
 use std::io;
@@ -13,10 +14,10 @@ fn fail(text: String) -> ! {
 }
 
 fn build(repository: &Path) {
-    match Command::new("rt").args(["staticlib", "snp_cpuid"]).current_dir(repository).status() {
+    match Command::new("install/libraries").current_dir(repository).status() {
         Ok(status) if status.success() => {}
-        Ok(status) => fail(format!("`rt staticlib snp_cpuid` ended with {status}")),
-        Err(error) => fail(format!("`rt` cannot be started ({error}): install the Rattle kit, or set SNP_CPUID_LIB to a folder with libsnp_cpuid.a")),
+        Ok(status) => fail(format!("install/libraries ended with {status}: install the Rattle kit, or set SNP_CPUID_LIB to a folder with libsnp_cpuid.a")),
+        Err(error) => fail(format!("install/libraries cannot be started ({error})")),
     }
 }
 
@@ -52,6 +53,8 @@ fn main() {
             folder
         }
     };
+    let bare = std::env::var("CARGO_CFG_TARGET_OS").is_ok_and(|system| system == "none");
+    let folder = if bare { folder.join("ring0") } else { folder };
     let library = folder.join("libsnp_cpuid.a");
     if !library.exists() {
         fail(format!("{} is not there", library.display()));

@@ -44,19 +44,19 @@ class Gate(unittest.TestCase):
 
     def test_all_pass(self):
         status, lines = self.run_gate()
-        self.assertEqual((status, lines[-1]), (0, '39 passed, 0 failed'))
+        self.assertEqual((status, lines[-1]), (0, '41 passed, 0 failed'))
         self.assertEqual(lines[-2], '3 passed over: 3 comparisons with the Rust, which is not at hand (differential/README.md)')
 
     def test_a_test_that_ran_nothing_or_does_not_say_fails(self):
         for said in '0 tests ran', '1 tests ran', 'OK', '':
             status, lines = self.run_gate(said)
-            self.assertEqual((status, lines[-1]), (1, '15 passed, 24 failed'), said)
+            self.assertEqual((status, lines[-1]), (1, '16 passed, 25 failed'), said)
 
     def test_a_status_that_is_not_0_fails(self):
-        self.assertEqual(self.run_gate(status=1)[1][-1], '15 passed, 24 failed')
+        self.assertEqual(self.run_gate(status=1)[1][-1], '16 passed, 25 failed')
 
     def test_proofs_that_fail(self):
-        for proofs, last in ('6 passed, 1 failed', '38 passed, 1 failed'), ('rt: out of memory', '32 passed, 1 failed'), ('', '32 passed, 1 failed'):
+        for proofs, last in ('6 passed, 1 failed', '40 passed, 1 failed'), ('rt: out of memory', '34 passed, 1 failed'), ('', '34 passed, 1 failed'):
             status, lines = self.run_gate(proofs=proofs)
             self.assertEqual((status, lines[-1]), (1, last))
 
@@ -71,12 +71,12 @@ class Gate(unittest.TestCase):
 
     def test_without_kvm(self):
         status, lines = self.run_gate(kvm=False)
-        self.assertEqual((status, lines[-1]), (0, '38 passed, 0 failed'))
+        self.assertEqual((status, lines[-1]), (0, '40 passed, 0 failed'))
         self.assertTrue(lines[-2].startswith("4 passed over: a guest's own CPUID, as "), lines[-2])
 
     def test_without_proofs(self):
         status, lines = self.run_gate(words=['--no-proofs'])
-        self.assertEqual((status, lines[-1]), (0, '30 passed, 0 failed'))
+        self.assertEqual((status, lines[-1]), (0, '32 passed, 0 failed'))
         self.assertTrue(lines[-2].startswith('5 passed over: the proofs, as asked; why the edits are refused'), lines[-2])
 
     def test_tests_that_end_early_fail(self):
