@@ -21,6 +21,10 @@ impl Table {
     /// [`Refusal::EditionBack`] from 2 to 1, then [`Refusal::StateBeyondTable`] and [`Refusal::CompactSizeTooLarge`], which a guest of this processor
     /// would have too.
     ///
+    /// # Errors
+    ///
+    /// [`Refusal::UnknownEdition`], [`Refusal::EditionBack`], [`Refusal::StateBeyondTable`] and [`Refusal::CompactSizeTooLarge`], in this order.
+    ///
     /// ```
     /// use snp_cpuid::{Options, Refusal, build};
     ///
@@ -47,6 +51,10 @@ impl Table {
     }
 
     /// The same in place. Where it refuses, the table is as it was.
+    ///
+    /// # Errors
+    ///
+    /// As [`Table::carry`]; the table is then as it was.
     pub fn carry_in_place(&mut self, from: u32, to: u32, xcr0: u64, xss: u64) -> Result<(), Refusal> {
         let (registers, origins) = self.arrays_mut();
         // SAFETY: the two arrays are the table's own, and the function writes the first and only reads the second
@@ -60,6 +68,10 @@ impl Table {
 /// The same for a table handed over as its image, [`Table::image`], which is rewritten in place. It may be any table's, also one that was built
 /// otherwise: from edition 1 to 2 F16C, XOP and FMA4 are cleared where its own D.0.EAX lacks bit 2, and nothing else changes; rows that it lacks read
 /// as zeros. Where the answer is an error, the bytes are as they were.
+///
+/// # Errors
+///
+/// [`NotCarried::NotAnImage`], or the refusals of [`Table::carry`]; the bytes are then as they were.
 ///
 /// ```
 /// use snp_cpuid::{NotCarried, Options, Refusal, build, carry_image};

@@ -12,6 +12,10 @@ pub const KVM_PAGES_BYTES: usize = 2 * PAGE_BYTES;
 /// Builds the table of CPUID pages, writes it to the front of `out` as `struct kvm_cpuid2` and gives its length. Where it refuses, `out` is as it
 /// was; bytes beyond the list are as they were.
 ///
+/// # Errors
+///
+/// The refusal of building, then [`Refusal::BufferTooShort`].
+///
 /// ```
 /// let pages = std::fs::read("../tests/data/epyc-milan.pages").unwrap();
 /// let mut list = [0; snp_cpuid::MOST_KVM_BYTES];
@@ -29,6 +33,10 @@ pub fn write_kvm(pages: &[u8], options: Options, out: &mut [u8]) -> Result<usize
 
 /// Reads a `struct kvm_cpuid2` into two pages at the front of `out`, leaf Dh on page 1 and all others on page 0, and gives their length. Where it
 /// refuses, `out` is as it was; bytes beyond the pages are as they were.
+///
+/// # Errors
+///
+/// [`Refusal::ListLength`], [`Refusal::ListFields`], [`Refusal::ListRows`] and [`Refusal::BufferTooShort`], in this order.
 ///
 /// ```
 /// let pages = std::fs::read("../tests/data/epyc-milan.pages").unwrap();

@@ -39,6 +39,7 @@ mod origin;
 mod places;
 mod pool;
 mod refusal;
+mod refusal_list;
 mod table;
 mod topologies;
 
@@ -76,12 +77,20 @@ pub const MOST_ROWS: usize = 32;
 pub const MOST_LINE_BYTES: usize = 22;
 
 /// Builds the table of CPUID pages that stand end to end, as [`Table::build`] does.
+///
+/// # Errors
+///
+/// The refusal of the pages, or of the edition.
 pub fn build(pages: &[u8], options: Options) -> Result<Table, Refusal> {
     Table::build(pages, options)
 }
 
 /// Writes the image of CPUID pages to the front of `out` and gives its length. Where it refuses, `out` is as it was; bytes beyond the image are as
 /// they were.
+///
+/// # Errors
+///
+/// The refusal of building, then [`Refusal::BufferTooShort`]; [`MOST_IMAGE_BYTES`] always suffice.
 pub fn write_image(pages: &[u8], options: Options, out: &mut [u8]) -> Result<usize, Refusal> {
     let Options { secure_avic, edition } = options;
     // SAFETY: both pointers and lengths are those of slices; the function reads the first and writes within the second
@@ -90,6 +99,7 @@ pub fn write_image(pages: &[u8], options: Options, out: &mut [u8]) -> Result<usi
 }
 
 /// Builds and looks one row up, both in the library. [`Table::lookup`] gives the same and builds once.
+#[must_use]
 pub fn lookup(pages: &[u8], options: Options, leaf: u32, subleaf: Option<u32>, enforce_subleaf: bool) -> Option<Found> {
     let Options { secure_avic, edition } = options;
     let (named, subleaf) = (subleaf.is_some(), subleaf.unwrap_or(0));

@@ -62,6 +62,10 @@ pub struct Found {
 /// Whether the pages give a table does not matter, so after a [`Comparison`](crate::Comparison) that names a leaf this tells which entries of the two
 /// servers differ. Entries of leaf Dh count on page 1 alone. Pages are refused by 1, 2 and 17.
 ///
+/// # Errors
+///
+/// [`Refusal::PagesLength`], [`Refusal::PageCount`] and [`Refusal::ReservedBytes`].
+///
 /// ```
 /// use snp_cpuid::{Comparison, Options, Origin, compare, first_entry};
 ///

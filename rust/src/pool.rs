@@ -28,6 +28,10 @@ pub struct NotPooled {
 ///
 /// [`Table::pool`] is the same without the copy that puts the page sets end to end.
 ///
+/// # Errors
+///
+/// [`NotPooled`]: the refusal of the pool, or of one of its servers.
+///
 /// ```
 /// use snp_cpuid::{NotPooled, Options, Refusal, build, pool};
 ///
@@ -57,6 +61,10 @@ pub fn pool(sets: &[impl AsRef<[u8]>], options: Options) -> Result<Table, NotPoo
 
 impl Table {
     /// The table of a pool, as `pool` gives it, of page sets that stand end to end in `pages`, with the bytes of each in `lengths`.
+    ///
+    /// # Errors
+    ///
+    /// [`NotPooled`]: the refusal of the pool, or of one of its servers.
     pub fn pool(pages: &[u8], lengths: &[u64], options: Options) -> Result<Table, NotPooled> {
         let Options { secure_avic, edition } = options;
         let mut made = Made::new();
@@ -78,6 +86,10 @@ impl Table {
 
 /// Writes the image of the pool's table to the front of `out` and gives its length. Where it refuses, `out` is as it was; bytes beyond the image are
 /// as they were. [`Refusal::BufferTooShort`] comes last.
+///
+/// # Errors
+///
+/// The refusal of the pool or of one of its servers, then [`Refusal::BufferTooShort`].
 #[cfg(feature = "std")]
 pub fn write_pool_image(sets: &[impl AsRef<[u8]>], options: Options, out: &mut [u8]) -> Result<usize, Refusal> {
     Joined::of(sets).write_image(options, out)
@@ -95,6 +107,7 @@ pub fn write_pool_image(sets: &[impl AsRef<[u8]>], options: Options, out: &mut [
 /// assert_eq!(origin(&[&a, &b]), Origin::Entry { page: 0, entry: 1 });
 /// assert_eq!(origin(&[&b, &a]), Origin::Entry { page: 2, entry: 1 });
 /// ```
+#[must_use]
 #[cfg(feature = "std")]
 pub fn pool_lookup(sets: &[impl AsRef<[u8]>], options: Options, leaf: u32, subleaf: Option<u32>, enforce_subleaf: bool) -> Option<Found> {
     Joined::of(sets).lookup(options, leaf, subleaf, enforce_subleaf)
