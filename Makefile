@@ -102,6 +102,8 @@ dist: stage
 	@mkdir -p target/dist/$(ARCHIVE)/share/snp-cpuid/rust
 	@cp -r rust/Cargo.toml rust/build.rs rust/src target/dist/$(ARCHIVE)/share/snp-cpuid/rust
 	@rm -r target/dist/$(ARCHIVE)/share/snp-cpuid/rust/src/bin
+	@SNP_CPUID_LIB=$(dir $(LIBRARY)) install/crate target/crate > target/crate.log
+	@cp target/crate/*.crate target/dist/$(ARCHIVE)/share/snp-cpuid
 	@cp -r differential/replacement target/dist/$(ARCHIVE)/share/snp-cpuid/snp_cvm_cpuid
 	@chmod -R u=rwX,go=rX target/dist/$(ARCHIVE)
 	@tar -C target/dist --sort=name --owner=0 --group=0 --numeric-owner -czf target/dist/$(ARCHIVE).tar.gz $(ARCHIVE)

@@ -1,6 +1,6 @@
 //! Links the proved static library. `SNP_CPUID_LIB` names a folder that has libsnp_cpuid.a; without it the repository's own is taken, and built by
 //! install/libraries where it is not there yet or a source of it is newer. For a target without an operating system it is the library for ring 0, in
-//! the folder ring0 beside it.
+//! the folder ring0 beside it. The package of a registry (install/crate) has the library as assembly, and needs none.
 
 use std::fs;
 use std::io;
@@ -40,6 +40,13 @@ fn fresh(library: &Path, repository: &Path) -> bool {
 
 fn main() {
     println!("cargo::rerun-if-env-changed=SNP_CPUID_LIB");
+    println!("cargo::rustc-check-cfg=cfg(snp_cpuid_assembly)");
+    let assembly = Path::new(env!("CARGO_MANIFEST_DIR")).join("snp_cpuid.s");
+    if std::env::var_os("SNP_CPUID_LIB").is_none() && assembly.exists() {
+        println!("cargo::rerun-if-changed={}", assembly.display());
+        println!("cargo::rustc-cfg=snp_cpuid_assembly");
+        return;
+    }
     let folder = match std::env::var_os("SNP_CPUID_LIB") {
         Some(given) => PathBuf::from(given),
         None => {

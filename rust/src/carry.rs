@@ -29,7 +29,7 @@ impl Table {
     /// use snp_cpuid::{Options, Refusal, build};
     ///
     /// // a server without YMM state, bit 2 of D.0.EAX: D.0 is the first entry of page 1
-    /// let mut pages = std::fs::read("../tests/data/epyc-milan.pages").unwrap();
+    /// let mut pages = std::fs::read("epyc-milan.pages").unwrap();
     /// assert_eq!(pages[4096 + 16..][..8], [0xD, 0, 0, 0, 0, 0, 0, 0]);
     /// pages[4096 + 16 + 24] = 3;
     ///
@@ -76,7 +76,7 @@ impl Table {
 /// ```
 /// use snp_cpuid::{NotCarried, Options, Refusal, build, carry_image};
 ///
-/// let pages = std::fs::read("../tests/data/epyc-milan.pages").unwrap();
+/// let pages = std::fs::read("epyc-milan.pages").unwrap();
 /// let mut image = build(&pages, Options::new()).unwrap().image().to_vec();
 /// // where the YMM state is there, the editions are one
 /// assert_eq!(carry_image(&mut image, 1, 2, 7, 0x800), Ok(()));

@@ -5,7 +5,7 @@
 //! ```
 //! use snp_cpuid::{Options, Table, features};
 //!
-//! let pages = std::fs::read("../tests/data/epyc-milan.pages").unwrap();
+//! let pages = std::fs::read("epyc-milan.pages").unwrap();
 //! let table = Table::build(&pages, Options::new()).unwrap();
 //! // 7.0.EBX
 //! let found = features::find(0x7, Some(0), features::EBX).unwrap();

@@ -77,7 +77,7 @@ impl Table {
     /// ```
     /// use snp_cpuid::{Options, Processor, Table, guest};
     ///
-    /// let pages = std::fs::read("../tests/data/epyc-milan.pages").unwrap();
+    /// let pages = std::fs::read("epyc-milan.pages").unwrap();
     /// let processor = Processor::new(5).xcr0(7).xss(0x800).osxsave(true);
     /// let image = Table::build(&pages, Options::new()).unwrap().image();
     /// // also of a table that was read
@@ -108,7 +108,7 @@ impl Table {
     /// ```
     /// use snp_cpuid::{Options, Processor, Refusal, Table};
     ///
-    /// let pages = std::fs::read("../tests/data/epyc-milan.pages").unwrap();
+    /// let pages = std::fs::read("epyc-milan.pages").unwrap();
     /// let table = Table::build(&pages, Options::new()).unwrap();
     /// let processor = Processor::new(5).xcr0(7).xss(0x800).osxsave(true);
     /// assert_eq!(table.guest_row(processor, 0xB, Some(1), false).unwrap().unwrap().result.edx, 5);
@@ -139,7 +139,7 @@ impl Table {
     /// ```
     /// use snp_cpuid::{Options, Processor, Refusal, Table};
     ///
-    /// let pages = std::fs::read("../tests/data/epyc-milan.pages").unwrap();
+    /// let pages = std::fs::read("epyc-milan.pages").unwrap();
     /// let table = Table::build(&pages, Options::new()).unwrap();
     /// // at XSETBV, or a write to XSS
     /// let processor = Processor::new(5).xcr0(7).xss(0x800).osxsave(true);
@@ -185,7 +185,7 @@ impl Table {
 /// ```
 /// use snp_cpuid::{Options, Processor, Refusal, guest};
 ///
-/// let pages = std::fs::read("../tests/data/epyc-milan.pages").unwrap();
+/// let pages = std::fs::read("epyc-milan.pages").unwrap();
 /// let processor = Processor::new(5).xcr0(7).xss(0x800).osxsave(true);
 /// let seen = guest(&pages, Options::new(), processor).unwrap();
 /// // the two sizes that this processor itself reported
@@ -223,7 +223,7 @@ pub fn write_guest_image(pages: &[u8], options: Options, processor: Processor, o
 /// ```
 /// use snp_cpuid::{Options, Processor, guest_lookup};
 ///
-/// let pages = std::fs::read("../tests/data/epyc-milan.pages").unwrap();
+/// let pages = std::fs::read("epyc-milan.pages").unwrap();
 /// let processor = Processor::new(5);
 /// // with x87 state alone the save area is its smallest, 512 bytes and the header's 64
 /// assert_eq!(guest_lookup(&pages, Options::new(), processor, 0xD, Some(0), true).unwrap().result.ebx, 576);

@@ -96,7 +96,7 @@ impl Table {
 /// ```
 /// use snp_cpuid::{NotAnImage, Options, Origin, Table};
 ///
-/// let pages = std::fs::read("../tests/data/epyc-milan.pages").unwrap();
+/// let pages = std::fs::read("epyc-milan.pages").unwrap();
 /// let built = Table::build(&pages, Options::new()).unwrap();
 /// let image = built.image();
 /// let read = Table::try_from(&image[..]).unwrap();

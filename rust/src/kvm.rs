@@ -17,7 +17,7 @@ pub const KVM_PAGES_BYTES: usize = 2 * PAGE_BYTES;
 /// The refusal of building, then [`Refusal::BufferTooShort`].
 ///
 /// ```
-/// let pages = std::fs::read("../tests/data/epyc-milan.pages").unwrap();
+/// let pages = std::fs::read("epyc-milan.pages").unwrap();
 /// let mut list = [0; snp_cpuid::MOST_KVM_BYTES];
 /// let length = snp_cpuid::write_kvm(&pages, snp_cpuid::Options::new(), &mut list).unwrap();
 /// // 29 rows: the count, then function 0 with index 0, flags 0 and the highest leaf
@@ -39,7 +39,7 @@ pub fn write_kvm(pages: &[u8], options: Options, out: &mut [u8]) -> Result<usize
 /// [`Refusal::ListLength`], [`Refusal::ListFields`], [`Refusal::ListRows`] and [`Refusal::BufferTooShort`], in this order.
 ///
 /// ```
-/// let pages = std::fs::read("../tests/data/epyc-milan.pages").unwrap();
+/// let pages = std::fs::read("epyc-milan.pages").unwrap();
 /// let options = snp_cpuid::Options::new().edition(2);
 /// let mut list = [0; snp_cpuid::MOST_KVM_BYTES];
 /// let length = snp_cpuid::write_kvm(&pages, options, &mut list).unwrap();

@@ -1,7 +1,7 @@
 //! The CPUID table of an AMD SEV-SNP guest, over a library proved right for every input.
 //!
 //! ```
-//! let pages = std::fs::read("../tests/data/epyc-milan.pages").unwrap();
+//! let pages = std::fs::read("epyc-milan.pages").unwrap();
 //! let table = snp_cpuid::build(&pages, snp_cpuid::Options::new()).unwrap();
 //! // leaf 1, EDX bit 28: hyperthreading
 //! assert_eq!(table.row(1, None).unwrap().edx >> 28 & 1, 1);
@@ -25,6 +25,8 @@
 #![cfg_attr(not(feature = "std"), no_std)]
 
 mod answer;
+#[cfg(snp_cpuid_assembly)]
+mod assembly;
 mod carry;
 mod comparison;
 pub mod exports;
@@ -113,7 +115,7 @@ pub fn lookup(pages: &[u8], options: Options, leaf: u32, subleaf: Option<u32>, e
 /// ```
 /// use snp_cpuid::{Comparison, Options, Register, compare};
 ///
-/// let a = std::fs::read("../tests/data/epyc-milan.pages").unwrap();
+/// let a = std::fs::read("epyc-milan.pages").unwrap();
 /// assert_eq!(compare(&a, &a, Options::new()), Comparison::Rises);
 ///
 /// // a server without FMA, bit 12 of 1.ECX; leaf 1 is the second entry of page 0

@@ -52,7 +52,7 @@ impl Bit {
 /// ```
 /// use snp_cpuid::{Bit, Options, Refusal, Register, build, nearest};
 ///
-/// let mut pages = std::fs::read("../tests/data/epyc-milan.pages").unwrap();
+/// let mut pages = std::fs::read("epyc-milan.pages").unwrap();
 /// // its first entry is of leaf 0, which is made here; the second, leaf 1, is in the table from bit 0 of EAX on
 /// assert_eq!(nearest(&pages, Options::new()), Ok(Bit { page: 0, entry: 1, register: Register::Eax, bit: 0 }));
 ///

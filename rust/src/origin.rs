@@ -9,7 +9,7 @@ use core::fmt;
 /// ```
 /// use snp_cpuid::{Options, Origin, build};
 ///
-/// let pages = std::fs::read("../tests/data/epyc-milan.pages").unwrap();
+/// let pages = std::fs::read("epyc-milan.pages").unwrap();
 /// let table = build(&pages, Options::new()).unwrap();
 /// for row in table.rows() {
 ///     println!("{:08X} {:?}: {}", row.leaf, row.subleaf, row.origin);
@@ -70,7 +70,7 @@ pub struct Found {
 /// use snp_cpuid::{Comparison, Options, Origin, compare, first_entry};
 ///
 /// // B has an empty page first, and Dh where it counts no longer
-/// let a = std::fs::read("../tests/data/epyc-milan.pages").unwrap();
+/// let a = std::fs::read("epyc-milan.pages").unwrap();
 /// let b = [&[0; 4096], &a[..]].concat();
 /// let Comparison::NoEntry { leaf: 0xD, subleaf: Some(0) } = compare(&a, &b, Options::new()) else { panic!() };
 /// assert_eq!(first_entry(&a, 0xD, 0), Ok(Some(Origin::Entry { page: 1, entry: 0 })));

@@ -35,7 +35,7 @@ pub struct NotPooled {
 /// ```
 /// use snp_cpuid::{NotPooled, Options, Refusal, build, pool};
 ///
-/// let a = std::fs::read("../tests/data/epyc-milan.pages").unwrap();
+/// let a = std::fs::read("epyc-milan.pages").unwrap();
 /// // a server without FMA, bit 12 of 1.ECX: leaf 1 is the second entry of page 0
 /// let mut b = a.clone();
 /// assert_eq!(b[64..68], 1u32.to_le_bytes());
@@ -101,7 +101,7 @@ pub fn write_pool_image(sets: &[impl AsRef<[u8]>], options: Options, out: &mut [
 /// use snp_cpuid::{Options, Origin, pool_lookup};
 ///
 /// // the same entries, but an empty page comes first, leaf Dh second, and all others last
-/// let a = std::fs::read("../tests/data/epyc-milan.pages").unwrap();
+/// let a = std::fs::read("epyc-milan.pages").unwrap();
 /// let b = [&[0; 4096], &a[4096..], &a[..4096]].concat();
 /// let origin = |sets: &[&[u8]]| pool_lookup(sets, Options::new(), 1, None, true).unwrap().origin;
 /// assert_eq!(origin(&[&a, &b]), Origin::Entry { page: 0, entry: 1 });

@@ -75,7 +75,7 @@ pub struct Row {
 /// ```
 /// use snp_cpuid::{Options, Processor, Table};
 ///
-/// let pages = std::fs::read("../tests/data/epyc-milan.pages").unwrap();
+/// let pages = std::fs::read("epyc-milan.pages").unwrap();
 /// let table = Table::build(&pages, Options::new()).unwrap();
 /// assert_eq!(table.row_count(), 29);
 ///
@@ -121,7 +121,7 @@ impl Table {
     /// ```
     /// use snp_cpuid::{Options, Refusal, Table};
     ///
-    /// let pages = std::fs::read("../tests/data/epyc-milan.pages").unwrap();
+    /// let pages = std::fs::read("epyc-milan.pages").unwrap();
     /// let mut table = Box::new(Table::new());
     /// table.rebuild(&pages, Options::new()).unwrap();
     /// assert_eq!(*table, Table::build(&pages, Options::new()).unwrap());
@@ -213,7 +213,7 @@ impl Table {
     /// ```
     /// use snp_cpuid::{Options, Register, Table, TableComparison};
     ///
-    /// let mut pages = std::fs::read("../tests/data/epyc-milan.pages").unwrap();
+    /// let mut pages = std::fs::read("epyc-milan.pages").unwrap();
     /// let running = Table::build(&pages, Options::new()).unwrap();
     /// assert_eq!(running.compare(&running), TableComparison::Rises);
     ///

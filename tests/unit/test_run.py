@@ -81,7 +81,7 @@ class Gate(unittest.TestCase):
 
     def test_tests_that_end_early_fail(self):
         status, lines = self.run_gate(gcc='kill -9 $PPID')
-        self.assertEqual((status, lines[-1]), (1, '25 passed, 1 failed'))
+        self.assertEqual((status, lines[-1]), (1, '26 passed, 1 failed'))
         self.assertIn('library: ended before its last test', lines)
 
 
