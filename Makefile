@@ -10,7 +10,7 @@
 # make bench-rust against the Rust too, with overflow checks and without; OPENVMM_CVM_CPUID names its folder (differential/README.md)
 #
 # SNP_CPUID_LIB=FOLDER takes libsnp_cpuid.a from there, and the Rattle kit is not needed: nothing is proved then.
-.PHONY: all command stage staged install uninstall libraries dist proved test bench bench-rust clean
+.PHONY: all command stage staged install uninstall libraries ring0 dist proved test bench bench-rust clean
 
 .DEFAULT_GOAL = all
 # the manual page does not depend on the width of a terminal
@@ -91,7 +91,8 @@ install: $(if $(call found,cargo),stage,staged)
 uninstall:
 	@for file in $(INSTALLED); do rm -f '$(DESTDIR)$(PREFIX)'/$$file || exit 1; done
 
-libraries: target/staticlib/libsnp_cpuid.a
+libraries ring0: target/staticlib/libsnp_cpuid.a
+	$(kit)@:
 
 dist: stage
 	@rm -rf target/dist && mkdir -p target/dist/$(ARCHIVE)/share/doc/snp-cpuid
