@@ -152,7 +152,16 @@ struct snp_cpuid_query {
  *
  * What builds, pools or reads a table writes both arrays whole, with zeros at places without a row. Where a caller's own memory has other numbers at
  * such a place of leaf Dh, the combined mask, 13 and 14 and the sizes of save areas are those of the registers as they stand, whether or not there is
- * a row; snp_cpuid_carry_table alone reads them as zeros. */
+ * a row; snp_cpuid_carry_table alone reads them as zeros.
+ *
+ * A refusal of building, pooling or of a guest's view, and bytes that are no image, leave a table without rows: every word is 0. The functions over a
+ * table do not know of that refusal, so keep its number. Of a table without rows
+ *   snp_cpuid_find and snp_cpuid_guest_find_kept find nothing
+ *   snp_cpuid_guest_find, snp_cpuid_state_of and snp_cpuid_become_guest give 13, whatever the state is; snp_cpuid_carry_table after 15 and 16
+ *   snp_cpuid_write_table_image gives number 0 and length 0, as its image has no bytes, and no bytes are read as its image
+ *   snp_cpuid_write_table_kvm writes 8 zero bytes, a list of no rows
+ *   snp_cpuid_counts_of gives 0 and 0
+ *   snp_cpuid_compare_tables gives 0 with itself; against a table that was built 3, leaf 0, and from one 1, leaf 0. */
 struct snp_cpuid_kept_table {
     uint32_t registers[352];
     uint64_t origins[88];
@@ -396,7 +405,7 @@ struct snp_cpuid_carried {
 SNP_CPUID_DECIDES struct snp_cpuid_carried snp_cpuid_carry_image(struct snp_cpuid_room image, struct snp_cpuid_editions editions,
                                                                  struct snp_cpuid_processor processor);
 
-/* Two servers by their CPUID pages: may a guest of `from` (A) move to `to` (B)? */
+/* Two servers by their CPUID pages: has `to` (B) at least what `from` (A) has? */
 struct snp_cpuid_pages_move {
     struct snp_cpuid_bytes from;
     struct snp_cpuid_bytes to;
@@ -404,7 +413,7 @@ struct snp_cpuid_pages_move {
 
 /* Of NO_ENTRY and DIFFERS it is the first by rising leaf, subleaf and register. */
 enum snp_cpuid_pages_answer {
-    SNP_CPUID_PAGES_RISE = 0,      /* yes: B's pages have what A's table has, and more only in feature bits */
+    SNP_CPUID_PAGES_RISE = 0,      /* B's pages have what A's table has, and more only in feature bits */
     SNP_CPUID_PAGES_A_REFUSED = 1, /* A itself is refused: number and its details say why */
     SNP_CPUID_PAGES_B_UNREAD = 2,  /* B's length (number 1), a count of its pages (2) or a reserved byte of an entry (17) is not lawful */
     SNP_CPUID_PAGES_NO_ENTRY = 3,  /* B has no entry for the leaf, and subleaf where the leaf has them, that A's table has */
@@ -422,7 +431,8 @@ struct snp_cpuid_compared {
  * which are made here. Registers are compared as masked, D.0.EAX with bits 0 and 1 set on both sides, whatever the edition. Feature registers of B
  * must have every bit of A's; D.0.ECX and all of B.0 and B.1 are left free; all else must be equal, bit 28 of 1.EDX too. An edition that is neither 1
  * nor 2 is answer 1 with number 15. After a yes, building B gives a table with every row of A's, at least A's bits in every feature register, a save
- * area no smaller and all else equal; or refuses it by 3, for a subleaf of leaf Dh that B's own further state needs, or by 5. */
+ * area no smaller and all else equal; or refuses it by 3, for a subleaf of leaf Dh that B's own further state needs, or by 5. So build B's table too
+ * before a guest of A moves there. */
 SNP_CPUID_DECIDES struct snp_cpuid_compared snp_cpuid_compare_pages(struct snp_cpuid_pages_move move, struct snp_cpuid_options options);
 
 /* Where the first entry for a leaf stands: number 0 with found 1, its page and its position on the page, both counted from 0, or with found 0 and

@@ -102,6 +102,27 @@ static void read_back(size_t room) {
     SAME(line_read, E(is_line) && REFUSAL, snp_cpuid_read_refusal(said), snp_cpuid_read_line(said.at, said.length));
 }
 
+/* What the header says of a table without rows. */
+static void without_rows(struct snp_cpuid_processor p, struct snp_cpuid_query q) {
+    static struct snp_cpuid_kept_table empty;
+    struct snp_cpuid_state state = snp_cpuid_state_of(&empty, p);
+    struct snp_cpuid_move own = {&empty, &empty}, to = {&table, &empty}, from = {&empty, &table};
+    struct snp_cpuid_room out = {lent[0], ROOM};
+    struct snp_cpuid_bytes none = {NULL, 0};
+    made[0] = made[1] = empty;
+    same(!snp_cpuid_find(&empty, q).found && !snp_cpuid_guest_find_kept(&empty, p, state, q).found, "nothing is found");
+    same(state.number == 13 && snp_cpuid_guest_find(&empty, p, q).number == 13 && snp_cpuid_become_guest(&made[0], p).number == 13, "13");
+    same(snp_cpuid_carry_table(&made[1], (struct snp_cpuid_editions){1, 2}, p) == 13, "carried: 13");
+    same(snp_cpuid_carry_table(&made[1], (struct snp_cpuid_editions){2, 1}, p) == 16, "carried back: 16");
+    struct snp_cpuid_written image = snp_cpuid_write_table_image(&empty, out), list = snp_cpuid_write_table_kvm(&empty, out);
+    same(!image.number && !image.length && !list.number && list.length == 8 && !memcmp(lent[0], "\0\0\0\0\0\0\0", 8), "no bytes, and no rows");
+    same(snp_cpuid_read_image_into(&made[0], none).is_image == 1 && !memcmp(&made[0], &empty, sizeof empty), "no bytes are its image");
+    same(!snp_cpuid_counts_of(&empty).row_count && !snp_cpuid_counts_of(&empty).max_extended_state, "no counts");
+    same(snp_cpuid_compare_tables(own).answer == SNP_CPUID_TABLE_RISES, "as itself");
+    same(snp_cpuid_compare_tables(from).answer == SNP_CPUID_TABLE_BEYOND && !snp_cpuid_compare_tables(from).leaf, "to a built one");
+    same(snp_cpuid_compare_tables(to).answer == SNP_CPUID_TABLE_NO_ROW && !snp_cpuid_compare_tables(to).leaf, "from a built one");
+}
+
 int main(int count, char **words) {
     FILE *in = count == 2 ? fopen(words[1], "rb") : NULL;
     if (!in || fread(shipped, 1, sizeof shipped, in) != sizeof shipped) {
@@ -141,6 +162,7 @@ int main(int count, char **words) {
     same(yes.answer == SNP_CPUID_TABLE_RISES, "a server with FMA");
     same(snp_cpuid_find(&table, queries[0]).origin == SNP_CPUID_AN_ENTRY, "the origin of D.1");
     same(snp_cpuid_find(&table, queries[4]).origin == SNP_CPUID_MADE_HERE, "the origin of B.1");
+    without_rows(processors[0], queries[0]);
     SAME(counts, COUNTS, snp_cpuid_counts_of(&other), snp_cpuid_table_counts(ARRAYS(other)));
     printf("%u answers of the header's calls are the raw functions', %u are not\n", compared - different, different);
     return different != 0;
