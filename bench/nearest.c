@@ -1,5 +1,6 @@
 /* The nearest bit of each page file that is named, and building it, in one process, in turns: a line for each with the file's name, the median in ns
  * of snp_cpuid_build and of snp_cpuid_nearest, and the answer. bench/nearest makes the files and runs it. */
+#define SNP_CPUID_RAW
 #include "../include/snp_cpuid.h"
 #include "timing.h"
 
@@ -31,7 +32,7 @@ int main(int argc, char **argv)
                 sink += snp_cpuid_nearest(pages, length, false, 1).page;
             nearest[i] = (now() - t) / CALLS;
         }
-        struct snp_cpuid_nearest a = snp_cpuid_nearest(pages, length, false, 1);
+        struct snp_cpuid_nearest_answer a = snp_cpuid_nearest(pages, length, false, 1);
         printf("%s\t%.0f\t%.0f\t", argv[k], median(build), median(nearest));
         if (a.number)
             printf("refusal %u\n", (unsigned)a.number);
