@@ -2,7 +2,7 @@
 #                 proved, and at the end the command does, with names; a line for each proved crate says how many are left
 # make install    put the command, the header, the library with its pkg-config file, the manual page and the completions below PREFIX, in DESTDIR
 # make uninstall  remove exactly these files
-# make ring0      the library for ring 0, in target/ring0 (docs/EMBEDDING.md)
+# make libraries  the library, and beside it the one for ring 0, in target/staticlib (docs/EMBEDDING.md)
 # make dist       an archive of the same with the documents and a file of sums, tried out from an empty folder; the same bytes each time
 # make proved     print what is proved
 # make test       the whole gate: proofs from nothing, must-fail edits, programs, and the tests in tests/
@@ -12,7 +12,7 @@
 #
 # SNP_CPUID_LIB=FOLDER takes libsnp_cpuid.a from there, and the Rattle kit is not needed: nothing is proved then. It must be the library that was
 # proved at this commit, by its sha256 (install/library.sha256); SNP_CPUID_SUM=SUM takes the one with that sum, as one of other options of a compiler.
-.PHONY: all given-sum command stage staged install uninstall ring0 dist proved test bench bench-rust clean
+.PHONY: all given-sum command stage staged install uninstall libraries ring0 dist proved test bench bench-rust clean
 
 .DEFAULT_GOAL = all
 # the manual page does not depend on the width of a terminal
@@ -38,8 +38,8 @@ kit = $(if $(call found,rt),,$(error no Rattle kit: 'rt' is not on the PATH, so 
 cargo = $(if $(call found,cargo),,$(error no 'cargo', which builds the command: Rust 1.85 or newer, by rustup or of Debian 13; Debian 12's is too \
     old. From C, include/snp_cpuid.h and libsnp_cpuid.a are enough))
 
-# builds the library of the proved crates
-BUILD = install/library target/staticlib
+# builds both libraries of the proved crates
+BUILD = install/libraries
 
 ifdef SNP_CPUID_LIB
 LIBRARY = $(SNP_CPUID_LIB)/libsnp_cpuid.a
@@ -73,7 +73,8 @@ clean:
 	rm -rf target
 
 # the library for C and Rust, made again after an edit of any source, specification or proof; a folder is newer where a file of it went
-target/staticlib/libsnp_cpuid.a: crates.txt $(shell find crates/*/src crates/*/specs crates/*/proofs 2>/dev/null)
+target/staticlib/libsnp_cpuid.a: crates.txt $(shell find crates/*/src crates/*/specs crates/*/proofs 2>/dev/null) \
+    include/snp_cpuid.h install/libraries
 	$(kit)@install/in-memory install/prove 'snp_cpuid=$(BUILD)'
 
 # cargo tells what is to be built again
@@ -106,16 +107,20 @@ install: $(if $(call found,cargo),stage,staged)
 uninstall:
 	@for file in $(INSTALLED); do rm -f '$(DESTDIR)$(PREFIX)'/$$file || exit 1; done
 
-ring0: target/staticlib/libsnp_cpuid.a
-	$(kit)@install/ring0
+libraries ring0: target/staticlib/libsnp_cpuid.a
+	$(kit)@:
 
 dist: stage
 	@rm -rf target/dist && mkdir -p target/dist/$(ARCHIVE)/share/doc/snp-cpuid
 	@cp -r $(STAGE)/. install/README.md target/dist/$(ARCHIVE)
+	@mkdir target/dist/$(ARCHIVE)/lib/ring0
+	@cp $(dir $(LIBRARY))ring0/libsnp_cpuid.a target/dist/$(ARCHIVE)/lib/ring0
 	@cp $(DOCUMENTS) target/dist/$(ARCHIVE)/share/doc/snp-cpuid
 	@mkdir -p target/dist/$(ARCHIVE)/share/snp-cpuid/rust
 	@cp -r rust/Cargo.toml rust/build.rs rust/src target/dist/$(ARCHIVE)/share/snp-cpuid/rust
 	@rm -r target/dist/$(ARCHIVE)/share/snp-cpuid/rust/src/bin
+	@SNP_CPUID_LIB=$(dir $(LIBRARY)) install/crate target/crate > target/crate.log
+	@cp target/crate/*.crate target/dist/$(ARCHIVE)/share/snp-cpuid
 	@cp -r differential/replacement target/dist/$(ARCHIVE)/share/snp-cpuid/snp_cvm_cpuid
 	@cd target/dist/$(ARCHIVE) && find . -type f | sed 's,^\./,,' | LC_ALL=C sort | xargs sha256sum > ../SHA256SUMS && mv ../SHA256SUMS .
 	@chmod -R u=rwX,go=rX target/dist/$(ARCHIVE)

@@ -61,7 +61,7 @@ static struct input {
 /* two full pages with every state that a table can have: compared, not measured */
 static uint8_t *rich;
 
-static struct snp_cpuid_table table;
+static struct snp_cpuid_kept_table table;
 static struct snp_cpuid_state kept;
 static const struct snp_cpuid_processor CPU = {5, 7, 0x1800, true};
 
@@ -87,7 +87,7 @@ static void images(const struct maker *m, const struct input *in, int calls)
 
 static void builds(const struct maker *m, const struct input *in, int calls)
 {
-    struct snp_cpuid_table t;
+    struct snp_cpuid_kept_table t;
     for (int i = 0; i < calls; i++)
         sink += m->build(in->pages, in->length, false, EDITION, t.registers, t.origins).row_count + t.registers[0];
 }
@@ -176,7 +176,7 @@ static struct snp_cpuid_found row_of(struct snp_cpuid_guest_found g)
 static void compare_sets(const struct maker *m, const struct input *in, bool avic, uint32_t edition)
 {
     uint8_t a[ROOM] = {0}, b[ROOM] = {0};
-    struct snp_cpuid_table s, t;
+    struct snp_cpuid_kept_table s, t;
     struct snp_cpuid_written v = snp_cpuid_write_image(in->pages, in->length, avic, edition, a, ROOM);
     struct snp_cpuid_written w = m->write_image(in->pages, in->length, avic, edition, b, ROOM);
     if (v.number != w.number || v.leaf != w.leaf || v.has_subleaf != w.has_subleaf || v.subleaf != w.subleaf || v.s != w.s ||

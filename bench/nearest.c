@@ -3,6 +3,7 @@
  *   nearest time FILE ..     in one process, in turns: of each file a line with the medians in ns of snp_cpuid_build and of snp_cpuid_nearest, and
  *                            the answer, with tabs between
  *   nearest count FILE ..    one call of each, for counts of their instructions: two lines a file */
+#define SNP_CPUID_RAW
 #include "../include/snp_cpuid.h"
 #include "timing.h"
 
@@ -41,7 +42,7 @@ static void measure(void)
         builds[i] = ns(build);
         searches[i] = ns(nearest);
     }
-    struct snp_cpuid_nearest a = snp_cpuid_nearest(pages, length, false, 1);
+    struct snp_cpuid_nearest_answer a = snp_cpuid_nearest(pages, length, false, 1);
     printf("%.0f\t%.0f\t", median(builds), median(searches));
     if (a.number)
         printf("refusal %u\n", (unsigned)a.number);

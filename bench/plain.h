@@ -1,5 +1,6 @@
 /* The plain C version: the same functions with the same parameters and answers as the port's, over the same memory (include/snp_cpuid.h). bench/run
  * compiles it once for each compiler and gives the functions the compiler's name. */
+#define SNP_CPUID_RAW
 #include "../include/snp_cpuid.h"
 
 typedef struct snp_cpuid_written write_image_function(const uint8_t *pages, size_t length, bool secure_avic, uint32_t edition, uint8_t *out,

@@ -21,8 +21,11 @@ struct Guest {
 }
 
 impl Guest {
-    fn new(registers: &Registers, origins: &Origins, processor: Processor, size: u32) -> Guest {
-        Guest { table: Table::from(exports::Table { registers: *registers, origins: *origins }), processor, state: State { size } }
+    /// A state that the table refuses is asked of `guest_row` alone; then the state kept is that of a processor that starts.
+    fn new(registers: &Registers, origins: &Origins, processor: Processor) -> Guest {
+        let table = Table::from(exports::Table { registers: *registers, origins: *origins });
+        let state = table.state(processor.xcr0, processor.xss).or(table.state(1, 0)).expect("a built table has the x87 state");
+        Guest { table, processor, state }
     }
 }
 
@@ -40,10 +43,10 @@ pub extern "C" fn crate_questions(
     xcr0: u64,
     xss: u64,
     osxsave: bool,
-    size: u32,
+    _size: u32,
     exits: &Exits,
 ) -> *const Questions {
-    let guest = Guest::new(registers, origins, Processor { x2apic, xcr0, xss, osxsave }, size);
+    let guest = Guest::new(registers, origins, Processor::new(x2apic).xcr0(xcr0).xss(xss).osxsave(osxsave));
     Box::into_raw(Box::new(Questions { guest, exits: *exits }))
 }
 
@@ -173,7 +176,7 @@ pub extern "C" fn crate_table_guest_find(
     subleaf: u32,
     enforce_subleaf: bool,
 ) -> exports::GuestFound {
-    let guest = Guest::new(registers, origins, Processor { x2apic, xcr0, xss, osxsave }, 0);
+    let guest = Guest::new(registers, origins, Processor::new(x2apic).xcr0(xcr0).xss(xss).osxsave(osxsave));
     match guest.table.guest_row(guest.processor, leaf, has_subleaf.then_some(subleaf), enforce_subleaf) {
         Ok(answer) => {
             let exports::Found { found, eax, ebx, ecx, edx, origin, page, entry } = row(answer);
@@ -191,12 +194,12 @@ pub extern "C" fn crate_table_guest_find_kept(
     xcr0: u64,
     xss: u64,
     osxsave: bool,
-    size: u32,
+    _size: u32,
     leaf: u32,
     has_subleaf: bool,
     subleaf: u32,
     enforce_subleaf: bool,
 ) -> exports::Found {
-    let guest = Guest::new(registers, origins, Processor { x2apic, xcr0, xss, osxsave }, size);
+    let guest = Guest::new(registers, origins, Processor::new(x2apic).xcr0(xcr0).xss(xss).osxsave(osxsave));
     row(guest.table.guest_row_kept(guest.processor, guest.state, leaf, has_subleaf.then_some(subleaf), enforce_subleaf))
 }

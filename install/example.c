@@ -9,20 +9,21 @@
 
 int main(int count, char **words) {
     static uint8_t pages[16 * 4096];
+    static struct snp_cpuid_kept_table table;
     FILE *file = count == 2 ? fopen(words[1], "rb") : NULL;
     if (!file) {
         fprintf(stderr, "usage: example PAGES\n");
         return 2;
     }
-    size_t length = fread(pages, 1, sizeof pages, file);
+    struct snp_cpuid_bytes read = {pages, fread(pages, 1, sizeof pages, file)};
     fclose(file);
-    /* secure AVIC off, edition 1 of the AVX rule */
-    struct snp_cpuid_built built = snp_cpuid_build(pages, length, false, 1);
+    struct snp_cpuid_options options = {.secure_avic = false, .edition = 1};
+    struct snp_cpuid_built built = snp_cpuid_build_into(&table, read, options);
     if (built.number) {
         printf("refusal %" PRIu32 "\n", built.number);
         return 1;
     }
-    struct snp_cpuid_found row = snp_cpuid_lookup(pages, length, false, 1, 0x8000001F, false, 0, true);
-    printf("%" PRIu64 " rows, 8000001F.EAX %08" PRIX32 "\n", built.row_count, row.eax);
+    struct snp_cpuid_query query = {.leaf = 0x8000001F};
+    printf("%" PRIu64 " rows, 8000001F.EAX %08" PRIX32 "\n", built.row_count, snp_cpuid_find(&table, query).eax);
     return 0;
 }

@@ -1,5 +1,6 @@
 //! Links the proved static library. `SNP_CPUID_LIB` names a folder that has libsnp_cpuid.a; without it the repository's own is taken, and `make`
-//! proves and builds it where it is not there yet, or older than a source, a specification or a proof.
+//! proves and builds it where it is not there yet, or older than a source, a specification or a proof. For a target without an operating system it is
+//! the library for ring 0, in the folder ring0 beside it. The package of a registry (install/crate) has the library as assembly, and needs none.
 
 use std::path::{Path, PathBuf};
 use std::process::{Command, exit};
@@ -23,6 +24,13 @@ fn make(repository: &Path, library: &str) {
 
 fn main() {
     println!("cargo::rerun-if-env-changed=SNP_CPUID_LIB");
+    println!("cargo::rustc-check-cfg=cfg(snp_cpuid_assembly)");
+    let assembly = Path::new(env!("CARGO_MANIFEST_DIR")).join("snp_cpuid.s");
+    if std::env::var_os("SNP_CPUID_LIB").is_none() && assembly.exists() {
+        println!("cargo::rerun-if-changed={}", assembly.display());
+        println!("cargo::rustc-cfg=snp_cpuid_assembly");
+        return;
+    }
     let folder = match std::env::var_os("SNP_CPUID_LIB") {
         Some(given) => PathBuf::from(given),
         None => {
@@ -33,6 +41,8 @@ fn main() {
             repository.join("target/staticlib")
         }
     };
+    let bare = std::env::var("CARGO_CFG_TARGET_OS").is_ok_and(|system| system == "none");
+    let folder = if bare { folder.join("ring0") } else { folder };
     let library = folder.join("libsnp_cpuid.a");
     if !library.exists() {
         fail(format!("{} is not there", library.display()));

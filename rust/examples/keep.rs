@@ -15,14 +15,14 @@ struct Virtual<'a> {
 
 impl<'a> Virtual<'a> {
     fn start(table: &'a Table, x2apic: u32) -> Result<Virtual<'a>, Refusal> {
-        let processor = Processor { x2apic, xcr0: 1, xss: 0, osxsave: false };
+        let processor = Processor::new(x2apic);
         Ok(Virtual { table, processor, state: table.state(1, 0)? })
     }
 
     /// The guest switches states on: XSETBV, or a write to XSS. A refusal is a general-protection fault.
     fn set_states(&mut self, xcr0: u64, xss: u64) -> Result<(), Refusal> {
         self.state = self.table.state(xcr0, xss)?;
-        self.processor = Processor { xcr0, xss, osxsave: true, ..self.processor };
+        self.processor = self.processor.xcr0(xcr0).xss(xss).osxsave(true);
         Ok(())
     }
 

@@ -21,11 +21,15 @@ impl Table {
     /// [`Refusal::EditionBack`] from 2 to 1, then [`Refusal::StateBeyondTable`] and [`Refusal::CompactSizeTooLarge`], which a guest of this processor
     /// would have too.
     ///
+    /// # Errors
+    ///
+    /// [`Refusal::UnknownEdition`], [`Refusal::EditionBack`], [`Refusal::StateBeyondTable`] and [`Refusal::CompactSizeTooLarge`], in this order.
+    ///
     /// ```
     /// use snp_cpuid::{Options, Refusal, build};
     ///
     /// // a server without YMM state, bit 2 of D.0.EAX: D.0 is the first entry of page 1
-    /// let mut pages = std::fs::read("../tests/data/epyc-milan.pages").unwrap();
+    /// let mut pages = std::fs::read("epyc-milan.pages").unwrap();
     /// assert_eq!(pages[4096 + 16..][..8], [0xD, 0, 0, 0, 0, 0, 0, 0]);
     /// pages[4096 + 16 + 24] = 3;
     ///
@@ -47,6 +51,10 @@ impl Table {
     }
 
     /// The same in place. Where it refuses, the table is as it was.
+    ///
+    /// # Errors
+    ///
+    /// As [`Table::carry`]; the table is then as it was.
     pub fn carry_in_place(&mut self, from: u32, to: u32, xcr0: u64, xss: u64) -> Result<(), Refusal> {
         let (registers, origins) = self.arrays_mut();
         // SAFETY: the two arrays are the table's own, and the function writes the first and only reads the second
@@ -61,10 +69,14 @@ impl Table {
 /// otherwise: from edition 1 to 2 F16C, XOP and FMA4 are cleared where its own D.0.EAX lacks bit 2, and nothing else changes; rows that it lacks read
 /// as zeros. Where the answer is an error, the bytes are as they were.
 ///
+/// # Errors
+///
+/// [`NotCarried::NotAnImage`], or the refusals of [`Table::carry`]; the bytes are then as they were.
+///
 /// ```
 /// use snp_cpuid::{NotCarried, Options, Refusal, build, carry_image};
 ///
-/// let pages = std::fs::read("../tests/data/epyc-milan.pages").unwrap();
+/// let pages = std::fs::read("epyc-milan.pages").unwrap();
 /// let mut image = build(&pages, Options::new()).unwrap().image().to_vec();
 /// // where the YMM state is there, the editions are one
 /// assert_eq!(carry_image(&mut image, 1, 2, 7, 0x800), Ok(()));

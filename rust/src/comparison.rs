@@ -6,6 +6,7 @@ use core::fmt;
 
 /// Whether the pages of server B have at least what server A's table has, or the first thing in the way.
 #[derive(Clone, Copy, Debug, PartialEq, Eq, Hash)]
+#[must_use = "it says whether the guest may move"]
 #[non_exhaustive]
 pub enum Comparison {
     /// They have. Building B then gives a table with every row of A's, at least A's bits in every feature register, a save area no smaller and all
@@ -35,6 +36,7 @@ pub enum Comparison {
 
 /// Whether one table is at least another, or the first thing in the way: by rising leaf, subleaf and register.
 #[derive(Clone, Copy, Debug, PartialEq, Eq, Hash)]
+#[must_use = "it says whether the guest may move"]
 #[non_exhaustive]
 pub enum TableComparison {
     /// It has every row of the other, at least its feature bits, a save area no smaller and all else equal, and beyond it only subleaves of leaf Dh
@@ -67,7 +69,7 @@ pub enum TableComparison {
     MaskLacks,
 }
 
-/// One of the four registers of a CPUID result.
+/// One of the four registers of a CPUID result. There are no others, so a match may name all four.
 #[derive(Clone, Copy, Debug, PartialEq, Eq, Hash)]
 pub enum Register {
     /// EAX
@@ -114,6 +116,19 @@ impl TableComparison {
 }
 
 impl Register {
+    /// Its index among EAX, EBX, ECX and EDX, from 0.
+    ///
+    /// ```
+    /// use snp_cpuid::{CpuidResult, Register};
+    ///
+    /// let result = CpuidResult { eax: 1, ebx: 2, ecx: 3, edx: 4 };
+    /// assert_eq!(result.registers()[Register::Ecx.index()], 3);
+    /// ```
+    #[must_use]
+    pub const fn index(self) -> usize {
+        self as usize
+    }
+
     /// The register of an index from 0 to 3.
     pub(crate) fn from_index(index: u32) -> Register {
         match index {

@@ -5,7 +5,7 @@
 //! ```
 //! use snp_cpuid::{Options, Table, features};
 //!
-//! let pages = std::fs::read("../tests/data/epyc-milan.pages").unwrap();
+//! let pages = std::fs::read("epyc-milan.pages").unwrap();
 //! let table = Table::build(&pages, Options::new()).unwrap();
 //! // 7.0.EBX
 //! let found = features::find(0x7, Some(0), features::EBX).unwrap();
@@ -90,6 +90,7 @@ pub const FEATURES: [FeatureRegister; 13] = [
 ];
 
 /// The feature register at a row's register; none where that is no feature register.
+#[must_use]
 pub fn find(leaf: u32, subleaf: Option<u32>, register: usize) -> Option<&'static FeatureRegister> {
     FEATURES.iter().find(|f| (f.leaf, f.subleaf, f.register) == (leaf, subleaf, register))
 }
@@ -111,6 +112,7 @@ pub struct FeatureBit {
 
 impl FeatureRegister {
     /// The bits that are set in a value.
+    #[must_use]
     pub fn bits_of(&self, value: u32) -> impl Iterator<Item = FeatureBit> {
         let FeatureRegister { leaf, subleaf, register, bits } = *self;
         let set = bits.iter().filter(move |(bit, _)| value >> bit & 1 == 1);
@@ -118,6 +120,7 @@ impl FeatureRegister {
     }
 
     /// The names of the bits that are set in a value.
+    #[must_use]
     #[cfg(feature = "std")]
     pub fn names(&self, value: u64) -> Vec<&'static str> {
         self.bits.iter().filter(|(bit, _)| value >> bit & 1 == 1).map(|(_, name)| *name).collect()

@@ -56,6 +56,7 @@ pub struct NotAnImage;
 
 impl Table {
     /// Its image. It does not say where the rows came from.
+    #[must_use]
     pub fn image(&self) -> Image {
         let mut image = Image { bytes: [0; ANY_IMAGE_BYTES], length: 0 };
         image.length = self.write_image(&mut image.bytes).expect("there is room for 88 rows");
@@ -64,6 +65,10 @@ impl Table {
 
     /// Writes its image to the front of `out` and gives its length. Where `out` is shorter it is as it was, and the answer is
     /// [`Refusal::BufferTooShort`]; bytes beyond the image are as they were. The image of a table without rows has no bytes.
+    ///
+    /// # Errors
+    ///
+    /// [`Refusal::BufferTooShort`]; `out` is then as it was.
     pub fn write_image(&self, out: &mut [u8]) -> Result<usize, Refusal> {
         let (registers, origins) = self.arrays();
         // SAFETY: the two arrays are the table's own and only read; the function writes within the slice whose pointer and length come last
@@ -74,6 +79,10 @@ impl Table {
     /// Writes it as `struct kvm_cpuid2` to the front of `out` and gives its length, as [`write_kvm`](crate::write_kvm) does of pages that
     /// are accepted. Where `out` is shorter it is as it was, and the answer is [`Refusal::BufferTooShort`]; bytes beyond the list are as they were.
     /// The list of a table without rows has 8 bytes.
+    ///
+    /// # Errors
+    ///
+    /// [`Refusal::BufferTooShort`]; `out` is then as it was.
     pub fn write_kvm(&self, out: &mut [u8]) -> Result<usize, Refusal> {
         let (registers, origins) = self.arrays();
         // SAFETY: the two arrays are the table's own and only read; the function writes within the slice whose pointer and length come last
@@ -88,7 +97,7 @@ impl Table {
 /// ```
 /// use snp_cpuid::{NotAnImage, Options, Origin, Table};
 ///
-/// let pages = std::fs::read("../tests/data/epyc-milan.pages").unwrap();
+/// let pages = std::fs::read("epyc-milan.pages").unwrap();
 /// let built = Table::build(&pages, Options::new()).unwrap();
 /// let image = built.image();
 /// let read = Table::try_from(&image[..]).unwrap();

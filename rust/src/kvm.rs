@@ -12,8 +12,12 @@ pub const KVM_PAGES_BYTES: usize = 2 * PAGE_BYTES;
 /// Builds the table of CPUID pages, writes it to the front of `out` as `struct kvm_cpuid2` and gives its length. Where it refuses, `out` is as it
 /// was; bytes beyond the list are as they were.
 ///
+/// # Errors
+///
+/// The refusal of building, then [`Refusal::BufferTooShort`].
+///
 /// ```
-/// let pages = std::fs::read("../tests/data/epyc-milan.pages").unwrap();
+/// let pages = std::fs::read("epyc-milan.pages").unwrap();
 /// let mut list = [0; snp_cpuid::MOST_KVM_BYTES];
 /// let length = snp_cpuid::write_kvm(&pages, snp_cpuid::Options::new(), &mut list).unwrap();
 /// // 29 rows: the count, then function 0 with index 0, flags 0 and the highest leaf
@@ -30,8 +34,12 @@ pub fn write_kvm(pages: &[u8], options: Options, out: &mut [u8]) -> Result<usize
 /// Reads a `struct kvm_cpuid2` into two pages at the front of `out`, leaf Dh on page 1 and all others on page 0, and gives their length. Where it
 /// refuses, `out` is as it was; bytes beyond the pages are as they were.
 ///
+/// # Errors
+///
+/// [`Refusal::ListLength`], [`Refusal::ListFields`], [`Refusal::ListRows`] and [`Refusal::BufferTooShort`], in this order.
+///
 /// ```
-/// let pages = std::fs::read("../tests/data/epyc-milan.pages").unwrap();
+/// let pages = std::fs::read("epyc-milan.pages").unwrap();
 /// let options = snp_cpuid::Options::new().edition(2);
 /// let mut list = [0; snp_cpuid::MOST_KVM_BYTES];
 /// let length = snp_cpuid::write_kvm(&pages, options, &mut list).unwrap();

@@ -1,7 +1,7 @@
 //! The CPUID table of an AMD SEV-SNP guest, over a library proved right for every input.
 //!
 //! ```
-//! let pages = std::fs::read("../tests/data/epyc-milan.pages").unwrap();
+//! let pages = std::fs::read("epyc-milan.pages").unwrap();
 //! let table = snp_cpuid::build(&pages, snp_cpuid::Options::new()).unwrap();
 //! // leaf 1, EDX bit 28: hyperthreading
 //! assert_eq!(table.row(1, None).unwrap().edx >> 28 & 1, 1);
@@ -26,6 +26,8 @@
 #![cfg_attr(not(feature = "std"), no_std)]
 
 mod answer;
+#[cfg(snp_cpuid_assembly)]
+mod assembly;
 mod carry;
 mod comparison;
 pub mod exports;
@@ -41,6 +43,7 @@ mod origin;
 mod places;
 mod pool;
 mod refusal;
+mod refusal_list;
 mod table;
 mod topologies;
 
@@ -79,12 +82,20 @@ pub const MOST_ROWS: usize = 32;
 pub const MOST_LINE_BYTES: usize = 22;
 
 /// Builds the table of CPUID pages that stand end to end, as [`Table::build`] does.
+///
+/// # Errors
+///
+/// The refusal of the pages, or of the edition.
 pub fn build(pages: &[u8], options: Options) -> Result<Table, Refusal> {
     Table::build(pages, options)
 }
 
 /// Writes the image of CPUID pages to the front of `out` and gives its length. Where it refuses, `out` is as it was; bytes beyond the image are as
 /// they were.
+///
+/// # Errors
+///
+/// The refusal of building, then [`Refusal::BufferTooShort`]; [`MOST_IMAGE_BYTES`] always suffice.
 pub fn write_image(pages: &[u8], options: Options, out: &mut [u8]) -> Result<usize, Refusal> {
     let Options { secure_avic, edition } = options;
     // SAFETY: both pointers and lengths are those of slices; the function reads the first and writes within the second
@@ -93,6 +104,7 @@ pub fn write_image(pages: &[u8], options: Options, out: &mut [u8]) -> Result<usi
 }
 
 /// Builds and looks one row up, both in the library. [`Table::lookup`] gives the same and builds once.
+#[must_use]
 pub fn lookup(pages: &[u8], options: Options, leaf: u32, subleaf: Option<u32>, enforce_subleaf: bool) -> Option<Found> {
     let Options { secure_avic, edition } = options;
     let (named, subleaf) = (subleaf.is_some(), subleaf.unwrap_or(0));
@@ -107,7 +119,7 @@ pub fn lookup(pages: &[u8], options: Options, leaf: u32, subleaf: Option<u32>, e
 /// ```
 /// use snp_cpuid::{Comparison, Options, Register, compare};
 ///
-/// let a = std::fs::read("../tests/data/epyc-milan.pages").unwrap();
+/// let a = std::fs::read("epyc-milan.pages").unwrap();
 /// assert_eq!(compare(&a, &a, Options::new()), Comparison::Rises);
 ///
 /// // a server without FMA, bit 12 of 1.ECX; leaf 1 is the second entry of page 0

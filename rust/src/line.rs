@@ -31,6 +31,7 @@ impl Refusal {
     /// // small letters, leading zeros and bytes beyond the newline are no line
     /// assert_eq!("3 0000000d 12\n".parse::<Refusal>(), Err(NoSuchLine));
     /// ```
+    #[must_use]
     #[cfg(feature = "std")]
     pub fn line(&self) -> String {
         let mut out = [0; MOST_LINE_BYTES];
@@ -40,6 +41,10 @@ impl Refusal {
 
     /// Writes its line to the front of `out` and gives its length, at most [`MOST_LINE_BYTES`](crate::MOST_LINE_BYTES). Where `out` is shorter it is
     /// as it was, and the answer is [`Refusal::BufferTooShort`]; bytes beyond the line are as they were.
+    ///
+    /// # Errors
+    ///
+    /// [`Refusal::BufferTooShort`]; [`MOST_LINE_BYTES`](crate::MOST_LINE_BYTES) always suffice.
     pub fn write_line(&self, out: &mut [u8]) -> Result<usize, Refusal> {
         let (number, details) = (self.number(), self.details());
         let (has_subleaf, subleaf) = (details.subleaf.is_some(), details.subleaf.unwrap_or(0));
@@ -51,6 +56,10 @@ impl Refusal {
     }
 
     /// The refusal whose line these bytes are, the whole of them.
+    ///
+    /// # Errors
+    ///
+    /// [`NoSuchLine`] where the bytes are not the whole of a line.
     pub fn from_line(line: &[u8]) -> Result<Refusal, NoSuchLine> {
         // SAFETY: the pointer and length are those of a slice, which the function only reads
         let read = unsafe { exports::snp_cpuid_read_line(line.as_ptr(), line.len()) };

@@ -18,6 +18,7 @@ pub struct Bit {
 
 impl Bit {
     /// Where the entry begins in its page set.
+    #[must_use]
     pub fn entry_start(&self) -> usize {
         PAGE_BYTES * self.page + 16 + 48 * self.entry
     }
@@ -27,6 +28,10 @@ impl Bit {
     /// # Panics
     ///
     /// Where the pages end before the bit, which is then none of theirs.
+    ///
+    /// # Panics
+    ///
+    /// Where the pages do not have the bit.
     pub fn flip(&self, pages: &mut [u8]) {
         // EAX at 24 of the entry, EBX at 28, ECX at 32, EDX at 36, little-endian
         pages[self.entry_start() + 24 + 4 * self.register as usize + self.bit as usize / 8] ^= 1 << (self.bit % 8);
@@ -39,10 +44,15 @@ impl Bit {
 /// [`Refusal::UnknownEdition`] comes first, then 1, 2 and 17 as [`build`] has them; then [`Refusal::NothingDecides`] where no flip changes anything,
 /// which is so exactly where building gives 3 for a leaf that every table has.
 ///
+/// # Errors
+///
+/// [`Refusal::UnknownEdition`], [`Refusal::PagesLength`], [`Refusal::PageCount`], [`Refusal::ReservedBytes`] and [`Refusal::NothingDecides`],
+/// in this order.
+///
 /// ```
 /// use snp_cpuid::{Bit, Options, Refusal, Register, build, nearest};
 ///
-/// let mut pages = std::fs::read("../tests/data/epyc-milan.pages").unwrap();
+/// let mut pages = std::fs::read("epyc-milan.pages").unwrap();
 /// // its first entry is of leaf 0, which is made here; the second, leaf 1, is in the table from bit 0 of EAX on
 /// assert_eq!(nearest(&pages, Options::new()), Ok(Bit { page: 0, entry: 1, register: Register::Eax, bit: 0 }));
 ///

@@ -10,7 +10,7 @@
 /// use snp_cpuid::{Options, Refusal, build};
 ///
 /// // a server without YMM state: D.0 is the first entry of page 1
-/// let mut pages = std::fs::read("../tests/data/epyc-milan.pages").unwrap();
+/// let mut pages = std::fs::read("epyc-milan.pages").unwrap();
 /// assert_eq!(pages[4096 + 16..][..8], [0xD, 0, 0, 0, 0, 0, 0, 0]);
 /// pages[4096 + 16 + 24] = 3;
 ///

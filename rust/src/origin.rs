@@ -9,7 +9,7 @@ use core::fmt;
 /// ```
 /// use snp_cpuid::{Options, Origin, build};
 ///
-/// let pages = std::fs::read("../tests/data/epyc-milan.pages").unwrap();
+/// let pages = std::fs::read("epyc-milan.pages").unwrap();
 /// let table = build(&pages, Options::new()).unwrap();
 /// for row in table.rows() {
 ///     println!("{:08X} {:?}: {}", row.leaf, row.subleaf, row.origin);
@@ -62,11 +62,15 @@ pub struct Found {
 /// Whether the pages give a table does not matter, so after a [`Comparison`](crate::Comparison) that names a leaf this tells which entries of the two
 /// servers differ. Entries of leaf Dh count on page 1 alone. Pages are refused by 1, 2 and 17.
 ///
+/// # Errors
+///
+/// [`Refusal::PagesLength`], [`Refusal::PageCount`] and [`Refusal::ReservedBytes`].
+///
 /// ```
 /// use snp_cpuid::{Comparison, Options, Origin, compare, first_entry};
 ///
 /// // B has an empty page first, and Dh where it counts no longer
-/// let a = std::fs::read("../tests/data/epyc-milan.pages").unwrap();
+/// let a = std::fs::read("epyc-milan.pages").unwrap();
 /// let b = [&[0; 4096], &a[..]].concat();
 /// let Comparison::NoEntry { leaf: 0xD, subleaf: Some(0) } = compare(&a, &b, Options::new()) else { panic!() };
 /// assert_eq!(first_entry(&a, 0xD, 0), Ok(Some(Origin::Entry { page: 1, entry: 0 })));

@@ -28,10 +28,14 @@ pub struct NotPooled {
 ///
 /// [`Table::pool`] is the same without the copy that puts the page sets end to end.
 ///
+/// # Errors
+///
+/// [`NotPooled`]: the refusal of the pool, or of one of its servers.
+///
 /// ```
 /// use snp_cpuid::{NotPooled, Options, Refusal, build, pool};
 ///
-/// let a = std::fs::read("../tests/data/epyc-milan.pages").unwrap();
+/// let a = std::fs::read("epyc-milan.pages").unwrap();
 /// // a server without FMA, bit 12 of 1.ECX: leaf 1 is the second entry of page 0
 /// let mut b = a.clone();
 /// assert_eq!(b[64..68], 1u32.to_le_bytes());
@@ -57,6 +61,10 @@ pub fn pool(sets: &[impl AsRef<[u8]>], options: Options) -> Result<Table, NotPoo
 
 impl Table {
     /// The table of a pool, as `pool` gives it, of page sets that stand end to end in `pages`, with the bytes of each in `lengths`.
+    ///
+    /// # Errors
+    ///
+    /// [`NotPooled`]: the refusal of the pool, or of one of its servers.
     pub fn pool(pages: &[u8], lengths: &[u64], options: Options) -> Result<Table, NotPooled> {
         let Options { secure_avic, edition } = options;
         let mut made = Made::new();
@@ -78,6 +86,10 @@ impl Table {
 
 /// Writes the image of the pool's table to the front of `out` and gives its length. Where it refuses, `out` is as it was; bytes beyond the image are
 /// as they were. [`Refusal::BufferTooShort`] comes last.
+///
+/// # Errors
+///
+/// The refusal of the pool or of one of its servers, then [`Refusal::BufferTooShort`].
 #[cfg(feature = "std")]
 pub fn write_pool_image(sets: &[impl AsRef<[u8]>], options: Options, out: &mut [u8]) -> Result<usize, Refusal> {
     Joined::of(sets).write_image(options, out)
@@ -89,12 +101,13 @@ pub fn write_pool_image(sets: &[impl AsRef<[u8]>], options: Options, out: &mut [
 /// use snp_cpuid::{Options, Origin, pool_lookup};
 ///
 /// // the same entries, but an empty page comes first, leaf Dh second, and all others last
-/// let a = std::fs::read("../tests/data/epyc-milan.pages").unwrap();
+/// let a = std::fs::read("epyc-milan.pages").unwrap();
 /// let b = [&[0; 4096], &a[4096..], &a[..4096]].concat();
 /// let origin = |sets: &[&[u8]]| pool_lookup(sets, Options::new(), 1, None, true).unwrap().origin;
 /// assert_eq!(origin(&[&a, &b]), Origin::Entry { page: 0, entry: 1 });
 /// assert_eq!(origin(&[&b, &a]), Origin::Entry { page: 2, entry: 1 });
 /// ```
+#[must_use]
 #[cfg(feature = "std")]
 pub fn pool_lookup(sets: &[impl AsRef<[u8]>], options: Options, leaf: u32, subleaf: Option<u32>, enforce_subleaf: bool) -> Option<Found> {
     Joined::of(sets).lookup(options, leaf, subleaf, enforce_subleaf)

@@ -1,5 +1,6 @@
 //! The refusals, by the names that OpenHCL's `cvm_cpuid` gives the ones that it has.
 
+use crate::refusal_list::LIST;
 use core::error::Error;
 use core::fmt::{self, Formatter};
 
@@ -48,8 +49,9 @@ pub enum Refusal {
     NothingDecides,
 }
 
-/// How the topology leaves disagree. The number is s, bits 12 to 15 of 80000008h.ECX: the size of the APIC core id.
+/// How the topology leaves disagree, in words without the refusal's own. The number is s, bits 12 to 15 of 80000008h.ECX: the size of the APIC core id.
 #[derive(Clone, Copy, Debug, PartialEq, Eq, Hash)]
+#[non_exhaustive]
 pub enum TopologyError {
     /// 6: the processor count against the hyperthreading flag, bit 28 of 1.EDX.
     Hyperthreading(u8),
@@ -70,128 +72,69 @@ pub struct Details {
     pub s: u8,
 }
 
-/// One refusal of the table: its number, its name with what it names, and its words.
-struct Line {
-    number: u32,
-    name: fn(Details) -> Refusal,
-    words: fn(Details, &mut Formatter<'_>) -> fmt::Result,
+/// One refusal of the list: its number, its name with what it names, and its messages, of which the first that fits is said.
+pub(crate) struct Line {
+    pub(crate) number: u32,
+    pub(crate) name: fn(Details) -> Refusal,
+    pub(crate) says: &'static [(When, &'static str)],
 }
 
-/// The refusals. `snp_cpuid_message` of include/snp_cpuid.h has the same words.
-const TABLE: &[Line] = &[
-    Line { number: 1, name: |_| Refusal::PagesLength, words: |_, f| f.write_str("the CPUID pages must be one or more whole pages of 4,096 bytes") },
-    Line {
-        number: 2,
-        name: |_| Refusal::PageCount,
-        words: |_, f| f.write_str("a CPUID page counts more than 64 entries: the page is damaged or no CPUID page"),
-    },
-    Line {
-        number: 3,
-        name: |d| Refusal::MissingRequiredResult(d.leaf, d.subleaf),
-        words: |d, f| match (d.leaf, d.subleaf) {
-            (leaf, None) => write!(f, "no entry for leaf {leaf:X}h, which every guest needs"),
-            (0xD, Some(subleaf)) => write!(f, "no entry for leaf Dh subleaf {subleaf:X}h on page 1, where the entries of Dh must stand"),
-            (leaf, Some(subleaf)) => write!(f, "no entry for leaf {leaf:X}h subleaf {subleaf:X}h, which every guest needs"),
-        },
-    },
-    Line { number: 4, name: |_| Refusal::InvlpgbUnavailable, words: |_, f| f.write_str("INVLPGB (80000008h.EBX bit 3) is required but unavailable") },
-    Line {
-        number: 5,
-        name: |_| Refusal::SaveAreaOverflow,
-        words: |_, f| f.write_str("the size of an extended state (Dh: EAX + EBX of a subleaf) does not fit 32 bits"),
-    },
-    Line {
-        number: 6,
-        name: |d| Refusal::TopologyInconsistent(TopologyError::Hyperthreading(d.s)),
-        words: |d, f| write!(f, "the processor count does not go with the hyperthreading flag, 1.EDX bit 28 (APIC core id size {})", d.s),
-    },
-    Line {
-        number: 7,
-        name: |d| Refusal::TopologyInconsistent(TopologyError::ProcessorCount(d.s)),
-        words: |d, f| match d.s {
-            0 => f.write_str("1.EBX bits 16-23 must be 80000008h.ECX bits 0-7 plus 1 (APIC core id size 0)"),
-            s @ 1..8 => {
-                write!(f, "1.EBX bits 16-23 must be 2^{s} = {}, and 80000008h.ECX bits 0-7 plus 1 no more (APIC core id size {s})", 1 << s)
-            }
-            s => write!(f, "the processor counts of 1.EBX and 80000008h.ECX disagree (APIC core id size {s})"),
-        },
-    },
-    Line {
-        number: 8,
-        name: |_| Refusal::TopologyInconsistent(TopologyError::ThreadsPerUnit),
-        words: |_, f| f.write_str("8000001Eh.EBX gives more threads per unit than there can be"),
-    },
-    Line {
-        number: 9,
-        name: |_| Refusal::BufferTooShort,
-        words: |_, f| {
-            let (image, list, pages) = (crate::MOST_IMAGE_BYTES, crate::MOST_KVM_BYTES, crate::KVM_PAGES_BYTES);
-            write!(
-                f,
-                "the buffer is too short: {image} bytes suffice for a built table's image, {list} for its list for KVM, {pages} for a list's pages"
-            )
-        },
-    },
-    Line {
-        number: 10,
-        name: |_| Refusal::ListLength,
-        words: |_, f| f.write_str("the list for KVM must have 8 bytes and 40 for each row that it counts"),
-    },
-    Line {
-        number: 11,
-        name: |_| Refusal::ListRows,
-        words: |_, f| f.write_str("the list for KVM has more rows of leaf Dh, or of all others, than the 64 of a page"),
-    },
-    Line {
-        number: 12,
-        name: |_| Refusal::ListFields,
-        words: |_, f| f.write_str("the list for KVM has a flag other than 0 or 1, or a word that must be zero is not"),
-    },
-    Line {
-        number: 13,
-        name: |_| Refusal::StateBeyondTable,
-        words: |_, f| f.write_str("XCR0 lacks bit 0 (x87) or has a bit that D.0.EAX lacks, or XSS has a bit that D.1.ECX lacks"),
-    },
-    Line {
-        number: 14,
-        name: |_| Refusal::CompactSizeTooLarge,
-        words: |_, f| f.write_str("the size of the compacted save area of XCR0 and XSS (D.1.EBX) does not fit 32 bits"),
-    },
-    Line { number: 15, name: |_| Refusal::UnknownEdition, words: |_, f| f.write_str("the AVX rule has no such edition: it has editions 1 and 2") },
-    Line {
-        number: 16,
-        name: |_| Refusal::EditionBack,
-        words: |_, f| f.write_str("a table does not go from edition 2 of the AVX rule back to edition 1"),
-    },
-    Line {
-        number: 17,
-        name: |d| Refusal::ReservedBytes { leaf: d.leaf },
-        words: |d, f| write!(f, "an entry for leaf {:X}h has a reserved byte, one of its last eight, that is not zero", d.leaf),
-    },
-    Line {
-        number: 18,
-        name: |_| Refusal::PoolSets,
-        words: |_, f| f.write_str("a pool has 2 to 16 page sets, and their lengths sum to the bytes handed over"),
-    },
-    Line {
-        number: 19,
-        name: |_| Refusal::PoolDiffers,
-        words: |_, f| {
-            f.write_str(
-                "the servers of the pool differ, in a row that all their tables have, elsewhere than in feature bits or the size of the save area",
-            )
-        },
-    },
-    Line { number: 20, name: |_| Refusal::NothingDecides, words: |_, f| f.write_str("no single bit of the results decides over the answer") },
-];
+/// Where a message fits.
+pub(crate) enum When {
+    Always,
+    NoSubleaf,
+    Leaf(u32),
+    Is(u8),
+    Below(u8),
+}
+
+impl When {
+    fn holds(&self, d: Details) -> bool {
+        match *self {
+            When::Always => true,
+            When::NoSubleaf => d.subleaf.is_none(),
+            When::Leaf(leaf) => d.leaf == leaf,
+            When::Is(s) => d.s == s,
+            When::Below(s) => d.s < s,
+        }
+    }
+}
+
+/// What the messages of an inconsistent topology begin with, before the cause.
+const TOPOLOGY: &str = "the topology leaves disagree: ";
+
+/// Writes a message: `%l` stands for the leaf and `%c` for the subleaf, both in hexadecimal, `%s` for s and `%p` for 2 to the power of s.
+fn write_message(mut text: &str, d: Details, f: &mut Formatter<'_>) -> fmt::Result {
+    while let Some((before, after)) = text.split_once('%') {
+        f.write_str(before)?;
+        match after.as_bytes()[0] {
+            b'l' => write!(f, "{:X}", d.leaf)?,
+            b'c' => write!(f, "{:X}", d.subleaf.unwrap_or(0))?,
+            b's' => write!(f, "{}", d.s)?,
+            _ => write!(f, "{}", 1u32 << d.s)?,
+        }
+        text = &after[1..];
+    }
+    f.write_str(text)
+}
 
 impl Refusal {
     /// Its number.
+    ///
+    /// ```
+    /// use snp_cpuid::{Refusal, TopologyError};
+    ///
+    /// let refusal = Refusal::TopologyInconsistent(TopologyError::ThreadsPerUnit);
+    /// assert_eq!(refusal.number(), 8);
+    /// assert_eq!(refusal.to_string(), "the topology leaves disagree: 8000001Eh.EBX gives more threads per unit than there can be");
+    /// ```
+    #[must_use]
     pub fn number(&self) -> u32 {
         self.row().number
     }
 
     /// What it names beside its number.
+    #[must_use]
     pub fn details(&self) -> Details {
         match *self {
             Refusal::MissingRequiredResult(leaf, subleaf) => Details { leaf, subleaf, ..Details::default() },
@@ -222,44 +165,39 @@ impl Refusal {
         Refusal::named(number, details).unwrap_or_else(|| unreachable!("answer {number}"))
     }
 
-    /// The refusal of a number, if the table has it.
+    /// The refusal of a number, if the list has it.
     pub(crate) fn named(number: u32, details: Details) -> Option<Refusal> {
-        TABLE.iter().find(|line| line.number == number).map(|line| (line.name)(details))
+        LIST.iter().find(|line| line.number == number).map(|line| (line.name)(details))
     }
 
-    /// Its row of the table: the one whose name with its details it is.
+    /// Its row of the list: the one whose name with its details it is.
     fn row(&self) -> &'static Line {
-        TABLE.iter().find(|line| (line.name)(self.details()) == *self).expect("every refusal stands in the table")
+        LIST.iter().find(|line| (line.name)(self.details()) == *self).expect("every refusal stands in the list")
     }
 
-    fn words(&self, f: &mut Formatter<'_>) -> fmt::Result {
-        (self.row().words)(self.details(), f)
+    /// Its message, with the marks that stand for its details.
+    fn text(&self) -> &'static str {
+        let (_, text) = self.row().says.iter().find(|(when, _)| when.holds(self.details())).expect("the last message always fits");
+        text
     }
 }
 
+/// The whole message, with the cause of an inconsistent topology; so the cause is no `source`.
 impl fmt::Display for Refusal {
     fn fmt(&self, f: &mut Formatter<'_>) -> fmt::Result {
-        match self {
-            Refusal::TopologyInconsistent(why) => write!(f, "the topology leaves disagree: {why}"),
-            _ => self.words(f),
-        }
+        write_message(self.text(), self.details(), f)
     }
 }
 
 impl fmt::Display for TopologyError {
     fn fmt(&self, f: &mut Formatter<'_>) -> fmt::Result {
-        Refusal::TopologyInconsistent(*self).words(f)
+        let whole = Refusal::TopologyInconsistent(*self);
+        let text = whole.text();
+        write_message(text.strip_prefix(TOPOLOGY).unwrap_or(text), whole.details(), f)
     }
 }
 
-impl Error for Refusal {
-    fn source(&self) -> Option<&(dyn Error + 'static)> {
-        match self {
-            Refusal::TopologyInconsistent(why) => Some(why),
-            _ => None,
-        }
-    }
-}
+impl Error for Refusal {}
 
 impl Error for TopologyError {}
 
@@ -297,6 +235,22 @@ mod tests {
         ] {
             assert_eq!((refusal.number(), refusal.details()), (number, named));
             assert_eq!(Refusal::of(number, named), refusal);
+        }
+    }
+
+    #[test]
+    fn a_cause_is_printed_once() {
+        let cause = TopologyError::ProcessorCount(3);
+        let refusal = Refusal::TopologyInconsistent(cause);
+        assert_eq!(refusal.to_string(), format!("{TOPOLOGY}{cause}"));
+        assert!(refusal.source().is_none() && !cause.to_string().contains("disagree"));
+    }
+
+    #[test]
+    fn the_buffers_that_suffice_are_the_constants() {
+        let said = Refusal::BufferTooShort.to_string();
+        for bytes in [crate::MOST_IMAGE_BYTES, crate::MOST_KVM_BYTES, crate::KVM_PAGES_BYTES] {
+            assert!(said.contains(&format!(" {bytes} ")), "{said}");
         }
     }
 }

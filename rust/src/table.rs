@@ -9,6 +9,14 @@ use core::iter::FusedIterator;
 use core::mem::MaybeUninit;
 
 /// The four registers of a CPUID result.
+///
+/// ```
+/// use core::arch::x86_64;
+/// use snp_cpuid::CpuidResult;
+///
+/// let own = CpuidResult::from(x86_64::__cpuid(0));
+/// assert_eq!(x86_64::CpuidResult::from(own), x86_64::__cpuid(0));
+/// ```
 #[derive(Clone, Copy, Debug, Default, PartialEq, Eq, Hash)]
 pub struct CpuidResult {
     /// EAX
@@ -19,6 +27,28 @@ pub struct CpuidResult {
     pub ecx: u32,
     /// EDX
     pub edx: u32,
+}
+
+impl CpuidResult {
+    /// The four in the order of [`Register::index`](crate::Register::index).
+    #[must_use]
+    pub const fn registers(self) -> [u32; 4] {
+        [self.eax, self.ebx, self.ecx, self.edx]
+    }
+}
+
+/// What the instruction gives (`core::arch::x86_64::__cpuid_count`).
+impl From<core::arch::x86_64::CpuidResult> for CpuidResult {
+    fn from(given: core::arch::x86_64::CpuidResult) -> CpuidResult {
+        let core::arch::x86_64::CpuidResult { eax, ebx, ecx, edx } = given;
+        CpuidResult { eax, ebx, ecx, edx }
+    }
+}
+
+impl From<CpuidResult> for core::arch::x86_64::CpuidResult {
+    fn from(CpuidResult { eax, ebx, ecx, edx }: CpuidResult) -> core::arch::x86_64::CpuidResult {
+        core::arch::x86_64::CpuidResult { eax, ebx, ecx, edx }
+    }
 }
 
 /// One row: a leaf, its subleaf where the leaf has them, its registers in the table, and where it came from.
@@ -45,12 +75,12 @@ pub struct Row {
 /// ```
 /// use snp_cpuid::{Options, Processor, Table};
 ///
-/// let pages = std::fs::read("../tests/data/epyc-milan.pages").unwrap();
+/// let pages = std::fs::read("epyc-milan.pages").unwrap();
 /// let table = Table::build(&pages, Options::new()).unwrap();
 /// assert_eq!(table.row_count(), 29);
 ///
 /// // a CPUID exit of a guest: leaf Dh, subleaf 0
-/// let processor = Processor { x2apic: 5, xcr0: 7, xss: 0x800, osxsave: true };
+/// let processor = Processor::new(5).xcr0(7).xss(0x800).osxsave(true);
 /// let found = table.guest_row(processor, 0xD, Some(0), false).unwrap().unwrap();
 /// assert_eq!(found.result.ebx, 0x340);
 /// ```
@@ -76,9 +106,14 @@ impl Table {
     }
 
     /// Builds the table of CPUID pages that stand end to end: one call of the library. [`build`](crate::build) is the same.
+    ///
+    /// # Errors
+    ///
+    /// The refusal of the pages, or of the edition.
     // inline, so that a caller who takes the table out of the answer copies it once and not twice
     #[inline]
     pub fn build(pages: &[u8], options: Options) -> Result<Table, Refusal> {
+        exports::same_interface();
         let Options { secure_avic, edition } = options;
         let mut made = Made::new();
         let (registers, origins) = made.arrays();
@@ -91,10 +126,14 @@ impl Table {
 
     /// Builds in this table's place, without a copy on the stack. A refusal leaves a table without rows.
     ///
+    /// # Errors
+    ///
+    /// As [`Table::build`].
+    ///
     /// ```
     /// use snp_cpuid::{Options, Refusal, Table};
     ///
-    /// let pages = std::fs::read("../tests/data/epyc-milan.pages").unwrap();
+    /// let pages = std::fs::read("epyc-milan.pages").unwrap();
     /// let mut table = Box::new(Table::new());
     /// table.rebuild(&pages, Options::new()).unwrap();
     /// assert_eq!(*table, Table::build(&pages, Options::new()).unwrap());
@@ -103,6 +142,7 @@ impl Table {
     /// ```
     #[inline]
     pub fn rebuild(&mut self, pages: &[u8], options: Options) -> Result<(), Refusal> {
+        exports::same_interface();
         let Options { secure_avic, edition } = options;
         let (registers, origins) = self.arrays_mut();
         // SAFETY: the first pointer and length are those of a slice, which the function only reads; the two arrays are the table's own
@@ -110,6 +150,7 @@ impl Table {
     }
 
     /// The memory, as the library has it.
+    #[must_use]
     pub fn memory(&self) -> &exports::Table {
         &self.memory
     }
@@ -125,6 +166,7 @@ impl Table {
     }
 
     /// The rows, leaves rising and subleaves rising within a leaf.
+    #[must_use]
     pub fn rows(&self) -> Rows<'_> {
         Rows { table: self, next: 0, left: self.memory.origins.iter().filter(|origin| **origin != 0).count() }
     }
@@ -144,27 +186,32 @@ impl Table {
     }
 
     /// How many rows it has: 26 to 32 where it was built.
+    #[must_use]
     pub fn row_count(&self) -> usize {
         self.counts().row_count as usize
     }
 
     /// The combined mask, XFEM or XSS: one bit for each extended state that a guest may use.
+    #[must_use]
     pub fn max_extended_state(&self) -> u64 {
         self.counts().max_extended_state
     }
 
     /// The row of a leaf and subleaf exactly as the table has it: none finds a leaf without subleaves.
+    #[must_use]
     pub fn find(&self, leaf: u32, subleaf: Option<u32>) -> Option<Row> {
         self.lookup(leaf, subleaf, true).map(|Found { result, origin }| Row { leaf, subleaf, result, origin })
     }
 
     /// The registers of that row.
+    #[must_use]
     pub fn row(&self, leaf: u32, subleaf: Option<u32>) -> Option<CpuidResult> {
         self.find(leaf, subleaf).map(|row| row.result)
     }
 
     /// What OpenHCL's `leaf_result_ref` finds. A leaf with subleaves is found only under a subleaf that the table has; one without is found where no
     /// subleaf is given or `enforce_subleaf` is false.
+    #[must_use]
     #[inline]
     pub fn lookup(&self, leaf: u32, subleaf: Option<u32>, enforce_subleaf: bool) -> Option<Found> {
         let (registers, origins) = self.arrays();
@@ -179,7 +226,7 @@ impl Table {
     /// ```
     /// use snp_cpuid::{Options, Register, Table, TableComparison};
     ///
-    /// let mut pages = std::fs::read("../tests/data/epyc-milan.pages").unwrap();
+    /// let mut pages = std::fs::read("epyc-milan.pages").unwrap();
     /// let running = Table::build(&pages, Options::new()).unwrap();
     /// assert_eq!(running.compare(&running), TableComparison::Rises);
     ///

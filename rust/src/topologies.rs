@@ -36,6 +36,7 @@ pub struct Topology {
 /// assert!(all.contains(&Topology { s: 0, nc: 2, lps: 3, mt: true, t: 1 }));
 /// assert!(!all.contains(&Topology { s: 0, nc: 3, lps: 3, mt: true, t: 1 }));
 /// ```
+#[must_use]
 #[cfg(feature = "std")]
 pub fn topologies() -> Vec<Topology> {
     let mut bytes = [0; TOPOLOGIES_BYTES];
@@ -46,6 +47,10 @@ pub fn topologies() -> Vec<Topology> {
 
 /// Writes the list to the front of `out`, the five numbers of each as bytes, and gives its length, [`TOPOLOGIES_BYTES`]. Where `out` is shorter it is
 /// as it was, and the answer is [`Refusal::BufferTooShort`]; bytes beyond the list are as they were.
+///
+/// # Errors
+///
+/// [`Refusal::BufferTooShort`] where `out` has less than [`TOPOLOGIES_BYTES`].
 ///
 /// ```
 /// use snp_cpuid::{Refusal, TOPOLOGIES_BYTES, write_topologies};

@@ -95,7 +95,7 @@ fn a_running_table_becomes_edition_2s() {
             continue;
         }
         let words: Vec<&str> = line.split(' ').collect();
-        let processor = Processor { x2apic: number(words[3]) as u32, xcr0: number(words[4]), xss: number(words[5]), osxsave: words[6] == "1" };
+        let processor = Processor::new(number(words[3]) as u32).xcr0(number(words[4])).xss(number(words[5])).osxsave(words[6] == "1");
         if let Some(told) = moved(&pages, words[1] == "1", processor) {
             *seen.entry(told).or_insert(0) += 1;
         }

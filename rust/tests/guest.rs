@@ -51,7 +51,7 @@ fn written(pages: &[u8], options: Options, processor: Processor, room: usize) ->
 /// The answer to one line's question.
 fn answered(pages: &[u8], words: &[&str]) -> String {
     let options = Options::new().secure_avic(words[1] == "1").edition(number(words[2]) as u32);
-    let processor = Processor { x2apic: number(words[3]) as u32, xcr0: number(words[4]), xss: number(words[5]), osxsave: words[6] == "1" };
+    let processor = Processor::new(number(words[3]) as u32).xcr0(number(words[4])).xss(number(words[5])).osxsave(words[6] == "1");
     match words[0] {
         "b" => {
             let table = guest(pages, options, processor);
@@ -59,7 +59,7 @@ fn answered(pages: &[u8], words: &[&str]) -> String {
                 // the same rows from the same entries, and the count that the library itself gives
                 let places = |table: &Table| table.rows().map(|row| (row.leaf, row.subleaf, row.origin)).collect::<Vec<_>>();
                 assert_eq!(places(table), places(&plain));
-                let Processor { x2apic, xcr0, xss, osxsave } = processor;
+                let Processor { x2apic, xcr0, xss, osxsave, .. } = processor;
                 // SAFETY: the pointer and length are those of a slice
                 let built =
                     unsafe { snp_cpuid_guest_build(pages.as_ptr(), pages.len(), options.secure_avic, options.edition, x2apic, xcr0, xss, osxsave) };
@@ -102,7 +102,7 @@ fn answers_are_the_models() {
 fn nothing_else_differs() {
     let pages = shipped();
     let plain = build(&pages, Options::new()).unwrap();
-    let seen = guest(&pages, Options::new(), Processor { x2apic: u32::MAX, xcr0: 7, xss: 0x1800, osxsave: false }).unwrap();
+    let seen = guest(&pages, Options::new(), Processor::new(u32::MAX).xcr0(7).xss(0x1800)).unwrap();
     for (old, new) in plain.rows().zip(seen.rows()) {
         let mut expected = old;
         match (old.leaf, old.subleaf) {

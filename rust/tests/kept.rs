@@ -35,7 +35,7 @@ fn questions() -> impl Iterator<Item = (u32, Option<u32>, bool)> {
 /// Processors: with each state that the shipped set has, with none, and beyond it.
 fn processors() -> impl Iterator<Item = Processor> {
     let states = [(1, 0), (3, 0x800), (7, 0x1800), (7, 0), (0, 0), (0xE7, 0), (1, 1 << 40), (1 << 63 | 1, 0), (u64::MAX, u64::MAX)];
-    states.into_iter().enumerate().map(|(x2apic, (xcr0, xss))| Processor { x2apic: 0x101 * x2apic as u32, xcr0, xss, osxsave: x2apic % 2 == 0 })
+    states.into_iter().enumerate().map(|(x2apic, (xcr0, xss))| Processor::new(0x101 * x2apic as u32).xcr0(xcr0).xss(xss).osxsave(x2apic % 2 == 0))
 }
 
 /// A write: its length and the bytes, of room filled with A5.
@@ -97,7 +97,7 @@ fn seen_by_a_guest() {
         let options = Options::new();
         let Ok(table) = Table::build(&pages, options) else { continue };
         for processor in processors() {
-            let Processor { x2apic, xcr0, xss, osxsave } = processor;
+            let Processor { x2apic, xcr0, xss, osxsave, .. } = processor;
             // SAFETY: the pointer and length are those of a vector
             let built = unsafe { snp_cpuid_guest_build(pages.as_ptr(), pages.len(), false, 1, x2apic, xcr0, xss, osxsave) };
             let (state, seen) = (table.state(xcr0, xss), table.guest(processor));

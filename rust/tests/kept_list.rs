@@ -4,7 +4,7 @@ mod replay;
 
 use replay::edited;
 use snp_cpuid::exports;
-use snp_cpuid::{Found, NotPooled, Options, Origin, Processor, Refusal, Register, State, Table, TableComparison};
+use snp_cpuid::{Found, NotPooled, Options, Origin, Processor, Refusal, Register, Table, TableComparison};
 use std::collections::BTreeMap;
 
 const TABLE_BYTES: usize = 2112;
@@ -54,6 +54,21 @@ fn row(found: Option<Found>) -> Vec<u64> {
         other => panic!("{other}"),
     };
     vec![1, r.eax.into(), r.ebx.into(), r.ecx.into(), r.edx.into(), origin, page, entry]
+}
+
+/// The guest's row with a size of the list's own, which no `State` has; where the table gives just that size, the crate's own answer too.
+fn kept_row(table: &Table, p: Processor, size: u32, (leaf, subleaf, enforce): (u32, Option<u32>, bool)) -> Vec<u64> {
+    let exports::Table { registers, origins } = table.memory();
+    let (registers, origins, named, number) = (registers.as_ptr(), origins.as_ptr(), subleaf.is_some(), subleaf.unwrap_or(0));
+    // SAFETY: the arrays are the table's own, and the function only reads them
+    let f = unsafe {
+        exports::snp_cpuid_table_guest_find_kept(registers, origins, p.x2apic, p.xcr0, p.xss, p.osxsave, size, leaf, named, number, enforce)
+    };
+    let numbers = vec![f.found.into(), f.eax.into(), f.ebx.into(), f.ecx.into(), f.edx.into(), f.origin.into(), f.page, f.entry.into()];
+    if let Some(state) = table.state(p.xcr0, p.xss).ok().filter(|state| state.size() == size) {
+        assert_eq!(row(table.guest_row_kept(p, state, leaf, subleaf, enforce)), numbers);
+    }
+    numbers
 }
 
 fn compared(answer: TableComparison) -> Vec<u64> {
@@ -140,7 +155,7 @@ impl Standing {
         }
         let n: Vec<u64> = words.iter().filter(|word| !word.contains(',')).map(|word| number(word)).collect();
         let options = |n: &[u64]| Options::new().secure_avic(n[0] == 1).edition(n[1] as u32);
-        let processor = |n: &[u64]| Processor { x2apic: n[0] as u32, xcr0: n[1], xss: n[2], osxsave: n[3] == 1 };
+        let processor = |n: &[u64]| Processor::new(n[0] as u32).xcr0(n[1]).xss(n[2]).osxsave(n[3] == 1);
         let place = |n: &[u64]| (n[0] as u32, (n[1] == 1).then_some(n[2] as u32), n[3] == 1);
         let numbers = match name {
             "build" => return self.build(options(&n)),
@@ -155,7 +170,7 @@ impl Standing {
                 let digest = self.table.fingerprint().bytes().to_vec();
                 return Answer { numbers: counts(&self.table), bytes: Some((vec![0xA5; digest.len()], digest)) };
             }
-            "state" => self.table.state(n[0], n[1]).map_or_else(|why| vec![why.number().into(), 0], |state| vec![0, state.size.into()]),
+            "state" => self.table.state(n[0], n[1]).map_or_else(|why| vec![why.number().into(), 0], |state| vec![0, state.size().into()]),
             "find" => {
                 let (leaf, subleaf, enforce) = place(&n);
                 row(self.table.lookup(leaf, subleaf, enforce))
@@ -167,7 +182,7 @@ impl Standing {
             }
             "guest_find_kept" => {
                 let (leaf, subleaf, enforce) = place(&n[5..]);
-                row(self.table.guest_row_kept(processor(&n), State { size: n[4] as u32 }, leaf, subleaf, enforce))
+                kept_row(&self.table, processor(&n), n[4] as u32, (leaf, subleaf, enforce))
             }
             other => panic!("a question that this test does not know: {other}"),
         };

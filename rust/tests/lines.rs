@@ -77,16 +77,15 @@ fn every_answer_is_the_models() {
     assert!(counts["write"] > 1000 && counts["read"] > 1000, "{counts:?}");
 }
 
-/// The header's lines "nothing: 1 2", "leaf and subleaf: 3", "s: 6 7": a detail that is set has a line exactly where the number names it.
+/// include/refusals.txt, "3 MissingRequiredResult leaf subleaf": a detail that is set has a line exactly where the number names it.
 #[test]
-fn the_header_says_what_each_number_names() {
-    let header = std::fs::read_to_string("../include/snp_cpuid.h").expect("the header");
+fn the_list_says_what_each_number_names() {
+    let list = std::fs::read_to_string("../include/refusals.txt").expect("the list");
     let mut told = BTreeMap::new();
-    for (names, numbers) in header.lines().filter_map(|line| line.strip_prefix(" *   ")?.split_once(": ")) {
-        let numbers: Result<Vec<u32>, _> = numbers.split(' ').map(str::parse).collect();
-        for number in numbers.into_iter().flatten() {
-            assert_eq!(told.insert(number, names), None, "{number} is told once");
-        }
+    for line in list.lines().filter(|line| line.starts_with(|c: char| c.is_ascii_digit())) {
+        let [number, _, details @ ..] = &line.split(' ').collect::<Vec<_>>()[..] else { panic!("{line}") };
+        let number: u32 = number.parse().expect("a number");
+        assert_eq!(told.insert(number, details.join(" ")), None, "{number} stands once");
     }
     for number in 0..300 {
         let is_line = |leaf, subleaf, s| write((number, leaf, subleaf, s), &mut [0; 22]).is_line == 1;
@@ -95,8 +94,8 @@ fn the_header_says_what_each_number_names() {
             .filter(|n| n.1)
             .map(|n| n.0)
             .collect();
-        let words = is_line(0, None, 0).then(|| if named.is_empty() { "nothing".to_string() } else { named.join(" and ") });
-        assert_eq!(told.get(&number).map(|names| names.to_string()), words, "{number}");
+        let names = is_line(0, None, 0).then(|| named.join(" "));
+        assert_eq!(told.get(&number), names.as_ref(), "{number}");
     }
 }
 

@@ -10,7 +10,7 @@ use snp_cpuid::{
     guest, guest_lookup, lookup, read_kvm, write_kvm,
 };
 
-const PROCESSOR: Processor = Processor { x2apic: 5, xcr0: 3, xss: 0x800, osxsave: true };
+const PROCESSOR: Processor = Processor::new(5).xcr0(3).xss(0x800).osxsave(true);
 
 fn number(pages: &[u8], at: usize) -> u32 {
     u32::from_le_bytes(pages[at..at + 4].try_into().unwrap())

@@ -8,6 +8,7 @@
  * beyond the image, and where the answer is a refusal those of the image, must be as they were. The last line has the number of things compared. Exit
  * status 1 where one is not as it must be.
  */
+#define SNP_CPUID_RAW
 #include "snp_cpuid.h"
 
 #include <stdio.h>

@@ -9,6 +9,7 @@
  * 1.ECX bit 27 that the guest reads must be those of snp_cpuid_guest_lookup. The last line has the number of registers compared. Exit status 1
  * where one differs or nothing could be compared, 2 where KVM is not there.
  */
+#define SNP_CPUID_RAW
 #include "snp_cpuid.h"
 
 #include <errno.h>

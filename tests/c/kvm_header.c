@@ -12,6 +12,7 @@
 #include <string.h>
 #include <sys/ioctl.h>
 
+#define SNP_CPUID_RAW
 #include "snp_cpuid.h"
 
 _Static_assert(sizeof(struct kvm_cpuid2) == 8, "the head");

@@ -7,6 +7,7 @@
  * from where the first server's did; bytes beyond the image are as they were, and all of them where the answer is a refusal. The last line has the
  * number of things compared. Exit status 1 where one is not as it must be.
  */
+#define SNP_CPUID_RAW
 #include "snp_cpuid.h"
 
 #include <stdio.h>

@@ -8,6 +8,7 @@
  * bytes beyond the room or the message must be as they were. The last line has the number of things compared. Exit status 1 where one is not as it
  * must be.
  */
+#define SNP_CPUID_RAW
 #include "snp_cpuid.h"
 
 #include <stdio.h>
@@ -44,81 +45,7 @@
 BYTES(refusal, 20);
 FIVE_AT(refusal, 0);
 
-BYTES(built, 40);
-REFUSAL_AT(built, 0);
-AT(built, row_count, 24);
-AT(built, max_extended_state, 32);
-BYTES(found, 40);
-AT(found, found, 0);
-AT(found, eax, 4);
-AT(found, ebx, 8);
-AT(found, ecx, 12);
-AT(found, edx, 16);
-AT(found, origin, 20);
-AT(found, page, 24);
-AT(found, entry, 32);
-BYTES(written, 32);
-REFUSAL_AT(written, 0);
-AT(written, length, 24);
-BYTES(compared, 28);
-REFUSAL_AT(compared, 4);
-AT(compared, answer, 0);
-AT(compared, register_index, 24);
-BYTES(line_written, 16);
-AT(line_written, is_line, 0);
-AT(line_written, number, 4);
-AT(line_written, length, 8);
-BYTES(line_read, 24);
-REFUSAL_AT(line_read, 4);
-AT(line_read, is_line, 0);
-BYTES(carried, 8);
-AT(carried, is_image, 0);
-AT(carried, number, 4);
-BYTES(pooled, 40);
-REFUSAL_AT(pooled, 0);
-AT(pooled, server, 20);
-AT(pooled, row_count, 24);
-AT(pooled, max_extended_state, 32);
-BYTES(nearest, 40);
-REFUSAL_AT(nearest, 0);
-AT(nearest, entry, 20);
-AT(nearest, page, 24);
-AT(nearest, register_index, 32);
-AT(nearest, bit, 36);
-BYTES(first, 40);
-REFUSAL_AT(first, 0);
-AT(first, found, 20);
-AT(first, page, 24);
-AT(first, entry, 32);
-BYTES(table, 2112);
-AT(table, registers, 0);
-AT(table, origins, 1408);
-BYTES(counts, 16);
-AT(counts, row_count, 0);
-AT(counts, max_extended_state, 8);
-BYTES(read, 24);
-AT(read, is_image, 0);
-AT(read, row_count, 8);
-AT(read, max_extended_state, 16);
-BYTES(guest_found, 48);
-AT(guest_found, number, 0);
-AT(guest_found, found, 4);
-AT(guest_found, eax, 8);
-AT(guest_found, ebx, 12);
-AT(guest_found, ecx, 16);
-AT(guest_found, edx, 20);
-AT(guest_found, origin, 24);
-AT(guest_found, page, 32);
-AT(guest_found, entry, 40);
-BYTES(state, 8);
-AT(state, number, 0);
-AT(state, size, 4);
-BYTES(tables_compared, 20);
-AT(tables_compared, answer, 0);
-AT(tables_compared, leaf, 4);
-AT(tables_compared, has_subleaf, 8);
-AT(tables_compared, subleaf, 12);
-AT(tables_compared, register_index, 16);
+#include "layout.h"
 
 enum { ROOM = 256, FILL = 0x5A };
 

@@ -9,6 +9,7 @@
  * is not as it must be.
  */
 #define _GNU_SOURCE
+#define SNP_CPUID_RAW
 #include "snp_cpuid.h"
 
 #include <stdio.h>
@@ -16,7 +17,7 @@
 #include <string.h>
 #include <sys/mman.h>
 
-enum { PAGE = 4096, TABLE = sizeof(struct snp_cpuid_table), MOST_PAGES = 34 * PAGE, FILL = 0xA5, MOST_WORDS = 24 };
+enum { PAGE = 4096, TABLE = sizeof(struct snp_cpuid_kept_table), MOST_PAGES = 34 * PAGE, FILL = 0xA5, MOST_WORDS = 24 };
 
 static unsigned long compared, different;
 static const char *asked;

@@ -8,6 +8,7 @@
  * every t, which takes minutes. Each must be accepted, with the B.0 and B.1 of the rule, or refused by its number and s. The last line has the number
  * of inputs that went through building. Exit status 1 where something is not as it must be.
  */
+#define SNP_CPUID_RAW
 #include "snp_cpuid.h"
 
 #include <stdio.h>

@@ -10,15 +10,20 @@ static long call_system(long number, long first, const void *second, long third)
 }
 
 static int image_of_input(void) {
-    static uint8_t pages[2 * 4096], image[SNP_CPUID_MOST_IMAGE_BYTES];
-    long length = call_system(0, 0, pages, sizeof pages);
-    struct snp_cpuid_written written = snp_cpuid_write_image(pages, length < 0 ? 0 : (size_t)length, false, 1, image, sizeof image);
-    if (written.number) {
-        struct snp_cpuid_refusal refusal = {written.number, written.leaf, written.has_subleaf, written.subleaf, written.s};
+    static uint8_t bytes[2 * 4096], image[SNP_CPUID_MOST_IMAGE_BYTES];
+    static struct snp_cpuid_kept_table table;
+    long length = call_system(0, 0, bytes, sizeof bytes);
+    struct snp_cpuid_bytes pages = {bytes, length < 0 ? 0 : (size_t)length};
+    struct snp_cpuid_options options = {false, 1};
+    struct snp_cpuid_built built = snp_cpuid_build_into(&table, pages, options);
+    if (built.number) {
+        struct snp_cpuid_refusal refusal = {built.number, built.leaf, built.has_subleaf, built.subleaf, built.s};
         char message[SNP_CPUID_MOST_MESSAGE_BYTES];
         call_system(1, 2, message, (long)snp_cpuid_message(refusal, message, sizeof message));
-        return (int)written.number;
+        return (int)built.number;
     }
+    struct snp_cpuid_room out = {image, sizeof image};
+    struct snp_cpuid_written written = snp_cpuid_write_table_image(&table, out);
     return call_system(1, 1, image, (long)written.length) == (long)written.length ? 0 : 100;
 }
 

@@ -1,10 +1,7 @@
-"""The library for ring 0, which `make ring0` writes: what docs/EMBEDDING.md promises of it beyond what it promises of the other."""
+"""The library for ring 0, which install/libraries writes beside the other: what docs/EMBEDDING.md promises of it beyond what it promises of the other."""
 import object_code
-import stack
 import test_embed
-from stack import ROOT
-
-RING0 = ROOT / 'target' / 'ring0' / 'libsnp_cpuid.a'
+from stack import RING0
 
 
 class ObjectCode(test_embed.ObjectCode):
@@ -18,20 +15,9 @@ class ObjectCode(test_embed.ObjectCode):
 class Stack(test_embed.Stack):
     library = RING0
 
-    def test_the_figures_are_bounds_and_near(self):
-        """The table is the other library's; here the header's figure is the promise."""
-        for name, bound in stack.measured(RING0).items():
-            self.assertLessEqual(bound, stack.most(), name)
-
-    def test_every_function_runs_over_a_guard_page(self):
-        bounds = {name: -(-bound // 16) * 16 for name, bound in stack.measured(RING0).items()}
-        ran = self.run_on(bounds)
-        self.assertEqual(ran.returncode, 0, ran.stdout)
-        self.assertEqual(ran.stdout.splitlines()[-1], f'{len(bounds)} functions')
-
     # shown by the other library
     test_the_page_states_every_function = None
-    test_the_calls_go_deep_and_the_guard_page_is_met = None
+    test_the_headers_figure_is_that_of_both_tables = None
 
 
 class Linked(test_embed.Linked):

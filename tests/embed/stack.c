@@ -7,6 +7,7 @@
  * A function that touches more ends the program by a signal, and its name is the last line. One without BYTES is left out.
  */
 #define _GNU_SOURCE
+#define SNP_CPUID_RAW
 #include <snp_cpuid.h>
 #include <stdio.h>
 #include <stdlib.h>
@@ -45,7 +46,8 @@ static uint8_t image[SNP_CPUID_MOST_IMAGE_BYTES], list[SNP_CPUID_MOST_KVM_BYTES]
 static size_t image_length, list_length, line_length;
 static uint64_t lengths[16];
 static uint8_t lent[ROOM];
-static struct snp_cpuid_table table;
+static size_t room;
+static struct snp_cpuid_kept_table table;
 
 struct call {
     const char *name;
@@ -57,7 +59,7 @@ struct call {
 #define AT(pointer) ((uint64_t)(uintptr_t)(pointer))
 #define CALL(name, answer, ...) {#name, (void (*)(void))name, sizeof(answer), {__VA_ARGS__}}
 #define CHOICES 1, edition
-#define BUFFER AT(lent), sizeof lent
+#define BUFFER AT(lent), room
 #define POOL AT(pages), length, AT(lengths), 16
 #define PROCESSOR 5, 7, 0x800, 1
 #define ROW 0xD, 1, 1, 1
@@ -94,7 +96,7 @@ static size_t make_calls(struct call *out, uint32_t edition) {
         CALL(snp_cpuid_write_pool_image, struct snp_cpuid_written, POOL, CHOICES, BUFFER),
         CALL(snp_cpuid_write_line, struct snp_cpuid_line_written, 3, 0xD, 1, 0xFFFFFFFF, 0, BUFFER),
         CALL(snp_cpuid_read_line, struct snp_cpuid_line_read, AT(line), line_length),
-        CALL(snp_cpuid_nearest, struct snp_cpuid_nearest, AT(pages), length, CHOICES),
+        CALL(snp_cpuid_nearest, struct snp_cpuid_nearest_answer, AT(pages), length, CHOICES),
         CALL(snp_cpuid_write_topologies, struct snp_cpuid_written, BUFFER),
         CALL(snp_cpuid_table_build, struct snp_cpuid_built, AT(pages), length, CHOICES, TABLE),
         CALL(snp_cpuid_table_pool, struct snp_cpuid_pooled, POOL, CHOICES, TABLE),
@@ -187,6 +189,8 @@ static bool make_pages(unsigned number) {
         length = 16 * sizeof shipped;
     }
     for (size_t set = 0; set < 16; set++) lengths[set] = length / 16;
+    /* every third set with less room than anything written takes */
+    room = number % 3 == 2 ? 1 : sizeof lent;
     return number < SIXTEEN;
 }
 
@@ -211,6 +215,7 @@ int main(int count, char **words) {
     lowest = guarded(LARGE + PAGE);
 
     struct call calls[MOST_CALLS];
+    room = sizeof lent;
     size_t functions = make_calls(calls, 1), ran = 0;
     for (size_t at = 0; at < functions; at++) {
         size_t stated = stated_for(calls[at].name, count, words), reached = 0;

@@ -55,6 +55,35 @@ class ObjectCode(unittest.TestCase):
         # string instructions name two segments
         self.assertEqual(names - general - {'ds', 'es'}, self.beyond_general)
 
+    def test_every_exported_function_begins_with_endbr64(self):
+        found = object_code.functions(self.library)
+        begins = {name: found[name].code[min(found[name].code)][0] for name in stack.exported()}
+        self.assertEqual(set(begins.values()), {'endbr64'}, begins)
+
+    def test_nothing_jumps_or_calls_by_pointer_or_table(self):
+        """A guest chooses the leaf, so no jump may go where a leaf says."""
+        jumps = [(function.name, mnemonic, operands) for function in object_code.functions(self.library).values()
+                 for mnemonic, operands, _ in function.code.values() if mnemonic.startswith(('j', 'call')) and operands.startswith('*')]
+        self.assertEqual(jumps, [])
+
+    def test_no_code_stands_behind_a_return(self):
+        returns = 0
+        for function in object_code.functions(self.library).values():
+            order = sorted(function.code)
+            for at, following in zip(order, order[1:] + [None]):
+                if function.code[at][0] in ('ret', 'retq'):
+                    self.assertEqual(function.code[following][0] if following else 'nothing', 'int3', f'{function.name} at {at:x}')
+                    returns += 1
+        self.assertGreaterEqual(returns, len(stack.exported()))
+
+    def test_a_program_keeps_ibt_and_shadow_stacks(self):
+        self.assertIn('x86 feature: IBT, SHSTK', said('readelf', '-n', self.library))
+
+    def test_it_has_the_symbol_of_the_header_and_no_unwind_information(self):
+        symbol = re.search(r'^#define SNP_CPUID_INTERFACE (\w+)$', stack.HEADER.read_text(), re.MULTILINE)[1]
+        self.assertRegex(said('nm', '-g', '--defined-only', self.library), rf' R {symbol}\n')
+        self.assertNotIn('.eh_frame', said('readelf', '-SW', self.library))
+
     def test_no_instruction_is_privileged_or_reads_the_machine(self):
         used = {mnemonic for function in object_code.functions(self.library).values() for mnemonic, *_ in function.code.values()}
         never = 'syscall sysenter int cpuid rdtsc rdtscp rdrand rdmsr wrmsr in out hlt cli sti ldmxcsr std vzeroupper emms ud2'
@@ -69,10 +98,13 @@ class Stack(unittest.TestCase):
 
     def test_the_figures_are_bounds_and_near(self):
         """A figure below the bound is wrong; one far above it is no longer that of this library. stack.py --write mends both."""
-        page = stack.stated()
-        for name, bound in stack.measured().items():
+        page = stack.stated(self.library)
+        for name, bound in stack.measured(self.library).items():
             self.assertTrue(bound <= page[name] <= bound + 4 * stack.STEP, f'{name}: {page[name]} stated, at most {bound} taken')
-        self.assertEqual(stack.most(), stack.power(max(page.values())))
+        self.assertLessEqual(max(page.values()), stack.most())
+
+    def test_the_headers_figure_is_that_of_both_tables(self):
+        self.assertEqual(stack.most(), stack.power(max(figure for library in (LIBRARY, stack.RING0) for figure in stack.stated(library).values())))
 
     @classmethod
     def setUpClass(cls):
@@ -88,15 +120,15 @@ class Stack(unittest.TestCase):
         return subprocess.run([self.program, PAGES, *words], capture_output=True, text=True, check=False)
 
     def test_every_function_runs_over_a_guard_page(self):
-        ran = self.run_on(stack.stated())
+        ran = self.run_on(stack.stated(self.library))
         self.assertEqual(ran.returncode, 0, ran.stdout)
         self.assertEqual(ran.stdout.splitlines()[-1], f'{len(stack.exported())} functions')
 
     def test_the_calls_go_deep_and_the_guard_page_is_met(self):
         """Of its bound each function touches at least half; on a stack that is smaller than what it touches, it ends at the guard page."""
-        ran = self.run_on(stack.stated())
+        ran = self.run_on(stack.stated(self.library))
         touched = {name: int(number) for name, number in re.findall(r'^(\w+) touched (\d+) of', ran.stdout, re.MULTILINE)}
-        for name, bound in stack.measured().items():
+        for name, bound in stack.measured(self.library).items():
             self.assertTrue(bound <= 2 * touched[name] and touched[name] <= bound, f'{name}: touched {touched[name]} of {bound}')
             less = (touched[name] - 1) // 16 * 16
             if less:
@@ -140,7 +172,7 @@ class Linked(unittest.TestCase):
         subprocess.run(['gcc', '-shared', '-Wl,-z,defs', '-o', shared, *whole(self.library), '-lc'], check=True)
         # no relocation of its text
         self.assertNotIn('TEXTREL', said('readelf', '-d', shared))
-        self.gives_the_image(self.built('gcc', '-std=c11', '-DHOSTED', self.source, shared), LD_LIBRARY_PATH=str(self.folder))
+        self.gives_the_image(self.built('gcc', '-std=c11', '-DHOSTED', '-DSNP_CPUID_SHARED', self.source, shared), LD_LIBRARY_PATH=str(self.folder))
 
     def test_from_c_plus_plus(self):
         self.gives_the_image(self.built('g++', '-std=c++11', '-x', 'c++', '-DHOSTED', self.source, '-x', 'none', self.library))

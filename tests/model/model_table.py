@@ -24,7 +24,7 @@ LAYOUT = '<352I88Q'
 
 
 def to_bytes(memory):
-    """struct snp_cpuid_table, 2,112 bytes."""
+    """struct snp_cpuid_kept_table, 2,112 bytes."""
     return struct.pack(LAYOUT, *memory[0], *memory[1])
 
 

@@ -76,10 +76,33 @@ fn errors_by_the_names_of_the_source() {
     {
         let error = changed(change);
         assert!(matches!(error, CpuidResultsError::Refused(refusal) if refusal.number() == number), "{error:?}");
-        // an error tells its words, and is one for `anyhow` and its like
+        // the cause is the source, and one for `anyhow` and its like
         let error: Box<dyn std::error::Error + Send + Sync> = error.into();
-        assert!(!error.to_string().is_empty());
+        assert_eq!(error.to_string(), "the cpuid pages are refused");
+        assert!(error.source().unwrap().to_string().contains(["4,096", "64", "reserved"][[1, 2, 17].iter().position(|n| *n == number).unwrap()]));
     }
+}
+
+/// The words and sources are those that mod.rs has in attributes of `thiserror`, so that a failure of TDX reads as before.
+#[test]
+fn the_words_are_those_of_the_source() {
+    let why = || TopologyError::ProcessorCount(7);
+    for (said, words) in [
+        (TopologyError::Hyperthreading(3).to_string(), "topology provided is inconsistent with hyperthreading configuration; apic core id size 3"),
+        (why().to_string(), "processor count inconsistency; apic core id size 7"),
+        (TopologyError::ThreadsPerUnit.to_string(), "threads per unit count is inconsistent"),
+        (
+            CpuidResultsError::MissingRequiredResult(CpuidFunction(7), Some(0)).to_string(),
+            "missing required result for leaf CpuidFunction(7) subleaf Some(0)",
+        ),
+        (CpuidResultsError::TopologyInconsistent(why()).to_string(), "provided topology values are inconsistent"),
+        (CpuidResultsError::InvlpgbUnavailable.to_string(), "Invlpgb is required but unavailable"),
+    ] {
+        assert_eq!(said, words);
+    }
+    let source = |error: &dyn std::error::Error| error.source().map(|why| why.to_string());
+    assert_eq!(source(&CpuidResultsError::TopologyInconsistent(why())), Some(why().to_string()));
+    assert_eq!(source(&CpuidResultsError::InvlpgbUnavailable), None);
 }
 
 /// The lines that docs/OPENHCL.md has for openvmm's list of crates are those of this workspace's, but for where the crates stand.

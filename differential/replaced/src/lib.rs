@@ -1,11 +1,8 @@
 //! The Rust of cvm_cpuid with the edits of docs/OPENHCL.md, asked by the lines that ask the unchanged one.
 
-// highest_one, which snp.rs calls, is behind this in rustc 1.95.
-#![feature(int_lowest_highest_one)]
-
 use oracle::Answer;
 
-/// The edited files. What only other callers use is unused here.
+/// The edited files. What only TDX uses, or a traced line, is unused here.
 #[allow(unused)]
 mod tree {
     include!(concat!(env!("OUT_DIR"), "/cvm_cpuid/tree.rs"));

@@ -5,7 +5,6 @@ use core::arch::x86_64::CpuidResult;
 use snp_cpuid::Options;
 use snp_cpuid::Refusal;
 use snp_cpuid::Row;
-pub use snp_cpuid::TopologyError;
 use std::error::Error;
 use std::fmt;
 use virt::CpuidLeaf;
@@ -44,7 +43,18 @@ fn leaf(row: Row) -> CpuidLeaf {
     }
 }
 
-/// Why there are no leaves.
+/// How the topology leaves disagree, by the names and words of `cvm_cpuid`; TDX has them too.
+#[derive(Debug, PartialEq)]
+pub enum TopologyError {
+    /// The processor count against the hyperthreading flag.
+    Hyperthreading(u8),
+    /// The processor counts of two leaves.
+    ProcessorCount(u8),
+    /// The threads of a compute unit.
+    ThreadsPerUnit,
+}
+
+/// Why there are no leaves, by the names and words of `cvm_cpuid`.
 #[derive(Debug, PartialEq)]
 pub enum CpuidResultsError {
     /// A required leaf, or subleaf of it, has no entry.
@@ -59,31 +69,47 @@ pub enum CpuidResultsError {
 
 impl From<Refusal> for CpuidResultsError {
     fn from(refusal: Refusal) -> Self {
+        use snp_cpuid::TopologyError as Why;
         match refusal {
             Refusal::MissingRequiredResult(leaf, subleaf) => Self::MissingRequiredResult(CpuidFunction(leaf), subleaf),
-            Refusal::TopologyInconsistent(error) => Self::TopologyInconsistent(error),
+            Refusal::TopologyInconsistent(Why::Hyperthreading(s)) => Self::TopologyInconsistent(TopologyError::Hyperthreading(s)),
+            Refusal::TopologyInconsistent(Why::ProcessorCount(s)) => Self::TopologyInconsistent(TopologyError::ProcessorCount(s)),
+            Refusal::TopologyInconsistent(Why::ThreadsPerUnit) => Self::TopologyInconsistent(TopologyError::ThreadsPerUnit),
             Refusal::InvlpgbUnavailable => Self::InvlpgbUnavailable,
             other => Self::Refused(other),
         }
     }
 }
 
-impl CpuidResultsError {
-    /// The library's own name for it, with its number, details and words.
-    pub fn refusal(&self) -> Refusal {
-        match *self {
-            Self::MissingRequiredResult(CpuidFunction(leaf), subleaf) => Refusal::MissingRequiredResult(leaf, subleaf),
-            Self::TopologyInconsistent(error) => Refusal::TopologyInconsistent(error),
-            Self::InvlpgbUnavailable => Refusal::InvlpgbUnavailable,
-            Self::Refused(refusal) => refusal,
+impl fmt::Display for TopologyError {
+    fn fmt(&self, f: &mut fmt::Formatter<'_>) -> fmt::Result {
+        match self {
+            Self::Hyperthreading(s) => write!(f, "topology provided is inconsistent with hyperthreading configuration; apic core id size {s}"),
+            Self::ProcessorCount(s) => write!(f, "processor count inconsistency; apic core id size {s}"),
+            Self::ThreadsPerUnit => f.write_str("threads per unit count is inconsistent"),
         }
     }
 }
 
 impl fmt::Display for CpuidResultsError {
     fn fmt(&self, f: &mut fmt::Formatter<'_>) -> fmt::Result {
-        self.refusal().fmt(f)
+        match self {
+            Self::MissingRequiredResult(leaf, subleaf) => write!(f, "missing required result for leaf {leaf:?} subleaf {subleaf:?}"),
+            Self::TopologyInconsistent(_) => f.write_str("provided topology values are inconsistent"),
+            Self::InvlpgbUnavailable => f.write_str("Invlpgb is required but unavailable"),
+            Self::Refused(_) => f.write_str("the cpuid pages are refused"),
+        }
     }
 }
 
-impl Error for CpuidResultsError {}
+impl Error for TopologyError {}
+
+impl Error for CpuidResultsError {
+    fn source(&self) -> Option<&(dyn Error + 'static)> {
+        match self {
+            Self::TopologyInconsistent(why) => Some(why),
+            Self::Refused(why) => Some(why),
+            Self::MissingRequiredResult(..) | Self::InvlpgbUnavailable => None,
+        }
+    }
+}

@@ -36,7 +36,7 @@ pub fn of(arguments: &Arguments, command: &str) -> Result<Option<Processor>, Fai
     }
     let x2apic = number(&OPTIONAL[0], u32::MAX.into(), arguments, command)? as u32;
     let (xcr0, xss) = states(arguments, command)?;
-    Ok(Some(Processor { x2apic, xcr0, xss, osxsave: arguments.has(&OSXSAVE) }))
+    Ok(Some(Processor::new(x2apic).xcr0(xcr0).xss(xss).osxsave(arguments.has(&OSXSAVE))))
 }
 
 /// The processor as an object.

@@ -82,7 +82,7 @@ pub fn read_by(refusal: TopologyError, numbers: Numbers) -> Vec<(u32, usize)> {
         TopologyError::Hyperthreading(_) => vec![flags, logical, sizes],
         TopologyError::ProcessorCount(_) => vec![logical, sizes],
         TopologyError::ThreadsPerUnit if numbers.t > 1 => vec![units],
-        TopologyError::ThreadsPerUnit => vec![units, logical, flags, sizes],
+        _ => vec![units, logical, flags, sizes],
     }
 }
 
@@ -108,7 +108,7 @@ pub fn why(refusal: TopologyError, numbers: Numbers) -> String {
         (TopologyError::ProcessorCount(_), _) => format!(
             "1.EBX bits 16-23 give {lps} logical processors and must give 2^{s} = {processors}, for APIC core id size {s} (80000008h.ECX bits 12-15)"
         ),
-        (TopologyError::ThreadsPerUnit, _) if t > 1 => format!("8000001Eh.EBX bits 8-15 plus 1 are {} threads per unit, more than 2", t + 1),
-        (TopologyError::ThreadsPerUnit, _) => format!("8000001Eh.EBX bits 8-15 plus 1 are {} threads per unit of {processors} processor", t + 1),
+        (_, _) if t > 1 => format!("8000001Eh.EBX bits 8-15 plus 1 are {} threads per unit, more than 2", t + 1),
+        (_, _) => format!("8000001Eh.EBX bits 8-15 plus 1 are {} threads per unit of {processors} processor", t + 1),
     }
 }

@@ -1,0 +1,77 @@
+"""The crate for a registry, which install/crate makes: it builds, with `std` and without, its documents and their examples run, all from its own
+files, and its object code is the library's."""
+from pathlib import Path
+import hashlib
+import os
+import re
+import shutil
+import subprocess
+import tarfile
+import tempfile
+import unittest
+
+import object_code
+from stack import LIBRARY, RING0, ROOT, exported
+
+
+@unittest.skipUnless(shutil.which('cargo'), 'cargo is not installed (apt-get install cargo)')
+class Crate(unittest.TestCase):
+    @classmethod
+    def setUpClass(cls):
+        folder = tempfile.TemporaryDirectory()
+        cls.addClassCleanup(folder.cleanup)
+        cls.room = Path(folder.name)
+        subprocess.run([ROOT / 'install' / 'crate', cls.room / 'made'], check=True, capture_output=True)
+        [package] = (cls.room / 'made').glob('*.crate')
+        with tarfile.open(package) as archive:
+            archive.extractall(cls.room, filter='data')
+        cls.crate = cls.room / package.stem
+
+    def cargo(self, *words):
+        """Runs cargo in the package, without the kit and without a library; what it says where it fails."""
+        found = [folder for folder in os.environ['PATH'].split(':') if not Path(folder, 'rt').exists()]
+        cargo = shutil.which('cargo')
+        environment = {name: value for name, value in os.environ.items() if name not in ('SNP_CPUID_LIB', 'RUSTFLAGS')}
+        environment['PATH'] = ':'.join([str(Path(cargo).parent), *found])
+        ran = subprocess.run([cargo, *words, '--offline', '--target-dir', self.room / 'target'], cwd=self.crate, env=environment, capture_output=True,
+                             text=True, check=False)
+        self.assertEqual(ran.returncode, 0, ran.stderr[-3000:])
+        return ran.stdout + ran.stderr
+
+    def test_its_examples_run(self):
+        said = self.cargo('test', '--doc')
+        self.assertGreaterEqual(int(re.search(r'(\d+) passed; 0 failed', said)[1]), 25)
+
+    def test_without_std_and_its_documents(self):
+        self.cargo('build', '--no-default-features')
+        self.assertNotIn('warning', self.cargo('doc', '--no-deps'))
+
+    def test_its_object_code_is_the_librarys(self):
+        self.cargo('build', '--release')
+        [rlib] = (self.room / 'target' / 'release').glob('libsnp_cpuid.rlib')
+        own, library = object_code.functions(rlib), object_code.functions(LIBRARY)
+        for name in exported():
+            # where a jump or a call goes is the linker's
+            instructions = [[(mnemonic, re.sub(r'[0-9a-f]+ <.*>|0x[0-9a-f]+\(%rip\)', '', operands)) for mnemonic, operands, _ in code[name].code.values()]
+                            for code in (own, library)]
+            self.assertEqual(*instructions, name)
+
+    def test_its_sums_are_those_of_its_files_and_of_the_libraries(self):
+        lines = (self.crate / 'SHA256SUMS').read_text().splitlines()
+        files = {'snp_cpuid.s': self.crate / 'snp_cpuid.s', 'ring0.s': self.crate / 'ring0.s', 'libsnp_cpuid.a': LIBRARY, 'ring0/libsnp_cpuid.a': RING0}
+        self.assertEqual({line.split()[-1]: line.split()[-2] for line in lines},
+                         {name: hashlib.sha256(path.read_bytes()).hexdigest() for name, path in files.items()})
+        # bytes of the package alone, and the licence among them
+        self.assertIn('MIT License', (self.crate / 'LICENSE').read_text())
+        self.assertEqual([path for path in self.crate.rglob('*.rs') if '../tests' in path.read_text()], [])
+
+    def test_the_assembly_speaks_for_its_own_functions_alone(self):
+        for name in 'snp_cpuid.s', 'ring0.s':
+            text = (self.crate / name).read_text()
+            self.assertNotIn('.note.gnu.property', text)
+            self.assertEqual(set(re.findall(r'\.L\w{0,10}', text)), {'.Lsnp_cpuid_'})
+        self.assertNotIn('xmm', (self.crate / 'ring0.s').read_text())
+
+
+if __name__ == '__main__':
+    unittest.main()

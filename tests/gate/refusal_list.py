@@ -1,0 +1,134 @@
+"""refusal_list.py: include/refusals.txt, read and held against the proved numbers, and its forms for C, Rust and documents."""
+import re
+from typing import NamedTuple
+
+from proved_source import Unlisted, refused
+
+HEAD = re.compile(r'^(\d+) (\w+)((?: (?:leaf|subleaf|s))*)$')
+SAYS = re.compile(r'^says (?:if (no subleaf|leaf [0-9A-F]+|s \d+|s below \d+): )?(.+)$')
+# the longest piece of a C string in one line
+PIECE = 110
+
+
+class Refusal(NamedTuple):
+    number: int
+    name: str  # PagesLength
+    details: list  # of leaf, subleaf and s
+    means: str
+    says: list  # [(when or '', message)]
+
+    def constant(self):
+        return 'SNP_CPUID_' + re.sub(r'(?<=[a-z])(?=[A-Z])', '_', self.name).upper()
+
+
+def refusals(root):
+    """The refusals of the list, by number."""
+    found = []
+    for number, line in enumerate((root / 'include' / 'refusals.txt').read_text(encoding='utf-8').splitlines(), 1):
+        head, says, (word, _, rest) = HEAD.match(line), SAYS.match(line.strip()), line.strip().partition(' ')
+        if head:
+            found.append(Refusal(int(head[1]), head[2], head[3].split(), '', []))
+        elif found and word == 'means' and not found[-1].means:
+            found[-1] = found[-1]._replace(means=rest)
+        elif found and says:
+            found[-1].says.append((says[1] or '', says[2]))
+        elif line.strip() and not line.startswith('#'):
+            raise Unlisted(f'include/refusals.txt:{number}: {line.strip()}')
+    for refusal in found:
+        if not refusal.means or not refusal.says or refusal.says[-1][0] or any(not when for when, _ in refusal.says[:-1]):
+            raise Unlisted(f'include/refusals.txt: {refusal.number} wants what it means, and last what it says without a condition')
+    proved = {number: case for number, (_, case) in refused(root).items()}
+    if {refusal.number: refusal.name for refusal in found} != proved or [refusal.number for refusal in found] != sorted(proved):
+        raise Unlisted('include/refusals.txt has other numbers or names than crates/table/src/numbers.rt')
+    return found
+
+
+def c_string(text):
+    """A string of C, in pieces of a line each."""
+    pieces = ['']
+    for word in re.findall(r'\S+ ?', text):
+        pieces += [''] if len(pieces[-1]) + len(word) > PIECE else []
+        pieces[-1] += word
+    return [f'"{piece}"' for piece in pieces]
+
+
+def c_when(when):
+    word, number = when.split(' ')[0], when.split(' ')[-1]
+    if when == 'no subleaf':
+        return '!refusal.has_subleaf'
+    if word == 'leaf':
+        return f'refusal.leaf == 0x{number}'
+    return f'refusal.s {"<" if "below" in when else "=="} {number}'
+
+
+def c_returns(when, message, indent):
+    """The statement that gives a message, where it applies."""
+    first = f'if ({c_when(when)}) return ' if when else 'return '
+    pieces = c_string(message)
+    lines = [f'{indent}{first}{pieces[0]}', *(f'{indent}       {piece}' for piece in pieces[1:])]
+    return '\n'.join(lines) + ';\n'
+
+
+def c_enum(listed):
+    """The numbers by name."""
+    rows = ['    SNP_CPUID_ACCEPTED = 0,\n']
+    for refusal in listed:
+        named = f'; names {" and ".join(refusal.details)}' if refusal.details else ''
+        comma = '' if refusal is listed[-1] else ','
+        rows.append(f'    {refusal.constant()} = {refusal.number}{comma} /* {refusal.means}{named} */\n')
+    return 'enum snp_cpuid_number {\n' + ''.join(rows) + '};\n'
+
+
+def c_words(listed):
+    """What a number means, and the text of its message."""
+    words = ''.join(f'    case {refusal.constant()}: return "{refusal.means}";\n' for refusal in listed)
+    texts = ''.join(f'    case {refusal.constant()}:\n' + ''.join(c_returns(when, message, ' ' * 8) for when, message in refusal.says)
+                    for refusal in listed)
+    return ('static inline const char *snp_cpuid_words(uint32_t number)\n{\n    switch (number) {\n'
+            f'    case SNP_CPUID_ACCEPTED: return "accepted";\n{words}    default: return "no such number";\n    }}\n}}\n\n'
+            '/* The text of a message: %l stands for the leaf and %c for the subleaf, both in hexadecimal, %s for s and %p for 2 to the power of s. */\n'
+            'static inline const char *snp_cpuid_message_text(struct snp_cpuid_refusal refusal)\n{\n    switch (refusal.number) {\n'
+            f'{texts}    default: return snp_cpuid_words(refusal.number);\n    }}\n}}\n')
+
+
+def rust_when(when):
+    word, number = when.split(' ')[0], when.split(' ')[-1]
+    if not when:
+        return 'When::Always'
+    if when == 'no subleaf':
+        return 'When::NoSubleaf'
+    if word == 'leaf':
+        return f'When::Leaf(0x{number})'
+    return f'When::{"Below" if "below" in when else "Is"}({number})'
+
+
+def rust_name(root, refusal):
+    """A closure that gives the refusal of its details."""
+    enum, case = refused(root)[refusal.number]
+    given = ', '.join(f'd.{detail}' for detail in refusal.details)
+    if refusal.details == ['leaf']:
+        case = f'{case} {{ leaf: d.leaf }}'
+    elif given:
+        case = f'{case}({given})'
+    named = f'{enum}::{case}' if enum == 'Refusal' else f'Refusal::TopologyInconsistent(TopologyError::{case})'
+    return f'|{"d" if given else "_"}| {named}'
+
+
+def rust_list(root, listed):
+    """rust/src/refusal_list.rs"""
+    rows = ''
+    for refusal in listed:
+        says = ', '.join(f'({rust_when(when)}, "{message}")' for when, message in refusal.says)
+        if len(refusal.says) > 1:
+            says = '\n' + ''.join(f'            ({rust_when(when)}, "{message}"),\n' for when, message in refusal.says) + '        '
+        rows += f'    Line {{\n        number: {refusal.number},\n        name: {rust_name(root, refusal)},\n        says: &[{says}],\n    }},\n'
+    return ('//! The refusals, made of include/refusals.txt by `tests/gate/interface.py --write`.\n\n'
+            'use crate::refusal::{Line, Refusal, TopologyError, When};\n\n'
+            f'#[rustfmt::skip]\npub(crate) const LIST: &[Line] = &[\n{rows}];\n')
+
+
+def markdown(listed):
+    """The rows of a table."""
+    head = '| number | C | names | means |\n|---|---|---|---|\n'
+    return head + ''.join(f'| {refusal.number} | `{refusal.constant()}` | {", ".join(refusal.details)} | {refusal.means} |\n'
+                          .replace('|  |', '| |') for refusal in listed)
