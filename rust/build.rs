@@ -16,7 +16,9 @@ fn fail(text: String) -> ! {
 fn build(repository: &Path) {
     match Command::new("install/libraries").current_dir(repository).status() {
         Ok(status) if status.success() => {}
-        Ok(status) => fail(format!("install/libraries ended with {status}: install the Rattle kit, or set SNP_CPUID_LIB to a folder with libsnp_cpuid.a")),
+        Ok(status) => {
+            fail(format!("install/libraries ended with {status}: install the Rattle kit, or set SNP_CPUID_LIB to a folder with libsnp_cpuid.a"))
+        }
         Err(error) => fail(format!("install/libraries cannot be started ({error})")),
     }
 }

@@ -170,17 +170,11 @@ pub struct Table {
     pub origins: [u64; 88],
 }
 
-/// Refers to the symbol of the library that has these declarations, without a byte of code: another library does not link.
+/// Refers to the symbol of the library that has these declarations, by a no-op that names it: another library does not link.
 #[inline(always)]
 pub(crate) fn same_interface() {
-    // SAFETY: there is no instruction
-    unsafe {
-        core::arch::asm!(
-            ".globl snp_cpuid_interface_530f3114",
-            ".reloc ., R_X86_64_NONE, snp_cpuid_interface_530f3114",
-            options(nomem, nostack, preserves_flags)
-        );
-    }
+    // SAFETY: the instruction does nothing
+    unsafe { core::arch::asm!("nopl snp_cpuid_interface_530f3114(%rip)", options(att_syntax, nomem, nostack, preserves_flags)) }
 }
 
 unsafe extern "C" {
