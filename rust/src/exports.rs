@@ -1,4 +1,4 @@
-//! The exported functions on plain numbers, as include/snp_cpuid.h documents them; the functions of the crate's root are the safe way in.
+//! The exported functions on plain numbers, as include/snp_cpuid.h documents them; the crate's root has the safe way in.
 //! Made from the proved source by `tests/gate/interface.py --write`.
 
 #![allow(missing_docs)]

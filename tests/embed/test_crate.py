@@ -74,13 +74,13 @@ class Crate(unittest.TestCase):
         environment = {**os.environ, 'CARGO_MANIFEST_DIR': str(ROOT / 'rust')}
         subprocess.run(['rustc', '--edition', '2024', '-o', script, ROOT / 'rust' / 'build.rs'], env=environment, check=True)
         for system, folder in ('linux', LIBRARY.parent), ('none', RING0.parent):
-            said = subprocess.run([script], env={**os.environ, 'SNP_CPUID_LIB': str(LIBRARY.parent), 'CARGO_CFG_TARGET_OS': system}, capture_output=True,
-                                  text=True, check=True).stdout
+            chosen = {**environment, 'SNP_CPUID_LIB': str(LIBRARY.parent), 'CARGO_CFG_TARGET_OS': system}
+            said = subprocess.run([script], env=chosen, capture_output=True, text=True, check=True).stdout
             self.assertIn(f'cargo::rustc-link-search=native={folder}\n', said)
 
     def test_its_sums_are_those_of_its_files_and_of_the_libraries(self):
         lines = (self.crate / 'SHA256SUMS').read_text().splitlines()
-        files = {'snp_cpuid.s': self.crate / 'snp_cpuid.s', 'ring0.s': self.crate / 'ring0.s', 'libsnp_cpuid.a': LIBRARY, 'ring0/libsnp_cpuid.a': RING0}
+        files = {name: self.crate / name for name in ('snp_cpuid.s', 'ring0.s')} | {'libsnp_cpuid.a': LIBRARY, 'ring0/libsnp_cpuid.a': RING0}
         self.assertEqual({line.split()[-1]: line.split()[-2] for line in lines},
                          {name: hashlib.sha256(path.read_bytes()).hexdigest() for name, path in files.items()})
         # bytes of the package alone, and the licence among them

@@ -88,7 +88,7 @@ class Interface:
         """rust/src/exports.rs"""
         made = ''.join(f'#[repr(C)]\n#[derive(Clone, Copy, Debug, Default, PartialEq, Eq)]\npub struct {struct.name} {{\n'
                        + ''.join(f'    pub {name}: {kind},\n' for name, kind in struct.fields) + '}\n\n' for struct in self.structs)
-        return ('//! The exported functions on plain numbers, as include/snp_cpuid.h documents them; the functions of the crate\'s root are the safe way in.\n'
+        return ('//! The exported functions on plain numbers, as include/snp_cpuid.h documents them; the crate\'s root has the safe way in.\n'
                 '//! Made from the proved source by `tests/gate/interface.py --write`.\n\n#![allow(missing_docs)]\n\n' + made
                 + '#[repr(C)]\n#[derive(Clone, Copy, Debug, PartialEq, Eq)]\npub struct Table {\n'
                 f'    pub registers: [u32; {self.registers}],\n    pub origins: [u64; {self.places}],\n}}\n\n'
