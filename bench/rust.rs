@@ -159,7 +159,7 @@ pub extern "C" fn crate_table_find(
     subleaf: u32,
     enforce_subleaf: bool,
 ) -> exports::Found {
-    let guest = Guest::new(registers, origins, Processor::default(), 0);
+    let guest = Guest::new(registers, origins, Processor::default());
     row(guest.table.lookup(leaf, has_subleaf.then_some(subleaf), enforce_subleaf))
 }
 

@@ -48,8 +48,9 @@ typedef char snp_cpuid_calls_by_system_v[__builtin_types_compatible_p(void (*)(i
 #define SNP_CPUID_VERSION_MINOR 2
 #define SNP_CPUID_VERSION_PATCH 0
 
-/* A symbol of the library that has the declarations of this header. Every function of parts 1 and 2 refers to it without a byte of code, so that a
- * program does not link with a library of other declarations; who calls raw functions alone calls snp_cpuid_same_interface() in one place. */
+/* A symbol of the library that has the declarations of this header. The functions of parts 1 and 2 refer to it, those over a table that is there
+ * already excepted, by an instruction that does nothing: so a program does not link with a library of other declarations. Who calls raw functions
+ * alone calls snp_cpuid_same_interface() in one place. */
 #define SNP_CPUID_INTERFACE snp_cpuid_interface_f2fe8a5e
 
 #ifdef __cplusplus
@@ -160,7 +161,7 @@ struct snp_cpuid_query {
  *   snp_cpuid_guest_find, snp_cpuid_state_of and snp_cpuid_become_guest give 13, whatever the state is; snp_cpuid_carry_table after 15 and 16
  *   snp_cpuid_write_table_image gives number 0 and length 0, as its image has no bytes, and no bytes are read as its image
  *   snp_cpuid_write_table_kvm writes 8 zero bytes, a list of no rows
- *   snp_cpuid_counts_of gives 0 and 0
+ *   snp_cpuid_counts_of gives 0 and 0, and snp_cpuid_fingerprint_of the fingerprint of no bytes
  *   snp_cpuid_compare_tables gives 0 with itself; against a table that was built 3, leaf 0, and from one 1, leaf 0. */
 struct snp_cpuid_kept_table {
     uint32_t registers[352];
@@ -330,6 +331,16 @@ static inline struct snp_cpuid_found snp_cpuid_find(const struct snp_cpuid_kept_
 
 /* How many rows the table has, and its combined mask. */
 static inline struct snp_cpuid_counts snp_cpuid_counts_of(const struct snp_cpuid_kept_table *table);
+
+/* A fingerprint: 32 bytes. */
+struct snp_cpuid_digest {
+    uint8_t bytes[32];
+};
+
+/* The table's fingerprint: the SHA-256 (FIPS 180-4) of the image that snp_cpuid_write_table_image writes. Two tables have one fingerprint where their
+ * rows and combined masks are equal, and otherwise only if their images are a collision of SHA-256. Print it beside a figure, and the figure says under
+ * which table it was computed. Origins do not count. A table without rows has the fingerprint of no bytes. */
+static inline struct snp_cpuid_digest snp_cpuid_fingerprint_of(const struct snp_cpuid_kept_table *table);
 
 /* Makes the table what the guest of a processor sees, in place; origins stay. A refusal by 13 or 14 leaves a table without rows: copy the table first
  * where the paravisor's is still needed. */
@@ -624,13 +635,13 @@ struct snp_cpuid_written snp_cpuid_write_pool_image(const uint8_t *pages, size_t
 
 /* ==== The bodies of parts 1 and 2 */
 
-/* Refers to the symbol of the library, without a byte of code. */
-#define SNP_CPUID_TEXT(name) #name
-#define SNP_CPUID_REFER(name) __asm__ volatile(".globl " SNP_CPUID_TEXT(name) "\n\t.reloc ., R_X86_64_NONE, " SNP_CPUID_TEXT(name))
+/* Refers to the symbol of the library, by a no-op that names it. */
+#define SNP_CPUID_REFER(name) __asm__ volatile("nopl " #name "(%rip)")
+#define SNP_CPUID_REFER_TO(name) SNP_CPUID_REFER(name)
 static inline void snp_cpuid_same_interface(void)
 {
 #ifndef SNP_CPUID_SHARED
-    SNP_CPUID_REFER(SNP_CPUID_INTERFACE);
+    SNP_CPUID_REFER_TO(SNP_CPUID_INTERFACE);
 #endif
 }
 
@@ -750,14 +761,12 @@ static inline struct snp_cpuid_built snp_cpuid_build_into(struct snp_cpuid_kept_
 
 static inline struct snp_cpuid_state snp_cpuid_state_of(const struct snp_cpuid_kept_table *table, struct snp_cpuid_processor processor)
 {
-    snp_cpuid_same_interface();
     return snp_cpuid_table_state(table->registers, table->origins, processor.xcr0, processor.xss);
 }
 
 static inline struct snp_cpuid_found snp_cpuid_guest_find_kept(const struct snp_cpuid_kept_table *table, struct snp_cpuid_processor processor,
                                                                struct snp_cpuid_state state, struct snp_cpuid_query query)
 {
-    snp_cpuid_same_interface();
     return snp_cpuid_table_guest_find_kept(table->registers, table->origins, processor.x2apic, processor.xcr0, processor.xss, processor.osxsave,
                                            state.size, query.leaf, !query.without_subleaf, query.subleaf, query.enforce_subleaf);
 }
@@ -765,38 +774,39 @@ static inline struct snp_cpuid_found snp_cpuid_guest_find_kept(const struct snp_
 static inline struct snp_cpuid_guest_found snp_cpuid_guest_find(const struct snp_cpuid_kept_table *table, struct snp_cpuid_processor processor,
                                                                 struct snp_cpuid_query query)
 {
-    snp_cpuid_same_interface();
     return snp_cpuid_table_guest_find(table->registers, table->origins, processor.x2apic, processor.xcr0, processor.xss, processor.osxsave,
                                       query.leaf, !query.without_subleaf, query.subleaf, query.enforce_subleaf);
 }
 
 static inline struct snp_cpuid_written snp_cpuid_write_table_image(const struct snp_cpuid_kept_table *table, struct snp_cpuid_room out)
 {
-    snp_cpuid_same_interface();
     return snp_cpuid_table_write_image(table->registers, table->origins, out.at, out.length);
 }
 
 static inline struct snp_cpuid_tables_compared snp_cpuid_compare_tables(struct snp_cpuid_move move)
 {
-    snp_cpuid_same_interface();
     return snp_cpuid_table_compare(move.from->registers, move.from->origins, move.to->registers, move.to->origins);
 }
 
 static inline struct snp_cpuid_found snp_cpuid_find(const struct snp_cpuid_kept_table *table, struct snp_cpuid_query query)
 {
-    snp_cpuid_same_interface();
     return snp_cpuid_table_find(table->registers, table->origins, query.leaf, !query.without_subleaf, query.subleaf, query.enforce_subleaf);
 }
 
 static inline struct snp_cpuid_counts snp_cpuid_counts_of(const struct snp_cpuid_kept_table *table)
 {
-    snp_cpuid_same_interface();
     return snp_cpuid_table_counts(table->registers, table->origins);
+}
+
+static inline struct snp_cpuid_digest snp_cpuid_fingerprint_of(const struct snp_cpuid_kept_table *table)
+{
+    struct snp_cpuid_digest digest;
+    (void)snp_cpuid_table_fingerprint(table->registers, table->origins, digest.bytes);
+    return digest;
 }
 
 static inline struct snp_cpuid_built snp_cpuid_become_guest(struct snp_cpuid_kept_table *table, struct snp_cpuid_processor processor)
 {
-    snp_cpuid_same_interface();
     return snp_cpuid_table_guest(table->registers, table->origins, processor.x2apic, processor.xcr0, processor.xss, processor.osxsave);
 }
 
@@ -808,7 +818,6 @@ static inline struct snp_cpuid_read snp_cpuid_read_image_into(struct snp_cpuid_k
 
 static inline struct snp_cpuid_written snp_cpuid_write_table_kvm(const struct snp_cpuid_kept_table *table, struct snp_cpuid_room out)
 {
-    snp_cpuid_same_interface();
     return snp_cpuid_table_write_kvm(table->registers, table->origins, out.at, out.length);
 }
 
@@ -829,7 +838,6 @@ static inline struct snp_cpuid_pooled snp_cpuid_pool_into(struct snp_cpuid_kept_
 static inline uint32_t snp_cpuid_carry_table(struct snp_cpuid_kept_table *table, struct snp_cpuid_editions editions,
                                              struct snp_cpuid_processor processor)
 {
-    snp_cpuid_same_interface();
     return snp_cpuid_table_carry(table->registers, table->origins, editions.from, editions.to, processor.xcr0, processor.xss);
 }
 
@@ -877,7 +885,7 @@ static inline struct snp_cpuid_written snp_cpuid_write_all_topologies(struct snp
 }
 
 #undef SNP_CPUID_REFER
-#undef SNP_CPUID_TEXT
+#undef SNP_CPUID_REFER_TO
 #undef SNP_CPUID_DECIDES
 
 /* From here on a raw function has no name, unless the caller asked for it. */

@@ -1,4 +1,4 @@
-//! The exported functions on plain numbers, as include/snp_cpuid.h documents them; the functions of the crate's root are the safe way in.
+//! The exported functions on plain numbers, as include/snp_cpuid.h documents them; the crate's root has the safe way in.
 //! Made from the proved source by `tests/gate/interface.py --write`.
 
 #![allow(missing_docs)]
@@ -170,17 +170,11 @@ pub struct Table {
     pub origins: [u64; 88],
 }
 
-/// Refers to the symbol of the library that has these declarations, without a byte of code: another library does not link.
+/// Refers to the symbol of the library that has these declarations, by a no-op that names it: another library does not link.
 #[inline(always)]
 pub(crate) fn same_interface() {
-    // SAFETY: there is no instruction
-    unsafe {
-        core::arch::asm!(
-            ".globl snp_cpuid_interface_f2fe8a5e",
-            ".reloc ., R_X86_64_NONE, snp_cpuid_interface_f2fe8a5e",
-            options(nomem, nostack, preserves_flags)
-        );
-    }
+    // SAFETY: the instruction does nothing
+    unsafe { core::arch::asm!("nopl snp_cpuid_interface_f2fe8a5e(%rip)", options(att_syntax, nomem, nostack, preserves_flags)) }
 }
 
 unsafe extern "C" {

@@ -49,7 +49,8 @@ pub enum Refusal {
     NothingDecides,
 }
 
-/// How the topology leaves disagree, in words without the refusal's own. The number is s, bits 12 to 15 of 80000008h.ECX: the size of the APIC core id.
+/// How the topology leaves disagree, in words without the refusal's own. The number is s, bits 12 to 15 of 80000008h.ECX: the size of the APIC core
+/// id.
 #[derive(Clone, Copy, Debug, PartialEq, Eq, Hash)]
 #[non_exhaustive]
 pub enum TopologyError {

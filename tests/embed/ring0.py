@@ -1,4 +1,4 @@
-"""The library for ring 0, which install/libraries writes beside the other: what docs/EMBEDDING.md promises of it beyond what it promises of the other."""
+"""The library for ring 0, which install/libraries writes beside the other: what docs/EMBEDDING.md promises of it alone."""
 import object_code
 import test_embed
 from stack import RING0

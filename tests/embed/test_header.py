@@ -44,8 +44,8 @@ snp_cpuid_write_refusal(refusal, out)
 class Header(unittest.TestCase):
     def compiled(self, text, *words, compiler='gcc', language='c'):
         """What the compiler says of a text, with its exit status; nothing is written."""
-        ran = subprocess.run([compiler, '-x', language, '-I', ROOT / 'include', '-S', '-o', '/dev/null', *words, '-'], input=text, capture_output=True,
-                             text=True, check=False)
+        given = [compiler, '-x', language, '-I', ROOT / 'include', '-S', '-o', '/dev/null', *words, '-']
+        ran = subprocess.run(given, input=text, capture_output=True, text=True, check=False)
         return ran.returncode, ran.stderr
 
     def compiles(self, text, *words, **how):
@@ -67,12 +67,14 @@ class Header(unittest.TestCase):
                 self.fails(function.format(f'{name}({", ".join(swapped)})'), 'incompatible type|cannot convert|argument')
 
     def test_raw_functions_have_no_name_unless_asked_for(self):
-        call = '#include <snp_cpuid.h>\nuint64_t f(const uint8_t *p);\nuint64_t f(const uint8_t *p) { return snp_cpuid_build(p, 0, false, 1).row_count; }\n'
+        call = ('#include <snp_cpuid.h>\nuint64_t f(const uint8_t *p);\n'
+                'uint64_t f(const uint8_t *p) { return snp_cpuid_build(p, 0, false, 1).row_count; }\n')
         self.fails(call, 'poisoned "snp_cpuid_build"')
         self.compiles('#define SNP_CPUID_RAW\n' + call)
 
     def test_an_answer_that_decides_is_not_dropped(self):
-        self.fails(OPENING + 'void f(void);\nvoid f(void) { snp_cpuid_state_of(&table, processor); }\n', 'warn_unused_result', '-Werror=unused-result')
+        dropped = OPENING + 'void f(void);\nvoid f(void) { snp_cpuid_state_of(&table, processor); }\n'
+        self.fails(dropped, 'warn_unused_result', '-Werror=unused-result')
 
     def test_it_stands_beside_the_structs_of_linux(self):
         """arch/x86/coco/sev/shared.c of Linux 6.12"""
@@ -121,7 +123,8 @@ class OldLibrary(unittest.TestCase):
         with tempfile.TemporaryDirectory() as folder:
             caller, program = Path(folder, 'caller.c'), Path(folder, 'caller')
             caller.write_text(OPENING + 'int main(void) { return (int)snp_cpuid_build_into(&table, pages, options).number; }\n')
-            subprocess.run(['gcc', '-O2', '-w', '-fcf-protection=full', '-r', '-nostdlib', '-I', ROOT / 'include', '-o', program, caller, LIBRARY], check=True)
+            words = ['-O2', '-w', '-fcf-protection=full', '-r', '-nostdlib', '-I', ROOT / 'include', '-o', program]
+            subprocess.run(['gcc', *words, caller, LIBRARY], check=True)
             notes = subprocess.run(['readelf', '-n', program], capture_output=True, text=True, check=True).stdout
             self.assertIn('x86 feature: IBT, SHSTK', notes)
 

@@ -88,14 +88,13 @@ class Interface:
         """rust/src/exports.rs"""
         made = ''.join(f'#[repr(C)]\n#[derive(Clone, Copy, Debug, Default, PartialEq, Eq)]\npub struct {struct.name} {{\n'
                        + ''.join(f'    pub {name}: {kind},\n' for name, kind in struct.fields) + '}\n\n' for struct in self.structs)
-        return ('//! The exported functions on plain numbers, as include/snp_cpuid.h documents them; the functions of the crate\'s root are the safe way in.\n'
+        return ('//! The exported functions on plain numbers, as include/snp_cpuid.h documents them; the crate\'s root has the safe way in.\n'
                 '//! Made from the proved source by `tests/gate/interface.py --write`.\n\n#![allow(missing_docs)]\n\n' + made
                 + '#[repr(C)]\n#[derive(Clone, Copy, Debug, PartialEq, Eq)]\npub struct Table {\n'
                 f'    pub registers: [u32; {self.registers}],\n    pub origins: [u64; {self.places}],\n}}\n\n'
-                '/// Refers to the symbol of the library that has these declarations, without a byte of code: another library does not link.\n'
-                '#[inline(always)]\npub(crate) fn same_interface() {\n    // SAFETY: there is no instruction\n    unsafe {\n'
-                f'        core::arch::asm!(\n            ".globl {self.symbol()}",\n            ".reloc ., R_X86_64_NONE, {self.symbol()}",\n'
-                '            options(nomem, nostack, preserves_flags)\n        );\n    }\n}\n\n'
+                '/// Refers to the symbol of the library that has these declarations, by a no-op that names it: another library does not link.\n'
+                '#[inline(always)]\npub(crate) fn same_interface() {\n    // SAFETY: the instruction does nothing\n'
+                f'    unsafe {{ core::arch::asm!("nopl {self.symbol()}(%rip)", options(att_syntax, nomem, nostack, preserves_flags)) }}\n}}\n\n'
                 'unsafe extern "C" {\n' + ''.join(map(self.rust_function, self.functions)) + '}\n')
 
     def layout(self):

@@ -1,13 +1,14 @@
 """proved_source.py: the exported structs and functions as the proved source has them, and the numbers of the refusals.
 
-Structs are those marked #[repr(C)] in crates/*/src, functions those marked `pub extern "C" fn` in crates/snp_cpuid/src. A parameter that lends a slice
-is a pointer and a length for C and Rust, one that lends an array a pointer alone.
+Structs are those marked #[repr(C)] in crates/*/src, functions those marked `pub extern "C" fn` in crates/snp_cpuid/src. A parameter that lends a
+slice is a pointer and a length for C and Rust, one that lends an array a pointer alone.
 """
 import re
 from typing import NamedTuple
 
 STRUCT = re.compile(r'((?:^// [^\n]*\n)*)^#\[repr\(C\)\]\npub struct SnpCpuid(\w+) \{\n(.*?)^\}', re.MULTILINE | re.DOTALL)
-FUNCTION = re.compile(r'((?:^// [^\n]*\n)*)^#\[no_mangle\]\npub extern "C" fn (\w+)\((.*?)\)(?: -> (\w+))?\s*(?:ensures|\{)', re.MULTILINE | re.DOTALL)
+FUNCTION = re.compile(r'((?:^// [^\n]*\n)*)^#\[no_mangle\]\npub extern "C" fn (\w+)\((.*?)\)(?: -> (\w+))?\s*(?:ensures|\{)',
+                      re.MULTILINE | re.DOTALL)
 LENT = re.compile(r'&(mut )?\[(u8|u32|u64)(?:; (\w+))?\]$')
 REFUSED = re.compile(r'(Refusal|TopologyError)::(\w+)(?:\(.*?\))? => (?:sized|at_leaf)\((\d+), ')
 PLAIN = {'u32': 4, 'u64': 8, 'usize': 8, 'bool': 1}

@@ -86,7 +86,8 @@ def c_words(listed):
                     for refusal in listed)
     return ('static inline const char *snp_cpuid_words(uint32_t number)\n{\n    switch (number) {\n'
             f'    case SNP_CPUID_ACCEPTED: return "accepted";\n{words}    default: return "no such number";\n    }}\n}}\n\n'
-            '/* The text of a message: %l stands for the leaf and %c for the subleaf, both in hexadecimal, %s for s and %p for 2 to the power of s. */\n'
+            '/* The text of a message: %l stands for the leaf and %c for the subleaf, both in hexadecimal, %s for s and %p for 2 to the power '
+            'of s. */\n'
             'static inline const char *snp_cpuid_message_text(struct snp_cpuid_refusal refusal)\n{\n    switch (refusal.number) {\n'
             f'{texts}    default: return snp_cpuid_words(refusal.number);\n    }}\n}}\n')
 

@@ -89,7 +89,7 @@ class Made(unittest.TestCase):
         before = self.symbol()
         self.edit('crates/answers/src/lib.rt', '// How many rows a table has', '// How very many rows a table has')
         self.assertEqual(self.symbol(), before)
-        self.edit('crates/answers/src/lib.rt', '    pub row_count: u64,\n    pub max_extended_state: u64,\n', '    pub row_count: u64,\n    pub mask: u64,\n')
+        self.edit('crates/answers/src/lib.rt', '    pub max_extended_state: u64,\n', '    pub mask: u64,\n')
         self.asked('--write')
         self.assertIn('    uint64_t row_count;          /* 26 to 32 of a table that was built from pages */\n', self.text(MADE[0]))
 
@@ -103,7 +103,8 @@ class Made(unittest.TestCase):
 
     def test_refusals_are_those_of_the_proved_numbers(self):
         for old, new in (('12 ListFields', '12 ListWords'), ('12 ListFields', '21 ListFields'), ('    means INVLPGB is unavailable\n', ''),
-                         ('    says the AVX rule has', '    tells the AVX rule has'), ('says no entry for leaf %lh subleaf', 'says if s 3: no entry for leaf')):
+                         ('    says the AVX rule has', '    tells the AVX rule has'),
+                         ('says no entry for leaf %lh subleaf', 'says if s 3: no entry for leaf')):
             whole = self.text('include/refusals.txt')
             self.edit('include/refusals.txt', old, new)
             status, said = self.asked('--write')
