@@ -15,7 +15,7 @@ fn processor(x2apic: u32, xcr0: u64, xss: u64, osxsave: bool) -> Processor {
 }
 
 /// The text of `cpuid -r` of processors that see a table, each in its state.
-fn dump(table: &Table, processors: &[Processor]) -> String {
+pub fn dump(table: &Table, processors: &[Processor]) -> String {
     let mut text = String::new();
     for (number, processor) in processors.iter().enumerate() {
         text += &format!("CPU {number}:\n");

@@ -13,11 +13,12 @@ use crate::json::{self, Json, array, hex, object};
 use crate::masks::kept;
 use crate::option::Opt;
 use crate::print::{bit_json, place, place_json};
+use crate::processor::all_states;
 use crate::source::Source;
 use crate::standing::Standing;
 use crate::wrap::wrapped;
-use crate::{output, words};
-use snp_cpuid::{Comparison, Fingerprint, Processor, Refusal, Register, Table, TableComparison};
+use crate::{output, processor, words};
+use snp_cpuid::{Comparison, Fingerprint, Refusal, Register, Table, TableComparison};
 
 /// One of the two, under the name that the report gives it: its pages, or the image of its table.
 struct Server {
@@ -61,12 +62,10 @@ impl Server {
 
 const SAME: Opt = Opt::flag(&["--same"], "exit with 0 only where A and B give a guest the same table");
 
-const VIEW: Opt = Opt::flag(&["--view"], "A or B was taken inside a guest: compare what one processor sees of both");
-
 pub const COMMAND: Command = Command {
     name: "compare",
     operands: &["A", "B"],
-    options: &[&[SAME, VIEW, json::OPTION], building::OPTIONS],
+    options: &[&[SAME, processor::VIEW, json::OPTION], building::OPTIONS],
     summary: "say whether A and B give one table, or a guest of A may move to B, and why not",
     about: "\
 Compares two servers. The first line begins with one of three words. 'same': A and B give a guest
@@ -119,7 +118,7 @@ fn run(arguments: &Arguments) -> Result<(), Failure> {
     building.heeded_by(&sources)?;
     let [a, b] = sources;
     let (mut a, mut b) = (server("A", a), server("B", b));
-    let view = arguments.has(&VIEW);
+    let view = arguments.has(&processor::VIEW);
     if let (true, Ok(from), Ok(to)) = (view, &a.table, &b.table) {
         // where B does not allow A's states it lacks one of them, and that is the answer as it stands
         if let (Ok(from), Ok(to)) = (from.guest(all_states(from)), to.guest(all_states(from))) {
@@ -142,13 +141,6 @@ fn run(arguments: &Arguments) -> Result<(), Failure> {
         _ if report.equal() || report.answer() == "yes" && !arguments.has(&SAME) => Ok(()),
         _ => Err(Failure::AnswerNo),
     }
-}
-
-/// Processor 0 with all states on that a table allows.
-fn all_states(table: &Table) -> Processor {
-    let row = |subleaf| table.row(0xD, Some(subleaf)).unwrap_or_default();
-    let xss = if row(1).eax & 0xA == 0xA { row(1).ecx } else { 0 };
-    Processor { x2apic: 0, xcr0: row(0).eax.into(), xss: xss.into(), osxsave: true }
 }
 
 /// The answer of the tables for the first direction, where both are there, and both directions by the entries.
