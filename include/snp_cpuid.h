@@ -436,8 +436,8 @@ struct snp_cpuid_counts snp_cpuid_table_counts(const uint32_t *registers, const 
  * read. A place without a row reads as zeros here. */
 uint32_t snp_cpuid_table_carry(uint32_t *registers, const uint64_t *origins, uint32_t from, uint32_t to, uint64_t xcr0, uint64_t xss);
 
-/* Writes the table's fingerprint to the 32 bytes at digest, as snp_cpuid_fingerprint does, and gives its counts. Origins do not count. A table without
- * rows has the fingerprint of no bytes. */
+/* Writes the table's fingerprint to the 32 bytes at digest, as snp_cpuid_fingerprint does, and gives its counts. Origins do not count. A table
+ * without rows has the fingerprint of no bytes. */
 struct snp_cpuid_counts snp_cpuid_table_fingerprint(const uint32_t *registers, const uint64_t *origins, uint8_t *digest);
 
 /* ---- the same with structs: define SNP_CPUID_NO_INLINE to leave these out */

@@ -40,7 +40,7 @@ fn hiding_the_marked_bits_changes_results() {
     assert_eq!(hidden, results("-FMA,-AVX2,-FMA_Usable,-AVX2_Usable"));
 }
 
-/// examples/last_decimal.sh: on two servers the sheet has two figures, under the pool's table one, each with the fingerprint that it was computed under.
+/// examples/last_decimal.sh: on two servers the sheet has two figures, under the pool's table one, each with the fingerprint of its table.
 #[test]
 fn the_last_decimal_stays_under_the_pools_table() {
     if !can_be_tried() {
