@@ -82,6 +82,19 @@ fn lookup_and_guest() {
     assert_eq!(beyond.unwrap(), "[\"refused\",13,\"XCR0 7 and XSS 0\"]");
 }
 
+/// A dump of one processor that sees the table, and of one without FMA.
+#[test]
+fn check_of_dumps() {
+    let folder = Folder::new("answers_check");
+    let dump = run(&["to-dump", EPYC]).text().to_string();
+    let (same, less) = (folder.file("same", &dump), folder.file("less", dump.replace("ecx=0xfeda3203", "ecx=0xfeda2203")));
+    let filter = "[.answer, (.processors | length), .processors[0].same, .processors[0].unlike]";
+    let Some(read) = asked(&["check", EPYC, "--dump", &same], filter) else { return };
+    assert_eq!(read, r#"["same",1,true,[]]"#);
+    let read = asked(&["check", EPYC, "--dump", &less], ".processors[0].unlike[] | [.leaf, .register, .table, .here, .bits[].name]").unwrap();
+    assert_eq!(read, r#"["00000001","ECX","FEDA3203","FEDA2203","FMA"]"#);
+}
+
 #[test]
 fn compare_both_ways() {
     let folder = Folder::new("answers_compare");

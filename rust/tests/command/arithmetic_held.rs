@@ -39,3 +39,22 @@ fn hiding_the_marked_bits_changes_results() {
     assert_ne!(results(""), hidden);
     assert_eq!(hidden, results("-FMA,-AVX2,-FMA_Usable,-AVX2_Usable"));
 }
+
+/// examples/last_decimal.sh: on two servers the sheet has two figures, under the pool's table one, each with the fingerprint of its table.
+#[test]
+fn the_last_decimal_stays_under_the_pools_table() {
+    if !can_be_tried() {
+        return;
+    }
+    let ran = Command::new("../examples/last_decimal.sh").arg(env!("CARGO_BIN_EXE_snp-cpuid")).output().unwrap();
+    let text = String::from_utf8(ran.stdout).unwrap();
+    let of = |name: &str| {
+        let (_, rest) = text.split_once(&format!("{name}: ")).expect("a figure");
+        let mut lines = rest.lines();
+        (lines.next().unwrap().to_string(), lines.next().unwrap().trim().to_string())
+    };
+    let (a, b, pooled) = (of("server A"), of("server B"), of("server A, pool's table"));
+    assert!(ran.status.success() && a.0 != b.0 && a.1 != b.1, "{text}");
+    assert_eq!(pooled, of("server B, pool's table"));
+    assert!(text.starts_with("yes: a running guest of A may move to B, and programs that start there may see more: FMA and AVX2."), "{text}");
+}

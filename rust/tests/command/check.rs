@@ -15,7 +15,7 @@ fn processor(x2apic: u32, xcr0: u64, xss: u64, osxsave: bool) -> Processor {
 }
 
 /// The text of `cpuid -r` of processors that see a table, each in its state.
-fn dump(table: &Table, processors: &[Processor]) -> String {
+pub fn dump(table: &Table, processors: &[Processor]) -> String {
     let mut text = String::new();
     for (number, processor) in processors.iter().enumerate() {
         text += &format!("CPU {number}:\n");
@@ -85,7 +85,7 @@ fn another_table() {
     assert!(json.status == 1 && json.text().contains("\"name\": \"FMA\""), "{}", json.text());
 }
 
-/// Inside the machine that runs the tests: a table of its own processors' rows is no table of this library, so the answer is no; each processor is asked.
+/// Inside the machine that runs the tests: each processor that it may run on is asked.
 #[test]
 fn the_machines_own_processors() {
     if !cfg!(all(target_arch = "x86_64", target_os = "linux")) {

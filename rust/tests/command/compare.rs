@@ -405,3 +405,27 @@ fn refused_sets_are_status_1_with_the_refusal() {
     assert_eq!((both.status, parts(&both).verdict.as_str()), (1, "no: A is refused, by 1, and B, by 1."));
     assert!(both.failure().starts_with(&format!("{}: refusal 1: ", folder.path("a"))));
 }
+
+/// The view of a processor, dumped inside its guest, against the table: unlike as they stand, the same with --view; a bit less is told as before.
+#[test]
+fn a_guests_own_view() {
+    let folder = Folder::new("compare_view");
+    let table = snp_cpuid::build(&set(&epyc()), Options::new()).unwrap();
+    for (x2apic, xcr0, xss, osxsave) in [(5, 3, 0x800, true), (0x105, 7, 0, false), (0, 1, 0, true)] {
+        let seen = table.guest(snp_cpuid::Processor { x2apic, xcr0, xss, osxsave }).unwrap();
+        let (own, whole) = (folder.file("own", &*seen.image()), folder.file("whole", &*table.image()));
+        assert_eq!((run(&["compare", &own, &whole]).status, run(&["compare", &whole, &own]).status), (1, 1));
+        for (a, b) in [(&own, &whole), (&whole, &own)] {
+            let ran = run(&["compare", a, b, "--view", "--same"]);
+            assert!(
+                ran.status == 0 && ran.text().starts_with("same: one processor sees the same of A's table and B's, row for row.\n"),
+                "{}",
+                ran.text()
+            );
+            assert!(ran.text().contains(&format!("fingerprint {}\n", table.fingerprint())), "{}", ran.text());
+        }
+        let less = folder.file("less", set(&with(0x1, 0, 2, |ecx| ecx & !(1 << 12))));
+        let ran = run(&["compare", &own, &less, "--view"]);
+        assert!(ran.status == 1 && ran.text().contains("B lacks FMA, leaf 00000001 ECX bit 12."), "{}", ran.text());
+    }
+}

@@ -345,3 +345,25 @@ fn standard_input_and_bad_usage() {
     let ran = run(&["fleet", &folder.path("")]);
     assert_eq!((ran.status, ran.line().ends_with(": no file in it")), (2, true));
 }
+
+/// One server, dumped inside its guest on several processors in several states: as they stand two groups and more, with --view one class.
+#[test]
+fn views_of_one_table_are_one_class() {
+    let folder = Folder::new("fleet_views");
+    let table = snp_cpuid::build(&set(&epyc()), Options::new()).unwrap();
+    for (name, x2apic, xcr0, xss) in [("a", 0, 7, 0x800), ("b", 5, 7, 0x800), ("c", 5, 3, 0)] {
+        let processor = snp_cpuid::Processor { x2apic, xcr0, xss, osxsave: true };
+        folder.file(&format!("{name}.dump"), crate::check::dump(&table, &[processor]));
+    }
+    let plain = run(&["fleet", &folder.path("")]);
+    assert!(plain.text().starts_with("3 servers: all accepted, in 3 classes\n"), "{}", plain.text());
+    let ran = run(&["fleet", &folder.path(""), "--view"]);
+    assert!(
+        ran.text().starts_with("3 servers: all accepted, with one table\n") && ran.text().contains(", tables as processor 0 sees them\n"),
+        "{}",
+        ran.text()
+    );
+    // a server that differs still does
+    folder.file("d.pages", set(&less(&epyc(), 1, 2, 12)));
+    assert!(run(&["fleet", &folder.path(""), "--view"]).text().contains("  d; without FMA\n"));
+}

@@ -45,9 +45,9 @@ mod topologies;
 mod usage;
 
 // the command's own tables and writers: names, the rows that go into pages, JSON
+#[allow(dead_code)]
 #[path = "../../src/bin/snp-cpuid/arguments.rs"]
 mod arguments;
-#[allow(dead_code)]
 #[allow(dead_code)]
 #[path = "../../src/bin/snp-cpuid/arithmetic.rs"]
 mod arithmetic;

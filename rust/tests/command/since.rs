@@ -80,7 +80,7 @@ fn reports_that_cannot_be_read() {
         (text.replacen("\"version\": 1", "\"version\": 2", 1).as_bytes(), "is no report of 'fleet --json' in version 1 of its form"),
         (
             text.replacen("\"edition\": 1", "\"edition\": 2", 1).as_bytes(),
-            "was made under other choices: --edition and --secure-avic must be the same",
+            "was made under other choices: --edition, --secure-avic and --view must be the same",
         ),
         (damaged.as_bytes(), "is damaged"),
     ] {

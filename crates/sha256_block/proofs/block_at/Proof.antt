@@ -1,5 +1,5 @@
--- `sha256_block::block_at` meets its contract: the first loop reads the block's 16 words, the second makes the 48 others. The invariants: the words up to here are the
--- schedule's.
+-- `sha256_block::block_at` meets its contract: the first loop reads the block's 16 words, the second makes the 48 others. The invariants: the words
+-- up to here are the schedule's.
 use mathlib.Core.Path.{_≡_, refl, _∙_}
 use Prim.Native.Nat.{_+_, _-_, _≤_}
 use native.Mathlib.Omega.{arith}

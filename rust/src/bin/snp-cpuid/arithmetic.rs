@@ -1,4 +1,5 @@
-//! Feature bits by which libraries choose the code that computes. Where such a bit comes or goes, a program that starts may print another last decimal.
+//! Feature bits by which libraries choose the code that computes. Where such a bit comes or goes, a program that starts may print another last
+//! decimal.
 //!
 //! glibc's libm: sysdeps/x86_64/fpu/multiarch, ifunc-fma.h (FMA with AVX2), ifunc-fma4.h and ifunc-avx-fma4.h (then FMA4). Its vector library,
 //! libmvec: ifunc-mathvec-avx2.h (FMA with AVX2) and ifunc-mathvec-avx512-skx.h (AVX512DQ), in the same folder. OpenBLAS: driver/others/dynamic.c,

@@ -6,9 +6,12 @@ use crate::input::shown;
 use crate::json::{Json, hex, object};
 use crate::numbers::wide;
 use crate::option::Opt;
-use snp_cpuid::Processor;
+use snp_cpuid::{Processor, Table};
 
 const OSXSAVE: Opt = Opt::flag(&["--osxsave"], "the operating system has switched XSAVE on (CR4 bit 18)");
+
+/// The option of a command that compares tables.
+pub const VIEW: Opt = Opt::flag(&["--view"], "files were taken inside guests: compare what one processor sees of each table");
 
 /// The number options, required or not.
 const fn numbers(required: bool) -> [Opt; 3] {
@@ -28,6 +31,13 @@ pub const SOMETIMES: &[Opt] = &[OPTIONAL[0], OPTIONAL[1], OPTIONAL[2], OSXSAVE];
 
 /// The options of a command that asks for its states alone.
 pub const STATES: &[Opt] = &[REQUIRED[1], REQUIRED[2]];
+
+/// Processor 0 with all states on that a table allows.
+pub fn all_states(table: &Table) -> Processor {
+    let row = |subleaf| table.row(0xD, Some(subleaf)).unwrap_or_default();
+    let xss = if row(1).eax & 0xA == 0xA { row(1).ecx } else { 0 };
+    Processor { x2apic: 0, xcr0: row(0).eax.into(), xss: xss.into(), osxsave: true }
+}
 
 /// The processor that was described; none where no option of it is given.
 pub fn of(arguments: &Arguments, command: &str) -> Result<Option<Processor>, Failure> {

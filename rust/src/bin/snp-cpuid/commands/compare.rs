@@ -13,11 +13,12 @@ use crate::json::{self, Json, array, hex, object};
 use crate::masks::kept;
 use crate::option::Opt;
 use crate::print::{bit_json, place, place_json};
+use crate::processor::all_states;
 use crate::source::Source;
 use crate::standing::Standing;
 use crate::wrap::wrapped;
-use crate::{output, words};
-use snp_cpuid::{Comparison, Refusal, Register, Table, TableComparison};
+use crate::{output, processor, words};
+use snp_cpuid::{Comparison, Fingerprint, Refusal, Register, Table, TableComparison};
 
 /// One of the two, under the name that the report gives it: its pages, or the image of its table.
 struct Server {
@@ -26,7 +27,10 @@ struct Server {
     pages: Vec<u8>,
     is_image: bool,
     standing: Standing,
+    /// what is compared: the table, or what one processor sees of it
     table: Result<Table, Refusal>,
+    /// of the table itself
+    fingerprint: Option<Fingerprint>,
 }
 
 impl Server {
@@ -40,7 +44,8 @@ impl Server {
         let answer = match &self.table {
             Ok(table) => {
                 let (what, rows) = (if self.is_image { "an image" } else { "accepted" }, words::counted(table.rows().count() as u32, "row"));
-                format!("{what}, {rows}\n   fingerprint {}", table.fingerprint())
+                let fingerprint = self.fingerprint.map_or(String::new(), |fingerprint| format!("\n   fingerprint {fingerprint}"));
+                format!("{what}, {rows}{fingerprint}")
             }
             Err(refusal) => told(*refusal),
         };
@@ -49,7 +54,7 @@ impl Server {
 
     fn json(&self, building: Building) -> Json {
         let refusal = self.table.as_ref().err().map(|refusal| refusal_json(*refusal, &building.reason(*refusal, &self.pages)));
-        let fingerprint = self.table.as_ref().ok().map(|table| table.fingerprint().to_string());
+        let fingerprint = self.fingerprint.map(|fingerprint| fingerprint.to_string());
         let answer = [("accepted", self.table.is_ok().into()), ("image", self.is_image.into()), ("refusal", refusal.into())];
         object([("file", self.file.as_str().into())]).with(answer).with([("fingerprint", fingerprint.into())])
     }
@@ -60,7 +65,7 @@ const SAME: Opt = Opt::flag(&["--same"], "exit with 0 only where A and B give a 
 pub const COMMAND: Command = Command {
     name: "compare",
     operands: &["A", "B"],
-    options: &[&[SAME, json::OPTION], building::OPTIONS],
+    options: &[&[SAME, processor::VIEW, json::OPTION], building::OPTIONS],
     summary: "say whether A and B give one table, or a guest of A may move to B, and why not",
     about: "\
 Compares two servers. The first line begins with one of three words. 'same': A and B give a guest
@@ -76,6 +81,10 @@ By some bits libraries choose the code that computes, so a program that starts m
 last decimal: by FMA with AVX2, and by FMA4, glibc's libm; by FMA with AVX2, and by AVX512DQ, its
 vector library libmvec; by AVX2 and AVX-512 OpenBLAS. Such bits are marked with these names. A guest
 that must print the same figures after a restart needs --same, or the table of a pool.
+
+What was captured or dumped inside a guest has the number of its processor and the sizes of its
+XCR0 and XSS in the place of the table's. With --view these are left out of the verdict: both
+tables are compared as processor 0 sees them, with all states on that A's table allows.
 
 The last lines compare the entries, in both directions. There 'yes' says more: for every row of A's
 table but 0 and 80000000 B has a first entry with at least the bits of A's in feature registers, and
@@ -101,18 +110,26 @@ fn run(arguments: &Arguments) -> Result<(), Failure> {
     let building = Building::of(arguments, COMMAND.name)?;
     let server = |name, source: Source| {
         let (table, standing) = (source.table(), Standing::of(&source.pages));
-        Server { name, file: source.file, is_image: source.image.is_some(), pages: source.pages, standing, table }
+        let fingerprint = table.as_ref().ok().map(Table::fingerprint);
+        Server { name, file: source.file, is_image: source.image.is_some(), pages: source.pages, standing, table, fingerprint }
     };
     let source = |place: usize| building.source(&arguments.operands[place]);
     let sources = [source(0)?, source(1)?];
     building.heeded_by(&sources)?;
     let [a, b] = sources;
-    let (a, b) = (server("A", a), server("B", b));
+    let (mut a, mut b) = (server("A", a), server("B", b));
+    let view = arguments.has(&processor::VIEW);
+    if let (true, Ok(from), Ok(to)) = (view, &a.table, &b.table) {
+        // where B does not allow A's states it lacks one of them, and that is the answer as it stands
+        if let (Ok(from), Ok(to)) = (from.guest(all_states(from)), to.guest(all_states(from))) {
+            (a.table, b.table) = (Ok(from), Ok(to));
+        }
+    }
     let tables = match (&a.table, &b.table) {
         (Ok(from), Ok(to)) => Some(from.compare(to)),
         _ => None,
     };
-    let report = Report { tables, rises: Direction::new(&a, &b, building), falls: Direction::new(&b, &a, building), building };
+    let report = Report { tables, rises: Direction::new(&a, &b, building), falls: Direction::new(&b, &a, building), building, view };
     output::print(if building.json() { report.json().to_string() } else { report.text() })?;
     let refused = |server: &Server, refusal| {
         let reason = building.reason(refusal, &server.pages);
@@ -132,6 +149,8 @@ struct Report<'a> {
     rises: Direction<'a>,
     falls: Direction<'a>,
     building: Building,
+    /// whether what one processor sees was compared
+    view: bool,
 }
 
 impl Report<'_> {
@@ -159,6 +178,7 @@ impl Report<'_> {
             (Err(a), Err(b)) => format!("no: A is refused, by {}, and B, by {}.", a.number(), b.number()),
             (Err(refusal), Ok(_)) => format!("no: A is refused, by {}, so it has no guest.", refusal.number()),
             (Ok(_), Err(refusal)) => format!("no: B is refused, by {}.", refusal.number()),
+            _ if self.equal() && self.view => "same: one processor sees the same of A's table and B's, row for row.".into(),
             _ if self.equal() => "same: A and B give a guest the same table, row for row.".into(),
             _ if self.answer() == "yes" => format!("yes: a running guest of A may move to B, {}. {}.", self.seen_there(), self.rises.promise()),
             _ => format!("no: a guest of A may not move to B. {}.", self.obstacle().unwrap_or_default()),
@@ -228,6 +248,7 @@ impl Report<'_> {
             ("answer", self.answer().into()),
             ("edition", self.edition().into()),
             ("equal", self.equal().into()),
+            ("view", self.view.into()),
             ("words", self.verdict().into()),
             ("more", array(if self.answer() == "yes" { self.more() } else { vec![] }.iter().map(marked_json))),
             ("a", a.json(self.building)),

@@ -8,7 +8,7 @@ use crate::fleet::since::{Before, Since};
 use crate::fleet::{Fleet, data, page, source, text};
 use crate::input::{read, shown};
 use crate::option::{Opt, Value};
-use crate::{json, output};
+use crate::{json, output, processor};
 use std::ffi::OsStr;
 
 const HTML: Opt = Opt {
@@ -28,7 +28,7 @@ const SINCE: Opt = Opt {
 pub const COMMAND: Command = Command {
     name: "fleet",
     operands: &["PAGES.."],
-    options: &[&[HTML, SINCE, json::OPTION], building::OPTIONS_BUT_LINE],
+    options: &[&[HTML, SINCE, processor::VIEW, json::OPTION], building::OPTIONS_BUT_LINE],
     summary: "tell which of any number of servers are alike, and where a guest may go",
     about: "\
 Tells of any number of servers which are accepted, which give a guest the same table, and where a
@@ -46,6 +46,10 @@ read, but for hidden ones. The report has:
 
 With --since the report ends in what changed since OLD, a report that --json gave before under the
 same choices: servers that came and went, and those that give another table, by which bits.
+
+What was captured or dumped inside a guest has the number of its processor and the sizes of its
+XCR0 and XSS in the place of the table's. With --view they are left out: each table is taken as
+processor 0 sees it, with all states on that the table allows, and the fingerprints are of that.
 
 The order of moves is that of tables. The entries of pages promise less, before the other server is
 built, as 'compare' tells; a note names the moves that they do not promise.
@@ -68,7 +72,7 @@ fn run(arguments: &Arguments) -> Result<(), Failure> {
         return Err(Failure::usage(COMMAND.name, "--html - and --json both go to standard output"));
     }
     let sources = source::sources(&arguments.operands)?;
-    let fleet = Fleet::of(sources, building);
+    let fleet = Fleet::of(sources, building, arguments.has(&processor::VIEW));
     let since = arguments.value(SINCE.name()).map(|file| since(file, &fleet)).transpose()?;
     match arguments.value(HTML.name()) {
         Some(file) if !to_output => output::to_file(file, page::of(&fleet).as_bytes())?,

@@ -33,6 +33,7 @@ pub fn of(fleet: &Fleet) -> Json {
         ("tool", crate::VERSION.trim_end().into()),
         ("edition", fleet.building.edition().into()),
         ("secure_avic", fleet.building.secure_avic().into()),
+        ("view", fleet.view.into()),
         ("accepted", fleet.accepted().into()),
         ("refused", (fleet.servers.len() - fleet.accepted()).into()),
         ("servers", array(fleet.servers.iter().map(|each| server(fleet, each)))),

@@ -13,6 +13,7 @@ pub mod source;
 pub mod text;
 
 use crate::building::Building;
+use crate::processor::all_states;
 use groups::Group;
 use moves::Moves;
 use pools::Pool;
@@ -56,6 +57,8 @@ pub struct Class {
 /// All that a report says. Servers stand in the order of their files' names: the same files in another order give the same report.
 pub struct Fleet {
     pub building: Building,
+    /// whether tables are taken as processor 0 sees them, with all its states on
+    pub view: bool,
     pub servers: Vec<Server>,
     pub groups: Vec<Group>,
     pub classes: Vec<Class>,
@@ -66,8 +69,8 @@ pub struct Fleet {
 
 impl Fleet {
     /// Builds each server once, puts equal tables together, and compares these.
-    pub fn of(sources: Vec<Source>, building: Building) -> Fleet {
-        let (tables, refusals) = built(&sources, &building);
+    pub fn of(sources: Vec<Source>, building: Building, view: bool) -> Fleet {
+        let (tables, refusals) = built(&sources, &building, view);
         let (classes, groups) = groups::named(tables);
         let mut servers: Vec<Server> = sources.into_iter().zip(refusals).map(|(source, answer)| Server { source, answer }).collect();
         for (place, class) in classes.iter().enumerate() {
@@ -76,7 +79,7 @@ impl Fleet {
         let pools = pools::of(&groups, &classes);
         let moves = Moves::of(&groups, &classes, &servers, &building);
         let refused = refused::together(&servers, &building);
-        Fleet { building, groups, moves, pools, refused, classes, servers }
+        Fleet { building, view, groups, moves, pools, refused, classes, servers }
     }
 
     /// How many servers are accepted.
@@ -94,7 +97,7 @@ impl Server {
 
 /// The tables that there are, each with its servers, and what came of the others. Equal images are equal tables
 /// (crates/images/specs/Images.antt, `EqualImages`).
-fn built(sources: &[Source], building: &Building) -> (Tables, Vec<Answer>) {
+fn built(sources: &[Source], building: &Building, view: bool) -> (Tables, Vec<Answer>) {
     let mut tables = Tables::new();
     let mut places: HashMap<Vec<u8>, usize> = HashMap::new();
     let mut answers = vec![];
@@ -106,6 +109,8 @@ fn built(sources: &[Source], building: &Building) -> (Tables, Vec<Answer>) {
         };
         answers.push(match table {
             Ok(table) => {
+                let seen = if view { table.guest(all_states(&table)).ok() } else { None };
+                let table = seen.unwrap_or(table);
                 let place = *places.entry(table.image().to_vec()).or_insert(tables.len());
                 if place == tables.len() {
                     tables.push((vec![], table));

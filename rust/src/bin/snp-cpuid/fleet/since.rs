@@ -45,9 +45,9 @@ impl Before {
         if word("version") != Some(&data::FORM.to_string()) {
             return Err(format!("is no report of 'fleet --json' in version {} of its form", data::FORM));
         }
-        let (edition, avic) = (fleet.building.edition().to_string(), fleet.building.secure_avic().to_string());
-        if (word("edition"), word("secure_avic")) != (Some(&edition), Some(&avic)) {
-            return Err("was made under other choices: --edition and --secure-avic must be the same".into());
+        let choices = [fleet.building.edition().to_string(), fleet.building.secure_avic().to_string(), fleet.view.to_string()];
+        if ["edition", "secure_avic", "view"].map(word) != choices.each_ref().map(|choice| Some(choice.as_str())) {
+            return Err("was made under other choices: --edition, --secure-avic and --view must be the same".into());
         }
         servers(&report).zip(tables(&report)).map(|(servers, tables)| Before { servers, tables }).ok_or("is damaged".into())
     }

@@ -75,7 +75,8 @@ pub fn sentence(fleet: &Fleet) -> String {
 /// What the library was asked for.
 pub fn choices(fleet: &Fleet) -> String {
     let avic = if fleet.building.secure_avic() { "with" } else { "without" };
-    format!("edition {} of the AVX rule, {avic} secure AVIC", fleet.building.edition())
+    let view = if fleet.view { ", tables as processor 0 sees them" } else { "" };
+    format!("edition {} of the AVX rule, {avic} secure AVIC{view}", fleet.building.edition())
 }
 
 fn head(fleet: &Fleet) -> String {

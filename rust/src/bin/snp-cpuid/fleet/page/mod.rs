@@ -186,7 +186,8 @@ fn class_row(fleet: &Fleet, place: usize) -> String {
     let lacks: Vec<String> = differing::lacks(fleet, place).iter().map(features::named).collect();
     let lacks = if lacks.is_empty() { "<span class=\"d\">nothing</span>".into() } else { folded(&lacks) };
     format!(
-        "<tr id=\"{name}\" data-class=\"{name}\" data-servers=\"{many}\"><th scope=\"row\" title=\"{fingerprint}\">{name}<div class=\"d\">{fingerprint:.8}</div></th>\
+        "<tr id=\"{name}\" data-class=\"{name}\" data-servers=\"{many}\">\
+         <th scope=\"row\" title=\"{fingerprint}\">{name}<div class=\"d\">{fingerprint:.8}</div></th>\
          <td class=\"r\">{many}</td><td>{}</td><td>{lacks}</td></tr>\n",
         folded(&server_names(fleet, &class.servers)),
         name = class.name,
