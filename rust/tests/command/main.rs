@@ -20,6 +20,7 @@ mod entries;
 mod fleet;
 mod guest;
 mod images;
+mod inputs;
 #[path = "json.rs"]
 mod json_text;
 mod kvm;

@@ -11,8 +11,8 @@ fn cases() -> Vec<(Vec<u8>, &'static str, &'static str)> {
     let mut counted = shipped.clone();
     counted[4096] = 65;
     vec![
-        (vec![], "1", "[null,null,null]"),
-        (shipped[1..].to_vec(), "1", "[null,null,null]"),
+        ([&shipped[..], &[1, 2, 3]].concat(), "1", "[null,null,null]"),
+        (shipped[..8191].to_vec(), "1", "[null,null,null]"),
         (counted, "2", "[null,null,null]"),
         (set(&without(0x8000_001A, 0)), "3", r#"["8000001A",null,null]"#),
         (set(&without(0x8000_001D, 3)), "3", r#"["8000001D",3,null]"#),

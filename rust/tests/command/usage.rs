@@ -201,7 +201,7 @@ fn standard_input_and_output_are_a_dash() {
     let pages = fs::read(EPYC).unwrap();
     assert_eq!(run_on(&pages, &["table", "-"]), run(&["table", EPYC]));
     assert_eq!(run_on(&pages, &["image", "-", "-o", "-"]).out, fs::read("../crates/snp_cpuid_image/stdout").unwrap());
-    assert!(run_on(&[], &["table", "-"]).line().starts_with("standard input: refusal 1: "));
+    assert_eq!((run_on(&[], &["table", "-"]).status, run_on(&[], &["table", "-"]).line()), (2, "standard input: it is empty"));
 }
 
 #[test]

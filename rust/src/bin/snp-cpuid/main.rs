@@ -15,6 +15,7 @@ mod fields;
 mod fleet;
 mod help;
 mod input;
+mod inputs;
 mod json;
 mod machine;
 mod manual;

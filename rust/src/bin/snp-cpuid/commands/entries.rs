@@ -4,7 +4,7 @@ use crate::arguments::Arguments;
 use crate::building::{self, Building, refusal_json, told};
 use crate::command::Command;
 use crate::failure::Failure;
-use crate::input::{read, shown};
+use crate::input::read;
 use crate::json::{self, Json, array, object};
 use crate::output;
 use crate::print::{place, place_json, registers_json};
@@ -49,9 +49,10 @@ struct Report {
 fn run(arguments: &Arguments) -> Result<(), Failure> {
     let building = Building::of(arguments, COMMAND.name)?;
     let file = &arguments.operands[0];
-    let pages = read(file)?;
-    let (standing, answer) = (Standing::of(&pages), building.build(&pages));
-    let report = Report { file: shown(file), building, pages, standing, answer };
+    let source = building.pages_of(file, read(file)?)?;
+    let building = building.under(source.options);
+    let (standing, answer) = (Standing::of(&source.pages), building.build(&source.pages));
+    let report = Report { file: source.file, building, pages: source.pages, standing, answer };
     output::print(if building.json() { report.json().to_string() } else { report.text() })?;
     report.answer.err().map_or(Ok(()), |refusal| building.print_line(refusal))
 }

@@ -22,9 +22,9 @@ pub const COMMAND: Command = Command {
     summary: "tell which of any number of servers are alike, and where a guest may go",
     about: "\
 Tells of any number of servers which are accepted, which give a guest the same table, and where a
-guest may go. PAGES is a file of CPUID pages, an image that 'image' or 'pool' wrote, a list for KVM,
-or the text of 'cpuid -r', told apart by what it holds; or a folder, whose files and folders are
-read, but for hidden ones. The report has:
+guest may go. PAGES is a file of any kind that 'snp-cpuid --help' names, or a folder, whose files
+and folders are read, but for hidden ones. What stands in a folder and is no server's is named, and
+ends no report. The report has:
 
   classes    servers that give one table; a class is a letter and a number, A1
   groups     the letter: classes that differ in features only; no guest leaves its group
@@ -32,14 +32,16 @@ read, but for hidden ones. The report has:
              save area no smaller and all else equal; elsewhere, what stands in the way
   pools      the greatest sets of classes for which 'pool' makes one table, and what each costs
   features   those that some classes have and some have not
-  refused    servers without a table, by the reason
+  refused    servers without a table, by the refusal, and what it says about the place where the
+             file was made; those whose processor has SEV-SNP first
+  not read   damaged files, and what else stands in the folders
 
 The order of moves is that of tables. The entries of pages promise less, before the other server is
 built, as 'compare' tells; a note names the moves that they do not promise.
 ",
     status: "\
-Exit status: 0 where every server is accepted, 1 where one is refused or its file holds nothing that
-can be read as pages, 2 bad usage, a file that cannot be opened, or no file at all.
+Exit status: 0 where every server is accepted, 1 where one is refused or its file is damaged, 2 bad
+usage, a file that is named and cannot be opened or is no server's, or no server at all.
 ",
     run,
 };

@@ -3,6 +3,7 @@
 pub mod bits;
 pub mod data;
 mod differing;
+mod folders;
 mod groups;
 mod moves;
 pub mod page;
@@ -17,7 +18,7 @@ use moves::Moves;
 use pools::Pool;
 use refused::Refused;
 use snp_cpuid::{Refusal, Table};
-use source::{Given, Source};
+use source::{Given, Source, Sources, Unread};
 use std::collections::HashMap;
 
 /// What came of a server.
@@ -59,11 +60,13 @@ pub struct Fleet {
     pub moves: Moves,
     pub pools: Vec<Pool>,
     pub refused: Vec<Refused>,
+    /// what stands in the folders and is no server's
+    pub not_read: Vec<Unread>,
 }
 
 impl Fleet {
     /// Builds each server once, puts equal tables together, and compares these.
-    pub fn of(sources: Vec<Source>, building: Building) -> Fleet {
+    pub fn of(Sources { servers: sources, not_read }: Sources, building: Building) -> Fleet {
         let (tables, refusals) = built(&sources, &building);
         let (classes, groups) = groups::named(tables);
         let mut servers: Vec<Server> = sources.into_iter().zip(refusals).map(|(source, answer)| Server { source, answer }).collect();
@@ -72,8 +75,8 @@ impl Fleet {
         }
         let pools = pools::of(&groups, &classes);
         let moves = Moves::of(&groups, &classes, &servers, &building);
-        let refused = refused::together(&servers, &building);
-        Fleet { building, groups, moves, pools, refused, classes, servers }
+        let refused = refused::together(&servers);
+        Fleet { building, groups, moves, pools, refused, not_read, classes, servers }
     }
 
     /// How many servers are accepted.

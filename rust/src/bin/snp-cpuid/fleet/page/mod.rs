@@ -7,11 +7,10 @@ mod picture;
 mod pools;
 
 use super::differing;
-use super::refused::Refused;
-use super::text::{choices, described, listed, many, pool_name, sentence, servers_of};
+use super::refused::{Refused, Told};
+use super::text::{ADVICE, choices, described, listed, many, pool_name, sentence, servers_of};
 use super::{Fleet, Group, bits, groups};
 use html::{SYMBOLS, column, details, escaped, folded, name, section, table};
-use std::collections::BTreeMap;
 
 const STYLE: &str = include_str!("page.css");
 
@@ -129,16 +128,12 @@ fn pooled(fleet: &Fleet) -> String {
 }
 
 fn why(fleet: &Fleet) -> String {
-    let mut numbers: BTreeMap<u32, usize> = BTreeMap::new();
-    for refused in &fleet.refused {
-        *numbers.entry(refused.told.number).or_default() += refused.servers.len();
-    }
-    let told = |(number, servers): (&u32, &usize)| match number {
-        0 => format!("{servers} not read"),
-        number => format!("{servers} by refusal {number}"),
+    let told = |refused: &Refused| match refused.number {
+        0 => format!("{} not read", refused.many()),
+        number => format!("{} by refusal {number}", refused.many()),
     };
     let refused = fleet.servers.len() - fleet.accepted();
-    let told = listed(&numbers.iter().map(told).collect::<Vec<_>>());
+    let told = listed(&fleet.refused.iter().map(told).collect::<Vec<_>>());
     if refused == 0 { String::new() } else { format!("{}: {told}.", many(refused, "server")) }
 }
 
@@ -208,30 +203,33 @@ fn more_class(fleet: &Fleet, place: usize) -> String {
 }
 
 fn refused(fleet: &Fleet) -> String {
+    let told = |told: &Told| {
+        let lot = |(label, servers): (&str, &[usize])| format!("<div>{label}: {}</div>", server_names(fleet, servers).join(" "));
+        format!("<div>{}</div>{}", escaped(&told.words), told.lots().map(lot).collect::<String>())
+    };
     let row = |refused: &Refused| {
-        let told = &refused.told;
-        let number = if told.number == 0 { "Not read".into() } else { format!("Refusal {}", told.number) };
-        let further: String = told.notes.iter().map(|note| format!("<div class=\"d\">{}</div>", escaped(note))).collect();
+        let number = if refused.number == 0 { "Not read".into() } else { format!("Refusal {}", refused.number) };
         format!(
-            "<tr data-refusal=\"{}\" data-servers=\"{}\"><td>{}</td><td><b>{number}</b>: {}{further}</td></tr>\n",
-            told.number,
-            refused.servers.len(),
-            folded(&server_names(fleet, &refused.servers)),
-            escaped(&told.words)
+            "<tr data-refusal=\"{}\" data-servers=\"{many}\"><td class=\"r\">{many}</td><td><b>{number}</b>. {}{}</td></tr>\n",
+            refused.number,
+            escaped(refused.place),
+            refused.told.iter().map(told).collect::<String>(),
+            many = refused.many()
         )
     };
+    let unread: String = fleet.not_read.iter().map(|unread| format!("<div>{}: {}</div>", name(&unread.file), escaped(&unread.why))).collect();
+    let unread = if unread.is_empty() { unread } else { details(&format!("{} of no server", many(fleet.not_read.len(), "file")), &unread) };
     if fleet.refused.is_empty() {
-        return String::new();
+        return unread;
     }
     let head = ["Servers", "Why"].map(column).concat();
-    let rows: Vec<String> = fleet.refused.iter().map(row).collect();
-    let (open, more) = rows.split_at(rows.len().min(CLASSES));
-    let inside = format!("<table class=\"f rf\">{}</table>", more.concat());
-    let more = if more.is_empty() { String::new() } else { details(&format!("and {} more reasons", more.len()), &inside) };
-    let words = "<p>These servers have no table. What would be accepted speaks of pages, not of what the machine can do.</p>\n";
+    let rows: String = fleet.refused.iter().map(row).collect();
+    let words = "<p>These servers have no table. A refusal speaks of the pages, not of what the machine can do.</p>\n";
+    let advice = format!("<p>{}</p>\n", escaped(ADVICE));
     words.to_string()
-        + &table("c-refused", "f rf", "Servers without a table, by the reason", &head, &format!("<tbody>{}</tbody>", open.concat()))
-        + &more
+        + &table("c-refused", "f rf", "Servers without a table, by the reason", &head, &format!("<tbody>{rows}</tbody>"))
+        + &advice
+        + &unread
 }
 
 fn made(fleet: &Fleet) -> String {
