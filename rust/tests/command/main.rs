@@ -5,6 +5,7 @@ use snp_cpuid::features;
 
 mod answers;
 mod browser;
+mod by_hand;
 #[path = "caches.rs"]
 mod cache_words;
 mod capture;

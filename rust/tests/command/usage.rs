@@ -52,15 +52,18 @@ const SHARED: [&str; 3] = [
     "--line where the pages are refused, print the refusal's line too",
 ];
 
-/// The options of all commands that build are told by each of them in the same words, and by no other; `carry` names its editions otherwise, and `fleet` goes on where pages are refused.
+/// The options of all commands that build are told by each of them in the same words, and by no other; `carry` names its editions otherwise, and
+/// `fleet`, `to-dump` and `set` go on where pages are refused.
 #[test]
 fn shared_options_are_told_alike() {
     for name in commands() {
-        let builds = ["compare", "nearest", "entries", "fleet"].contains(&name.as_str()) || BUILDING.iter().any(|run| run[0] == name);
+        let builds =
+            ["compare", "nearest", "entries", "fleet", "to-dump", "set"].contains(&name.as_str()) || BUILDING.iter().any(|run| run[0] == name);
         let ran = run(&[name.as_str(), "--help"]);
         for told in SHARED {
             let (option, _) = told.split_once(' ').unwrap();
-            let builds = builds && ![("--edition", "carry"), ("--line", "fleet")].contains(&(option, name.as_str()));
+            let without = [("--edition", "carry"), ("--line", "fleet"), ("--line", "to-dump"), ("--line", "set")];
+            let builds = builds && !without.contains(&(option, name.as_str()));
             let line = ran.text().lines().find(|line| line.trim_start().starts_with(&format!("{option} ")));
             let words = line.map(|line| line.split_whitespace().collect::<Vec<_>>().join(" "));
             assert_eq!(words.as_deref(), builds.then_some(told), "{name}");

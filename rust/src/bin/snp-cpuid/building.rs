@@ -127,7 +127,7 @@ impl Building {
     }
 
     /// The same of one file, where no option was given that an image cannot heed.
-    fn heeding(&self, file: &OsStr) -> Result<Source, Failure> {
+    pub fn heeding(&self, file: &OsStr) -> Result<Source, Failure> {
         let source = self.source(file)?;
         self.heeded_by(std::slice::from_ref(&source))?;
         Ok(source)

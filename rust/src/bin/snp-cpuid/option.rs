@@ -24,6 +24,8 @@ pub enum Value {
     Number(&'static str),
     /// a decimal number, which the help calls so
     Decimal(&'static str),
+    /// a word of another form, which the help calls so, and what a message calls it
+    Word(&'static str, &'static str),
 }
 
 impl Opt {
@@ -69,7 +71,7 @@ impl Value {
     pub fn name(&self) -> Option<&'static str> {
         match self {
             Value::None => None,
-            Value::File(name) | Value::Number(name) | Value::Decimal(name) => Some(name),
+            Value::File(name) | Value::Number(name) | Value::Decimal(name) | Value::Word(name, _) => Some(name),
         }
     }
 
@@ -85,6 +87,7 @@ impl Value {
             Value::File(_) => Some(("FILE", "a file name")),
             Value::Number(name) => Some((name, "a hexadecimal number")),
             Value::Decimal(name) => Some((name, "a decimal number")),
+            Value::Word(name, words) => Some((name, words)),
         }
     }
 }

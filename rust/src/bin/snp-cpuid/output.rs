@@ -70,6 +70,11 @@ pub fn say(line: &str) {
     let _ = writeln!(io::stderr(), "snp-cpuid: {line}");
 }
 
+/// A note to standard error.
+pub fn note(words: &str) {
+    say(&format!("note: {words}"));
+}
+
 /// Text or bytes to standard output. A reader that has gone, as in `| head`, has what it wanted.
 pub fn print(data: impl AsRef<[u8]>) -> Result<(), Failure> {
     let mut out = io::stdout().lock();

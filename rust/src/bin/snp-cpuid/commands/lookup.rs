@@ -6,7 +6,7 @@ use crate::command::Command;
 use crate::failure::Failure;
 use crate::input::shown;
 use crate::json::{self, Json, object};
-use crate::numbers::{digits, prefixed};
+use crate::numbers::leaf_number;
 use crate::option::Opt;
 use crate::print::{self, Form, place_json, row_json};
 use crate::{output, processor};
@@ -70,8 +70,7 @@ fn found(table: &Table, leaf: u32, subleaf: Option<u32>, enforce: bool) -> Vec<R
 /// LEAF or LEAF.SUB, hexadecimal, alone, after 0x or before h.
 fn asked(operand: &OsStr) -> Result<(u32, Option<u32>), Failure> {
     let text = operand.to_str().unwrap_or_default();
-    let before_h = |text: &str| text.strip_suffix(['h', 'H']).filter(|digits| !digits.is_empty()).and_then(digits);
-    let number = |text| digits(text).or_else(|| prefixed(text)).or_else(|| before_h(text));
+    let number = leaf_number;
     let numbers = match text.split_once('.') {
         None => number(text).map(|leaf| (leaf, None)),
         Some((leaf, subleaf)) => number(leaf).zip(number(subleaf)).map(|(leaf, subleaf)| (leaf, Some(subleaf))),

@@ -15,6 +15,7 @@ mod lookup;
 mod man;
 mod nearest;
 mod pool;
+mod set;
 mod table;
 mod to_dump;
 mod to_kvm;
@@ -35,6 +36,7 @@ pub const ALL: &[Command] = &[
     to_dump::COMMAND,
     from_kvm::COMMAND,
     to_kvm::COMMAND,
+    set::COMMAND,
     compare::COMMAND,
     pool::COMMAND,
     fleet::COMMAND,
