@@ -75,6 +75,9 @@ mod pages;
 #[path = "../../src/bin/snp-cpuid/print.rs"]
 mod print;
 #[allow(dead_code)]
+#[path = "../../src/bin/snp-cpuid/terminal.rs"]
+mod terminal;
+#[allow(dead_code)]
 #[path = "../../src/bin/snp-cpuid/words.rs"]
 mod words;
 #[allow(dead_code)]

@@ -119,7 +119,12 @@ fn what_is_no_line_is_not_explained() {
         let ran = run(&["explain", line]);
         assert_eq!((ran.status, ran.line().ends_with(": no such line")), (1, true), "{line:?}");
     }
-    for input in ["1", "1\n\n", "1\r\n", ""] {
+    // the same from standard input, a number alone too
+    for number in [3, 6, 7, 17] {
+        let ran = run_on(format!("{number}\n").as_bytes(), &["explain", "-"]);
+        assert_eq!(ran, run(&["explain", &number.to_string()]));
+    }
+    for input in ["1", "7", "07\n", "7\n\n", "1\n\n", "1\r\n", ""] {
         assert_eq!(run_on(input.as_bytes(), &["explain", "-"]).line(), "standard input: no such line", "{input:?}");
     }
 }

@@ -29,7 +29,7 @@ libcpuid's 'cpuid_tool --save'; or the log of a Linux guest that was started wit
 '-' is standard input, and after -o standard output, but never a terminal. A file of more than 64
 MiB is not read.
 
-Lines are at most 100 columns, or as many as the variable COLUMNS says.
+Lines are at most 100 columns, or as many as the variable COLUMNS says, or the terminal has.
 
 Exit status: 0 where the pages are accepted or the answer is yes, 1 where they are refused or the
 answer is no, 2 where the arguments are wrong or a file cannot be read, parsed or written, 3 where

@@ -35,6 +35,7 @@ mod shells;
 mod source;
 mod standing;
 mod suggest;
+mod terminal;
 mod topology;
 mod words;
 mod wrap;
@@ -76,7 +77,7 @@ fn run(mut given: impl Iterator<Item = OsString>) -> Result<(), Failure> {
             let command = command(&first)?;
             match parse::parse(command, given)? {
                 None => output::print(help::of_command(command)),
-                Some(arguments) => (command.run)(&arguments),
+                Some(arguments) => output::not_onto_input(command, &arguments).and_then(|()| (command.run)(&arguments)),
             }
         }
     }

@@ -57,14 +57,11 @@ fn run(arguments: &Arguments) -> Result<(), Failure> {
     }
     let sources = source::sources(&arguments.operands)?;
     let fleet = Fleet::of(sources, building);
+    let report = if building.json() { data::of(&fleet).to_string() } else { text::of(&fleet) };
     match arguments.value(HTML.name()) {
-        Some(file) if !to_output => output::to_file(file, page::of(&fleet).as_bytes())?,
-        _ => {}
+        None => output::print(report)?,
+        Some(_) if to_output => output::print(page::of(&fleet))?,
+        Some(file) => output::to_file_and_print(file, page::of(&fleet).as_bytes(), &report)?,
     }
-    output::print(match (to_output, building.json()) {
-        (true, _) => page::of(&fleet),
-        (_, true) => data::of(&fleet).to_string(),
-        _ => text::of(&fleet),
-    })?;
     if fleet.accepted() == fleet.servers.len() { Ok(()) } else { Err(Failure::AnswerNo) }
 }

@@ -4,7 +4,7 @@ use super::bits::{self, Bits, register_name};
 use super::differing::{self, Apart};
 use super::groups;
 use super::moves::{MOST_COMPARED, Way, by_pages};
-use super::pools::{AT_ONCE, Pool};
+use super::pools::Pool;
 use super::refused::{Refused, Told};
 use super::{Class, Fleet, Group};
 use crate::wrap::wrapped_in;
@@ -237,15 +237,7 @@ fn pooled(fleet: &Fleet, pool: &Pool) -> String {
         let servers = if servers.len() <= NAMED { server_names(fleet, &servers).join(" ") } else { many(servers.len(), "server") };
         text += &wrapped("         ", &format!("{} ({servers}) {cost} {}", folded_list(&class_names(fleet, lacking)), folded(names)));
     }
-    if pool.classes.len() > AT_ONCE {
-        text += &wrapped("         ", &larger());
-    }
     text
-}
-
-/// How a pool of more than 16 classes is made.
-pub fn larger() -> String {
-    format!("'pool' takes {AT_ONCE} at once: pool {AT_ONCE} of the classes, then the image of that with {} more, and so on", AT_ONCE - 1)
 }
 
 fn features(fleet: &Fleet) -> String {
