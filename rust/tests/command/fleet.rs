@@ -64,7 +64,7 @@ fn a_small_fleet_by_hand() {
         ),
         (1, &["   B1       2  d1 d2"]),
         (2, &["   A2    to A1; not to A3 and A4 (7.0 EBX SHA)\n", "   A3    to A1; not to A2 and A4 (1 ECX FMA)\n"]),
-        (2, &["   A4    to A1, A2 and A3\n", "   A and B: 1 EAX (00A00F11, 00A00F12), 80000001 EAX (00A00F11, 00A00F12)"]),
+        (2, &["   A4    to A1, A2 and A3\n", "   A and B: 1 EAX (stepping 1h; stepping 2h), 80000001 EAX (stepping 1h;"]),
         (3, &["   A     5 servers in 4 classes, without FMA SHA\n", "         A2 and A4 (b1 c1) together cost FMA\n"]),
         (4, &["   1 ECX           +   -   +   -   +  FMA\n", "   7.0 EBX         +   +   -   -   +  SHA"]),
         (
@@ -330,8 +330,8 @@ fn hyperthreading_keeps_groups_apart() {
         folder.file(name, set(&entries));
     }
     let ran = run(&["fleet", &folder.path("")]);
-    let apart = "   A and B: 1 EDX (";
-    assert!(ran.text().contains(apart) && ran.text().contains("10000000") && ran.text().contains("  HTT\n"), "{}", ran.text());
+    let apart = "   A and B: 1 EDX (HTT clear; HTT set)\n";
+    assert!(ran.text().contains(apart) && ran.text().contains("  HTT\n"), "{}", ran.text());
     assert!(!ran.text().contains("Pools"));
 }
 

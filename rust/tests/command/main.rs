@@ -12,6 +12,7 @@ mod capture;
 mod carry;
 mod compare;
 mod debian;
+mod diff;
 #[path = "differences.rs"]
 mod differences_held;
 mod documents;

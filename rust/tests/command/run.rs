@@ -38,6 +38,7 @@ pub const READING: &[&[&str]] = &[
     &["set", "PAGES", "5.EAX=1", "-o", "OUT"],
     &["compare", "PAGES", EPYC],
     &["compare", EPYC, "PAGES"],
+    &["diff", "PAGES", "PAGES"],
     &["nearest", "PAGES"],
     &["entries", "PAGES"],
 ];

@@ -53,16 +53,16 @@ const SHARED: [&str; 3] = [
 ];
 
 /// The options of all commands that build are told by each of them in the same words, and by no other; `carry` names its editions otherwise, and
-/// `fleet`, `to-dump` and `set` go on where pages are refused.
+/// `fleet`, `to-dump`, `set` and `diff` go on where pages are refused.
 #[test]
 fn shared_options_are_told_alike() {
     for name in commands() {
-        let builds =
-            ["compare", "nearest", "entries", "fleet", "to-dump", "set"].contains(&name.as_str()) || BUILDING.iter().any(|run| run[0] == name);
+        let builds = ["compare", "nearest", "entries", "fleet", "to-dump", "set", "diff"].contains(&name.as_str())
+            || BUILDING.iter().any(|run| run[0] == name);
         let ran = run(&[name.as_str(), "--help"]);
         for told in SHARED {
             let (option, _) = told.split_once(' ').unwrap();
-            let without = [("--edition", "carry"), ("--line", "fleet"), ("--line", "to-dump"), ("--line", "set")];
+            let without = [("--edition", "carry"), ("--line", "fleet"), ("--line", "to-dump"), ("--line", "set"), ("--line", "diff")];
             let builds = builds && !without.contains(&(option, name.as_str()));
             let line = ran.text().lines().find(|line| line.trim_start().starts_with(&format!("{option} ")));
             let words = line.map(|line| line.split_whitespace().collect::<Vec<_>>().join(" "));

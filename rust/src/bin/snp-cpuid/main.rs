@@ -4,6 +4,7 @@
 //! A further command is a file in commands/ and its line in commands/mod.rs.
 
 mod arguments;
+mod arithmetic;
 mod building;
 mod caches;
 mod command;
@@ -31,6 +32,7 @@ mod parse;
 mod print;
 mod processor;
 mod reasons;
+mod said;
 mod shells;
 mod source;
 mod standing;

@@ -4,6 +4,7 @@ mod capture;
 mod carry;
 mod compare;
 mod completion;
+mod diff;
 mod entries;
 mod explain;
 mod fleet;
@@ -38,6 +39,7 @@ pub const ALL: &[Command] = &[
     to_kvm::COMMAND,
     set::COMMAND,
     compare::COMMAND,
+    diff::COMMAND,
     pool::COMMAND,
     fleet::COMMAND,
     nearest::COMMAND,

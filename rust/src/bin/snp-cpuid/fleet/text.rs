@@ -1,7 +1,7 @@
 //! The report as text, in lines of 80 columns.
 
 use super::bits::{self, Bits, register_name};
-use super::differing::{self, Apart};
+use super::differing;
 use super::groups;
 use super::moves::{MOST_COMPARED, Way, by_pages};
 use super::pools::Pool;
@@ -185,8 +185,8 @@ fn between_groups(fleet: &Fleet) -> String {
     let Some((first, others)) = fleet.groups.split_first().filter(|(_, others)| !others.is_empty()) else { return String::new() };
     let mut text = "   From group to group no guest may go:\n".to_string();
     for other in others.iter().take(CLASSES) {
-        let apart = differing::apart(&[first, other], &fleet.classes);
-        let told = |a: &Apart| format!("{} ({:08X}, {:08X})", register_name(a.leaf, a.subleaf, a.register), a.values[0], a.values[1]);
+        let apart = differing::in_words(&[first, other], &fleet.classes);
+        let told = |(register, words): &(String, Vec<String>)| format!("{register} ({}; {})", words[0], words[1]);
         let mut words = apart.iter().take(3).map(told).collect::<Vec<_>>().join(", ");
         if apart.len() > 3 {
             words += &format!(" and {} more registers", apart.len() - 3);
