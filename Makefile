@@ -3,6 +3,7 @@
 # make uninstall  remove exactly these files
 # make ring0      the library for ring 0, in target/ring0 (docs/EMBEDDING.md)
 # make dist       an archive of the same with the documents, tried out from an empty folder
+# make deb        a Debian package of the same, in target/deb (it wants dpkg-deb)
 # make proved     print what is proved
 # make test       the whole gate: proofs from nothing, must-fail edits, programs, and the tests in tests/
 # make bench      image, build and lookups against plain C by gcc and by clang, as ratios of time, over six link orders, and of instructions;
@@ -10,7 +11,7 @@
 # make bench-rust against the Rust too, with overflow checks and without; OPENVMM_CVM_CPUID names its folder (differential/README.md)
 #
 # SNP_CPUID_LIB=FOLDER takes libsnp_cpuid.a from there, and the Rattle kit is not needed: nothing is proved then.
-.PHONY: all command stage staged install uninstall ring0 dist proved test bench bench-rust clean
+.PHONY: all command stage staged install uninstall ring0 dist deb proved test bench bench-rust clean
 
 .DEFAULT_GOAL = all
 # the manual page does not depend on the width of a terminal
@@ -21,6 +22,8 @@ PAGES = tests/data/epyc-milan.pages
 COMMAND = target/rust/release/snp-cpuid
 STAGE = target/stage
 ARCHIVE = snp-cpuid-$(VERSION)-x86_64-linux
+# the command runs on any x86-64 Linux, whatever C library stands there
+STATIC = -C target-feature=+crt-static
 
 # what an installation has, below PREFIX
 INSTALLED = bin/snp-cpuid include/snp_cpuid.h lib/libsnp_cpuid.a lib/pkgconfig/snp_cpuid.pc share/man/man1/snp-cpuid.1 \
@@ -63,7 +66,7 @@ target/staticlib/libsnp_cpuid.a: crates.txt $(wildcard crates/*/src/*.rt)
 
 # cargo tells what is to be built again
 command: $(LIBRARY)
-	$(cargo)@cd rust && SNP_CPUID_LIB=$(abspath $(dir $(LIBRARY))) cargo build --offline --quiet --release --target-dir ../target/rust
+	$(cargo)@cd rust && SNP_CPUID_LIB=$(abspath $(dir $(LIBRARY))) RUSTFLAGS='$(STATIC)' cargo build --offline --quiet --release --target-dir ../target/rust
 
 # an installation, in a folder of its own
 stage: command
@@ -106,6 +109,9 @@ dist: stage
 	@tar -C target/dist --sort=name --owner=0 --group=0 --numeric-owner -czf target/dist/$(ARCHIVE).tar.gz $(ARCHIVE)
 	@install/smoke target/dist/$(ARCHIVE).tar.gz
 	@echo target/dist/$(ARCHIVE).tar.gz
+
+deb: stage
+	@mkdir -p target/deb && install/deb $(STAGE) $(VERSION) target/deb
 
 bench: target/staticlib/libsnp_cpuid.a
 	@bench/run

@@ -27,6 +27,7 @@ mod inputs;
 mod json_text;
 mod kvm;
 mod lookup;
+mod manual;
 #[path = "masks.rs"]
 mod masks_held;
 mod names;
