@@ -9,7 +9,7 @@ use crate::option::{Opt, Value};
 use crate::wrap::told;
 use std::ffi::OsStr;
 use std::fs::{self, File, OpenOptions};
-use std::io::{self, ErrorKind, IsTerminal, Write};
+use std::io::{self, BufWriter, ErrorKind, IsTerminal, Write};
 use std::os::unix::fs::MetadataExt;
 use std::path::PathBuf;
 use std::process;
@@ -83,10 +83,25 @@ pub fn note(words: &str) {
     say(&format!("note: {words}"));
 }
 
-/// Text or bytes to standard output. A reader that has gone, as in `| head`, has what it wanted.
+/// Text or bytes to standard output.
 pub fn print(data: impl AsRef<[u8]>) -> Result<(), Failure> {
     let mut out = io::stdout().lock();
-    match out.write_all(data.as_ref()).and_then(|()| out.flush()) {
+    printed(out.write_all(data.as_ref()).and_then(|()| out.flush()))
+}
+
+/// Text to standard output part by part, so that not all of it is in memory.
+pub fn print_parts(parts: impl Iterator<Item = String>) -> Result<(), Failure> {
+    let mut out = BufWriter::new(io::stdout().lock());
+    let mut written = parts.map(|part| out.write_all(part.as_bytes())).collect::<io::Result<()>>();
+    written = written.and_then(|()| out.flush());
+    // what is left in the buffer is not tried again
+    let _ = out.into_parts();
+    printed(written)
+}
+
+/// A reader that has gone, as in `| head`, has what it wanted.
+fn printed(written: io::Result<()>) -> Result<(), Failure> {
+    match written {
         Err(error) if error.kind() != ErrorKind::BrokenPipe => Err(Failure::Bad(format!("standard output: {}", reason(&error)))),
         _ => Ok(()),
     }

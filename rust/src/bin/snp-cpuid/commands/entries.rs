@@ -53,7 +53,11 @@ fn run(arguments: &Arguments) -> Result<(), Failure> {
     let building = building.under(source.options);
     let (standing, answer) = (Standing::of(&source.pages), building.build(&source.pages));
     let report = Report { file: source.file, building, pages: source.pages, standing, answer };
-    output::print(if building.json() { report.json().to_string() } else { report.text() })?;
+    if building.json() {
+        output::print_parts(report.json())?;
+    } else {
+        output::print(report.text())?;
+    }
     report.answer.err().map_or(Ok(()), |refusal| building.print_line(refusal))
 }
 
@@ -159,7 +163,20 @@ impl Report {
         text
     }
 
-    fn json(&self) -> Json {
+    /// The object, entry by entry: there may be a million.
+    fn json(&self) -> impl Iterator<Item = String> {
+        let head = self.head_json().to_string();
+        let head = head.strip_suffix("\n}\n").expect("an object of several lines").to_string();
+        let close = if self.standing.places.is_empty() { "]\n}\n" } else { "\n  ]\n}\n" };
+        let entry = |(number, entry): (usize, &Place)| {
+            let comma = if number == 0 { "" } else { "," };
+            format!("{comma}\n    {}", self.entry_json(entry).inside(2))
+        };
+        let entries = self.standing.places.iter().enumerate().map(entry);
+        [head, ",\n  \"entries\": [".to_string()].into_iter().chain(entries).chain([close.to_string()])
+    }
+
+    fn head_json(&self) -> Json {
         let refusal = self.answer.as_ref().err().map(|refusal| refusal_json(*refusal, &self.building.reason(*refusal, &self.pages)));
         object([
             ("answer", if self.answer.is_ok() { "accepted" } else { "refused" }.into()),
@@ -167,7 +184,6 @@ impl Report {
             ("refusal", refusal.into()),
             ("counts", array(self.standing.counts.iter().copied())),
             ("bytes_over", self.standing.over.into()),
-            ("entries", array(self.standing.places.iter().map(|entry| self.entry_json(entry)))),
         ])
     }
 
