@@ -94,3 +94,18 @@ pub fn place(number: u32) -> &'static str {
         _ => "",
     }
 }
+
+/// The same in a few words.
+pub fn short(number: u32) -> &'static str {
+    match number {
+        1 => "cut off",
+        2 => "a damaged page",
+        3 => "a row is missing",
+        4 => "INVLPGB is hidden",
+        5 => "a damaged size",
+        6..=8 => "counts of processors that no guest is given",
+        15 => "no such edition",
+        17 => "old data in reserved bytes",
+        _ => "refused",
+    }
+}

@@ -62,11 +62,13 @@ pub struct Fleet {
     pub refused: Vec<Refused>,
     /// what stands in the folders and is no server's
     pub not_read: Vec<Unread>,
+    /// the files and folders that were given
+    pub from: Vec<String>,
 }
 
 impl Fleet {
     /// Builds each server once, puts equal tables together, and compares these.
-    pub fn of(Sources { servers: sources, not_read }: Sources, building: Building) -> Fleet {
+    pub fn of(Sources { servers: sources, not_read, from }: Sources, building: Building) -> Fleet {
         let (tables, refusals) = built(&sources, &building);
         let (classes, groups) = groups::named(tables);
         let mut servers: Vec<Server> = sources.into_iter().zip(refusals).map(|(source, answer)| Server { source, answer }).collect();
@@ -76,7 +78,7 @@ impl Fleet {
         let pools = pools::of(&groups, &classes);
         let moves = Moves::of(&groups, &classes, &servers, &building);
         let refused = refused::together(&servers);
-        Fleet { building, groups, moves, pools, refused, not_read, classes, servers }
+        Fleet { building, groups, moves, pools, refused, not_read, from, classes, servers }
     }
 
     /// How many servers are accepted.

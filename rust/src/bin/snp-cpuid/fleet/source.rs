@@ -37,6 +37,8 @@ pub struct Unread {
 pub struct Sources {
     pub servers: Vec<Source>,
     pub not_read: Vec<Unread>,
+    /// the files and folders that were given
+    pub from: Vec<String>,
 }
 
 /// The files that are given, and those below the folders that are given. What is given must be a server's; of what stands in a folder, the rest is
@@ -63,7 +65,7 @@ pub fn sources(operands: &[OsString]) -> Result<Sources, Failure> {
     let names = short_names(&servers.iter().map(|server| server.file.clone()).collect::<Vec<_>>());
     servers.iter_mut().zip(names).for_each(|(server, name)| server.name = name);
     servers.sort_by(|a, b| (&a.name, &a.file).cmp(&(&b.name, &b.file)));
-    Ok(Sources { servers, not_read })
+    Ok(Sources { servers, not_read, from: operands.iter().map(|operand| shown(operand)).collect() })
 }
 
 /// The server of a file. A file of a kind that is damaged is a server's too, of which nothing is known.
