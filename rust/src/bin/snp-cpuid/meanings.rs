@@ -81,8 +81,8 @@ pub fn place(number: u32) -> &'static str {
              Dh. A processor before Zen 3 lacks rows of its own."
         }
         4 => {
-            "A hypervisor hides INVLPGB there, as KVM does from its guests and in its list of what it supports, or the processor is older than Zen 3. \
-             It says where the file was made, not what the server can give a guest."
+            "A hypervisor hides INVLPGB there, as KVM does from its guests and in its list of what it supports, or the processor is older than Zen \
+             3. It says where the file was made, not what the server can give a guest."
         }
         5 => "The size of a state is damaged.",
         6 | 7 | 8 => {

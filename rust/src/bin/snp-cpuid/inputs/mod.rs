@@ -177,8 +177,8 @@ fn word_at(bytes: &[u8], at: usize) -> Option<u32> {
     Some(u32::from_le_bytes(*bytes.get(at..)?.first_chunk()?))
 }
 
-/// Whether bytes are CPUID pages, by the first page that counts an entry: it begins with a leaf. Where its count is too large, or bytes are missing or
-/// too many, more must speak for it, so that a file of something else is not taken for damaged pages: zeros behind the count, and leaves throughout.
+/// Whether bytes are CPUID pages, by the first page that counts an entry: it begins with a leaf. Where its count is too large, or bytes are missing
+/// or too many, more must speak for it, so that a file of something else is not taken for damaged pages: zeros behind the count, and leaves throughout.
 fn pages(bytes: &[u8]) -> bool {
     let whole = bytes.len() % PAGE_BYTES == 0;
     let Some(page) = bytes.chunks_exact(PAGE_BYTES).find(|page| first_word(page) != Some(0)) else { return whole };
