@@ -33,7 +33,8 @@ fn each_kind_of_difference_in_words() {
         (
             with(0x8000_0002, 0, 1, |ebx| ebx ^ 0x20),
             1,
-            "processor name [table, move]\n    A  \"AMD EPYC 7713 64-Core Processor                \"\n    B  \"AMD ePYC 7713 64-Core Processor                \"\n",
+            "processor name [table, move]\n    A  \"AMD EPYC 7713 64-Core Processor                \"\n    \
+             B  \"AMD ePYC 7713 64-Core Processor                \"\n",
         ),
         (
             with(0x8000_001D, 3, 0, |eax| eax - (8 << 14)),

@@ -8,6 +8,7 @@ mod groups;
 mod moves;
 pub mod page;
 mod pools;
+mod progress;
 mod refused;
 pub mod source;
 pub mod text;

@@ -1,6 +1,7 @@
 //! The files of a fleet, each by its content, and those of its folders that are no server's.
 
 use super::folders::Found;
+use super::progress::Progress;
 use crate::failure::Failure;
 use crate::input::{read, shown};
 use crate::inputs::{self, Input, Kind, NotRead};
@@ -46,7 +47,9 @@ pub struct Sources {
 pub fn sources(operands: &[OsString]) -> Result<Sources, Failure> {
     let mut found = Found::below(operands)?;
     let (mut servers, mut not_read) = (vec![], std::mem::take(&mut found.not_read));
-    for (file, in_folder) in found.files {
+    let progress = Progress::of(found.files.len());
+    for (number, (file, in_folder)) in found.files.into_iter().enumerate() {
+        progress.told(number);
         match server(&file) {
             Ok(server) => servers.push(server),
             Err(Failure::Bad(why)) if in_folder => {
@@ -57,6 +60,7 @@ pub fn sources(operands: &[OsString]) -> Result<Sources, Failure> {
             Err(failure) => return Err(failure),
         }
     }
+    progress.ended();
     if servers.is_empty() {
         let others = if not_read.is_empty() { String::new() } else { format!(", and {} that are none", not_read.len()) };
         return Err(Failure::Bad(format!("{}: no server's file in it{others}", shown(&operands[0]))));

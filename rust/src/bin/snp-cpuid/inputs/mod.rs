@@ -178,7 +178,7 @@ fn word_at(bytes: &[u8], at: usize) -> Option<u32> {
 }
 
 /// Whether bytes are CPUID pages, by the first page that counts an entry: it begins with a leaf. Where its count is too large, or bytes are missing
-/// or too many, more must speak for it, so that a file of something else is not taken for damaged pages: zeros behind the count, and leaves throughout.
+/// or too many, more must speak for it: zeros behind the count, and leaves throughout. Else any file of another program would be damaged pages.
 fn pages(bytes: &[u8]) -> bool {
     let whole = bytes.len() % PAGE_BYTES == 0;
     let Some(page) = bytes.chunks_exact(PAGE_BYTES).find(|page| first_word(page) != Some(0)) else { return whole };
