@@ -42,9 +42,7 @@ how wide lines are, before what the terminal says
 .Sh FILES
 .Bl -tag -width Ds
 .It Pa /dev/kvm
-what
-.Cm capture Fl \\-kvm
-asks
+what 'capture \\-\\-kvm' asks
 .It Pa /usr/share/doc/snp\\-cpuid/epyc\\-milan.pages
 the CPUID pages of an EPYC 7713, to try the commands on
 .El

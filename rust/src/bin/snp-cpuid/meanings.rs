@@ -85,7 +85,7 @@ pub fn place(number: u32) -> &'static str {
              3. It says where the file was made, not what the server can give a guest."
         }
         5 => "The size of a state is damaged.",
-        6 | 7 | 8 => {
+        6..=8 => {
             "A host's own dump tells the processors that are there, and its APIC numbers leave room for more; the host gives its guests counts \
              that fit, as 'from-dump --guest' does."
         }

@@ -90,10 +90,9 @@ pub fn print(data: impl AsRef<[u8]>) -> Result<(), Failure> {
 }
 
 /// Text to standard output part by part, so that not all of it is in memory.
-pub fn print_parts(parts: impl Iterator<Item = String>) -> Result<(), Failure> {
+pub fn print_parts(mut parts: impl Iterator<Item = String>) -> Result<(), Failure> {
     let mut out = BufWriter::new(io::stdout().lock());
-    let mut written = parts.map(|part| out.write_all(part.as_bytes())).collect::<io::Result<()>>();
-    written = written.and_then(|()| out.flush());
+    let written = parts.try_for_each(|part| out.write_all(part.as_bytes())).and_then(|()| out.flush());
     // what is left in the buffer is not tried again
     let _ = out.into_parts();
     printed(written)

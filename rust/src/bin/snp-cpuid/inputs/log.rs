@@ -10,6 +10,13 @@ use crate::pages::PAGE_ENTRIES;
 use crate::standing::start;
 use snp_cpuid::PAGE_BYTES;
 
+/// What was printed of one page: its count, and entries by their place.
+#[derive(Default)]
+struct Printed {
+    count: Option<u32>,
+    entries: Vec<(usize, [u8; 48])>,
+}
+
 enum Line {
     Count(u32),
     Entry(usize, [u8; 48]),
@@ -23,22 +30,22 @@ pub fn is_entry(line: &str) -> bool {
 /// The page that the lines give, and what a reader should know of it. A page begins with its count, or where the index does not rise; of several,
 /// as a log of several starts has them, the first is taken.
 pub fn page(bytes: &[u8]) -> Result<(Vec<u8>, Option<String>), String> {
-    let mut pages: Vec<(Option<u32>, Vec<(usize, [u8; 48])>)> = vec![];
+    let mut pages: Vec<Printed> = vec![];
     for line in text::found(bytes, read) {
         match line {
-            Line::Count(count) => pages.push((Some(count), vec![])),
+            Line::Count(count) => pages.push(Printed { count: Some(count), entries: vec![] }),
             Line::Entry(index, entry) => {
-                let rises = pages.last().is_some_and(|(_, entries)| entries.last().is_none_or(|(last, _)| *last < index));
+                let rises = pages.last().is_some_and(|page| page.entries.last().is_none_or(|(last, _)| *last < index));
                 if !rises {
-                    pages.push((None, vec![]));
+                    pages.push(Printed::default());
                 }
-                pages.last_mut().expect("there is a page").1.push((index, entry));
+                pages.last_mut().expect("there is a page").entries.push((index, entry));
             }
         }
     }
-    pages.retain(|(_, entries)| !entries.is_empty());
+    pages.retain(|page| !page.entries.is_empty());
     let note = (pages.len() > 1).then(|| format!("it has the tables of {} starts, the first is taken", pages.len()));
-    let (count, entries) = pages.into_iter().next().ok_or("has no entry of a CPUID table")?;
+    let Printed { count, entries } = pages.into_iter().next().ok_or("has no entry of a CPUID table")?;
     Ok((laid(count, &entries)?, note))
 }
 

@@ -66,7 +66,7 @@ pub enum NotRead {
     /// it is of a kind, and a part of it cannot be read
     Damaged(String),
     /// it is a list that the library refuses
-    Refused(Refusal, Reason),
+    Refused(Refusal, Box<Reason>),
 }
 
 impl NotRead {
@@ -113,7 +113,9 @@ pub fn input(bytes: Vec<u8>) -> Result<Input, NotRead> {
             Given::Pages(one_page::laid_out(&bytes))
         }
         Kind::Image => Given::Table(Box::new(image(&bytes).expect("it is an image"))),
-        Kind::List => Given::Pages(list::taken(&bytes).map_err(|refusal| NotRead::Refused(refusal, reasons::of_list(refusal, &bytes)))?.0.to_vec()),
+        Kind::List => {
+            Given::Pages(list::taken(&bytes).map_err(|refusal| NotRead::Refused(refusal, Box::new(reasons::of_list(refusal, &bytes))))?.0.to_vec())
+        }
         Kind::Dump | Kind::Libcpuid => {
             let taken = taken(kind, &bytes).map_err(NotRead::Damaged)?;
             notes.extend(taken.notes);

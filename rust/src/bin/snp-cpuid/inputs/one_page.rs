@@ -10,7 +10,7 @@ pub const NOTE: &str = "one page, as QEMU, OVMF and Linux have it: its entries o
 
 /// Whether it is one page with an entry of leaf Dh.
 pub fn is(bytes: &[u8]) -> bool {
-    bytes.len() == PAGE_BYTES && entries(bytes).any(|entry| is_state(entry))
+    bytes.len() == PAGE_BYTES && entries(bytes).any(is_state)
 }
 
 /// Two pages: the entries of leaf Dh on page 1 and all others on page 0, each as it stands and in its order. A page that counts more than it has
