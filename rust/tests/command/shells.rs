@@ -29,7 +29,7 @@ fn a_shell_without_a_script_is_bad_usage() {
 #[test]
 fn the_page_is_macros_and_text() {
     let ran = run(&["man"]);
-    let macros = [".Bd ", ".Bl ", ".Dd ", ".Dt ", ".Ed", ".El", ".Fl ", ".It ", ".Ar ", ".Nd ", ".Nm", ".Op ", ".Os", ".Pp", ".Sh ", ".Ss ", ".Xr "];
+    let macros = [".Bd ", ".Bl ", ".Dd ", ".Dt ", ".Ed", ".El", ".Fl ", ".It ", ".Ar ", ".Nd ", ".Nm", ".Op ", ".Os", ".Pp", ".Sh ", ".Ss "];
     for line in ran.text().lines() {
         assert!(line.len() <= 80 && !line.is_empty(), "{line}");
         assert!(!line.starts_with(['.', '\'']) || macros.iter().any(|name| line.starts_with(name)), "{line}");

@@ -71,11 +71,10 @@ fn examples() -> String {
     format!(".Sh EXAMPLES\n{}", text.strip_prefix(".Pp\n").unwrap_or(&text))
 }
 
+/// Other pages as text, since mandoc complains of references to what is not installed.
 const SEE_ALSO: &str = "\
 .Sh SEE ALSO
-.Xr cpuid 1 ,
-.Xr dmesg 1 ,
-.Xr cpuid 4
+cpuid(1), dmesg(1), cpuid(4)
 .Pp
 AMD64 Architecture Programmer's Manual, volume 3, appendix E.
 .Pp
