@@ -173,7 +173,10 @@ fn what_is_none_is_said_to_be_none() {
         ("cut", fs::read(EPYC).unwrap()[1..].to_vec()),
     ] {
         let file = folder.file(name, bytes);
-        for arguments in BUILDING.iter().chain(READING).filter(|run| !["from-dump", "from-kvm"].contains(&run[0])) {
+        // 'from-dump' names the line, and 'from-kvm' takes bytes for a list that was cut off
+        let text = ["text", "json"].contains(&name);
+        let asked = |run: &&&[&str]| run[0] != "from-dump" && (text || run[0] != "from-kvm");
+        for arguments in BUILDING.iter().chain(READING).filter(asked) {
             let ran = run(&with_files(arguments, &file, &folder.path("out")));
             let line = format!("{file}: no CPUID pages, image, list for KVM, dump or sev=debug log");
             assert_eq!((ran.status, ran.line()), (2, line.as_str()), "{arguments:?}");

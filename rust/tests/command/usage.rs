@@ -294,6 +294,9 @@ fn an_output_is_no_input() {
             assert_eq!((ran.status, ran.line()), (2, format!("{out}: not written: it is the input {pages}").as_str()));
         }
     }
+    // also where its folder was given
+    let ran = run(&["fleet", &folder.path(""), "--html", &other]);
+    assert_eq!((ran.status, ran.line()), (2, format!("{other}: not written: it is the input {other}").as_str()));
     assert_eq!(fs::read(&pages).unwrap(), fs::read(EPYC).unwrap());
     assert_eq!(folder.names(), ["hard", "link", "other", "pages"]);
 }

@@ -7,7 +7,7 @@ use crate::input::{reason, shown};
 use crate::json::{self, Json};
 use crate::option::{Opt, Value};
 use crate::wrap::told;
-use std::ffi::OsStr;
+use std::ffi::{OsStr, OsString};
 use std::fs::{self, File, OpenOptions};
 use std::io::{self, BufWriter, ErrorKind, IsTerminal, Write};
 use std::os::unix::fs::MetadataExt;
@@ -109,12 +109,15 @@ fn printed(written: io::Result<()>) -> Result<(), Failure> {
 /// Refuses an output that is one of the inputs: they would be gone.
 pub fn not_onto_input(command: &Command, arguments: &Arguments) -> Result<(), Failure> {
     let outputs = command.options().filter(|option| option.value.is_file()).filter_map(|option| arguments.value(option.name()));
-    for output in outputs.filter(|name| *name != "-") {
-        if let Some(input) = arguments.operands.iter().find(|input| same_file(input, output)) {
-            return Err(Failure::Bad(format!("{}: not written: it is the input {}", shown(output), shown(input))));
-        }
+    outputs.filter(|name| *name != "-").try_for_each(|output| not_one_of(output, arguments.operands.iter().map(OsString::as_os_str)))
+}
+
+/// Refuses an output that is one of these files.
+pub fn not_one_of<'a>(output: &OsStr, mut inputs: impl Iterator<Item = &'a OsStr>) -> Result<(), Failure> {
+    match inputs.find(|input| same_file(input, output)) {
+        Some(input) => Err(Failure::Bad(format!("{}: not written: it is the input {}", shown(output), shown(input)))),
+        None => Ok(()),
     }
-    Ok(())
 }
 
 /// Whether two names are of one file, through any links.

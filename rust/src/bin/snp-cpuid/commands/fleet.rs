@@ -7,6 +7,7 @@ use crate::failure::Failure;
 use crate::fleet::{Fleet, data, page, source, text};
 use crate::option::{Opt, Value};
 use crate::{json, output};
+use std::ffi::OsStr;
 
 const HTML: Opt = Opt {
     names: &["--html"],
@@ -61,7 +62,10 @@ fn run(arguments: &Arguments) -> Result<(), Failure> {
     match arguments.value(HTML.name()) {
         None => output::print(report)?,
         Some(_) if to_output => output::print(page::of(&fleet))?,
-        Some(file) => output::to_file_and_print(file, page::of(&fleet).as_bytes(), &report)?,
+        Some(file) => {
+            output::not_one_of(file, fleet.servers.iter().map(|server| OsStr::new(&server.source.file)))?;
+            output::to_file_and_print(file, page::of(&fleet).as_bytes(), &report)?
+        }
     }
     if fleet.accepted() == fleet.servers.len() { Ok(()) } else { Err(Failure::AnswerNo) }
 }

@@ -37,7 +37,9 @@ or written.
 fn run(arguments: &Arguments) -> Result<(), Failure> {
     let (file, bytes) = (&arguments.operands[0], read(&arguments.operands[0])?);
     let building = Building::of(arguments, COMMAND.name)?;
-    if !matches!(inputs::kind(&bytes), None | Some(Kind::List)) {
+    // bytes that are none of the kinds are a list that was cut off; text without a zero byte is no list
+    let is_text = !bytes.is_empty() && !bytes.contains(&0);
+    if is_text || !matches!(inputs::kind(&bytes), None | Some(Kind::List)) {
         return output::write(arguments, &building.pages_of(file, bytes)?.pages);
     }
     let (pages, note) = pages_of(&bytes, file, building)?;
