@@ -4,6 +4,7 @@
 # make uninstall  remove exactly these files
 # make libraries  the library, and beside it the one for ring 0, in target/staticlib (docs/EMBEDDING.md)
 # make dist       an archive of the same with the documents and a file of sums, tried out from an empty folder; the same bytes each time
+# make deb        a Debian package of the same, in target/deb (it wants dpkg-deb)
 # make proved     print what is proved
 # make test       the whole gate: proofs from nothing, must-fail edits, programs, and the tests in tests/
 # make bench      image, build and lookups against the best C that we can write, by gcc and by clang, as ratios of instructions and of time over six
@@ -12,7 +13,7 @@
 #
 # SNP_CPUID_LIB=FOLDER takes libsnp_cpuid.a from there, and the Rattle kit is not needed: nothing is proved then. It must be the library that was
 # proved at this commit, by its sha256 (install/library.sha256); SNP_CPUID_SUM=SUM takes the one with that sum, as one of other options of a compiler.
-.PHONY: all given-sum command stage staged install uninstall libraries ring0 dist proved test bench bench-rust clean
+.PHONY: all given-sum command stage staged install uninstall libraries ring0 dist deb proved test bench bench-rust clean
 
 .DEFAULT_GOAL = all
 # the manual page does not depend on the width of a terminal
@@ -26,6 +27,8 @@ COMMAND = target/rust/release/snp-cpuid
 STAGE = target/stage
 SMOKE = install/smoke
 ARCHIVE = snp-cpuid-$(VERSION)-x86_64-linux
+# the command runs on any x86-64 Linux, whatever C library stands there
+STATIC = -C target-feature=+crt-static
 
 # what an installation has, below PREFIX
 INSTALLED = bin/snp-cpuid include/snp_cpuid.h lib/libsnp_cpuid.a lib/pkgconfig/snp_cpuid.pc share/man/man1/snp-cpuid.1 \
@@ -79,7 +82,7 @@ target/staticlib/libsnp_cpuid.a: crates.txt $(shell find crates/*/src crates/*/s
 
 # cargo tells what is to be built again
 command: $(LIBRARY)
-	$(cargo)@cd rust && SNP_CPUID_LIB=$(abspath $(dir $(LIBRARY))) cargo build --offline --quiet --release --target-dir ../target/rust
+	$(cargo)@cd rust && SNP_CPUID_LIB=$(abspath $(dir $(LIBRARY))) RUSTFLAGS='$(STATIC)' cargo build --offline --quiet --release --target-dir ../target/rust
 
 # an installation, in a folder of its own
 stage: command
@@ -129,6 +132,9 @@ dist: stage
 	@cd target/dist && sha256sum $(ARCHIVE).tar.gz > $(ARCHIVE).tar.gz.sha256
 	@$(SMOKE) target/dist/$(ARCHIVE).tar.gz
 	@echo target/dist/$(ARCHIVE).tar.gz
+
+deb: stage
+	@mkdir -p target/deb && install/deb $(STAGE) $(VERSION) target/deb
 
 bench: $(LIBRARY)
 	@SNP_CPUID_LIB=$(abspath $(dir $(LIBRARY))) bench/run

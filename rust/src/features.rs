@@ -112,7 +112,6 @@ pub struct FeatureBit {
 
 impl FeatureRegister {
     /// The bits that are set in a value.
-    #[must_use]
     pub fn bits_of(&self, value: u32) -> impl Iterator<Item = FeatureBit> {
         let FeatureRegister { leaf, subleaf, register, bits } = *self;
         let set = bits.iter().filter(move |(bit, _)| value >> bit & 1 == 1);

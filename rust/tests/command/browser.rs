@@ -58,7 +58,7 @@ fn shown_fleet(folder: &Folder) -> String {
     folder.file("fleet/f1.pages", set(&rich()));
     folder.file("fleet/f2.pages", set(&poor));
     folder.file("fleet/<b>&amp;\"g\".pages", set(&with(7, 0, 1, |ebx| ebx | 1 << 16)));
-    folder.file("fleet/h", &set(&epyc())[1..]);
+    folder.file("fleet/h", &set(&epyc())[..8191]);
     folder.path("fleet")
 }
 
@@ -193,7 +193,9 @@ fn small_fleets_have_no_broken_page() {
     let folder = Folder::new("fleet_small_pages");
     let long = "x".repeat(200);
     for (place, files) in
-        [&[("one", set(&epyc()))][..], &[("a", set(&epyc())), (&long, set(&epyc()))], &[("a", vec![]), (&long, vec![])]].iter().enumerate()
+        [&[("one", set(&epyc()))][..], &[("a", set(&epyc())), (&long, set(&epyc()))], &[("a", vec![0; 4096]), (&long, vec![0; 4096])]]
+            .iter()
+            .enumerate()
     {
         let fleet = folder.path(&format!("fleet-{place}"));
         fs::create_dir(&fleet).unwrap();

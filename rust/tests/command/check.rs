@@ -10,8 +10,8 @@ fn table() -> Table {
     build(&std::fs::read(EPYC).unwrap(), Options::new()).unwrap()
 }
 
-fn processor(x2apic: u32, xcr0: u64, xss: u64, osxsave: bool) -> Processor {
-    Processor { x2apic, xcr0, xss, osxsave }
+pub fn processor(x2apic: u32, xcr0: u64, xss: u64, osxsave: bool) -> Processor {
+    Processor::new(x2apic).xcr0(xcr0).xss(xss).osxsave(osxsave)
 }
 
 /// The text of `cpuid -r` of processors that see a table, each in its state.
@@ -32,7 +32,7 @@ pub fn dump(table: &Table, processors: &[Processor]) -> String {
 #[test]
 fn every_state_of_a_table_is_the_table() {
     let folder = Folder::new("check_states");
-    let image = folder.file("image", &table().image());
+    let image = folder.file("image", table().image());
     let mut all = vec![];
     for xcr0 in [1, 3, 7] {
         for xss in [0, 0x800, 0x1000, 0x1800] {
@@ -76,7 +76,7 @@ fn what_one_processor_shows_otherwise() {
 #[test]
 fn another_table() {
     let folder = Folder::new("check_other");
-    let less = folder.file("less", &set(&with(0x1, 0, 2, |ecx| ecx & !(1 << 12))));
+    let less = folder.file("less", set(&with(0x1, 0, 2, |ecx| ecx & !(1 << 12))));
     let text = dump(&table(), &[processor(9, 7, 0, true)]);
     let ran = run_on(text.as_bytes(), &["check", &less, "--dump", "-"]);
     assert_eq!(ran.status, 1);

@@ -78,7 +78,7 @@ fn of_several_cpus_the_first_is_taken() {
     let mut other = epyc();
     other.insert((0x5, 0), [1, 2, 3, 4]);
     let (first, second) = (debian(&kept(epyc())), debian(&kept(other.clone())));
-    let expected = (set(&kept(epyc())), "snp-cpuid: note: standard input has 2 CPUs, the first is taken\n".to_string());
+    let expected = (set(&kept(epyc())), "snp-cpuid: note: standard input: it has 2 CPUs, the first is taken\n".to_string());
     assert_eq!(pages_of(&format!("CPU 0:\n{first}CPU 1:\n{second}")), expected);
     assert_eq!(pages_of(&format!("{first}CPU 1:\n{second}")), expected);
     let (first, second) = (dashed(&kept(epyc())), dashed(&kept(other)));
@@ -142,9 +142,9 @@ fn a_damaged_dump_names_the_line() {
     // also in the rows of a CPU that is not taken, and in bytes that are no text
     let file = folder.file("dump", format!("CPU 0:\n{good}\nCPU 1:\n{good} x\n"));
     assert!(run(&["from-dump", &file, "-o", &folder.path("out")]).line().contains(": line 4 is no CPUID row"));
-    let pages = run(&["from-dump", EPYC, "-o", &folder.path("out")]);
-    assert_eq!(pages.status, 2);
-    assert!(pages.line().contains(": line 1 is no CPUID row"));
+    let bytes = run(&["from-dump", &folder.file("dump", [0x80, 0, 0xFF]), "-o", &folder.path("out")]);
+    assert_eq!(bytes.status, 2);
+    assert!(bytes.line().contains(": line 1 is no CPUID row"));
     assert_eq!(folder.names(), ["dump"]);
 }
 

@@ -54,8 +54,8 @@ fn what_does_not_count() {
 /// Pages that no other command shows: of no whole length, with a count beyond 64, with reserved bytes.
 #[test]
 fn pages_that_cannot_be_read() {
-    assert!(text(&[]).starts_with("refusal 1: "));
     let over = [set(&epyc()), vec![1, 2, 3]].concat();
+    assert!(text(&over).starts_with("refusal 1: "));
     assert!(text(&over).ends_with("\n3 bytes after the last whole page\n"));
     assert_eq!(text(&over).matches("  first").count(), text(&set(&epyc())).matches("  first").count());
     let mut counted = set(&epyc());

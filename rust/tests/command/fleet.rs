@@ -1,6 +1,7 @@
 //! `fleet`: what it tells is counted here from the entries that the tests change; JSON is read by Debian's `jq`.
 
 use crate::answers::{documented, members};
+use crate::check::{dump, processor};
 use crate::json_text::jq;
 use crate::page_sets::{Entries, epyc, rich, set, topology, with, without};
 use crate::run::{EPYC, Folder, run, run_on};
@@ -65,15 +66,23 @@ fn a_small_fleet_by_hand() {
         line("A4", "c1", 1, "c1; without FMA SHA"),
         line("B1", "d1", 2, "d1 d2"),
     ];
-    let refused = "e1\n      refusal 4: INVLPGB (80000008h.EBX bit 3) is required but unavailable\n";
+    let refused = "\n      INVLPGB (80000008h.EBX bit 3) is required but unavailable\n         with SEV-SNP: e1\n";
     for (part, lines) in [
         (0, &["9 servers: 7 accepted in 5 classes, 2 refused\nedition 1 of the AVX rule, without secure AVIC"][..]),
         (1, &[&a1, &a2, &a3, &a4, b1.trim_end()]),
         (2, &["   A2    to A1; not to A3 and A4 (7.0 EBX SHA)\n", "   A3    to A1; not to A2 and A4 (1 ECX FMA)\n"]),
-        (2, &["   A4    to A1, A2 and A3\n", "   A and B: 1 EAX (00A00F11, 00A00F12), 80000001 EAX (00A00F11, 00A00F12)"]),
+        (2, &["   A4    to A1, A2 and A3\n", "   A and B: 1 EAX (stepping 1h; stepping 2h), 80000001 EAX (stepping 1h;"]),
         (3, &["   A     5 servers in 4 classes, without FMA SHA\n", "         A2 and A4 (b1 c1) together cost FMA\n"]),
         (4, &["   1 ECX           +   -   +   -   +  FMA\n", "   7.0 EBX         +   +   -   -   +  SHA"]),
-        (5, &[refused, "e2\n      refusal 3: no entry for leaf Bh subleaf 0h, which every guest needs\n"]),
+        (
+            5,
+            &[
+                "Refused\n   1 server by refusal 3. A list of KVM may lack the topology, ",
+                "   1 server by refusal 4. A hypervisor hides INVLPGB",
+                refused,
+            ],
+        ),
+        (5, &["\n      no entry for leaf Bh subleaf 0h, which every guest needs\n         with SEV-SNP: e2\n"]),
     ] {
         for line in lines {
             assert!(parts[part].contains(line), "{line}\n{}", ran.text());
@@ -126,6 +135,7 @@ fn shapes_are_documented() {
     let folder = Folder::new("fleet_shapes");
     small(&folder);
     folder.file("notes", "nothing");
+    folder.file("v1", "CPU 0:\n   0x00000005 0x00: eax=0x1 ebx=0x2 ecx=0x3 edx=0x4\nx\n");
     folder.file("u1.pages", set(&with(7, 0, 1, |ebx| ebx | 1 << 16)));
     folder.file("t1.pages", set(&stepping(&less(&with(7, 0, 1, |ebx| ebx | 1 << 16), 1, 2, 12))));
     let out = run(&["fleet", &folder.path(""), "--json"]).out;
@@ -146,6 +156,7 @@ fn shapes_are_documented() {
         (".pools[0].lost[0]", "a lost bit"),
         (".features[0]", "a feature that differs"),
         (".apart[0]", "a register that keeps groups apart"),
+        (".not_read[0]", "a file that is not read"),
         (".unpromised[0]", "a move that is not promised"),
         (".unlike[0]", "a server unlike the first of its class"),
     ] {
@@ -183,10 +194,17 @@ fn every_kind_of_file() {
     assert_eq!(other.status, 0);
     let of = |name, edition, rest| class(name, &pages, Options::new().edition(edition), 1, rest);
     assert!(other.text().contains(&(of("A1", 1, "h") + &of("A2", 2, "g; without F16C XOP FMA4"))), "{}", other.text());
-    let text = run(&["fleet", EPYC, &folder.file("notes.txt", "nothing\n")]);
-    assert_eq!((text.status, text.text().contains("   notes\n      not read: line 1 is no CPUID row and no heading: 'nothing'")), (1, true));
-    let empty = run(&["fleet", &folder.file("empty", "")]);
-    assert_eq!((empty.status, empty.text().contains("refusal 1: ")), (1, true));
+    // what is named must be a server's; a damaged one is one of which nothing is known
+    for (name, bytes, why) in [("notes.txt", "nothing\n", "no CPUID pages, image, list for KVM, dump or sev=debug log"), ("empty", "", "it is empty")]
+    {
+        let file = folder.file(name, bytes);
+        let ran = run(&["fleet", EPYC, &file]);
+        assert_eq!((ran.status, ran.line()), (2, format!("{file}: {why}").as_str()));
+    }
+    let damaged = folder.file("damaged", "CPU 0:\n   0x00000005 0x00: eax=0x1 ebx=0x2 ecx=0x3 edx=0x4\nx\n");
+    let ran = run(&["fleet", EPYC, &damaged]);
+    let told = "Not read\n   damaged\n      line 3 is no CPUID row and no heading: 'x'\n";
+    assert_eq!((ran.status, ran.text().contains(told)), (1, true), "{}", ran.text());
 }
 
 /// The report is that of the servers, not of the order in which they are named. A hidden file is none of them.
@@ -320,8 +338,8 @@ fn hyperthreading_keeps_groups_apart() {
         folder.file(name, set(&entries));
     }
     let ran = run(&["fleet", &folder.path("")]);
-    let apart = "   A and B: 1 EDX (";
-    assert!(ran.text().contains(apart) && ran.text().contains("10000000") && ran.text().contains("  HTT\n"), "{}", ran.text());
+    let apart = "   A and B: 1 EDX (HTT clear; HTT set)\n";
+    assert!(ran.text().contains(apart) && ran.text().contains("  HTT\n"), "{}", ran.text());
     assert!(!ran.text().contains("Pools"));
 }
 
@@ -343,7 +361,7 @@ fn standard_input_and_bad_usage() {
     }
     let folder = Folder::new("fleet_empty");
     let ran = run(&["fleet", &folder.path("")]);
-    assert_eq!((ran.status, ran.line().ends_with(": no file in it")), (2, true));
+    assert_eq!((ran.status, ran.line().ends_with(": no server's file in it")), (2, true));
 }
 
 /// One server, dumped inside its guest on several processors in several states: as they stand two groups and more, with --view one class.
@@ -352,8 +370,7 @@ fn views_of_one_table_are_one_class() {
     let folder = Folder::new("fleet_views");
     let table = snp_cpuid::build(&set(&epyc()), Options::new()).unwrap();
     for (name, x2apic, xcr0, xss) in [("a", 0, 7, 0x800), ("b", 5, 7, 0x800), ("c", 5, 3, 0)] {
-        let processor = snp_cpuid::Processor { x2apic, xcr0, xss, osxsave: true };
-        folder.file(&format!("{name}.dump"), crate::check::dump(&table, &[processor]));
+        folder.file(&format!("{name}.dump"), dump(&table, &[processor(x2apic, xcr0, xss, true)]));
     }
     let plain = run(&["fleet", &folder.path("")]);
     assert!(plain.text().starts_with("3 servers: all accepted, in 3 classes\n"), "{}", plain.text());

@@ -199,19 +199,26 @@ fn options_of_pages_are_not_for_an_image() {
     }
 }
 
-/// The others need the pages, and say so; what is neither pages nor image is refused by its length.
+/// The others need pages, and take those that have the image's rows; what is neither pages nor image is said to be neither.
 #[test]
-fn commands_that_need_pages_say_so() {
-    let folder = Folder::new("image_refused");
+fn commands_that_need_pages_make_them() {
+    let folder = Folder::new("image_pages");
     let image = image(&folder, "image", EPYC, &[]);
-    for arguments in [&["nearest", &image][..], &["nearest", &image, "--secure-avic"]] {
-        let ran = run(arguments);
-        assert!(ran.status == 1 && ran.line().starts_with(&format!("{image}: refusal 1: ")), "{}", ran.err);
-        assert_eq!(ran.notes(), ["it is the image of a table", "needs the pages that it was made of"]);
-    }
+    let note = format!("snp-cpuid: note: {image}: an image, told by pages that have its rows\n");
+    let nearest = run(&["nearest", &image]);
+    assert_eq!((nearest.status, &nearest.err), (0, &note));
+    // the first row is leaf 0, which is made here
+    assert!(nearest.text().starts_with("page 0, entry 1, EAX bit 0\nleaf 00000001 EAX bit 0, "), "{}", nearest.text());
+    let entries = run(&["entries", &image]);
+    assert_eq!((entries.status, &entries.err), (0, &note));
+    assert_eq!(entries.text().matches("  first\n").count(), 25);
+    assert!(entries.text().starts_with(&format!("{image}: accepted, 29 rows\n")), "{}", entries.text());
+    let written = run(&["from-dump", &image, "-o", "-"]);
+    assert_eq!(run_on(&written.out, &["table", "-"]), run(&["table", EPYC]));
     let bytes = fs::read(&image).unwrap();
     let neither = folder.file("neither", &bytes[1..]);
-    assert!(run(&["table", &neither]).notes()[0].starts_with(&format!("it has {} bytes: 0 pages of 4,096 and ", bytes.len() - 1)));
+    let ran = run(&["table", &neither]);
+    assert_eq!((ran.status, ran.line()), (2, format!("{neither}: no CPUID pages, image, list for KVM, dump or sev=debug log").as_str()));
     // pages stay pages, whatever is on them
     let pages = folder.file("pages", set(&epyc()));
     assert!(run(&["table", &pages, "--origins"]).text().contains("  page 0 entry 1\n"));

@@ -76,5 +76,5 @@ fn refusals_are_one_line_and_no_file() {
         assert_eq!((ran.status, ran.line()), (1, format!("standard input: {words}").as_str()));
         assert!(!fs::exists(&out).unwrap());
     }
-    assert_eq!(run_on(&[], &["to-kvm", "-", "-o", &out]).status, 1);
+    assert_eq!(run_on(&[], &["to-kvm", "-", "-o", &out]).status, 2);
 }

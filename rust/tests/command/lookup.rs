@@ -1,6 +1,6 @@
 //! `lookup`, by document 01's `leaf_result_ref`.
 
-use crate::run::{EPYC, run};
+use crate::run::{EPYC, Folder, run};
 
 fn row(text: &str) -> &str {
     text.lines().nth(1).expect("a row")
@@ -73,5 +73,31 @@ fn not_found() {
     ] {
         let ran = run(&[&["lookup", EPYC], arguments].concat());
         assert_eq!((ran.status, ran.line()), (3, line));
+    }
+}
+
+/// A feature by its name, in capitals or not: where it stands and whether it is set; a name may stand in two registers.
+#[test]
+fn a_feature_by_its_name() {
+    let folder = Folder::new("lookup_name");
+    for name in ["FMA", "fma", "Fma"] {
+        let ran = run(&["lookup", EPYC, name]);
+        assert_eq!((ran.status, ran.text()), (0, "FMA  leaf 00000001 ECX bit 12: set\n"));
+    }
+    let less = folder.file("less", crate::page_sets::set(&crate::page_sets::with(1, 0, 2, |ecx| ecx & !(1 << 12))));
+    let ran = run(&["lookup", &less, "FMA"]);
+    assert_eq!((ran.status, ran.text()), (3, "FMA  leaf 00000001 ECX bit 12: clear\n"));
+    assert_eq!(ran.failure(), format!("{less}: its table does not have FMA"));
+    let twice = run(&["lookup", EPYC, "AVX"]);
+    assert_eq!(twice.text(), "AVX  leaf 00000001 ECX bit 28: set\nAVX  leaf 0000000D.0 EAX bit 2: set\n");
+    // a number too: the bit by name, the leaf after 0x
+    assert_eq!(run(&["lookup", EPYC, "DE"]).text(), "DE  leaf 00000001 EDX bit 2: set\nDE  leaf 80000001 EDX bit 2: set\n");
+    assert!(run(&["lookup", EPYC, "0xDE"]).line().starts_with("leaf 000000DE is not in the table"));
+    // as one processor's guest sees it
+    let seen = |osxsave: &[&str]| run(&[&["lookup", EPYC, "OSXSAVE", "--apic", "0", "--xcr0", "7", "--xss", "0"], osxsave].concat()).status;
+    assert_eq!((seen(&[]), seen(&["--osxsave"])), (3, 0));
+    assert!(run(&["lookup", EPYC, "AVX521F"]).line().contains(", did you mean 'AVX512F'? "));
+    if let Some(read) = crate::json_text::jq(&run(&["lookup", &less, "FMA", "--json"]).out, "[.answer, (.bits[] | .leaf, .register, .bit, .set)]") {
+        assert_eq!(read, r#"["not found","00000001","ECX",12,false]"#);
     }
 }

@@ -6,6 +6,7 @@ use snp_cpuid::features;
 mod answers;
 mod arithmetic_held;
 mod browser;
+mod by_hand;
 #[path = "caches.rs"]
 mod cache_words;
 mod capture;
@@ -13,6 +14,7 @@ mod carry;
 mod check;
 mod compare;
 mod debian;
+mod diff;
 #[path = "differences.rs"]
 mod differences_held;
 mod documents;
@@ -22,10 +24,12 @@ mod entries;
 mod fleet;
 mod guest;
 mod images;
+mod inputs;
 #[path = "json.rs"]
 mod json_text;
 mod kvm;
 mod lookup;
+mod manual;
 #[path = "masks.rs"]
 mod masks_held;
 mod names;
@@ -78,6 +82,9 @@ mod pages;
 #[allow(dead_code)]
 #[path = "../../src/bin/snp-cpuid/print.rs"]
 mod print;
+#[allow(dead_code)]
+#[path = "../../src/bin/snp-cpuid/terminal.rs"]
+mod terminal;
 #[allow(dead_code)]
 #[path = "../../src/bin/snp-cpuid/words.rs"]
 mod words;

@@ -1,6 +1,6 @@
 //! `nearest`: document 02, P13. The bits are the model's (rust/tests/nearest.txt), or follow from what the pages report.
 
-use crate::page_sets::{Entries, page, rich, set, topology, unclean, with, without};
+use crate::page_sets::{Entries, epyc, page, rich, set, topology, unclean, with, without};
 use crate::run::{EPYC, Folder, run};
 
 const INVLPGB_GONE: &str = "refusal 4: INVLPGB (80000008h.EBX bit 3) is required but unavailable";
@@ -73,12 +73,14 @@ fn refused_pages_have_a_bit_that_decides() {
 #[test]
 fn no_bit() {
     let folder = Folder::new("nearest_none");
+    let mut counted = set(&epyc());
+    counted[0] = 65;
     for (pages, words, line, said) in [
         (set(&without(1, 0)), &[][..], "20\n", "refusal 20: no single bit of the results decides over the answer"),
         (set(&without(0xD, 1)), &[], "20\n", "refusal 20: "),
         (set(&without(1, 0)), &["--edition", "3"], "15\n", "refusal 15: "),
-        (vec![], &[], "1\n", "refusal 1: "),
-        (vec![65; 4096], &[], "2\n", "refusal 2: "),
+        ([set(&epyc()), vec![0]].concat(), &[], "1\n", "refusal 1: "),
+        (counted, &[], "2\n", "refusal 2: "),
         (unclean(&without(5, 0), 0, 1, 3), &[], "17 00000001\n", "refusal 17: "),
     ] {
         let file = folder.file("pages", pages);

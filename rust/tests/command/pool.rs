@@ -120,16 +120,17 @@ fn refusals_in_their_order() {
     let unlike = folder.file("unlike", set(&with(5, 0, 0, |eax| eax + 1)));
     let wrong = folder.file("wrong", set(&without(0xD, 2)));
     let epyc = EPYC.to_string();
-    let sets = format!("the pool: refusal 18: a pool has 2 to 16 page sets, and their lengths sum to the bytes handed over");
-    let differ = format!(
-        "the pool: refusal 19: the servers of the pool differ, in a row that all their tables have, elsewhere than in feature bits or the size of \
-         the save area"
-    );
+    let sets = "the pool: refusal 18: a pool has 2 to 16 page sets, and their lengths sum to the bytes handed over".to_string();
+    let differ = "the pool: refusal 19: the servers of the pool differ, in a row that all their tables have, elsewhere than in feature bits or the \
+                  size of the save area"
+        .to_string();
     let own = "refusal 3: no entry for leaf Dh subleaf 2h on page 1, where the entries of Dh must stand";
     let own = format!("{wrong}: {own}");
     for (servers, line, words) in [
         (vec![wrong.clone()], "18", &sets),
-        (vec![wrong.clone(); 17], "18", &sets),
+        (vec![wrong.clone(); 17], "3 0000000D 2", &own),
+        ([vec![epyc.clone(); 17], vec![unlike.clone(), wrong.clone()]].concat(), "3 0000000D 2", &own),
+        ([vec![epyc.clone(); 17], vec![unlike.clone()]].concat(), "19", &differ),
         (vec![epyc.clone(), wrong.clone()], "3 0000000D 2", &own),
         (vec![epyc.clone(), unlike.clone(), wrong.clone()], "3 0000000D 2", &own),
         ([vec![epyc.clone(); 15], vec![wrong.clone()]].concat(), "3 0000000D 2", &own),
@@ -190,4 +191,37 @@ fn lifted_by_a_third_server() {
     assert!(pooled(&files[..2], &[]).line().starts_with("the pool: refusal 19: "));
     let (_, bytes) = written(&folder, &files, &[]);
     assert_eq!(bytes, image(&files[2], &[]));
+}
+
+/// More servers than the library takes at once: the pool of all is the table of a server with just what all have. Two that differ in the row of a
+/// state join once one without the state has, in whichever order they are named.
+#[test]
+fn more_than_sixteen_servers() {
+    let folder = Folder::new("pool_many");
+    let bits =
+        [0, 1, 9, 12, 13, 19, 20, 22, 23, 25, 30].map(|bit| (1, 2, bit)).into_iter().chain([0, 3, 8, 9, 18, 19, 23, 24, 29].map(|bit| (7, 1, bit)));
+    let mut least = epyc();
+    let mut servers = vec![];
+    for (place, (leaf, register, bit)) in bits.enumerate() {
+        servers.push(folder.file(&format!("{place:02}"), set(&with(leaf, 0, register, |value| value & !(1 << bit)))));
+        least.get_mut(&(leaf, 0)).unwrap()[register] &= !(1 << bit);
+    }
+    let expected = run(&["image", &folder.file("least", set(&least)), "-o", "-"]).out;
+    let ran = pooled(&servers, &["-o", "-"]);
+    assert_eq!((ran.status, &ran.out), (0, &expected), "{}", ran.err);
+    assert_eq!(ran.notes()[0], format!("{} cost the pool SSE3 (00000001 ECX)", servers[0]));
+    servers.reverse();
+    assert_eq!(pooled(&servers, &["-o", "-"]).out, expected);
+    // two sizes of a state, and at last a server without it
+    let sized = |name: &str, xfem: u32, size: u32| {
+        let mut entries = rich();
+        entries.get_mut(&(0xD, 0)).unwrap()[0] = xfem;
+        entries.get_mut(&(0xD, 7)).unwrap()[0] = size;
+        folder.file(name, set(&entries))
+    };
+    let (a, b, c) = (sized("a", 0xE7, 1024), sized("b", 0xE7, 1000), sized("c", 7, 1024));
+    let small = pooled(&[a.clone(), b.clone(), c.clone()], &["-o", "-"]);
+    assert_eq!(small.status, 0, "{}", small.err);
+    let large = pooled(&[vec![a.clone(); 15], vec![b; 15], vec![c]].concat(), &["-o", "-"]);
+    assert_eq!((large.status, large.out), (0, small.out), "{}", large.err);
 }

@@ -175,7 +175,6 @@ fn missing_rows() {
 fn lengths_counts_and_reserved_bytes() {
     let folder = Folder::new("reasons_bytes");
     let shipped = set(&epyc());
-    assert_eq!(notes(&folder, &[])[0], "it has no bytes");
     assert_eq!(notes(&folder, &shipped[..8190])[0], "it has 8190 bytes: 1 page of 4,096 and 4094 over");
     let mut counted = shipped.clone();
     counted[4096..4100].copy_from_slice(&[65, 1, 0, 0]);

@@ -11,8 +11,8 @@ fn cases() -> Vec<(Vec<u8>, &'static str, &'static str)> {
     let mut counted = shipped.clone();
     counted[4096] = 65;
     vec![
-        (vec![], "1", "[null,null,null]"),
-        (shipped[1..].to_vec(), "1", "[null,null,null]"),
+        ([&shipped[..], &[1, 2, 3]].concat(), "1", "[null,null,null]"),
+        (shipped[..8191].to_vec(), "1", "[null,null,null]"),
         (counted, "2", "[null,null,null]"),
         (set(&without(0x8000_001A, 0)), "3", r#"["8000001A",null,null]"#),
         (set(&without(0x8000_001D, 3)), "3", r#"["8000001D",3,null]"#),
@@ -119,7 +119,12 @@ fn what_is_no_line_is_not_explained() {
         let ran = run(&["explain", line]);
         assert_eq!((ran.status, ran.line().ends_with(": no such line")), (1, true), "{line:?}");
     }
-    for input in ["1", "1\n\n", "1\r\n", ""] {
+    // the same from standard input, a number alone too
+    for number in [3, 6, 7, 17] {
+        let ran = run_on(format!("{number}\n").as_bytes(), &["explain", "-"]);
+        assert_eq!(ran, run(&["explain", &number.to_string()]));
+    }
+    for input in ["1", "7", "07\n", "7\n\n", "1\n\n", "1\r\n", ""] {
         assert_eq!(run_on(input.as_bytes(), &["explain", "-"]).line(), "standard input: no such line", "{input:?}");
     }
 }

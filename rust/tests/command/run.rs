@@ -18,8 +18,6 @@ pub const BUILDING: &[&[&str]] = &[
     &["lookup", "PAGES", "1"],
     &["lookup", "PAGES", "1", "--apic", "1", "--xcr0", "1", "--xss", "0"],
     &["guest", "PAGES", "--apic", "1", "--xcr0", "1", "--xss", "0"],
-    &["to-dump", "PAGES"],
-    &["to-dump", "PAGES", "-o", "OUT"],
     &["to-kvm", "PAGES", "-o", "OUT"],
     &["carry", "PAGES", "--from", "1", "--to", "2", "--xcr0", "1", "--xss", "0", "-o", "OUT"],
     &["pool", "PAGES", "PAGES"],
@@ -35,8 +33,12 @@ pub fn under_one_edition() -> impl Iterator<Item = &'static &'static [&'static s
 pub const READING: &[&[&str]] = &[
     &["from-dump", "PAGES", "-o", "OUT"],
     &["from-kvm", "PAGES", "-o", "OUT"],
+    &["to-dump", "PAGES"],
+    &["to-dump", "PAGES", "-o", "OUT"],
+    &["set", "PAGES", "5.EAX=1", "-o", "OUT"],
     &["compare", "PAGES", EPYC],
     &["compare", EPYC, "PAGES"],
+    &["diff", "PAGES", "PAGES"],
     &["nearest", "PAGES"],
     &["entries", "PAGES"],
 ];

@@ -52,15 +52,18 @@ const SHARED: [&str; 3] = [
     "--line where the pages are refused, print the refusal's line too",
 ];
 
-/// The options of all commands that build are told by each of them in the same words, and by no other; `carry` names its editions otherwise, and `fleet` goes on where pages are refused.
+/// The options of all commands that build are told by each of them in the same words, and by no other; `carry` names its editions otherwise, and
+/// `fleet`, `to-dump`, `set` and `diff` go on where pages are refused.
 #[test]
 fn shared_options_are_told_alike() {
     for name in commands() {
-        let builds = ["check", "compare", "nearest", "entries", "fleet"].contains(&name.as_str()) || BUILDING.iter().any(|run| run[0] == name);
+        let builds = ["check", "compare", "nearest", "entries", "fleet", "to-dump", "set", "diff"].contains(&name.as_str())
+            || BUILDING.iter().any(|run| run[0] == name);
         let ran = run(&[name.as_str(), "--help"]);
         for told in SHARED {
             let (option, _) = told.split_once(' ').unwrap();
-            let builds = builds && ![("--edition", "carry"), ("--line", "fleet"), ("--line", "check")].contains(&(option, name.as_str()));
+            let without = [("--edition", &["carry"][..]), ("--line", &["check", "fleet", "to-dump", "set", "diff"])];
+            let builds = builds && !without.iter().any(|(left_out, names)| *left_out == option && names.contains(&name.as_str()));
             let line = ran.text().lines().find(|line| line.trim_start().starts_with(&format!("{option} ")));
             let words = line.map(|line| line.split_whitespace().collect::<Vec<_>>().join(" "));
             assert_eq!(words.as_deref(), builds.then_some(told), "{name}");
@@ -205,7 +208,7 @@ fn standard_input_and_output_are_a_dash() {
     let pages = fs::read(EPYC).unwrap();
     assert_eq!(run_on(&pages, &["table", "-"]), run(&["table", EPYC]));
     assert_eq!(run_on(&pages, &["image", "-", "-o", "-"]).out, fs::read("../crates/snp_cpuid_image/stdout").unwrap());
-    assert!(run_on(&[], &["table", "-"]).line().starts_with("standard input: refusal 1: "));
+    assert_eq!((run_on(&[], &["table", "-"]).status, run_on(&[], &["table", "-"]).line()), (2, "standard input: it is empty"));
 }
 
 #[test]
@@ -274,4 +277,94 @@ fn an_existing_file_is_replaced_where_it_stands() {
         assert!(fs::symlink_metadata(folder.path("link")).unwrap().is_symlink());
         assert_eq!(folder.names(), ["file", "link"]);
     }
+}
+
+/// What an input holds is not gone: an output that is one, under any name, is refused before anything is read.
+#[test]
+fn an_output_is_no_input() {
+    use std::os::unix::fs::symlink;
+    let folder = Folder::new("onto_input");
+    let (pages, other) = (folder.file("pages", fs::read(EPYC).unwrap()), folder.file("other", fs::read(EPYC).unwrap()));
+    symlink("pages", folder.path("link")).unwrap();
+    fs::hard_link(&pages, folder.path("hard")).unwrap();
+    for out in [pages.clone(), folder.path("link"), folder.path("hard"), folder.path("./pages")] {
+        for arguments in [
+            &["image", &pages, "-o", &out][..],
+            &["set", &pages, "5.EAX=1", "-o", &out],
+            &["pool", &other, &pages, "-o", &out],
+            &["fleet", &other, &pages, "--html", &out],
+        ] {
+            let ran = run(arguments);
+            assert_eq!((ran.status, ran.line()), (2, format!("{out}: not written: it is the input {pages}").as_str()));
+        }
+    }
+    // also where its folder was given
+    let ran = run(&["fleet", &folder.path(""), "--html", &other]);
+    assert_eq!((ran.status, ran.line()), (2, format!("{other}: not written: it is the input {other}").as_str()));
+    assert_eq!(fs::read(&pages).unwrap(), fs::read(EPYC).unwrap());
+    assert_eq!(folder.names(), ["hard", "link", "other", "pages"]);
+}
+
+/// A link to nothing, or to itself, stays a link.
+#[test]
+fn a_link_to_nothing_is_not_written() {
+    let folder = Folder::new("link_to_nothing");
+    for to in ["nowhere", "link"] {
+        let link = folder.path("link");
+        std::os::unix::fs::symlink(to, &link).unwrap();
+        let ran = run(&["image", EPYC, "-o", &link]);
+        assert!(ran.status == 2 && ran.line().starts_with(&format!("{link}: cannot be written: ")), "{}", ran.err);
+        assert!(fs::symlink_metadata(&link).unwrap().is_symlink());
+        fs::remove_file(link).unwrap();
+    }
+    assert_eq!(folder.names(), [""; 0]);
+}
+
+/// Where standard output is full no file is written, neither a new one nor an old one, and nothing is left beside it.
+#[test]
+fn no_file_where_standard_output_is_full() {
+    let folder = Folder::new("full_output");
+    let old = folder.file("old", "as it was");
+    for out in [&old, &folder.path("new")] {
+        for arguments in [
+            &["carry", EPYC, "--from", "1", "--to", "2", "--xcr0", "7", "--xss", "0", "--json", "-o", out][..],
+            &["pool", EPYC, EPYC, "--json", "-o", out],
+            &["topologies", "--json", "-o", out],
+            &["fleet", EPYC, "--html", out],
+            &["fleet", EPYC, "--json", "--html", out],
+        ] {
+            let full = fs::File::options().write(true).open("/dev/full").unwrap();
+            let ran = finish(command().args(arguments).stdout(full));
+            assert_eq!((ran.status, ran.line()), (2, "standard output: No space left on device"), "{arguments:?}");
+            assert_eq!(folder.names(), ["old"]);
+            // and the other way round the file is, and the text too
+            assert_eq!(run(arguments).status, 0);
+            assert_ne!(fs::read(out).unwrap(), b"as it was");
+            fs::write(&old, "as it was").unwrap();
+            let _ = fs::remove_file(folder.path("new"));
+        }
+    }
+    assert_eq!(fs::read(old).unwrap(), b"as it was");
+}
+
+/// The width of a terminal, by util-linux's `script` and `stty`: text and notes fill it, and COLUMNS goes before it for text.
+#[test]
+fn lines_fill_the_terminal() {
+    let folder = Folder::new("terminal_width");
+    let refused = folder.file("refused", crate::page_sets::set(&crate::page_sets::without(0xD, 2)));
+    let binary = env!("CARGO_BIN_EXE_snp-cpuid");
+    let widest = |columns: u32, environment: &str, words: &str| {
+        let inside = format!("stty cols {columns}; {environment} {binary} {words}");
+        let output = Command::new("script").args(["-q", "-c", &inside, "/dev/null"]).stdin(Stdio::null()).env_remove("COLUMNS").output();
+        let text = String::from_utf8_lossy(&output.expect("script runs (util-linux)").stdout).replace('\r', "");
+        let spaced = |line: &&str| line.trim_start().trim_start_matches("snp-cpuid: ").contains(' ');
+        text.lines().filter(spaced).map(str::len).max().unwrap_or(0)
+    };
+    for columns in [60, 80, 140] {
+        for words in ["explain 3", &format!("table {refused}")] {
+            let widest = widest(columns, "", words) as u32;
+            assert!(widest <= columns && widest + 20 > columns, "{words}: {widest} of {columns}");
+        }
+    }
+    assert!((60..=70).contains(&widest(140, "COLUMNS=70", "explain 3")));
 }

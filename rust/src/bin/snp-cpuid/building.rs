@@ -3,13 +3,13 @@
 use crate::arguments::Arguments;
 use crate::failure::Failure;
 use crate::input::{read, shown};
+use crate::inputs::{self, NotRead};
 use crate::json::{self, Json, object};
 use crate::numbers::decimal;
 use crate::option::Opt;
 use crate::output;
 use crate::reasons::{self, Reason};
 use crate::source::Source;
-pub use crate::source::image;
 use snp_cpuid::{ANY_KVM_BYTES, Bit, Comparison, NotPooled, Options, Origin, Processor, Refusal, Table};
 use std::ffi::OsStr;
 use std::fmt::Display;
@@ -57,6 +57,11 @@ impl Building {
         Ok(Building { options, line, json, of_pages })
     }
 
+    /// The same choices under other options of building.
+    pub fn under(&self, options: Options) -> Building {
+        Building { options, ..*self }
+    }
+
     /// The edition of the AVX rule.
     pub fn edition(&self) -> u32 {
         self.options.edition
@@ -92,15 +97,37 @@ impl Building {
         snp_cpuid::nearest(pages, self.options)
     }
 
-    /// What a file gives. Pages are told by their length, a multiple of 4,096.
+    /// What a file gives.
     pub fn source(&self, file: &OsStr) -> Result<Source, Failure> {
-        let bytes = read(file)?;
-        let table = image(&bytes);
-        Ok(Source { file: shown(file), pages: bytes, image: table, options: self.options })
+        self.source_of(file, read(file)?)
+    }
+
+    /// What a file of these bytes gives, told apart by them. What a reader should know of it is said at once.
+    fn source_of(&self, file: &OsStr, bytes: Vec<u8>) -> Result<Source, Failure> {
+        let input = inputs::input(bytes).map_err(|not_read| self.not_read(file, not_read))?;
+        input.notes.iter().for_each(|note| output::note(&format!("{}: {note}", shown(file))));
+        Ok(Source::new(shown(file), input, self.options))
+    }
+
+    /// The same as pages: of an image those that have its rows.
+    pub fn pages_of(&self, file: &OsStr, bytes: Vec<u8>) -> Result<Source, Failure> {
+        let source = self.source_of(file, bytes)?.into_pages(self)?;
+        if source.image.is_some() {
+            output::note(&format!("{}: an image, told by pages that have its rows", source.file));
+        }
+        Ok(source)
+    }
+
+    /// Why a file gives nothing.
+    fn not_read(&self, file: &OsStr, not_read: NotRead) -> Failure {
+        match not_read {
+            NotRead::Refused(refusal, reason) => self.refused(shown(file), refusal, &reason),
+            NotRead::Foreign(why) | NotRead::Damaged(why) => Failure::Bad(format!("{}: {why}", shown(file))),
+        }
     }
 
     /// The same of one file, where no option was given that an image cannot heed.
-    fn heeding(&self, file: &OsStr) -> Result<Source, Failure> {
+    pub fn heeding(&self, file: &OsStr) -> Result<Source, Failure> {
         let source = self.source(file)?;
         self.heeded_by(std::slice::from_ref(&source))?;
         Ok(source)

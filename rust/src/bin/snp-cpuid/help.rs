@@ -21,19 +21,21 @@ const OTHERS: [(&str, &str); 4] = [
 ];
 
 const TAIL: &str = "
-PAGES is a file of CPUID pages as the SEV-SNP firmware lays them out, 4,096 bytes each, end to end.
-All commands but 'nearest' and 'entries' take an image too, as 'image', 'carry' and 'pool' write it:
-the table is then the image's, and nobody knows where its rows came from.
+PAGES is a file of CPUID pages as the SEV-SNP firmware lays them out, 4,096 bytes each, end to end,
+or any other that gives such pages, told apart by what it holds: one page with leaf Dh on it, as
+QEMU, OVMF and Linux have it; an image, as 'image', 'carry' and 'pool' write it, of which nobody
+knows where its rows came from; a list for KVM; the text of 'cpuid -r', of InstLatx64 or of
+libcpuid's 'cpuid_tool --save'; or the log of a Linux guest that was started with sev=debug.
 '-' is standard input, and after -o standard output, but never a terminal. A file of more than 64
 MiB is not read.
 
-Lines are at most 100 columns, or as many as the variable COLUMNS says.
+Lines are at most 100 columns, or as many as the variable COLUMNS says, or the terminal has.
 
 Exit status: 0 where the pages are accepted or the answer is yes, 1 where they are refused or the
 answer is no, 2 where the arguments are wrong or a file cannot be read, parsed or written, 3 where
-what was asked for is not there. An empty page file is refused (refusal 1, status 1); an empty dump
-cannot be parsed (status 2). A failure is one line on standard error, after a refusal with notes
-that say why, and no file is written or changed.
+what was asked for is not there. A file that is none of the above is not refused (status 2). A
+failure is one line on standard error, after a refusal with notes that say why, and no file is
+written or changed.
 ";
 
 /// The option that every command has; the command line is read for it before any other.
@@ -42,7 +44,7 @@ pub const HELP: Opt = Opt::flag(&["-h", "--help"], "print this help");
 /// The help of the program: a line for each command, with its operands and the file that it writes.
 pub fn of_program(commands: &[Command]) -> String {
     let line = |command: &Command| {
-        let files = command.options().filter(|option| option.value.is_file()).map(Opt::usage);
+        let files = command.options().filter(|option| option.value.is_output()).map(Opt::usage);
         listed(&synopsis(command, files), command.summary)
     };
     let other = |(name, words): &(&str, &str)| match *name {

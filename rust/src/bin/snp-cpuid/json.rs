@@ -47,6 +47,17 @@ impl Json {
         }
     }
 
+    /// Its text where it stands inside others, so many levels deep.
+    pub fn inside(&self, depth: usize) -> String {
+        struct Inside<'a>(&'a Json, usize);
+        impl fmt::Display for Inside<'_> {
+            fn fmt(&self, f: &mut fmt::Formatter<'_>) -> fmt::Result {
+                self.0.write(f, self.1)
+            }
+        }
+        Inside(self, depth).to_string()
+    }
+
     /// Whether it is an array or object that takes lines of its own: it has an array or object inside.
     fn is_nested(&self) -> bool {
         let inside = |value: &Json| matches!(value, Json::Array(_) | Json::Object(_));

@@ -11,11 +11,14 @@ mod command;
 mod commands;
 mod components;
 mod differences;
+mod edits;
 mod failure;
 mod fields;
 mod fleet;
+mod guest_size;
 mod help;
 mod input;
+mod inputs;
 mod json;
 mod json_read;
 mod machine;
@@ -30,10 +33,12 @@ mod parse;
 mod print;
 mod processor;
 mod reasons;
+mod said;
 mod shells;
 mod source;
 mod standing;
 mod suggest;
+mod terminal;
 mod topology;
 mod view;
 mod words;
@@ -76,7 +81,7 @@ fn run(mut given: impl Iterator<Item = OsString>) -> Result<(), Failure> {
             let command = command(&first)?;
             match parse::parse(command, given)? {
                 None => output::print(help::of_command(command)),
-                Some(arguments) => (command.run)(&arguments),
+                Some(arguments) => output::not_onto_input(command, &arguments).and_then(|()| (command.run)(&arguments)),
             }
         }
     }

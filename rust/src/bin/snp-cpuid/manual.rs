@@ -27,9 +27,59 @@ pub fn page(commands: &[Command]) -> String {
     page += &options.iter().map(|paragraph| list(paragraph.trim_start_matches("Options:\n"))).collect::<String>();
     page += &format!(".Pp\nThis is the page of version {}.\n.Sh COMMANDS\n", env!("CARGO_PKG_VERSION"));
     page += &commands.iter().map(section).collect::<String>();
+    page += FILES;
     page += ".Sh EXIT STATUS\n";
-    page + &body(&exit.iter().map(|paragraph| &paragraph[EXIT.len()..]).collect::<Vec<_>>())
+    page += &body(&exit.iter().map(|paragraph| &paragraph[EXIT.len()..]).collect::<Vec<_>>());
+    page + &examples() + SEE_ALSO
 }
+
+const FILES: &str = "\
+.Sh ENVIRONMENT
+.Bl -tag -width Ds
+.It Ev COLUMNS
+how wide lines are, before what the terminal says
+.El
+.Sh FILES
+.Bl -tag -width Ds
+.It Pa /dev/kvm
+what 'capture \\-\\-kvm' asks
+.It Pa /usr/share/doc/snp\\-cpuid/epyc\\-milan.pages
+the CPUID pages of an EPYC 7713, to try the commands on
+.El
+";
+
+/// What is done, and the lines that do it. rust/tests/command/manual.rs runs them.
+const EXAMPLES: [(&str, &str); 7] = [
+    ("Capture the machine that this runs on, and print its table:", "snp-cpuid capture -o own.pages; snp-cpuid table own.pages"),
+    ("Print the table of a dump that a colleague sent:", "snp-cpuid table server.dump"),
+    ("Make the pages of a guest of 4 cores with 2 threads each from a host's dump:", "snp-cpuid from-dump server.dump --guest 4x2 -o guest.pages"),
+    ("Do what the notes after a refusal name:", "snp-cpuid set own.pages 80000008.EBX=3112D21F -o mended.pages"),
+    ("Ask whether a server has a feature:", "snp-cpuid lookup server.dump FMA"),
+    (
+        "See what two servers differ in, and whether a guest may go from one to the other:",
+        "snp-cpuid diff a.dump b.dump; snp-cpuid compare a.dump b.dump",
+    ),
+    ("Sort the files of a folder into servers that are alike, for a browser:", "snp-cpuid fleet folder --html fleet.html"),
+];
+
+fn examples() -> String {
+    let example = |(what, lines): &(&str, &str)| {
+        let lines: String = lines.split("; ").map(|line| format!("$ {}\n", line_of_text(line))).collect();
+        format!(".Pp\n{}.Bd -literal -offset indent\n{lines}.Ed\n", filled(what))
+    };
+    let text: String = EXAMPLES.iter().map(example).collect();
+    format!(".Sh EXAMPLES\n{}", text.strip_prefix(".Pp\n").unwrap_or(&text))
+}
+
+/// Other pages as text, since mandoc complains of references to what is not installed.
+const SEE_ALSO: &str = "\
+.Sh SEE ALSO
+cpuid(1), dmesg(1), cpuid(4)
+.Pp
+AMD64 Architecture Programmer's Manual, volume 3, appendix E.
+.Pp
+SEV Secure Nested Paging Firmware ABI Specification, the page of type CPUID.
+";
 
 fn head() -> String {
     format!(

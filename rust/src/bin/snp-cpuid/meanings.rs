@@ -70,3 +70,42 @@ const MEANINGS: [&str; 20] = [
     "No single bit of the pages, flipped, changes the answer. This is so where a row is missing that every guest needs: no bit of another \
      entry makes it appear.",
 ];
+
+/// What a refusal says about the place where the pages were made, in a sentence or two.
+pub fn place(number: u32) -> &'static str {
+    match number {
+        1 => "The file was cut off, or something else stands behind its pages.",
+        2 => "A page is damaged: it counts more entries than it has room for.",
+        3 => {
+            "A list of KVM may lack the topology, leaf Bh, which the program that runs a guest adds, and a dump by an older tool the subleaves of \
+             Dh. A processor before Zen 3 lacks rows of its own."
+        }
+        4 => {
+            "A hypervisor hides INVLPGB there, as KVM does from its guests and in its list of what it supports, or the processor is older than Zen \
+             3. It says where the file was made, not what the server can give a guest."
+        }
+        5 => "The size of a state is damaged.",
+        6..=8 => {
+            "A host's own dump tells the processors that are there, and its APIC numbers leave room for more; the host gives its guests counts \
+             that fit, as 'from-dump --guest' does."
+        }
+        15 => "The edition of the AVX rule that was asked for is none.",
+        17 => "Whoever wrote the pages left old data in bytes that are reserved.",
+        _ => "",
+    }
+}
+
+/// The same in a few words.
+pub fn short(number: u32) -> &'static str {
+    match number {
+        1 => "cut off",
+        2 => "a damaged page",
+        3 => "a row is missing",
+        4 => "INVLPGB is hidden",
+        5 => "a damaged size",
+        6..=8 => "counts of processors that no guest is given",
+        15 => "no such edition",
+        17 => "old data in reserved bytes",
+        _ => "refused",
+    }
+}

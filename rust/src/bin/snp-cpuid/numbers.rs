@@ -10,6 +10,12 @@ pub fn prefixed(text: &str) -> Option<u32> {
     text.strip_prefix("0x").or_else(|| text.strip_prefix("0X")).and_then(digits)
 }
 
+/// A hexadecimal number as leaves and registers are given: alone, after 0x or before h.
+pub fn leaf_number(text: &str) -> Option<u32> {
+    let before_h = |text: &str| text.strip_suffix(['h', 'H']).filter(|digits| !digits.is_empty()).and_then(digits);
+    digits(text).filter(|_| !text.is_empty()).or_else(|| prefixed(text)).or_else(|| before_h(text))
+}
+
 /// Digits of up to 64 bits, alone or after 0x.
 pub fn wide(text: &str) -> Option<u64> {
     let text = text.strip_prefix("0x").or_else(|| text.strip_prefix("0X")).unwrap_or(text);

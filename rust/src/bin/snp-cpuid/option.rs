@@ -18,12 +18,16 @@ pub struct Opt {
 pub enum Value {
     /// nothing
     None,
-    /// the name of a file, which the help calls so
-    File(&'static str),
+    /// the name of a file that is written, which the help calls so
+    Output(&'static str),
+    /// the name of a file that is read, which the help calls so
+    Input(&'static str),
     /// a hexadecimal number, which the help calls so
     Number(&'static str),
     /// a decimal number, which the help calls so
     Decimal(&'static str),
+    /// a word of another form, which the help calls so, and what a message calls it
+    Word(&'static str, &'static str),
 }
 
 impl Opt {
@@ -69,22 +73,28 @@ impl Value {
     pub fn name(&self) -> Option<&'static str> {
         match self {
             Value::None => None,
-            Value::File(name) | Value::Number(name) | Value::Decimal(name) => Some(name),
+            Value::Output(name) | Value::Input(name) | Value::Number(name) | Value::Decimal(name) | Value::Word(name, _) => Some(name),
         }
     }
 
     /// Whether it is the name of a file.
     pub fn is_file(&self) -> bool {
-        matches!(self, Value::File(_))
+        matches!(self, Value::Output(_) | Value::Input(_))
+    }
+
+    /// Whether it is the name of a file that is written.
+    pub fn is_output(&self) -> bool {
+        matches!(self, Value::Output(_))
     }
 
     /// What a message asks for where it is missing: in capitals, and in words.
     pub fn kind(&self) -> Option<(&'static str, &'static str)> {
         match self {
             Value::None => None,
-            Value::File(_) => Some(("FILE", "a file name")),
+            Value::Output(_) | Value::Input(_) => Some(("FILE", "a file name")),
             Value::Number(name) => Some((name, "a hexadecimal number")),
             Value::Decimal(name) => Some((name, "a decimal number")),
+            Value::Word(name, words) => Some((name, words)),
         }
     }
 }

@@ -1,14 +1,17 @@
 //! Writing: text to standard output, files whole or not at all, and lines to standard error.
 
 use crate::arguments::Arguments;
+use crate::command::Command;
 use crate::failure::Failure;
 use crate::input::{reason, shown};
 use crate::json::{self, Json};
 use crate::option::{Opt, Value};
-use std::ffi::OsStr;
+use crate::wrap::told;
+use std::ffi::{OsStr, OsString};
 use std::fs::{self, File, OpenOptions};
-use std::io::{self, ErrorKind, IsTerminal, Write};
-use std::path::{Path, PathBuf};
+use std::io::{self, BufWriter, ErrorKind, IsTerminal, Write};
+use std::os::unix::fs::MetadataExt;
+use std::path::PathBuf;
 use std::process;
 
 const NAMES: &[&str] = &["-o", "--output"];
@@ -16,19 +19,19 @@ const NAMES: &[&str] = &["-o", "--output"];
 /// The option of a command that writes a file, which the help calls so.
 pub const fn file(name: &'static str) -> Opt {
     let help = "the file to write; it is replaced as a whole, and only where all went well";
-    Opt { names: NAMES, value: Value::File(name), required: true, help }
+    Opt { names: NAMES, value: Value::Output(name), required: true, help }
 }
 
 /// The option of a command that writes a file, or to standard output where none is given.
 pub const fn file_or_standard_output(name: &'static str) -> Opt {
     let help = "write to a file; it is replaced as a whole, and only where all went well";
-    Opt { names: NAMES, value: Value::File(name), required: false, help }
+    Opt { names: NAMES, value: Value::Output(name), required: false, help }
 }
 
 /// The option of a command that prints text, and writes bytes instead where it is given.
 pub const fn bytes_to_file(name: &'static str) -> Opt {
     let help = "write bytes to a file; it is replaced as a whole, and only where all went well";
-    Opt { names: NAMES, value: Value::File(name), required: false, help }
+    Opt { names: NAMES, value: Value::Output(name), required: false, help }
 }
 
 /// Bad usage where both the bytes of `-o` and JSON would go to standard output.
@@ -37,6 +40,11 @@ pub fn json_apart(arguments: &Arguments, command: &str) -> Result<(), Failure> {
         Some(name) if name == "-" && json::asked(arguments) => Err(Failure::usage(command, "-o - and --json both go to standard output")),
         _ => Ok(()),
     }
+}
+
+/// Whether `-o` is given.
+pub fn is_given(arguments: &Arguments) -> bool {
+    arguments.value(NAMES[0]).is_some()
 }
 
 /// The file that `-o` names, for an object.
@@ -67,59 +75,152 @@ pub fn write_text(arguments: &Arguments, text: &str) -> Result<(), Failure> {
 
 /// A line to standard error. Where that is closed there is nobody to tell.
 pub fn say(line: &str) {
-    let _ = writeln!(io::stderr(), "snp-cpuid: {line}");
+    let _ = io::stderr().write_all(told("snp-cpuid: ", line).as_bytes());
 }
 
-/// Text or bytes to standard output. A reader that has gone, as in `| head`, has what it wanted.
+/// A note to standard error.
+pub fn note(words: &str) {
+    say(&format!("note: {words}"));
+}
+
+/// Text or bytes to standard output.
 pub fn print(data: impl AsRef<[u8]>) -> Result<(), Failure> {
     let mut out = io::stdout().lock();
-    match out.write_all(data.as_ref()).and_then(|()| out.flush()) {
+    printed(out.write_all(data.as_ref()).and_then(|()| out.flush()))
+}
+
+/// Text to standard output part by part, so that not all of it is in memory.
+pub fn print_parts(mut parts: impl Iterator<Item = String>) -> Result<(), Failure> {
+    let mut out = BufWriter::new(io::stdout().lock());
+    let written = parts.try_for_each(|part| out.write_all(part.as_bytes())).and_then(|()| out.flush());
+    // what is left in the buffer is not tried again
+    let _ = out.into_parts();
+    printed(written)
+}
+
+/// A reader that has gone, as in `| head`, has what it wanted.
+fn printed(written: io::Result<()>) -> Result<(), Failure> {
+    match written {
         Err(error) if error.kind() != ErrorKind::BrokenPipe => Err(Failure::Bad(format!("standard output: {}", reason(&error)))),
         _ => Ok(()),
     }
 }
 
+/// Refuses an output that is one of the inputs: they would be gone.
+pub fn not_onto_input(command: &Command, arguments: &Arguments) -> Result<(), Failure> {
+    let (outputs, inputs): (Vec<&Opt>, Vec<&Opt>) =
+        command.options().filter(|option| option.value.is_file()).partition(|option| option.value.is_output());
+    let named = |options: &[&Opt]| options.iter().filter_map(|option| arguments.value(option.name())).collect::<Vec<_>>();
+    let inputs = [named(&inputs), arguments.operands.iter().map(OsString::as_os_str).collect()].concat();
+    named(&outputs).into_iter().filter(|name| *name != "-").try_for_each(|output| not_one_of(output, inputs.iter().copied()))
+}
+
+/// Refuses an output that is one of these files.
+pub fn not_one_of<'a>(output: &OsStr, mut inputs: impl Iterator<Item = &'a OsStr>) -> Result<(), Failure> {
+    match inputs.find(|input| same_file(input, output)) {
+        Some(input) => Err(Failure::Bad(format!("{}: not written: it is the input {}", shown(output), shown(input)))),
+        None => Ok(()),
+    }
+}
+
+/// Whether two names are of one file, through any links.
+fn same_file(a: &OsStr, b: &OsStr) -> bool {
+    let place = |name: &OsStr| fs::metadata(name).ok().filter(|there| there.is_file()).map(|there| (there.dev(), there.ino()));
+    place(a).is_some() && place(a) == place(b)
+}
+
 /// Bytes to a file, or to standard output for `-`, unless that is a terminal.
 pub fn to_file(name: &OsStr, bytes: &[u8]) -> Result<(), Failure> {
-    if name == "-" {
-        // a terminal would take bytes for commands of its own
-        let terminal = io::stdout().is_terminal();
-        let why = "standard output is a terminal, and these are bytes, not text: give -o a file, or pipe them into 'od -A d -t x1'";
-        return if terminal { Err(Failure::Bad(why.into())) } else { print(bytes) };
-    }
-    let fail = |error: io::Error| Failure::Bad(format!("{}: cannot be written: {}", shown(name), reason(&error)));
-    match fs::metadata(name) {
-        // a pipe or a device has no bytes to keep, and must not be replaced by a file
-        Ok(there) if !there.is_file() => OpenOptions::new().write(true).open(name).and_then(|mut file| file.write_all(bytes)).map_err(fail),
-        Ok(there) => {
-            // a file that may not be written to is not replaced either; a link stays a link
-            OpenOptions::new().write(true).open(name).map_err(fail)?;
-            replace(&fs::canonicalize(name).map_err(fail)?, bytes, Some(there.permissions())).map_err(fail)
+    Pending::new(name, bytes)?.put()
+}
+
+/// Bytes to a file and text to standard output. Where the text cannot be printed the file stays as it was.
+pub fn to_file_and_print(name: &OsStr, bytes: &[u8], text: &str) -> Result<(), Failure> {
+    let pending = Pending::new(name, bytes)?;
+    print(text)?;
+    pending.put()
+}
+
+/// The same for the file that `-o` names.
+pub fn write_and_print(arguments: &Arguments, bytes: &[u8], text: &str) -> Result<(), Failure> {
+    to_file_and_print(arguments.value(NAMES[0]).expect("it is given"), bytes, text)
+}
+
+/// Bytes that are ready to be put where they belong.
+struct Pending<'a> {
+    name: &'a OsStr,
+    ready: Ready<'a>,
+}
+
+enum Ready<'a> {
+    /// for standard output
+    Output(&'a [u8]),
+    /// for a pipe or a device, which has no bytes to keep and must not be replaced by a file
+    Open(File, &'a [u8]),
+    /// a whole file beside the one that it is to replace: the file is the old one or the new one, never a part
+    Beside { temporary: PathBuf, path: PathBuf },
+}
+
+impl<'a> Pending<'a> {
+    /// Writes as much as can be written before the file changes.
+    fn new(name: &'a OsStr, bytes: &'a [u8]) -> Result<Pending<'a>, Failure> {
+        if name == "-" {
+            // a terminal would take bytes for commands of its own
+            let terminal = io::stdout().is_terminal();
+            let why = "standard output is a terminal, and these are bytes, not text: give -o a file, or pipe them into 'od -A d -t x1'";
+            return if terminal { Err(Failure::Bad(why.into())) } else { Ok(Pending { name, ready: Ready::Output(bytes) }) };
         }
-        Err(_) => replace(Path::new(name), bytes, None).map_err(fail),
+        Ok(Pending { name, ready: ready(name, bytes).map_err(|error| not_written(name, &error))? })
+    }
+
+    /// Puts them there.
+    fn put(mut self) -> Result<(), Failure> {
+        let done = match &mut self.ready {
+            Ready::Output(bytes) => return print(bytes),
+            Ready::Open(file, bytes) => file.write_all(bytes),
+            Ready::Beside { temporary, path } => fs::rename(temporary, path),
+        };
+        done.map_err(|error| not_written(self.name, &error))
     }
 }
 
-/// The name beside a file under which its new bytes are written first.
-fn beside(path: &Path) -> io::Result<PathBuf> {
-    let name = path.file_name().ok_or(ErrorKind::IsADirectory)?;
+/// Leaves nothing beside a file that was not replaced.
+impl Drop for Pending<'_> {
+    fn drop(&mut self) {
+        if let Ready::Beside { temporary, .. } = &self.ready {
+            let _ = fs::remove_file(temporary);
+        }
+    }
+}
+
+fn not_written(name: &OsStr, error: &io::Error) -> Failure {
+    Failure::Bad(format!("{}: cannot be written: {}", shown(name), reason(error)))
+}
+
+/// Bytes for a name. A file that may not be written to is not replaced either, and a link stays a link; one to nothing is not written.
+fn ready<'a>(name: &OsStr, bytes: &'a [u8]) -> io::Result<Ready<'a>> {
+    match fs::metadata(name) {
+        Ok(there) if !there.is_file() => Ok(Ready::Open(OpenOptions::new().write(true).open(name)?, bytes)),
+        Ok(there) => {
+            OpenOptions::new().write(true).open(name)?;
+            beside(fs::canonicalize(name)?, bytes, Some(there.permissions()))
+        }
+        Err(error) if fs::symlink_metadata(name).is_ok() => Err(error),
+        Err(_) => beside(PathBuf::from(name), bytes, None),
+    }
+}
+
+/// The bytes in a file of another name beside the one that they are for.
+fn beside<'a>(path: PathBuf, bytes: &[u8], permissions: Option<fs::Permissions>) -> io::Result<Ready<'a>> {
     let mut hidden = OsStr::new(".").to_os_string();
-    hidden.push(name);
+    hidden.push(path.file_name().ok_or(ErrorKind::IsADirectory)?);
     hidden.push(format!(".{}", process::id()));
-    Ok(path.with_file_name(hidden))
-}
-
-/// Puts the bytes in the place of a file once they are all written: the file is the old one or the new one, never a part.
-fn replace(path: &Path, bytes: &[u8], permissions: Option<fs::Permissions>) -> io::Result<()> {
-    let temporary = beside(path)?;
+    let temporary = path.with_file_name(hidden);
     let mut file = File::create_new(&temporary)?;
-    let written = file
-        .write_all(bytes)
-        .and_then(|()| permissions.map_or(Ok(()), |p| file.set_permissions(p)))
-        .and_then(|()| file.sync_all())
-        .and_then(|()| fs::rename(&temporary, path));
-    if written.is_err() {
+    let written = file.write_all(bytes).and_then(|()| permissions.map_or(Ok(()), |p| file.set_permissions(p))).and_then(|()| file.sync_all());
+    if let Err(error) = written {
         let _ = fs::remove_file(&temporary);
+        return Err(error);
     }
-    written
+    Ok(Ready::Beside { temporary, path })
 }

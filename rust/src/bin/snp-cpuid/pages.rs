@@ -6,7 +6,8 @@ use snp_cpuid::PAGE_BYTES;
 /// The entries that a page holds.
 pub const PAGE_ENTRIES: usize = 64;
 
-const STATE: u32 = 0xD;
+/// The leaf of extended states, which counts on page 1 alone.
+pub const STATE: u32 = 0xD;
 
 /// One entry of a page: what CPUID gives for a leaf and subleaf.
 pub struct Entry {

@@ -36,7 +36,7 @@ pub const STATES: &[Opt] = &[REQUIRED[1], REQUIRED[2]];
 pub fn all_states(table: &Table) -> Processor {
     let row = |subleaf| table.row(0xD, Some(subleaf)).unwrap_or_default();
     let xss = if row(1).eax & 0xA == 0xA { row(1).ecx } else { 0 };
-    Processor { x2apic: 0, xcr0: row(0).eax.into(), xss: xss.into(), osxsave: true }
+    Processor::new(0).xcr0(row(0).eax.into()).xss(xss.into()).osxsave(true)
 }
 
 /// The processor that was described; none where no option of it is given.

@@ -2,6 +2,7 @@
 
 use crate::building::Building;
 use crate::failure::Failure;
+use crate::inputs::{Given, Input, Kind};
 use crate::json::object;
 use crate::pages::{Entry, two_pages};
 use crate::{output, reasons, words};
@@ -14,7 +15,9 @@ const MADE: Options = Options::new().secure_avic(true);
 pub struct Source {
     /// its name, as messages have it
     pub file: String,
-    /// its bytes; of an image, once that was asked for, pages that have its rows
+    /// what it holds
+    pub kind: Kind,
+    /// its pages; of an image its bytes or, once that was asked for, pages that have its rows
     pub pages: Vec<u8>,
     /// the table, where it is an image
     pub image: Option<Table>,
@@ -28,6 +31,14 @@ pub fn image(bytes: &[u8]) -> Option<Table> {
 }
 
 impl Source {
+    /// What was read of a file.
+    pub fn new(file: String, Input { kind, given, .. }: Input, options: Options) -> Source {
+        match given {
+            Given::Pages(pages) => Source { file, kind, pages, image: None, options },
+            Given::Table(table) => Source { file, kind, pages: table.image().to_vec(), image: Some(*table), options },
+        }
+    }
+
     /// Its table.
     pub fn table(&self) -> Result<Table, Refusal> {
         self.image.clone().map_or_else(|| build(&self.pages, self.options), Ok)

@@ -39,7 +39,7 @@ pub struct Standing {
 impl Standing {
     pub fn of(pages: &[u8]) -> Standing {
         let mut standing = Standing { counts: vec![], places: vec![], over: pages.len() % PAGE_BYTES, firsts: BTreeMap::new() };
-        let mut whole = vec![];
+        let mut whole = Vec::with_capacity(pages.len());
         for (number, page) in pages.chunks_exact(PAGE_BYTES).enumerate() {
             let count = word(page, 0);
             standing.counts.push(count);
@@ -47,6 +47,7 @@ impl Standing {
             whole.extend(readable(page, count));
         }
         standing.find_firsts(&whole);
+        standing.places.shrink_to_fit();
         standing
     }
 

@@ -1,13 +1,12 @@
 //! What processors show of a table, by CPUID or by a dump, held against what the library gives their guests.
 
-use crate::commands::from_dump;
 use crate::features::{self, FeatureBit};
+use crate::inputs::dump;
+use crate::pages::{Entry, STATE};
 use crate::{machine, words};
 use snp_cpuid::{Processor, Row, Table};
 use std::collections::BTreeMap;
 use std::io;
-
-const STATE: u32 = 0xD;
 
 /// What one processor shows.
 pub struct View {
@@ -47,14 +46,14 @@ pub fn asked(table: &Table) -> io::Result<Vec<View>> {
 
 /// What each CPU of a dump shows. The first row of a leaf and subleaf counts, and leaf Dh must be there.
 pub fn dumped(text: &[u8]) -> Result<Vec<View>, String> {
-    let view = |(cpu, entries): (usize, Vec<crate::pages::Entry>)| {
+    let view = |(cpu, entries): (usize, Vec<Entry>)| {
         let rows: BTreeMap<_, _> = entries.into_iter().rev().map(|entry| ((entry.leaf, entry.subleaf), entry.registers)).collect();
         if !rows.contains_key(&(STATE, 0)) {
             return Err(format!("CPU {cpu} has no row for leaf D, whose sizes tell the states that are on"));
         }
         Ok(View { name: format!("CPU {cpu}"), xcr0: None, rows })
     };
-    from_dump::by_cpu(text)?.into_iter().enumerate().map(view).collect()
+    dump::by_cpu(text)?.into_iter().enumerate().map(view).collect()
 }
 
 /// All masks within a mask, from the most bits to none.
@@ -69,7 +68,7 @@ impl View {
 
     /// The processor with a state: its number is that of leaf Bh.
     fn processor(&self, xcr0: u64, xss: u64) -> Processor {
-        Processor { x2apic: self.register(0xB, 0, 3), xcr0, xss, osxsave: self.register(1, 0, 2) >> 27 & 1 == 1 }
+        Processor::new(self.register(0xB, 0, 3)).xcr0(xcr0).xss(xss).osxsave(self.register(1, 0, 2) >> 27 & 1 == 1)
     }
 
     /// The states that may be on: XCR0 as it was read or, from a dump, any that the table allows, and any XSS that the table allows.

@@ -1,20 +1,29 @@
-//! Text in lines as wide as the reader's terminal: the variable COLUMNS, and 100 where it is not set.
+//! Text in lines as wide as the reader's terminal: as the variable COLUMNS says, else as the terminal does, and 100 where there is none.
 
+use crate::terminal;
 use std::env;
 use std::sync::OnceLock;
 
-/// The most columns of a line where COLUMNS does not say, and the fewest and most that it may.
+/// The most columns of a line where nobody says, and the fewest and most that COLUMNS or a terminal may.
 const USUAL: usize = 100;
 const FEWEST: usize = 40;
 const MOST: usize = 1000;
 
-/// The columns that COLUMNS asks for.
+/// The columns that COLUMNS asks for, or the terminal at standard output has.
 fn asked() -> Option<usize> {
     static COLUMNS: OnceLock<Option<usize>> = OnceLock::new();
     *COLUMNS.get_or_init(|| {
         let given = env::var("COLUMNS").ok().and_then(|text| text.parse::<usize>().ok()).filter(|columns| *columns > 0);
-        given.map(|columns| columns.clamp(FEWEST, MOST))
+        given.or_else(|| terminal::columns(1)).map(|columns| columns.clamp(FEWEST, MOST))
     })
+}
+
+/// A line for standard error: filled where that is a terminal, and one line where a program reads it.
+pub fn told(label: &str, line: &str) -> String {
+    match terminal::columns(2) {
+        Some(columns) => in_columns(columns.clamp(FEWEST, MOST), label, line),
+        None => format!("{label}{line}\n"),
+    }
 }
 
 /// Words behind a label, on as many lines as they need, the later ones set in under the first.
@@ -22,9 +31,12 @@ pub fn wrapped(label: &str, words: &str) -> String {
     wrapped_in(USUAL, label, words)
 }
 
-/// The same in lines of so many columns where COLUMNS does not say.
+/// The same in lines of so many columns where nobody says.
 pub fn wrapped_in(usual: usize, label: &str, words: &str) -> String {
-    let columns = asked().unwrap_or(usual);
+    in_columns(asked().unwrap_or(usual), label, words)
+}
+
+fn in_columns(columns: usize, label: &str, words: &str) -> String {
     let mut lines = vec![label.to_string()];
     for word in words.split(' ') {
         let line = lines.last_mut().expect("there is a line");

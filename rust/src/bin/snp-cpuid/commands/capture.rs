@@ -51,7 +51,7 @@ fn run(arguments: &Arguments) -> Result<(), Failure> {
         (two_pages(&rows).map_err(Failure::Bad)?, note)
     };
     output::write(arguments, &pages)?;
-    output::say(&format!("note: {note}"));
+    output::note(&note);
     Ok(())
 }
 

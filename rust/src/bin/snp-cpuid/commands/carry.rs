@@ -54,16 +54,16 @@ fn run(arguments: &Arguments) -> Result<(), Failure> {
         };
         building.refused(shown(file), refusal, &reason)
     })?;
-    output::write(arguments, &carried.image())?;
     let gone = gone(&running, &carried);
     if building.json() {
         let answer = object([("answer", "carried".into()), ("file", shown(file).into()), ("from", from.into()), ("to", to.into())]);
         let more = [("gone", array(gone.iter().map(bit_json))), ("image", output::file_json(arguments))];
-        return output::print(answer.with(more).to_string());
+        return output::write_and_print(arguments, &carried.image(), &answer.with(more).to_string());
     }
+    output::write(arguments, &carried.image())?;
     let went: Vec<&str> = gone.iter().map(|bit| bit.name).collect();
     let went = if went.is_empty() { "no bit went".into() } else { format!("{} went", went.join(", ")) };
-    output::say(&format!("note: from edition {from} to {to}: {went}"));
+    output::note(&format!("from edition {from} to {to}: {went}"));
     Ok(())
 }
 

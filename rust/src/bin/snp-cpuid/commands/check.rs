@@ -18,7 +18,7 @@ use snp_cpuid::{Processor, Table};
 
 const DUMP: Opt = Opt {
     names: &["--dump"],
-    value: Value::File("FILE"),
+    value: Value::Input("FILE"),
     required: false,
     help: "read what the processors show from the text of 'cpuid -r' or to-dump, instead of asking",
 };
@@ -33,7 +33,7 @@ pub const COMMAND: Command = Command {
     summary: "ask inside a guest whether its processors see a table",
     about: "\
 Run it inside a guest, with the table that was published for it: an image that 'image' or 'pool'
-wrote, or pages. It goes to every processor that it may run on, asks CPUID there for each row of the
+wrote, or any file that gives pages. It goes to every processor that it may run on, asks CPUID there for each row of the
 table, takes XCR0 by XGETBV and the processor's number from leaf B, and holds each register against
 what the library gives this processor's guest. A program cannot read XSS: one of the few states that
 the table allows must fit D.1.EBX. Leaves that no table has are not looked at.
@@ -59,8 +59,7 @@ fn run(arguments: &Arguments) -> Result<(), Failure> {
     if arguments.value(DUMP.name()).is_some_and(|file| file == "-" && arguments.operands[0] == "-") {
         return Err(Failure::usage(COMMAND.name, "the table and the dump cannot both be standard input"));
     }
-    let source = building.source(&arguments.operands[0])?;
-    building.heeded_by(std::slice::from_ref(&source))?;
+    let source = building.heeding(&arguments.operands[0])?;
     let table = table(&source)?;
     let views = match arguments.value(DUMP.name()) {
         Some(file) => view::dumped(&read(file)?).map_err(|why| Failure::Bad(format!("{}: {why}", shown(file))))?,
@@ -69,7 +68,7 @@ fn run(arguments: &Arguments) -> Result<(), Failure> {
     let held = views.iter().map(|view| (view, view.held(&table))).collect();
     let report = Report { table, held };
     output::print(if building.json() { report.json(&source.file).to_string() } else { report.text() })?;
-    output::say("note: leaves that no table has are not looked at");
+    output::note("leaves that no table has are not looked at");
     if report.unlike().next().is_none() { Ok(()) } else { Err(Failure::AnswerNo) }
 }
 
@@ -120,7 +119,7 @@ impl Report<'_> {
 
 /// A processor with its state, and the first registers that differ.
 fn lines(view: &View, held: &Held) -> String {
-    let Processor { x2apic, xcr0, xss, osxsave } = held.processor;
+    let Processor { x2apic, xcr0, xss, osxsave, .. } = held.processor;
     let mut text = format!("{}, x2APIC {x2apic:X}, XCR0 {xcr0:X}, XSS {xss:X}, OSXSAVE {}\n", view.name, if osxsave { "on" } else { "off" });
     if !held.allowed {
         text += "   this XCR0 is beyond the table\n";

@@ -320,7 +320,7 @@ impl Direction<'_> {
     fn obstacle(&self) -> String {
         let (from, to) = (self.from.name, self.to.name);
         match self.answer {
-            Comparison::Rises => "nothing".into(),
+            Comparison::Rises => format!("{to} has at least {from}'s entries"),
             Comparison::RefusedA(refusal) => format!("{from} is refused, by {}", refusal.number()),
             Comparison::UnlawfulB(refusal) => format!("{to}'s pages cannot be read: refusal {}", refusal.number()),
             Comparison::NoEntry { leaf, subleaf } => {

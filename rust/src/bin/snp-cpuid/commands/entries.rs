@@ -4,7 +4,7 @@ use crate::arguments::Arguments;
 use crate::building::{self, Building, refusal_json, told};
 use crate::command::Command;
 use crate::failure::Failure;
-use crate::input::{read, shown};
+use crate::input::read;
 use crate::json::{self, Json, array, object};
 use crate::output;
 use crate::print::{place, place_json, registers_json};
@@ -49,10 +49,15 @@ struct Report {
 fn run(arguments: &Arguments) -> Result<(), Failure> {
     let building = Building::of(arguments, COMMAND.name)?;
     let file = &arguments.operands[0];
-    let pages = read(file)?;
-    let (standing, answer) = (Standing::of(&pages), building.build(&pages));
-    let report = Report { file: shown(file), building, pages, standing, answer };
-    output::print(if building.json() { report.json().to_string() } else { report.text() })?;
+    let source = building.pages_of(file, read(file)?)?;
+    let building = building.under(source.options);
+    let (standing, answer) = (Standing::of(&source.pages), building.build(&source.pages));
+    let report = Report { file: source.file, building, pages: source.pages, standing, answer };
+    if building.json() {
+        output::print_parts(report.json())?;
+    } else {
+        output::print(report.text())?;
+    }
     report.answer.err().map_or(Ok(()), |refusal| building.print_line(refusal))
 }
 
@@ -158,7 +163,20 @@ impl Report {
         text
     }
 
-    fn json(&self) -> Json {
+    /// The object, entry by entry: there may be a million.
+    fn json(&self) -> impl Iterator<Item = String> {
+        let head = self.head_json().to_string();
+        let head = head.strip_suffix("\n}\n").expect("an object of several lines").to_string();
+        let close = if self.standing.places.is_empty() { "]\n}\n" } else { "\n  ]\n}\n" };
+        let entry = |(number, entry): (usize, &Place)| {
+            let comma = if number == 0 { "" } else { "," };
+            format!("{comma}\n    {}", self.entry_json(entry).inside(2))
+        };
+        let entries = self.standing.places.iter().enumerate().map(entry);
+        [head, ",\n  \"entries\": [".to_string()].into_iter().chain(entries).chain([close.to_string()])
+    }
+
+    fn head_json(&self) -> Json {
         let refusal = self.answer.as_ref().err().map(|refusal| refusal_json(*refusal, &self.building.reason(*refusal, &self.pages)));
         object([
             ("answer", if self.answer.is_ok() { "accepted" } else { "refused" }.into()),
@@ -166,7 +184,6 @@ impl Report {
             ("refusal", refusal.into()),
             ("counts", array(self.standing.counts.iter().copied())),
             ("bytes_over", self.standing.over.into()),
-            ("entries", array(self.standing.places.iter().map(|entry| self.entry_json(entry)))),
         ])
     }
 

@@ -12,7 +12,6 @@ use crate::output;
 use crate::reasons::Reason;
 use crate::wrap::wrapped;
 use snp_cpuid::Refusal;
-use std::ffi::OsStr;
 
 pub const COMMAND: Command = Command {
     name: "explain",
@@ -22,7 +21,7 @@ pub const COMMAND: Command = Command {
     about: "\
 Puts a refusal's line, as --line of the other commands prints it, into words, and says what its
 number means in general: when it is given, and what to do. A number alone, as in 'explain 7', gives
-the general meaning. The newline that ends a line is left out of LINE. '-' reads the line from
+the general meaning. The newline that ends a line is left out of LINE. '-' reads the same from
 standard input, newline included.
 ",
     status: "\
@@ -35,7 +34,7 @@ fn run(arguments: &Arguments) -> Result<(), Failure> {
     let operand = &arguments.operands[0];
     let line = if operand == "-" { read(operand)? } else { [operand.as_encoded_bytes(), b"\n"].concat() };
     let refusal = Refusal::from_line(&line);
-    let number = refusal.as_ref().map(Refusal::number).ok().or_else(|| number(operand));
+    let number = refusal.as_ref().map(Refusal::number).ok().or_else(|| number(&line));
     let Some((number, meaning)) = number.and_then(|number| Some((number, meaning(number)?))) else {
         return Err(Failure::No { line: format!("{}: no such line", shown(operand)), notes: vec![] });
     };
@@ -48,7 +47,7 @@ fn run(arguments: &Arguments) -> Result<(), Failure> {
     output::print(format!("{first}\n{}", wrapped("", meaning)))
 }
 
-/// A number alone: no sign, no leading zero.
-fn number(operand: &OsStr) -> Option<u32> {
-    operand.to_str().filter(|text| !text.starts_with('0')).and_then(decimal)
+/// A number alone and a newline: no sign, no leading zero.
+fn number(line: &[u8]) -> Option<u32> {
+    std::str::from_utf8(line).ok()?.strip_suffix('\n').filter(|text| !text.starts_with('0')).and_then(decimal)
 }

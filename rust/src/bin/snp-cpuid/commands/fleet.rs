@@ -13,14 +13,14 @@ use std::ffi::OsStr;
 
 const HTML: Opt = Opt {
     names: &["--html"],
-    value: Value::File("OUT"),
+    value: Value::Output("OUT"),
     required: false,
     help: "write the report as a page for a browser too: one file, which loads nothing",
 };
 
 const SINCE: Opt = Opt {
     names: &["--since"],
-    value: Value::File("OLD"),
+    value: Value::Input("OLD"),
     required: false,
     help: "tell what changed since a report that --json gave before; status 1 where a table did",
 };
@@ -32,9 +32,9 @@ pub const COMMAND: Command = Command {
     summary: "tell which of any number of servers are alike, and where a guest may go",
     about: "\
 Tells of any number of servers which are accepted, which give a guest the same table, and where a
-guest may go. PAGES is a file of CPUID pages, an image that 'image' or 'pool' wrote, a list for KVM,
-or the text of 'cpuid -r', told apart by what it holds; or a folder, whose files and folders are
-read, but for hidden ones. The report has:
+guest may go. PAGES is a file of any kind that 'snp-cpuid --help' names, or a folder, whose files
+and folders are read, but for hidden ones. What stands in a folder and is no server's is named, and
+ends no report. The report has:
 
   classes    servers that give one table; a class is a letter and a number, A1
   groups     the letter: classes that differ in features only; no guest leaves its group
@@ -42,7 +42,9 @@ read, but for hidden ones. The report has:
              save area no smaller and all else equal; elsewhere, what stands in the way
   pools      the greatest sets of classes for which 'pool' makes one table, and what each costs
   features   those that some classes have and some have not
-  refused    servers without a table, by the reason
+  refused    servers without a table, by the refusal, and what it says about the place where the
+             file was made; those whose processor has SEV-SNP first
+  not read   damaged files, and what else stands in the folders
 
 With --since the report ends in what changed since OLD, a report that --json gave before under the
 same choices: servers that came and went, and those that give another table, by which bits.
@@ -55,9 +57,9 @@ The order of moves is that of tables. The entries of pages promise less, before 
 built, as 'compare' tells; a note names the moves that they do not promise.
 ",
     status: "\
-Exit status: 0 where every server is accepted, 1 where one is refused or its file holds nothing that
-can be read as pages; with --since 0 where no server's table changed, else 1; 2 bad usage, a file
-that cannot be opened, a report that cannot be read, or no file at all.
+Exit status: 0 where every server is accepted, 1 where one is refused or its file is damaged; with
+--since 0 where no server's table changed, else 1; 2 bad usage, a file that is named and cannot be
+opened or is no server's, a report that cannot be read, or no server at all.
 ",
     run,
 };
@@ -74,15 +76,19 @@ fn run(arguments: &Arguments) -> Result<(), Failure> {
     let sources = source::sources(&arguments.operands)?;
     let fleet = Fleet::of(sources, building, arguments.has(&processor::VIEW));
     let since = arguments.value(SINCE.name()).map(|file| since(file, &fleet)).transpose()?;
+    let report = if building.json() {
+        data::of(&fleet).with(since.iter().map(|(file, since)| ("since", since.json(file)))).to_string()
+    } else {
+        text::of(&fleet) + &since.iter().map(|(file, since)| format!("\n{}", since.text(file))).collect::<String>()
+    };
     match arguments.value(HTML.name()) {
-        Some(file) if !to_output => output::to_file(file, page::of(&fleet).as_bytes())?,
-        _ => {}
+        None => output::print(report)?,
+        Some(_) if to_output => output::print(page::of(&fleet))?,
+        Some(file) => {
+            output::not_one_of(file, fleet.servers.iter().map(|server| OsStr::new(&server.source.file)))?;
+            output::to_file_and_print(file, page::of(&fleet).as_bytes(), &report)?
+        }
     }
-    output::print(match (to_output, building.json()) {
-        (true, _) => page::of(&fleet),
-        (_, true) => data::of(&fleet).with(since.iter().map(|(file, since)| ("since", since.json(file)))).to_string(),
-        _ => text::of(&fleet) + &since.iter().map(|(file, since)| format!("\n{}", since.text(file))).collect::<String>(),
-    })?;
     let well = since.map_or(fleet.accepted() == fleet.servers.len(), |(_, since)| !since.has_changes());
     if well { Ok(()) } else { Err(Failure::AnswerNo) }
 }

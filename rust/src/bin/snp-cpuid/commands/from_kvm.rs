@@ -5,12 +5,11 @@ use crate::building::Building;
 use crate::command::Command;
 use crate::failure::Failure;
 use crate::input::{read, shown};
+use crate::inputs::{self, Kind, list};
 use crate::output;
-use crate::pages::read_by_table;
 use crate::reasons;
-use crate::standing::word;
 use crate::words::counted;
-use snp_cpuid::{KVM_PAGES_BYTES, Refusal};
+use snp_cpuid::KVM_PAGES_BYTES;
 use std::ffi::OsStr;
 
 pub const COMMAND: Command = Command {
@@ -36,40 +35,26 @@ or written.
 };
 
 fn run(arguments: &Arguments) -> Result<(), Failure> {
-    let file = &arguments.operands[0];
-    let (pages, note) = pages_of(&read(file)?, file, Building::of(arguments, COMMAND.name)?)?;
+    let (file, bytes) = (&arguments.operands[0], read(&arguments.operands[0])?);
+    let building = Building::of(arguments, COMMAND.name)?;
+    // bytes that are none of the kinds are a list that was cut off; text without a zero byte is no list
+    let is_text = !bytes.is_empty() && !bytes.contains(&0);
+    if is_text || !matches!(inputs::kind(&bytes), None | Some(Kind::List)) {
+        return output::write(arguments, &building.pages_of(file, bytes)?.pages);
+    }
+    let (pages, note) = pages_of(&bytes, file, building)?;
     output::write(arguments, &pages)?;
-    output::say(&format!("note: {note}"));
+    output::note(&note);
     Ok(())
 }
 
 /// The pages of a list, and what is to be said of its rows. Where a page has no room for all rows, those go in that a table reads.
-pub fn pages_of(list: &[u8], file: &OsStr, building: Building) -> Result<([u8; KVM_PAGES_BYTES], String), Failure> {
-    let refused = |refusal| building.refused(shown(file), refusal, &reasons::of_list(refusal, list));
-    let (pages, left_out) = taken(list).map_err(refused)?;
+pub fn pages_of(bytes: &[u8], file: &OsStr, building: Building) -> Result<([u8; KVM_PAGES_BYTES], String), Failure> {
+    let refused = |refusal| building.refused(shown(file), refusal, &reasons::of_list(refusal, bytes));
+    let (pages, left_out) = list::taken(bytes).map_err(refused)?;
     // the list was read: its length is 8 + 40 × rows
-    let rows = list[8..].chunks_exact(40);
-    let (all, kept) = (rows.len() as u32, rows.filter(|row| is_read(row)).count());
+    let rows = bytes[8..].chunks_exact(40);
+    let (all, kept) = (rows.len() as u32, rows.filter(|row| list::is_read(row)).count());
     let others = if left_out { format!("; the {} others are left out, as a page holds 64", all - kept as u32) } else { String::new() };
     Ok((pages, format!("{}, of which the table reads {kept}{others}", counted(all, "row"))))
-}
-
-/// The pages of a list, and whether rows that no table reads were left out to make room.
-pub fn taken(list: &[u8]) -> Result<([u8; KVM_PAGES_BYTES], bool), Refusal> {
-    let mut pages = [0; KVM_PAGES_BYTES];
-    match snp_cpuid::read_kvm(list, &mut pages) {
-        Ok(_) => Ok((pages, false)),
-        Err(Refusal::ListRows) => snp_cpuid::read_kvm(&only_read(list), &mut pages).map(|_| (pages, true)),
-        Err(refusal) => Err(refusal),
-    }
-}
-
-/// The list with the rows that a table reads.
-fn only_read(list: &[u8]) -> Vec<u8> {
-    let rows: Vec<&[u8]> = list[8..].chunks_exact(40).filter(|row| is_read(row)).collect();
-    [&(rows.len() as u32).to_le_bytes()[..], &[0; 4], &rows.concat()].concat()
-}
-
-fn is_read(row: &[u8]) -> bool {
-    read_by_table(word(row, 0), word(row, 4))
 }

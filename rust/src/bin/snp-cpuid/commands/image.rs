@@ -26,6 +26,6 @@ written.
 fn run(arguments: &Arguments) -> Result<(), Failure> {
     let table = Building::of(arguments, COMMAND.name)?.table(&arguments.operands[0])?;
     output::write(arguments, &table.image())?;
-    output::say(&format!("note: fingerprint {}", table.fingerprint()));
+    output::note(&format!("fingerprint {}", table.fingerprint()));
     Ok(())
 }

@@ -5,17 +5,19 @@ mod carry;
 mod check;
 mod compare;
 mod completion;
+mod diff;
 mod entries;
 mod explain;
 mod fleet;
-pub mod from_dump;
-pub mod from_kvm;
+mod from_dump;
+mod from_kvm;
 mod guest;
 mod image;
 mod lookup;
 mod man;
 mod nearest;
 mod pool;
+mod set;
 mod table;
 mod to_dump;
 mod to_kvm;
@@ -37,7 +39,9 @@ pub const ALL: &[Command] = &[
     to_dump::COMMAND,
     from_kvm::COMMAND,
     to_kvm::COMMAND,
+    set::COMMAND,
     compare::COMMAND,
+    diff::COMMAND,
     pool::COMMAND,
     fleet::COMMAND,
     nearest::COMMAND,

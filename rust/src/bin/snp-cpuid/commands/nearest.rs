@@ -11,6 +11,7 @@ use crate::input::{read, shown};
 use crate::json::{self, Json, array, object};
 use crate::masks::kept;
 use crate::print::place_json;
+use crate::source::Source;
 use crate::standing::word;
 use crate::{output, print, words};
 use snp_cpuid::{Bit, Refusal, Table};
@@ -39,7 +40,8 @@ usage or a file that cannot be read.
 fn run(arguments: &Arguments) -> Result<(), Failure> {
     let building = Building::of(arguments, COMMAND.name)?;
     let file = &arguments.operands[0];
-    let pages = read(file)?;
+    let Source { pages, options, .. } = building.pages_of(file, read(file)?)?;
+    let building = building.under(options);
     let bit = building.nearest(&pages).map_err(|refusal| building.pages_refused(file, refusal, &pages))?;
     let mut flipped = pages.clone();
     bit.flip(&mut flipped);

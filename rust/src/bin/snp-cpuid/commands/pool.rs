@@ -19,31 +19,32 @@ use std::ops::RangeInclusive;
 
 const IMAGE: Opt = output::file_or_standard_output("IMAGE");
 
-/// How many servers make a pool.
+/// How many servers the library pools at once.
 const POOL: RangeInclusive<usize> = 2..=16;
 
 pub const COMMAND: Command = Command {
     name: "pool",
     operands: &["PAGES.."],
     options: &[&[IMAGE, print::ORIGINS, json::OPTION], building::OPTIONS],
-    summary: "print or write one table for a pool of 2 to 16 servers",
+    summary: "print or write one table for a pool of servers",
     about: "\
-Makes one table of the page sets of 2 to 16 servers, for a guest that moves between them: a feature
-bit or an extended state is in it where every server's table has it, the save area is that of the
-states that are left, and all else is the first server's. With -o the table is written as bytes, in
-the form of 'image', and a note has its fingerprint; without, it is printed as by 'table', and
---origins says where a row stands in the first server's pages. PAGES may be an image too, also that
-of another pool: then the tables are pooled, and nobody knows where the pool's rows came from.
+Makes one table of two servers or more, for a guest that moves between them: a feature bit or an
+extended state is in it where every server's table has it, the save area is that of the states that
+are left, and all else is the first server's. With -o the table is written as bytes, in the form of
+'image', and a note has its fingerprint; without, it is printed as by 'table', and --origins says
+where a row stands in the first server's pages. The library pools 16 page sets at once. PAGES may be
+an image too, also that of another pool, and there may be more than 16: then tables are pooled, one
+after the other, and nobody knows where the pool's rows came from.
 
 Notes on standard error say which feature bits each server cost the pool: those that the tables of
 all other servers have and its own has not. A bit that more than one server lacks is no single
 server's cost; further notes name such bits with the servers that lack them.
 ",
     status: "\
-Exit status: 0 accepted, 1 refused (18 fewer than 2 page sets or more than 16; then the first server
-that is refused by itself, under its file's name; then 19 the servers differ, in a row that all
-their tables have, elsewhere than in feature bits or D.0.ECX, and notes name the server, leaf and
-register), 2 bad usage or a file that cannot be read or written.
+Exit status: 0 accepted, 1 refused (18 fewer than 2 servers; then the first server that is refused
+by itself, under its file's name; then 19 the servers differ, in a row that all their tables have,
+elsewhere than in feature bits or D.0.ECX, and notes name the server, leaf and register), 2 bad
+usage or a file that cannot be read or written.
 ",
     run,
 };
@@ -57,39 +58,74 @@ fn run(arguments: &Arguments) -> Result<(), Failure> {
     let building = Building::of(arguments, COMMAND.name)?;
     let sources = files.iter().map(|file| building.source(file)?.into_pages(&building)).collect::<Result<Vec<_>, _>>()?;
     building.heeded_by(&sources)?;
-    let table = pooled(building, &sources)?;
-    let tables: Vec<Table> = sources.iter().map(|source| source.table().expect("a pool's servers are accepted")).collect();
+    let tables = sources.iter().map(Source::table).collect::<Vec<_>>();
+    let table = pooled(building, &sources, &tables)?;
+    let tables: Vec<Table> = tables.into_iter().map(|table| table.expect("a pool's servers are accepted")).collect();
     let names = sources.into_iter().map(|source| source.file).collect();
     let servers = Servers { names, tables };
+    let printed = if building.json() {
+        let answer = object([("answer", "accepted".into()), ("edition", building.edition().into()), ("image", output::file_json(arguments))]);
+        answer.with(servers.json()).with(super::table::members(&table, table.fingerprint())).to_string()
+    } else if arguments.has(&IMAGE) {
+        String::new()
+    } else {
+        super::table::text(&table, Form::of(arguments), table.fingerprint())
+    };
     if arguments.has(&IMAGE) {
-        output::write(arguments, &table.image())?;
+        output::write_and_print(arguments, &table.image(), &printed)?;
+    } else {
+        output::print(printed)?;
     }
     if building.json() {
-        let answer = object([("answer", "accepted".into()), ("edition", building.edition().into()), ("image", output::file_json(arguments))]);
-        return output::print(answer.with(servers.json()).with(super::table::members(&table, table.fingerprint())).to_string());
+        return Ok(());
     }
-    if !arguments.has(&IMAGE) {
-        output::print(super::table::text(&table, Form::of(arguments), table.fingerprint()))?;
-    }
-    servers.notes().iter().for_each(|note| output::say(&format!("note: {note}")));
+    servers.notes().iter().for_each(|note| output::note(note));
     if arguments.has(&IMAGE) {
-        output::say(&format!("note: fingerprint {}", table.fingerprint()));
+        output::note(&format!("fingerprint {}", table.fingerprint()));
     }
     Ok(())
 }
 
-/// The table of the pool: of the servers' pages, or, where one of them is an image, of pages that have the rows of their tables.
-fn pooled(building: Building, sources: &[Source]) -> Result<Table, Failure> {
+/// The table of the pool: of the servers' pages, or, where one of them is an image or the library does not take so many at once, of pages that have
+/// the rows of their tables.
+fn pooled(building: Building, sources: &[Source], tables: &[Result<Table, Refusal>]) -> Result<Table, Failure> {
     let refused = |not: NotPooled| refused(building, sources, not);
-    if sources.iter().all(|source| source.image.is_none()) {
+    if sources.len() <= *POOL.end() && sources.iter().all(|source| source.image.is_none()) {
         return building.pool(&sources.iter().map(|source| &source.pages).collect::<Vec<_>>()).map_err(refused);
     }
-    if !POOL.contains(&sources.len()) {
+    if sources.len() < *POOL.start() {
         return Err(refused(NotPooled { refusal: Refusal::PoolSets, server: None }));
     }
-    let own = |(server, source): (usize, &Source)| source.table().map_err(|refusal| refused(NotPooled { refusal, server: Some(server) }));
-    let tables = sources.iter().enumerate().map(own).collect::<Result<Vec<_>, _>>()?;
-    pool_tables(&tables).map_err(refused)
+    let own =
+        |(server, table): (usize, &Result<Table, Refusal>)| table.clone().map_err(|refusal| refused(NotPooled { refusal, server: Some(server) }));
+    let tables = tables.iter().enumerate().map(own).collect::<Result<Vec<_>, _>>()?;
+    if POOL.contains(&tables.len()) { pool_tables(&tables).map_err(refused) } else { chained(tables).map_err(refused) }
+}
+
+/// The pool of more servers than the library takes at once: of the pool so far and a further one, each time. One that differs in the row of a state
+/// waits until another that lacks the state has joined.
+fn chained(tables: Vec<Table>) -> Result<Table, NotPooled> {
+    let mut left = tables.into_iter();
+    let mut pooled = left.next().expect("a pool has servers");
+    let mut left: Vec<Table> = left.collect();
+    while !left.is_empty() {
+        let (before, mut last) = (left.len(), None);
+        left.retain(|table| match pool_tables(&[pooled.clone(), table.clone()]) {
+            Ok(joined) => {
+                pooled = joined;
+                false
+            }
+            Err(not) => {
+                last = Some(not);
+                true
+            }
+        });
+        if let Some(not) = last.filter(|_| left.len() == before) {
+            // of these two servers nobody asked
+            return Err(NotPooled { server: None, ..not });
+        }
+    }
+    Ok(pooled)
 }
 
 /// A server's own refusal under its name, or the pool's.

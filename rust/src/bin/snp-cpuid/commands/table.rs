@@ -30,8 +30,7 @@ and the two rows of leaf B, or in 'unknown' where PAGES is an image.
 ",
     status: "\
 Exit status: 0 accepted, 1 refused (standard error has the refusal's number, the numbers that it
-rests on, and what change would be accepted), 2 bad usage or a file that cannot be read. An empty
-page file is refusal 1.
+rests on, and what change would be accepted), 2 bad usage or a file that cannot be read.
 ",
     run,
 };

@@ -31,9 +31,8 @@ fn run(arguments: &Arguments) -> Result<(), Failure> {
     output::json_apart(arguments, COMMAND.name)?;
     let list = topologies();
     if json::asked(arguments) {
-        output::write_or_print(arguments, &bytes, "")?;
-        let answer = object([("answer", "listed".into()), ("topologies", array(list.iter().map(topology)))]);
-        return output::print(answer.to_string());
+        let answer = object([("answer", "listed".into()), ("topologies", array(list.iter().map(topology)))]).to_string();
+        return if output::is_given(arguments) { output::write_and_print(arguments, &bytes, &answer) } else { output::print(answer) };
     }
     output::write_or_print(arguments, &bytes, &lines(&list))
 }

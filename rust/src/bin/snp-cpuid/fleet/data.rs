@@ -45,6 +45,7 @@ pub fn of(fleet: &Fleet) -> Json {
         ("apart", array(differing::apart(&fleet.groups.iter().collect::<Vec<_>>(), &fleet.classes).iter().map(|each| apart(fleet, each)))),
         ("unpromised", array(fleet.moves.unpromised.iter().map(|(from, to, why)| unpromised(place(from), place(to), why)))),
         ("unlike", array(fleet.moves.unlike.iter().map(|(server, why)| unlike(fleet, *server, why)))),
+        ("not_read", array(fleet.not_read.iter().map(|each| object([("file", each.file.as_str().into()), ("why", each.why.as_str().into())])))),
     ])
 }
 

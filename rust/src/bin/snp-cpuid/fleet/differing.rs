@@ -3,8 +3,8 @@
 use super::bits::{self, Bits};
 use super::groups::fixed;
 use super::{Class, Fleet, Group};
-use crate::features::FeatureBit;
-use crate::words;
+use crate::features::{self, FeatureBit};
+use crate::{said, words};
 use snp_cpuid::Table;
 
 /// Feature bits of one register that the same classes have.
@@ -45,6 +45,20 @@ pub struct Apart {
     pub subleaf: Option<u32>,
     pub register: usize,
     pub values: Vec<u32>,
+    /// what it says in each, in words
+    pub words: Vec<String>,
+}
+
+/// The registers in words, a line each: what it is called, and what it says in each group. The processor's name, which takes twelve, is one.
+pub fn in_words(groups: &[&Group], classes: &[Class]) -> Vec<(String, Vec<String>)> {
+    let (names, others): (Vec<Apart>, Vec<Apart>) = apart(groups, classes).into_iter().partition(|apart| said::is_name(apart.leaf));
+    let spelled = |group: &&Group| super::groups::processor(&classes[group.classes.start].table);
+    let name = (!names.is_empty()).then(|| ("processor name".to_string(), groups.iter().map(spelled).collect()));
+    let other = |apart: Apart| {
+        let called = said::called(apart.leaf, apart.subleaf, apart.register).map_or(String::new(), |name| format!(", {name}"));
+        (bits::register_name(apart.leaf, apart.subleaf, apart.register) + &called, apart.words)
+    };
+    name.into_iter().chain(others.into_iter().map(other)).collect()
 }
 
 /// The registers, features and what hangs on them left out, in which these groups differ.
@@ -56,7 +70,13 @@ pub fn apart(groups: &[&Group], classes: &[Class]) -> Vec<Apart> {
             let value = |table: &&Table| table.find(row.leaf, row.subleaf).and_then(|row| fixed(&row, register, words::registers(&row)[register]));
             let values: Vec<u32> = tables.iter().map(|table| value(table).unwrap_or(0)).collect();
             if values.iter().any(|value| *value != values[0]) {
-                found.push(Apart { leaf: row.leaf, subleaf: row.subleaf, register, values });
+                let of = |table: &&Table| table.find(row.leaf, row.subleaf).unwrap_or_else(|| said::row(row.leaf, row.subleaf, [0; 4]));
+                // of the feature registers only hyperthreading keeps groups apart
+                let words = match features::find(row.leaf, row.subleaf, register) {
+                    Some(_) => values.iter().map(|value| if *value == 0 { "HTT clear" } else { "HTT set" }.to_string()).collect(),
+                    None => said::apart(&tables.iter().map(of).collect::<Vec<_>>(), register),
+                };
+                found.push(Apart { leaf: row.leaf, subleaf: row.subleaf, register, values, words });
             }
         }
     }

@@ -3,10 +3,12 @@
 pub mod bits;
 pub mod data;
 mod differing;
+mod folders;
 mod groups;
 mod moves;
 pub mod page;
 mod pools;
+mod progress;
 mod refused;
 pub mod since;
 pub mod source;
@@ -19,7 +21,7 @@ use moves::Moves;
 use pools::Pool;
 use refused::Refused;
 use snp_cpuid::{Fingerprint, Refusal, Table};
-use source::{Given, Source};
+use source::{Given, Source, Sources, Unread};
 use std::collections::HashMap;
 
 /// What came of a server.
@@ -65,11 +67,15 @@ pub struct Fleet {
     pub moves: Moves,
     pub pools: Vec<Pool>,
     pub refused: Vec<Refused>,
+    /// what stands in the folders and is no server's
+    pub not_read: Vec<Unread>,
+    /// the files and folders that were given
+    pub from: Vec<String>,
 }
 
 impl Fleet {
     /// Builds each server once, puts equal tables together, and compares these.
-    pub fn of(sources: Vec<Source>, building: Building, view: bool) -> Fleet {
+    pub fn of(Sources { servers: sources, not_read, from }: Sources, building: Building, view: bool) -> Fleet {
         let (tables, refusals) = built(&sources, &building, view);
         let (classes, groups) = groups::named(tables);
         let mut servers: Vec<Server> = sources.into_iter().zip(refusals).map(|(source, answer)| Server { source, answer }).collect();
@@ -78,8 +84,8 @@ impl Fleet {
         }
         let pools = pools::of(&groups, &classes);
         let moves = Moves::of(&groups, &classes, &servers, &building);
-        let refused = refused::together(&servers, &building);
-        Fleet { building, view, groups, moves, pools, refused, classes, servers }
+        let refused = refused::together(&servers);
+        Fleet { building, view, groups, moves, pools, refused, not_read, from, classes, servers }
     }
 
     /// How many servers are accepted.

@@ -1,11 +1,12 @@
 //! Where a guest may go: from a class to those that have at least its table, and what stands in the way elsewhere.
 
 use super::bits::{self, Bits, register_name, short_place};
+use super::groups::processor;
 use super::{Class, Group, Server};
 use crate::building::Building;
 use crate::components;
-use crate::features::{self, ECX};
-use crate::words;
+use crate::features::{self, EAX, ECX};
+use crate::{said, words};
 use snp_cpuid::{Comparison, Register, Table, TableComparison};
 
 /// A group of more classes is not compared: that would take more than a second.
@@ -59,6 +60,8 @@ pub struct Way {
     pub first: TableComparison,
     /// that register in A's table and in B's
     pub values: [u32; 2],
+    /// what they say, where they are a signature or a name
+    words: Option<[String; 2]>,
     /// the features of A's that B's has not, all of them
     pub lacks: Vec<Bits>,
 }
@@ -73,7 +76,7 @@ impl Way {
             }
             _ => [0; 2],
         };
-        Way { first, values, lacks: bits::lacked(a, b) }
+        Way { first, values, words: words(a, b, first), lacks: bits::lacked(a, b) }
     }
 
     /// The feature bits that are first in the way; none where it is something else.
@@ -98,7 +101,11 @@ impl Way {
             (TableComparison::NoRow { leaf, subleaf }, _) => format!("no row {}", short_place(leaf, subleaf)),
             (TableComparison::Beyond { leaf, subleaf }, _) => format!("row {} more", short_place(leaf, subleaf)),
             (TableComparison::Differs { leaf: 0xD, subleaf: Some(0), register: Register::Ecx }, _) => "save area".into(),
-            (TableComparison::Differs { leaf, subleaf, register }, _) => register_name(leaf, subleaf, index(register)),
+            (TableComparison::Differs { leaf, subleaf, register }, _) => match &self.words {
+                // one part of it is enough for a cell
+                Some([_, there]) => there.split(", ").next().unwrap_or_default().into(),
+                None => register_name(leaf, subleaf, index(register)),
+            },
             _ => "states".into(),
         }
     }
@@ -118,12 +125,26 @@ impl Way {
                 match bits {
                     Some(bits) => format!("{name}: {}", numbered(&bits)),
                     None if (leaf, subleaf, index(register)) == (0xD, Some(0), ECX) => format!("{name}: the save area of {a} bytes is but {b}"),
-                    None => format!("{name}: {a:08X}, there {b:08X}"),
+                    None => match &self.words {
+                        Some([here, there]) => format!("{name}: {here}, there {there}"),
+                        None => format!("{name}: {a:08X}, there {b:08X}"),
+                    },
                 }
             }
             _ => "a state of the combined mask is missing".into(),
         }
     }
+}
+
+/// A signature or a processor's name that is first in the way: in A's table and in B's, where they differ.
+fn words(a: &Table, b: &Table, first: TableComparison) -> Option<[String; 2]> {
+    let TableComparison::Differs { leaf, subleaf, register } = first else { return None };
+    if said::is_name(leaf) {
+        return Some([a, b].map(processor));
+    }
+    let rows = [a.find(leaf, subleaf)?, b.find(leaf, subleaf)?];
+    let told = matches!((leaf, index(register)), (0x1 | 0x8000_0001, EAX));
+    told.then(|| said::apart(&rows, index(register)).try_into().ok()).flatten()
 }
 
 /// Bits by name and number: SHA (bit 29).

@@ -7,7 +7,7 @@ use snp_cpuid::Table;
 use std::collections::HashSet;
 
 /// How many tables the library pools at once.
-pub const AT_ONCE: usize = 16;
+const AT_ONCE: usize = 16;
 
 /// So many sets of a group are looked for: where states differ in size, there may be as many as classes.
 const MOST_SETS: usize = 16;

@@ -1,43 +1,70 @@
-//! Servers without a table, those of one reason together.
+//! Servers without a table: by the refusal's number, then by its words, those with SEV-SNP first.
 
 use super::{Answer, Server};
-use crate::building::Building;
-use snp_cpuid::Refusal;
+use crate::meanings;
+use crate::standing::Standing;
 use std::collections::BTreeMap;
 
-/// Servers that have no table for one reason.
+/// Servers that one refusal was given for.
 pub struct Refused {
-    /// the places of the servers
-    pub servers: Vec<usize>,
-    pub told: Told,
+    /// the refusal's number; 0 where a file is damaged
+    pub number: u32,
+    /// what it says about the place where the file was made
+    pub place: &'static str,
+    /// by the refusal's words, which name a leaf or a size
+    pub told: Vec<Told>,
 }
 
-/// The reason in words.
-#[derive(PartialEq, Eq, PartialOrd, Ord)]
+/// Servers that are refused in the same words.
 pub struct Told {
-    /// the refusal's number, or 0
-    pub number: u32,
-    /// the refusal
     pub words: String,
-    /// the numbers that it rests on, and what would be accepted
-    pub notes: Vec<String>,
+    /// the places of those whose processor has SEV-SNP, and of the others
+    pub with_snp: Vec<usize>,
+    pub without: Vec<usize>,
+}
+
+impl Told {
+    /// All its servers, those with SEV-SNP first.
+    pub fn servers(&self) -> Vec<usize> {
+        [&self.with_snp[..], &self.without].concat()
+    }
+
+    /// The two lots of servers that are not empty, each under its heading.
+    pub fn lots(&self) -> impl Iterator<Item = (&'static str, &[usize])> {
+        [("with SEV-SNP", &self.with_snp[..]), ("without SEV-SNP", &self.without)].into_iter().filter(|(_, servers)| !servers.is_empty())
+    }
+}
+
+impl Refused {
+    /// How many servers it was given for.
+    pub fn many(&self) -> usize {
+        self.told.iter().map(|told| told.with_snp.len() + told.without.len()).sum()
+    }
 }
 
 /// The servers without a table, in the order of the refusals' numbers and words.
-pub fn together(servers: &[Server], building: &Building) -> Vec<Refused> {
-    let mut reasons: BTreeMap<Told, Vec<usize>> = BTreeMap::new();
+pub fn together(servers: &[Server]) -> Vec<Refused> {
+    let mut reasons: BTreeMap<(u32, String), [Vec<usize>; 2]> = BTreeMap::new();
     for (place, server) in servers.iter().enumerate() {
-        let told = match &server.answer {
+        let reason = match &server.answer {
             Answer::Class(_) => continue,
-            Answer::Refused(refusal) => told(*refusal, server.pages().unwrap_or_default(), building),
-            Answer::Unread(why) => Told { number: 0, words: why.clone(), notes: vec![] },
+            Answer::Refused(refusal) => (refusal.number(), refusal.to_string()),
+            Answer::Unread(why) => (0, why.clone()),
         };
-        reasons.entry(told).or_default().push(place);
+        reasons.entry(reason).or_default()[usize::from(!has_snp(server))].push(place);
     }
-    reasons.into_iter().map(|(told, servers)| Refused { servers, told }).collect()
+    let mut together: Vec<Refused> = vec![];
+    for ((number, words), [with_snp, without]) in reasons {
+        if together.last().is_none_or(|last| last.number != number) {
+            together.push(Refused { number, place: meanings::place(number), told: vec![] });
+        }
+        together.last_mut().expect("it was put there").told.push(Told { words, with_snp, without });
+    }
+    together.iter_mut().for_each(|refused| refused.told.sort_by_key(|told| told.with_snp.is_empty()));
+    together
 }
 
-fn told(refusal: Refusal, pages: &[u8], building: &Building) -> Told {
-    let notes = building.reason(refusal, pages).notes();
-    Told { number: refusal.number(), words: refusal.to_string(), notes }
+/// Whether its processor has SEV-SNP, bit 4 of 8000001Fh.EAX.
+fn has_snp(server: &Server) -> bool {
+    server.pages().is_some_and(|pages| Standing::of(pages).masked(0x8000_001F, None)[0] >> 4 & 1 == 1)
 }

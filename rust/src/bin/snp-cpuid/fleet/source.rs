@@ -1,38 +1,15 @@
-//! The files of a fleet, each by its content: CPUID pages, a table's image, a list for KVM, or the text of a dump.
+//! The files of a fleet, each by its content, and those of its folders that are no server's.
 
-use crate::building::told;
-use crate::commands::{from_dump, from_kvm};
+use super::folders::Found;
+use super::progress::Progress;
 use crate::failure::Failure;
-use crate::input::{read, reason, shown};
-use crate::reasons;
-use crate::source::{image, pool_tables};
-use snp_cpuid::{PAGE_BYTES, Table};
+use crate::input::{read, shown};
+use crate::inputs::{self, Input, Kind, NotRead};
+use snp_cpuid::Table;
 use std::collections::HashSet;
 use std::ffi::{OsStr, OsString};
-use std::fs;
-use std::path::Path;
 
-/// What a file holds.
-#[derive(Clone, Copy, Debug, PartialEq, Eq)]
-pub enum Kind {
-    Pages,
-    Image,
-    List,
-    Dump,
-}
-
-impl Kind {
-    pub fn name(self) -> &'static str {
-        match self {
-            Kind::Pages => "pages",
-            Kind::Image => "image",
-            Kind::List => "list",
-            Kind::Dump => "dump",
-        }
-    }
-}
-
-/// What a file gives.
+/// What a server's file gives.
 pub enum Given {
     /// pages, which are built
     Pages(Vec<u8>),
@@ -50,41 +27,62 @@ pub struct Source {
     pub given: Given,
 }
 
-/// The files that are given, and those below the folders that are given, in the order of their names.
-pub fn sources(operands: &[OsString]) -> Result<Vec<Source>, Failure> {
-    let mut files = vec![];
-    for operand in operands {
-        walk(operand, &mut files)?;
-    }
-    if files.is_empty() {
-        return Err(Failure::Bad(format!("{}: no file in it", shown(&operands[0]))));
-    }
-    files.sort();
-    let names = short_names(&files.iter().map(|file| shown(file)).collect::<Vec<_>>());
-    let source = |(file, name): (&OsString, String)| {
-        let bytes = read(file)?;
-        let kind = kind(&bytes);
-        Ok(Source { name, file: shown(file), kind, given: given(kind, bytes) })
-    };
-    let mut sources: Vec<Source> = files.iter().zip(names).map(source).collect::<Result<_, _>>()?;
-    sources.sort_by(|a, b| (&a.name, &a.file).cmp(&(&b.name, &b.file)));
-    Ok(sources)
+/// A file that is no server's, and why it was not read.
+#[derive(PartialEq, Eq, PartialOrd, Ord)]
+pub struct Unread {
+    pub file: String,
+    pub why: String,
 }
 
-/// A file, or those of a folder and of the folders in it; hidden ones, whose names begin with a dot, are left out.
-fn walk(name: &OsStr, files: &mut Vec<OsString>) -> Result<(), Failure> {
-    let fail = |error| Failure::Bad(format!("{}: {}", shown(name), reason(&error)));
-    if name == "-" || !Path::new(name).is_dir() {
-        files.push(name.to_os_string());
-        return Ok(());
-    }
-    for entry in fs::read_dir(name).map_err(fail)? {
-        let entry = entry.map_err(fail)?;
-        if !entry.file_name().as_encoded_bytes().starts_with(b".") {
-            walk(entry.path().as_os_str(), files)?;
+/// The servers, in the order of their names, and what was not read.
+pub struct Sources {
+    pub servers: Vec<Source>,
+    pub not_read: Vec<Unread>,
+    /// the files and folders that were given
+    pub from: Vec<String>,
+}
+
+/// The files that are given, and those below the folders that are given. What is given must be a server's; of what stands in a folder, the rest is
+/// named.
+pub fn sources(operands: &[OsString]) -> Result<Sources, Failure> {
+    let mut found = Found::below(operands)?;
+    let (mut servers, mut not_read) = (vec![], std::mem::take(&mut found.not_read));
+    let progress = Progress::of(found.files.len());
+    for (number, (file, in_folder)) in found.files.into_iter().enumerate() {
+        progress.told(number);
+        match server(&file) {
+            Ok(server) => servers.push(server),
+            Err(Failure::Bad(why)) if in_folder => {
+                let file = shown(&file);
+                let why = why.strip_prefix(&format!("{file}: ")).map(String::from).unwrap_or(why);
+                not_read.push(Unread { file, why });
+            }
+            Err(failure) => return Err(failure),
         }
     }
-    Ok(())
+    progress.ended();
+    if servers.is_empty() {
+        let others = if not_read.is_empty() { String::new() } else { format!(", and {} that are none", not_read.len()) };
+        return Err(Failure::Bad(format!("{}: no server's file in it{others}", shown(&operands[0]))));
+    }
+    not_read.sort();
+    let names = short_names(&servers.iter().map(|server| server.file.clone()).collect::<Vec<_>>());
+    servers.iter_mut().zip(names).for_each(|(server, name)| server.name = name);
+    servers.sort_by(|a, b| (&a.name, &a.file).cmp(&(&b.name, &b.file)));
+    Ok(Sources { servers, not_read, from: operands.iter().map(|operand| shown(operand)).collect() })
+}
+
+/// The server of a file. A file of a kind that is damaged is a server's too, of which nothing is known.
+fn server(file: &OsStr) -> Result<Source, Failure> {
+    let bytes = read(file)?;
+    let kind = inputs::kind(&bytes);
+    let (kind, given) = match (inputs::input_with_pages(bytes), kind) {
+        (Ok(Input { kind, given: inputs::Given::Pages(pages), .. }), _) => (kind, Given::Pages(pages)),
+        (Ok(Input { kind, given: inputs::Given::Table(table), .. }), _) => (kind, Given::Table(table)),
+        (Err(NotRead::Foreign(why)), _) => return Err(Failure::Bad(format!("{}: {why}", shown(file)))),
+        (Err(damaged), kind) => (kind.expect("what is damaged is of a kind"), Given::Nothing(damaged.told())),
+    };
+    Ok(Source { name: String::new(), file: shown(file), kind, given })
 }
 
 /// The names by which a report calls the files: without folder and usual ending where no two are alike then, without folder alone, or as they are.
@@ -92,50 +90,11 @@ fn short_names(files: &[String]) -> Vec<String> {
     let bare = |file: &String| file.rsplit('/').next().unwrap_or(file).to_string();
     let stem = |file: &String| {
         let bare = bare(file);
-        let ends = [".pages", ".image", ".list", ".dump", ".txt", ".bin"];
+        let ends = [".pages", ".page", ".image", ".list", ".dump", ".dmesg", ".txt", ".bin"];
         ends.iter().find_map(|end| bare.strip_suffix(end)).filter(|stem| !stem.is_empty()).unwrap_or(&bare).to_string()
     };
     let unlike = |names: &Vec<String>| names.iter().collect::<HashSet<_>>().len() == files.len();
     let stems: Vec<String> = files.iter().map(stem).collect();
     let bares: Vec<String> = files.iter().map(bare).collect();
     [stems, bares].into_iter().find(unlike).unwrap_or_else(|| files.to_vec())
-}
-
-/// Text has no zero byte, and a page always has one: its count is at most 64. A list has its rows to the last byte.
-fn kind(bytes: &[u8]) -> Kind {
-    if !bytes.is_empty() && !bytes.contains(&0) {
-        Kind::Dump
-    } else if bytes.len() % PAGE_BYTES == 0 {
-        Kind::Pages
-    } else if image(bytes).is_some() {
-        Kind::Image
-    } else if word(bytes, 0).is_some_and(|count| bytes.len() as u64 == 8 + 40 * u64::from(count)) {
-        Kind::List
-    } else {
-        Kind::Pages
-    }
-}
-
-fn word(bytes: &[u8], at: usize) -> Option<u32> {
-    Some(u32::from_le_bytes(*bytes.get(at..)?.first_chunk()?))
-}
-
-/// What a file's bytes give.
-fn given(kind: Kind, bytes: Vec<u8>) -> Given {
-    let pages = |pages: Result<Vec<u8>, String>| pages.map_or_else(Given::Nothing, Given::Pages);
-    match kind {
-        Kind::Pages => Given::Pages(bytes),
-        Kind::Image => image_table(&bytes).map_or_else(Given::Nothing, |table| Given::Table(Box::new(table))),
-        Kind::Dump => pages(from_dump::taken(&bytes).map(|taken| taken.pages)),
-        Kind::List => {
-            let refused = |refusal| [vec![told(refusal)], reasons::of_list(refusal, &bytes).notes()].concat().join("; ");
-            pages(from_kvm::taken(&bytes).map(|(pages, _)| pages.to_vec()).map_err(refused))
-        }
-    }
-}
-
-/// The table of an image: the pool of it and itself is the same, unless no pages give it.
-fn image_table(bytes: &[u8]) -> Result<Table, String> {
-    let table = image(bytes).ok_or("no image")?;
-    if pool_tables(&[table.clone(), table.clone()]).as_ref() == Ok(&table) { Ok(table) } else { Err("no pages give the table of this image".into()) }
 }

@@ -1,11 +1,11 @@
 //! The report as text, in lines of 80 columns.
 
 use super::bits::{self, Bits, register_name};
-use super::differing::{self, Apart};
+use super::differing;
 use super::groups;
 use super::moves::{MOST_COMPARED, Way, by_pages};
-use super::pools::{AT_ONCE, Pool};
-use super::refused::Refused;
+use super::pools::Pool;
+use super::refused::{Refused, Told};
 use super::{Class, Fleet, Group};
 use crate::wrap::wrapped_in;
 use std::collections::{BTreeMap, HashMap};
@@ -26,7 +26,7 @@ const GRID: usize = 10;
 
 /// The report.
 pub fn of(fleet: &Fleet) -> String {
-    let parts = [head(fleet), classes(fleet), moves(fleet), pools(fleet), features(fleet), refused(fleet), notes(fleet)];
+    let parts = [head(fleet), classes(fleet), moves(fleet), pools(fleet), features(fleet), refused(fleet), not_read(fleet), notes(fleet)];
     parts.into_iter().filter(|part| !part.is_empty()).collect::<Vec<_>>().join("\n")
 }
 
@@ -187,8 +187,8 @@ fn between_groups(fleet: &Fleet) -> String {
     let Some((first, others)) = fleet.groups.split_first().filter(|(_, others)| !others.is_empty()) else { return String::new() };
     let mut text = "   From group to group no guest may go:\n".to_string();
     for other in others.iter().take(CLASSES) {
-        let apart = differing::apart(&[first, other], &fleet.classes);
-        let told = |a: &Apart| format!("{} ({:08X}, {:08X})", register_name(a.leaf, a.subleaf, a.register), a.values[0], a.values[1]);
+        let apart = differing::in_words(&[first, other], &fleet.classes);
+        let told = |(register, words): &(String, Vec<String>)| format!("{register} ({}; {})", words[0], words[1]);
         let mut words = apart.iter().take(3).map(told).collect::<Vec<_>>().join(", ");
         if apart.len() > 3 {
             words += &format!(" and {} more registers", apart.len() - 3);
@@ -239,15 +239,7 @@ fn pooled(fleet: &Fleet, pool: &Pool) -> String {
         let servers = if servers.len() <= NAMED { server_names(fleet, &servers).join(" ") } else { many(servers.len(), "server") };
         text += &wrapped("         ", &format!("{} ({servers}) {cost} {}", folded_list(&class_names(fleet, lacking)), folded(names)));
     }
-    if pool.classes.len() > AT_ONCE {
-        text += &wrapped("         ", &larger());
-    }
     text
-}
-
-/// How a pool of more than 16 classes is made.
-pub fn larger() -> String {
-    format!("'pool' takes {AT_ONCE} at once: pool {AT_ONCE} of the classes, then the image of that with {} more, and so on", AT_ONCE - 1)
 }
 
 fn features(fleet: &Fleet) -> String {
@@ -274,18 +266,37 @@ fn features(fleet: &Fleet) -> String {
 }
 
 fn refused(fleet: &Fleet) -> String {
-    if fleet.refused.is_empty() {
+    let mut refusals = fleet.refused.iter().filter(|refused| refused.number > 0).peekable();
+    if refusals.peek().is_none() {
         return String::new();
     }
-    let told = |refused: &Refused| {
-        let names = wrapped("   ", &folded(&server_names(fleet, &refused.servers)));
-        let number = if refused.told.number == 0 { "not read: ".into() } else { format!("refusal {}: ", refused.told.number) };
-        let lines = [number + &refused.told.words].into_iter().chain(refused.told.notes.iter().cloned());
-        names + &lines.map(|line| wrapped("      ", &line)).collect::<String>()
+    let told = |told: &Told| {
+        let lot = |(label, servers): (&str, &[usize])| wrapped("         ", &format!("{label}: {}", server_names(fleet, servers).join(" ")));
+        wrapped("      ", &told.words) + &told.lots().map(lot).collect::<String>()
     };
-    let more: usize = fleet.refused.iter().skip(CLASSES).map(|refused| refused.servers.len()).sum();
-    let more = if more == 0 { String::new() } else { format!("   and {} more, which --json has\n", many(more, "server")) };
-    "Refused\n".to_string() + &fleet.refused.iter().take(CLASSES).map(told).collect::<String>() + &more
+    let number = |refused: &Refused| {
+        let head = format!("{} by refusal {}. {}", many(refused.many(), "server"), refused.number, refused.place);
+        wrapped("   ", &head) + &refused.told.iter().map(told).collect::<String>()
+    };
+    let all: String = refusals.map(number).collect();
+    format!("Refused\n{all}{}", wrapped("   ", ADVICE))
+}
+
+/// What a reader does next.
+pub const ADVICE: &str = "'snp-cpuid table FILE' says what a refusal rests on and what change is accepted, and 'set' makes it.";
+
+/// What gave no server, or gave nothing of one: by the reason.
+fn not_read(fleet: &Fleet) -> String {
+    let mut reasons: BTreeMap<&str, Vec<String>> = BTreeMap::new();
+    for refused in fleet.refused.iter().filter(|refused| refused.number == 0) {
+        refused.told.iter().for_each(|told| reasons.entry(&told.words).or_default().extend(server_names(fleet, &told.servers())));
+    }
+    fleet.not_read.iter().for_each(|unread| reasons.entry(&unread.why).or_default().push(unread.file.clone()));
+    if reasons.is_empty() {
+        return String::new();
+    }
+    let told = |(why, files): (&&str, &Vec<String>)| wrapped("   ", &files.join(" ")) + &wrapped("      ", why);
+    format!("Not read\n{}", reasons.iter().map(told).collect::<String>())
 }
 
 /// What the comparison of pages says beyond the tables.

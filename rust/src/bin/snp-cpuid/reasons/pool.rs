@@ -10,7 +10,7 @@ use snp_cpuid::Table;
 
 /// Why a pool of so many servers is refused.
 pub fn of_pool_size(servers: usize) -> Reason {
-    Reason::new(format!("{} given", counted(servers, "page set")), "2 to 16")
+    Reason::new(format!("{} given", counted(servers, "page set")), "two servers or more")
 }
 
 /// Where servers of a pool differ from the first, by their masked entries: all that 19 rests on. Each is a name, its entries and its table.

@@ -64,6 +64,11 @@ pub fn column(text: &str) -> String {
     format!("<th scope=\"col\">{text}</th>")
 }
 
+/// A head cell over a column of numbers, which stand at the right.
+pub fn number_column(text: &str) -> String {
+    format!("<th scope=\"col\" class=\"r\">{text}</th>")
+}
+
 /// A part of the page.
 pub fn section(id: &str, title: &str, inside: &str) -> String {
     format!("<section id=\"{id}\" aria-labelledby=\"{id}-title\"><h2 id=\"{id}-title\">{title}</h2>\n{inside}</section>\n")

@@ -1,5 +1,6 @@
 //! The report as a page: one file of HTML without script, which loads nothing.
 
+mod day;
 mod features;
 mod html;
 mod moves;
@@ -7,11 +8,11 @@ mod picture;
 mod pools;
 
 use super::differing;
-use super::refused::Refused;
-use super::text::{choices, described, listed, many, pool_name, sentence, servers_of};
+use super::refused::{Refused, Told};
+use super::text::{ADVICE, choices, described, listed, many, pool_name, sentence, servers_of};
 use super::{Fleet, Group, bits, groups};
-use html::{SYMBOLS, column, details, escaped, folded, name, section, table};
-use std::collections::BTreeMap;
+use crate::meanings;
+use html::{SYMBOLS, column, details, escaped, folded, name, number_column, section, table};
 
 const STYLE: &str = include_str!("page.css");
 
@@ -23,20 +24,28 @@ const MOST_GROUPS: usize = 200;
 const MOST_CLASSES: usize = 1000;
 const MOST_LINKS: usize = 100;
 
+/// The parts that the answers on the first screen lead to.
+const ANSWERED: [&str; 4] = ["classes", "moves", "pools", "refused"];
+
+/// So many servers of a class or a refusal are named on the first screen.
+const NAMED: usize = 3;
+
 /// The page.
 pub fn of(fleet: &Fleet) -> String {
     let title = sentence(fleet);
     let parts = [
         ("classes", "Which servers are alike", classes(fleet)),
         ("moves", "Where a guest may go", moves::ways(fleet)),
-        ("matrix", "Who to whom", moves::matrices(fleet)),
+        ("matrix", "Each class to each other", moves::matrices(fleet)),
         ("features", "Features that differ", features::of(fleet)),
         ("pools", "One table for several classes", pools::of(fleet)),
         ("refused", "Refused, and why", refused(fleet)),
         ("made", "How this was made", made(fleet)),
     ];
     let parts: Vec<_> = parts.into_iter().filter(|(.., inside)| !inside.is_empty()).collect();
-    let links: String = parts.iter().map(|(id, title, _)| format!("<a href=\"#{id}\">{title}</a> ")).collect();
+    // the answers above have links to the other parts
+    let further = parts.iter().filter(|(id, ..)| !ANSWERED.contains(id));
+    let links: String = further.map(|(id, title, _)| format!("<a href=\"#{id}\">{title}</a> ")).collect();
     let sections: String = parts.iter().map(|(id, title, inside)| section(id, title, inside)).collect();
     format!(
         "<!doctype html>\n<html lang=\"en\">\n<head>\n<meta charset=\"utf-8\">\n\
@@ -86,7 +95,7 @@ fn same(fleet: &Fleet) -> String {
         alone => format!(" {alone} servers have a table of their own."),
     };
     shared.sort_by_key(|class| std::cmp::Reverse(fleet.classes[*class].servers.len()));
-    let told = |class: &usize| format!("{} ({})", link(fleet, *class), fleet.classes[*class].servers.len());
+    let told = |class: &usize| format!("{} ({})", link(fleet, *class), few(fleet, &fleet.classes[*class].servers));
     let largest = listed(&shared.iter().take(5).map(told).collect::<Vec<_>>());
     match (shared.len(), fleet.classes.len()) {
         (_, 0) => String::new(),
@@ -97,6 +106,40 @@ fn same(fleet: &Fleet) -> String {
         (number, _) if number > 5 => format!("{number} classes have more than one server; the largest are {largest}.{alone}"),
         (number, _) => format!("{number} classes have more than one server: {largest}.{alone}"),
     }
+}
+
+/// The first servers of some by name, and how many more there are.
+fn few(fleet: &Fleet, servers: &[usize]) -> String {
+    let named = server_names(fleet, &servers[..servers.len().min(NAMED)]);
+    let more = servers.len().saturating_sub(NAMED);
+    if more == 0 { listed(&named) } else { format!("{} and {more} more", named.join(", ")) }
+}
+
+/// From each class that leads somewhere, where to.
+fn ways(fleet: &Fleet) -> Vec<String> {
+    let to = |rises: &[usize]| listed(&rises.iter().map(|class| link(fleet, *class)).collect::<Vec<_>>());
+    let all = fleet.moves.rises.iter().enumerate().filter_map(|(class, rises)| Some((class, rises.as_deref()?)));
+    all.filter(|(_, rises)| !rises.is_empty()).map(|(class, rises)| format!("from {} to {}", link(fleet, class), to(rises))).collect()
+}
+
+/// What is in the way, inside the groups and between them: features by name, and the first register that keeps the first two groups apart.
+fn in_the_way(fleet: &Fleet) -> String {
+    let mut bits: Vec<String> = fleet.groups.iter().flat_map(|group| bits::names(&group.differing)).map(String::from).collect();
+    bits.sort();
+    bits.dedup();
+    let more = bits.len().saturating_sub(6);
+    bits.truncate(6);
+    let more = if more == 0 { String::new() } else { format!(" and {more} more") };
+    let features = if bits.is_empty() {
+        String::new()
+    } else {
+        format!(" In the way are {}{more}.", if more.is_empty() { listed(&bits) } else { bits.join(", ") })
+    };
+    let apart = fleet.groups.get(..2).map(|groups| differing::in_words(&groups.iter().collect::<Vec<_>>(), &fleet.classes));
+    let apart = apart
+        .and_then(|apart| apart.into_iter().next())
+        .map(|(register, words)| format!(" Groups A and B differ in {}: {} and {}.", escaped(&register), escaped(&words[0]), escaped(&words[1])));
+    features + &apart.unwrap_or_default()
 }
 
 fn may_move(fleet: &Fleet) -> String {
@@ -112,33 +155,33 @@ fn may_move(fleet: &Fleet) -> String {
     };
     let within = match pairs {
         0 => "Inside a group no class has all that another has.".to_string(),
-        1 => "Inside a group one class leads to another.".into(),
+        1..=6 => format!("A guest may go {}.", listed(&ways(fleet))),
         _ => format!("Inside a group there are {pairs} ways from class to class, each to one that has at least as much."),
     };
-    if fleet.classes.len() == fleet.groups.len() { groups } else { format!("{groups} {within}") }
+    let within = if fleet.classes.len() == fleet.groups.len() { String::new() } else { format!(" {within}") };
+    groups + &within + &in_the_way(fleet)
 }
 
 fn pooled(fleet: &Fleet) -> String {
     let told = |pool: &super::Pool| {
         let lost: Vec<&str> = pool.lost.iter().flat_map(|lost| lost.bits.names()).collect();
-        let without =
-            if lost.len() > 4 { format!("{} features", lost.len()) } else { listed(&lost.iter().map(|name| name.to_string()).collect::<Vec<_>>()) };
+        let names: Vec<String> = lost.iter().map(|name| name.to_string()).collect();
+        let without = if lost.len() > 6 { format!("{} and {} more", names[..5].join(", "), lost.len() - 5) } else { listed(&names) };
         format!("The {} of {} share one table without {without}.", many(servers_of(fleet, &pool.classes), "server"), escaped(&pool_name(fleet, pool)))
     };
     fleet.pools.iter().take(4).map(told).collect::<Vec<_>>().join(" ")
 }
 
 fn why(fleet: &Fleet) -> String {
-    let mut numbers: BTreeMap<u32, usize> = BTreeMap::new();
-    for refused in &fleet.refused {
-        *numbers.entry(refused.told.number).or_default() += refused.servers.len();
-    }
-    let told = |(number, servers): (&u32, &usize)| match number {
-        0 => format!("{servers} not read"),
-        number => format!("{servers} by refusal {number}"),
+    let told = |refused: &Refused| {
+        let servers: Vec<usize> = refused.told.iter().flat_map(Told::servers).collect();
+        match refused.number {
+            0 => format!("{} not read ({})", refused.many(), few(fleet, &servers)),
+            number => format!("{} by refusal {number}, {} ({})", refused.many(), meanings::short(number), few(fleet, &servers)),
+        }
     };
     let refused = fleet.servers.len() - fleet.accepted();
-    let told = listed(&numbers.iter().map(told).collect::<Vec<_>>());
+    let told = fleet.refused.iter().map(told).collect::<Vec<_>>().join("; ");
     if refused == 0 { String::new() } else { format!("{}: {told}.", many(refused, "server")) }
 }
 
@@ -148,7 +191,7 @@ fn classes(fleet: &Fleet) -> String {
     }
     let words = "<p>All servers of a class give a guest the same table, so a program that asks CPUID what to use does the same on each of them. \
                  The letter is the group: classes that differ in features only. Number 1 has most features.</p>\n";
-    let head = ["Class", "Servers", "Names", "Without, of what its group has"].map(column).concat();
+    let head = column("Class") + &number_column("Servers") + &["Names", "Without, of what its group has"].map(column).concat();
     let body: String = fleet.groups.iter().take(MOST_GROUPS).map(|group| group_rows(fleet, group)).collect();
     let more = fleet.groups.len().saturating_sub(MOST_GROUPS);
     let more = if more == 0 { String::new() } else { format!("<p>and {more} more groups, which --json has</p>\n") };
@@ -210,38 +253,44 @@ fn more_class(fleet: &Fleet, place: usize) -> String {
 }
 
 fn refused(fleet: &Fleet) -> String {
+    let told = |told: &Told| {
+        let lot = |(label, servers): (&str, &[usize])| format!("<div>{label}: {}</div>", folded(&server_names(fleet, servers)));
+        format!("<div>{}</div>{}", escaped(&told.words), told.lots().map(lot).collect::<String>())
+    };
     let row = |refused: &Refused| {
-        let told = &refused.told;
-        let number = if told.number == 0 { "Not read".into() } else { format!("Refusal {}", told.number) };
-        let further: String = told.notes.iter().map(|note| format!("<div class=\"d\">{}</div>", escaped(note))).collect();
+        let number = if refused.number == 0 { "Not read".into() } else { format!("Refusal {}", refused.number) };
         format!(
-            "<tr data-refusal=\"{}\" data-servers=\"{}\"><td>{}</td><td><b>{number}</b>: {}{further}</td></tr>\n",
-            told.number,
-            refused.servers.len(),
-            folded(&server_names(fleet, &refused.servers)),
-            escaped(&told.words)
+            "<tr data-refusal=\"{}\" data-servers=\"{many}\"><td class=\"r\">{many}</td><td><b>{number}</b>. {}{}</td></tr>\n",
+            refused.number,
+            escaped(refused.place),
+            refused.told.iter().map(told).collect::<String>(),
+            many = refused.many()
         )
     };
+    let unread: String = fleet.not_read.iter().map(|unread| format!("<div>{}: {}</div>", name(&unread.file), escaped(&unread.why))).collect();
+    let unread = if unread.is_empty() { unread } else { details(&format!("{} of no server", many(fleet.not_read.len(), "file")), &unread) };
     if fleet.refused.is_empty() {
-        return String::new();
+        return unread;
     }
-    let head = ["Servers", "Why"].map(column).concat();
-    let rows: Vec<String> = fleet.refused.iter().map(row).collect();
-    let (open, more) = rows.split_at(rows.len().min(CLASSES));
-    let inside = format!("<table class=\"f rf\">{}</table>", more.concat());
-    let more = if more.is_empty() { String::new() } else { details(&format!("and {} more reasons", more.len()), &inside) };
-    let words = "<p>These servers have no table. What would be accepted speaks of pages, not of what the machine can do.</p>\n";
+    let head = number_column("Servers") + &column("Why");
+    let rows: String = fleet.refused.iter().map(row).collect();
+    let words = "<p>These servers have no table. A refusal speaks of the pages, not of what the machine can do.</p>\n";
+    let advice = format!("<p>{}</p>\n", escaped(ADVICE));
     words.to_string()
-        + &table("c-refused", "f rf", "Servers without a table, by the reason", &head, &format!("<tbody>{}</tbody>", open.concat()))
-        + &more
+        + &table("c-refused", "f rf", "Servers without a table, by the reason", &head, &format!("<tbody>{rows}</tbody>"))
+        + &advice
+        + &unread
 }
 
 fn made(fleet: &Fleet) -> String {
     format!(
         "<p>The tables, the pools and the refusals are the answers of the proved library behind <code>snp-cpuid {}</code>, under {}. Each server is \
          built once, and the tables of classes are compared. <code>snp-cpuid fleet --json</code> gives the same answers to a program, and \
-         <code>snp-cpuid compare</code> and <code>snp-cpuid pool</code> give those of single servers again.</p>\n",
+         <code>snp-cpuid compare</code> and <code>snp-cpuid pool</code> give those of single servers again.</p>\n\
+         <p>Read from {} on {} (UTC).</p>\n",
         env!("CARGO_PKG_VERSION"),
-        choices(fleet)
+        choices(fleet),
+        folded(&fleet.from.iter().map(|file| format!("<code>{}</code>", escaped(file))).collect::<Vec<_>>()),
+        day::today()
     )
 }

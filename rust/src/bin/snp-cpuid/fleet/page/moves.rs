@@ -1,7 +1,6 @@
 //! The parts of the page on moves: pictures, ways in words, matrices, and what keeps groups apart.
 
-use super::super::bits::register_name;
-use super::super::differing::{self, Apart};
+use super::super::differing;
 use super::super::moves::{MOST_COMPARED, Way, by_pages};
 use super::super::text::{NOTE, blocked, listed, many};
 use super::super::{Fleet, Group};
@@ -91,11 +90,11 @@ fn apart(fleet: &Fleet) -> String {
         return String::new();
     }
     let groups: Vec<&Group> = fleet.groups.iter().take(MOST_APART).collect();
-    let registers = differing::apart(&groups, &fleet.classes);
-    let row = |a: &Apart| {
-        let mark = |value: &u32| if *value == a.values[0] { "" } else { " class=\"ne\"" };
-        let cells: String = a.values.iter().map(|value| format!("<td{}><code>{value:08X}</code></td>", mark(value))).collect();
-        format!("<tr><th scope=\"row\">{}</th>{cells}</tr>\n", register_name(a.leaf, a.subleaf, a.register))
+    let registers = differing::in_words(&groups, &fleet.classes);
+    let row = |(register, words): &(String, Vec<String>)| {
+        let mark = |value: &String| if *value == words[0] { "" } else { " class=\"ne\"" };
+        let cells: String = words.iter().map(|value| format!("<td{}>{}</td>", mark(value), escaped(value))).collect();
+        format!("<tr><th scope=\"row\">{}</th>{cells}</tr>\n", escaped(register))
     };
     let head = column("Register") + &groups.iter().map(|group| column(&group.letter)).collect::<String>();
     let rows: String = registers.iter().map(row).collect();

@@ -1,7 +1,7 @@
 //! The part of the page on pools: what one table for several classes costs, and whom to leave out to keep a feature.
 
-use super::super::pools::{AT_ONCE, Lost, Pool};
-use super::super::text::{larger, listed, losses, many, pool_name, servers_of};
+use super::super::pools::{Lost, Pool};
+use super::super::text::{listed, losses, many, pool_name, servers_of};
 use super::super::{Fleet, groups};
 use super::features::{class_columns, named};
 use super::html::{column, escaped, folded, mark, table};
@@ -39,9 +39,6 @@ fn one(fleet: &Fleet, place: usize, pool: &Pool) -> String {
         &head,
         &format!("<tbody>{rows}</tbody>{foot}"),
     );
-    if pool.classes.len() > AT_ONCE {
-        text += &format!("<p class=\"note\">{}.</p>\n", escaped(&larger()));
-    }
     text
 }
 
