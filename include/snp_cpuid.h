@@ -312,6 +312,9 @@ static inline size_t snp_cpuid_message(struct snp_cpuid_refusal refusal, char *o
 /* The bytes of the list of topologies. */
 #define SNP_CPUID_TOPOLOGIES_BYTES 5095
 
+/* The bytes of a fingerprint. */
+#define SNP_CPUID_FINGERPRINT_BYTES 32
+
 /* Enough room for any message of snp_cpuid_message, its final 0 included. */
 #define SNP_CPUID_MOST_MESSAGE_BYTES 160
 
@@ -332,14 +335,14 @@ static inline struct snp_cpuid_found snp_cpuid_find(const struct snp_cpuid_kept_
 /* How many rows the table has, and its combined mask. */
 static inline struct snp_cpuid_counts snp_cpuid_counts_of(const struct snp_cpuid_kept_table *table);
 
-/* A fingerprint: 32 bytes. */
+/* A fingerprint. */
 struct snp_cpuid_digest {
-    uint8_t bytes[32];
+    uint8_t bytes[SNP_CPUID_FINGERPRINT_BYTES];
 };
 
 /* The table's fingerprint: the SHA-256 (FIPS 180-4) of the image that snp_cpuid_write_table_image writes. Two tables have one fingerprint where their
- * rows and combined masks are equal, and otherwise only if their images are a collision of SHA-256. Print it beside a figure, and the figure says under
- * which table it was computed. Origins do not count. A table without rows has the fingerprint of no bytes. */
+ * rows and combined masks are equal, and otherwise only if their images are a collision of SHA-256. Print it beside a figure, and the figure says
+ * under which table it was computed. Origins do not count. A table without rows has the fingerprint of no bytes. */
 static inline struct snp_cpuid_digest snp_cpuid_fingerprint_of(const struct snp_cpuid_kept_table *table);
 
 /* Makes the table what the guest of a processor sees, in place; origins stay. A refusal by 13 or 14 leaves a table without rows: copy the table first

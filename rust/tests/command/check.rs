@@ -28,7 +28,7 @@ pub fn dump(table: &Table, processors: &[Processor]) -> String {
     text
 }
 
-/// Every processor in every state sees the table: as image and as pages, by the dump of all.
+/// Every processor in every state sees the table: as image, pages, list and dump, by the dump of all. One file may be both.
 #[test]
 fn every_state_of_a_table_is_the_table() {
     let folder = Folder::new("check_states");
@@ -41,11 +41,13 @@ fn every_state_of_a_table_is_the_table() {
         }
     }
     let dump = folder.file("dump", dump(&table(), &all).as_bytes());
-    for file in [EPYC, &image] {
+    let (list, text) = (folder.file("list", run(&["to-kvm", EPYC, "-o", "-"]).out), folder.file("text", run(&["to-dump", EPYC]).out));
+    for file in [EPYC, &image, &list, &text] {
         let ran = run(&["check", file, "--dump", &dump]);
         let line = format!("same: {} processors see the table {}\n", all.len(), table().fingerprint());
         assert_eq!((ran.status, ran.text(), ran.err.as_str()), (0, line.as_str(), NOTE));
     }
+    assert_eq!(run(&["check", &text, "--dump", &text]).status, 0);
     let json = run(&["check", &image, "--dump", &dump, "--json"]);
     assert!(json.status == 0 && json.text().contains("\"answer\": \"same\"") && json.text().contains(&table().fingerprint().to_string()));
 }
@@ -110,13 +112,17 @@ fn what_is_no_table_and_no_dump() {
     let folder = Folder::new("check_bad");
     let image = table().image();
     let (cut, none, pages) = (folder.file("cut", &image[1..]), folder.file("none", b""), folder.file("pages", &set(&epyc())[..4096]));
+    let mut flagged = run(&["to-kvm", EPYC, "-o", "-"]).out;
+    flagged[16] = 2;
+    let list = folder.file("list", flagged);
     let whole = dump(&table(), &[processor(0, 1, 0, true)]);
     let without: String = whole.lines().filter(|line| !line.contains("0x0000000d")).map(|line| format!("{line}\n")).collect();
     let (dump, without, text) =
         (folder.file("dump", whole.as_bytes()), folder.file("without", without.as_bytes()), folder.file("text", b"CPU 0:\nhello\n"));
     for (file, given, words) in [
-        (&cut, &dump, format!("{cut}: it gives no table: refusal 1: ")),
-        (&none, &dump, format!("{none}: it gives no table: refusal 1: ")),
+        (&cut, &dump, format!("{cut}: no CPUID pages, image, list for KVM, dump or sev=debug log")),
+        (&none, &dump, format!("{none}: it is empty")),
+        (&list, &dump, format!("{list}: refusal 12: ")),
         (&pages, &dump, format!("{pages}: it gives no table: refusal 3: ")),
         (&EPYC.to_string(), &without, format!("{without}: CPU 0 has no row for leaf D, ")),
         (&EPYC.to_string(), &none, format!("{none}: is empty, ")),

@@ -293,6 +293,7 @@ fn an_output_is_no_input() {
             &["set", &pages, "5.EAX=1", "-o", &out],
             &["pool", &other, &pages, "-o", &out],
             &["fleet", &other, &pages, "--html", &out],
+            &["fleet", &other, "--since", &pages, "--html", &out],
         ] {
             let ran = run(arguments);
             assert_eq!((ran.status, ran.line()), (2, format!("{out}: not written: it is the input {pages}").as_str()));

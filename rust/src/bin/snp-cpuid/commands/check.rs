@@ -59,7 +59,11 @@ fn run(arguments: &Arguments) -> Result<(), Failure> {
     if arguments.value(DUMP.name()).is_some_and(|file| file == "-" && arguments.operands[0] == "-") {
         return Err(Failure::usage(COMMAND.name, "the table and the dump cannot both be standard input"));
     }
-    let source = building.heeding(&arguments.operands[0])?;
+    // a list that is refused gives no table either: status 1 would say that the guest differs
+    let source = building.heeding(&arguments.operands[0]).map_err(|failure| match failure {
+        Failure::No { line, .. } => Failure::Bad(line),
+        other => other,
+    })?;
     let table = table(&source)?;
     let views = match arguments.value(DUMP.name()) {
         Some(file) => view::dumped(&read(file)?).map_err(|why| Failure::Bad(format!("{}: {why}", shown(file))))?,
