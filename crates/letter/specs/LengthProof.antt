@@ -3,8 +3,7 @@ use mathlib.Core.Path.{_≡_, ap, _∙_, subst}
 use mathlib.Core.List.{List}
 use Prim.Native.Nat.{ℕ, _+_, _*_}
 use lib.ListN.{length}
-use Rattle.bits.specs.Lists.{sumTo, one}
-use Rattle.bits.specs.Bits.{has, Within}
+use Rattle.bits.specs.Bits.{Within}
 use Rattle.table.specs.declared.Choices.{Choices}
 use Rattle.table.specs.declared.CpuidResults.{CpuidResults}
 use Rattle.table.specs.declared.Verdict.the-variants.{Accepted}
@@ -12,12 +11,8 @@ use Rattle.build.specs.Build.{answer}
 use Rattle.image.specs.Image.{image}
 use Rattle.counts.specs.Counts.{componentsIn}
 use Rattle.counts.specs.CountsProof.{rows-counted}
-use Rattle.letter.specs.Paper.{combinedOf}
+use Rattle.letter.specs.Paper.{combinedOf, furtherBits}
 use Rattle.letter.specs.TableProof.{table-by-figures}
-
--- the combined bits from 2 up, counted
-abbrev pub furtherBits : ℕ → ℕ
-furtherBits x = sumTo (λ k. one (has (2 + k) x)) 62
 
 module _ (chosen : Choices) (s : List ℕ) (e : answer chosen s .verdict ≡ Accepted) where
   mask : answer chosen s .table .«max_extended_state» ≡ combinedOf chosen s

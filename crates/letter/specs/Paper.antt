@@ -10,7 +10,7 @@ use lib.Dec.{eqb, ltb, leb}
 use lib.Bits.{bitAnd, bitOr}
 use lib.ListN.{length, getD, drop, replicate}
 use Rattle.bits.specs.Choice.{pick}
-use Rattle.bits.specs.Lists.{tabulate, keepIf, one}
+use Rattle.bits.specs.Lists.{tabulate, keepIf, sumTo, one}
 use Rattle.bits.specs.Search.{every}
 use Rattle.bits.specs.Bits.{has}
 use Rattle.x86defs.specs.declared.CpuidResult.{CpuidResult}
@@ -394,6 +394,10 @@ without (Some k) = false
 abbrev pub countFrom : ℕ → (Line → Bool) → List Line → ℕ
 countFrom n test [] = n
 countFrom n test (l ∷ ls) = countFrom (n + one (test l)) test ls
+
+-- the combined bits from 2 up, counted
+abbrev pub furtherBits : ℕ → ℕ
+furtherBits x = sumTo (λ k. one (has (2 + k) x)) 62
 
 -- the whole table
 abbrev pub tableWith : ℕ → List Line → CpuidResults

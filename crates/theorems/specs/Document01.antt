@@ -42,7 +42,7 @@ use Rattle.image.specs.Image.{image}
 use Rattle.image.specs.Write.{write}
 use Rattle.program.specs.Output.{output}
 use Rattle.counts.specs.CountsProof.{single-page-refused, at-most-32}
-use Rattle.letter.specs.Paper.{readEntries, counted, first, xfem, combined, entryOf, name, required, firstMissing, masked, masksOf, topology, hyperthreading, processorCount, processors, leastFrom, isKept, lines, linesOf, combinedOf, countFrom, without, fromD2, Equations, verdict, table, rowsVerdict, carried, lawful, registers, written, wrote, find, findAfter, program}
+use Rattle.letter.specs.Paper.{readEntries, counted, first, xfem, combined, entryOf, name, required, firstMissing, masked, masksOf, topology, hyperthreading, processorCount, processors, leastFrom, isKept, lines, linesOf, combinedOf, countFrom, without, fromD2, furtherBits, Equations, verdict, table, rowsVerdict, carried, lawful, registers, written, wrote, find, findAfter, program}
 use Rattle.letter.specs.Names.{subAt}
 use Rattle.letter.specs.FirstProof as Firsts
 use Rattle.letter.specs.CountedProof as Counted
@@ -53,7 +53,6 @@ use Rattle.letter.specs.ImageProof.{told}
 use Rattle.letter.specs.LookupProof as Lookups
 use Rattle.letter.specs.RegistersProof as Registers
 use Rattle.letter.specs.LengthProof as Counts
-use Rattle.letter.specs.LengthProof.{furtherBits}
 use Rattle.page_sets.specs.PageSets.{serverA, serverWithoutD12}
 use Rattle.page_sets.specs.Evaluation.{firstEdition}
 use Rattle.examples.specs.Computed as Computed
@@ -84,7 +83,7 @@ pub table-determined : (chosen : Choices) (s : List ℕ) → answer chosen s .ve
     → (t : CpuidResults) → Equations chosen s t ↔ (t ≡ answer chosen s .table)
 table-determined = Determined.determined
 
--- each row under its leaf and subleaf
+-- each row under its leaf and subleaf: `told` lists what stands at the 88 places, each with its leaf and subleaf. crates/letter/specs/ImageProof.antt
 pub rows-by-the-letter : (chosen : Choices) (s : List ℕ) → answer chosen s .verdict ≡ Accepted → told (rowIn (answer chosen s .table)) ≡ linesOf chosen s
 rows-by-the-letter = Images.rows-by-figures
 

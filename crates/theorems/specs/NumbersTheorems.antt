@@ -2,16 +2,16 @@
 --
 -- They are said against the definition's answers, in figures and fields alone, so that no change of the functions that make the numbers goes unseen.
 -- crates/answers/specs/Told.antt has each statement's words, among them one table of the refusals' numbers and details, `RefusalTold`. Which statement
--- says what each of the 31 functions returns:
+-- says what each of the 33 functions returns:
 --
---   snp_cpuid_build, snp_cpuid_table_build                     `build-told`
+--   snp_cpuid_build, snp_cpuid_table_build, snp_cpuid_fingerprint   `build-told`
 --   snp_cpuid_lookup, snp_cpuid_guest_lookup                   `build-lookup-told`, `guest-lookup-told`
 --   snp_cpuid_pool_lookup, snp_cpuid_table_find                `pool-lookup-told`, `lookup-told`
 --   snp_cpuid_guest_build, snp_cpuid_table_guest               `guest-build-told`
 --   snp_cpuid_table_guest_find, snp_cpuid_table_guest_find_kept, snp_cpuid_table_state   `guest-found-told`, `found-told`, `state-told`
 --   snp_cpuid_write_image, snp_cpuid_write_guest_image, snp_cpuid_write_pool_image, snp_cpuid_table_write_image   `written-told`
 --   snp_cpuid_write_kvm, snp_cpuid_table_write_kvm, snp_cpuid_read_kvm, snp_cpuid_write_topologies                `written-told`
---   snp_cpuid_table_read_image, snp_cpuid_table_counts         `read-told`, `counts-told`
+--   snp_cpuid_table_read_image, snp_cpuid_table_counts, snp_cpuid_table_fingerprint   `read-told`, `counts-told`, `counts-told`
 --   snp_cpuid_compare, snp_cpuid_table_compare                 `compared-told`, `tables-compared-told`
 --   snp_cpuid_first_entry, snp_cpuid_nearest                   `first-told`, `nearest-told`
 --   snp_cpuid_carry, snp_cpuid_table_carry                     `carried-told`, `verdict-told` (its number)

@@ -35,6 +35,9 @@ use Rattle.memory.specs.Held.{heldIn, cleared-held}
 use Rattle.build.specs.Build.{answer, originsIn, TableIn}
 use Rattle.build.specs.BuildLaws.{no-origins}
 use Rattle.refusals.specs.ExactlyProof.{builds-exactly}
+use Rattle.sha256.specs.Sha256.{sha256}
+use Rattle.sha256.specs.Facts as Facts
+use Rattle.fingerprint.specs.Fingerprint.{fingerprint}
 use Rattle.lookup.specs.declared.LeafResult.{LeafResult}
 use Rattle.lookup.specs.declared.LeafResult.the-variants.{None as Nothing}
 use Rattle.lookup.specs.Lookup.{lookup, lookupOrigin, placeAsked, found, withOrigin}
@@ -174,6 +177,13 @@ no-rows-become-no-view v =
 image-empty : image noRows ≡ []
 unfolding image imageIn tabulate
 image-empty = ap image cleared-held ∙ ap (λ (o : List ℕ). imageIn o emptyTable) row-order
+
+-- snp_cpuid_table_fingerprint: the SHA-256 of no bytes, which `sha256sum` gives of an empty file
+pub no-rows-fingerprint : fingerprint noRows
+    ≡ 0xe3 ∷ 0xb0 ∷ 0xc4 ∷ 0x42 ∷ 0x98 ∷ 0xfc ∷ 0x1c ∷ 0x14 ∷ 0x9a ∷ 0xfb ∷ 0xf4 ∷ 0xc8 ∷ 0x99 ∷ 0x6f ∷ 0xb9 ∷ 0x24 ∷ 0x27 ∷ 0xae ∷ 0x41 ∷ 0xe4 ∷ 0x64
+    ∷ 0x9b ∷ 0x93 ∷ 0x4c ∷ 0xa4 ∷ 0x95 ∷ 0x99 ∷ 0x1b ∷ 0x78 ∷ 0x52 ∷ 0xb8 ∷ 0x55 ∷ []
+unfolding fingerprint
+no-rows-fingerprint = ap sha256 image-empty ∙ Facts.empty
 
 pub no-rows-write-no-bytes : (buffer : List ℕ)
     → (writtenNumbers (writeFront (image noRows) buffer .answer) ≡ record { number = 0; leaf = 0; «has_subleaf» = 0; subleaf = 0; s = 0; length = 0 })
