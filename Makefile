@@ -82,7 +82,8 @@ target/staticlib/libsnp_cpuid.a: crates.txt $(shell find crates/*/src crates/*/s
 
 # cargo tells what is to be built again
 command: $(LIBRARY)
-	$(cargo)@cd rust && SNP_CPUID_LIB=$(abspath $(dir $(LIBRARY))) RUSTFLAGS='$(STATIC)' cargo build --offline --quiet --release --target-dir ../target/rust
+	$(cargo)@cd rust && SNP_CPUID_LIB=$(abspath $(dir $(LIBRARY))) RUSTFLAGS='$(STATIC)' \
+	    cargo build --offline --quiet --release --target-dir ../target/rust
 
 # an installation, in a folder of its own
 stage: command

@@ -133,5 +133,5 @@ fn what_is_no_table_and_no_dump() {
         assert!(ran.status == 2 && ran.line().starts_with(&words), "{words}: {ran:?}");
     }
     let both = run(&["check", "-", "--dump", "-"]);
-    assert!(both.status == 2 && both.line().starts_with("check: the table and the dump cannot both be standard input"));
+    assert!(both.status == 2 && both.line().starts_with("check: standard input can be one file only"));
 }

@@ -351,7 +351,7 @@ fn standard_input_and_bad_usage() {
     let help = "(see 'snp-cpuid fleet --help')";
     for (arguments, words) in [
         (&["fleet"][..], format!("fleet: PAGES is missing {help}")),
-        (&["fleet", "-", "-"], format!("fleet: standard input can be one server only {help}")),
+        (&["fleet", "-", "-"], format!("fleet: standard input can be one file only {help}")),
         (&["fleet", EPYC, "--html", "-", "--json"], format!("fleet: --html - and --json both go to standard output {help}")),
         (&["fleet", EPYC, "no-such-file"], "no-such-file: no such file or directory".into()),
         (&["fleet", EPYC, "/dev/zero"], "/dev/zero: longer than 64 MiB".into()),

@@ -164,7 +164,7 @@ fn bad_usage() {
     for (arguments, words) in [
         (&["pool"][..], "pool: PAGES is missing"),
         (&["pool", "-o", "x"], "pool: PAGES is missing"),
-        (&["pool", "-", EPYC, "-"], "pool: standard input can be the pages of one server only"),
+        (&["pool", "-", EPYC, "-"], "pool: standard input can be one file only"),
         (&["pool", EPYC, EPYC, "-o"], "pool: -o needs a file name"),
         (&["pool", EPYC, EPYC, "--enforce"], "pool: no option '--enforce'"),
         (&["pool", EPYC, EPYC, "--edition", "one"], "pool: --edition 'one' is no decimal number of up to 32 bits"),

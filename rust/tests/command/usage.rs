@@ -73,7 +73,7 @@ fn shared_options_are_told_alike() {
 
 #[test]
 fn bad_usage_is_status_2_and_one_line() {
-    let cases: [(&[&str], &str); 19] = [
+    let cases: [(&[&str], &str); 20] = [
         (&[], "no command"),
         (&["tables"], "no command 'tables'"),
         (&["help", "nothing"], "no command 'nothing'"),
@@ -92,7 +92,8 @@ fn bad_usage_is_status_2_and_one_line() {
         (&["nearest"], "PAGES is missing"),
         (&["explain"], "LINE is missing"),
         (&["explain", "3 0000000D", "12"], "one operand too many"),
-        (&["compare", "-", "-"], "A and B cannot both be standard input"),
+        (&["compare", "-", "-"], "compare: standard input can be one file only"),
+        (&["fleet", "-", "--since", "-"], "fleet: standard input can be one file only"),
     ];
     for (arguments, words) in cases {
         let ran = run(arguments);

@@ -4,7 +4,7 @@ use crate::edits::Edit;
 use crate::features::{EAX, EBX, ECX, EDX};
 use crate::numbers::decimal;
 use crate::standing::Standing;
-use crate::topology::Numbers;
+use crate::topology::{Numbers, own_bits};
 use crate::words::counted;
 
 /// Cores and threads of each.
@@ -51,14 +51,9 @@ impl Size {
         let edit = |leaf, subleaf, register, value| Edit { leaf, subleaf, register, value };
         let mut edits: Vec<Edit> = vec![];
         for (leaf, register, value) in self.numbers().registers(|leaf| old(leaf, None).unwrap_or_default()) {
-            // the initial APIC id of 1.EBX, and the unit's number of 8000001Eh.EBX
-            let own = match (leaf, register) {
-                (0x1, EBX) => 0xFF00_0000,
-                (0x8000_001E, EBX) => 0xFF,
-                _ => 0,
-            };
-            edits.push(edit(leaf, 0, register, value & !own));
+            edits.push(edit(leaf, 0, register, value & !own_bits(leaf, register)));
         }
+        // a guest's processors are of one node
         edits.extend([edit(0x8000_001E, 0, EAX, 0), edit(0x8000_001E, 0, ECX, 0)]);
         edits.extend((0..4).filter_map(|k| Some(edit(0x8000_001D, k, EAX, self.sharing(old(0x8000_001D, Some(k))?[EAX])))));
         edits.retain(|edit| standing.first(edit.leaf, crate::masks::kept(edit.leaf, edit.subleaf).and_then(|kept| kept.subleaf)).is_some());

@@ -81,7 +81,7 @@ fn run(mut given: impl Iterator<Item = OsString>) -> Result<(), Failure> {
             let command = command(&first)?;
             match parse::parse(command, given)? {
                 None => output::print(help::of_command(command)),
-                Some(arguments) => output::not_onto_input(command, &arguments).and_then(|()| (command.run)(&arguments)),
+                Some(arguments) => command.run_on(&arguments),
             }
         }
     }

@@ -79,7 +79,12 @@ impl Value {
 
     /// Whether it is the name of a file.
     pub fn is_file(&self) -> bool {
-        matches!(self, Value::Output(_) | Value::Input(_))
+        self.is_input() || self.is_output()
+    }
+
+    /// Whether it is the name of a file that is read.
+    pub fn is_input(&self) -> bool {
+        matches!(self, Value::Input(_))
     }
 
     /// Whether it is the name of a file that is written.

@@ -1,13 +1,12 @@
 //! Writing: text to standard output, files whole or not at all, and lines to standard error.
 
 use crate::arguments::Arguments;
-use crate::command::Command;
 use crate::failure::Failure;
 use crate::input::{reason, shown};
 use crate::json::{self, Json};
 use crate::option::{Opt, Value};
 use crate::wrap::told;
-use std::ffi::{OsStr, OsString};
+use std::ffi::OsStr;
 use std::fs::{self, File, OpenOptions};
 use std::io::{self, BufWriter, ErrorKind, IsTerminal, Write};
 use std::os::unix::fs::MetadataExt;
@@ -106,16 +105,7 @@ fn printed(written: io::Result<()>) -> Result<(), Failure> {
     }
 }
 
-/// Refuses an output that is one of the inputs: they would be gone.
-pub fn not_onto_input(command: &Command, arguments: &Arguments) -> Result<(), Failure> {
-    let (outputs, inputs): (Vec<&Opt>, Vec<&Opt>) =
-        command.options().filter(|option| option.value.is_file()).partition(|option| option.value.is_output());
-    let named = |options: &[&Opt]| options.iter().filter_map(|option| arguments.value(option.name())).collect::<Vec<_>>();
-    let inputs = [named(&inputs), arguments.operands.iter().map(OsString::as_os_str).collect()].concat();
-    named(&outputs).into_iter().filter(|name| *name != "-").try_for_each(|output| not_one_of(output, inputs.iter().copied()))
-}
-
-/// Refuses an output that is one of these files.
+/// Refuses an output that is one of these files: what it holds would be gone.
 pub fn not_one_of<'a>(output: &OsStr, mut inputs: impl Iterator<Item = &'a OsStr>) -> Result<(), Failure> {
     match inputs.find(|input| same_file(input, output)) {
         Some(input) => Err(Failure::Bad(format!("{}: not written: it is the input {}", shown(output), shown(input)))),

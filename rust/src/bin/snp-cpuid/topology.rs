@@ -1,7 +1,7 @@
 //! The five numbers that a server tells its topology by: why a refusal was given for them, and the nearest that are accepted. The tests send
 //! these through the library, for every size (tests/command/reasons.rs).
 
-use crate::features::{EBX, ECX, EDX};
+use crate::features::{EAX, EBX, ECX, EDX};
 use snp_cpuid::TopologyError;
 
 /// The numbers, as document 01 calls them.
@@ -21,6 +21,16 @@ pub struct Numbers {
 
 /// The registers that have them: leaf, register, the numbers' bits.
 const PLACES: [(u32, usize, u32); 4] = [(0x1, EBX, 0x00FF_0000), (0x1, EDX, 1 << 28), (0x8000_0008, ECX, 0xF0FF), (0x8000_001E, EBX, 0xFF00)];
+
+/// The bits of a register that tell one processor from another: its APIC number, its core and its node.
+pub fn own_bits(leaf: u32, register: usize) -> u32 {
+    match (leaf, register) {
+        (0x1, EBX) => 0xFF00_0000,
+        (0xB, EDX) | (0x8000_001E, EAX) => u32::MAX,
+        (0x8000_001E, EBX | ECX) => 0xFF,
+        _ => 0,
+    }
+}
 
 impl Numbers {
     /// The numbers of a server whose registers of a leaf are given.

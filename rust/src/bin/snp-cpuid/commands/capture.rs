@@ -11,6 +11,7 @@ use crate::masks::required;
 use crate::option::Opt;
 use crate::output;
 use crate::pages::{Entry, two_pages};
+use crate::topology::own_bits;
 use crate::words::{counted, text};
 use std::ffi::OsStr;
 use std::io;
@@ -71,12 +72,7 @@ fn asked() -> io::Result<(Vec<Entry>, String)> {
     Ok((rows, note))
 }
 
-/// The registers of a row without what tells one processor from another: its APIC number, its core and its node.
-fn as_on_processor_0(leaf: u32, [eax, ebx, ecx, edx]: [u32; 4]) -> [u32; 4] {
-    match leaf {
-        0x1 => [eax, ebx & 0x00FF_FFFF, ecx, edx],
-        0xB => [eax, ebx, ecx, 0],
-        0x8000_001E => [0, ebx & !0xFF, ecx & !0xFF, edx],
-        _ => [eax, ebx, ecx, edx],
-    }
+/// The registers of a row without what tells one processor from another.
+fn as_on_processor_0(leaf: u32, registers: [u32; 4]) -> [u32; 4] {
+    std::array::from_fn(|register| registers[register] & !own_bits(leaf, register))
 }

@@ -56,9 +56,6 @@ a file that gives no table, a processor that cannot be asked, or a dump without 
 
 fn run(arguments: &Arguments) -> Result<(), Failure> {
     let building = Building::of(arguments, COMMAND.name)?;
-    if arguments.value(DUMP.name()).is_some_and(|file| file == "-" && arguments.operands[0] == "-") {
-        return Err(Failure::usage(COMMAND.name, "the table and the dump cannot both be standard input"));
-    }
     // a list that is refused gives no table either: status 1 would say that the guest differs
     let source = building.heeding(&arguments.operands[0]).map_err(|failure| match failure {
         Failure::No { line, .. } => Failure::Bad(line),

@@ -104,9 +104,6 @@ standard error says; 2 bad usage or a file that cannot be read.
 };
 
 fn run(arguments: &Arguments) -> Result<(), Failure> {
-    if arguments.operands.iter().all(|file| file == "-") {
-        return Err(Failure::usage(COMMAND.name, "A and B cannot both be standard input"));
-    }
     let building = Building::of(arguments, COMMAND.name)?;
     let server = |name, source: Source| {
         let (table, standing) = (source.table(), Standing::of(&source.pages));

@@ -43,9 +43,6 @@ file that cannot be read.
 };
 
 fn run(arguments: &Arguments) -> Result<(), Failure> {
-    if arguments.operands.iter().all(|file| file == "-") {
-        return Err(Failure::usage(COMMAND.name, "A and B cannot both be standard input"));
-    }
     let building = Building::of(arguments, COMMAND.name)?;
     let source = |place: usize| building.pages_of(&arguments.operands[place], read(&arguments.operands[place])?);
     let sources = [source(0)?, source(1)?];

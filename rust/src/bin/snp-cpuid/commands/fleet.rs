@@ -65,9 +65,6 @@ opened or is no server's, a report that cannot be read, or no server at all.
 };
 
 fn run(arguments: &Arguments) -> Result<(), Failure> {
-    if arguments.operands.iter().filter(|file| *file == "-").count() > 1 {
-        return Err(Failure::usage(COMMAND.name, "standard input can be one server only"));
-    }
     let building = Building::of(arguments, COMMAND.name)?;
     let to_output = arguments.value(HTML.name()).is_some_and(|file| file == "-");
     if to_output && building.json() {

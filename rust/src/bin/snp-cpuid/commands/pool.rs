@@ -51,9 +51,6 @@ usage or a file that cannot be read or written.
 
 fn run(arguments: &Arguments) -> Result<(), Failure> {
     let files = &arguments.operands;
-    if files.iter().filter(|file| *file == "-").count() > 1 {
-        return Err(Failure::usage(COMMAND.name, "standard input can be the pages of one server only"));
-    }
     output::json_apart(arguments, COMMAND.name)?;
     let building = Building::of(arguments, COMMAND.name)?;
     let sources = files.iter().map(|file| building.source(file)?.into_pages(&building)).collect::<Result<Vec<_>, _>>()?;
