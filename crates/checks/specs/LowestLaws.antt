@@ -17,7 +17,7 @@ use Rattle.bits.specs.SearchLaws.{every-at}
 
 -- bit z of n is its lowest, and n ∧ (n - 1) has all others
 record Lowest (n z : ℕ) : Type 0 where
-  pub set : bit z n ≡ 1
+  pub shown : bit z n ≡ 1
   pub below : (j : ℕ) → j < z → bit j n ≡ 0
   pub gone : (j : ℕ) → j ≤ z → bit j (bitAnd n (n - 1)) ≡ 0
   pub above : (j : ℕ) → z < j → bit j (bitAnd n (n - 1)) ≡ bit j n
@@ -28,7 +28,7 @@ odd n e =
     let r : (n - 1) % 2 ≡ 0 = omega arith in
     let c : bitAnd n (n - 1) ≡ n / 2 * 2 = and-step n (n - 1) ∙ rw (q, r, e, and-self (n / 2)) (omega arith) in
     record {
-      set = bit-zero n ∙ e;
+      shown = bit-zero n ∙ e;
       below = λ j h. absurd (omega arith);
       gone = λ j h. let z : j ≡ 0 = omega arith in rw (z, c) (bit-zero (n / 2 * 2) ∙ omega arith);
       above = above c;
@@ -41,7 +41,7 @@ odd n e =
         ap (bit (suc j)) c ∙ bit-suc j (n / 2 * 2) ∙ ap (bit j) d ∙ sym (bit-suc j n)
 
 even : (n z : ℕ) → ¬ (n ≡ 0) → n % 2 ≡ 0 → Lowest (n / 2) z → Lowest n (suc z)
-even n z p e l = record { set = bit-suc z n ∙ l .set; below = below; gone = gone; above = above }
+even n z p e l = record { shown = bit-suc z n ∙ l .shown; below = below; gone = gone; above = above }
   where
     half : bitAnd n (n - 1) / 2 ≡ bitAnd (n / 2) (n / 2 - 1)
     half =
@@ -122,11 +122,11 @@ left-taken {x} {n} {k} p e = go (trailingZeros 64 n) (lowest 64 n e (p .fits))
   where
     go : (z : ℕ) → Lowest n z → Taken x n k z
     go z w =
-        let from : k ≤ z = at-least (λ l. let q : _≡_ {A = ℕ} 0 1 = sym (p .past z l) ∙ w .set in omega arith) in
+        let from : k ≤ z = at-least (λ l. let q : _≡_ {A = ℕ} 0 1 = sym (p .past z l) ∙ w .shown in omega arith) in
         record {
           from = from;
-          inside = below (λ l. let q : _≡_ {A = ℕ} 0 1 = sym (no-bit n z (p .fits) l) ∙ w .set in omega arith);
-          here = bit-has z x (sym (p .left z from) ∙ w .set);
+          inside = below (λ l. let q : _≡_ {A = ℕ} 0 1 = sym (no-bit n z (p .fits) l) ∙ w .shown in omega arith);
+          here = bit-has z x (sym (p .left z from) ∙ w .shown);
           between = λ j a b. bit-has-not j x (sym (p .left j a) ∙ w .below j b);
           next = record {
             past = λ j a. w .gone j (omega arith);
