@@ -93,8 +93,8 @@ and it promises that B's table is at least A's under either edition of the AVX r
 differ where a rule makes the tables agree. The library decides both by a proved function.
 
 A or B may be an image: then its table is compared, and of entries nothing is said. Give the pages
-that the servers have, or both from dumps of the same kind: pages made from the text
-of to-dump hold what the table's rules have set and cleared, such as BTC_NO.
+that the servers have, or both from dumps of the same kind: pages made from the text of to-dump hold
+what the table's rules have set and cleared, such as BTC_NO.
 ",
     status: "\
 Exit status: 0 same or yes, with --same only same; else 1, also where one of them is refused, which
