@@ -15,7 +15,7 @@ pub const FINGERPRINT_BYTES: usize = 32;
 /// ```
 /// use snp_cpuid::{Fingerprint, Options, Table};
 ///
-/// let pages = std::fs::read("../tests/data/epyc-milan.pages").unwrap();
+/// let pages = std::fs::read("epyc-milan.pages").unwrap();
 /// let table = Table::build(&pages, Options::new()).unwrap();
 /// let fingerprint = table.fingerprint();
 /// // what sha256sum prints of the image
@@ -45,7 +45,7 @@ impl From<[u8; FINGERPRINT_BYTES]> for Fingerprint {
 /// ```
 /// use snp_cpuid::{Options, Refusal, Table, fingerprint};
 ///
-/// let pages = std::fs::read("../tests/data/epyc-milan.pages").unwrap();
+/// let pages = std::fs::read("epyc-milan.pages").unwrap();
 /// let table = Table::build(&pages, Options::new()).unwrap();
 /// assert_eq!(fingerprint(&pages, Options::new()), Ok(table.fingerprint()));
 /// assert_eq!(fingerprint(&[], Options::new()), Err(Refusal::PagesLength));
