@@ -45,7 +45,7 @@ typedef char snp_cpuid_calls_by_system_v[__builtin_types_compatible_p(void (*)(i
 
 /* The version of the library that this header belongs to. */
 #define SNP_CPUID_VERSION_MAJOR 0
-#define SNP_CPUID_VERSION_MINOR 2
+#define SNP_CPUID_VERSION_MINOR 3
 #define SNP_CPUID_VERSION_PATCH 0
 
 /* A symbol of the library that has the declarations of this header. The functions of parts 1 and 2 refer to it, those over a table that is there
