@@ -173,6 +173,13 @@ static struct snp_cpuid_found row_of(struct snp_cpuid_guest_found g)
     return (struct snp_cpuid_found){g.found, g.eax, g.ebx, g.ecx, g.edx, g.origin, g.page, g.entry};
 }
 
+/* The size that a caller keeps: of this state where the table allows it, else of the state with which a processor starts. */
+static uint32_t kept_size(uint64_t xcr0, uint64_t xss)
+{
+    struct snp_cpuid_state state = snp_cpuid_table_state(table.registers, table.origins, xcr0, xss);
+    return state.number ? snp_cpuid_table_state(table.registers, table.origins, 1, 0).size : state.size;
+}
+
 static void compare_sets(const struct maker *m, const struct input *in, bool avic, uint32_t edition)
 {
     uint8_t a[ROOM] = {0}, b[ROOM] = {0};
@@ -203,8 +210,9 @@ static void compare_rows(const struct maker *m, uint32_t leaf, bool has, uint32_
         struct snp_cpuid_guest_found b = m->guest_find(table.registers, table.origins, 777, xcr0, xss, i, leaf, has, subleaf, enforce);
         if (a.number != b.number || !same_row(row_of(a), row_of(b)))
             differ(m->name, "guest's rows");
-        if (!same_row(snp_cpuid_table_guest_find_kept(table.registers, table.origins, 777, xcr0, xss, i, 99, leaf, has, subleaf, enforce),
-                      m->guest_find_kept(table.registers, table.origins, 777, xcr0, xss, i, 99, leaf, has, subleaf, enforce)))
+        uint32_t size = kept_size(xcr0, xss);
+        if (!same_row(snp_cpuid_table_guest_find_kept(table.registers, table.origins, 777, xcr0, xss, i, size, leaf, has, subleaf, enforce),
+                      m->guest_find_kept(table.registers, table.origins, 777, xcr0, xss, i, size, leaf, has, subleaf, enforce)))
             differ(m->name, "guest's rows with a kept size");
     }
 }
