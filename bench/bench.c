@@ -454,13 +454,19 @@ static void make_inputs(const uint8_t *pages)
     inputs[4] = (struct input){"sixteen full pages, the last entry refused by 17", unclean, 16 * 4096};
 }
 
-static void measure_all(void)
+/* the answers of all makers beside the port's: nothing is timed before they are the same */
+static void compare_all(void)
 {
     for (int k = PORT + 1; k < N_MAKERS; k++)
         compare(&MAKERS[k]);
 #ifdef WITH_CRATE
     compare(&CRATE);
 #endif
+}
+
+static void measure_all(void)
+{
+    compare_all();
     for (int k = 0; k < N_WORKS; k++)
         for (int i = 0; i < WORKS[k].inputs; i++) {
 #ifdef WITH_RUST
@@ -521,14 +527,16 @@ int main(int argc, char **argv)
     const char *count = argc == 3 ? argv[2] : "";
     FILE *f = argc == 2 || argc == 3 ? fopen(argv[1], "rb") : NULL;
     if (!f || fread(pages, 1, sizeof pages, f) != sizeof pages) {
-        fprintf(stderr, "usage: bench PAGES [functions|loops] (two pages)\n");
+        fprintf(stderr, "usage: bench PAGES [compare|functions|loops] (two pages)\n");
         return 2;
     }
     fclose(f);
     make_inputs(pages);
     snp_cpuid_table_build(pages, sizeof pages, false, EDITION, table.registers, table.origins);
     kept = snp_cpuid_table_state(table.registers, table.origins, CPU.xcr0, CPU.xss);
-    if (!strcmp(count, "functions"))
+    if (!strcmp(count, "compare"))
+        compare_all();
+    else if (!strcmp(count, "functions"))
         count_functions();
 #ifdef WITH_CRATE
     else if (!strcmp(count, "loops"))
