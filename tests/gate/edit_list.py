@@ -1,7 +1,7 @@
 #!/usr/bin/env python3
 """edit_list.py: the list of edits that must fail as Markdown, made from the comments in crates/NAME/must-fail/LABEL.edit.
 
-Without a word it prints the list; --write puts it between the two marks in docs/REVIEW.md, and --check fails where the page has another one. Order
+Without a word it prints the list; --write puts it between the two marks in docs/EDITS.md, and --check fails where the page has another one. Order
 and headings are those of crates.txt. A row has the edit and its comment, which says what wrong answer or reading the edit makes. An edit without one
 is told, and there is no list then.
 """
@@ -32,7 +32,7 @@ def rows(root):
     return [(heading, edits) for heading, edits in found if edits]
 
 
-LIST = MadeList('docs/REVIEW.md', 'edits', 'edit_list.py', HEAD, rows)
+LIST = MadeList('docs/EDITS.md', 'edits', 'edit_list.py', HEAD, rows)
 
 
 def main(words, root=ROOT):

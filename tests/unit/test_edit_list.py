@@ -46,7 +46,7 @@ class Lists(unittest.TestCase):
         for change in {'lost': f'# A row is kept.\n{CHANGE}'}, {'more': f'# One more.\n{CHANGE}'}:
             status, said, then = self.ask(['--check'], **change)
             self.assertEqual((status, then), (1, PAGE))
-            self.assertRegex(said, r'^docs/REVIEW\.md:1[56] is not as made \(tests/gate/edit_list\.py --write\)')
+            self.assertRegex(said, r'^docs/EDITS\.md:1[56] is not as made \(tests/gate/edit_list\.py --write\)')
 
     def test_an_edit_without_a_comment(self):
         for text in CHANGE, f'#\n{CHANGE}', f'{CHANGE}# A row is lost.\n', '':
