@@ -76,14 +76,14 @@ enum snp_cpuid_number {
     SNP_CPUID_LIST_LENGTH = 10, /* the list's length does not fit its count */
     SNP_CPUID_LIST_ROWS = 11, /* the list has more than 64 rows for one page */
     SNP_CPUID_LIST_FIELDS = 12, /* a flag of the list is not 0 or 1, or a word that must be zero is not */
-    SNP_CPUID_STATE_BEYOND_TABLE = 13, /* XCR0 or XSS is beyond the table */
+    SNP_CPUID_STATE_BEYOND_TABLE = 13, /* the table does not allow this XCR0 or XSS */
     SNP_CPUID_COMPACT_SIZE_TOO_LARGE = 14, /* the compacted save area's size does not fit 32 bits */
     SNP_CPUID_UNKNOWN_EDITION = 15, /* the edition of the AVX rule is neither 1 nor 2 */
     SNP_CPUID_EDITION_BACK = 16, /* a table cannot go from edition 2 back to 1 */
     SNP_CPUID_RESERVED_BYTES = 17, /* a reserved byte of an entry is not zero; names leaf */
     SNP_CPUID_POOL_SETS = 18, /* a pool takes 2 to 16 page sets, whose lengths sum to the bytes */
     SNP_CPUID_POOL_DIFFERS = 19, /* the pool's servers differ elsewhere than in features */
-    SNP_CPUID_NOTHING_DECIDES = 20 /* no single bit of the results decides */
+    SNP_CPUID_NOTHING_DECIDES = 20 /* no single result bit changes the answer */
 };
 
 /* A refusal: its number, 0 where there is none, and what it names. */
@@ -148,7 +148,7 @@ struct snp_cpuid_query {
  *
  * registers has EAX, EBX, ECX and EDX of each of 88 places, by rising leaf and subleaf: 0, 1, 5, 7.0, B.0, B.1, D.0 to D.63, 80000000h to 80000008h,
  * 8000000Ah, 80000019h, 8000001Ah, 8000001Dh.0 to .3, 8000001Eh and 8000001Fh. origins says of each place where its row came from: 0 there is no row,
- * 1 the builder made it, 3 it is not known, else 4 + 64 * page + entry; 2, which no function writes, is told as the first entry of page 0. A place
+ * 1 the builder made it, 3 it is not known, else 4 + 64 * page + entry; 2 is written by no function and read as page 0 entry 0. A place
  * has a row exactly where its origin is not 0.
  *
  * What builds, pools or reads a table writes both arrays whole, with zeros at places without a row. Where a caller's own memory has other numbers at
@@ -441,12 +441,12 @@ struct snp_cpuid_compared {
     uint32_t register_index; /* an enum snp_cpuid_register */
 };
 
-/* Compares two servers by their pages, under the same choices. Each row of A's table must have its entry in B's pages, but for rows 0 and 80000000h,
- * which are made here. Registers are compared as masked, D.0.EAX with bits 0 and 1 set on both sides, whatever the edition. Feature registers of B
- * must have every bit of A's; D.0.ECX and all of B.0 and B.1 are left free; all else must be equal, bit 28 of 1.EDX too. An edition that is neither 1
- * nor 2 is answer 1 with number 15. After a yes, building B gives a table with every row of A's, at least A's bits in every feature register, a save
- * area no smaller and all else equal; or refuses it by 3, for a subleaf of leaf Dh that B's own further state needs, or by 5. So build B's table too
- * before a guest of A moves there. */
+/* Compares two servers by their pages, under the same choices. Each row of A's table must have its entry in B's pages, except rows 0 and 80000000h,
+ * which the library makes itself. Registers are compared as masked, D.0.EAX with bits 0 and 1 set on both sides, whatever the edition. Feature
+ * registers of B must have every bit of A's; D.0.ECX and all of B.0 and B.1 are left free; all else must be equal, bit 28 of 1.EDX too. An edition
+ * that is neither 1 nor 2 is answer 1 with number 15. After a yes, building B gives a table with every row of A's, at least A's bits in every feature
+ * register, a save area no smaller and all else equal; or refuses it by 3, for a subleaf of leaf Dh that B's own further state needs, or by 5. So
+ * build B's table too before a guest of A moves there. */
 SNP_CPUID_DECIDES struct snp_cpuid_compared snp_cpuid_compare_pages(struct snp_cpuid_pages_move move, struct snp_cpuid_options options);
 
 /* Where the first entry for a leaf stands: number 0 with found 1, its page and its position on the page, both counted from 0, or with found 0 and
@@ -460,8 +460,8 @@ struct snp_cpuid_first {
 
 /* Finds the first entry for a leaf that a table keeps, and for the subleaf where the leaf has them; of the query leaf and subleaf alone are read. The
  * entries are those below their page's count, pages in order; one of leaf Dh counts on page 1 alone. Whether a table is given does not matter: where
- * it is, and has the row, the entry is the row's origin, but for B.0 and B.1, which are made here. After a comparison that names a leaf, this tells
- * which entries of A and B differ. Nothing is found for a leaf or subleaf that no table keeps, 0 and 80000000h among them. */
+ * it is, and has the row, the entry is the row's origin, except for B.0 and B.1, which the library makes itself. After a comparison that names a
+ * leaf, this tells which entries of A and B differ. Nothing is found for a leaf or subleaf that no table keeps, 0 and 80000000h among them. */
 static inline struct snp_cpuid_first snp_cpuid_find_entry(struct snp_cpuid_bytes pages, struct snp_cpuid_query query);
 
 /* The nearest bit that matters: number 0 with the bit's page, entry, register and bit, all from 0; else 15, 1, 2, 17 or 20, and no bit. */
@@ -665,14 +665,14 @@ static inline const char *snp_cpuid_words(uint32_t number)
     case SNP_CPUID_LIST_LENGTH: return "the list's length does not fit its count";
     case SNP_CPUID_LIST_ROWS: return "the list has more than 64 rows for one page";
     case SNP_CPUID_LIST_FIELDS: return "a flag of the list is not 0 or 1, or a word that must be zero is not";
-    case SNP_CPUID_STATE_BEYOND_TABLE: return "XCR0 or XSS is beyond the table";
+    case SNP_CPUID_STATE_BEYOND_TABLE: return "the table does not allow this XCR0 or XSS";
     case SNP_CPUID_COMPACT_SIZE_TOO_LARGE: return "the compacted save area's size does not fit 32 bits";
     case SNP_CPUID_UNKNOWN_EDITION: return "the edition of the AVX rule is neither 1 nor 2";
     case SNP_CPUID_EDITION_BACK: return "a table cannot go from edition 2 back to 1";
     case SNP_CPUID_RESERVED_BYTES: return "a reserved byte of an entry is not zero";
     case SNP_CPUID_POOL_SETS: return "a pool takes 2 to 16 page sets, whose lengths sum to the bytes";
     case SNP_CPUID_POOL_DIFFERS: return "the pool's servers differ elsewhere than in features";
-    case SNP_CPUID_NOTHING_DECIDES: return "no single bit of the results decides";
+    case SNP_CPUID_NOTHING_DECIDES: return "no single result bit changes the answer";
     default: return "no such number";
     }
 }
@@ -728,7 +728,7 @@ static inline const char *snp_cpuid_message_text(struct snp_cpuid_refusal refusa
         return "the servers of the pool differ, in a row that all their tables have, elsewhere than in feature bits or the "
                "size of the save area";
     case SNP_CPUID_NOTHING_DECIDES:
-        return "no single bit of the results decides over the answer";
+        return "no single result bit changes the answer when it is flipped";
     default: return snp_cpuid_words(refusal.number);
     }
 }

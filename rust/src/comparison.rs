@@ -9,8 +9,9 @@ use core::fmt;
 #[must_use = "it says whether the guest may move"]
 #[non_exhaustive]
 pub enum Comparison {
-    /// They have. Building B then gives a table with every row of A's, at least A's bits in every feature register, a save area no smaller and all
-    /// else equal, to which a guest of A may move; or it refuses B by 3, for a subleaf of leaf Dh that B's own further state needs, or by 5.
+    /// Yes, B's pages have it all. Building B then gives a table with every row of A's, at least A's bits in every feature register, a save area no
+    /// smaller and all else equal, to which a guest of A may move; or it refuses B by 3, for a subleaf of leaf Dh that B's own further state needs, or
+    /// by 5.
     Rises,
     /// A itself gives no table, so it has no guest.
     RefusedA(Refusal),

@@ -130,7 +130,7 @@ impl Table {
         }
     }
 
-    /// Whether the table gives a processor this XCR0 and XSS. The answer stays true until either changes, or the table does.
+    /// Whether the table allows a processor this XCR0 and XSS. The answer stays true until either changes, or the table does.
     ///
     /// # Errors
     ///

@@ -56,7 +56,7 @@ impl Bit {
 /// // its first entry is of leaf 0, which is made here; the second, leaf 1, is in the table from bit 0 of EAX on
 /// assert_eq!(nearest(&pages, Options::new()), Ok(Bit { page: 0, entry: 1, register: Register::Eax, bit: 0 }));
 ///
-/// // a server without INVLPGB, bit 3 of 80000008h.EBX, is refused, and no other bit decides over that
+/// // a server without INVLPGB, bit 3 of 80000008h.EBX, is refused, and no other bit changes that
 /// let bit = Bit { page: 0, entry: 19, register: Register::Ebx, bit: 3 };
 /// assert_eq!(pages[bit.entry_start()..][..4], 0x8000_0008u32.to_le_bytes());
 /// bit.flip(&mut pages);

@@ -45,7 +45,7 @@ pub enum Refusal {
     PoolSets,
     /// 19: the servers of a pool differ, in a row that all their tables have, elsewhere than in feature bits or the save area's size.
     PoolDiffers,
-    /// 20: no single bit of the pages' results decides over the answer.
+    /// 20: no single result bit of the pages changes the answer when it is flipped.
     NothingDecides,
 }
 

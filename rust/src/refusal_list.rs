@@ -110,6 +110,6 @@ pub(crate) const LIST: &[Line] = &[
     Line {
         number: 20,
         name: |_| Refusal::NothingDecides,
-        says: &[(When::Always, "no single bit of the results decides over the answer")],
+        says: &[(When::Always, "no single result bit changes the answer when it is flipped")],
     },
 ];

@@ -14,7 +14,7 @@ EXITS = (0, 0), (1, 0), (0xB, 1), (STATE, 0), (STATE, 1), (0x80000001, 7), (0x40
 APIC, XCR0, XSS = 5, 7, 0
 WORDS = {
     0: 'accepted', 1: "the pages' length is 0 or no multiple of 4096", 3: 'a required result is missing', 4: 'INVLPGB is unavailable',
-    13: 'XCR0 or XSS is beyond the table', 14: "the compacted save area's size does not fit 32 bits"}
+    13: 'the table does not allow this XCR0 or XSS', 14: "the compacted save area's size does not fit 32 bits"}
 SETS = {
     'shipped': MILAN,
     'every bit': spread(rich()),

@@ -13,8 +13,8 @@ Read are the comments of the .rt, .antt and .edit files under crates/, and READM
                specs/, or a word of the code beside the crates
 
 A word in capitals, * and .. in a path stand for any name (crates/NAME/must-fail/LABEL.edit); there must be one such path. Three documents name what is
-gone: docs/CHANGES.md and docs/HISTORY.md tell what has moved away, and only their links are checked; docs/DECISIONS.md tells what was not chosen, and its other names are
-not checked.
+gone: docs/CHANGES.md and docs/HISTORY.md tell what has moved away, and only their links are checked; docs/DECISIONS.md tells what was not chosen, and
+its other names are not checked.
 
 Each thing that is not there is a line FILE:LINE: what. The last line counts the documents and the names that are there, and the exit status is 0 only
 where none is missing.

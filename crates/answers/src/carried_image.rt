@@ -1,4 +1,4 @@
-// A carried image's answer as C and Rust are given it (document 02, P8): the answer comes in, a struct of plain numbers goes out.
+// A carried image's answer as C and Rust are given it (document 02, P8): a struct of plain numbers.
 use carry::in_image::CarriedImage;
 ghost use mathlib.Core.Path.{_≡_};
 ghost use Rattle.answers.specs.CarriedAnswers.{carriedNumbers};

@@ -1,4 +1,4 @@
-// A comparison's answer as C and Rust are given it: the answer comes in, a struct of plain numbers goes out.
+// A comparison's answer as C and Rust are given it: a struct of plain numbers.
 use compare::Compared;
 use register_kinds::Register;
 use table::Verdict;

@@ -1,5 +1,4 @@
-// Answers as C and Rust are given them. The answers of the crates below come in; structs of plain numbers go out, each documented in
-// include/snp_cpuid.h.
+// Answers as C and Rust are given them: structs of plain numbers, each documented in include/snp_cpuid.h, from the answers of the crates below.
 use buffer::Written;
 use counts::built_rows;
 use guest::GuestFound;

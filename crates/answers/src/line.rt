@@ -1,4 +1,4 @@
-// Lines of refusals as C and Rust are given them: what writing and reading one answers comes in, structs of plain numbers go out.
+// Lines of refusals as C and Rust are given them: what writing and reading one answers, as structs of plain numbers.
 use crate::written_numbers;
 use lines::LineRead;
 use lines::LineWritten;

@@ -1,4 +1,4 @@
-// The nearest bit as C and Rust are given it (document 02, P13): the answer comes in, a struct of plain numbers goes out.
+// The nearest bit as C and Rust are given it (document 02, P13): a struct of plain numbers.
 use nearest::Nearest;
 ghost use mathlib.Core.Path.{_≡_};
 ghost use Rattle.answers.specs.NearestAnswers.{nearestNumbers};

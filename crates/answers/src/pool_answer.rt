@@ -1,4 +1,4 @@
-// What a pool of servers gives, as C and Rust are given it (document 02, P12): the answer's parts come in, a struct of plain numbers goes out.
+// What a pool of servers gives, as C and Rust are given it (document 02, P12): the answer's parts as a struct of plain numbers.
 use table::Verdict;
 ghost use mathlib.Core.Path.{_≡_};
 ghost use Prim.Native.Nat.{_<_};

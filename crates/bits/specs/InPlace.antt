@@ -1,4 +1,4 @@
--- A list that is changed in place, from old to new: elements below the one that a loop has come to are as they will be, the others as they were.
+-- A list that a loop changes in place, from old to new. The invariant: elements below the loop's index have their new values, the others their old ones.
 use mathlib.Core.Path.{_≡_, _∙_}
 use mathlib.Core.List.{List}
 use mathlib.Core.Logic.{inl, inr}

@@ -1,4 +1,4 @@
-// Bits of registers. A number comes in; a bit of it, or the number with bits cleared, goes out.
+// Bits of registers: tests a bit of a number, and clears bits of a number.
 ghost use mathlib.Core.Path.{_≡_};
 ghost use Prim.Native.Nat.{_<_};
 ghost use Rattle.bits.specs.Bits.{has, clearUnless};

@@ -1,4 +1,4 @@
-// Lent buffers. Numbers and registers come in with an index; their bytes are stored there, the lowest first. What a write answers is said here too.
+// Lent buffers: stores numbers and registers at an index, the lowest byte first. What a write answers is said here too.
 use table::Refusal;
 use x86defs::CpuidResult;
 ghost use mathlib.Core.Path.{_≡_};

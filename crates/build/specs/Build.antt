@@ -32,7 +32,7 @@ editionVerdict n = refuseUnless (knownEdition n) UnknownEdition
 abbrev pub underEdition : ℕ → Choices
 underEdition n = record { «secure_avic» = false; edition = n }
 
--- the masked first entries: of what is chosen, only secure AVIC decides over them
+-- the masked first entries: of what is chosen, they depend on secure AVIC alone
 abbrev pub rowsFor : Choices → List ℕ → Rows
 rowsFor c s = rowsOf (c .«secure_avic») s
 

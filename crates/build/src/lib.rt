@@ -1,4 +1,4 @@
-// Building. Pages and the caller's choices come in; one table with its origins, in lent memory, or one refusal goes out.
+// Building: from pages and the caller's choices one table with its origins, in lent memory, or one refusal.
 use collect::walk_pages;
 use masking::PLACES;
 use memory::REGISTERS;

@@ -1,5 +1,5 @@
-// A running table carried from one edition of the AVX rule to another as its image. Lent bytes and one processor's state come in; the bytes become
-// the image under the edition wanted, or a refusal goes out and they stay as they were.
+// Carries a running table from one edition of the AVX rule to another as its image: lent bytes become the image under the edition wanted, or a
+// refusal leaves them as they were.
 use crate::carry;
 use image::write::write_table;
 use image_read::read_image;

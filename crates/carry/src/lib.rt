@@ -1,5 +1,5 @@
-// A running table carried from one edition of the AVX rule to another. A table in lent memory, or its image, and one processor's state come in; it
-// becomes the one under the edition wanted, or a refusal goes out and it stays as it was.
+// Carries a running table, in lent memory or as its image, from one edition of the AVX rule to another, under one processor's state. A refusal leaves
+// it as it was.
 use features::F16C;
 use features::XOP_AND_FMA4;
 use guest_state::InUse;

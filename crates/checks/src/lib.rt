@@ -1,5 +1,4 @@
-// The checks of document 01, each with its verdict, in specs/. In code those of one row: a row comes in; the masks of the extended state, or the
-// verdict on INVLPGB, go out.
+// The checks of document 01, each with its verdict, in specs/. In code those of one row: the masks of the extended state, and the verdict on INVLPGB.
 use table::Refusal;
 use table::Verdict;
 use x86defs::CpuidResult;

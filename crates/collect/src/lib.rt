@@ -1,5 +1,5 @@
-// From pages to the 88 rows. Pages come in; refusal 1, 2 or 17 goes out, or the first entry of each place, masked, and where it stands, in lent
-// memory. One walk collects the entries as they stand, and `mask` masks them there.
+// From pages to the 88 rows in lent memory: one walk collects the first entry of each place and where it stands, and `mask` masks the rows there.
+// Pages that are not lawful are refused by 1, 2 or 17.
 pub mod mask;
 
 use masking::PLACES;

@@ -1,4 +1,4 @@
-// Two servers compared. The pages of A and B come in; whether a guest of A may move to B goes out, or the first thing in the way.
+// Compares two servers by their pages: whether a guest of A may move to B, or the first thing in the way.
 use collect::walk_pages;
 use masking::PLACES;
 use memory::REGISTERS;
@@ -117,7 +117,7 @@ fn place_rises(place: usize, in_table: bool, a: CpuidResult, present: bool, b: C
     true
 }
 
-// Which registers of B's entry are as wanted, by the masks of their place.
+// Which registers of B's entry may replace A's, by the masks of their place.
 fn registers_rise(place: usize, a: CpuidResult, b: CpuidResult) -> RegistersRise
     requires { ⌜ place < places ⌝ }
     ensures { λ r. ⌜ r ≡ registersRise risesTest (kindsAt place) a b ⌝ }
@@ -126,7 +126,7 @@ fn registers_rise(place: usize, a: CpuidResult, b: CpuidResult) -> RegistersRise
     register_kinds::registers_rise(masks.features, masks.agreed, a, b)
 }
 
-// What fails at a place: B has no entry, or the first of its registers that is not as wanted.
+// What fails at a place: B has no entry, or the first of its registers that may not replace A's.
 fn failing_at(place: usize, a: CpuidResult, present: bool, b: CpuidResult) -> Compared
     requires { ⌜ place < places ⌝ }
     ensures { λ r. ⌜ r ≡ failingOf place a (rowWith present b) ⌝ }

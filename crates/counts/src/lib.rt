@@ -1,4 +1,5 @@
-// How many rows an accepted table has, 26 to 32, and how many bytes its image, 582 to 732. The row count of a table is told from its verdict and mask.
+// How many rows an accepted table has, 26 to 32, and how many bytes its image, 582 to 732. The row count of a table follows from its verdict and
+// mask.
 use table::Verdict;
 ghost use mathlib.Core.Path.{_≡_};
 ghost use Rattle.counts.specs.BuiltRows.{builtRows};

@@ -1,5 +1,4 @@
-// Numbers in ASCII. A number comes in, and its digits are stored into lent bytes; or bytes come in, and the number that digits there stand for goes
-// out.
+// Numbers in ASCII: stores a number's digits into lent bytes, and reads the number that digits stand for.
 ghost use mathlib.Core.Path.{_≡_};
 ghost use Prim.Native.Nat.{_+_, _≤_, _<_};
 ghost use lib.ListN.{length, drop};

@@ -1,4 +1,4 @@
--- What decides over feature bits, as the code holds it.
+-- The facts that switch feature bits on or off, as the code holds them.
 use Rattle.bits.specs.Bits.{has}
 use Rattle.x86defs.specs.declared.CpuidResult.{CpuidResult}
 use Rattle.x86defs.specs.ExtendedSevFeaturesEax as Sev

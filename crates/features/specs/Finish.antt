@@ -55,7 +55,7 @@ ruleAt i =
     (pick (eqb i Place.vendorAndMaxFunction) (made vendorAndMaxFunction)
     (pick (eqb i Place.extendedMaxFunction) (made extendedMaxFunction) (needed (neededAt i))))
 
--- what decides over feature bits of other rows: the two state masks, and whether TSC_AUX is virtualised
+-- the facts that switch feature bits of other rows on or off: the two state masks, and whether TSC_AUX is virtualised
 pub record Enabled : Type 0 where
   pub xfem : ℕ
   pub xss : ℕ

@@ -1,4 +1,4 @@
-// Feature rows. A masked row comes in with what other rows enable; the row without what is not enabled goes out.
+// Feature rows: how finishing changes a masked row, by what other rows enable.
 use checks::max_xss;
 use x86defs::CpuidResult;
 use x86defs::ibpb;
@@ -42,7 +42,7 @@ const BTC_NO: u32 = 0x20000000;
 
 const HYPERVISOR_PRESENT: u32 = 0x80000000;
 
-// What goes without YMM state, register by register.
+// The bits cleared when the YMM state is absent, one mask for each register.
 pub struct YmmClears {
     pub version_ecx: u32,
     pub features_ebx: u32,
@@ -72,7 +72,7 @@ impl YmmClears {
     }
 }
 
-// What decides over feature bits of other rows.
+// The facts that switch feature bits of other rows on or off.
 pub struct Enabled {
     pub xfem: u32,
     pub xss: u32,

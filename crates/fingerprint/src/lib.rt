@@ -1,4 +1,4 @@
-// The fingerprint of a table: the SHA-256 of its image. A table in lent memory comes in; 32 bytes go out.
+// The fingerprint of a table in lent memory: the SHA-256 of its image, 32 bytes.
 use image::image_length;
 use image::write::write_table;
 use masking::PLACES;

@@ -1,5 +1,4 @@
-// One flipped bit; specs/ has all flips of a page set in order. Registers and the number of a bit come in; the registers with that bit flipped go
-// out.
+// Flips one bit of four registers, by the bit's number; specs/ has all flips of a page set in order.
 use x86defs::CpuidResult;
 ghost use mathlib.Core.Path.{_≡_};
 ghost use Prim.Native.Nat.{_/_, _%_, _<_};

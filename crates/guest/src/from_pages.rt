@@ -1,5 +1,4 @@
-// What one processor's guest sees of a page set. Pages and the processor come in; building's refusal, the guest's refusal or the guest's
-// table goes out, in lent memory or as an image.
+// What one processor's guest sees of a page set: building's refusal, the guest's refusal, or the guest's table, in lent memory or as an image.
 use crate::Processor;
 use crate::guest_table;
 use buffer::Written;
@@ -18,28 +17,28 @@ ghost use Rattle.guest.specs.GuestPages.{guestPages, writeGuest};
 pub fn guest_pages(
     pages: &[u8],
     choices: Choices,
-    v: Processor,
+    processor: Processor,
     registers: &mut [u32; REGISTERS],
     origins: &mut [u64; PLACES],
 ) -> Verdict
-    ensures { λ r. ⌜ SeenIn (guestPages choices (now (pages .entry)) v)
+    ensures { λ r. ⌜ SeenIn (guestPages choices (now (pages .entry)) processor)
         (answer choices (now (pages .entry)) .origins) r (now (registers .exit)) (now (origins .exit)) ⌝ }
 {
     let verdict = build_into(pages, choices, registers, origins);
     if let Verdict::Refused(r) = verdict {
         return Verdict::Refused(r);
     }
-    guest_table(registers, origins, v)
+    guest_table(registers, origins, processor)
 }
 
 // The same as an image at the front of `out`. A refusal leaves the buffer as it was.
-pub fn write_guest_image(pages: &[u8], choices: Choices, v: Processor, out: &mut [u8]) -> Written
-    ensures { λ r. ⌜ r ≡ writeGuest choices (now (pages .entry)) v (now (out .entry)) .answer ⌝ }
-    ensures { λ _. ⌜ now (out .exit) ≡ writeGuest choices (now (pages .entry)) v (now (out .entry)) .buffer ⌝ }
+pub fn write_guest_image(pages: &[u8], choices: Choices, processor: Processor, out: &mut [u8]) -> Written
+    ensures { λ r. ⌜ r ≡ writeGuest choices (now (pages .entry)) processor (now (out .entry)) .answer ⌝ }
+    ensures { λ _. ⌜ now (out .exit) ≡ writeGuest choices (now (pages .entry)) processor (now (out .entry)) .buffer ⌝ }
 {
     let mut registers: [u32; REGISTERS] = [0; REGISTERS];
     let mut origins: [u64; PLACES] = [0; PLACES];
-    let verdict = guest_pages(pages, choices, v, &mut registers, &mut origins);
+    let verdict = guest_pages(pages, choices, processor, &mut registers, &mut origins);
     if let Verdict::Refused(r) = verdict {
         return Written::Refused(r);
     }

@@ -1,5 +1,4 @@
-// What one processor's guest sees. Pages, or a table in lent memory, and the processor's own numbers come in; one row, the guest's table or its image
-// goes out, or a refusal.
+// What one processor's guest sees, of pages or of a table in lent memory: one row, the guest's table or its image, or a refusal.
 use guest_state::InUse;
 use guest_state::save_register;
 use guest_state::state_in_use;
@@ -58,20 +57,20 @@ pub enum GuestFound {
 pub fn guest_find(
     registers: &[u32; REGISTERS],
     origins: &[u64; PLACES],
-    v: Processor,
+    processor: Processor,
     leaf: CpuidFunction,
     subleaf: Subleaf,
     enforce_subleaf: bool,
 ) -> GuestFound
-    ensures { λ r. ⌜ r ≡ foundIn (guestAnswer (heldIn (now (registers .entry)) (now (origins .entry))) v)
+    ensures { λ r. ⌜ r ≡ foundIn (guestAnswer (heldIn (now (registers .entry)) (now (origins .entry))) processor)
         (now (origins .entry)) leaf subleaf «enforce_subleaf» ⌝ }
 {
-    let state = state_in_use(registers, origins, false, v.xcr0, v.xss);
+    let state = state_in_use(registers, origins, false, processor.xcr0, processor.xss);
     match state {
         InUse::Refused(r) => GuestFound::Refused(r),
         InUse::Compacted(size) => {
             let i = place_asked(leaf, subleaf, enforce_subleaf);
-            GuestFound::Looked(seen_row(registers, origins, v, size, i))
+            GuestFound::Looked(seen_row(registers, origins, processor, size, i))
         }
     }
 }
@@ -81,17 +80,17 @@ pub fn guest_find(
 pub fn find_kept(
     registers: &[u32; REGISTERS],
     origins: &[u64; PLACES],
-    v: Processor,
+    processor: Processor,
     size: u32,
     leaf: CpuidFunction,
     subleaf: Subleaf,
     enforce_subleaf: bool,
 ) -> Found
-    ensures { λ r. ⌜ r ≡ found (tableWith (heldIn (now (registers .entry)) (now (origins .entry))) v size)
+    ensures { λ r. ⌜ r ≡ found (tableWith (heldIn (now (registers .entry)) (now (origins .entry))) processor size)
         (now (origins .entry)) leaf subleaf «enforce_subleaf» ⌝ }
 {
     let i = place_asked(leaf, subleaf, enforce_subleaf);
-    seen_row(registers, origins, v, size, i)
+    seen_row(registers, origins, processor, size, i)
 }
 
 // The row of the place that is asked for, as the guest sees it, where it is there. `find_kept` and `guest_find` ask for the place themselves: so this is
@@ -99,18 +98,18 @@ pub fn find_kept(
 fn seen_row(
     registers: &[u32; REGISTERS],
     origins: &[u64; PLACES],
-    v: Processor,
+    processor: Processor,
     size: u32,
     i: usize,
 ) -> Found
     ensures { λ r. ⌜ ((l : CpuidFunction) (sub : Subleaf) (enforce : Bool) → i ≡ placeAsked l sub enforce
-        → r ≡ found (tableWith (heldIn (now (registers .entry)) (now (origins .entry))) v size) (now (origins .entry)) l sub enforce) ⌝ }
+        → r ≡ found (tableWith (heldIn (now (registers .entry)) (now (origins .entry))) processor size) (now (origins .entry)) l sub enforce) ⌝ }
 {
     if i < PLACES {
         let origin = origins[i];
         if is_there(origin) {
             let r = row_at(registers, i);
-            return Found::Row(seen_at(registers, v, size, i, r), origin);
+            return Found::Row(seen_at(registers, processor, size, i, r), origin);
         }
     }
     Found::NoRow
@@ -119,18 +118,18 @@ fn seen_row(
 // The row of a place as the guest sees it: five differ.
 fn seen_at(
     registers: &[u32; REGISTERS],
-    v: Processor,
+    processor: Processor,
     size: u32,
     place: usize,
     r: CpuidResult,
 ) -> CpuidResult
-    ensures { λ q. ⌜ q ≡ seenAt v (saveRegister (registersIn (now (registers .entry))) (v .xcr0)) size place (row r) ⌝ }
+    ensures { λ q. ⌜ q ≡ seenAt processor (saveRegister (registersIn (now (registers .entry))) (processor .xcr0)) size place (row r) ⌝ }
 {
     match place {
-        place::VERSION_AND_FEATURES => see_version(true, v, r),
-        place::THREAD_LEVEL => see_level(true, v, r),
-        place::CORE_LEVEL => see_level(true, v, r),
-        place::EXTENDED_STATE_0 => see_size(true, save_register(registers, v.xcr0), r),
+        place::VERSION_AND_FEATURES => see_version(true, processor, r),
+        place::THREAD_LEVEL => see_level(true, processor, r),
+        place::CORE_LEVEL => see_level(true, processor, r),
+        place::EXTENDED_STATE_0 => see_size(true, save_register(registers, processor.xcr0), r),
         place::EXTENDED_STATE_1 => see_size(true, size, r),
         _ => r,
     }
@@ -140,31 +139,31 @@ fn seen_at(
 pub fn guest_table(
     registers: &mut [u32; REGISTERS],
     origins: &mut [u64; PLACES],
-    v: Processor,
+    processor: Processor,
 ) -> Verdict
-    ensures { λ r. ⌜ SeenIn (guestAnswer (heldIn (now (registers .entry)) (now (origins .entry))) v)
+    ensures { λ r. ⌜ SeenIn (guestAnswer (heldIn (now (registers .entry)) (now (origins .entry))) processor)
         (now (origins .entry)) r (now (registers .exit)) (now (origins .exit)) ⌝ }
 {
-    let state = state_in_use(registers, origins, false, v.xcr0, v.xss);
+    let state = state_in_use(registers, origins, false, processor.xcr0, processor.xss);
     match state {
         InUse::Refused(r) => {
             clear(registers, origins);
             Verdict::Refused(r)
         }
         InUse::Compacted(size) => {
-            put_seen(registers, origins, v, size);
+            put_seen(registers, origins, processor, size);
             Verdict::Accepted
         }
     }
 }
 
 // The five rows that differ, in place. `size` is D.1.EBX.
-fn put_seen(registers: &mut [u32; REGISTERS], origins: &[u64; PLACES], v: Processor, size: u32)
+fn put_seen(registers: &mut [u32; REGISTERS], origins: &[u64; PLACES], processor: Processor, size: u32)
     ensures { λ _. ⌜ heldIn (now (registers .exit)) (now (origins .entry))
-        ≡ tableWith (heldIn (now (registers .entry)) (now (origins .entry))) v size ⌝ }
+        ≡ tableWith (heldIn (now (registers .entry)) (now (origins .entry))) processor size ⌝ }
 {
     sized(registers, origins);
-    let area = save_register(registers, v.xcr0);
+    let area = save_register(registers, processor.xcr0);
     let version = row_at(registers, place::VERSION_AND_FEATURES);
     let threads = row_at(registers, place::THREAD_LEVEL);
     let cores = row_at(registers, place::CORE_LEVEL);
@@ -175,11 +174,11 @@ fn put_seen(registers: &mut [u32; REGISTERS], origins: &[u64; PLACES], v: Proces
     let of_cores = origins[place::CORE_LEVEL];
     let of_subleaf0 = origins[place::EXTENDED_STATE_0];
     let of_subleaf1 = origins[place::EXTENDED_STATE_1];
-    let seen = see_version(is_there(of_version), v, version);
+    let seen = see_version(is_there(of_version), processor, version);
     put_row(registers, place::VERSION_AND_FEATURES, seen);
-    let seen = see_level(is_there(of_threads), v, threads);
+    let seen = see_level(is_there(of_threads), processor, threads);
     put_row(registers, place::THREAD_LEVEL, seen);
-    let seen = see_level(is_there(of_cores), v, cores);
+    let seen = see_level(is_there(of_cores), processor, cores);
     put_row(registers, place::CORE_LEVEL, seen);
     let seen = see_size(is_there(of_subleaf0), area, subleaf0);
     put_row(registers, place::EXTENDED_STATE_0, seen);
@@ -188,12 +187,12 @@ fn put_seen(registers: &mut [u32; REGISTERS], origins: &[u64; PLACES], v: Proces
 }
 
 // Leaf 1, where it is there.
-fn see_version(present: bool, v: Processor, r: CpuidResult) -> CpuidResult
-    ensures { λ q. ⌜ q ≡ pick present (versionSeen v r) r ⌝ }
+fn see_version(present: bool, processor: Processor, r: CpuidResult) -> CpuidResult
+    ensures { λ q. ⌜ q ≡ pick present (versionSeen processor r) r ⌝ }
 {
     if present {
-        let ebx = (r.ebx & 0xFFFFFF) | ((v.x2apic & 0xFF) << 24);
-        let ecx = see_osxsave(v.osxsave, r.ecx);
+        let ebx = (r.ebx & 0xFFFFFF) | ((processor.x2apic & 0xFF) << 24);
+        let ecx = see_osxsave(processor.osxsave, r.ecx);
         return CpuidResult {
             eax: r.eax,
             ebx,
@@ -215,15 +214,15 @@ fn see_osxsave(osxsave: bool, ecx: u32) -> u32
 }
 
 // B.0 or B.1, where it is there.
-fn see_level(present: bool, v: Processor, r: CpuidResult) -> CpuidResult
-    ensures { λ q. ⌜ q ≡ pick present (levelSeen v r) r ⌝ }
+fn see_level(present: bool, processor: Processor, r: CpuidResult) -> CpuidResult
+    ensures { λ q. ⌜ q ≡ pick present (levelSeen processor r) r ⌝ }
 {
     if present {
         return CpuidResult {
             eax: r.eax,
             ebx: r.ebx,
             ecx: r.ecx,
-            edx: v.x2apic,
+            edx: processor.x2apic,
         };
     }
     r

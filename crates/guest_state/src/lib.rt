@@ -1,5 +1,5 @@
-// Extended state in use, over a table in lent memory. XCR0 and XSS come in; refusals 13 and 14, the compacted size and the size of the save area go
-// out.
+// Extended state in use, over a table in lent memory: whether the table allows an XCR0 and XSS (refusals 13 and 14), the compacted size and the size
+// of the save area.
 use checks::FROM_2;
 use checks::Size;
 use checks::max_xss;
@@ -22,26 +22,26 @@ ghost use Rattle.guest_state.specs.Compact.{placed, compactSize};
 ghost use Rattle.guest_state.specs.State.{isWithin, allowed, compactRegister, saveRegister};
 ghost use Rattle.guest_state.specs.InUse.{readRows, inUse};
 
-// Refused, or given: D.1.EBX.
+// Refused by 13 or 14, or allowed, with the compacted size (D.1.EBX).
 pub enum InUse {
     Refused(Refusal),
     Compacted(u32),
 }
 
-// Whether the memory's own rows of leaf Dh give XCR0 and XSS, and the compacted size. With `own` an absent row reads as zeros.
+// Whether the memory's own rows of leaf Dh allow XCR0 and XSS, and the compacted size. An absent row may be read as zeros.
 pub fn state_in_use(
     registers: &[u32; REGISTERS],
     origins: &[u64; PLACES],
-    own: bool,
+    absent_as_zero: bool,
     xcr0: u64,
     xss: u64,
 ) -> InUse
-    ensures { λ r. ⌜ r ≡ inUse (readRows own (now (registers .entry)) (now (origins .entry))) xcr0 xss ⌝ }
+    ensures { λ r. ⌜ r ≡ inUse (readRows «absent_as_zero» (now (registers .entry)) (now (origins .entry))) xcr0 xss ⌝ }
 {
-    let subleaf0 = read_row(registers, origins, own, place::EXTENDED_STATE_0);
-    let subleaf1 = read_row(registers, origins, own, place::EXTENDED_STATE_1);
+    let subleaf0 = read_row(registers, origins, absent_as_zero, place::EXTENDED_STATE_0);
+    let subleaf1 = read_row(registers, origins, absent_as_zero, place::EXTENDED_STATE_1);
     if is_allowed(subleaf0.eax, max_xss(subleaf1), xcr0, xss) {
-        let size = compact_register(registers, origins, own, xcr0, xss);
+        let size = compact_register(registers, origins, absent_as_zero, xcr0, xss);
         if size > 0xFFFFFFFF {
             return InUse::Refused(Refusal::CompactSizeTooLarge);
         }
@@ -71,13 +71,13 @@ fn is_within(x: u64, y: u64) -> bool
 pub fn read_row(
     registers: &[u32; REGISTERS],
     origins: &[u64; PLACES],
-    own: bool,
+    absent_as_zero: bool,
     place: usize,
 ) -> CpuidResult
     requires { ⌜ place < places ⌝ }
-    ensures { λ r. ⌜ r ≡ readRows own (now (registers .entry)) (now (origins .entry)) place .result ⌝ }
+    ensures { λ r. ⌜ r ≡ readRows «absent_as_zero» (now (registers .entry)) (now (origins .entry)) place .result ⌝ }
 {
-    if own {
+    if absent_as_zero {
         let origin = origins[place];
         if is_there(origin) {
             return row_at(registers, place);
@@ -96,29 +96,29 @@ pub fn read_row(
 fn compact_register(
     registers: &[u32; REGISTERS],
     origins: &[u64; PLACES],
-    own: bool,
+    absent_as_zero: bool,
     xcr0: u64,
     xss: u64,
 ) -> u64
-    ensures { λ r. ⌜ r ≡ compactRegister (readRows own (now (registers .entry)) (now (origins .entry))) xcr0 xss ⌝ }
+    ensures { λ r. ⌜ r ≡ compactRegister (readRows «absent_as_zero» (now (registers .entry)) (now (origins .entry))) xcr0 xss ⌝ }
 {
-    let subleaf1 = read_row(registers, origins, own, place::EXTENDED_STATE_1);
+    let subleaf1 = read_row(registers, origins, absent_as_zero, place::EXTENDED_STATE_1);
     if xsave_c(subleaf1.eax) | xsave_s(subleaf1.eax) {
-        return compact_size(registers, origins, own, xcr0 | xss);
+        return compact_size(registers, origins, absent_as_zero, xcr0 | xss);
     }
     0
 }
 
 // The compacted area over any mask, from its lowest subleaf up; `rest` has the bits that are left. There are at most 62 subleaves of less than 2^32
 // bytes and 63 bytes of alignment, so it never wraps.
-fn compact_size(registers: &[u32; REGISTERS], origins: &[u64; PLACES], own: bool, mask: u64) -> u64
-    ensures { λ r. ⌜ r ≡ compactSize (readRows own (now (registers .entry)) (now (origins .entry))) mask ⌝ }
+fn compact_size(registers: &[u32; REGISTERS], origins: &[u64; PLACES], absent_as_zero: bool, mask: u64) -> u64
+    ensures { λ r. ⌜ r ≡ compactSize (readRows «absent_as_zero» (now (registers .entry)) (now (origins .entry))) mask ⌝ }
 {
     let mut size: u64 = 576;
     let mut rest = mask & FROM_2;
     while rest != 0 {
         let place = place::EXTENDED_STATE_0 + u64::trailing_zeros(rest) as usize;
-        let subleaf = read_row(registers, origins, own, place);
+        let subleaf = read_row(registers, origins, absent_as_zero, place);
         size = place_component(subleaf, size);
         rest = rest & (rest - 1);
     }

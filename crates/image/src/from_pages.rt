@@ -1,4 +1,4 @@
-// From pages to the image. Pages and a lent buffer come in; the table's bytes go out, or a refusal and the buffer as it was.
+// Writes the image of the pages' table into a lent buffer. A refusal leaves the buffer as it was.
 use crate::write::write_table;
 use buffer::Written;
 use build::build_pages;

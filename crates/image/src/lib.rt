@@ -1,4 +1,5 @@
-// The image of a table. Pages, or a table in lent memory, and a lent buffer come in; the table's bytes go out, or a refusal and the buffer as it was.
+// The image of a table: writes the table's bytes into a lent buffer, from pages or from a table in lent memory. A refusal leaves the buffer as it
+// was.
 ghost use mathlib.Core.Path.{_≡_};
 ghost use mathlib.Core.List.{List};
 ghost use Prim.Native.Nat.{ℕ, _+_, _≤_};

@@ -1,4 +1,4 @@
-// The image of a table, written. A table in lent memory and a lent buffer come in; the table's bytes go out, or refusal 9 and the buffer as it was.
+// Writes the image of a table in lent memory into a lent buffer. Refusal 9 leaves the buffer as it was.
 ghost use mathlib.Core.Path.{_≡_};
 ghost use Prim.Native.Nat.{_+_, _^_, _≤_, _<_};
 ghost use lib.ListN.{length};

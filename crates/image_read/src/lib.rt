@@ -1,4 +1,4 @@
-// An image read into lent memory. Bytes come in; the rows of the table whose image they are go out, or none where they are no image.
+// Reads an image into lent memory: the rows of the table whose image the bytes are, or none where they are no image.
 use masking::PLACES;
 use masking::Run;
 use memory::REGISTERS;

@@ -1,4 +1,4 @@
-// A list for KVM. Pages, or a table in lent memory, and a lent buffer come in; the table's list goes out, or a refusal and the buffer as it was.
+// Writes a table as a list for KVM into a lent buffer, from pages or from a table in lent memory. A refusal leaves the buffer as it was.
 use buffer::Written;
 use buffer::put_registers;
 use buffer::put_word;

@@ -1,4 +1,4 @@
-// From a list of KVM to pages. A list's bytes and a lent buffer come in; two pages go out, or a refusal and the buffer as it was.
+// Converts a KVM CPUID list to two CPUID pages in a lent buffer. A refusal leaves the buffer as it was.
 use crate::list_checks::bad_list_length;
 use crate::list_checks::check_rows;
 use crate::list_checks::row_count;

@@ -1,5 +1,4 @@
-// What a list of KVM may be refused for. A list's bytes come in; whether its length and its fields are lawful goes out, and how many rows are of
-// leaf Dh.
+// What a list of KVM may be refused for: whether its length and its fields are lawful, and how many of its rows are of leaf Dh.
 use kvm_list::HEAD_SIZE;
 use kvm_list::ROW_SIZE;
 use pages::word_at;

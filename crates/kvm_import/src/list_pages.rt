@@ -1,4 +1,4 @@
-// The rows of a list of KVM as two pages. A list whose rows fit and a lent buffer come in; the pages' bytes go out.
+// Writes the rows of a KVM list, which fit, into a lent buffer as two pages.
 use crate::list_checks::is_extended_state;
 use crate::list_checks::one;
 use crate::list_checks::row_count;

@@ -1,4 +1,4 @@
-// The list that KVM takes and gives, struct kvm_cpuid2: its bytes in specs/, its sizes here. A stretch of a lent buffer comes in, and becomes zeros.
+// The list that KVM takes and gives, struct kvm_cpuid2: its bytes in specs/, its sizes here, and what fills a stretch of a lent buffer with zeros.
 ghost use mathlib.Core.Path.{_≡_};
 ghost use Prim.Native.Nat.{_-_, _≤_};
 ghost use lib.ListN.{length, replicate};

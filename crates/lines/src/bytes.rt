@@ -1,4 +1,4 @@
-// A refusal's line as bytes. A refusal's number and details come in with bytes that have room; the line's bytes go out.
+// A refusal's line as bytes: stores the line of a number and its details into bytes that have room.
 use table::Subleaf;
 
 pub mod names;

@@ -1,4 +1,4 @@
-// What bytes would say if they were a line. Any bytes come in; the number and details that a line with these fields would have go out.
+// What any bytes would say if they were a line: the number and details that a line with these fields would have.
 use crate::bytes::LineDetails;
 use crate::bytes::names::names_of;
 use digits::Field;

@@ -1,5 +1,5 @@
-// A refusal as one line of ASCII. Its number and details come in with a lent buffer, and the line's bytes go out; or bytes come in, and the number
-// and details whose line they are go out.
+// A refusal as one line of ASCII: writes the line of a number and its details into a lent buffer, and reads the number and details whose line bytes
+// are.
 use crate::bytes::LineDetails;
 use crate::bytes::names::names_of;
 use crate::bytes::put::put_line;

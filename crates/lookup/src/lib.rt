@@ -1,5 +1,5 @@
-// Lookup in a table in lent memory, as the source's leaf_result_ref. A leaf, a subleaf or none, and whether to enforce come in; a row with its
-// origin, or nothing, goes out.
+// Lookup in a table in lent memory, as the source's leaf_result_ref: finds the row of a leaf and subleaf with its origin, enforcing or not, or
+// nothing.
 ghost use mathlib.Core.Path.{_≡_};
 ghost use Prim.Native.Nat.{_+_, _≤_};
 ghost use lib.Dec.{ltb};

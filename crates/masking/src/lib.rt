@@ -1,5 +1,4 @@
-// The 88 places of the kept leaves, and their masks. A leaf and a subleaf come in, and their place goes out; an entry's registers come in, and go out
-// masked.
+// The 88 places of the kept leaves, and their masks: the place of a leaf and subleaf, and the masks of an entry's registers.
 ghost use mathlib.Core.Path.{_≡_};
 ghost use mathlib.Core.Bool.{true};
 ghost use Prim.Native.Nat.{_+_, _≤_, _<_};

@@ -1,5 +1,4 @@
-// The nearest bit that matters. Pages come in, and are not written; the first result bit whose flip changes the answer goes out, or why there is
-// none.
+// The nearest bit that matters: the first result bit of the pages whose flip changes the answer, or why there is none. The pages are not written.
 use collect::walk_pages;
 use flips::Flip;
 use masking::PLACES;

@@ -1,4 +1,4 @@
-// The CPUID pages of the SEV-SNP firmware. Page bytes come in; their counts, the entry at an index, and whether its reserved bytes are zero go out.
+// The CPUID pages of the SEV-SNP firmware: their counts, the entry at an index, and whether its reserved bytes are zero.
 use x86defs::CpuidFunction;
 use x86defs::CpuidResult;
 ghost use mathlib.Core.Path.{_≡_};

@@ -1,4 +1,4 @@
-// The reserved bytes of an entry. Page bytes and an index come in; whether the bytes are zero goes out.
+// The reserved bytes of an entry: whether the eight bytes at an index are zero.
 use crate::CpuidPageIndex;
 use crate::ENTRIES_AT;
 use crate::ENTRY_SIZE;
@@ -13,7 +13,7 @@ ghost use Rattle.pages.specs.Reserved.{eightZeros, cleanAt};
 
 const RESERVED: usize = 40;
 
-// What a walk over all entries finds of these bytes: all are zero, or the leaf of the first entry where one is not.
+// All reserved bytes are zero, or the leaf of the first entry with a nonzero one.
 pub enum Reserved {
     Zero,
     Nonzero(CpuidFunction),

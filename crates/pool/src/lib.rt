@@ -1,5 +1,5 @@
-// One table for a pool of servers. Their page sets and a list of lengths come in; one table that any of them can keep, or its image, goes out, or one
-// refusal with the server whose own it is.
+// One table for a pool of servers, from their page sets and a list of lengths: a table that any of them can keep, or its image, or one refusal with
+// the server whose own it is.
 use masking::PLACES;
 use memory::REGISTERS;
 use memory::clear;

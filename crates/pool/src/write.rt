@@ -1,5 +1,4 @@
-// From the page sets of a pool to the image of its table. The sets, their lengths and a lent buffer come in; the table's bytes go out, or a refusal
-// and the buffer as it was.
+// Writes the image of a pool's table into a lent buffer, from the servers' page sets and their lengths. A refusal leaves the buffer as it was.
 use crate::pool_into;
 use buffer::Written;
 use image::write::write_table;

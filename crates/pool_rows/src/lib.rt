@@ -1,5 +1,5 @@
-// The join of servers' masked first entries. The rows so far and those of one server more come in; the rows are joined where they stand, and the
-// places where the two are alike but for features go out.
+// The join of servers' masked first entries: joins one server more into the rows so far, where they stand, and tells at which places the two are
+// alike except for features.
 use masking::PLACES;
 use memory::REGISTERS;
 use memory::is_there;

@@ -1,5 +1,5 @@
-// The page sets of a pool, end to end beside a list of their lengths. They come in; whether they are lawful goes out, and the rows of all servers, up
-// to one that is refused, joined in lent memory.
+// The page sets of a pool, end to end beside a list of their lengths: whether they are lawful, and the rows of all servers, up to one that is
+// refused, joined in lent memory.
 use crate::server::server_into;
 use masking::PLACES;
 use memory::REGISTERS;

@@ -1,5 +1,5 @@
-// One server of a pool by itself. Its pages and lent memory come in; building's verdict goes out and, where it accepts, the masked first entries and
-// where each stands are in the memory.
+// One server of a pool by itself: building's verdict on its pages and, where it accepts, the masked first entries and where each stands, in lent
+// memory.
 use collect::walk_pages;
 use masking::PLACES;
 use memory::REGISTERS;

@@ -1,4 +1,4 @@
-// The program's output. Input bytes come in; the image, or the bytes that say why there is none, go out.
+// The program's output: the image of the input's pages, or the bytes that say why there is none.
 use buffer::Written;
 use build::build_pages;
 use image::write::write_table;

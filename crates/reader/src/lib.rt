@@ -1,5 +1,5 @@
-// The page reader, which borrows the caller's pages and steps its index in its own record, as the source's does. Pages and an index come in; the entry
-// there goes out, or its leaf where its reserved bytes are not zero, and the index of the next one.
+// The page reader, which borrows the caller's pages and steps its index in its own record, as the source's does. It gives the entry at the index, or
+// that entry's leaf where its reserved bytes are not zero, and steps to the next one.
 use pages::CpuidPageIndex;
 use pages::ParsedCpuidEntry;
 use x86defs::CpuidFunction;

@@ -1,4 +1,4 @@
-// The walk over the entries. Page bytes and an index come in; the index of the next entry below its page's count goes out.
+// The walk over the entries: the index of the next entry below its page's count.
 use pages::CpuidPageIndex;
 use pages::PAGE_SIZE;
 use pages::count_of;

@@ -1,5 +1,4 @@
-// How demand 3 compares each register. Two rows come in with the masks of their registers; which registers are as wanted goes out, and the first that
-// fails.
+// How demand 3 compares each register: whether each register of B's row may replace A's, by the masks of the place, and the first that may not.
 use masking::place;
 use table::Subleaf;
 use table::subleaf_of;
@@ -19,7 +18,7 @@ pub enum Register {
     Edx,
 }
 
-// Which of a row's registers are as demand 3 has them.
+// Which registers of B's row may replace A's.
 pub struct RegistersRise {
     pub eax: bool,
     pub ebx: bool,
@@ -39,8 +38,8 @@ pub fn from_entry(place: usize) -> bool
     }
 }
 
-// Whether a register of B's is as wanted beside A's: of the bits that are asked, features and what must agree, it has all that A's has, and what must
-// agree is the same.
+// Whether B's register may replace A's: of the bits that are asked, features and those that must agree, it has every one of A's, and those that must
+// agree are equal.
 fn register_rises(features: u32, agreed: u32, a: u32, b: u32) -> bool
     ensures { λ r. ⌜ r ≡ passes features agreed a b ⌝ }
 {
@@ -48,7 +47,7 @@ fn register_rises(features: u32, agreed: u32, a: u32, b: u32) -> bool
     (a & b & asked == a & asked) & (a & agreed == b & agreed)
 }
 
-// Which registers of B's row are as wanted, by the masks of its four registers.
+// Which registers of B's row may replace A's, by the masks of its four registers.
 pub fn registers_rise(
     features: CpuidResult,
     agreed: CpuidResult,

@@ -1,5 +1,5 @@
-// The entries of two servers beside each other, and in specs/ their join for a pool. A place comes in; two masks for each register go out: its
-// feature bits, and the bits in which the two must agree.
+// Which bits of each register are features, and in which bits two servers must agree: two masks for each register of a place. In specs/ the join of
+// two servers' entries for a pool.
 use masking::place;
 use x86defs::CpuidResult;
 ghost use mathlib.Core.Path.{_≡_};

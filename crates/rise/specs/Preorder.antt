@@ -87,7 +87,7 @@ rises-compose chosen a b c p q = record {
       record { present = second .present; registers = entries-compose (kindsAt i) _ _ _ (first .registers) (second .registers) };
 }
 
--- three servers, each at least the next and the last at least the first, give one answer but origins
+-- three servers, each at least the next and the last at least the first, have the same answer except for origins
 pub around-the-same : (chosen : Choices) (a b c : List ℕ) → RiseHypothesis chosen a b → RiseHypothesis chosen b c → RiseHypothesis chosen c a
     → SameButOrigins (answer chosen a) (answer chosen b) × SameButOrigins (answer chosen b) (answer chosen c)
 around-the-same chosen a b c p q r =

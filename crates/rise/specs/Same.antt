@@ -1,4 +1,4 @@
--- Two servers of which each rises to the other give the same answer but origins: the same table, and with it the same image and lookups.
+-- Two servers that rise to each other have the same answer except for origins: the same table, and with it the same image and lookups.
 use mathlib.Core.Path.{_≡_, refl, sym, ap, _∙_}
 use mathlib.Core.Bool.{Bool, true, false}
 use mathlib.Core.List.{List}

@@ -1,2 +1,2 @@
-// Demand 3: the rise from server A to server B. Beside it what added entries, origins and the two editions of the AVX rule come to. Statements and
+// Demand 3: the rise from server A to server B, and what it gives for added entries, origins and the two editions of the AVX rule. Statements and
 // proofs, no code.

@@ -120,7 +120,7 @@ sizes-bit-3 x = sizes-bit 3 x (unfold ibrsAndStibp maskOf bit in refl) (unfold b
 sizes-bit-12 : (x : ℕ) → bit 12 (addressSizesEbx x) ≡ bit 12 x
 sizes-bit-12 x = sizes-bit 12 x (unfold ibrsAndStibp maskOf bit in refl) (unfold btcNo maskOf bit in refl)
 
--- the mask keeps bit 12, which decides over the others
+-- the mask keeps bit 12, on which the others depend
 addressSizesEbx-again : (m x : ℕ) → bit 12 m ≡ 1 → bitAnd x m ≡ x → addressSizesEbx (bitAnd (addressSizesEbx x) m) ≡ addressSizesEbx x
 unfolding addressSizesEbx
 addressSizesEbx-again m x h e =

@@ -1,5 +1,4 @@
-// The bits of one first entry. Collected rows in lent memory and an entry's registers come in; the first of the 128 bits whose flip changes what
-// building answers to the rows goes out.
+// The bits of one first entry: the first of the 128 bits whose flip changes what building answers to the collected rows in lent memory.
 use crate::irrelevant::Unflipped;
 use crate::irrelevant::is_irrelevant;
 use crate::irrelevant::verdict_of;

@@ -1,5 +1,4 @@
-// Places whose registers decide nothing, whatever row stands there. Collected rows in lent memory come in; what the checks find in them goes out, and
-// for a place yes or no.
+// Places whose registers decide nothing, whatever row stands there: what the checks find in the collected rows, and yes or no for a place.
 use checks::validate_invlpgb;
 use masking::PLACES;
 use masking::place;

@@ -1,5 +1,4 @@
-// Which bits decide. The 88 rows in lent memory and an entry's registers come in; the first of its 128 bits whose flip changes building's answer goes
-// out, or that none does.
+// Which bits decide: the first of an entry's 128 bits whose flip changes building's answer to the 88 rows in lent memory, or that none does.
 use table::Verdict;
 use table::numbers::AnswerNumbers;
 use x86defs::CpuidResult;

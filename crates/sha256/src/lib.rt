@@ -1,4 +1,4 @@
-// SHA-256 (FIPS 180-4) of a message that is there as a whole. Bytes come in; the 32 bytes of the digest go out.
+// SHA-256 (FIPS 180-4) of a message that is there as a whole: the 32 bytes of its digest.
 use sha256_block::State;
 use sha256_block::block_at;
 ghost use mathlib.Core.Path.{_≡_};

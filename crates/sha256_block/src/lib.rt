@@ -1,4 +1,4 @@
-// One block of SHA-256 (FIPS 180-4, 6.2.2): a hash value and the 64 bytes of a block come in; the next hash value goes out.
+// One block of SHA-256 (FIPS 180-4, 6.2.2): the next hash value, from a hash value and the 64 bytes of a block.
 ghost use mathlib.Core.Path.{_≡_};
 ghost use Prim.Native.Nat.{_+_, _-_, _*_, _/_, _%_, _^_, _≤_, _<_};
 ghost use lib.ListN.{length};

@@ -1,4 +1,4 @@
-// The library's functions for C and Rust. Numbers and slices come in; plain numbers go out. include/snp_cpuid.h documents each call.
+// The library's functions for C and Rust, over numbers and slices. include/snp_cpuid.h documents each call.
 use answers::SnpCpuidBuilt;
 use answers::SnpCpuidFirst;
 use answers::SnpCpuidFound;

@@ -1,5 +1,4 @@
-// The words of an answer: the caller's choices, refusals, the verdict and the table. A verdict comes in; its number and details go out as plain
-// numbers.
+// The words of an answer: the caller's choices, refusals, the verdict and the table; and a verdict's number and details as plain numbers.
 use masking::PLACES;
 use topology::TopologyError;
 use x86defs::CpuidFunction;

@@ -1,4 +1,4 @@
-// An answer as plain numbers. A verdict comes in; document 01's number and details go out, for callers in C and for the program.
+// An answer as plain numbers: document 01's number and details of a verdict, for callers in C and for the program.
 use crate::Refusal;
 use crate::Subleaf;
 use crate::Verdict;

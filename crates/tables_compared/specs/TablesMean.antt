@@ -27,7 +27,7 @@ pub record PlaceRises (a b : CpuidResults) (i : ℕ) : Type 0 where
   pub registers : rowIn a i .present ≡ true → Registers TableAtLeast (kindsAt i) (rowIn a i .result) (rowIn b i .result)
   pub others : rowIn b i .present ≡ true → (rowIn a i .present ≡ true) ⊎ Further a b i
 
--- i is the place of a leaf and subleaf, and every place before it is as wanted
+-- i is the place of a leaf and subleaf, and nothing fails at the places before it
 pub record Reached (a b : CpuidResults) (leaf : CpuidFunction) (subleaf : Subleaf) (i : ℕ) : Type 0 where
   pub below : i < places
   pub leafAtPlace : leaf ≡ leafAt i

@@ -1,4 +1,4 @@
-// Two tables in lent memory compared. The tables of A and B come in; whether a guest of A's may move to B's goes out, or the first thing in the way.
+// Compares two tables in lent memory: whether a guest of A's may move to B's, or the first thing in the way.
 use masking::PLACES;
 use masking::place;
 use memory::REGISTERS;
@@ -125,7 +125,7 @@ fn not_features(features: CpuidResult) -> CpuidResult
     }
 }
 
-// Which registers of B's row are as wanted: in a table all that is no feature must agree, but for the save area of D.0, which may grow.
+// Which registers of B's row may replace A's: in a table all that is no feature must agree, except the save area of D.0, which may grow.
 fn registers_rise(place: usize, a: CpuidResult, b: CpuidResult) -> RegistersRise
     requires { ⌜ place < places ⌝ }
     ensures { λ r. ⌜ r ≡ registersRise tableTest (kindsAt place) a b ⌝ }
@@ -143,7 +143,7 @@ fn registers_rise(place: usize, a: CpuidResult, b: CpuidResult) -> RegistersRise
     rise
 }
 
-// What fails at a place: B has no row for A's, or the first of its registers that is not as wanted; or B has a row too many.
+// What fails at a place: B has no row for A's, or the first of its registers that may not replace A's; or B has a row too many.
 fn failing_at(
     place: usize,
     in_a: bool,

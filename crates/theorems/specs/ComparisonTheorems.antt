@@ -26,7 +26,7 @@ comparison-in-order = places-rise
 pub comparison-of-exports : (chosen : Choices) (a b : List ℕ) → ExportsCompare chosen a b
 comparison-of-exports = exports-compare
 
--- and it orders servers: yes to oneself exactly where accepted, yes and yes make yes, yes both ways makes one answer but origins.
+-- and it orders servers: yes to oneself exactly where accepted, yes and yes make yes, yes both ways means the same answer except for origins.
 -- crates/theorems/specs/CompareOrder.antt. Servers W, A and B meet it, by `w-to-a` and `b-rises`.
 pub comparison-orders : (chosen : Choices) → CompareOrder chosen
 comparison-orders = compare-order

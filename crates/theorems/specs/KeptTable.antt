@@ -97,7 +97,7 @@ kept-pool-find chosen pages lengths w o k leaf subleaf enforce =
 pub kept-carried : SecondInMemory
 kept-carried = second-in-memory
 
--- a kept table's image, read back, is the same table but origins; of any memory the rows that are there come back, and nothing else.
+-- a kept table's image, read back, is the same table except for origins; of any memory the rows that are there come back, and nothing else.
 -- crates/images/specs/TablesMoved.antt
 pub kept-read-back : BuiltBack
 kept-read-back = Moved.built-reads

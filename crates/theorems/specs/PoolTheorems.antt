@@ -41,7 +41,7 @@ each-pool-answer-exactly = pool-exactly
 pub a-pool-is-the-and : (chosen : Choices) (pages lengths : List ℕ) → pooled chosen pages lengths .verdict ≡ Accepted → PoolRight chosen pages lengths
 a-pool-is-the-and = pool-right
 
--- a table whose feature bits and mask lie within every server's has none beyond the pool's
+-- any table whose feature bits and mask every server has is within the pool's table
 pub a-pool-is-the-greatest : (chosen : Choices) (pages lengths : List ℕ) → pooled chosen pages lengths .verdict ≡ Accepted → Greatest chosen pages lengths
 a-pool-is-the-greatest = greatest
 

@@ -1,4 +1,4 @@
-// Every lawful topology up to size seven. A lent buffer comes in; all inputs that the topology accepts go out, five bytes each, or refusal 9 and the
+// Every lawful topology up to size seven: writes all inputs that the topology accepts into a lent buffer, five bytes each. Refusal 9 leaves the
 // buffer as it was.
 use buffer::Written;
 use table::Refusal;

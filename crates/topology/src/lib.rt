@@ -1,5 +1,5 @@
-// The processor topology. Five numbers from the masked rows come in; the number of processors, or what is inconsistent, goes out, and from that
-// number the two rows of leaf Bh.
+// The processor topology: from five numbers of the masked rows the number of processors, or what is inconsistent; from that number the two rows of
+// leaf Bh.
 ghost use mathlib.Core.Path.{_≡_};
 ghost use mathlib.Core.Bool.{_&&_};
 ghost use Prim.Native.Nat.{_+_, _<_};

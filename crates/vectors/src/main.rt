@@ -1,4 +1,4 @@
-// Runs test vectors: commands come in on standard input, and a line of text goes out for each build, lookup, first entry and write.
+// Runs test vectors: reads commands from standard input, and prints a line of text for each build, lookup, first entry and write.
 //
 // A command is 16 bytes: its kind, three flags (1 for yes: secure AVIC, a subleaf is given, the subleaf is enforced), and the
 // numbers a, b and edition of 4 bytes, the lowest first. The page set is all zeros at the start and changes by commands alone.

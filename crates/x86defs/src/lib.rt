@@ -1,4 +1,4 @@
-// What the architecture's manuals name: leaf numbers, and the fields and bits of each register. A register comes in; one field or bit of it goes out.
+// What the architecture's manuals name: leaf numbers, and the fields and bits of each register, each with the function that reads it.
 ghost use mathlib.Core.Path.{_≡_};
 ghost use Prim.Native.Nat.{_<_};
 ghost use Rattle.bits.specs.Bits.{bit, has};

@@ -76,7 +76,7 @@ fn no_bit() {
     let mut counted = set(&epyc());
     counted[0] = 65;
     for (pages, words, line, said) in [
-        (set(&without(1, 0)), &[][..], "20\n", "refusal 20: no single bit of the results decides over the answer"),
+        (set(&without(1, 0)), &[][..], "20\n", "refusal 20: no single result bit changes the answer when it is flipped"),
         (set(&without(0xD, 1)), &[], "20\n", "refusal 20: "),
         (set(&without(1, 0)), &["--edition", "3"], "15\n", "refusal 15: "),
         ([set(&epyc()), vec![0]].concat(), &[], "1\n", "refusal 1: "),

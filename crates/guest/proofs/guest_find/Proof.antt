@@ -9,14 +9,14 @@ use Rattle.guest.proofs.guest_find.Tie as tie
 returns : tie.Need-returns
 returns c =
     let k = c .before in let u = k .before .before in let a = u .before .args in
-    found-refused (a .registers .now) (a .origins .now) (a .v) (u .state-in-use .ensures) (a .leaf) (a .subleaf) (a .enforce-subleaf)
+    found-refused (a .registers .now) (a .origins .now) (a .processor) (u .state-in-use .ensures) (a .leaf) (a .subleaf) (a .enforce-subleaf)
     (k .state .given .1)
 
 returns-2 : tie.Need-returns-2
 returns-2 c =
     let p = c .before in let k = p .before in let u = k .before .before .before in let a = u .before .args in
     ap Looked (c .seen-row .ensures _ _ _ (p .place-asked .ensures .0))
-    ∙ kept-found (a .registers .now) (a .origins .now) (a .v) (u .state-in-use .ensures) (a .leaf) (a .subleaf) (a .enforce-subleaf)
+    ∙ kept-found (a .registers .now) (a .origins .now) (a .processor) (u .state-in-use .ensures) (a .leaf) (a .subleaf) (a .enforce-subleaf)
     (k .before .state2 .given .1)
 
 pub guest-find-spec : {M : Type 1} → statement M

@@ -18,12 +18,12 @@ returns c =
     let r₄ = r₅ .before .before in let r₃ = r₄ .before .before in let r₂ = r₃ .before .before in let r₁ = r₂ .before .before in
     let area = r₁ .before .before in let n = area .before .before in let start = n .before .before in let a = start .args in
     let w = a .registers .now in let o = a .origins .now in
-    seen-stored w o (a .v) (a .size) (area .save-register .ensures)
-    (shown w o (a .v) (versionSeen (a .v)) 1 (lit< tt) (i₁ .is-there .ensures) (r₁ .row-at .ensures) (s₁ .see-version .ensures))
-    (shown w o (a .v) (levelSeen (a .v)) 4 (lit< tt) (i₂ .is-there2 .ensures) (r₂ .row-at2 .ensures) (s₂ .see-level .ensures))
-    (shown w o (a .v) (levelSeen (a .v)) 5 (lit< tt) (i₃ .is-there3 .ensures) (r₃ .row-at3 .ensures) (s₃ .see-level2 .ensures))
-    (shown w o (a .v) (sizeSeen (area .save-register .result)) 6 (lit< tt) (i₄ .is-there4 .ensures) (r₄ .row-at4 .ensures) (s₄ .see-size .ensures))
-    (shown w o (a .v) (sizeSeen (a .size)) 7 (lit< tt) (i₅ .is-there5 .ensures) (r₅ .row-at5 .ensures) (s₅ .see-size2 .ensures))
+    seen-stored w o (a .processor) (a .size) (area .save-register .ensures)
+    (shown w o (a .processor) (versionSeen (a .processor)) 1 (lit< tt) (i₁ .is-there .ensures) (r₁ .row-at .ensures) (s₁ .see-version .ensures))
+    (shown w o (a .processor) (levelSeen (a .processor)) 4 (lit< tt) (i₂ .is-there2 .ensures) (r₂ .row-at2 .ensures) (s₂ .see-level .ensures))
+    (shown w o (a .processor) (levelSeen (a .processor)) 5 (lit< tt) (i₃ .is-there3 .ensures) (r₃ .row-at3 .ensures) (s₃ .see-level2 .ensures))
+    (shown w o (a .processor) (sizeSeen (area .save-register .result)) 6 (lit< tt) (i₄ .is-there4 .ensures) (r₄ .row-at4 .ensures) (s₄ .see-size .ensures))
+    (shown w o (a .processor) (sizeSeen (a .size)) 7 (lit< tt) (i₅ .is-there5 .ensures) (r₅ .row-at5 .ensures) (s₅ .see-size2 .ensures))
     (put-rowed 7 (s₅ .see-size2 .result) (lit< tt) (c .put-row5 .ensures)
     (put-rowed 6 (s₄ .see-size .result) (lit< tt) (p₄ .put-row4 .ensures)
     (put-rowed 5 (s₃ .see-level2 .result) (lit< tt) (p₃ .put-row3 .ensures)

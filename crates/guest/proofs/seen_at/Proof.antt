@@ -8,37 +8,37 @@ use Rattle.guest.proofs.seen_at.Statement.{statement}
 use Rattle.guest.proofs.seen_at.Tie as tie
 
 abbrev area : tie.Start → ℕ
-area s = saveRegister (registersIn (s .args .registers .now)) (s .args .v .xcr0)
+area s = saveRegister (registersIn (s .args .registers .now)) (s .args .processor .xcr0)
 
 returns : tie.Need-returns
 returns c =
     let m = c .before in let s = m .before in
-    rule-version (s .args .v) (area s) (s .args .size) (s .args .place) (s .args .r) (m .match .keys1) (c .see-version .ensures)
+    rule-version (s .args .processor) (area s) (s .args .size) (s .args .place) (s .args .r) (m .match .keys1) (c .see-version .ensures)
 
 returns-2 : tie.Need-returns-2
 returns-2 c =
     let m = c .before in let s = m .before in
-    rule-threads (s .args .v) (area s) (s .args .size) (s .args .place) (s .args .r) (m .match .keys2) (c .see-level .ensures)
+    rule-threads (s .args .processor) (area s) (s .args .size) (s .args .place) (s .args .r) (m .match .keys2) (c .see-level .ensures)
 
 returns-3 : tie.Need-returns-3
 returns-3 c =
     let m = c .before in let s = m .before in
-    rule-cores (s .args .v) (area s) (s .args .size) (s .args .place) (s .args .r) (m .match .keys3) (c .see-level2 .ensures)
+    rule-cores (s .args .processor) (area s) (s .args .size) (s .args .place) (s .args .r) (m .match .keys3) (c .see-level2 .ensures)
 
 returns-4 : tie.Need-returns-4
 returns-4 c =
     let n = c .before in let m = n .before in let s = m .before in
-    rule-area (s .args .v) (area s) (s .args .size) (s .args .place) (s .args .r) (m .match .keys4) (n .save-register .ensures) (c .see-size .ensures)
+    rule-area (s .args .processor) (area s) (s .args .size) (s .args .place) (s .args .r) (m .match .keys4) (n .save-register .ensures) (c .see-size .ensures)
 
 returns-5 : tie.Need-returns-5
 returns-5 c =
     let m = c .before in let s = m .before in
-    rule-compact (s .args .v) (area s) (s .args .size) (s .args .place) (s .args .r) (m .match .keys5) (c .see-size2 .ensures)
+    rule-compact (s .args .processor) (area s) (s .args .size) (s .args .place) (s .args .r) (m .match .keys5) (c .see-size2 .ensures)
 
 returns-6 : tie.Need-returns-6
 returns-6 c =
     let s = c .before in let rest = c .match .rest in
-    rule-none (s .args .v) (area s) (s .args .size) (s .args .place) (s .args .r)
+    rule-none (s .args .processor) (area s) (s .args .size) (s .args .place) (s .args .r)
     (rest .0 .0 .0 .0 .1) (rest .0 .0 .0 .1) (rest .0 .0 .1) (rest .0 .1) (rest .1)
 
 pub seen-at-spec : {M : Type 1} → statement M

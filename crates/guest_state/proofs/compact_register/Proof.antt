@@ -12,7 +12,7 @@ use Rattle.guest_state.proofs.compact_register.Statement.{statement}
 use Rattle.guest_state.proofs.compact_register.Tie as tie
 
 abbrev rows : tie.Start → Rows
-rows c = readRows (c .args .own) (c .args .registers .now) (c .args .origins .now)
+rows c = readRows (c .args .absent-as-zero) (c .args .registers .now) (c .args .origins .now)
 
 found : (c : tie.After-xsave-s)
     → (c .before .xsave-c .result || c .xsave-s .result) ≡ compacts (rows (c .before .before .before) (Place.extendedState 1) .result .eax)

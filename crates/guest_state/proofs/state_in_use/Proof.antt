@@ -14,7 +14,7 @@ use Rattle.guest_state.proofs.state_in_use.Statement.{statement}
 use Rattle.guest_state.proofs.state_in_use.Tie as tie
 
 abbrev rows : tie.Start → Rows
-rows c = readRows (c .args .own) (c .args .registers .now) (c .args .origins .now)
+rows c = readRows (c .args .absent-as-zero) (c .args .registers .now) (c .args .origins .now)
 
 abbrev start : tie.After-is-allowed → tie.Start
 start c = c .before .before .before .before

@@ -1,4 +1,4 @@
-// Which details a number names. A number comes in; whether it is in use, and what it names, goes out.
+// Which details a number names, and whether it is in use.
 ghost use mathlib.Core.Path.{_≡_};
 ghost use Rattle.lines.specs.NumbersInUse.{names};
 

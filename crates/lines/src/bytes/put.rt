@@ -1,4 +1,4 @@
-// Lines into lent bytes. What a line says comes in with an index; its bytes are stored there, and the index after them goes out.
+// Lines into lent bytes: stores what a line says at an index, and gives the index after it.
 use crate::bytes::LineDetails;
 use crate::bytes::names::names_of;
 use digits::put_decimal;

@@ -1,11 +1,11 @@
-//! Pages as they stand, entry by entry, whether or not they give a table.
+//! The raw entries of pages, also of pages that are refused.
 
 use crate::masks::{Kept, kept};
 use crate::pages::PAGE_ENTRIES;
 use snp_cpuid::{Origin, PAGE_BYTES, first_entry};
 use std::collections::{BTreeMap, BTreeSet};
 
-/// One of the 64 places of a page.
+/// One of the 64 entries of a page.
 pub struct Place {
     /// the page, from 0
     pub page: usize,

@@ -1,4 +1,4 @@
-//! `nearest`: the first result bit that decides over the answer, and what its flip turns the answer into.
+//! `nearest`: the first result bit whose flip changes the answer, and what it turns the answer into.
 
 use crate::arguments::Arguments;
 use crate::building::{self, Building, refusal_json, told};
@@ -20,7 +20,7 @@ pub const COMMAND: Command = Command {
     name: "nearest",
     operands: &["PAGES"],
     options: &[&[json::OPTION], building::OPTIONS],
-    summary: "print the first reported bit that decides over the table",
+    summary: "print the first reported bit whose flip changes the answer",
     about: "\
 Prints the first result bit of the pages whose flip alone changes the table, the refusal or its
 details: bits in entries below their page's count, ordered by page, entry, register (EAX, EBX, ECX,
