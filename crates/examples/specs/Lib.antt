@@ -6,11 +6,11 @@ pub mod KvmLists
 pub mod KvmBytes
 pub mod MarkedRows
 pub mod Origins
-pub mod Spare
+pub mod AddedEntries
 pub mod TopologyExamples
 pub mod NearestPassed
 pub mod NearestBits
-pub mod Later
+pub mod NearestOnLaterPage
 pub mod Unclean
 pub mod WithoutYmm
 pub mod CompactSizes
@@ -25,7 +25,7 @@ pub mod Pools
 pub mod Bit28
 pub mod Differ
 pub mod Beyond
-pub mod Instances
+pub mod PoolInstances
 pub mod Letter28
 pub mod Lives
 pub mod RowsOfA

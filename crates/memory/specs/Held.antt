@@ -1,5 +1,4 @@
--- The whole table that lent memory holds. Its count is that of the rows that are there; its combined mask, which the memory does not hold, is what
--- document 01 makes of rows D.0 and D.1, as for an image that is read.
+-- Laws of the whole table that lent memory holds (HeldTable.antt, whose definitions are passed on here).
 use mathlib.Core.Path.{_≡_, refl, sym, ap, ap₂, _∙_}
 use mathlib.Core.Bool.{Bool, true, false}
 use mathlib.Core.List.{List}
@@ -23,23 +22,13 @@ use Rattle.table.specs.Table as Tables
 use Rattle.table.specs.TableLaws.{table-ext}
 use Rattle.checks.specs.ExtendedState.{xssOf, xfem, xss, combinedMask}
 use Rattle.memory.specs.Memory.{rowOf, isThere, rowsIn}
-
--- rows, with the count and the mask that they give
-abbrev pub wholeOf : Rows → CpuidResults
-wholeOf m = tableOf m (combinedMask m)
-
-abbrev pub heldIn : List ℕ → List ℕ → CpuidResults
-heldIn w o = wholeOf (rowsIn w o)
+pub use Rattle.memory.specs.HeldTable.{wholeOf, heldIn, flags, maskHeld, countTo}
 
 pub whole-row : (m : Rows) (i : ℕ) → i < places → rowIn (wholeOf m) i ≡ m i
 whole-row m i l k = record {
   present = getD-tabulate places (λ j. m j .present) i false l k;
   result = getD-tabulate places (λ j. m j .result) i (result 0 0 0 0) l k;
 }
-
--- which places have a row
-abbrev pub flags : List ℕ → List Bool
-flags o = tabulate places (λ i. isThere (getD o i 0))
 
 pub flag-at : (o : List ℕ) (i : ℕ) → i < places → getD (flags o) i false ≡ isThere (getD o i 0)
 flag-at o i h = getD-tabulate places (λ j. isThere (getD o j 0)) i false h
@@ -52,10 +41,6 @@ mask-ext e =
 
 pub whole-ext : {a b : Rows} → ((i : ℕ) → i < places → a i ≡ b i) → wholeOf a ≡ wholeOf b
 whole-ext e = table-ext e (mask-ext e)
-
--- the mask as the code reads it
-abbrev pub maskHeld : List ℕ → ℕ
-maskHeld w = bitOr (rowOf w (Place.extendedState 0) .eax) (xssOf (rowOf w (Place.extendedState 1)))
 
 pub mask-held : (w o : List ℕ) → combinedMask (rowsIn w o) ≡ maskHeld w
 unfolding combinedMask xfem xss
@@ -81,10 +66,6 @@ pub cleared-held : heldIn (replicate 352 0) (replicate 88 0) ≡ emptyTable
 cleared-held = whole-ext cleared-row ∙ empty-whole
 
 -- ---- rows counted one after another
-
--- how many of the first n places have a row
-abbrev pub countTo : List ℕ → ℕ → ℕ
-countTo o n = sumTo (λ i. one (isThere (getD o i 0))) n
 
 pub count-starts : (o : List ℕ) → _≡_ {A = ℕ} 0 (countTo o 0)
 unfolding sumTo

@@ -17,8 +17,8 @@ pub mod ListTheorems
 pub mod LineTheorems
 pub mod PoolTheorems
 pub mod Theorems
-pub mod NearestBit
-pub mod KeptTable
+pub mod NearestTheorems
+pub mod KeptTableTheorems
 pub mod WithoutRows
 pub mod NumbersTheorems
 pub mod LifeTheorems

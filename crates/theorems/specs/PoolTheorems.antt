@@ -24,7 +24,7 @@ use Rattle.pool_laws.specs.PoolExactlyProof.{pool-exactly}
 use Rattle.pool_laws.specs.PoolWrites.{pool-writes-exactly}
 use Rattle.examples.specs.Pools
 use Rattle.examples.specs.Differ
-use Rattle.examples.specs.Instances as PoolInstances
+use Rattle.examples.specs.PoolInstances as PoolInstances
 use Rattle.examples.specs.Bit28
 use Rattle.examples.specs.Letter28
 

@@ -26,7 +26,7 @@ use Rattle.pages.specs.Layout.{Entry}
 use Rattle.rise.specs.Added.{Added, Covered}
 use Rattle.rise.specs.BeginningLaws.{entries-begin}
 use Rattle.rise.specs.AddedProof.{added-same, added-rises}
-use Rattle.examples.specs.Spare as Spare
+use Rattle.examples.specs.AddedEntries as Spare
 use Rattle.page_sets.specs.Evaluation.{firstEdition}
 use Rattle.page_sets.specs.PageSets.{serverA, serverB, serverW}
 use Rattle.examples.specs.Computed as Computed
@@ -109,7 +109,7 @@ pub added-entries-rise-both-ways : (chosen : Choices) (s u : List ℕ) → Added
     → RiseHypothesis chosen s u × RiseHypothesis chosen u s
 added-entries-rise-both-ways = added-rises
 
--- Examples. crates/examples/specs/Spare.antt: server A with three entries added on its last page, and with a page added
+-- Examples. crates/examples/specs/AddedEntries.antt: server A with three entries added on its last page, and with a page added
 pub a-with-entries : Added serverA Spare.withEntries × (answer firstEdition Spare.withEntries ≡ answer firstEdition serverA)
 a-with-entries = (Spare.entries-added, Spare.entries-same)
 

@@ -14,8 +14,8 @@
 --   ListTheorems.antt          Lists for and from KVM.
 --   LineTheorems.antt          Refusals as lines of ASCII.
 --   PoolTheorems.antt          One table for a pool of servers.
---   NearestBit.antt            The first bit of the pages whose flip changes the answer.
---   KeptTable.antt             The table that a caller keeps.
+--   NearestTheorems.antt       The first bit of the pages whose flip changes the answer.
+--   KeptTableTheorems.antt     The table that a caller keeps.
 --   WithoutRows.antt           What each function over a kept table gives for a table without rows.
 --   FingerprintTheorems.antt   A table's fingerprint: the SHA-256 of its image, and what an equal one tells.
 --   LifeTheorems.antt          A guest's life: what its view tells, where its save areas lie, what stays along moves and carries.

@@ -1,4 +1,4 @@
--- Examples: page sets with entries added, byte by byte. Two keep an accepted answer, one a refusal by 8; the last, refused by 3, is let in.
+-- Examples: page sets with entries added, byte by byte. Two stay accepted, one stays refused by 8; the last turns from refused by 3 to accepted.
 use mathlib.Core.Path.{_≡_, ap}
 use mathlib.Core.List.{List, _++_}
 use Prim.Native.Nat.{ℕ}

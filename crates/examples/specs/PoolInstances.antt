@@ -1,4 +1,4 @@
--- What holds of pools, of pools that meet its hypothesis.
+-- Example pools that meet the hypotheses of the pool theorems.
 use mathlib.Core.Path.{_≡_, refl, sym, ap, _∙_, subst, subst₂}
 use mathlib.Core.Bool.{Bool, true, false}
 use mathlib.Core.List.{List, [], _∷_, _++_}

@@ -37,7 +37,7 @@ use Rattle.nearest_exactly.specs.OutsideLaws.{Among, FirstAt}
 use Rattle.page_sets.specs.PageSets.{word, page, serverA}
 use Rattle.page_sets.specs.Evaluation.{firstEdition}
 use Rattle.examples.specs.NearestBits as Bits
-use Rattle.examples.specs.Later as Later
+use Rattle.examples.specs.NearestOnLaterPage as Later
 use Rattle.examples.specs.NearestBits.{onlyLeaf5, withoutD2, noInvlpgb, leaf1Twice}
 
 -- each answer, 15, 1, 2, 17, 20 or a bit: given if and only if its condition holds; no other number is given. A bit is the first flip, in the order
@@ -90,7 +90,7 @@ unclean-entry = Bits.unclean-entry
 pub a-nearest : nearest firstEdition serverA ≡ Bit (flip 0 0 0 0)
 a-nearest = Bits.serverA-nearest
 
--- a later page, and a later entry: what stands before is filtered, or Dh on page 0. crates/examples/specs/Later.antt
+-- a later page, and a later entry: what stands before is filtered, or Dh on page 0. crates/examples/specs/NearestOnLaterPage.antt
 pub later-page-decides : nearest firstEdition Later.pageSet ≡ Bit (flip 1 0 0 0)
 later-page-decides = Later.page-decides
 
