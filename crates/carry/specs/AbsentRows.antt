@@ -26,8 +26,8 @@ abbrev ones : CpuidResult
 ones = result 0xFFFFFFFF 0xFFFFFFFF 0xFFFFFFFF 0xFFFFFFFF
 
 -- ones everywhere, without a row
-abbrev pub withoutRows : CpuidResults
-withoutRows = record { present = replicate places false; results = replicate places ones; «row_count» = 0; «max_extended_state» = 0 }
+abbrev pub onesWithoutRows : CpuidResults
+onesWithoutRows = record { present = replicate places false; results = replicate places ones; «row_count» = 0; «max_extended_state» = 0 }
 
 -- D.0 alone is there
 abbrev pub onlyD0 : CpuidResults
@@ -40,7 +40,7 @@ onlyD0 = record {
 
 abbrev pub verdicts : List Verdict
 verdicts =
-    carry withoutRows 1 2 1 0 .verdict ∷ carry onlyD0 1 2 7 0x800 .verdict ∷ carry onlyD0 1 2 7 0 .verdict ∷ []
+    carry onesWithoutRows 1 2 1 0 .verdict ∷ carry onlyD0 1 2 7 0x800 .verdict ∷ carry onlyD0 1 2 7 0 .verdict ∷ []
 
 -- 13 without D.0, whatever XCR0; 13 for a bit of XSS without D.1; given where D.1 is absent, with no compacted size
 pub absent-as-zeros : verdicts ≡ Refused StateBeyondTable ∷ Refused StateBeyondTable ∷ Accepted ∷ []

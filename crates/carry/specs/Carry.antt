@@ -62,15 +62,15 @@ carryVerdict t from to xcr0 xss =
     (Refused UnknownEdition)
 
 -- the table that goes with a verdict
-abbrev pub tableGiven : Verdict → CpuidResults → CpuidResults
-tableGiven Accepted t = t
-tableGiven (Refused r) t = emptyTable
+abbrev pub carriedGiven : Verdict → CpuidResults → CpuidResults
+carriedGiven Accepted t = t
+carriedGiven (Refused r) t = emptyTable
 
-abbrev pub answerFor : Verdict → CpuidResults → Carried
-answerFor v t = record { verdict = v; table = tableGiven v t }
+abbrev pub carriedFor : Verdict → CpuidResults → Carried
+carriedFor v t = record { verdict = v; table = carriedGiven v t }
 
 abbrev pub refusedCarry : Refusal → Carried
 refusedCarry r = record { verdict = Refused r; table = emptyTable }
 
 unfoldable pub carry : CpuidResults → ℕ → ℕ → ℕ → ℕ → Carried
-carry t from to xcr0 xss = answerFor (carryVerdict t from to xcr0 xss) (carriedTable (keeps t from to) t)
+carry t from to xcr0 xss = carriedFor (carryVerdict t from to xcr0 xss) (carriedTable (keeps t from to) t)

@@ -32,7 +32,7 @@ use Rattle.checks.specs.ExtendedState.{xssOf, xfem, xss, combinedMask}
 use Rattle.guest_state.specs.State.{stateVerdict}
 use Rattle.guest_state.specs.StateLaws.{verdict-of-state}
 use Rattle.carry.specs.declared.Carried.{Carried}
-use Rattle.carry.specs.Carry.{ownRows, withoutBits, carriedAt, carriedTable, keeps, carryVerdict, refusedCarry, answerFor, carry}
+use Rattle.carry.specs.Carry.{ownRows, withoutBits, carriedAt, carriedTable, keeps, carryVerdict, refusedCarry, carriedFor, carry}
 use Rattle.carry.specs.CarryLaws.{cleared}
 use Rattle.guest_state.specs.declared.InUse.{InUse}
 use Rattle.guest_state.specs.declared.InUse.the-variants.{Refused as NotInUse, Compacted}
@@ -144,7 +144,7 @@ module _ (w o : List ℕ) where
       in-back h = refused-in (back h)
 
       module _ (h : from ≤ to) {u : InUse} (e : u ≡ inUse (readRows true w o) x s) where
-        by-state : {v : Verdict} → stateVerdict (readRows true w o) x s ≡ v → carry t from to x s ≡ answerFor v (carriedTable (keeps t from to) t)
+        by-state : {v : Verdict} → stateVerdict (readRows true w o) x s ≡ v → carry t from to x s ≡ carriedFor v (carriedTable (keeps t from to) t)
         unfolding carry carryVerdict
         by-state f = rw (← p, ← q, known, le-leb from to h, own-verdict x s, f)
 

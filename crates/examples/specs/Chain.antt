@@ -12,8 +12,9 @@ use Rattle.table.specs.Table.{rowIn}
 use Rattle.build.specs.Build.{rowsFor, answer}
 use Rattle.checks.specs.TopologyInputs.{inputsOf}
 use Rattle.rise.specs.Rise.{RiseHypothesis}
-use Rattle.rise.specs.Preorder.{rises-compose}
-use Rattle.rise.specs.Levels.{AcceptedLevels, accepted-levels}
+use Rattle.rise.specs.PreorderProof.{rises-compose}
+use Rattle.rise.specs.Levels.{AcceptedLevels}
+use Rattle.rise.specs.LevelsProof.{accepted-levels}
 use Rattle.page_sets.specs.PageSets.{entry, withFirst, serverA, serverB, serverW}
 use Rattle.page_sets.specs.PassLaws.{lawful-passed, verdict-passed, table-passed}
 use Rattle.page_sets.specs.Evaluation.{firstEdition, passed}

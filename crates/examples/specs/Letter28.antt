@@ -33,7 +33,8 @@ use Rattle.pool_sets.specs.Sets.{setAt}
 use Rattle.pool.specs.Pool.{pooled}
 use Rattle.pool_laws.specs.PoolRight.{serverTable, poolTable, NoneBeyond}
 use Rattle.pool_laws.specs.PoolProof.{pool-right}
-use Rattle.pool_laws.specs.ByTheLetter.{FeatureBits, NoFeatureBeyond, greatest-by-the-letter}
+use Rattle.pool_laws.specs.ByTheLetter.{FeatureBits, NoFeatureBeyond}
+use Rattle.pool_laws.specs.ByTheLetterProof.{greatest-by-the-letter}
 use Rattle.examples.specs.PoolPassed.{poolOpened, pool-passed}
 use Rattle.examples.specs.Pools.{two}
 use Rattle.examples.specs.Bit28.{serverM}

@@ -36,7 +36,7 @@ use Rattle.guest_state.specs.InUseLaws.{told-refused, told-given, told-size, he
 use Rattle.guest.specs.declared.Processor.{Processor}
 use Rattle.guest.specs.declared.GuestFound.the-variants.{Refused as NotGiven, Looked}
 use Rattle.guest.specs.Guest.{versionSeen, levelSeen, sizeSeen, seenAt, guestTable, answerFor, guestAnswer}
-use Rattle.guest.specs.Seen.{seenWith, tableWith, foundIn}
+use Rattle.guest.specs.Seen.{seenWith, tableWith, guestFoundIn}
 
 module _ (w o : List ℕ) (v : Processor) where
   abbrev t : CpuidResults
@@ -96,11 +96,11 @@ module _ (w o : List ℕ) (v : Processor) where
     table-kept f = ap (tableWith t v) (told-size (readRows false w o) (v .xcr0) (v .xss) e f ∙ sym (held-compact w o (v .xcr0) (v .xss)))
 
     module _ (l : CpuidFunction) (sub : Subleaf) (enforce : Bool) where
-      pub found-refused : {r : Refusal} → u ≡ NotInUse r → NotGiven r ≡ foundIn (guestAnswer t v) o l sub enforce
+      pub found-refused : {r : Refusal} → u ≡ NotInUse r → NotGiven r ≡ guestFoundIn (guestAnswer t v) o l sub enforce
       found-refused f = sym (rw (by-verdict (told-refused (readRows false w o) (v .xcr0) (v .xss) e f)))
 
       -- what is found with the size that `state_in_use` gave is what `guest_find` finds
-      pub kept-found : {n : ℕ} → u ≡ Compacted n → Looked (found (tableWith t v n) o l sub enforce) ≡ foundIn (guestAnswer t v) o l sub enforce
+      pub kept-found : {n : ℕ} → u ≡ Compacted n → Looked (found (tableWith t v n) o l sub enforce) ≡ guestFoundIn (guestAnswer t v) o l sub enforce
       kept-found f =
           ap (λ (g : CpuidResults). Looked (found g o l sub enforce)) (table-kept f)
           ∙ sym (rw (by-verdict (told-given (readRows false w o) (v .xcr0) (v .xss) e f)))

@@ -19,17 +19,17 @@ use Rattle.lookup.specs.LookupLaws.{empty-finds-nothing}
 use Rattle.guest.specs.declared.Processor.{Processor}
 use Rattle.guest.specs.declared.GuestAnswer.{GuestAnswer}
 use Rattle.guest.specs.Guest.{guestAnswer}
-use Rattle.guest.specs.Seen.{foundIn, SeenIn}
+use Rattle.guest.specs.Seen.{guestFoundIn, SeenIn}
 use Rattle.guest.specs.GuestPages.{guestPages}
 use Rattle.guest.specs.GuestPagesLaws.{accepted-guest, refused-guest}
 
 module _ (chosen : Choices) (s : List ℕ) (v : Processor) {d : Verdict} {w o : List ℕ} (l : CpuidFunction) (sub : Subleaf) (enforce : Bool) where
   -- what `guest_find` answers in memory that `build_into` accepted
   pub guest-from-memory : InMemory (answer chosen s) d w o → d ≡ Accepted
-      → foundIn (guestAnswer (heldIn w o) v) o l sub enforce ≡ foundIn (guestPages chosen s v) (answer chosen s .origins) l sub enforce
+      → guestFoundIn (guestAnswer (heldIn w o) v) o l sub enforce ≡ guestFoundIn (guestPages chosen s v) (answer chosen s .origins) l sub enforce
   guest-from-memory built e =
-      ap₂ (λ (t : CpuidResults) (p : List ℕ). foundIn (guestAnswer t v) p l sub enforce) (built .table) (built .origins)
-      ∙ ap (λ (g : GuestAnswer). foundIn g (answer chosen s .origins) l sub enforce) (sym (accepted-guest chosen s v (sym (built .verdict) ∙ e)))
+      ap₂ (λ (t : CpuidResults) (p : List ℕ). guestFoundIn (guestAnswer t v) p l sub enforce) (built .table) (built .origins)
+      ∙ ap (λ (g : GuestAnswer). guestFoundIn g (answer chosen s .origins) l sub enforce) (sym (accepted-guest chosen s v (sym (built .verdict) ∙ e)))
 
   -- what `find` answers in memory that `guest_pages` left, refused or not
   pub found-in-pages : SeenIn (guestPages chosen s v) (answer chosen s .origins) d w o

@@ -5,6 +5,7 @@ pub mod SeenLaws
 pub mod FindLaws
 pub mod GuestTableLaws
 pub mod SeenExactly
+pub mod SeenExactlyProof
 pub mod GuestPages
 pub mod GuestPagesLaws
 pub mod FromMemory

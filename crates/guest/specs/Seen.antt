@@ -43,8 +43,8 @@ lookedBy Accepted f = Looked f
 lookedBy (Refused r) f = NotGiven r
 
 -- what is found in a guest's answer, with the origin of the row that the guest's is made of
-abbrev pub foundIn : GuestAnswer → List ℕ → CpuidFunction → Subleaf → Bool → GuestFound
-foundIn g origins l sub enforce = lookedBy (g .verdict) (found (g .table) origins l sub enforce)
+abbrev pub guestFoundIn : GuestAnswer → List ℕ → CpuidFunction → Subleaf → Bool → GuestFound
+guestFoundIn g origins l sub enforce = lookedBy (g .verdict) (found (g .table) origins l sub enforce)
 
 -- ---- the whole table
 

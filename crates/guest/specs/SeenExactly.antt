@@ -1,20 +1,12 @@
 -- Document 02, P3, register by register and bit by bit: "the guest's whole table, looked up as before, differs in these places", and in no other. Of
 -- any table and any processor: which rows are there, the row count and the combined mask are the paravisor's; of a row that is there, the registers
 -- and bits that the paper names are what it makes them, and every other register and bit is the paravisor's.
-use mathlib.Core.Path.{_≡_, refl, sym, ap, _∙_}
+use mathlib.Core.Path.{_≡_}
 use mathlib.Core.Bool.{Bool, true, false, _&&_}
 use mathlib.Core.Logic.{_≢_}
-use Prim.Native.Nat.{ℕ, _+_, _-_, _*_, _/_, _%_, _^_, _<_}
-use native.Mathlib.Omega.{arith}
-use lib.Dec.{lit<, eqb}
-use lib.Bits.{bitAnd, bitOr, and-mask}
-use borrow.Author.Tests.{eqb-true, eqb-false}
+use Prim.Native.Nat.{ℕ, _+_, _-_, _<_}
 use Rattle.bits.specs.Choice.{pick}
-use Rattle.bits.specs.ChoiceLaws.{and-left, and-right}
-use Rattle.bits.specs.Search.{every}
-use Rattle.bits.specs.SearchLaws.{every-at}
-use Rattle.bits.specs.Bits.{bit, has, clear}
-use Rattle.bits.specs.BitsLaws.{bit-lt, bit-and, bit-or, bit-shr}
+use Rattle.bits.specs.Bits.{bit, has}
 use Rattle.x86defs.specs.declared.CpuidResult.{CpuidResult}
 use Rattle.masking.specs.Kept.{places}
 use Rattle.masking.specs.Place
@@ -22,8 +14,8 @@ use Rattle.table.specs.declared.CpuidResults.{CpuidResults}
 use Rattle.table.specs.Table.{rowIn, rowsOfTable}
 use Rattle.guest_state.specs.State.{saveRegister, compactRegister}
 use Rattle.guest.specs.declared.Processor.{Processor}
-use Rattle.guest.specs.Guest.{numberSeen, osxsaveSeen, guestTable}
-use Rattle.guest.specs.SeenLaws.{seen-there, elsewhere, absent-stays}
+use Rattle.guest.specs.Guest.{guestTable}
+use Rattle.guest.specs.SeenLaws.{elsewhere}
 
 -- "Leaf 1 EBX bits 24-31 are the number's low eight bits": n is the x2APIC number, x the paravisor's EBX and y the guest's
 pub record NumberBits (n x y : ℕ) : Type 0 where
@@ -54,21 +46,21 @@ pub record SizeSeen (size : ℕ) (r g : CpuidResult) : Type 0 where
   pub ecx : g .ecx ≡ r .ecx
   pub edx : g .edx ≡ r .edx
 
-abbrev inTable : CpuidResults → ℕ → Type 0
-inTable t i = rowIn t i .present ≡ true
+abbrev pub isPresent : CpuidResults → ℕ → Type 0
+isPresent t i = rowIn t i .present ≡ true
 
 pub record SeenExactly (t : CpuidResults) (v : Processor) : Type 0 where
   pub present : (i : ℕ) → rowIn (guestTable t v) i .present ≡ rowIn t i .present
   pub count : guestTable t v .«row_count» ≡ t .«row_count»
   pub mask : guestTable t v .«max_extended_state» ≡ t .«max_extended_state»
-  pub version : inTable t Place.versionAndFeatures
+  pub version : isPresent t Place.versionAndFeatures
       → VersionSeen v (rowIn t Place.versionAndFeatures .result) (rowIn (guestTable t v) Place.versionAndFeatures .result)
-  pub threads : inTable t Place.threadLevel → LevelSeen v (rowIn t Place.threadLevel .result) (rowIn (guestTable t v) Place.threadLevel .result)
-  pub cores : inTable t Place.coreLevel → LevelSeen v (rowIn t Place.coreLevel .result) (rowIn (guestTable t v) Place.coreLevel .result)
+  pub threads : isPresent t Place.threadLevel → LevelSeen v (rowIn t Place.threadLevel .result) (rowIn (guestTable t v) Place.threadLevel .result)
+  pub cores : isPresent t Place.coreLevel → LevelSeen v (rowIn t Place.coreLevel .result) (rowIn (guestTable t v) Place.coreLevel .result)
   -- the size over XCR0, held to 32 bits, which a built table's never passes (`guest-size-never-overflows`)
-  pub state0 : inTable t (Place.extendedState 0)
+  pub state0 : isPresent t (Place.extendedState 0)
       → SizeSeen (saveRegister (rowsOfTable t) (v .xcr0)) (rowIn t (Place.extendedState 0) .result) (rowIn (guestTable t v) (Place.extendedState 0) .result)
-  pub state1 : inTable t (Place.extendedState 1)
+  pub state1 : isPresent t (Place.extendedState 1)
       → SizeSeen (compactRegister (rowsOfTable t) (v .xcr0) (v .xss)) (rowIn t (Place.extendedState 1) .result)
       (rowIn (guestTable t v) (Place.extendedState 1) .result)
   pub elsewhere : (i : ℕ) → i < places
@@ -76,91 +68,3 @@ pub record SeenExactly (t : CpuidResults) (v : Processor) : Type 0 where
       → rowIn (guestTable t v) i .result ≡ rowIn t i .result
   -- and a row that is not there stays as it is
   pub absent : (i : ℕ) → i < places → rowIn t i .present ≡ false → rowIn (guestTable t v) i .result ≡ rowIn t i .result
-
--- ---- bits
-
--- the low w bits of a number are its rest by 2^w
-low-bits : (w : ℕ) → every (λ k. eqb (bit k (2 ^ w - 1)) 1) w ≡ true → (k x : ℕ) → k < w → bit k (x % 2 ^ w) ≡ bit k x
-low-bits w t k x l =
-    let one : bit k (2 ^ w - 1) ≡ 1 = eqb-true _ _ (every-at (λ j. eqb (bit j (2 ^ w - 1)) 1) w t k l) in
-    ap (bit k) (sym (and-mask x w)) ∙ omega (arith, bit-and k x (2 ^ w - 1), one, bit-lt k x)
-
-low-24 : (k x : ℕ) → k < 24 → bit k (x % 2 ^ 24) ≡ bit k x
-unfolding bit
-low-24 = low-bits 24 refl
-
-low-8 : (k x : ℕ) → k < 8 → bit k (x % 2 ^ 8) ≡ bit k x
-unfolding bit
-low-8 = low-bits 8 refl
-
-number-bits : (n x : ℕ) → NumberBits n x (numberSeen n x)
-unfolding numberSeen
-number-bits n x =
-    let y : ℕ = x % 2 ^ 24 + n % 2 ^ 8 * 2 ^ 24 in
-    let low : y % 2 ^ 24 ≡ x % 2 ^ 24 = omega arith in
-    let high : y / 2 ^ 24 ≡ n % 2 ^ 8 = omega arith in
-    record {
-      number = λ j l. sym (bit-shr 24 j y) ∙ ap (bit j) high ∙ low-8 j n l;
-      others = λ k l. sym (low-24 k y l) ∙ ap (bit k) low ∙ low-24 k x l;
-    }
-
--- bit 27 is one bit
-abbrev onlyTest : ℕ → Bool
-onlyTest k = pick (eqb k 27) true (eqb (bit k (2 ^ 27)) 0 && eqb (bit k (2 ^ 32 - 1 - 2 ^ 27)) 1)
-
-all-only : every onlyTest 32 ≡ true
-unfolding bit
-all-only = refl
-
-record Apart (k : ℕ) : Type 0 where
-  unset : bit k (2 ^ 27) ≡ 0
-  kept : bit k (2 ^ 32 - 1 - 2 ^ 27) ≡ 1
-
-apart : (k : ℕ) → k < 32 → k ≢ 27 → Apart k
-apart k l n = go (eqb k 27) refl (every-at onlyTest 32 all-only k l)
-  where
-    go : (b : Bool) → eqb k 27 ≡ b → pick b true (eqb (bit k (2 ^ 27)) 0 && eqb (bit k (2 ^ 32 - 1 - 2 ^ 27)) 1) ≡ true → Apart k
-    go true e t = absurd (n (eqb-true k 27 e))
-    go false e t = record {
-      unset = eqb-true _ _ (and-left _ _ t);
-      kept = eqb-true _ _ (and-right (eqb (bit k (2 ^ 27)) 0) _ t);
-    }
-
-set-27 : bit 27 (2 ^ 27) ≡ 1
-unfolding bit
-set-27 = refl
-
-cleared-27 : bit 27 (2 ^ 32 - 1 - 2 ^ 27) ≡ 0
-unfolding bit
-cleared-27 = refl
-
-osxsave-bit : (on : Bool) (x : ℕ) → OsxsaveBit on x (osxsaveSeen on x)
-unfolding osxsaveSeen clear
-osxsave-bit on x = go (on && has 26 x) refl
-  where
-    go : (b : Bool) → (on && has 26 x) ≡ b → OsxsaveBit on x (pick b (bitOr x (2 ^ 27)) (bitAnd x (2 ^ 32 - 1 - 2 ^ 27)))
-    go true e = record {
-      osxsave = omega (arith, bit-or 27 x (2 ^ 27), set-27, bit-lt 27 x) ∙ sym (ap (λ (c : Bool). pick c 1 0) e);
-      others = λ k l n. let a = apart k l n in omega (arith, bit-or k x (2 ^ 27), a .unset);
-    }
-    go false e = record {
-      osxsave = omega (arith, bit-and 27 x (2 ^ 32 - 1 - 2 ^ 27), cleared-27) ∙ sym (ap (λ (c : Bool). pick c 1 0) e);
-      others = λ k l n. let a = apart k l n in omega (arith, bit-and k x (2 ^ 32 - 1 - 2 ^ 27), a .kept, bit-lt k x);
-    }
-
--- ---- the statement
-
-pub seen-exactly : (t : CpuidResults) (v : Processor) → SeenExactly t v
-seen-exactly t v = record {
-  present = λ i. refl;
-  count = refl;
-  mask = refl;
-  version = λ p. rw (seen-there t v Place.versionAndFeatures (lit< tt) p)
-      (record { eax = refl; ebx = number-bits (v .x2apic) _; ecx = osxsave-bit (v .osxsave) _; edx = refl });
-  threads = λ p. rw (seen-there t v Place.threadLevel (lit< tt) p) (record { eax = refl; ebx = refl; ecx = refl; edx = refl });
-  cores = λ p. rw (seen-there t v Place.coreLevel (lit< tt) p) (record { eax = refl; ebx = refl; ecx = refl; edx = refl });
-  state0 = λ p. rw (seen-there t v (Place.extendedState 0) (lit< tt) p) (record { eax = refl; ebx = refl; ecx = refl; edx = refl });
-  state1 = λ p. rw (seen-there t v (Place.extendedState 1) (lit< tt) p) (record { eax = refl; ebx = refl; ecx = refl; edx = refl });
-  elsewhere = elsewhere t v;
-  absent = absent-stays t v;
-}

@@ -32,7 +32,12 @@ pub fn guest_pages(
 }
 
 // The same as an image at the front of `out`. A refusal leaves the buffer as it was.
-pub fn write_guest_image(pages: &[u8], choices: Choices, processor: Processor, out: &mut [u8]) -> Written
+pub fn write_guest_image(
+    pages: &[u8],
+    choices: Choices,
+    processor: Processor,
+    out: &mut [u8],
+) -> Written
     ensures { λ r. ⌜ r ≡ writeGuest choices (now (pages .entry)) processor (now (out .entry)) .answer ⌝ }
     ensures { λ _. ⌜ now (out .exit) ≡ writeGuest choices (now (pages .entry)) processor (now (out .entry)) .buffer ⌝ }
 {

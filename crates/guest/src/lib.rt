@@ -29,7 +29,7 @@ ghost use Rattle.lookup.specs.Lookup.{placeAsked, found};
 ghost use Rattle.rows_checked.specs.Checked.{registersIn};
 ghost use Rattle.guest_state.specs.State.{saveRegister};
 ghost use Rattle.guest.specs.Guest.{osxsaveSeen, versionSeen, levelSeen, sizeSeen, seenAt, guestAnswer};
-ghost use Rattle.guest.specs.Seen.{tableWith, foundIn, SeenIn};
+ghost use Rattle.guest.specs.Seen.{tableWith, guestFoundIn, SeenIn};
 
 pub mod from_pages;
 
@@ -62,7 +62,7 @@ pub fn guest_find(
     subleaf: Subleaf,
     enforce_subleaf: bool,
 ) -> GuestFound
-    ensures { λ r. ⌜ r ≡ foundIn (guestAnswer (heldIn (now (registers .entry)) (now (origins .entry))) processor)
+    ensures { λ r. ⌜ r ≡ guestFoundIn (guestAnswer (heldIn (now (registers .entry)) (now (origins .entry))) processor)
         (now (origins .entry)) leaf subleaf «enforce_subleaf» ⌝ }
 {
     let state = state_in_use(registers, origins, false, processor.xcr0, processor.xss);
@@ -158,7 +158,12 @@ pub fn guest_table(
 }
 
 // The five rows that differ, in place. `size` is D.1.EBX.
-fn put_seen(registers: &mut [u32; REGISTERS], origins: &[u64; PLACES], processor: Processor, size: u32)
+fn put_seen(
+    registers: &mut [u32; REGISTERS],
+    origins: &[u64; PLACES],
+    processor: Processor,
+    size: u32,
+)
     ensures { λ _. ⌜ heldIn (now (registers .exit)) (now (origins .entry))
         ≡ tableWith (heldIn (now (registers .entry)) (now (origins .entry))) processor size ⌝ }
 {

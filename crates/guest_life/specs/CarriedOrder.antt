@@ -24,7 +24,8 @@ use Rattle.finish.specs.Kinds.Kind.{feature}
 use Rattle.finish.specs.RuleKinds.{kinds-at}
 use Rattle.features.specs.Finish.{f16c, xopAndFma4}
 use Rattle.rise.specs.Rise.{Further, TableRises}
-use Rattle.rise.specs.Preorder.{registers-itself, SameRows, table-rises-itself, table-rises-compose, same-both-ways}
+use Rattle.rise.specs.Preorder.{SameRows}
+use Rattle.rise.specs.PreorderProof.{registers-itself, table-rises-itself, table-rises-compose, same-both-ways}
 use Rattle.carry.specs.Carry.{withoutBits, carriedAt, carriedTable, keeps}
 use Rattle.guest_rise.specs.SeenRises.{state0-eax}
 use Rattle.images.specs.CarriedRows.{ownYmm}

@@ -37,7 +37,8 @@ use Rattle.lookup.specs.declared.LeafResult.the-variants.{Some as Found, None a
 use Rattle.lookup.specs.Lookup.{lookup, placeAsked, rowResult}
 use Rattle.lookup.specs.LookupLaws.{lookup-at}
 use Rattle.rise.specs.Rise.{TableRises}
-use Rattle.rise.specs.Preorder.{SameRows, table-rises-compose, both-ways-same, same-both-ways}
+use Rattle.rise.specs.Preorder.{SameRows}
+use Rattle.rise.specs.PreorderProof.{table-rises-compose, both-ways-same, same-both-ways}
 use Rattle.tables_compared.specs.TablesDecideProof.{decides}
 use Rattle.carry.specs.Carry.{withoutBits, carriedTable, keeps, carry}
 use Rattle.guest_state.specs.State.{compacts, stateVerdict}
@@ -45,9 +46,11 @@ use Rattle.guest.specs.declared.Processor.{Processor}
 use Rattle.guest.specs.Guest.{numberSeen, seenAt, guestTable, tableGiven, guestAnswer}
 use Rattle.guest.specs.GuestPagesLaws.{guest-verdict, given-guest}
 use Rattle.guest.specs.SeenLaws.{seen-there}
-use Rattle.guest.specs.SeenExactly.{OsxsaveBit, VersionSeen, seen-exactly}
+use Rattle.guest.specs.SeenExactly.{OsxsaveBit, VersionSeen}
+use Rattle.guest.specs.SeenExactlyProof.{seen-exactly}
 use Rattle.guest_rise.specs.BuiltState.{Supplied}
-use Rattle.guest_rise.specs.StateExactly.{Allowed, given-allowed}
+use Rattle.guest_rise.specs.StateExactly.{Allowed}
+use Rattle.guest_rise.specs.StateExactlyProof.{given-allowed}
 use Rattle.guest_rise.specs.GuestRise.{compactsIn, GuestTableRises, GuestOutcome}
 use Rattle.guest_rise.specs.GuestRise.GuestOutcome.{given as risen, tooLarge as notGiven}
 use Rattle.guest_rise.specs.GuestTablesRise.{table-outcome}

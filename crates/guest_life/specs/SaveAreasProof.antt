@@ -31,11 +31,12 @@ use Rattle.guest.specs.declared.Processor.{Processor}
 use Rattle.guest.specs.Guest.{guestTable}
 use Rattle.guest.specs.GuestPages.{guestPages}
 use Rattle.guest.specs.GuestPagesLaws.{guest-verdict, given-guest}
-use Rattle.guest.specs.SeenExactly.{seen-exactly}
+use Rattle.guest.specs.SeenExactlyProof.{seen-exactly}
 use Rattle.guest_rise.specs.GuestRise.{compactsIn, GuestTableRises, GuestOutcome}
 use Rattle.guest_rise.specs.GuestRise.GuestOutcome.{given, tooLarge}
 use Rattle.guest_rise.specs.GuestExactly.{guest-exactly}
-use Rattle.guest_rise.specs.StateExactly.{Allowed, given-allowed}
+use Rattle.guest_rise.specs.StateExactly.{Allowed}
+use Rattle.guest_rise.specs.StateExactlyProof.{given-allowed}
 use Rattle.guest_rise.specs.GuestRiseProof.{guest-rise}
 use Rattle.guest_life.specs.Bits32.{set-below}
 use Rattle.guest_life.specs.Sound.{Sound, built-sound}

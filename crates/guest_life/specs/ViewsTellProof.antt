@@ -26,7 +26,8 @@ use Rattle.guest.specs.declared.Processor.{Processor}
 use Rattle.guest.specs.Guest.{numberSeen, osxsaveSeen, guestTable}
 use Rattle.guest.specs.GuestPagesLaws.{guest-verdict, given-guest}
 use Rattle.guest.specs.SeenLaws.{seen-there}
-use Rattle.guest.specs.SeenExactly.{NumberBits, OsxsaveBit, VersionSeen, LevelSeen, SizeSeen, seen-exactly}
+use Rattle.guest.specs.SeenExactly.{NumberBits, OsxsaveBit, VersionSeen, LevelSeen, SizeSeen}
+use Rattle.guest.specs.SeenExactlyProof.{seen-exactly}
 use Rattle.guest_rise.specs.GuestExactly.{guest-exactly}
 use Rattle.guest_life.specs.Bits32.{bits-32}
 use Rattle.guest_life.specs.StatesAgree.{StatesAgree, save-agrees, compact-agrees, verdict-agrees}

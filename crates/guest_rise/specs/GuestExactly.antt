@@ -22,7 +22,8 @@ use Rattle.guest.specs.declared.GuestAnswer.{GuestAnswer}
 use Rattle.guest.specs.Guest.{guestTable, refusedAnswer}
 use Rattle.guest.specs.GuestPages.{guestPages, writeGuest}
 use Rattle.guest.specs.GuestPagesLaws.{building-first, guest-verdict, refused-guest, given-guest}
-use Rattle.guest_rise.specs.StateExactly.{Allowed, SizeFault, StateAnswers, state-answers}
+use Rattle.guest_rise.specs.StateExactly.{Allowed, SizeFault, StateAnswers}
+use Rattle.guest_rise.specs.StateExactlyProof.{state-answers}
 use Rattle.guest_rise.specs.StateExactly.StateAnswers.{beyond, large, given}
 
 -- the rows of the table that was built

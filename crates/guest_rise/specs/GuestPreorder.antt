@@ -8,9 +8,9 @@ use Rattle.masking.specs.Place
 use Rattle.table.specs.declared.CpuidResults.{CpuidResults}
 use Rattle.table.specs.Table.{rowIn}
 use Rattle.finish.specs.Kinds.{kindsAt}
-use Rattle.rise.specs.Preorder.{registers-itself, registers-compose, further-composes-first, further-composes-second}
+use Rattle.rise.specs.PreorderProof.{registers-itself, registers-compose, further-composes-first, further-composes-second}
 use Rattle.guest_rise.specs.GuestRise.{compactsIn, GuestTableRises}
-use Rattle.guest_rise.specs.StateExactly.{compacts-mono}
+use Rattle.guest_rise.specs.StateExactlyProof.{compacts-mono}
 
 pub guest-rises-itself : (t : CpuidResults) → GuestTableRises t t
 guest-rises-itself t = record {

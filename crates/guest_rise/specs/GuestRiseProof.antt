@@ -22,7 +22,8 @@ use Rattle.guest.specs.declared.GuestAnswer.{GuestAnswer}
 use Rattle.guest.specs.GuestPages.{guestPages}
 use Rattle.guest.specs.GuestPagesLaws.{accepted-guest, guest-verdict, given-guest}
 use Rattle.guest_rise.specs.GuestRise.{compactsIn, GuestOutcome, GuestRise}
-use Rattle.guest_rise.specs.StateExactly.{Allowed, given-allowed}
+use Rattle.guest_rise.specs.StateExactly.{Allowed}
+use Rattle.guest_rise.specs.StateExactlyProof.{given-allowed}
 use Rattle.guest_rise.specs.BuiltState.{built-supplied, built-fits}
 use Rattle.guest_rise.specs.GuestTablesRise.{table-outcome, table-compacts}
 

@@ -30,7 +30,8 @@ use Rattle.guest.specs.SeenLaws.{seen-there}
 use Rattle.guest.specs.Guest.{guestTable, tableGiven, guestAnswer}
 use Rattle.guest_rise.specs.GuestRise.{compactsIn, RowRises, GuestTableRises, GuestOutcome}
 use Rattle.guest_rise.specs.GuestRise.GuestOutcome.{given, tooLarge}
-use Rattle.guest_rise.specs.StateExactly.{Allowed, SizeFault, StateAnswers, state-answers, given-fits, test-either, compacts-mono}
+use Rattle.guest_rise.specs.StateExactly.{Allowed, SizeFault, StateAnswers}
+use Rattle.guest_rise.specs.StateExactlyProof.{state-answers, given-fits, test-either, compacts-mono}
 use Rattle.guest_rise.specs.StateExactly.StateAnswers.{beyond, large}
 use Rattle.guest_rise.specs.StateExactly.StateAnswers.{given as accepted}
 use Rattle.guest_rise.specs.BuiltState.{Supplied}

@@ -1,4 +1,5 @@
 pub mod StateExactly
+pub mod StateExactlyProof
 pub mod GuestExactly
 pub mod GuestRise
 pub mod BuiltState

@@ -111,7 +111,12 @@ fn compact_register(
 
 // The compacted area over any mask, from its lowest subleaf up; `rest` has the bits that are left. There are at most 62 subleaves of less than 2^32
 // bytes and 63 bytes of alignment, so it never wraps.
-fn compact_size(registers: &[u32; REGISTERS], origins: &[u64; PLACES], absent_as_zero: bool, mask: u64) -> u64
+fn compact_size(
+    registers: &[u32; REGISTERS],
+    origins: &[u64; PLACES],
+    absent_as_zero: bool,
+    mask: u64,
+) -> u64
     ensures { λ r. ⌜ r ≡ compactSize (readRows «absent_as_zero» (now (registers .entry)) (now (origins .entry))) mask ⌝ }
 {
     let mut size: u64 = 576;

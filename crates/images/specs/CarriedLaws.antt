@@ -28,7 +28,7 @@ use Rattle.image_read.specs.ReadImage.{readImage}
 use Rattle.image_read.specs.WrittenAgain.{read-has-image}
 use Rattle.table.specs.declared.Verdict.{Verdict}
 use Rattle.table.specs.declared.Verdict.the-variants.{Accepted}
-use Rattle.carry.specs.Carry.{carriedAt, carriedTable, keeps, tableGiven, carry}
+use Rattle.carry.specs.Carry.{carriedAt, carriedTable, keeps, carriedGiven, carry}
 use Rattle.carry.specs.CarryImage.{carryImage}
 use Rattle.images.specs.Carried.{CarryKeeps, CarriesInPlace}
 
@@ -79,7 +79,7 @@ module _ (keep : Bool) (t : CpuidResults) where
 module _ (t : CpuidResults) (from to xcr0 xss : ℕ) (e : carry t from to xcr0 xss .verdict ≡ Accepted) where
   pub given : carry t from to xcr0 xss .table ≡ carriedTable (keeps t from to) t
   unfolding carry
-  given = ap (λ (v : Verdict). tableGiven v (carriedTable (keeps t from to) t)) e
+  given = ap (λ (v : Verdict). carriedGiven v (carriedTable (keeps t from to) t)) e
 
 pub carry-keeps : CarryKeeps
 carry-keeps t from to xcr0 xss n e =

@@ -25,7 +25,7 @@ use Rattle.finish.specs.FitLaws.{SettingsFit, finished-fits}
 use Rattle.collect.specs.RowsFit.{rows-fit}
 use Rattle.build.specs.Build.{rowsFor, answer}
 use Rattle.rise.specs.RiseProof.{answer-row, answer-mask}
-use Rattle.rise.specs.Same.{finished-absent}
+use Rattle.rise.specs.SameProof.{finished-absent}
 use Rattle.rise.specs.BuiltLaws.{area-fits, built-mask}
 use Rattle.images.specs.ImageTableLaws.{Plain, rows-told, same-image}
 use Rattle.images.specs.Images.{SameTable, EqualImages}

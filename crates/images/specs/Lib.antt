@@ -18,5 +18,7 @@ pub mod CarriedLaws
 pub mod Moves
 pub mod MovesProof
 pub mod CarryExactly
+pub mod CarryExactlyProof
 pub mod CarriedRows
+pub mod CarriedRowsProof
 pub mod SecondInMemory

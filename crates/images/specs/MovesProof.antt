@@ -37,7 +37,7 @@ use Rattle.rise.specs.Second as Second
 use Rattle.rise.specs.SecondLaws.{zero-clears}
 use Rattle.rise.specs.SecondProof.{second-edition}
 use Rattle.table.specs.declared.Verdict.{Verdict}
-use Rattle.carry.specs.Carry.{ownRows, withoutBits, carriedAt, carriedTable, keeps, carryVerdict, tableGiven, carry}
+use Rattle.carry.specs.Carry.{ownRows, withoutBits, carriedAt, carriedTable, keeps, carryVerdict, carriedGiven, carry}
 use Rattle.carry.specs.declared.in_image.CarriedImage.the-variants.{Image}
 use Rattle.carry.specs.CarryImage.{carryImage}
 use Rattle.images.specs.CarriedLaws.{carries-in-place}
@@ -164,7 +164,7 @@ module _ (chosen : Choices) (s : List ℕ) (e : answer (withEdition chosen 1) s 
     moved-table : carry a 1 2 xcr0 xss .verdict ≡ Accepted → carry a 1 2 xcr0 xss .table ≡ b
     unfolding carry
     moved-table f =
-        ap (λ (v : Verdict). tableGiven v (carriedTable (keeps a 1 2) a)) f
+        ap (λ (v : Verdict). carriedGiven v (carriedTable (keeps a 1 2) a)) f
         ∙ ap (λ (keep : Bool). carriedTable keep a) (keeps-ymm a plain)
         ∙ carried-second
 

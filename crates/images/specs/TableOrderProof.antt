@@ -1,7 +1,8 @@
 -- The answers are those of an order: yes from a table to itself, yes and yes make yes, and yes both ways is the same rows and masks.
 use mathlib.Core.Path.{_≡_}
 use Rattle.table.specs.declared.CpuidResults.{CpuidResults}
-use Rattle.rise.specs.Preorder.{SameRows, table-rises-itself, table-rises-compose, both-ways-same, same-both-ways}
+use Rattle.rise.specs.Preorder.{SameRows}
+use Rattle.rise.specs.PreorderProof.{table-rises-itself, table-rises-compose, both-ways-same, same-both-ways}
 use Rattle.tables_compared.specs.declared.TablesCompared.the-variants.{Rises}
 use Rattle.tables_compared.specs.CompareTables.{comparedTables}
 use Rattle.tables_compared.specs.TablesDecideProof.{decides}

@@ -19,7 +19,7 @@ use Rattle.kvm_list.specs.Format.{ListRow, rowCount, rowAt, rowsListed}
 use Rattle.kvm_list.specs.StoresLaws.{sets-join, sets-swap, word-length, registers-length, five-pieces}
 use Rattle.kvm_import.specs.ListChecks.{isExtendedState, rowsOn0, rowsOn1}
 use Rattle.kvm_import.specs.ListRowLaws.{row-leaf, row-index}
-use Rattle.kvm_import.specs.RowsLeftLaws.{rowsLeft, on1-cons, on0-cons, on1-none, on0-none, left-all, left-more, left-none, on-either-in, on-either-left, extended-more}
+use Rattle.kvm_import.specs.RowsLeftLaws.{listRowsLeft, on1-cons, on0-cons, on1-none, on0-none, left-all, left-more, left-none, on-either-in, on-either-left, extended-more}
 use Rattle.kvm_import.specs.ListPages.{entryWords, entriesWords}
 use Rattle.kvm_import.specs.ImportPieces.{entryBytes, entriesBytes, entryIndex, entered}
 
@@ -117,8 +117,8 @@ entered-more out i j r rs false e h =
 pub record Entering (l out₀ out : List ℕ) (q d : ℕ) : Type 0 where
   pub size : length out ≡ length out₀
   pub few : d ≤ q
-  pub extended : d + length (rowsOn1 (rowsLeft l q)) ≡ length (rowsOn1 (rowsListed l))
-  pub bytes : entered out (16 + 48 * (q - d)) (4112 + 48 * d) (rowsLeft l q) ≡ entered out₀ 16 4112 (rowsListed l)
+  pub extended : d + length (rowsOn1 (listRowsLeft l q)) ≡ length (rowsOn1 (rowsListed l))
+  pub bytes : entered out (16 + 48 * (q - d)) (4112 + 48 * d) (listRowsLeft l q) ≡ entered out₀ 16 4112 (rowsListed l)
 
 module _ (l out₀ : List ℕ) where
   pub entering-first : Entering l out₀ out₀ 0 0
@@ -136,8 +136,8 @@ module _ (l out₀ : List ℕ) where
   module _ (few-0 : length (rowsOn0 (rowsListed l)) ≤ 64) (few-1 : length (rowsOn1 (rowsListed l)) ≤ 64) (out : List ℕ) (q d : ℕ) (inside : q < rowCount l)
       (e : Entering l out₀ out q d) where
     extended-next : (b : Bool) → isExtendedState (rowAt l q) ≡ b
-        → length (rowsOn1 (rowsLeft l q)) ≡ one b + length (rowsOn1 (rowsLeft l (q + 1)))
-    extended-next b p = extended-more l q inside ∙ ap (λ (b : Bool). one b + length (rowsOn1 (rowsLeft l (q + 1)))) p
+        → length (rowsOn1 (listRowsLeft l q)) ≡ one b + length (rowsOn1 (listRowsLeft l (q + 1)))
+    extended-next b p = extended-more l q inside ∙ ap (λ (b : Bool). one b + length (rowsOn1 (listRowsLeft l (q + 1)))) p
 
     -- an entry has room on its page
     pub entering-room : (b : Bool) → isExtendedState (rowAt l q) ≡ b → entryIndex b (q - d) d + 48 ≤ 8192
@@ -145,7 +145,7 @@ module _ (l out₀ : List ℕ) where
     entering-room false p = omega (arith, e .extended, extended-next false p, e .few, on-either-in l, on-either-left l q)
 
     -- what is left for page 0 ends before page 1's entries
-    entering-apart : (b : Bool) → isExtendedState (rowAt l q) ≡ b → 16 + 48 * (q - d) + 48 * length (rowsOn0 (rowsLeft l (q + 1))) ≤ 4112 + 48 * d
+    entering-apart : (b : Bool) → isExtendedState (rowAt l q) ≡ b → 16 + 48 * (q - d) + 48 * length (rowsOn0 (listRowsLeft l (q + 1))) ≤ 4112 + 48 * d
     entering-apart true p = omega (arith, e .extended, extended-next true p, e .few, on-either-in l, on-either-left l (q + 1))
     entering-apart false p = omega (arith, e .extended, extended-next false p, e .few, on-either-in l, on-either-left l (q + 1))
 
@@ -160,7 +160,7 @@ module _ (l out₀ : List ℕ) where
           let f : 16 + 48 * (q + 1 - (d + one b)) ≡ 16 + 48 * (q - d) + 48 * one (pick b false true) = go-first b in
           let g : 4112 + 48 * (d + one b) ≡ 4112 + 48 * d + 48 * one b = omega arith in
           rw (w, f, g)
-          (entered-more out (16 + 48 * (q - d)) (4112 + 48 * d) (rowAt l q) (rowsLeft l (q + 1)) b p
+          (entered-more out (16 + 48 * (q - d)) (4112 + 48 * d) (rowAt l q) (listRowsLeft l (q + 1)) b p
           (entering-apart b p)
           ∙ ap (entered out (16 + 48 * (q - d)) (4112 + 48 * d)) (sym (left-more l q inside))
           ∙ e .bytes);
@@ -177,9 +177,9 @@ module _ (l out₀ : List ℕ) where
   pub entering-last : (out : List ℕ) (q d : ℕ) → rowCount l ≤ q → Entering l out₀ out q d → out ≡ entered out₀ 16 4112 (rowsListed l)
   unfolding entered
   entering-last out q d h e =
-      let none : rowsLeft l q ≡ [] = left-none l q h in
-      let a : entriesBytes (rowsOn0 (rowsLeft l q)) ≡ [] = ap (λ (rs : List ListRow). entriesBytes
+      let none : listRowsLeft l q ≡ [] = left-none l q h in
+      let a : entriesBytes (rowsOn0 (listRowsLeft l q)) ≡ [] = ap (λ (rs : List ListRow). entriesBytes
       (rowsOn0 rs)) none ∙ ap entriesBytes on0-none ∙ entries-none in
-      let b : entriesBytes (rowsOn1 (rowsLeft l q)) ≡ [] = ap (λ (rs : List ListRow). entriesBytes
+      let b : entriesBytes (rowsOn1 (listRowsLeft l q)) ≡ [] = ap (λ (rs : List ListRow). entriesBytes
       (rowsOn1 rs)) none ∙ ap entriesBytes on1-none ∙ entries-none in
       rw (a, b) at (e .bytes)

@@ -14,8 +14,8 @@ use Rattle.kvm_list.specs.Format.{ListRow, rowCount, zeroWord, rowAt, rowsListe
 use Rattle.kvm_import.specs.ListChecks.{rowLawful, allLawful, fieldsLawful, isExtendedState, rowsOn0, rowsOn1}
 
 -- the rows from row q on
-unfoldable pub rowsLeft : List ℕ → ℕ → List ListRow
-rowsLeft l q = tabulate (rowCount l - q) (λ j. rowAt l (q + j))
+unfoldable pub listRowsLeft : List ℕ → ℕ → List ListRow
+listRowsLeft l q = tabulate (rowCount l - q) (λ j. rowAt l (q + j))
 
 -- ---- rows of one page and of the other
 
@@ -52,43 +52,43 @@ on-either (r ∷ rs) = go (isExtendedState r) refl (on-either rs)
 -- ---- from row to row
 
 module _ (l : List ℕ) where
-  pub left-all : rowsLeft l 0 ≡ rowsListed l
-  unfolding rowsLeft rowsListed
+  pub left-all : listRowsLeft l 0 ≡ rowsListed l
+  unfolding listRowsLeft rowsListed
   left-all =
       let e : rowCount l - 0 ≡ rowCount l = omega arith in
       ap₂ tabulate e (fun-ext (λ j. let z : 0 + j ≡ j = omega arith in ap (rowAt l) z))
 
-  pub left-more : (q : ℕ) → q < rowCount l → rowsLeft l q ≡ rowAt l q ∷ rowsLeft l (q + 1)
-  unfolding rowsLeft tabulate
+  pub left-more : (q : ℕ) → q < rowCount l → listRowsLeft l q ≡ rowAt l q ∷ listRowsLeft l (q + 1)
+  unfolding listRowsLeft tabulate
   left-more q h =
       let e : rowCount l - q ≡ suc (rowCount l - (q + 1)) = omega arith in
       ap (λ (n : ℕ). tabulate n (λ j. rowAt l (q + j))) e
       ∙ ap₂ _∷_ (let z : q + 0 ≡ q = omega arith in ap (rowAt l) z)
       (ap (tabulate (rowCount l - (q + 1))) (fun-ext (λ j. let z : q + suc j ≡ q + 1 + j = omega arith in ap (rowAt l) z)))
 
-  pub left-none : (q : ℕ) → rowCount l ≤ q → rowsLeft l q ≡ []
-  unfolding rowsLeft tabulate
+  pub left-none : (q : ℕ) → rowCount l ≤ q → listRowsLeft l q ≡ []
+  unfolding listRowsLeft tabulate
   left-none q h = let e : rowCount l - q ≡ 0 = omega arith in ap (λ (n : ℕ). tabulate n (λ j. rowAt l (q + j))) e
 
-  left-length : (q : ℕ) → length (rowsLeft l q) ≡ rowCount l - q
-  unfolding rowsLeft
+  left-length : (q : ℕ) → length (listRowsLeft l q) ≡ rowCount l - q
+  unfolding listRowsLeft
   left-length q = length-tabulate (rowCount l - q) (λ j. rowAt l (q + j))
 
   pub on-either-in : length (rowsOn0 (rowsListed l)) + length (rowsOn1 (rowsListed l)) ≡ rowCount l
   unfolding rowsListed
   on-either-in = on-either (rowsListed l) ∙ length-tabulate (rowCount l) (rowAt l)
 
-  pub on-either-left : (q : ℕ) → length (rowsOn0 (rowsLeft l q)) + length (rowsOn1 (rowsLeft l q)) ≡ rowCount l - q
-  on-either-left q = on-either (rowsLeft l q) ∙ left-length q
+  pub on-either-left : (q : ℕ) → length (rowsOn0 (listRowsLeft l q)) + length (rowsOn1 (listRowsLeft l q)) ≡ rowCount l - q
+  on-either-left q = on-either (listRowsLeft l q) ∙ left-length q
 
   pub extended-more : (q : ℕ) → q < rowCount l
-      → length (rowsOn1 (rowsLeft l q)) ≡ one (isExtendedState (rowAt l q)) + length (rowsOn1 (rowsLeft l (q + 1)))
+      → length (rowsOn1 (listRowsLeft l q)) ≡ one (isExtendedState (rowAt l q)) + length (rowsOn1 (listRowsLeft l (q + 1)))
   extended-more q h = ap (λ (rs : List ListRow). length (rowsOn1 rs)) (left-more q h) ∙ go (isExtendedState (rowAt l q)) refl
     where
       go : (b : Bool) → isExtendedState (rowAt l q) ≡ b
-          → length (rowsOn1 (rowAt l q ∷ rowsLeft l (q + 1))) ≡ one b + length (rowsOn1 (rowsLeft l (q + 1)))
-      go true e = omega (arith, ap length (on1-cons (rowAt l q) (rowsLeft l (q + 1)) e))
-      go false e = omega (arith, ap length (on1-cons (rowAt l q) (rowsLeft l (q + 1)) e))
+          → length (rowsOn1 (rowAt l q ∷ listRowsLeft l (q + 1))) ≡ one b + length (rowsOn1 (listRowsLeft l (q + 1)))
+      go true e = omega (arith, ap length (on1-cons (rowAt l q) (listRowsLeft l (q + 1)) e))
+      go false e = omega (arith, ap length (on1-cons (rowAt l q) (listRowsLeft l (q + 1)) e))
 
   -- ---- flags and padding
 
@@ -96,18 +96,18 @@ module _ (l : List ℕ) where
   unfolding fieldsLawful
   fields-bad {x} p n = rw (← p, ne-eqb x 0 n)
 
-  pub fields-head : {x : ℕ} → x ≡ zeroWord l → x ≡ 0 → allLawful (rowsLeft l 0) ≡ fieldsLawful l
+  pub fields-head : {x : ℕ} → x ≡ zeroWord l → x ≡ 0 → allLawful (listRowsLeft l 0) ≡ fieldsLawful l
   unfolding fieldsLawful
   fields-head {x} p e = rw (← p, eq-eqb x 0 e, left-all)
 
-  pub lawful-next : (q : ℕ) → q < rowCount l → rowLawful (rowAt l q) ≡ true → allLawful (rowsLeft l q) ≡ allLawful (rowsLeft l (q + 1))
+  pub lawful-next : (q : ℕ) → q < rowCount l → rowLawful (rowAt l q) ≡ true → allLawful (listRowsLeft l q) ≡ allLawful (listRowsLeft l (q + 1))
   unfolding allLawful
-  lawful-next q h e = ap allLawful (left-more q h) ∙ ap (λ (b : Bool). b && allLawful (rowsLeft l (q + 1))) e
+  lawful-next q h e = ap allLawful (left-more q h) ∙ ap (λ (b : Bool). b && allLawful (listRowsLeft l (q + 1))) e
 
-  pub lawful-stops : (q : ℕ) → q < rowCount l → rowLawful (rowAt l q) ≡ false → allLawful (rowsLeft l q) ≡ false
+  pub lawful-stops : (q : ℕ) → q < rowCount l → rowLawful (rowAt l q) ≡ false → allLawful (listRowsLeft l q) ≡ false
   unfolding allLawful
-  lawful-stops q h e = ap allLawful (left-more q h) ∙ ap (λ (b : Bool). b && allLawful (rowsLeft l (q + 1))) e
+  lawful-stops q h e = ap allLawful (left-more q h) ∙ ap (λ (b : Bool). b && allLawful (listRowsLeft l (q + 1))) e
 
-  pub lawful-ends : (q : ℕ) → rowCount l ≤ q → allLawful (rowsLeft l q) ≡ true
+  pub lawful-ends : (q : ℕ) → rowCount l ≤ q → allLawful (listRowsLeft l q) ≡ true
   unfolding allLawful
   lawful-ends q h = ap allLawful (left-none q h)

@@ -75,13 +75,13 @@ module _ (i : ℕ) (l : i < 88) (made : madeHere i ≡ false) where
 -- ---- so entries by place are entries by leaf and subleaf, at every place that entries go to
 
 module _ (es : List Entry) where
-  abbrev pub kept : ℕ → Row
-  kept i = pick (entryPlace i) (firstAt i es) vacant
+  abbrev pub keptFirst : ℕ → Row
+  keptFirst i = pick (entryPlace i) (firstAt i es) vacant
 
-  abbrev pub told : ℕ → Row
-  told i = pick (entryPlace i) (first es (leafAt i .0) (subAt i)) vacant
+  abbrev pub toldFirst : ℕ → Row
+  toldFirst i = pick (entryPlace i) (first es (leafAt i .0) (subAt i)) vacant
 
-  pub kept-told : kept ≡ told
+  pub kept-told : keptFirst ≡ toldFirst
   kept-told = fun-ext (λ i. go i (ltb i 88) (madeHere i) refl refl)
     where
       go : (i : ℕ) (a b : Bool) → ltb i 88 ≡ a → madeHere i ≡ b

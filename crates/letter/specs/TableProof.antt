@@ -42,14 +42,15 @@ use Rattle.rise.specs.Added.{Covered}
 use Rattle.rise.specs.KeepsLaws.{Keeps}
 use Rattle.rise.specs.KeptRowsLaws.{verdict-same, built-same}
 use Rattle.rise.specs.RiseProof.{answer-table, accepted-rows}
-use Rattle.rise.specs.Levels.{CountOf, topology-gives}
+use Rattle.rise.specs.Levels.{CountOf}
+use Rattle.rise.specs.LevelsProof.{topology-gives}
 use Rattle.rise.specs.Levels.CountOf.{one, legacy, power}
 use Rattle.letter.specs.Paper.{Line, first, linesWith, lines, tableWith, area}
 use Rattle.letter.specs.Paper as Paper
 use Rattle.letter.specs.Names.{placeFor}
 use Rattle.letter.specs.Figures as Figures
 use Rattle.letter.specs.CountedProof.{counted-same}
-use Rattle.letter.specs.FirstProof.{kept, told, kept-told}
+use Rattle.letter.specs.FirstProof.{keptFirst, toldFirst, kept-told}
 
 -- ---- v
 
@@ -75,11 +76,11 @@ module _ (es : List Entry) where
   at g l k = g (placeFor l k)
 
   module _ (second avic : Bool) where
-    lines-kept : lines second avic (at byPlace) ≡ lines second avic (at (λ i. kept es i .result))
+    lines-kept : lines second avic (at byPlace) ≡ lines second avic (at (λ i. keptFirst es i .result))
     unfolding placeOf keptLeaves tabulate area
     lines-kept = refl
 
-    lines-told : lines second avic (at (λ i. told es i .result)) ≡ lines second avic byLeaf
+    lines-told : lines second avic (at (λ i. toldFirst es i .result)) ≡ lines second avic byLeaf
     unfolding placeOf keptLeaves slot tabulate area
     lines-told = refl
 
@@ -90,11 +91,11 @@ module _ (es : List Entry) where
     abbrev mask : (ℕ → Subleaf → CpuidResult) → ℕ
     mask e = Paper.combined (Paper.masked avic e)
 
-    mask-kept : mask (at byPlace) ≡ mask (at (λ i. kept es i .result))
+    mask-kept : mask (at byPlace) ≡ mask (at (λ i. keptFirst es i .result))
     unfolding placeOf keptLeaves
     mask-kept = refl
 
-    mask-told : mask (at (λ i. told es i .result)) ≡ mask byLeaf
+    mask-told : mask (at (λ i. toldFirst es i .result)) ≡ mask byLeaf
     unfolding placeOf keptLeaves slot
     mask-told = refl
 
@@ -131,7 +132,7 @@ module _ (chosen : Choices) (s : List ℕ) (accepted : answer chosen s .verdict 
   keeps : Keeps (rowsFor chosen s) full
   unfolding rowsOf
   keeps = record {
-    kept = λ i. at′ i (ltb i places) (firstAt i (counted s) .present);
+    keptFirst = λ i. at′ i (ltb i places) (firstAt i (counted s) .present);
     beyond = λ i l. pick-false _ _ (le-ltb i places l) ∙ sym (row-beyond avic s i l);
   }
     where

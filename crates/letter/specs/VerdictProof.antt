@@ -46,7 +46,7 @@ use Rattle.build.specs.Build.{editionVerdict, rowsFor, verdictOf, answer}
 use Rattle.letter.specs.Paper.{first, _then_, area, topology, required, firstMissing, components, firstUnclean, readEntries}
 use Rattle.letter.specs.Paper as Paper
 use Rattle.letter.specs.Names.{placeFor}
-use Rattle.letter.specs.FirstProof.{kept, told, kept-told}
+use Rattle.letter.specs.FirstProof.{keptFirst, toldFirst, kept-told}
 use Rattle.letter.specs.CountedProof.{entries-same, counted-same}
 
 -- ---- words
@@ -257,11 +257,11 @@ module _ (avic : Bool) (s : List ℕ) where
 -- ---- entries by place, entries by leaf and subleaf
 
 module _ (avic : Bool) (es : List Entry) where
-  verdict-kept : Paper.rowsVerdict avic (λ l k. firstAt (placeFor l k) es) ≡ Paper.rowsVerdict avic (λ l k. kept es (placeFor l k))
+  verdict-kept : Paper.rowsVerdict avic (λ l k. firstAt (placeFor l k) es) ≡ Paper.rowsVerdict avic (λ l k. keptFirst es (placeFor l k))
   unfolding placeOf keptLeaves components area
   verdict-kept = refl
 
-  verdict-told : Paper.rowsVerdict avic (λ l k. told es (placeFor l k)) ≡ Paper.rowsVerdict avic (first es)
+  verdict-told : Paper.rowsVerdict avic (λ l k. toldFirst es (placeFor l k)) ≡ Paper.rowsVerdict avic (first es)
   unfolding placeOf keptLeaves slot components area
   verdict-told = refl
 
@@ -269,11 +269,11 @@ module _ (avic : Bool) (es : List Entry) where
   abbrev read : (ℕ → Subleaf → Row) → Verdict × ℕ × ℕ
   read g = (firstMissing avic g required, Paper.xfem (Paper.asMasked avic g), Paper.combined (Paper.asMasked avic g))
 
-  read-kept : read (λ l k. firstAt (placeFor l k) es) ≡ read (λ l k. kept es (placeFor l k))
+  read-kept : read (λ l k. firstAt (placeFor l k) es) ≡ read (λ l k. keptFirst es (placeFor l k))
   unfolding placeOf keptLeaves
   read-kept = refl
 
-  read-told : read (λ l k. told es (placeFor l k)) ≡ read (first es)
+  read-told : read (λ l k. toldFirst es (placeFor l k)) ≡ read (first es)
   unfolding placeOf keptLeaves slot
   read-told = refl
 

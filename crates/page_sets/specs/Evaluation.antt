@@ -30,7 +30,7 @@ use Rattle.collect.specs.FirstEntries.{firstAt, legacyFeatures, rowsOf}
 use Rattle.collect.specs.Stands.{standsAt}
 use Rattle.build.specs.Build.{editionVerdict, underEdition, verdictOf, originsIn, answer}
 use Rattle.collect.specs.Lawful.{lengthVerdict, countsVerdict, reservedVerdict, lawfulVerdict}
-use Rattle.page_sets.specs.Pass.{onPageIn, onPagesIn, uncleanOnPage, uncleanIn, passedLawful, placedEntry, placed, firstPlaced, passedEntries, passedRows, passedVerdict}
+use Rattle.page_sets.specs.Pass.{onPageIn, onPagesIn, uncleanOnPage, uncleanIn, passedLawful, placedEntry, placedEntries, firstPlaced, passedEntries, passedRows, passedVerdict}
 
 -- what the examples choose: secure AVIC off, edition 1
 abbrev pub firstEdition : Choices
@@ -54,5 +54,5 @@ evaluated chosen s = answer chosen s
 
 unfoldable pub passed : Choices → List ℕ → Verdict
 unfolding opened passedVerdict editionVerdict knownEdition passedLawful lengthVerdict badLength uncleanIn uncleanOnPage eightZeros passedRows
-    passedEntries firstPlaced placed placedEntry onPagesIn onPageIn
+    passedEntries firstPlaced placedEntries placedEntry onPagesIn onPageIn
 passed chosen s = passedVerdict chosen s

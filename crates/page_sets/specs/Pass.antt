@@ -1,5 +1,5 @@
 -- Page bytes read in one pass from front to back: what is lawful of them, and their masked first entries. What was read is dropped, where the
--- definitions count each offset from the first byte, and an entry is placed once, where they search the table of kept leaves for each place anew;
+-- definitions count each offset from the first byte, and an entry is placedEntries once, where they search the table of kept leaves for each place anew;
 -- PassLaws.antt shows that the two agree.
 use mathlib.Core.Bool.{Bool}
 use mathlib.Core.List.{List, [], _∷_, _++_}
@@ -83,9 +83,9 @@ unfoldable pub placedEntry : Bool → Entry → Placed
 placedEntry avic e = record { place = placeOfEntry e; registers = maskedAt avic (placeOfEntry e) (e .registers) }
 
 -- those that count
-unfoldable pub placed : Bool → List Entry → List Placed
-placed avic [] = []
-placed avic (e ∷ es) = pick (counts e) (placedEntry avic e ∷ placed avic es) (placed avic es)
+unfoldable pub placedEntries : Bool → List Entry → List Placed
+placedEntries avic [] = []
+placedEntries avic (e ∷ es) = pick (counts e) (placedEntry avic e ∷ placedEntries avic es) (placedEntries avic es)
 
 -- the first that stands at place i
 unfoldable pub firstPlaced : ℕ → List Placed → Row
@@ -93,7 +93,7 @@ firstPlaced i [] = vacant
 firstPlaced i (e ∷ es) = pick (eqb (e .place) i) (row (e .registers)) (firstPlaced i es)
 
 unfoldable pub passedEntries : Bool → List ℕ → List Placed
-passedEntries avic s = placed avic (onPagesIn 0 (pagesIn s) s)
+passedEntries avic s = placedEntries avic (onPagesIn 0 (pagesIn s) s)
 
 unfoldable pub passedRows : Bool → List ℕ → Rows
 passedRows avic s i = pick (ltb i places) (firstPlaced i (passedEntries avic s)) vacant

@@ -29,7 +29,7 @@ use Rattle.collect.specs.FirstEntries.{placeOfEntry, firstAt, maskedAt, maskRow
 use Rattle.finish.specs.RowsBuilt.{tableFor}
 use Rattle.build.specs.Build.{editionVerdict, verdictOf, answer}
 use Rattle.collect.specs.Lawful.{lengthVerdict, countsVerdict, cleanVerdict, reservedVerdict, lawfulVerdict}
-use Rattle.page_sets.specs.Pass.{entryIn, onPageIn, onPagesIn, uncleanOnPage, uncleanIn, passedLawful, placedEntry, placed, firstPlaced, passedEntries, passedRows, passedVerdict, passedTable}
+use Rattle.page_sets.specs.Pass.{entryIn, onPageIn, onPagesIn, uncleanOnPage, uncleanIn, passedLawful, placedEntry, placedEntries, firstPlaced, passedEntries, passedRows, passedVerdict, passedTable}
 
 module _ (s : List ℕ) where
   -- ---- offsets
@@ -119,20 +119,20 @@ module _ (s : List ℕ) where
 
 -- ---- rows
 
-first-placed : (avic : Bool) (i : ℕ) (es : List Entry) → maskRow avic i (firstAt i (keepIf counts es)) ≡ firstPlaced i (placed avic es)
-unfolding firstAt keepIf placed placedEntry firstPlaced
+first-placed : (avic : Bool) (i : ℕ) (es : List Entry) → maskRow avic i (firstAt i (keepIf counts es)) ≡ firstPlaced i (placedEntries avic es)
+unfolding firstAt keepIf placedEntries placedEntry firstPlaced
 first-placed avic i [] = refl
 first-placed avic i (e ∷ es) = by-count (first-placed avic i es) (counts e)
   where
-    by-place : maskRow avic i (firstAt i (keepIf counts es)) ≡ firstPlaced i (placed avic es) → (b : Bool) → eqb (placeOfEntry e) i ≡ b
+    by-place : maskRow avic i (firstAt i (keepIf counts es)) ≡ firstPlaced i (placedEntries avic es) → (b : Bool) → eqb (placeOfEntry e) i ≡ b
         → maskRow avic i (pick b (row (e .registers)) (firstAt i (keepIf counts es)))
-        ≡ pick b (row (maskedAt avic (placeOfEntry e) (e .registers))) (firstPlaced i (placed avic es))
+        ≡ pick b (row (maskedAt avic (placeOfEntry e) (e .registers))) (firstPlaced i (placedEntries avic es))
     by-place rest true f = ap (λ (j : ℕ). row (maskedAt avic j (e .registers))) (sym (eqb-true (placeOfEntry e) i f))
     by-place rest false f = rest
 
-    by-count : maskRow avic i (firstAt i (keepIf counts es)) ≡ firstPlaced i (placed avic es)
+    by-count : maskRow avic i (firstAt i (keepIf counts es)) ≡ firstPlaced i (placedEntries avic es)
         → (b : Bool) → maskRow avic i (firstAt i (pick b (e ∷ keepIf counts es) (keepIf counts es)))
-        ≡ firstPlaced i (pick b (placedEntry avic e ∷ placed avic es) (placed avic es))
+        ≡ firstPlaced i (pick b (placedEntry avic e ∷ placedEntries avic es) (placedEntries avic es))
     by-count rest true = by-place rest (eqb (placeOfEntry e) i) refl
     by-count rest false = rest
 
@@ -140,7 +140,7 @@ pub rows-passed : (avic : Bool) (s : List ℕ) → rowsOf avic s ≡ passedRows 
 unfolding rowsOf counted passedRows passedEntries
 rows-passed avic s =
     fun-ext (λ i. ap (λ (r : Row). pick (ltb i places) r vacant)
-    (first-placed avic i (entries s) ∙ ap (λ (es : List Entry). firstPlaced i (placed avic es)) (entries-passed s)))
+    (first-placed avic i (entries s) ∙ ap (λ (es : List Entry). firstPlaced i (placedEntries avic es)) (entries-passed s)))
 
 -- ---- the answer
 

@@ -6,4 +6,5 @@ pub mod PoolExactly
 pub mod PoolExactlyProof
 pub mod PoolWrites
 pub mod ByTheLetter
+pub mod ByTheLetterProof
 pub mod PoolMoves

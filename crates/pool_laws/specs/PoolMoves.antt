@@ -8,7 +8,7 @@ use Rattle.table.specs.declared.Verdict.the-variants.{Accepted}
 use Rattle.build.specs.Build.{answer}
 use Rattle.rise.specs.Rise.{RiseHypothesis, TableRises}
 use Rattle.rise.specs.RiseProof.{demand-3}
-use Rattle.rise.specs.Preorder.{table-rises-compose}
+use Rattle.rise.specs.PreorderProof.{table-rises-compose}
 use Rattle.pool_sets.specs.Sets.{setAt, lastOf}
 use Rattle.pool.specs.Pool.{pooled}
 use Rattle.pool_laws.specs.PoolRight.{serverTable, poolTable}

@@ -38,7 +38,7 @@ use Rattle.pool_sets.specs.Servers.{serverVerdict, serverRows, poolRows}
 use Rattle.pool.specs.declared.Pooled.{Pooled}
 use Rattle.pool.specs.Pool.{alikeVerdict}
 use Rattle.pool.specs.PooledLaws.{pooledBy, pooled-alike}
-use Rattle.pool_laws.specs.RowsPool.{Among}
+use Rattle.pool_laws.specs.RowsPool.{PoolAmong}
 use Rattle.pool_laws.specs.PoolRight.{SetsAmong, OrderFree}
 
 -- ---- a joined register, said without the order
@@ -115,7 +115,7 @@ unfolding pool withServer
 first-present f zero i = refl
 first-present f (suc n) i = first-present f n i
 
-module _ (f : ℕ → Rows) (n : ℕ) (g : ℕ → Rows) (m : ℕ) (first : f 0 ≡ g 0) (to : Among f n g m) (back : Among g m f n) where
+module _ (f : ℕ → Rows) (n : ℕ) (g : ℕ → Rows) (m : ℕ) (first : f 0 ≡ g 0) (to : PoolAmong f n g m) (back : PoolAmong g m f n) where
   -- what is read of each server
   and-same : (read : Rows → ℕ) → andTo (λ j. read (f j)) n ≡ andTo (λ j. read (g j)) m
   and-same read =
@@ -172,8 +172,8 @@ order-free c pages lengths again againLengths lawful lawful₂ first to back eac
     let n : ℕ = lastOf lengths in
     let m : ℕ = lastOf againLengths in
     let e : f 0 ≡ g 0 = ap (rowsFor c) first in
-    let t : Among f n g m = record { place = to .place; below = to .below; same = λ k l. ap (rowsFor c) (to .same k l) } in
-    let b : Among g m f n = record { place = back .place; below = back .below; same = λ k l. ap (rowsFor c) (back .same k l) } in
+    let t : PoolAmong f n g m = record { place = to .place; below = to .below; same = λ k l. ap (rowsFor c) (to .same k l) } in
+    let b : PoolAmong g m f n = record { place = back .place; below = back .below; same = λ k l. ap (rowsFor c) (back .same k l) } in
     let two = at-least-two pages lengths lawful in
     let two₂ = at-least-two again againLengths lawful₂ in
     let each₂ : (k : ℕ) → k < length againLengths → serverVerdict c again againLengths k ≡ Accepted = λ k l.

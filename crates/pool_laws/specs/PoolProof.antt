@@ -38,7 +38,7 @@ use Rattle.pool_sets.specs.SetsLaws.{at-least-two}
 use Rattle.pool_sets.specs.Servers.{serverVerdict, serverRows}
 use Rattle.pool.specs.Pool.{poolVerdict, pooled}
 use Rattle.pool.specs.PooledLaws.{servers-of, each-accepted, passes-sets, passes-servers, passes-alike}
-use Rattle.pool_laws.specs.RowsPool.{pool-rises, pool-further, Among, no-row-more, no-mask-bit-more, no-feature-more}
+use Rattle.pool_laws.specs.RowsPool.{pool-rises, pool-further, PoolAmong, no-row-more, no-mask-bit-more, no-feature-more}
 use Rattle.pool_laws.specs.PoolRight.{serverTable, poolTable, PoolRight, NoneBeyond, Greatest, SetsAmong, NothingMore, OneMore}
 
 module _ (c : Choices) (pages lengths : List ℕ) (accepted : pooled c pages lengths .verdict ≡ Accepted) where
@@ -187,7 +187,7 @@ one-more c pages lengths more moreLengths m ok ok₂ =
     let b : ℕ → Rows = serverRows c more moreLengths in
     let s = servers c pages lengths ok in
     let t = servers c more moreLengths ok₂ in
-    let among : Among a (lastOf lengths) b (lastOf moreLengths) =
+    let among : PoolAmong a (lastOf lengths) b (lastOf moreLengths) =
     record { place = m .place; below = m .below; same = λ k l. ap (rowsFor c) (m .same k l) } in
     record {
       beyond = record {

@@ -120,12 +120,12 @@ module _ (edition : ℕ) (f : ℕ → Rows) (n : ℕ) (s : Servers f n) (z : (k 
 -- ---- one server more
 
 -- each server of the first pool is one of the second's
-pub record Among (f : ℕ → Rows) (n : ℕ) (g : ℕ → Rows) (m : ℕ) : Type 0 where
+pub record PoolAmong (f : ℕ → Rows) (n : ℕ) (g : ℕ → Rows) (m : ℕ) : Type 0 where
   pub place : (k : ℕ) → k ≤ n → ℕ
   pub below : (k : ℕ) (l : k ≤ n) → place k l ≤ m
   pub same : (k : ℕ) (l : k ≤ n) → g (place k l) ≡ f k
 
-module _ (edition : ℕ) (f : ℕ → Rows) (n : ℕ) (s : Servers f n) (g : ℕ → Rows) (m : ℕ) (t : Servers g m) (among : Among f n g m) where
+module _ (edition : ℕ) (f : ℕ → Rows) (n : ℕ) (s : Servers f n) (g : ℕ → Rows) (m : ℕ) (t : Servers g m) (among : PoolAmong f n g m) where
   pub no-row-more : (i : ℕ) → i < places → finished edition (pool g m) i .present ≡ true → finished edition (pool f n) i .present ≡ true
   no-row-more i l e =
       in-pool edition f n s i l

@@ -26,20 +26,20 @@ abbrev pub refusalOf : LineDetails → Refusal
 refusalOf d = refusalWith (record { number = d .number; leaf = d .leaf; subleaf = d .subleaf; s = d .s })
 
 -- what a refusal tells, as a line says it
-abbrev pub told : Refusal → LineDetails
-told r = lineDetails (details r)
+abbrev pub toldOf : Refusal → LineDetails
+toldOf r = lineDetails (details r)
 
 pub record Lined (r : Refusal) : Type 0 where
-  pub fits : LineFits (told r)
-  pub isWritable : writable (told r) ≡ true
+  pub fits : LineFits (toldOf r)
+  pub isWritable : writable (toldOf r) ≡ true
   -- the line says these details, and they tell this refusal and no other
-  pub readBack : readLine (line (told r)) ≡ Says (told r)
-  pub tells : refusalOf (told r) ≡ r
+  pub readBack : readLine (line (toldOf r)) ≡ Says (toldOf r)
+  pub tells : refusalOf (toldOf r) ≡ r
   -- 22 lent bytes are enough, whatever they hold: the line is written, and what it left at the front is read back
-  pub room : length (line (told r)) ≤ 22
-  pub written : (buffer : List ℕ) → 22 ≤ length buffer → writeLine (told r) buffer .answer ≡ Answered (Bytes (length (line (told r))))
+  pub room : length (line (toldOf r)) ≤ 22
+  pub written : (buffer : List ℕ) → 22 ≤ length buffer → writeLine (toldOf r) buffer .answer ≡ Answered (Bytes (length (line (toldOf r))))
   pub fromBuffer : (buffer : List ℕ) → 22 ≤ length buffer
-      → readLine (take (length (line (told r))) (writeLine (told r) buffer .buffer)) ≡ Says (told r)
+      → readLine (take (length (line (toldOf r))) (writeLine (toldOf r) buffer .buffer)) ≡ Says (toldOf r)
 
 abbrev pub BuildingLined : Type 0
 BuildingLined = (chosen : Choices) (s : List ℕ) → AreBytes s → (r : Refusal) → answer chosen s .verdict ≡ Refused r → Lined r
@@ -47,4 +47,4 @@ BuildingLined = (chosen : Choices) (s : List ℕ) → AreBytes s → (r : Refusa
 -- two page sets, each under choices of its own, whose refusals have one line are refused by one refusal, details included
 abbrev pub LinesTell : Type 0
 LinesTell = (c d : Choices) (s t : List ℕ) → AreBytes s → AreBytes t → (q r : Refusal)
-    → answer c s .verdict ≡ Refused q → answer d t .verdict ≡ Refused r → line (told q) ≡ line (told r) → q ≡ r
+    → answer c s .verdict ≡ Refused q → answer d t .verdict ≡ Refused r → line (toldOf q) ≡ line (toldOf r) → q ≡ r

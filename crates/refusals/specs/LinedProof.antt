@@ -40,13 +40,13 @@ use Rattle.refusals.specs.Conditions.{Check, Fault}
 use Rattle.refusals.specs.Conditions.Check.{edition, pagesLength, pageCounts, reservedBytes, requiredLeaves, invlpgb, components, saveArea, processorCount, hyperthreading, threadsPerUnit}
 use Rattle.refusals.specs.Exactly.{FirstFault}
 use Rattle.refusals.specs.ExactlyProof.{builds-exactly}
-use Rattle.refusals.specs.Lined.{refusalOf, told, Lined, BuildingLined, LinesTell}
+use Rattle.refusals.specs.Lined.{refusalOf, toldOf, Lined, BuildingLined, LinesTell}
 
 -- ---- bounds
 
 -- what a line wants of a refusal
 record Small (r : Refusal) : Type 0 where
-  fits : LineFits (told r)
+  fits : LineFits (toldOf r)
   s : details r .s ≤ mostS
 
 word-fits : (s : List ℕ) → AreBytes s → (o : ℕ) → wordAt s o < 2 ^ 32
@@ -75,7 +75,7 @@ required-small j l =
       s = omega arith;
     }
 
-alone-small : (r : Refusal) → told r .leaf ≡ 0 → subleafOr0 (told r .subleaf) ≡ 0 → details r .s ≤ mostS → Small r
+alone-small : (r : Refusal) → toldOf r .leaf ≡ 0 → subleafOr0 (toldOf r .subleaf) ≡ 0 → details r .s ≤ mostS → Small r
 alone-small r a b c = record { fits = record { leaf = omega arith; subleaf = omega arith }; s = c }
 
 size-small : (chosen : Choices) (s : List ℕ) → inputsOf (rowsFor chosen s) .s ≤ mostS
@@ -120,20 +120,20 @@ small-lined r z = record {
 }
   where
     d : LineDetails
-    d = told r
+    d = toldOf r
 
-    w : writable (told r) ≡ true
+    w : writable (toldOf r) ≡ true
     w = every-refusal r (z .s)
 
     whole : (buffer : List ℕ) → 22 ≤ length buffer
-        → writeLine (told r) buffer ≡ leaves (Answered (Bytes (length (line (told r))))) (sets buffer 0 (line (told r)))
-    whole buffer h = write-whole (told r) buffer w (omega (arith, at-most-22 (told r)))
+        → writeLine (toldOf r) buffer ≡ leaves (Answered (Bytes (length (line (toldOf r))))) (sets buffer 0 (line (toldOf r)))
+    whole buffer h = write-whole (toldOf r) buffer w (omega (arith, at-most-22 (toldOf r)))
 
 pub building-lined : BuildingLined
 building-lined chosen s h r e = small-lined r (refusal-small chosen s h r e)
 
 -- and each refusal that names nothing, whoever gives it
-pub plain-lined : (r : Refusal) → told r .leaf ≡ 0 → subleafOr0 (told r .subleaf) ≡ 0 → details r .s ≡ 0 → Lined r
+pub plain-lined : (r : Refusal) → toldOf r .leaf ≡ 0 → subleafOr0 (toldOf r .subleaf) ≡ 0 → details r .s ≡ 0 → Lined r
 plain-lined r a b c = small-lined r (alone-small r a b (omega arith))
 
 pub lines-tell : LinesTell
@@ -141,5 +141,5 @@ lines-tell c d s t h k q r e f same =
     let a : Lined q = building-lined c s h q e in
     let b : Lined r = building-lined d t k r f in
     sym (a .tells)
-    ∙ ap refusalOf (lines-differ (told q) (told r) (a .fits) (b .fits) (a .isWritable) (b .isWritable) same)
+    ∙ ap refusalOf (lines-differ (toldOf q) (toldOf r) (a .fits) (b .fits) (a .isWritable) (b .isWritable) same)
     ∙ b .tells

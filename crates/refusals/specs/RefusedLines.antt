@@ -18,13 +18,13 @@ use Rattle.page_sets.specs.PassLaws.{verdict-passed}
 use Rattle.page_sets.specs.Evaluation.{firstEdition, passed}
 use Rattle.lines.specs.NumbersInUse.{rows, names}
 use Rattle.lines.specs.Line.{fields, line}
-use Rattle.refusals.specs.Lined.{told, Lined}
+use Rattle.refusals.specs.Lined.{toldOf, Lined}
 use Rattle.refusals.specs.LinedProof.{building-lined}
 
 -- the line of a verdict that refuses
 abbrev pub lineOf : Verdict → List ℕ
 lineOf Accepted = []
-lineOf (Refused r) = line (told r)
+lineOf (Refused r) = line (toldOf r)
 
 -- s = 1, and one processor: 7
 unfoldable pub sizeOne : List ℕ

@@ -28,7 +28,7 @@ use Rattle.build.specs.BuildLaws.{answer-of-rows}
 use Rattle.rise.specs.StandsLaws.{stands-begins}
 use Rattle.rise.specs.LocatedProof.{entry-there, refused-has-none}
 use Rattle.rise.specs.Rise.{EntryRises, RiseHypothesis}
-use Rattle.rise.specs.Same.{rises-itself}
+use Rattle.rise.specs.SameProof.{rises-itself}
 use Rattle.rise.specs.Added.{Added, Covered, AddedChangesNothing, AddedRisesBothWays}
 use Rattle.rise.specs.BeginningLaws.{counted-begin}
 use Rattle.rise.specs.KeepsLaws.{Keeps, rows-kept}

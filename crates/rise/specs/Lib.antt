@@ -4,9 +4,12 @@ pub mod RowsRise
 pub mod Decide
 pub mod RiseProof
 pub mod Same
+pub mod SameProof
 pub mod Preorder
+pub mod PreorderProof
 pub mod BuiltLaws
 pub mod Levels
+pub mod LevelsProof
 pub mod Located
 pub mod StandsLaws
 pub mod LocatedProof

@@ -19,5 +19,5 @@ unfoldable pub again : Bool → Rows → Rows
 again avic t i = pick (ltb i places) (readAgain avic i (t i)) vacant
 
 -- rows as pages give them: masking again changes nothing
-pub record Masked (avic : Bool) (m : Rows) : Type 0 where
+pub record MaskedAgain (avic : Bool) (m : Rows) : Type 0 where
   pub fixed : (i : ℕ) → i < places → m i .present ≡ true → maskedAt avic i (m i .result) ≡ m i .result

@@ -17,7 +17,7 @@ use Rattle.masking.specs.Place
 use Rattle.table.specs.Rows.{row, vacant}
 use Rattle.collect.specs.FirstEntries.{firstAt, legacyFeatures, maskedAt, maskRow, rowsOf}
 use Rattle.collect.specs.FirstEntriesLaws.{row-of-place}
-use Rattle.round_trip.specs.Again.{Masked}
+use Rattle.round_trip.specs.Again.{MaskedAgain}
 
 and-again : (x m : ℕ) → bitAnd (bitAnd x m) m ≡ bitAnd x m
 and-again x m = bits-ext _ _ (λ k. omega (arith, bit-and k (bitAnd x m) m, bit-and k x m))
@@ -46,7 +46,7 @@ masked-again avic i r = λ k.
     (and-again (r .ecx) (masksAt avic i .ecx) k)
     (and-again (r .edx) (masksAt avic i .edx) k)
 
-pub rows-masked : (avic : Bool) (s : List ℕ) → Masked avic (rowsOf avic s)
+pub rows-masked : (avic : Bool) (s : List ℕ) → MaskedAgain avic (rowsOf avic s)
 rows-masked avic s = record { fixed = λ i l p. at i l p }
   where
     mask-row : (i : ℕ) (b : Bool) (r : CpuidResult) → pick b (row (maskedAt avic i r)) vacant .present ≡ true

@@ -177,19 +177,19 @@ module _ (A B : List ListRow) (fitA : AllFit A) (fitB : AllFit B) (fewA : length
   pub length-s : length s ≡ 8192
   length-s = length-bytes W ∙ omega (arith, length-append (pageWords A) (pageWords B), length-page A fewA, length-page B fewB)
 
-  abbrev pub afterA : List ℕ
-  afterA = replicate (1020 - 12 * length A) 0 ++ pageWords B
+  abbrev pub wordsAfterA : List ℕ
+  wordsAfterA = replicate (1020 - 12 * length A) 0 ++ pageWords B
 
-  abbrev pub afterB : List ℕ
-  afterB = replicate (1020 - 12 * length B) 0
+  abbrev pub wordsAfterB : List ℕ
+  wordsAfterB = replicate (1020 - 12 * length B) 0
 
   -- word j of the entry at position q of each page
-  pub word-0 : (q j : ℕ) → wordAt s (4096 * 0 + 16 + 48 * q + 4 * j) ≡ lowWord (getD (entriesWords A ++ afterA) (12 * q + j) 0)
+  pub word-0 : (q j : ℕ) → wordAt s (4096 * 0 + 16 + 48 * q + 4 * j) ≡ lowWord (getD (entriesWords A ++ wordsAfterA) (12 * q + j) 0)
   word-0 q j =
       let p : 4096 * 0 + 16 + 48 * q + 4 * j ≡ 4 * suc (suc (suc (suc (12 * q + j)))) = omega arith in
       ap (wordAt s) p ∙ word-bytes W (suc (suc (suc (suc (12 * q + j))))) ∙ ap lowWord (words-0 (12 * q + j))
 
-  pub word-1 : (q j : ℕ) → wordAt s (4096 * 1 + 16 + 48 * q + 4 * j) ≡ lowWord (getD (entriesWords B ++ afterB) (12 * q + j) 0)
+  pub word-1 : (q j : ℕ) → wordAt s (4096 * 1 + 16 + 48 * q + 4 * j) ≡ lowWord (getD (entriesWords B ++ wordsAfterB) (12 * q + j) 0)
   word-1 q j =
       let p : 4096 * 1 + 16 + 48 * q + 4 * j ≡ 4 * (1024 + suc (suc (suc (suc (12 * q + j))))) = omega arith in
       ap (wordAt s) p
@@ -197,10 +197,10 @@ module _ (A B : List ListRow) (fitA : AllFit A) (fitB : AllFit B) (fewA : length
       ∙ ap lowWord (words-1 (suc (suc (suc (suc (12 * q + j))))) ∙ words-page B (12 * q + j))
 
   entries-0 : map ofEntry (onPage s 0 0 (length A)) ≡ map ofRow A
-  entries-0 = page-words s 0 (length A) _ word-0 ∙ page-read A afterA fitA
+  entries-0 = page-words s 0 (length A) _ word-0 ∙ page-read A wordsAfterA fitA
 
   entries-1 : map ofEntry (onPage s 1 0 (length B)) ≡ map ofRow B
-  entries-1 = page-words s 1 (length B) _ word-1 ∙ page-read B afterB fitB
+  entries-1 = page-words s 1 (length B) _ word-1 ∙ page-read B wordsAfterB fitB
 
   pub pages-in : pagesIn s ≡ 2
   pages-in = ap (λ (n : ℕ). n / 4096) length-s

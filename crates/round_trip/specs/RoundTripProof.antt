@@ -41,7 +41,7 @@ use Rattle.kvm_export.specs.ExportListLaws.{count-rows, export-length}
 use Rattle.round_trip.specs.Again.{readAgain, again}
 use Rattle.round_trip.specs.RowsAgain.{built-again}
 use Rattle.round_trip.specs.MaskedRows.{rows-masked}
-use Rattle.round_trip.specs.TableList.{rowsRead, fit-0, fit-1, rows-read, list-accepted}
+use Rattle.round_trip.specs.TableList.{listRowsRead, fit-0, fit-1, rows-read, list-accepted}
 use Rattle.round_trip.specs.PagesRead.{AllFit, pages-first}
 use Rattle.round_trip.specs.PagesLawful.{pages-lawful}
 use Rattle.round_trip.specs.TableRows.{fit-cut, first-in-table, masked-stands}
@@ -51,9 +51,9 @@ use Rattle.round_trip.specs.RoundTrip.{listLength, exported, imported as
 
 module _ (t : CpuidResults) where
   abbrev imported : List ℕ
-  imported = pagesOf (rowsRead t)
+  imported = pagesOf (listRowsRead t)
 
-  fit : AllFit (rowsRead t)
+  fit : AllFit (listRowsRead t)
   fit = fit-cut (listRows t)
 
   -- their rows are the table's, read again
@@ -65,7 +65,7 @@ module _ (t : CpuidResults) where
           (rowIn t i)) vacant
       go i true e =
           let l : i < places = ltb-true i places e in
-          ap (maskRow avic i) (pages-first (rowsRead t) fit (fit-0 t) (fit-1 t) i l ∙ first-in-table t i l) ∙ masked-stands avic t i l
+          ap (maskRow avic i) (pages-first (listRowsRead t) fit (fit-0 t) (fit-1 t) i l ∙ first-in-table t i l) ∙ masked-stands avic t i l
       go i false e = refl
 
 again-ext : (avic : Bool) (a b : Rows) → ((i : ℕ) → i < places → a i ≡ b i) → again avic a ≡ again avic b
@@ -82,7 +82,7 @@ module _ (t : CpuidResults) where
       (listOf t) pages ≡ record { answer = Bytes 8192; buffer = imported t ++ drop 8192 pages }
   unfolding readList writeFront
   read-table pages h =
-      let n : length (imported t) ≡ 8192 = two-pages (rowsRead t) (fit-0 t) (fit-1 t) in
+      let n : length (imported t) ≡ 8192 = two-pages (listRowsRead t) (fit-0 t) (fit-1 t) in
       rw (list-accepted t, rows-read t, n, le-leb 8192 (length pages) h)
 
 -- ---- the answer's own list
@@ -115,7 +115,7 @@ list-writes-exactly chosen s buffer = record {
 same-answer : (chosen : Choices) (s : List ℕ) → answer chosen s .verdict ≡ Accepted → SameButOrigins (answer chosen (imported (answer chosen s .table))) (answer chosen s)
 same-answer chosen s e =
     let t : CpuidResults = answer chosen s .table in
-    answer-of-rows chosen (imported t) (accepted-edition chosen s e) (pages-lawful (rowsRead t) (fit t) (fit-0 t) (fit-1 t))
+    answer-of-rows chosen (imported t) (accepted-edition chosen s e) (pages-lawful (listRowsRead t) (fit t) (fit-0 t) (fit-1 t))
     ∙ ap (builtFrom (chosen .edition)) (imported-rows t (chosen .«secure_avic») ∙ again-ext (chosen .«secure_avic») (tableRows t) (finished (chosen .edition) (rowsFor chosen s)) (answer-row chosen s e))
     ∙ built-again (chosen .edition) (chosen .«secure_avic») (rowsFor chosen s) (rows-masked (chosen .«secure_avic») s) (accepted-rows chosen s e)
     ∙ sym (answer-of-rows chosen s (accepted-edition chosen s e) (accepted-lawful chosen s e))
@@ -130,7 +130,7 @@ round-trip chosen s e buffer pages h k =
     let f : exported chosen s buffer ≡ listOf t = rw (b, ← n) (take-front (listOf t) _) in
     let r : readList (exported chosen s buffer) pages ≡ record { answer = Bytes 8192; buffer = imported t ++ drop 8192 pages } =
     ap (λ (l : List ℕ). readList l pages) f ∙ read-table t pages k in
-    let two : length (imported t) ≡ 8192 = two-pages (rowsRead t) (fit-0 t) (fit-1 t) in
+    let two : length (imported t) ≡ 8192 = two-pages (listRowsRead t) (fit-0 t) (fit-1 t) in
     let g : importedOf chosen s buffer pages ≡ imported t =
     ap (λ (o : AfterWrite). take 8192 (o .buffer)) r ∙ ap (λ (m : ℕ). take m (imported t ++ drop 8192 pages)) (sym two) ∙ take-front (imported t) _ in
     record {

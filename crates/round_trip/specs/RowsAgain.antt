@@ -41,7 +41,7 @@ use Rattle.table.specs.declared.CpuidResults.{CpuidResults}
 use Rattle.table.specs.Table.{tableOf, countRows}
 use Rattle.finish.specs.RowsBuilt.{tableFor, builtFrom}
 use Rattle.collect.specs.FirstEntries.{maskedAt, maskRow}
-use Rattle.round_trip.specs.Again.{readAgain, again, Masked}
+use Rattle.round_trip.specs.Again.{readAgain, again, MaskedAgain}
 use Rattle.round_trip.specs.RuleAgain.{isSizes, sizes-bit-3, has-of-bit, finish-again, remains-again}
 
 -- ---- a row, whatever the settings
@@ -69,7 +69,7 @@ entry-present : (b : Bool) (x : CpuidResult) → pick b (row x) vacant .present 
 entry-present true x = refl
 entry-present false x = refl
 
-module _ (edition : ℕ) (avic : Bool) (m : Rows) (masked : Masked avic m) where
+module _ (edition : ℕ) (avic : Bool) (m : Rows) (masked : MaskedAgain avic m) where
   abbrev n : Rows
   n = again avic (finished edition m)
 

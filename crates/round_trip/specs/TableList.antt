@@ -82,8 +82,8 @@ tally-0 = refl
 
 module _ (t : CpuidResults) where
   -- the rows that reading gives
-  abbrev pub rowsRead : List ListRow
-  rowsRead = map cutRow (listRows t)
+  abbrev pub listRowsRead : List ListRow
+  listRowsRead = map cutRow (listRows t)
 
   pub few-rows : length (listRows t) ≤ places
   unfolding listRows
@@ -92,15 +92,15 @@ module _ (t : CpuidResults) where
   small : length (listRows t) < 4294967296
   small = omega (arith, few-rows)
 
-  pub fit-0 : length (rowsOn0 rowsRead) ≤ mostEntries
+  pub fit-0 : length (rowsOn0 listRowsRead) ≤ mostEntries
   unfolding rowsOn0 listRows
   fit-0 = omega (arith, kept-from t (λ r. not (isExtendedState r)) (λ k. not (isDh k)) (λ k r. refl) 0 places, tally-0)
 
-  pub fit-1 : length (rowsOn1 rowsRead) ≤ mostEntries
+  pub fit-1 : length (rowsOn1 listRowsRead) ≤ mostEntries
   unfolding rowsOn1 listRows
   fit-1 = omega (arith, kept-from t isExtendedState isDh (λ k r. refl) 0 places, tally-1)
 
-  pub rows-read : rowsListed (listOf t) ≡ rowsRead
+  pub rows-read : rowsListed (listOf t) ≡ listRowsRead
   unfolding listOf
   rows-read = list-rows (listRows t) small
 
@@ -122,7 +122,7 @@ module _ (t : CpuidResults) where
         good-length,
         good-fields,
         rows-read,
-        le-leb (length (rowsOn0 rowsRead)) mostEntries fit-0,
+        le-leb (length (rowsOn0 listRowsRead)) mostEntries fit-0,
         le-leb (length
-            (rowsOn1 rowsRead)) mostEntries fit-1,
+            (rowsOn1 listRowsRead)) mostEntries fit-1,
       )

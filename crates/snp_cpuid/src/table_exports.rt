@@ -43,7 +43,7 @@ ghost use Rattle.image_read.specs.ReadIn.{ReadIn};
 ghost use Rattle.kvm_export.specs.Export.{listOf};
 ghost use Rattle.guest_state.specs.InUse.{readRows, inUse};
 ghost use Rattle.guest.specs.Guest.{guestAnswer};
-ghost use Rattle.guest.specs.Seen.{tableWith, foundIn};
+ghost use Rattle.guest.specs.Seen.{tableWith, guestFoundIn};
 ghost use Rattle.carry.specs.Carry.{carry};
 ghost use Rattle.carry.specs.CarriedInPlace.{CarriedIn};
 ghost use Rattle.tables_compared.specs.CompareTables.{comparedTables};
@@ -116,7 +116,7 @@ pub extern "C" fn snp_cpuid_table_guest_find(
     subleaf: u32,
     enforce_subleaf: bool,
 ) -> SnpCpuidGuestFound
-    ensures { λ r. ⌜ r ≡ guestFoundNumbers (foundIn (guestAnswer (heldIn (now (registers .entry)) (now (origins .entry))) (processorOf x2apic xcr0 xss osxsave)) (now (origins .entry)) (function leaf) (subleafOf «has_subleaf» subleaf) «enforce_subleaf») ⌝ }
+    ensures { λ r. ⌜ r ≡ guestFoundNumbers (guestFoundIn (guestAnswer (heldIn (now (registers .entry)) (now (origins .entry))) (processorOf x2apic xcr0 xss osxsave)) (now (origins .entry)) (function leaf) (subleafOf «has_subleaf» subleaf) «enforce_subleaf») ⌝ }
 {
     let v = processor(x2apic, xcr0, xss, osxsave);
     let named = subleaf_of(has_subleaf, subleaf);

@@ -10,8 +10,8 @@ use Rattle.table.specs.declared.Verdict.{Verdict}
 use Rattle.build.specs.Built.{SameButOrigins}
 use Rattle.build.specs.Build.{answer}
 use Rattle.rise.specs.Rise.{RiseHypothesis}
-use Rattle.rise.specs.Same.{rises-itself, same-figures}
-use Rattle.rise.specs.Preorder.{rises-compose}
+use Rattle.rise.specs.SameProof.{rises-itself, same-figures}
+use Rattle.rise.specs.PreorderProof.{rises-compose}
 use Rattle.table.specs.Numbers.{numbersOf}
 use Rattle.theorems.specs.Exported.{built, compareAnswer, exports-compare, verdict-numbered}
 

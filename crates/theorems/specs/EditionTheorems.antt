@@ -22,11 +22,13 @@ use Rattle.carry.specs.AbsentRows as AbsentRows
 use Rattle.images.specs.Carried.{CarryKeeps, CarriesInPlace}
 use Rattle.images.specs.CarriedLaws.{carry-keeps, carries-in-place}
 use Rattle.images.specs.CarriedRows as CarriedRows
+use Rattle.images.specs.CarriedRowsProof as CarriedRowsProof
 use Rattle.images.specs.ReadBack.{ImageReadsBack, BuiltReadsBack, OnlyImagesRead}
 use Rattle.images.specs.ReadBackProof as ReadBack
 use Rattle.images.specs.Moves.{MovesToSecond}
 use Rattle.images.specs.MovesProof.{moves-to-second}
-use Rattle.images.specs.CarryExactly.{CarryExactly, carry-exactly}
+use Rattle.images.specs.CarryExactly.{CarryExactly}
+use Rattle.images.specs.CarryExactlyProof.{carry-exactly}
 use Rattle.examples.specs.WithoutYmmMoved as Moved
 use Rattle.page_sets.specs.Evaluation.{firstEdition}
 
@@ -92,12 +94,12 @@ carrying-changes-nothing-else = carry-keeps
 -- of any table from 1 to 2: rows 1 and 80000001h lose exactly the three bits where its own D.0.EAX lacks bit 2, absent rows reading as zeros, and
 -- every other row is as it was. crates/images/specs/CarriedRows.antt; `without-ymm-moved` below meets it
 pub carrying-clears-exactly : CarriedRows.CarriesRows
-carrying-clears-exactly = CarriedRows.carries-rows
+carrying-clears-exactly = CarriedRowsProof.carries-rows
 
 -- in place, within one edition: no lent byte changes, whatever is answered. Any slice of bytes meets it; of a list with a larger element it is false
 -- (crates/examples/specs/NoByteExamples.antt)
 pub carried-in-place-within : CarriedRows.StaysWithin
-carried-in-place-within = CarriedRows.stays-within
+carried-in-place-within = CarriedRowsProof.stays-within
 
 -- lent bytes that are an image become the carried table's, as many as before
 pub carried-in-place : CarriesInPlace

@@ -22,13 +22,15 @@ use Rattle.guest_state.specs.State.{stateVerdict}
 use Rattle.guest.specs.declared.Processor.{Processor}
 use Rattle.guest.specs.Guest.{guestTable, refusedAnswer}
 use Rattle.guest.specs.GuestPages.{guestPages, writeGuest}
-use Rattle.guest_rise.specs.StateExactly.{StateAnswers, state-answers}
+use Rattle.guest_rise.specs.StateExactly.{StateAnswers}
+use Rattle.guest_rise.specs.StateExactlyProof.{state-answers}
 use Rattle.guest_rise.specs.GuestExactly.{GuestExactly, guest-exactly, guest-writes-exactly}
 use Rattle.guest_rise.specs.GuestRise.{GuestRise, GuestOutcome, GuestTableRises, compactsIn}
 use Rattle.guest_rise.specs.GuestPreorder.{guest-rises-compose}
 use Rattle.guest_rise.specs.GuestRiseProof as GuestRiseProof
 use Rattle.guest.specs.SeenLaws as Seen
-use Rattle.guest.specs.SeenExactly.{SeenExactly, seen-exactly}
+use Rattle.guest.specs.SeenExactly.{SeenExactly}
+use Rattle.guest.specs.SeenExactlyProof.{seen-exactly}
 use Rattle.guest_rise.specs.GuestRisen.{GuestRiseAll, guest-rises-all}
 use Rattle.examples.specs.CompactSizes.{sizes, sizes-are}
 use Rattle.examples.specs.SeenExamples.{processor, figures}

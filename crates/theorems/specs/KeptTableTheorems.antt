@@ -25,7 +25,7 @@ use Rattle.lookup.specs.Lookup.{found}
 use Rattle.guest.specs.declared.Processor.{Processor}
 use Rattle.guest.specs.declared.GuestFound.the-variants.{Looked}
 use Rattle.guest.specs.Guest.{guestAnswer}
-use Rattle.guest.specs.Seen.{tableWith, foundIn as guestFoundIn}
+use Rattle.guest.specs.Seen.{tableWith, guestFoundIn}
 use Rattle.guest.specs.FindLaws as FindLaws
 use Rattle.guest.specs.GuestPages.{guestPages}
 use Rattle.guest.specs.FromMemory.{guest-from-memory}

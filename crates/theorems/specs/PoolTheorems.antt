@@ -16,7 +16,8 @@ use Rattle.pool.specs.Pool.{pooled}
 use Rattle.pool.specs.WritePool.{writePool}
 use Rattle.pool_laws.specs.PoolRight.{serverTable, poolTable, PoolRight, NoneBeyond, Greatest, OneMore, OrderFree, NothingMore}
 use Rattle.pool_laws.specs.PoolProof.{pool-right, greatest, one-more}
-use Rattle.pool_laws.specs.ByTheLetter.{NoFeatureBeyond, GreatestByTheLetter, OneMoreByTheLetter, greatest-by-the-letter, one-more-by-the-letter}
+use Rattle.pool_laws.specs.ByTheLetter.{NoFeatureBeyond, GreatestByTheLetter, OneMoreByTheLetter}
+use Rattle.pool_laws.specs.ByTheLetterProof.{greatest-by-the-letter, one-more-by-the-letter}
 use Rattle.pool_laws.specs.PoolOrderProof.{order-free}
 use Rattle.pool_laws.specs.PoolMoves.{PoolMoves, pool-moves}
 use Rattle.pool_laws.specs.PoolExactly.{PoolExactly, ServerFault, DifferFault}

@@ -17,8 +17,9 @@ use Rattle.build.specs.Built.{SameButOrigins}
 use Rattle.build.specs.Build.{answer}
 use Rattle.rise.specs.Rise.{RiseHypothesis, HypothesisByTheLetter, RiseConclusion, TableRises}
 use Rattle.rise.specs.RiseProof.{demand-3, demand-3-by-the-letter}
-use Rattle.rise.specs.Same.{rises-itself, same-figures}
+use Rattle.rise.specs.SameProof.{rises-itself, same-figures}
 use Rattle.rise.specs.Preorder as Preorder
+use Rattle.rise.specs.PreorderProof as PreorderProof
 use Rattle.rise.specs.Preorder.{SameRows}
 use Rattle.theorems.specs.Exported.{ExportsRise, exports-rise}
 use Rattle.topology.specs.declared.TopologyError.the-variants.{ThreadsPerUnit}
@@ -59,30 +60,30 @@ each-rises-to-itself = rises-itself
 -- and the moves compose: from A to B and from B to C is from A to C. So the hypothesis is a preorder of the accepted servers, and those that rise to
 -- each other have one table. crates/rise/specs/Preorder.antt. Servers W, A and B below meet both hypotheses.
 pub moves-compose : (chosen : Choices) (a b c : List ℕ) → RiseHypothesis chosen a b → RiseHypothesis chosen b c → RiseHypothesis chosen a c
-moves-compose = Preorder.rises-compose
+moves-compose = PreorderProof.rises-compose
 
 -- round a ring of three servers every answer is the same except for origins. Server A with entries added, A, and A with a page added are such a ring (P9).
 pub around-a-ring : (chosen : Choices) (a b c : List ℕ) → RiseHypothesis chosen a b → RiseHypothesis chosen b c → RiseHypothesis chosen c a
     → SameButOrigins (answer chosen a) (answer chosen b) × SameButOrigins (answer chosen b) (answer chosen c)
-around-a-ring = Preorder.around-the-same
+around-a-ring = PreorderProof.around-the-same
 
 -- of tables the same: each rises to itself, rises compose, and two rise to each other exactly where they have the same rows and mask
 pub tables-rise-to-themselves : (t : CpuidResults) → TableRises t t
-tables-rise-to-themselves = Preorder.table-rises-itself
+tables-rise-to-themselves = PreorderProof.table-rises-itself
 
 pub table-rises-compose : (t u v : CpuidResults) → TableRises t u → TableRises u v → TableRises t v
-table-rises-compose = Preorder.table-rises-compose
+table-rises-compose = PreorderProof.table-rises-compose
 
 pub both-ways-the-same-rows : (t u : CpuidResults) → (TableRises t u × TableRises u t) ↔ SameRows t u
-both-ways-the-same-rows t u = (λ p. Preorder.both-ways-same t u (p .0) (p .1), Preorder.same-both-ways t u)
+both-ways-the-same-rows t u = (λ p. PreorderProof.both-ways-same t u (p .0) (p .1), PreorderProof.same-both-ways t u)
 
 -- "the same table" would be too much: of rows that are not there nothing is asked, so two tables without a row rise to each other whatever they hold
 -- there. Tables that building gives have zeros there, and are equal (`same-figures-both-ways`).
 pub absent-rows-are-free : (r s : CpuidResult) → TableRises (Preorder.withoutRows r) (Preorder.withoutRows s)
-absent-rows-are-free = Preorder.without-rows-rise
+absent-rows-are-free = PreorderProof.without-rows-rise
 
 pub absent-rows-may-differ : rowIn (Preorder.withoutRows (result 0 0 0 0)) 0 ≡ rowIn (Preorder.withoutRows (result 1 0 0 0)) 0 → ⊥
-absent-rows-may-differ = Preorder.and-differ
+absent-rows-may-differ = PreorderProof.and-differ
 
 -- Examples: servers W, A and B, with combined masks 3, 7 and 18E7h (`b-richer`), and the move from W to B. crates/examples/specs/Chain.antt
 pub w-to-a : RiseHypothesis firstEdition serverW serverA

@@ -12,7 +12,8 @@ use Rattle.table.specs.declared.Verdict.the-variants.{Accepted, Refused}
 use Rattle.topology.specs.declared.Topology.the-variants.{Processors}
 use Rattle.topology.specs.Topology.{Inputs, inputs, topologyOf, shiftOf}
 use Rattle.topology.specs.TopologyLaws.{LeastShift, shift-least}
-use Rattle.topology.specs.ShiftChange.{HighestBit, ShiftChange, shift-changes, three-and-128}
+use Rattle.topology.specs.ShiftChange.{HighestBit, ShiftChange}
+use Rattle.topology.specs.ShiftChangeProof.{shift-changes, three-and-128}
 use Rattle.topologies.specs.Topologies.{acceptedInputs, inputsBytes, writeTopologies}
 use Rattle.topologies.specs.TopologyWriteLaws.{list-bytes}
 use Rattle.topology_list.specs.Listed.{In, Determined, Counted as TopologiesCounted}
@@ -22,7 +23,8 @@ use Rattle.topology_list.specs.BuildsProof.{builds-listed}
 use Rattle.topology_list.specs.Writes.{writes-exactly as topologies-write-exactly}
 use Rattle.examples.specs.TopologyExamples as Topologies
 use Rattle.build.specs.Build.{rowsFor, answer}
-use Rattle.rise.specs.Levels.{AcceptedLevels, accepted-levels}
+use Rattle.rise.specs.Levels.{AcceptedLevels}
+use Rattle.rise.specs.LevelsProof.{accepted-levels}
 use Rattle.buffer.specs.WritesExactly.{FrontExactly}
 use Rattle.topology.specs.declared.TopologyError.the-variants.{ProcessorCount}
 use Rattle.page_sets.specs.Evaluation.{firstEdition}

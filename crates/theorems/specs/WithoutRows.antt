@@ -51,11 +51,12 @@ use Rattle.kvm_list.specs.Format.{listBytes, allWords}
 use Rattle.kvm_export.specs.Export.{listOf, listRows, rowsFrom}
 use Rattle.guest_state.specs.State.{compactRegister, stateVerdict}
 use Rattle.guest_state.specs.InUse.{readRows, inUse, inUseBy}
-use Rattle.guest_rise.specs.StateExactly.{StateAnswers, state-answers}
+use Rattle.guest_rise.specs.StateExactly.{StateAnswers}
+use Rattle.guest_rise.specs.StateExactlyProof.{state-answers}
 use Rattle.guest_rise.specs.StateExactly.StateAnswers.{beyond, large, given}
 use Rattle.guest.specs.declared.Processor.{Processor}
 use Rattle.guest.specs.Guest.{guestAnswer, answerFor}
-use Rattle.guest.specs.Seen.{tableWith, foundIn}
+use Rattle.guest.specs.Seen.{tableWith, guestFoundIn as foundIn}
 use Rattle.carry.specs.Carry.{carry, carryVerdict, ownRows}
 use Rattle.tables_compared.specs.declared.TablesCompared.the-variants.{Rises, NoRow, Beyond}
 use Rattle.tables_compared.specs.CompareTables.{comparedTables, furtherTest}

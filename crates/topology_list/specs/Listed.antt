@@ -26,18 +26,18 @@ pub record FieldsFit (i : Inputs) : Type 0 where
   pub t : i .t < 256
 
 -- "ordered by s, nc, lps, mt, t in turn"
-pub data Before (i j : Inputs) : Type 0 where
-  by-s : i .s < j .s → Before i j
-  by-nc : i .s ≡ j .s → i .nc < j .nc → Before i j
-  by-lps : i .s ≡ j .s → i .nc ≡ j .nc → i .lps < j .lps → Before i j
-  by-mt : i .s ≡ j .s → i .nc ≡ j .nc → i .lps ≡ j .lps → i .mt < j .mt → Before i j
-  by-t : i .s ≡ j .s → i .nc ≡ j .nc → i .lps ≡ j .lps → i .mt ≡ j .mt → i .t < j .t → Before i j
+pub data InputsBefore (i j : Inputs) : Type 0 where
+  by-s : i .s < j .s → InputsBefore i j
+  by-nc : i .s ≡ j .s → i .nc < j .nc → InputsBefore i j
+  by-lps : i .s ≡ j .s → i .nc ≡ j .nc → i .lps < j .lps → InputsBefore i j
+  by-mt : i .s ≡ j .s → i .nc ≡ j .nc → i .lps ≡ j .lps → i .mt < j .mt → InputsBefore i j
+  by-t : i .s ≡ j .s → i .nc ≡ j .nc → i .lps ≡ j .lps → i .mt ≡ j .mt → i .t < j .t → InputsBefore i j
 
 -- what P14 asks of a list
 pub record ListsAccepted (l : List Inputs) : Type 0 where
   pub each : (i : Inputs) → FieldsFit i → accepts i ≡ true → In i l
   pub no-other : (i : Inputs) → In i l → FieldsFit i × (accepts i ≡ true)
-  pub ascends : Ascending Before l
+  pub ascends : Ascending InputsBefore l
 
 -- the definition's list has it, and any list that has it is the definition's
 pub record Determined : Type 0 where

@@ -17,7 +17,7 @@ use Rattle.topologies.specs.GatherLaws.{gather-length}
 use Rattle.topologies.specs.Topologies.{accepts, ifAccepted, acceptedAt, acceptedOf, acceptedInputs}
 use Rattle.topologies.specs.CountLaws.{many, count-of, count-all}
 use Rattle.topology_list.specs.Listed.{In, FieldsFit, ListsAccepted, Determined, Counted}
-use Rattle.topology_list.specs.RankLaws.{rank, Rising, ascending-rises, rising-ascends, rising-unique}
+use Rattle.topology_list.specs.RankLaws.{inputsRank, InputsRise, ascending-rises, rising-ascends, rising-unique}
 
 -- ---- members of lists put end to end
 
@@ -42,7 +42,7 @@ in-gather x (suc n) f k l i = elim (eq-or-lt-of-le l) [
 
 data Ranked (b : ℕ) : ℕ → List Inputs → Type 0 where
   none : {a : ℕ} → a ≤ b → Ranked b a []
-  next : {a : ℕ} {i : Inputs} {is : List Inputs} → FieldsFit i → accepts i ≡ true → a ≤ rank i → Ranked b (suc (rank i)) is → Ranked b a (i ∷ is)
+  next : {a : ℕ} {i : Inputs} {is : List Inputs} → FieldsFit i → accepts i ≡ true → a ≤ inputsRank i → Ranked b (suc (inputsRank i)) is → Ranked b a (i ∷ is)
 
 ranked-from : {a b c : ℕ} {is : List Inputs} → c ≤ a → Ranked b a is → Ranked b c is
 ranked-from {c = c} l (none h) = none {a = c} (omega arith)
@@ -61,17 +61,17 @@ ranked-gather a w (suc n) f h = ranked-append (ranked-gather a w n f (λ k l. h 
 ranked-as : {a b c d : ℕ} {is : List Inputs} → a ≡ c → b ≡ d → Ranked b a is → Ranked d c is
 ranked-as e f r = rw (← e, ← f) r
 
-one-ranked : (i : Inputs) → FieldsFit i → Ranked (suc (rank i)) (rank i) (ifAccepted i)
+one-ranked : (i : Inputs) → FieldsFit i → Ranked (suc (inputsRank i)) (inputsRank i) (ifAccepted i)
 unfolding ifAccepted
 one-ranked i f = go (accepts i) refl
   where
-    go : (b : Bool) → accepts i ≡ b → Ranked (suc (rank i)) (rank i) (pick b (i ∷ []) [])
-    go true e = next {a = rank i} f e (omega arith) (none {a = suc (rank i)} (omega arith))
-    go false e = none {a = rank i} (omega arith)
+    go : (b : Bool) → accepts i ≡ b → Ranked (suc (inputsRank i)) (inputsRank i) (pick b (i ∷ []) [])
+    go true e = next {a = inputsRank i} f e (omega arith) (none {a = suc (inputsRank i)} (omega arith))
+    go false e = none {a = inputsRank i} (omega arith)
 
 -- those of one s
 size-ranked : (s : ℕ) → s < 8 → Ranked (2 ^ 25 * s + 2 ^ 17 * 256) (2 ^ 25 * s) (acceptedOf s)
-unfolding acceptedOf acceptedAt rank
+unfolding acceptedOf acceptedAt inputsRank
 size-ranked s a =
     ranked-gather (2 ^ 25 * s) (2 ^ 17) 256 _ (λ nc b.
     ranked-as (omega arith) (omega arith) (ranked-gather (2 ^ 25 * s + 2 ^ 17 * nc) (2 ^ 9) 256 _ (λ lps c.
@@ -92,17 +92,17 @@ ranked-in [] r i p = absurd p
 ranked-in (j ∷ js) (next f e h r) i (inl q) = rw q (f, e)
 ranked-in (j ∷ js) (next f e h r) i (inr q) = ranked-in js r i q
 
-ranked-above : {a b : ℕ} (is : List Inputs) → Ranked b a is → (i : Inputs) → In i is → a ≤ rank i
+ranked-above : {a b : ℕ} (is : List Inputs) → Ranked b a is → (i : Inputs) → In i is → a ≤ inputsRank i
 ranked-above [] r i p = absurd p
 ranked-above (j ∷ js) (next f e h r) i (inl q) = rw q h
 ranked-above (j ∷ js) (next f e h r) i (inr q) = omega (arith, h, ranked-above js r i q)
 
-ranked-below : {a b : ℕ} (is : List Inputs) → Ranked b a is → (i : Inputs) → In i is → rank i < b
+ranked-below : {a b : ℕ} (is : List Inputs) → Ranked b a is → (i : Inputs) → In i is → inputsRank i < b
 ranked-below [] r i p = absurd p
 ranked-below (j ∷ js) (next f e h r) i (inl q) = rw q (ranked-end r)
 ranked-below (j ∷ js) (next f e h r) i (inr q) = ranked-below js r i q
 
-ranked-rises : {a b : ℕ} (is : List Inputs) → Ranked b a is → Rising is
+ranked-rises : {a b : ℕ} (is : List Inputs) → Ranked b a is → InputsRise is
 ranked-rises [] r = tt
 ranked-rises (j ∷ js) (next f e h r) = (λ x p. ranked-above js r x p, ranked-rises js r)
 
@@ -161,7 +161,7 @@ module _ (test : Inputs → Bool) where
 
 -- s of an input of one s
 size-of : (k : ℕ) → k < 8 → (i : Inputs) → In i (acceptedOf k) → i .s ≡ k
-unfolding rank
+unfolding inputsRank
 size-of k l i p =
     let low = ranked-above (acceptedOf k) (size-ranked k l) i p in
     let high = ranked-below (acceptedOf k) (size-ranked k l) i p in

@@ -9,7 +9,7 @@ use Rattle.bits.specs.ChoiceLaws.{never-both}
 use Rattle.bits.specs.Lists.{one}
 use Rattle.kvm_list.specs.Format.{ListRow, rowCount, rowsListed}
 use Rattle.kvm_import.specs.ListChecks.{allLawful, fieldsLawful, rowsOn1}
-use Rattle.kvm_import.specs.RowsLeftLaws.{rowsLeft, left-all, left-none, on1-none, extended-more, fields-bad, fields-head, lawful-next, lawful-stops, lawful-ends}
+use Rattle.kvm_import.specs.RowsLeftLaws.{listRowsLeft, left-all, left-none, on1-none, extended-more, fields-bad, fields-head, lawful-next, lawful-stops, lawful-ends}
 use borrow.Author.Needs.{needs}
 use Rattle.kvm_import.proofs.list_checks.check_rows.Statement.{statement}
 use Rattle.kvm_import.proofs.list_checks.check_rows.Tie as tie
@@ -20,8 +20,8 @@ Inv-loop list count extended₀ q₀ extended q =
     × (count ≡ rowCount list)
     × (count < 4294967296)
     × (extended ≤ q)
-    × (allLawful (rowsLeft list q) ≡ fieldsLawful list)
-    × (extended + length (rowsOn1 (rowsLeft list q)) ≡ length (rowsOn1 (rowsListed list)))
+    × (allLawful (listRowsLeft list q) ≡ fieldsLawful list)
+    × (extended + length (rowsOn1 (listRowsLeft list q)) ≡ length (rowsOn1 (rowsListed list)))
 
 abbrev μ-loop : tie.MeasureT-loop
 μ-loop list count extended₀ q₀ extended q = count - q
