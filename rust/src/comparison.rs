@@ -10,8 +10,8 @@ use core::fmt;
 #[non_exhaustive]
 pub enum Comparison {
     /// Yes, B's pages have it all. Building B then gives a table with every row of A's, at least A's bits in every feature register, a save area no
-    /// smaller and all else equal, to which a guest of A may move; or it refuses B by 3, for a subleaf of leaf Dh that B's own further state needs, or
-    /// by 5.
+    /// smaller and all else equal, to which a guest of A may move; or it refuses B by 3, for a subleaf of leaf Dh that B's own further state needs,
+    /// or by 5.
     Rises,
     /// A itself gives no table, so it has no guest.
     RefusedA(Refusal),

@@ -3,9 +3,9 @@
  *   gcc -std=c11 -O2 -Wall -Wextra -Werror -Iinclude -o target/pool tests/c/pool.c target/staticlib/libsnp_cpuid.a
  *   target/pool tests/data/epyc-milan.pages
  *
- * The servers are the pages of the file, and copies whose leaf 1 lacks FMA or MOVBE. Each row of the pool's table is the and of the servers', and came
- * from where the first server's did; bytes beyond the image are as they were, and all of them where the answer is a refusal. The last line has the
- * number of things compared. Exit status 1 where one is not as it must be.
+ * The servers are the pages of the file, and copies whose leaf 1 lacks FMA or MOVBE. Each row of the pool's table is the and of the servers', and
+ * came from where the first server's did; bytes beyond the image are as they were, and all of them where the answer is a refusal. The last line has
+ * the number of things compared. Exit status 1 where one is not as it must be.
  */
 #define SNP_CPUID_RAW
 #include "snp_cpuid.h"

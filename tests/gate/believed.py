@@ -1,8 +1,8 @@
 #!/usr/bin/env python3
 """believed.py: the lines that a reader has to believe, as Markdown: for demand 3, and for demands 1 and 2.
 
-Without a word it prints the lists; --write puts them between the two marks in docs/REVIEW.md, and --check fails where the page has others. Counted are
-lines that are neither comments, imports nor blank: those of a word's definition, and of the words that it uses in turn, whatever file they stand in,
+Without a word it prints the lists; --write puts them between the two marks in docs/REVIEW.md, and --check fails where the page has others. Counted
+are lines that are neither comments, imports nor blank: those of a word's definition, and of the words that it uses in turn, whatever file they stand in,
 so that a rule that moves is counted where it goes. What comes from the kit (natural numbers, lists, bits of a number) is not counted.
 
 For demands 1 and 2 that is all of the theorems of document 01, all of the paper's page, and the words that this page uses. For demand 3 it is the

@@ -65,8 +65,8 @@ def no_fact(text, own=anywhere):
 
 
 def sections(path):
-    """[(name, comment, place that it must be refused at, or None)] of the edits that a file holds: each opens with a comment. Where there is one it has
-    the file's name, and may be refused anywhere."""
+    """[(name, comment, place that it must be refused at, or None)] of the edits that a file holds: each opens with a comment. Where there is one it
+    has the file's name, and may be refused anywhere."""
     found = []
     for line in path.read_text(encoding='utf-8').splitlines():
         if line.startswith('#'):

@@ -12,8 +12,8 @@ Read are the comments of the .rt, .antt and .edit files under crates/, and READM
   other names  with an underscore, and in backticks those with a hyphen or a capital too: a name that a crate defines or brings in, a crate, a file of
                specs/, or a word of the code beside the crates
 
-A word in capitals, * and .. in a path stand for any name (crates/NAME/must-fail/LABEL.edit); there must be one such path. Three documents name what is
-gone: docs/CHANGES.md and docs/HISTORY.md tell what has moved away, and only their links are checked; docs/DECISIONS.md tells what was not chosen, and
+A word in capitals, * and .. in a path stand for any name (crates/NAME/must-fail/LABEL.edit); there must be one such path. Three documents name what
+is gone: docs/CHANGES.md and docs/HISTORY.md tell what has moved away, and only their links are checked; docs/DECISIONS.md tells what was not chosen, and
 its other names are not checked.
 
 Each thing that is not there is a line FILE:LINE: what. The last line counts the documents and the names that are there, and the exit status is 0 only
@@ -107,8 +107,8 @@ class Repository:
         return sorted(found.relative_to(self.root).as_posix() for found in self.root.glob(path))
 
     def _there(self, path):
-        """The path as it stands in the repository, where a specification may be named without .antt, and an edit of a crate that has the name of a top
-        folder as examples/LABEL; None where it is not there."""
+        """The path as it stands in the repository, where a specification may be named without .antt, and an edit of a crate that has the name of a
+        top folder as examples/LABEL; None where it is not there."""
         crate, _, label = path.partition('/')
         for each in path, path + '.antt', f'crates/{crate}/must-fail/{label}.edit':
             if (self.root / each).exists():

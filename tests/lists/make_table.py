@@ -2,8 +2,8 @@
 
 Numbers are hexadecimal and edits are those of replayed.py. A line `p EDITS`, `i EDITS` or `t EDITS` makes the pages, the image or the bytes of the
 table's struct of those before, the first of none. Every other line is a question, a bar and the answer's numbers in the order of its struct. `build`,
-`pool` and `read` end with the edits that make the table of zeros, which the next lines ask; `guest` and `carry` end with the edits that make theirs of
-the table, which stays, or with z for all zeros; `image` and `kvm` end with the edits that make the buffer of ROOM bytes A5, `fingerprint` with those
+`pool` and `read` end with the edits that make the table of zeros, which the next lines ask; `guest` and `carry` end with the edits that make theirs
+of the table, which stays, or with z for all zeros; `image` and `kvm` end with the edits that make the buffer of ROOM bytes A5, `fingerprint` with those
 of 32 bytes A5. `compare` begins with the edits that make the second table of the first.
 """
 from itertools import product

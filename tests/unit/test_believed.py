@@ -131,7 +131,8 @@ class Believed(unittest.TestCase):
             self.assertEqual(self.ask(['--check'], **{file: change})[0], 0)
 
     def test_a_determined_word_counts_by_its_theorem(self):
-        for file, change in (('specs/Build.antt', ('answer n = long n', 'answer n = long n\nanswer m = 0')), ('specs/Document01.antt', ('= proof', '= other'))):
+        for file, change in (('specs/Build.antt', ('answer n = long n', 'answer n = long n\nanswer m = 0')),
+                             ('specs/Document01.antt', ('= proof', '= other'))):
             self.assertEqual(self.ask(['--check'], **{file: change})[0], 0)
         longer = {'specs/Document01.antt': ('    → answer', '    → 1 ≡ 1\n    → answer')}
         self.assertIn('### 22 lines to believe for demand 3', self.ask([], **longer)[1])

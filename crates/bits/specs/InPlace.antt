@@ -1,4 +1,5 @@
--- A list that a loop changes in place, from old to new. The invariant: elements below the loop's index have their new values, the others their old ones.
+-- A list that a loop changes in place, from old to new. The invariant: elements below the loop's index have their new values, the others their old
+-- ones.
 use mathlib.Core.Path.{_≡_, _∙_}
 use mathlib.Core.List.{List}
 use mathlib.Core.Logic.{inl, inr}

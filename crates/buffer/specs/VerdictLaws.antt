@@ -1,4 +1,5 @@
--- A write by the verdict that comes before it: refused and untouched, or the bytes at the front. d and b are the verdict and the bytes that the code has.
+-- A write by the verdict that comes before it: refused and untouched, or the bytes at the front. d and b are the verdict and the bytes that the code
+-- has.
 use mathlib.Core.Path.{_≡_, sym, ap, _∙_}
 use mathlib.Core.List.{List}
 use Prim.Native.Nat.{ℕ}

@@ -39,8 +39,8 @@ rowsFor c s = rowsOf (c .«secure_avic») s
 unfoldable pub verdictOf : Choices → List ℕ → Verdict
 verdictOf c s = andThen (editionVerdict (c .edition)) (andThen (lawfulVerdict s) (rowsVerdict (rowsFor c s)))
 
--- Document 02, P11: where the rows of a table came from, as numbers, from whether each is there and where the first entry of its place stands; a refused
--- table has no rows, and so no origins
+-- Document 02, P11: where the rows of a table came from, as numbers, from whether each is there and where the first entry of its place stands; a
+-- refused table has no rows, and so no origins
 unfoldable pub originsIn : CpuidResults → List ℕ → List ℕ
 originsIn t s = tabulate places (λ i. originNumber (originOf (rowIn t i .present) i (standsAt i (counted s))))
 

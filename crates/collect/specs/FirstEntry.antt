@@ -1,5 +1,5 @@
--- Where the first counted entry of a leaf and subleaf stands, of pages that are lawful: what P11's comparison names. An entry's place is that of its leaf
--- and subleaf; leaves that no table keeps have none.
+-- Where the first counted entry of a leaf and subleaf stands, of pages that are lawful: what P11's comparison names. An entry's place is that of its
+-- leaf and subleaf; leaves that no table keeps have none.
 use mathlib.Core.List.{List}
 use Prim.Native.Nat.{ℕ}
 use lib.Dec.{ltb}

@@ -1,5 +1,5 @@
--- Document 02, P11: "Each row shall hold its page and entry". Where the first entry of a place stands; document 01, "Corners of mod.rs", has which is the
--- first (crates/collect/specs/FirstEntries.antt, `firstAt`).
+-- Document 02, P11: "Each row shall hold its page and entry". Where the first entry of a place stands; document 01, "Corners of mod.rs", has which is
+-- the first (crates/collect/specs/FirstEntries.antt, `firstAt`).
 use mathlib.Core.List.{List, [], _∷_}
 use Prim.Native.Nat.{ℕ}
 use lib.Dec.{eqb}

@@ -32,8 +32,8 @@ pub const LEGACY_FEATURES: u32 = 3;
 
 const WORD: u32 = 0xFFFF_FFFF;
 
-// Refusals 1, 2 and 17, in this order: whether length and counts of the pages are lawful, and their reserved bytes zero. The same walk stores the masked
-// first entries and where each stands in memory that comes without rows. Pages that are not lawful leave it without rows.
+// Refusals 1, 2 and 17, in this order: whether length and counts of the pages are lawful, and their reserved bytes zero. The same walk stores the
+// masked first entries and where each stands in memory that comes without rows. Pages that are not lawful leave it without rows.
 pub fn walk_pages(
     pages: &[u8],
     secure_avic: bool,

@@ -18,8 +18,8 @@ use memory::put_row;
 use memory::row_at;
 use x86defs::CpuidResult;
 
-// Each row masked by the row of the table of kept leaves that has its place, then bits 0 and 1 of D.0.EAX set. The places whose masks are all ones are
-// left as they stand.
+// Each row masked by the row of the table of kept leaves that has its place, then bits 0 and 1 of D.0.EAX set. The places whose masks are all ones
+// are left as they stand.
 pub fn mask_rows(secure_avic: bool, registers: &mut [u32; REGISTERS], origins: &[u64; PLACES])
     requires { ⌜ Unmasked (now registers) (now origins) ⌝ }
     ensures { λ _. ⌜ now (registers .exit) ≡ layout (λ i. maskRow «secure_avic» i (rowsIn (now (registers .entry)) (now (origins .entry)) i) .result) ⌝ }
@@ -32,8 +32,8 @@ pub fn mask_rows(secure_avic: bool, registers: &mut [u32; REGISTERS], origins: &
     put_row(registers, place::EXTENDED_STATE_0, legacy);
 }
 
-// The rows of leaves below 80000000h masked. Each place is named with its row of the table, here and below: so every mask is a constant in the compiled
-// code, and no table is written out.
+// The rows of leaves below 80000000h masked. Each place is named with its row of the table, here and below: so every mask is a constant in the
+// compiled code, and no table is written out.
 fn mask_basic(secure_avic: bool, registers: &mut [u32; REGISTERS])
     requires { ⌜ length (now registers) ≡ 352 ⌝ }
     ensures { λ _. ⌜ Masked «secure_avic» (now (registers .entry)) (now (registers .exit)) isBasicMasked ⌝ }

@@ -1,5 +1,5 @@
--- Where rows came from, of a page set written byte by byte: page 0 begins with a D.0 that does not count there and ends with a second leaf 1; page 1 has
--- the subleaves of leaf Dh.
+-- Where rows came from, of a page set written byte by byte: page 0 begins with a D.0 that does not count there and ends with a second leaf 1; page 1
+-- has the subleaves of leaf Dh.
 use mathlib.Core.Path.{_≡_, refl, ap, _∙_}
 use mathlib.Core.Bool.{true, false}
 use mathlib.Core.List.{List, _++_}

@@ -93,8 +93,8 @@ pub fn find_kept(
     seen_row(registers, origins, processor, size, i)
 }
 
-// The row of the place that is asked for, as the guest sees it, where it is there. `find_kept` and `guest_find` ask for the place themselves: so this is
-// small enough for the compiler to put it into both.
+// The row of the place that is asked for, as the guest sees it, where it is there. `find_kept` and `guest_find` ask for the place themselves: so this
+// is small enough for the compiler to put it into both.
 fn seen_row(
     registers: &[u32; REGISTERS],
     origins: &[u64; PLACES],

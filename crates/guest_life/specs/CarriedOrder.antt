@@ -1,5 +1,5 @@
--- The table that carrying from edition 1 to edition 2 gives, order by order: carrying loses no more than its three bits, keeps the order of tables, and
--- carrying twice loses nothing more.
+-- The table that carrying from edition 1 to edition 2 gives, order by order: carrying loses no more than its three bits, keeps the order of tables,
+-- and carrying twice loses nothing more.
 use mathlib.Core.Path.{_≡_, refl, sym, ap, _∙_, subst, subst₂}
 use mathlib.Core.Bool.{Bool, true, false, _&&_, _||_}
 use mathlib.Core.Logic.{⊎-elim, inl, inr}

@@ -1,5 +1,5 @@
--- Document 02, P8 in lent memory: "The new table must equal what edition 2 would have made of the original pages". Memory in which pages were built and
--- accepted under edition 1, once it is carried, is memory in which they were built under edition 2, every word and origin.
+-- Document 02, P8 in lent memory: "The new table must equal what edition 2 would have made of the original pages". Memory in which pages were built
+-- and accepted under edition 1, once it is carried, is memory in which they were built under edition 2, every word and origin.
 use mathlib.Core.Path.{_≡_, sym, ap, _∙_, subst}
 use mathlib.Core.List.{List}
 use Prim.Native.Nat.{ℕ}

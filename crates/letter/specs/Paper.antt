@@ -1,7 +1,7 @@
--- Document 01 in its own figures: its sections, each sentence quoted, and under it the definition that says it. "Page bytes" stands first, because the
--- rest reads through it; then the paper's order. No figure is taken from another definition by its name: what is imported are words (a row, a bit, a
--- choice by a test), which docs/REVIEW.md lists and counts. crates/theorems/specs/Document01.antt has the theorems: the code's answers are these.
--- Where document 02 changes a rule, its request is quoted beside it.
+-- Document 01 in its own figures: its sections, each sentence quoted, and under it the definition that says it. "Page bytes" stands first, because
+-- the rest reads through it; then the paper's order. No figure is taken from another definition by its name: what is imported are words (a row, a
+-- bit, a choice by a test), which docs/REVIEW.md lists and counts. crates/theorems/specs/Document01.antt has the theorems: the code's answers are
+-- these. Where document 02 changes a rule, its request is quoted beside it.
 use mathlib.Core.Path.{_≡_}
 use mathlib.Core.Bool.{Bool, true, false, not, _&&_, _||_}
 use mathlib.Core.List.{List, [], _∷_, _++_, map}
@@ -112,8 +112,8 @@ threads v t = pick (ltb 1 t || leb v t) (Refused (TopologyInconsistent ThreadsPe
 
 -- "s = 0, mt = 0: nc must be 0 and lps at most 1, else 6; v = 1. s = 0, mt = 1: lps must equal nc + 1, else 7; v = lps."
 -- "s = 1 to 7: v = 2^s; nc + 1 at most v and lps = v, else 7; then mt = 1, else 6. s = 8 to 15: v = 2^s and nothing is compared."
--- "The Rust adds nc + 1 in eight bits and overflows at 255. The AMD manual means 256, and that decides. With s = 1 to 7 the unchecked Rust would accept
--- it." Here nc + 1 is a sum of unbounded numbers.
+-- "The Rust adds nc + 1 in eight bits and overflows at 255. The AMD manual means 256, and that decides. With s = 1 to 7 the unchecked Rust would
+-- accept it." Here nc + 1 is a sum of unbounded numbers.
 unfoldable pub topology : Inputs → Verdict
 topology i =
     pick (eqb (i .s) 0)
@@ -134,8 +134,9 @@ processors i = pick (eqb (i .s) 0) (pick (eqb (i .mt) 0) 1 (i .lps)) (2 ^ i .s)
 abbrev levelB0 : Inputs → CpuidResult
 levelB0 i = pick (eqb (i .t) 1) (result 1 2 0x100 0) (result 0 1 0x100 0)
 
--- "B.1 becomes EAX the shift, EBX v, ECX 201h, EDX 0. As in the Rust, the shift is the place of the highest one bit of v. Where the manuals want another
--- shift, docs/DIFFERENCES.md says so." Document 02, P5: "The shift in B.1 becomes the least k with 2^k at least v": of the n + 1 numbers from k on.
+-- "B.1 becomes EAX the shift, EBX v, ECX 201h, EDX 0. As in the Rust, the shift is the place of the highest one bit of v. Where the manuals want
+-- another shift, docs/DIFFERENCES.md says so." Document 02, P5: "The shift in B.1 becomes the least k with 2^k at least v": of the n + 1 numbers from
+-- k on.
 unfoldable pub leastFrom : ℕ → ℕ → ℕ → ℕ
 leastFrom v k zero = k
 leastFrom v k (suc n) = pick (leb v (2 ^ k)) k (leastFrom v (suc k) n)
@@ -145,8 +146,8 @@ levelB1 v = result (leastFrom v 0 32) v 0x201 0
 
 -- ======== "Corners of mod.rs"
 
--- "The first counted, kept entry of a leaf and subleaf wins. A leaf without subleaves takes its first entry for any ECX_IN." Demand 3's section says the
--- same: "A counted entry stands below its page's count and, for leaf Dh, on page 1; pages and positions in order give the first."
+-- "The first counted, kept entry of a leaf and subleaf wins. A leaf without subleaves takes its first entry for any ECX_IN." Demand 3's section says
+-- the same: "A counted entry stands below its page's count and, for leaf Dh, on page 1; pages and positions in order give the first."
 abbrev pub isOf : ℕ → Subleaf → Entry → Bool
 isOf l None e = eqb (e .leaf .0) l
 isOf l (Some k) e = eqb (e .leaf .0) l && eqb (e .subleaf) k
@@ -204,8 +205,8 @@ module _ (m : ℕ → Subleaf → CpuidResult) where
   abbrev cet : Bool
   cet = has 11 xss && has 12 xss
 
-  -- "Without XFEM bit 2: clear 1.ECX 10001000h, 7.0.EBX 20h, 7.0.ECX 700h. Without it, or without bits 5, 6 and 7 all: clear 7.0.EBX D0230000h, 7.0.ECX
-  -- 5842h, 7.0.EDX 800100h. Nothing else is cleared for this."
+  -- "Without XFEM bit 2: clear 1.ECX 10001000h, 7.0.EBX 20h, 7.0.ECX 700h. Without it, or without bits 5, 6 and 7 all: clear 7.0.EBX D0230000h,
+  -- 7.0.ECX 5842h, 7.0.EDX 800100h. Nothing else is cleared for this."
   abbrev ymm : Bool
   ymm = has 2 xfem
 
@@ -216,8 +217,8 @@ module _ (m : ℕ → Subleaf → CpuidResult) where
   abbrev tscAux : Bool
   tscAux = has 9 (m 0x8000001F None .eax)
 
-  -- "1.ECX bit 31 is set." Document 02, P7, where `second` says that the edition is 2: "Edition 2 also clears 1.ECX bit 29 and 80000001h.ECX bits 11 (XOP)
-  -- and 16 (FMA4) when XFEM lacks bit 2."
+  -- "1.ECX bit 31 is set." Document 02, P7, where `second` says that the edition is 2: "Edition 2 also clears 1.ECX bit 29 and 80000001h.ECX bits 11
+  -- (XOP) and 16 (FMA4) when XFEM lacks bit 2."
   abbrev row1 : Bool → CpuidResult
   row1 second =
       result (m 0x1 None .eax) (m 0x1 None .ebx)
@@ -262,12 +263,11 @@ all = 0xFFFFFFFF
 abbrev joined : (ℕ → ℕ → ℕ) → CpuidResult → CpuidResult → CpuidResult
 joined f r q = result (f (r .eax) (q .eax)) (f (r .ebx) (q .ebx)) (f (r .ecx) (q .ecx)) (f (r .edx) (q .edx))
 
--- "Kept: leaves 1, 5, 7.0, B.0, B.1, D.0 to D.63, 80000001h to 80000008h, 8000000Ah, 80000019h, 8000001Ah, 8000001Dh.0 to .3, 8000001Eh, 8000001Fh. All
--- others are filtered."
--- "80000001h and 80000008h get both their masks, joined by or. The secure-AVIC choice, yes or no, adds one bit to 8000001Fh.EAX."
--- "Names are in 001 and 002; places of bits come from AMD64 APM volume 3, Intel SDM where it has none, and are compared with x86defs; where they differ
--- x86defs decides and docs/DIFFERENCES.md says so. Check: 1.ECX 7EDA3203h, 1.EDX 178BFBFFh, D.0.EAX E7h, D.1.EAX Bh, D.1.ECX 1800h."
--- All but D.2 to D.63:
+-- "Kept: leaves 1, 5, 7.0, B.0, B.1, D.0 to D.63, 80000001h to 80000008h, 8000000Ah, 80000019h, 8000001Ah, 8000001Dh.0 to .3, 8000001Eh, 8000001Fh.
+-- All others are filtered." "80000001h and 80000008h get both their masks, joined by or. The secure-AVIC choice, yes or no, adds one bit to
+-- 8000001Fh.EAX." "Names are in 001 and 002; places of bits come from AMD64 APM volume 3, Intel SDM where it has none, and are compared with x86defs;
+-- where they differ x86defs decides and docs/DIFFERENCES.md says so. Check: 1.ECX 7EDA3203h, 1.EDX 178BFBFFh, D.0.EAX E7h, D.1.EAX Bh, D.1.ECX
+-- 1800h." All but D.2 to D.63:
 abbrev pub kept : Bool → List Mask
 kept avic =
     mask 0x1 None (result 0x0FFF3FFF all 0x7EDA3203 0x178BFBFF)
@@ -485,8 +485,8 @@ module _ (avic : Bool) (f : ℕ → Subleaf → Row) where
       pick (pick (stays asMasked k) (f 0xD (Some k) .present) true) (components (suc k) n)
       (Refused (MissingRequiredResult (function 0xD) (Some k)))
 
-  -- 3; 4, "after these", "80000008h.EBX bit 3 (INVLPGB) clear"; 3; 5, "area size", "a sum overflows"; 6, 7, 8, "topology, as above", "6 `Hyperthreading`,
-  -- 7 `ProcessorCount`, both with s; 8 `ThreadsPerUnit`"
+  -- 3; 4, "after these", "80000008h.EBX bit 3 (INVLPGB) clear"; 3; 5, "area size", "a sum overflows"; 6, 7, 8, "topology, as above", "6
+  -- `Hyperthreading`, 7 `ProcessorCount`, both with s; 8 `ThreadsPerUnit`"
   abbrev pub rowsVerdict : Verdict
   rowsVerdict =
       firstMissing required
@@ -500,8 +500,8 @@ unfoldable pub firstUnclean : List ℕ → List Entry → Verdict
 firstUnclean s [] = Accepted
 firstUnclean s (e ∷ es) = pick (clean s e) (firstUnclean s es) (Refused (ReservedBytes (e .leaf)))
 
--- 15, document 02, P7: "an edition other than 1 or 2, before 1"; 1, "length", "0, or not a multiple of 4,096"; 2, "counts", "some page's count is above
--- 64"; 17; 3 to 8
+-- 15, document 02, P7: "an edition other than 1 or 2, before 1"; 1, "length", "0, or not a multiple of 4,096"; 2, "counts", "some page's count is
+-- above 64"; 17; 3 to 8
 abbrev pub verdict : Choices → List ℕ → Verdict
 verdict chosen s =
     givenUnless (eqb (chosen .edition) 1 || eqb (chosen .edition) 2) UnknownEdition
@@ -564,9 +564,9 @@ pub record Kinded : Type 0 where
 abbrev kinded : ℕ → Subleaf → Kinds → Kinded
 kinded l k t = record { leaf = l; subleaf = k; kinds = t }
 
--- "1.ECX; 1.EDX but bit 28; 7.0.EBX, ECX, EDX; 80000001h.ECX, EDX; 80000008h.EBX; D.0.EAX; D.1.EAX, ECX; 8000001Ah.EAX; 8000001Fh.EAX. The combined mask
--- counts as one. The save area is D.0.ECX. Freed, so that entries may differ: D.0.ECX and all of B.0 and B.1." Of rows 0 and 80000000h, which are made
--- here, no entry is asked.
+-- "1.ECX; 1.EDX but bit 28; 7.0.EBX, ECX, EDX; 80000001h.ECX, EDX; 80000008h.EBX; D.0.EAX; D.1.EAX, ECX; 8000001Ah.EAX; 8000001Fh.EAX. The combined
+-- mask counts as one. The save area is D.0.ECX. Freed, so that entries may differ: D.0.ECX and all of B.0 and B.1." Of rows 0 and 80000000h, which
+-- are made here, no entry is asked.
 abbrev pub registers : List Kinded
 registers =
     kinded 0x0 None (kinds freed freed freed freed)
@@ -603,8 +603,8 @@ registers =
 abbrev pub little : ℕ → List ℕ
 little n = n % 256 ∷ n / 256 % 256 ∷ n / 65536 % 256 ∷ n / 16777216 % 256 ∷ []
 
--- "Added here: byte 1, then leaf, EAX, EBX, ECX, EDX (4 bytes each, little-endian) for a row without subleaf; byte 2, leaf, subleaf and the four for one
--- with."
+-- "Added here: byte 1, then leaf, EAX, EBX, ECX, EDX (4 bytes each, little-endian) for a row without subleaf; byte 2, leaf, subleaf and the four for
+-- one with."
 abbrev rowBytes : ℕ → Subleaf → CpuidResult → List ℕ
 rowBytes l None r = 1 ∷ little l ++ little (r .eax) ++ little (r .ebx) ++ little (r .ecx) ++ little (r .edx)
 rowBytes l (Some k) r = 2 ∷ little l ++ little k ++ little (r .eax) ++ little (r .ebx) ++ little (r .ecx) ++ little (r .edx)
@@ -627,8 +627,8 @@ wrote Accepted bytes buffer =
     (record { answer = NotWritten BufferTooShort; buffer = buffer })
 wrote (Refused r) bytes buffer = record { answer = NotWritten r; buffer = buffer }
 
--- "Lookup answers as `leaf_result_ref`, enforcing or not; in a refused table it finds nothing.": a row without subleaf where the caller names none or does
--- not enforce, one with where the caller names it
+-- "Lookup answers as `leaf_result_ref`, enforcing or not; in a refused table it finds nothing.": a row without subleaf where the caller names none or
+-- does not enforce, one with where the caller names it
 abbrev pub asked : ℕ → Subleaf → Bool → Subleaf → ℕ → Bool
 asked l None enforce None k = eqb k l
 asked l (Some j) enforce None k = eqb k l && not enforce

@@ -51,7 +51,8 @@ pub fn find(
     Found::NoRow
 }
 
-// The place that is asked for, or 88 where the question has no answer. It is kept small, so that the compiler puts it into each function that looks up.
+// The place that is asked for, or 88 where the question has no answer. It is kept small, so that the compiler puts it into each function that looks
+// up.
 pub fn place_asked(leaf: CpuidFunction, subleaf: Subleaf, enforce_subleaf: bool) -> usize
     ensures { λ r. ⌜ (r ≡ placeAsked leaf subleaf «enforce_subleaf») × (r ≤ places) ⌝ }
 {

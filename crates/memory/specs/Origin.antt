@@ -1,5 +1,5 @@
--- Document 02, P11: "Each row shall hold its page and entry, or "made here" for 0, 80000000h, B.0 and B.1; an absent row holds neither." A row that was
--- read from an image has an origin that is not known: an image holds none.
+-- Document 02, P11: "Each row shall hold its page and entry, or "made here" for 0, 80000000h, B.0 and B.1; an absent row holds neither." A row that
+-- was read from an image has an origin that is not known: an image holds none.
 use mathlib.Core.Bool.{Bool, false, _||_}
 use mathlib.Core.List.{List}
 use Prim.Native.Nat.{ℕ, _+_, _*_, _-_, _/_, _%_}

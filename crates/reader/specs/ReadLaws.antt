@@ -38,8 +38,8 @@ module _ (s : List ℕ) (i : CpuidPageIndex) where
   unfolding readAt
   unclean-read p c = ap (λ (x : ParsedCpuidEntry). Unclean (x .leaf)) p ∙ sym (pick-false _ _ c)
 
--- an entry that it gives is the one there, and its reserved bytes are zero; a leaf that it gives is that of the one there, where one of these bytes is
--- not
+-- an entry that it gives is the one there, and its reserved bytes are zero; a leaf that it gives is that of the one there, where one of these bytes
+-- is not
 module _ (s : List ℕ) (i : CpuidPageIndex) where
   pub read-entry : {e : ParsedCpuidEntry} → Entry e ≡ readAt s i → (e ≡ parsed (entryHere s i)) × (cleanHere s i ≡ true)
   unfolding readAt

@@ -1,5 +1,5 @@
--- Document 02, P11, "Where a row came from": what an origin says of the pages, and which rows have which. The numbers that an answer holds are tied to
--- the bytes here: an origin is proved, not recorded.
+-- Document 02, P11, "Where a row came from": what an origin says of the pages, and which rows have which. The numbers that an answer holds are tied
+-- to the bytes here: an origin is proved, not recorded.
 use mathlib.Core.Path.{_≡_}
 use mathlib.Core.Bool.{true, false}
 use mathlib.Core.List.{List, [], _∷_, _++_}

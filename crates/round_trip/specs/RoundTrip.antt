@@ -23,7 +23,8 @@ exported chosen s buffer = take (listLength chosen s) (writeList chosen s buffer
 abbrev pub imported : Choices → List ℕ → List ℕ → List ℕ → List ℕ
 imported chosen s buffer pages = take 8192 (readList (exported chosen s buffer) pages .buffer)
 
--- both succeed, and what is built of the pages is the same except for origins, which are those of the pages last read: verdict, rows, count and combined mask
+-- both succeed, and what is built of the pages is the same except for origins, which are those of the pages last read: verdict, rows, count and
+-- combined mask
 pub record Returns (chosen : Choices) (s buffer pages : List ℕ) : Type 0 where
   pub written : writeList chosen s buffer .answer ≡ Bytes (listLength chosen s)
   pub read : readList (exported chosen s buffer) pages .answer ≡ Bytes 8192

@@ -65,7 +65,8 @@ TablesAnswerMeans a b (Differs leaf subleaf register) = FirstDiffering a b leaf 
 TablesAnswerMeans a b (Beyond leaf subleaf) = FirstBeyond a b leaf subleaf
 TablesAnswerMeans a b MaskLacks = ((i : ℕ) → i < places → PlaceRises a b i) × (Within (a .«max_extended_state») (b .«max_extended_state») → ⊥)
 
--- The answer means what it says, and no other answer does: it is c if and only if Means .. c holds. So it is `Rises` if and only if `TableRises` holds.
+-- The answer means what it says, and no other answer does: it is c if and only if Means .. c holds. So it is `Rises` if and only if `TableRises`
+-- holds.
 pub record DecidesTables (a b : CpuidResults) (r : TablesCompared) : Type 0 where
   pub means : TablesAnswerMeans a b r
   pub exact : (c : TablesCompared) → TablesAnswerMeans a b c → r ≡ c

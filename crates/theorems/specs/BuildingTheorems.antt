@@ -55,8 +55,8 @@ use Rattle.examples.specs.MarkedRows.Shown.{core, refusal, area, supervisor}
 
 -- ---- Demand 1. crates/refusals/specs/Conditions.antt has each condition by itself, Exactly.antt the two records.
 
--- For each refusal that building gives, 15, 1, 2, 17 and 3 to 8: given if and only if its condition holds and no earlier one does; accepted if and only if
--- none holds.
+-- For each refusal that building gives, 15, 1, 2, 17 and 3 to 8: given if and only if its condition holds and no earlier one does; accepted if and
+-- only if none holds.
 pub each-refusal-exactly : (chosen : Choices) (s : List ℕ) → BuildsExactly chosen s
 each-refusal-exactly = builds-exactly
 
@@ -73,8 +73,8 @@ refused-finds-nothing chosen s r e leaf sub enforce = rw (builds-exactly chosen 
 -- page's count are zero. It is part of what lawful pages are (`lawfulVerdict`, crates/collect/specs/Lawful.antt), which demand 3, the comparison and
 -- P9 ask.
 
--- "The reader promises from now on, with each entry, that these bytes are zero": what it gives as an entry is the one that stands there, by document 01's
--- offsets, and its eight bytes from 40 on are zero. crates/reader/specs/ReadLaws.antt; `readAt` is what `reader::take` promises
+-- "The reader promises from now on, with each entry, that these bytes are zero": what it gives as an entry is the one that stands there, by document
+-- 01's offsets, and its eight bytes from 40 on are zero. crates/reader/specs/ReadLaws.antt; `readAt` is what `reader::take` promises
 pub each-entry-read-is-clean : (s : List ℕ) (i : CpuidPageIndex) (e : ParsedCpuidEntry) → ReadEntry e ≡ readAt s i
     → (e ≡ parsed (entry s (i .«page_index») (i .«function_index»)))
     × ((k : ℕ) → k < 8 → getD s (4096 * i .«page_index» + 16 + 48 * i .«function_index» + 40 + k) 0 ≡ 0)

@@ -1,8 +1,8 @@
 -- Document 01, sentence by sentence: the page to read first.
 --
 -- crates/letter/specs/Paper.antt quotes the sentences in order and says each in the paper's own figures; here is that the answers are these, for any
--- page bytes s and any choices. `answer` (crates/build/specs/Build.antt), `write`, `image`, `lookup` and `output` are what the contracts promise of the
--- code: of how they are defined nothing has to be believed, since the equations below determine them.
+-- page bytes s and any choices. `answer` (crates/build/specs/Build.antt), `write`, `image`, `lookup` and `output` are what the contracts promise of
+-- the code: of how they are defined nothing has to be believed, since the equations below determine them.
 use mathlib.Core.Path.{_≡_, refl, sym, ap, _∙_}
 use mathlib.Core.Bool.{Bool, false, not, _&&_, _||_}
 use mathlib.Core.List.{List, [], _∷_, map}
@@ -98,8 +98,8 @@ pub combined-bits : (chosen : Choices) (s : List ℕ) → answer chosen s .verdi
     → Within (combinedOf chosen s) (2 ^ 0 + 2 ^ 1 + 2 ^ 2 + 2 ^ 5 + 2 ^ 6 + 2 ^ 7 + 2 ^ 11 + 2 ^ 12)
 combined-bits = Counts.bits-said
 
--- "An accepted table has 17 rows without subleaf, 9 with, and one for each combined bit from 2 up: 26 to 32.": 17 and 9 are always there, 62 more are D.2
--- to D.63; `furtherBits` counts the combined bits from 2 up
+-- "An accepted table has 17 rows without subleaf, 9 with, and one for each combined bit from 2 up: 26 to 32.": 17 and 9 are always there, 62 more are
+-- D.2 to D.63; `furtherBits` counts the combined bits from 2 up
 pub rows-17-and-9 : (second avic : Bool) (e : ℕ → Subleaf → CpuidResult)
     → countFrom 0 (λ l. without (l .subleaf) && l .row .present) (lines second avic e)
     ∷ countFrom 0 (λ l. not (without (l .subleaf) || fromD2 (l .leaf) (l .subleaf)) && l .row .present) (lines second avic e)
@@ -132,13 +132,13 @@ pub own-masks-by-the-letter : (avic : Bool) (s : List ℕ) → firstMissing avic
     → (xfemIn (rowsOf avic s) ≡ xfem (masked avic (entryOf s))) × (combinedMask (rowsOf avic s) ≡ combined (masked avic (entryOf s)))
 own-masks-by-the-letter = own-masks
 
--- which registers are features, over the 88 rows. "Demand 3 is due whole with the first delivery that builds a table from page bytes.": RiseTheorems.antt
--- has it, and `rise-by-the-letter` there asks of B's entries what is said here.
+-- which registers are features, over the 88 rows. "Demand 3 is due whole with the first delivery that builds a table from page bytes.":
+-- RiseTheorems.antt has it, and `rise-by-the-letter` there asks of B's entries what is said here.
 pub registers-by-the-letter : tabulate 88 (λ i. record { leaf = leafAt i .0; subleaf = subAt i; kinds = kindsAt i }) ≡ registers
 registers-by-the-letter = Registers.registers-same
 
--- "for every row of A's table but 0 and 80000000h, a first counted entry" (demand 3): the rows of which no entry is asked, the first counted entry of each
--- other row, and the masks under which entries are compared, over the 88 rows
+-- "for every row of A's table but 0 and 80000000h, a first counted entry" (demand 3): the rows of which no entry is asked, the first counted entry of
+-- each other row, and the masks under which entries are compared, over the 88 rows
 pub rows-without-entry : map (λ (i : ℕ). name (leafAt i .0) (subAt i)) (keepIf (λ i. not (fromEntry (ruleAt i))) (tabulate 88 (λ i. i)))
     ≡ name 0x0 None ∷ name 0x80000000 None ∷ []
 rows-without-entry = Registers.made-rows
@@ -151,8 +151,8 @@ first-entries-by-the-letter s i l m =
 pub masks-by-the-letter : (avic : Bool) → tabulate 88 (masksAt avic) ≡ tabulate 88 (λ i. masksOf avic (leafAt i .0) (subAt i))
 masks-by-the-letter = Registers.masks-same
 
--- "Entries are compared as masked." ""At least" means every bit set in A's; "no smaller" is unsigned." "Bit 28 of 1.EDX is equal, in entries and tables."
--- Here entries, then tables, by kind; RiseTheorems.antt has demand 3 over them.
+-- "Entries are compared as masked." ""At least" means every bit set in A's; "no smaller" is unsigned." "Bit 28 of 1.EDX is equal, in entries and
+-- tables." Here entries, then tables, by kind; RiseTheorems.antt has demand 3 over them.
 pub entries-compared : (a b : ℕ)
     → EntryAtLeast feature a b ∷ EntryAtLeast featureBut28 a b ∷ EntryAtLeast area a b ∷ EntryAtLeast freed a b ∷ EntryAtLeast other a b ∷ []
     ≡ Within a b ∷ (Within a b × (bit 28 a ≡ bit 28 b)) ∷ Unit {0} ∷ Unit {0} ∷ (a ≡ b) ∷ []
@@ -184,8 +184,8 @@ program-by-the-letter = Images.program-by-figures
 
 -- ======== Examples
 
--- "The Rust adds nc + 1 in eight bits and overflows at 255. The AMD manual means 256, and that decides. With s = 1 to 7 the unchecked Rust would accept
--- it.": nc = 255 is refused by 7 for s = 0, where lps = 0, and for s = 1 to 7, where lps = 2^s
+-- "The Rust adds nc + 1 in eight bits and overflows at 255. The AMD manual means 256, and that decides. With s = 1 to 7 the unchecked Rust would
+-- accept it.": nc = 255 is refused by 7 for s = 0, where lps = 0, and for s = 1 to 7, where lps = 2^s
 pub nc-255 : topology (inputs 0 255 0 1 0) ∷ tabulate 7 (λ k. topology (inputs (1 + k) 255 (2 ^ (1 + k)) 1 0))
     ≡ processorCount 0 ∷ tabulate 7 (λ k. processorCount (1 + k))
 unfolding topology tabulate
@@ -229,7 +229,8 @@ pub level-figures :
 unfolding leastFrom
 level-figures = refl
 
--- server A is accepted; its rows 0, 1, 7.0, D.0 and 80000008h in figures, and no row 80000000h under an enforced subleaf. crates/examples/specs/RowsOfA.antt
+-- server A is accepted; its rows 0, 1, 7.0, D.0 and 80000008h in figures, and no row 80000000h under an enforced subleaf.
+-- crates/examples/specs/RowsOfA.antt
 pub a-by-the-letter : verdict firstEdition serverA ≡ Accepted
 a-by-the-letter = sym (verdict-by-figures firstEdition serverA) ∙ Computed.serverA-accepted
 

@@ -8,8 +8,8 @@
 --                                                     (ListTheorems); the words of a row, `list-words` below
 --   P3   bits 24-31, 27 and 26; 576, 64 and bit 1     `no-other-register-differs` (GuestTheorems); sizes, 13 and places below
 --   P5   the least k with 2^k at least v              `shift-is-least` (TopologyTheorems), `table-by-the-letter` (Document01)
---   P6   digits, spaces and newline; what is named    `missing-d12-line`, `longest-length`, `line-of-7` and more (LineTheorems), `numbers-by-the-letter`
---                                                     (Document01)
+--   P6   digits, spaces and newline; what is named    `missing-d12-line`, `longest-length`, `line-of-7` and more (LineTheorems),
+--                                                     `numbers-by-the-letter` (Document01)
 --   P7   1.ECX bit 29, 80000001h.ECX bits 11 and 16   `edition-2-clears` (EditionTheorems), `table-by-the-letter` (Document01)
 --   P8   the same bits; 15, 16, 13, 14                `carrying-clears-exactly`, `each-carry-exactly` (EditionTheorems)
 --   P9   refused by 4 to 8                            `added-entries-change-nothing` (RiseTheorems)
@@ -116,7 +116,8 @@ area-same m x (suc k) =
 pub standard-size : (m : Rows) (x : ℕ) → saveArea m x ≡ largest (λ k. m (6 + k) .result) x 64
 standard-size m x = area-same m x 64
 
--- "D.1.EBX is 576 plus the EAX of each subleaf from 2 up in XCR0 or XSS, ascending, each start raised to a multiple of 64 where that row's ECX bit 1 is set"
+-- "D.1.EBX is 576 plus the EAX of each subleaf from 2 up in XCR0 or XSS, ascending, each start raised to a multiple of 64 where that row's ECX bit 1
+-- is set"
 unfoldable pub behind : (ℕ → CpuidResult) → ℕ → ℕ → ℕ
 behind d x zero = 576
 behind d x (suc k) =
@@ -169,8 +170,10 @@ pub origin-numbers : (page position : ℕ)
     ≡ 0 ∷ 1 ∷ 3 ∷ (4 + 64 * page + position) ∷ []
 origin-numbers page position = refl
 
--- ---- P12: "joins the feature registers of their first entries by and, keeps all else from the first"; "19 where rows that all tables have, B.0 and B.1
--- apart, differ elsewhere than in feature registers or D.0.ECX": a feature register, 1.EDX, the save area, one that is freed and any other
+-- ---- P12
+
+-- "joins the feature registers of their first entries by and, keeps all else from the first"; "19 where rows that all tables have, B.0 and B.1 apart,
+-- differ elsewhere than in feature registers or D.0.ECX": a feature register, 1.EDX, the save area, one that is freed and any other
 
 pub pool-joins : (a b : ℕ)
     → joinedRegister feature a b ∷ joinedRegister featureBut28 a b ∷ joinedRegister area a b ∷ joinedRegister freed a b ∷ joinedRegister other a b ∷ []

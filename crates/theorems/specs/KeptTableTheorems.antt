@@ -1,6 +1,6 @@
 -- The table that a caller keeps: what the functions over a kept table answer is what those from pages answer, where building accepted the pages.
--- `TableIn (answer chosen s) w o` says that the memory, registers w and origins o, is what building left of the pages s. crates/build/specs/Build.antt.
--- WithoutRows.antt has what they answer after a refusal.
+-- `TableIn (answer chosen s) w o` says that the memory, registers w and origins o, is what building left of the pages s.
+-- crates/build/specs/Build.antt. WithoutRows.antt has what they answer after a refusal.
 use mathlib.Core.Path.{_≡_, refl, sym, ap, ap₂, _∙_}
 use mathlib.Core.Bool.{Bool, false}
 use mathlib.Core.List.{List}

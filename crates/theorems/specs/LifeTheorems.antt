@@ -1,6 +1,6 @@
 -- A guest's life: what a check inside it tells of its table, where its save areas lie, and what stays along moves and carries.
--- `answer chosen s` is the answer of the definition (crates/build/specs/Build.antt) to the page bytes s under what the caller chooses, `guestPages chosen s v`
--- what processor v's guest is given of it (crates/guest/specs/GuestPages.antt).
+-- `answer chosen s` is the answer of the definition (crates/build/specs/Build.antt) to the page bytes s under what the caller chooses, `guestPages
+-- chosen s v` what processor v's guest is given of it (crates/guest/specs/GuestPages.antt).
 use mathlib.Core.Path.{_≡_}
 use mathlib.Core.List.{[], _∷_}
 use Rattle.table.specs.declared.CpuidResults.{CpuidResults}
@@ -51,7 +51,8 @@ save-areas-stay = Areas.areas-stay
 pub life-rises : {t w : CpuidResults} → Life t w → TableRises (second t) w
 life-rises = Lives.life-rises
 
--- whatever was found at an exit is found, feature bits still shown but for carry's three, both sizes and every other register equal, as demand 3 compares
+-- whatever was found at an exit is found, feature bits still shown but for carry's three, both sizes and every other register equal, as demand 3
+-- compares
 pub life-shows : LifeShows
 life-shows = Lives.life-shows
 

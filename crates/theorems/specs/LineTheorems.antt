@@ -61,8 +61,8 @@ line-at-most-22 = at-most-22
 pub every-refusal-has-a-line : (r : Refusal) → details r .s ≤ mostS → writable (lineDetails (details r)) ≡ true
 every-refusal-has-a-line = Lines.every-refusal
 
--- each refusal that building gives, of page bytes, is written and read back to itself: nothing more is asked. crates/refusals/specs/Lined.antt; without
--- "bytes" it is false (NotBytes.antt beside it). The sets of `line-of-7` and `line-of-8` below meet it.
+-- each refusal that building gives, of page bytes, is written and read back to itself: nothing more is asked. crates/refusals/specs/Lined.antt;
+-- without "bytes" it is false (NotBytes.antt beside it). The sets of `line-of-7` and `line-of-8` below meet it.
 pub every-refusal-of-building-is-read-back : BuildingLined
 every-refusal-of-building-is-read-back = building-lined
 

@@ -1,8 +1,8 @@
 -- The numbers that the exported functions give and take (include/snp_cpuid.h), field by field.
 --
 -- They are said against the definition's answers, in figures and fields alone, so that no change of the functions that make the numbers goes unseen.
--- crates/answers/specs/Told.antt has each statement's words, among them one table of the refusals' numbers and details, `RefusalTold`. Which statement
--- says what each of the 33 functions returns:
+-- crates/answers/specs/Told.antt has each statement's words, among them one table of the refusals' numbers and details, `RefusalTold`. Which
+-- statement says what each of the 33 functions returns:
 --
 --   snp_cpuid_build, snp_cpuid_table_build, snp_cpuid_fingerprint   `build-told`
 --   snp_cpuid_lookup, snp_cpuid_guest_lookup                   `build-lookup-told`, `guest-lookup-told`

@@ -21,16 +21,19 @@ use Rattle.rise.specs.LocatedProof.{rows-come-from, rows-have-origins, refused-
 use Rattle.examples.specs.Origins as Origin
 use Rattle.page_sets.specs.Evaluation.{firstEdition}
 
--- ---- P11, where a row came from. crates/memory/specs/Origin.antt has the three cases and their numbers, crates/build/specs/Build.antt `originAt`, the
--- origin of a row of the table that an answer holds, crates/rise/specs/Located.antt these statements. Sameness in demand 3 and P2 is `SameButOrigins`;
--- P9's answers are the same with origins, and those of P7's two editions have the same origins, so that carrying (P8) leaves them.
+-- ---- P11, where a row came from
+
+-- crates/memory/specs/Origin.antt has the three cases and their numbers, crates/build/specs/Build.antt `originAt`, the origin of a row of the table
+-- that an answer holds, crates/rise/specs/Located.antt these statements. Sameness in demand 3 and P2 is
+-- `SameButOrigins`; P9's answers are the same with origins, and those of P7's two editions have the same origins, so that carrying (P8) leaves them.
 
 -- a row with an origin on a page: the entry there is the first counted one of its leaf and subleaf, and masking and finishing it gives the row
 pub each-row-comes-from-its-entry : (chosen : Choices) (s : List ℕ) → answer chosen s .verdict ≡ Accepted → (i p q : ℕ) → i < places
     → originAt chosen s i ≡ entry p q → ComesFrom chosen s i p q
 each-row-comes-from-its-entry = rows-come-from
 
--- 0, 80000000h, B.0 and B.1 are made here, a row that is not there has no origin, every other has an entry; and the numbers that an answer holds say it
+-- 0, 80000000h, B.0 and B.1 are made here, a row that is not there has no origin, every other has an entry; and the numbers that an answer holds say
+-- it
 pub each-row-has-its-origin : (chosen : Choices) (s : List ℕ) → answer chosen s .verdict ≡ Accepted → (i : ℕ) → i < places → Origins chosen s i
 each-row-has-its-origin = rows-have-origins
 

@@ -29,16 +29,18 @@ use Rattle.examples.specs.PoolInstances as PoolInstances
 use Rattle.examples.specs.Bit28
 use Rattle.examples.specs.Letter28
 
--- ---- P12, one table for a pool of servers. crates/register_masks/specs/Join.antt has the join and Alike.antt what 19 asks, crates/pool_sets/specs/Sets.antt
--- the page sets in the slice, crates/pool/specs/Pool.antt the answer.
+-- ---- P12, one table for a pool of servers
 
--- 18, 15, a server's own refusal with its number, 19 and the table, each if and only if its condition holds and no earlier one does; a refused pool has no
--- row. crates/pool_laws/specs/PoolExactly.antt
+-- crates/register_masks/specs/Join.antt has the join and Alike.antt what 19 asks, crates/pool_sets/specs/Sets.antt the page sets in the slice,
+-- crates/pool/specs/Pool.antt the answer.
+
+-- 18, 15, a server's own refusal with its number, 19 and the table, each if and only if its condition holds and no earlier one does; a refused pool
+-- has no row. crates/pool_laws/specs/PoolExactly.antt
 pub each-pool-answer-exactly : (chosen : Choices) (pages lengths : List ℕ) → PoolExactly chosen pages lengths
 each-pool-answer-exactly = pool-exactly
 
--- an accepted pool's rows, Dh subleaves among them, are those that all tables have; its feature registers and combined mask are the and of the servers';
--- its table rises to every server's; a row's origin is the first server's. crates/pool_laws/specs/PoolRight.antt
+-- an accepted pool's rows, Dh subleaves among them, are those that all tables have; its feature registers and combined mask are the and of the
+-- servers'; its table rises to every server's; a row's origin is the first server's. crates/pool_laws/specs/PoolRight.antt
 pub a-pool-is-the-and : (chosen : Choices) (pages lengths : List ℕ) → pooled chosen pages lengths .verdict ≡ Accepted → PoolRight chosen pages lengths
 a-pool-is-the-and = pool-right
 

@@ -47,8 +47,8 @@ rise-by-the-letter = demand-3-by-the-letter
 pub rise-of-exports : (chosen : Choices) (a b : List ℕ) → RiseHypothesis chosen a b → ExportsRise chosen a b
 rise-of-exports = exports-rise
 
--- two servers that rise to each other have the same answer except for origins: the same table, so the same image and lookups. crates/rise/specs/Same.antt;
--- `SameButOrigins` is in crates/build/specs/Built.antt
+-- two servers that rise to each other have the same answer except for origins: the same table, so the same image and lookups.
+-- crates/rise/specs/Same.antt; `SameButOrigins` is in crates/build/specs/Built.antt
 pub same-figures-both-ways : (chosen : Choices) (a b : List ℕ) → RiseHypothesis chosen a b → RiseHypothesis chosen b a
     → SameButOrigins (answer chosen a) (answer chosen b)
 same-figures-both-ways = same-figures
@@ -62,7 +62,8 @@ each-rises-to-itself = rises-itself
 pub moves-compose : (chosen : Choices) (a b c : List ℕ) → RiseHypothesis chosen a b → RiseHypothesis chosen b c → RiseHypothesis chosen a c
 moves-compose = PreorderProof.rises-compose
 
--- round a ring of three servers every answer is the same except for origins. Server A with entries added, A, and A with a page added are such a ring (P9).
+-- round a ring of three servers every answer is the same except for origins. Server A with entries added, A, and A with a page added are such a ring
+-- (P9).
 pub around-a-ring : (chosen : Choices) (a b c : List ℕ) → RiseHypothesis chosen a b → RiseHypothesis chosen b c → RiseHypothesis chosen c a
     → SameButOrigins (answer chosen a) (answer chosen b) × SameButOrigins (answer chosen b) (answer chosen c)
 around-a-ring = PreorderProof.around-the-same

@@ -1,6 +1,6 @@
--- What is proved, promise by promise: each page has its statements, in words and in the definition's terms, the files that define the words, and examples
--- that meet their hypotheses. The contracts tie the code to the definition: `build::build_into` promises `answer`, and every other entry point an equation
--- with a definition over it. docs/STATEMENTS.md lists the statements by name.
+-- What is proved, promise by promise: each page has its statements, in words and in the definition's terms, the files that define the words, and
+-- examples that meet their hypotheses. The contracts tie the code to the definition: `build::build_into` promises `answer`, and every other entry
+-- point an equation with a definition over it. docs/STATEMENTS.md lists the statements by name.
 --
 --   Document01.antt            Document 01 sentence by sentence, in its own figures: the page to read first.
 --   Document02.antt            Document 02's figures: where each is said.

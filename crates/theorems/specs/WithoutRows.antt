@@ -1,5 +1,5 @@
--- A kept table without rows. Building, pooling, a guest's view and the reading of bytes that are no image leave one where they refuse: every word of the
--- caller's memory is 0. The functions over a kept table no longer know the refusal. Here is what each of them then gives, in the numbers of
+-- A kept table without rows. Building, pooling, a guest's view and the reading of bytes that are no image leave one where they refuse: every word of
+-- the caller's memory is 0. The functions over a kept table no longer know the refusal. Here is what each of them then gives, in the numbers of
 -- include/snp_cpuid.h; KeptTableTheorems.antt has what they give where building accepted.
 use mathlib.Core.Path.{_≡_, refl, sym, ap, ap₂, _∙_}
 use mathlib.Core.Bool.{Bool, true, false}

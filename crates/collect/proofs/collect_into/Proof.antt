@@ -1,4 +1,5 @@
--- `collect::collect_into` meets its contract: before each turn the entries that are left give what all give. The inner loop keeps to one page: a step to position 0 leaves it, so a turn of the outer one ends on a later page.
+-- `collect::collect_into` meets its contract: before each turn the entries that are left give what all give. The inner loop keeps to one page: a step
+-- to position 0 leaves it, so a turn of the outer one ends on a later page.
 use borrow.Author.Needs.{needs}
 use native.Mathlib.Omega.{arith}
 use mathlib.Core.Path.{_≡_, refl, sym, ap, _∙_}

@@ -118,7 +118,8 @@ module _ {M : Type 1} (𝓤 : URA M) (H : Heap 𝓤) (A : Atoms 𝓤) (W : Given
         pass1 ! (init ! 6 refl (shr-slice-lawful 𝓤 H A W (named 1) κ′ u8 .typed s (v ∷ []) p .0)) $ pass1 ! (init ! 4 refl (tt, record { fits = n-fits })) $ pass0 ! $
         move ! (12 ∷ 13 ∷ 14 ∷ []) $ opens ! tt P.the-row {h = h} b o (λ vs. spelt ! P.the-row (Is P.the-row) (shows 𝓤 H A P.the-row) vals (LL.tells P.the-type P′.the-laws) fullShare h vs b o $
         move ! (1 ∷ []) $ peeks ! P.the-row (Is P.the-row) (shows 𝓤 H A P.the-row) h (vals h) (λ is.
-        -- [what h owns; the cell; the open borrow; obs; auth; _4; …; _3; …; _2; …; _1; …; room for _0; …; what s owns; the same; the pages' token; true]
+        -- [what h owns; the cell; the open borrow; obs; auth; _4; …; _3; …; _2; …; _1; …; room for _0; …; what s owns; the same; the pages' token;
+        -- true]
         assigns ! (of-opd ! (load ! (from ! (hop ! (look ! 13 refl) (stop !))) (look-raw ! 1 refl))) (from ! (stop !)) (init ! 5 refl (LL.lawful P.the-type P′.the-laws 𝓤 H A W .typed h _ is .0)) $
         move ! (0 ∷ 17 ∷ 19 ∷ []) $ use3 W (raw (Step 𝓤 H A at-mem run .pre to)) goes-step $
         calls-at ! fm (Step 𝓤 H A at-mem run) known to (and-then ! (load ! (from ! (stop !)) (look ! 11 refl)) (and-then ! (load ! (from ! (stop !)) (look ! 5 refl)) (and-then ! (load ! (from ! (stop !)) (look ! 9 refl)) (no-more !)))) (λ u.

@@ -1,6 +1,5 @@
--- `reader::new` meets its contract: a walk of its MIR, by hand. The first index is had of `reader::walk::first_index`, and the reader is made of it and of
--- the slice passed.
--- A `&[u8]` is Copy, so what it owns is had three times: for the callee, for the parameter at exit, and inside the result.
+-- `reader::new` meets its contract: a walk of its MIR, by hand. The first index is had of `reader::walk::first_index`, and the reader is made of it
+-- and of the slice passed. A `&[u8]` is Copy, so what it owns is had three times: for the callee, for the parameter at exit, and inside the result.
 use mathlib.Core.Path.{_≡_, refl, ap, subst}
 use Prim.Native.Nat.{ℕ}
 use mathlib.Core.List.{List, [], _∷_}

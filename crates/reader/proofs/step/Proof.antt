@@ -1,6 +1,6 @@
--- `reader::step` meets its contract: a walk of its MIR, by hand. A reader is made of the slice and the index passed; its index, a field of a local, is
--- lent to `increment` for a lifetime of the call, comes back stepped, and is copied out. Of `increment` the proof knows its contract alone.
--- In a local MIR erases the lifetime of the reader's type, so its value is shown to have the type at `erased`.
+-- `reader::step` meets its contract: a walk of its MIR, by hand. A reader is made of the slice and the index passed; its index, a field of a local,
+-- is lent to `increment` for a lifetime of the call, comes back stepped, and is copied out. Of `increment` the proof knows its contract alone. In a
+-- local MIR erases the lifetime of the reader's type, so its value is shown to have the type at `erased`.
 use mathlib.Core.Path.{_≡_, refl, sym, ap, subst}
 use Prim.Native.Nat.{ℕ, _<_, _^_}
 use mathlib.Core.List.{List, [], _∷_}
@@ -162,7 +162,8 @@ module _ {M : Type 1} (𝓤 : URA M) (H : Heap 𝓤) (A : Atoms 𝓤) (W : Given
         qed W (raw (onEntry 𝓤 H A step.signature (κ, tt) (q, tt) (s, (i, (n, tt))) at) ∷ []) ∵ enter ! C Λ code.function (v ∷ P′.lowered i ∷ vint w64 n ∷ []) _ $
         alloc1 ! (λ l₀. alloc1 ! (λ l₁. alloc1 ! (λ l₂. alloc1 ! (λ l₃. alloc1 ! (λ l₄. alloc1 ! (λ l₅. alloc1 ! (λ l₆. alloc1 ! (λ l₇. alloc0 ! $ params1 ! $
         pass1 ! (init ! 12 refl ps) $ pass1 ! (init ! 10 refl pi) $ pass1 ! (init ! 8 refl (tt, record { fits = n-fits })) $ pass0 ! $
-        -- [room for _6; …; _5; …; _4; …; _3; …; _2; …; _1; …; room for _0; …; what is had on entry]: the reader is made, and its index's address taken
+        -- [room for _6; …; _5; …; _4; …; _3; …; _2; …; _1; …; room for _0; …; what is had on entry]: the reader is made, and its index's address
+        -- taken
         assigns ! (agg ! (and-then ! (load ! (from ! (stop !)) (look ! 12 refl)) (and-then ! (load ! (from ! (stop !)) (look ! 10 refl)) (no-more !)))) (from ! (stop !)) (init ! 6 refl (tt, (ps .1, (pi .1, tt)))) $
         assigns ! (addr ! (from ! (fld ! refl (stop !)))) (from ! (stop !)) (init ! 2 refl (tt, tt)) $
         assigns ! (of-opd ! (load ! (from ! (fld ! refl (stop !))) (look-in ! 6 (sub ! 0 refl (whole !))))) (from ! (stop !)) (init ! 0 refl pe) $

@@ -1,5 +1,5 @@
--- `kvm_import::list_checks::check_rows` meets its contract. The invariant: the rows that are left decide over the fields, and with `extended` make the count of
--- leaf Dh's rows.
+-- `kvm_import::list_checks::check_rows` meets its contract. The invariant: the rows that are left decide over the fields, and with `extended` make
+-- the count of leaf Dh's rows.
 use mathlib.Core.Path.{_≡_, refl, sym, ap, _∙_}
 use mathlib.Core.Bool.{true, false}
 use Prim.Native.Nat.{_+_, _-_, _≤_, _<_}
