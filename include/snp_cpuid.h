@@ -306,6 +306,9 @@ static inline size_t snp_cpuid_message(struct snp_cpuid_refusal refusal, char *o
 #define SNP_CPUID_ANY_IMAGE_BYTES 2132
 #define SNP_CPUID_ANY_KVM_BYTES 3528
 
+/* The most servers that a pool can have. */
+#define SNP_CPUID_MOST_SERVERS 16
+
 /* The most bytes that a line can have. */
 #define SNP_CPUID_MOST_LINE_BYTES 22
 
