@@ -65,8 +65,8 @@ def header(text, root):
             found.append(f'{place.written()}.' + (', '.join(held[:-1]) + ' and ' if len(held) > 1 else '') + held[-1])
     words = f'Feature registers are {"; ".join(found)}.'
     lines = textwrap.wrap(words, WIDTH - 3)
-    return replaced(text, r'^ \* Feature registers are (?:[^.]|\.(?=[0-9A-Z]))*\.(?: \*/)?\n', lambda old: ''.join(f' * {line}\n' for line in lines)[:-1]
-                    + (' */\n' if old[0].endswith('*/\n') else '\n'), HEADER)
+    made = '\n'.join(f' * {line}' for line in lines) + ' */\n'
+    return replaced(text, r'^ \* Feature registers are (?:[^.]|\.(?=[0-9A-Z]))*\. \*/\n', lambda _: made, HEADER)
 
 
 def replaced(text, pattern, made, path):
