@@ -284,8 +284,9 @@ SNP_CPUID_DECIDES struct snp_cpuid_written snp_cpuid_write_table_image(const str
 
 /* Whether the table `to` has every row of `from`, at least its features, a save area no smaller and all else equal, rows 0, 80000000h, B.0 and B.1
  * and bit 28 of 1.EDX too, and beyond it only subleaves of leaf Dh of further mask bits; or the first thing in the way. Origins are not compared.
- * Feature registers are 1.ECX, 1.EDX but its bit 28, 7.0.EBX, ECX and EDX, 80000001h.ECX and EDX, 80000008h.EBX, D.0.EAX, D.1.EAX and ECX,
- * 8000001Ah.EAX and 8000001Fh.EAX. Ask it before the guest moves. */
+ * Ask it before the guest moves.
+ * Feature registers are 1.ECX and EDX but its bit 28; 7.0.EBX, ECX and EDX; 80000001h.ECX and EDX; 80000008h.EBX; D.0.EAX; D.1.EAX and ECX;
+ * 8000001Ah.EAX; 8000001Fh.EAX. */
 SNP_CPUID_DECIDES struct snp_cpuid_tables_compared snp_cpuid_compare_tables(struct snp_cpuid_move move);
 
 /* What a number means, in English. */
@@ -305,6 +306,9 @@ static inline size_t snp_cpuid_message(struct snp_cpuid_refusal refusal, char *o
 /* The same of a table of any content, which may have 88 rows. */
 #define SNP_CPUID_ANY_IMAGE_BYTES 2132
 #define SNP_CPUID_ANY_KVM_BYTES 3528
+
+/* The most servers that a pool can have. */
+#define SNP_CPUID_MOST_SERVERS 16
 
 /* The most bytes that a line can have. */
 #define SNP_CPUID_MOST_LINE_BYTES 22

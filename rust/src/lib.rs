@@ -60,7 +60,7 @@ pub use nearest::{Bit, nearest};
 pub use options::Options;
 pub use origin::{Found, Origin, first_entry};
 pub use places::PLACES;
-pub use pool::NotPooled;
+pub use pool::{MOST_SERVERS, NotPooled};
 #[cfg(feature = "std")]
 pub use pool::{pool, pool_lookup, write_pool_image};
 pub use refusal::{Details, Refusal, TopologyError};

@@ -8,6 +8,9 @@ use crate::{Options, Refusal, Table, exports};
 use core::error::Error;
 use core::fmt;
 
+/// The most servers that a pool can have; the fewest are two.
+pub const MOST_SERVERS: usize = 16;
+
 /// Why servers have no table together.
 #[derive(Clone, Copy, Debug, PartialEq, Eq, Hash)]
 pub struct NotPooled {
@@ -18,7 +21,7 @@ pub struct NotPooled {
     pub server: Option<usize>,
 }
 
-/// The table that a guest keeps on every server of a pool: of the page sets of 2 to 16 servers, under the same options.
+/// The table that a guest keeps on every server of a pool: of the page sets of 2 to [`MOST_SERVERS`](crate::MOST_SERVERS), under the same options.
 ///
 /// A feature bit, an extended state or a row is there exactly where all servers' tables have it; D.0.ECX, the size of the save area, is that of the
 /// states that are left; every other register is the first server's, and so is where the rows came from.

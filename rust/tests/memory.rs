@@ -98,19 +98,8 @@ fn kvm(memory: &exports::Table) -> Vec<u8> {
     bytes(&[vec![rows.len() as u32, 0], rows.iter().flat_map(one).collect()].concat())
 }
 
-/// The feature registers, as include/snp_cpuid.h lists them.
 fn is_feature(leaf: u32, subleaf: Option<u32>, register: usize) -> bool {
-    let all = [
-        (1, None, &[2, 3][..]),
-        (7, Some(0), &[1, 2, 3]),
-        (0xD, Some(0), &[0]),
-        (0xD, Some(1), &[0, 2]),
-        (0x8000_0001, None, &[2, 3]),
-        (0x8000_0008, None, &[1]),
-        (0x8000_001A, None, &[0]),
-        (0x8000_001F, None, &[0]),
-    ];
-    all.iter().any(|(own, of, registers)| (*own, *of) == (leaf, subleaf) && registers.contains(&register))
+    snp_cpuid::features::find(leaf, subleaf, register).is_some()
 }
 
 /// Whether a register of B's row is as wanted beside A's.

@@ -5,7 +5,7 @@ mod replay;
 
 use replay::{edited, shipped};
 use snp_cpuid::exports::{Found as Numbers, Pooled, Written, snp_cpuid_pool, snp_cpuid_pool_lookup, snp_cpuid_write_pool_image};
-use snp_cpuid::{MOST_IMAGE_BYTES, NotPooled, Options, Origin, Refusal, build, pool, pool_lookup, write_pool_image};
+use snp_cpuid::{MOST_IMAGE_BYTES, MOST_SERVERS, NotPooled, Options, Origin, Refusal, build, pool, pool_lookup, write_pool_image};
 use std::collections::BTreeMap;
 
 fn number(text: &str) -> u32 {
@@ -190,7 +190,7 @@ fn kinds_of_sets() {
     let table = build(&pages, Options::new());
     assert_eq!(pool(&[&pages[..], &pages[..]], Options::new()).ok(), table.clone().ok());
     assert_eq!(pool(&[pages.clone(), pages.clone()], Options::new()).ok(), table.clone().ok());
-    assert_eq!(pool(&vec![pages.into_boxed_slice(); 16], Options::new()).ok(), table.ok());
+    assert_eq!(pool(&vec![pages.into_boxed_slice(); MOST_SERVERS], Options::new()).ok(), table.ok());
     assert_eq!(pool(&[[]; 0] as &[[u8; 0]], Options::new()), Err(NotPooled { refusal: Refusal::PoolSets, server: None }));
     assert_eq!(pool(&[[]; 2] as &[[u8; 0]], Options::new()), Err(NotPooled { refusal: Refusal::PagesLength, server: Some(0) }));
 }
@@ -223,7 +223,8 @@ fn words() {
     let pages = shipped();
     let words = "the servers of the pool differ, in a row that all their tables have, elsewhere than in feature bits or the size of the save area";
     assert_eq!(refused(&[&pages, &other], Options::new()), words);
-    assert_eq!(refused(&[&pages], Options::new()), "a pool has 2 to 16 page sets, and their lengths sum to the bytes handed over");
+    let sets = format!("a pool has 2 to {MOST_SERVERS} page sets, and their lengths sum to the bytes handed over");
+    assert_eq!(refused(&[&pages], Options::new()), sets);
     assert_eq!(refused(&[&pages, &other, &pages[1..]], Options::new()), format!("server 2: {}", Refusal::PagesLength));
     assert_eq!(refused(&[&pages, &[]], Options::new().edition(3)), format!("server 0: {}", Refusal::UnknownEdition));
 }

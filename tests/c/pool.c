@@ -14,7 +14,7 @@
 #include <string.h>
 #include "same.h"
 
-enum { PAGE = 4096, SET = 2 * PAGE, MOST = 17, LEAF_1 = 16 + 48, ROOM = SNP_CPUID_MOST_IMAGE_BYTES + 16, FILL = 0xA5 };
+enum { PAGE = 4096, SET = 2 * PAGE, MOST = SNP_CPUID_MOST_SERVERS + 1, LEAF_1 = 16 + 48, ROOM = SNP_CPUID_MOST_IMAGE_BYTES + 16, FILL = 0xA5 };
 
 static uint8_t pages[MOST * SET];
 static uint64_t lengths[MOST];
@@ -89,7 +89,7 @@ int main(int count, char **words) {
     copy(2, 2, 1 << 6); /* MOVBE */
     rows();
     for (size_t servers = 0; servers <= MOST; servers++)
-        answers("2 to 16 servers", pages, servers * SET, lengths, servers, servers < 2 || servers > 16 ? 18 : 0, 0);
+        answers("the number of servers", pages, servers * SET, lengths, servers, servers < 2 || servers > SNP_CPUID_MOST_SERVERS ? 18 : 0, 0);
 
     answers("no slice and no lengths", NULL, 0, NULL, 0, 18, 0);
     answers("two sets of no bytes", NULL, 0, (const uint64_t[]){0, 0}, 2, 1, 0);

@@ -21,8 +21,8 @@ class Refusal(NamedTuple):
         return 'SNP_CPUID_' + re.sub(r'(?<=[a-z])(?=[A-Z])', '_', self.name).upper()
 
 
-def refusals(root):
-    """The refusals of the list, by number."""
+def listed(root):
+    """The refusals of the list as it stands."""
     found = []
     for number, line in enumerate((root / 'include' / 'refusals.txt').read_text(encoding='utf-8').splitlines(), 1):
         head, says, (word, _, rest) = HEAD.match(line), SAYS.match(line.strip()), line.strip().partition(' ')
@@ -37,9 +37,15 @@ def refusals(root):
     for refusal in found:
         if not refusal.means or not refusal.says or refusal.says[-1][0] or any(not when for when, _ in refusal.says[:-1]):
             raise Unlisted(f'include/refusals.txt: {refusal.number} wants what it means, and last what it says without a condition')
+    return found
+
+
+def refusals(root):
+    """The refusals of the list, by number, as the proved source has them too."""
+    found = listed(root)
     proved = {number: case for number, (_, case) in refused(root).items()}
     if {refusal.number: refusal.name for refusal in found} != proved or [refusal.number for refusal in found] != sorted(proved):
-        raise Unlisted('include/refusals.txt has other numbers or names than crates/table/src/numbers.rt')
+        raise Unlisted('include/refusals.txt has other numbers or names than crates/table/src/numbers.rt: tests/gate/refusal_cases.py --write')
     return found
 
 

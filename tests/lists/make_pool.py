@@ -16,7 +16,7 @@ import sys
 
 from make_comparisons import ALL, FILTERED, appended, find, flipped, places, put, register, richer, set_to, with_topology, word
 import model
-from model_pool import lookup_origin, pool
+from model_pool import MOST, lookup_origin, pool
 import model_origins
 from pagesets import MILAN, PAGE_ENTRIES, PAGE_SIZE, STATE, with_byte
 import replayed
@@ -81,10 +81,10 @@ REFUSED = [data for some in refused() for data in some]
 # The groups: (pool, question)
 
 def how_many():
-    """18: 0, 1, 17 and 18 sets, whatever they are; 2 to 16 are not too few or too many."""
-    for count in range(19):
+    """18: 0 and 1 set, one and two more than the most, whatever they are; 2 to the most are not too few or too many."""
+    for count in range(MOST + 3):
         yield from built(asked(*[MILAN] * count), asked(*[MILAN] * count, secure_avic=True, edition=2))
-    for count in 0, 1, 2, 15, 16, 17, 40:
+    for count in 0, 1, 2, MOST - 1, MOST, MOST + 1, 2 * MOST + 8:
         yield from built(asked(*[b''] * count), asked(*[MILAN[:PAGE_SIZE]] * count))
 
 
@@ -100,7 +100,7 @@ def lengths():
         wrong += [(wrap // 2, wrap // 2 + whole), (wrap // 2, wrap // 2, LENGTH, LENGTH), (wrap // 4,) * 4 + (LENGTH, LENGTH)]
         wrong.append((LENGTH, wrap - 1, LENGTH, 1))
     wrong = [some for some in wrong if all(0 <= length < 1 << 64 for length in some)]
-    wrong += [((1 << 64) - 1,) * count for count in (1, 2, 16, 17)] + [(LENGTH, LENGTH) + (0,) * 15, (LENGTH, LENGTH) + (0,) * 14]
+    wrong += [((1 << 64) - 1,) * count for count in (1, 2, MOST, MOST + 1)] + [(LENGTH, LENGTH) + (0,) * (MOST - many) for many in (1, 2)]
     for some in wrong:
         yield from built(asked(*two, lengths=some))
     # the lengths alone say where a set ends; 0 is a set too
@@ -112,12 +112,13 @@ def lengths():
 
 
 def own_refusals():
-    """Every refusal of a server, as the first, the second, the third and the last of 16; the first of two; before 19."""
+    """Every refusal of a server, as the first, the second, the third and the last of the most; the first of two; before 19."""
     unlike = set_to(5, 0, model.EAX, ALL)
     for data in REFUSED:
         yield from both(MILAN, data)
         yield from built(asked(MILAN, MILAN, data), asked(MILAN, unlike, data), asked(data, unlike), asked(unlike, data, edition=2))
-        yield from built(asked(*[MILAN] * 15, data, secure_avic=True), asked(*[MILAN] * 14, data, MILAN), asked(*[MILAN] * 16, data))
+        yield from built(asked(*[MILAN] * (MOST - 1), data, secure_avic=True), asked(*[MILAN] * (MOST - 2), data, MILAN))
+        yield from built(asked(*[MILAN] * MOST, data))
     for a, b in product(REFUSED, repeat=2):
         yield from built(asked(a, b), asked(MILAN, a, b))
 
@@ -126,9 +127,10 @@ def order():
     """18 before 15, that before every server's own, and that before 19."""
     unlike = set_to(5, 0, model.EAX, ALL)
     for edition in 0, 3, 257, 1 << 31, ALL:
-        for sets in (MILAN, MILAN), (b'', MILAN), (MILAN, b''), (MILAN, unlike), (REFUSED[0], REFUSED[3]), (MILAN, MILAN, REFUSED[1]), (MILAN,) * 16:
+        some = (MILAN, MILAN), (b'', MILAN), (MILAN, b''), (MILAN, unlike), (REFUSED[0], REFUSED[3]), (MILAN, MILAN, REFUSED[1]), (MILAN,) * MOST
+        for sets in some:
             yield from built(asked(*sets, edition=edition), asked(*sets, edition=edition, secure_avic=True))
-        for sets in (), (MILAN,), (MILAN,) * 17, (REFUSED[1],):
+        for sets in (), (MILAN,), (MILAN,) * (MOST + 1), (REFUSED[1],):
             yield from built(asked(*sets, edition=edition))
         yield from built(asked(MILAN, MILAN, lengths=(LENGTH, LENGTH + 1), edition=edition), asked(MILAN, MILAN, lengths=(1, 1), edition=edition))
     yield from built(asked(REFUSED[1], MILAN, lengths=(LENGTH, LENGTH - 1)), asked(MILAN, unlike, lengths=(LENGTH, LENGTH - 1)))
@@ -156,8 +158,8 @@ def third_of_three():
     one, other = flipped(features, model.EBX, 0), flipped(features, model.EBX, 3)
     for servers in product((MILAN, one, other), repeat=3):
         yield from built(asked(*servers))
-    for place in range(16):
-        servers = [MILAN] * 16
+    for place in range(MOST):
+        servers = [MILAN] * MOST
         servers[place] = flipped(at, model.EBX, 3)
         yield from built(asked(*servers))
         servers[place] = one
@@ -251,11 +253,11 @@ def lookups():
 def writes():
     """Buffers of length 0, one short, exact and longer, after every refusal; 9 last."""
     unlike = set_to(5, 0, model.EAX, ALL)
-    for one in asked(MILAN, MILAN), asked(RICHER, less_state(RICHER, 3, 0)), asked(*[RICHER] * 16, secure_avic=True, edition=2):
+    for one in asked(MILAN, MILAN), asked(RICHER, less_state(RICHER, 3, 0)), asked(*[RICHER] * MOST, secure_avic=True, edition=2):
         length = len(model.image(pool(b''.join(one[0]), *one[1:])[0]))
         for room in 0, 1, 20, 21, 22, length - 1, length, length + 1, 732, 1000:
             yield one, ('w', room)
-    wrong = [asked(), asked(MILAN), asked(*[MILAN] * 17), asked(MILAN, MILAN, lengths=(LENGTH, LENGTH + 1)), asked(MILAN, MILAN, edition=3)]
+    wrong = [asked(), asked(MILAN), asked(*[MILAN] * (MOST + 1)), asked(MILAN, MILAN, lengths=(LENGTH, LENGTH + 1)), asked(MILAN, MILAN, edition=3)]
     wrong += [asked(MILAN, data) for data in REFUSED] + [asked(MILAN, unlike), asked(REFUSED[0], unlike), asked(MILAN, b'')]
     for one in wrong:
         for room in 0, 10, 1000:
@@ -263,12 +265,12 @@ def writes():
 
 
 def at_random():
-    """Servers with some damage, in pools of 2 to 16."""
+    """Servers with some damage, in pools of 2 to the most."""
     damage, draw = Damage(41), random.Random(42)
     good = MILAN, RICHER
     for number in range(160):
         base = good[number % 2]
-        count = draw.choice((2, 2, 3, 4, 16))
+        count = draw.choice((2, 2, 3, 4, MOST))
         servers = [damage.damage(base) if draw.random() < .4 else base for _ in range(count)]
         yield from built(asked(*servers, secure_avic=draw.random() < .5, edition=draw.choice((1, 2))))
     registers = [(key, number) for key, numbers in model.FEATURES.items() for number in numbers]

@@ -10,6 +10,7 @@ from model import ECX, STATE
 import model_origins
 
 ALL = 0xFFFFFFFF
+# "18 fewer than 2 or more than 16 sets, or lengths that don't sum to the slice"
 FEWEST, MOST = 2, 16
 # "B.0 and B.1 apart"
 APART = {(0xB, 0), (0xB, 1)}
@@ -17,7 +18,7 @@ APART = {(0xB, 0), (0xB, 1)}
 
 def page_sets(pages, lengths):
     """The servers' page sets, "end to end in one slice beside a list of their lengths". """
-    # "18 fewer than 2 or more than 16 sets, or lengths that don't sum to the slice": a sum of numbers, whatever their size
+    # a sum of numbers, whatever their size
     if not FEWEST <= len(lengths) <= MOST or sum(lengths) != len(pages):
         raise model.Refusal(18)
     return [pages[end - length:end] for length, end in zip(lengths, accumulate(lengths))]

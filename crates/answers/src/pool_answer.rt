@@ -1,7 +1,7 @@
 // What a pool of servers gives, as C and Rust are given it (document 02, P12): the answer's parts as a struct of plain numbers.
 use table::Verdict;
 ghost use mathlib.Core.Path.{_≡_};
-ghost use Prim.Native.Nat.{_<_};
+ghost use Prim.Native.Nat.{_^_, _<_};
 ghost use Rattle.answers.specs.PoolAnswers.{pooledGiven};
 
 #[repr(C)]
@@ -23,7 +23,7 @@ pub fn pooled_numbers(
     row_count: usize,
     max_extended_state: u64,
 ) -> SnpCpuidPooled
-    requires { ⌜ server < 16 ⌝ }
+    requires { ⌜ server < 2 ^ 32 ⌝ }
     ensures { λ r. ⌜ r ≡ pooledGiven verdict server «row_count» «max_extended_state» ⌝ }
 {
     let numbers = table::numbers::answer_numbers(verdict);

@@ -22,7 +22,7 @@ use Rattle.features.specs.Finish.Needed.{versionAndFeatures, extendedFeatures, 
 use Rattle.features.specs.Finish.Rule.{made, needed, component}
 use Rattle.finish.specs.Kinds.{Kind, Kinds, registerKinds, kindsAt}
 use Rattle.finish.specs.Kinds.Kind.{feature, featureBut28, area, freed, other}
-use Rattle.finish.specs.RuleKinds.{featureEax, kindsOf, kinds-at}
+use Rattle.finish.specs.RuleKinds.{kept, kindsOf, kinds-at}
 use Rattle.finish.specs.FeatureLaws.{bothEnable, versionEcx-and, featuresEbx-and, featuresEcx-and, featuresEdx-and, extendedVersionEcx-and, extendedVersionEdx-and, addressSizesEbx-and}
 
 -- joined by and where the register holds features; else the first's
@@ -130,26 +130,35 @@ pub record FeaturesJoin (k : Kinds) (z x y : CpuidResult) : Type 0 where
   pub ecx : FeatureJoin (k .ecx) (z .ecx) (x .ecx) (y .ecx)
   pub edx : FeatureJoin (k .edx) (z .edx) (x .edx) (y .edx)
 
+-- a register that keeps its masked value is joined as its kind says
+kept-join : (k : Kind) (x y : ℕ) → FeatureJoin (kept k) (joined (kept k) x y) x y
+kept-join feature x y = refl
+kept-join featureBut28 x y = refl
+kept-join area x y = tt
+kept-join freed x y = tt
+kept-join other x y = tt
+
 -- D.1.ECX ends as XSS (ExtendedStateLaws)
 abbrev EndsAsXss : Settings → CpuidResult → Type 0
 EndsAsXss c r = unlessNoXss (c .enabled) (r .ecx) ≡ c .enabled .xss
 
 module _ (e c d : Settings) (joins : e .enabled ≡ bothEnable (c .enabled) (d .enabled)) (clearsC : c .clears ≡ e .clears)
     (clearsD : d .clears ≡ e .clears) where
-  pub finish-join : (f : Bool) (t : Rule) (a b : CpuidResult)
+  pub finish-join : (f : Kinds) (t : Rule) (a b : CpuidResult)
       → (t ≡ needed extendedState1 → EndsAsXss e (joinResults (kindsOf f t) a b) × EndsAsXss c a × EndsAsXss d b)
       → FeaturesJoin (kindsOf f t) (finish e t (joinResults (kindsOf f t) a b)) (finish c t a) (finish d t b)
   finish-join f (made t) a b h = record { eax = tt; ebx = tt; ecx = tt; edx = tt }
-  finish-join f (needed versionAndFeatures) a b h = record { eax = tt; ebx = tt; ecx = rw (joins, clearsC, clearsD) (versionEcx-and _ _ _ _ _); edx = refl }
+  finish-join f (needed versionAndFeatures) a b h =
+      record { eax = kept-join (f .eax) _ _; ebx = tt; ecx = rw (joins, clearsC, clearsD) (versionEcx-and _ _ _ _ _); edx = refl }
   finish-join f (needed extendedFeatures) a b h = record {
-    eax = tt;
+    eax = kept-join (f .eax) _ _;
     ebx = rw (joins, clearsC, clearsD) (featuresEbx-and _ _ _ _ _);
     ecx = rw (joins, clearsC, clearsD) (featuresEcx-and _ _ _ _ _);
     edx = rw joins (featuresEdx-and _ _ _ _);
   }
   finish-join f (needed threadLevelRow) a b h = record { eax = tt; ebx = tt; ecx = tt; edx = tt }
   finish-join f (needed coreLevelRow) a b h = record { eax = tt; ebx = tt; ecx = tt; edx = tt }
-  finish-join f (needed extendedState0) a b h = record { eax = refl; ebx = tt; ecx = tt; edx = tt }
+  finish-join f (needed extendedState0) a b h = record { eax = refl; ebx = tt; ecx = tt; edx = kept-join (f .edx) _ _ }
   finish-join f (needed extendedState1) a b h = record {
     eax = refl;
     ebx = tt;
@@ -158,14 +167,15 @@ module _ (e c d : Settings) (joins : e .enabled ≡ bothEnable (c .enabled) (d .
   }
   finish-join f (needed extendedVersionAndFeatures) a b h =
       record {
-        eax = tt;
-        ebx = tt;
+        eax = kept-join (f .eax) _ _;
+        ebx = kept-join (f .ebx) _ _;
         ecx = rw (joins, clearsC, clearsD) (extendedVersionEcx-and _ _ _ _ _);
         edx = rw joins (extendedVersionEdx-and _ _ _ _);
       }
-  finish-join f (needed extendedAddressSpaceSizes) a b h = record { eax = tt; ebx = addressSizesEbx-and _ _; ecx = tt; edx = tt }
-  finish-join true (needed untouched) a b h = record { eax = refl; ebx = tt; ecx = tt; edx = tt }
-  finish-join false (needed untouched) a b h = record { eax = tt; ebx = tt; ecx = tt; edx = tt }
+  finish-join f (needed extendedAddressSpaceSizes) a b h =
+      record { eax = kept-join (f .eax) _ _; ebx = addressSizesEbx-and _ _; ecx = tt; edx = kept-join (f .edx) _ _ }
+  finish-join f (needed untouched) a b h =
+      record { eax = kept-join (f .eax) _ _; ebx = kept-join (f .ebx) _ _; ecx = kept-join (f .ecx) _ _; edx = kept-join (f .edx) _ _ }
   finish-join f (component k) a b h = record { eax = tt; ebx = tt; ecx = tt; edx = tt }
 
   -- at a place
@@ -176,9 +186,9 @@ module _ (e c d : Settings) (joins : e .enabled ≡ bothEnable (c .enabled) (d .
   unfolding joinRows
   finish-join-at a b i l h = at (kindsAt i) (kinds-at i l) h
     where
-      at : (k : Kinds) → k ≡ kindsOf (featureEax i) (ruleAt i)
+      at : (k : Kinds) → k ≡ kindsOf (kindsAt i) (ruleAt i)
           → (ruleAt i ≡ needed extendedState1
           → EndsAsXss e (joinResults k (a i .result) (b i .result)) × EndsAsXss c (a i .result) × EndsAsXss d (b i .result))
           → FeaturesJoin k (finish e (ruleAt i) (joinResults k (a i .result) (b i .result))) (finish c (ruleAt i) (a i .result))
           (finish d (ruleAt i) (b i .result))
-      at k q h = rw q (finish-join (featureEax i) (ruleAt i) (a i .result) (b i .result) (rw q at h))
+      at k q h = rw q (finish-join (kindsAt i) (ruleAt i) (a i .result) (b i .result) (rw q at h))

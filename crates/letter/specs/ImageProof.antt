@@ -49,7 +49,7 @@ lines-told second avic e x = refl
 pub carried-same : (r : Refusal) → details r ≡ carried r
 carried-same PagesLength = refl
 carried-same PageCount = refl
-carried-same (MissingRequiredResult l k) = refl
+carried-same (MissingRequiredResult leaf subleaf) = refl
 carried-same InvlpgbUnavailable = refl
 carried-same SaveAreaOverflow = refl
 carried-same (TopologyInconsistent (Hyperthreading s)) = refl
@@ -63,7 +63,7 @@ carried-same StateBeyondTable = refl
 carried-same CompactSizeTooLarge = refl
 carried-same UnknownEdition = refl
 carried-same EditionBack = refl
-carried-same (ReservedBytes l) = refl
+carried-same (ReservedBytes leaf) = refl
 carried-same PoolSets = refl
 carried-same PoolDiffers = refl
 carried-same NothingDecides = refl

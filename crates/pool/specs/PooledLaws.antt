@@ -2,7 +2,7 @@
 use mathlib.Core.Path.{_≡_, refl, sym, ap, ap₂, _∙_, subst}
 use mathlib.Core.Bool.{Bool, true, false, _&&_}
 use mathlib.Core.List.{List}
-use Prim.Native.Nat.{ℕ, zero, suc, _-_, _≤_, _<_}
+use Prim.Native.Nat.{ℕ, zero, suc, _-_, _^_, _≤_, _<_}
 use native.Mathlib.Omega.{arith}
 use lib.Dec.{lit<}
 use lib.ListN.{length, getD}
@@ -50,7 +50,7 @@ use Rattle.pool_rows.specs.Joins.{alikeWhere}
 use Rattle.pool_rows.specs.PoolJoinLaws.{registersOf, alikeFlags}
 use Rattle.pool_sets.specs.declared.Joined.{Joined}
 use Rattle.pool_sets.specs.Sets.{setAt, lastOf, lawfulSets, setsVerdict}
-use Rattle.pool_sets.specs.SetsLaws.{at-least-two, at-most-sixteen}
+use Rattle.pool_sets.specs.SetsLaws.{at-least-two, not-too-many}
 use Rattle.pool_sets.specs.Servers.{serverVerdict, serverRows, isAccepted, firstRefused, refusedBy, serversVerdict, numberOf, poolRows, joinedTo, JoinsRest}
 use Rattle.pool.specs.declared.Pooled.{Pooled}
 use Rattle.pool.specs.Pool.{alikeVerdict, poolVerdict, serverFor, serverNamed, pooled, refusedPool}
@@ -254,14 +254,14 @@ module _ (c : Choices) (pages lengths : List ℕ) where
                 table = answered .whole;
               })
 
--- a server is named by a number below 16
-pub server-below : (c : Choices) (pages lengths : List ℕ) → pooled c pages lengths .server < 16
+-- a server is named by a number of 32 bits
+pub server-below : (c : Choices) (pages lengths : List ℕ) → pooled c pages lengths .server < 2 ^ 32
 unfolding pooled serverNamed setsVerdict firstRefused
 server-below c pages lengths = go (lawfulSets pages lengths) refl (firstRefused c pages lengths) refl
   where
     go : (b : Bool) → lawfulSets pages lengths ≡ b → (x : Failing) → firstRefused c pages lengths ≡ x
-        → serverFor (pick b Accepted (Refused PoolSets)) (numberOf x) < 16
+        → serverFor (pick b Accepted (Refused PoolSets)) (numberOf x) < 2 ^ 32
     go false e x p = lit< tt
     go true e none p = lit< tt
     go true e (at k) p =
-        omega (arith, lowest-at (λ j. isAccepted (serverVerdict c pages lengths j)) 0 (length lengths) k p .below, at-most-sixteen pages lengths e)
+        omega (arith, lowest-at (λ j. isAccepted (serverVerdict c pages lengths j)) 0 (length lengths) k p .below, not-too-many pages lengths e)

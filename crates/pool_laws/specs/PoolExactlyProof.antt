@@ -36,8 +36,8 @@ use Rattle.register_masks.specs.Join.{allTo}
 use Rattle.register_masks.specs.Alike.{Alike, registersAlike, allHave, alikeTo, allAlike, AllAlike}
 use Rattle.register_masks.specs.RegisterRunLaws.{all-at, all-of}
 use Rattle.register_masks.specs.AlikeLaws.{registers-test, alike-of-test}
-use Rattle.pool_sets.specs.Sets.{setStart, setAt, lastOf, lawfulSets, setsVerdict}
-use Rattle.pool_sets.specs.SetsLaws.{at-least-two, at-most-sixteen, sums-to-slice}
+use Rattle.pool_sets.specs.Sets.{setStart, setAt, lastOf, mostSets, lawfulSets, setsVerdict}
+use Rattle.pool_sets.specs.SetsLaws.{at-least-two, not-too-many, sums-to-slice}
 use Rattle.pool_sets.specs.Servers.{serverVerdict, serverRows, isAccepted, firstRefused, refusedBy, serversVerdict, numberOf, poolRows}
 use Rattle.pool.specs.Pool.{alikeVerdict, poolVerdict, serverNamed, pooled}
 use Rattle.pool.specs.PooledLaws.{is-accepted}
@@ -49,18 +49,18 @@ use Rattle.pool_laws.specs.PoolExactly.SetsFault.{few, many, sum}
 
 sets-hold : (pages lengths : List ℕ) → lawfulSets pages lengths ≡ true → SetsFault pages lengths → ⊥
 sets-hold pages lengths e (few l) = omega (arith, at-least-two pages lengths e)
-sets-hold pages lengths e (many l) = omega (arith, at-most-sixteen pages lengths e)
+sets-hold pages lengths e (many l) = omega (arith, not-too-many pages lengths e)
 sets-hold pages lengths e (sum n) = n (sums-to-slice pages lengths e)
 
 sets-fail : (pages lengths : List ℕ) → lawfulSets pages lengths ≡ false → SetsFault pages lengths
 unfolding lawfulSets
 sets-fail pages lengths e =
-    go (leb 2 (length lengths)) (leb (length lengths) 16) (eqb (setStart lengths (length lengths)) (length pages)) refl refl refl e
+    go (leb 2 (length lengths)) (leb (length lengths) mostSets) (eqb (setStart lengths (length lengths)) (length pages)) refl refl refl e
   where
-    go : (p q r : Bool) → leb 2 (length lengths) ≡ p → leb (length lengths) 16 ≡ q → eqb (setStart lengths (length lengths)) (length pages) ≡ r
+    go : (p q r : Bool) → leb 2 (length lengths) ≡ p → leb (length lengths) mostSets ≡ q → eqb (setStart lengths (length lengths)) (length pages) ≡ r
         → (p && (q && r)) ≡ false → SetsFault pages lengths
     go false q r a b c f = few (omega (arith, leb-false 2 (length lengths) a))
-    go true false r a b c f = many (omega (arith, leb-false (length lengths) 16 b))
+    go true false r a b c f = many (omega (arith, leb-false (length lengths) mostSets b))
     go true true false a b c f = sum (eqb-false _ _ c)
     go true true true a b c f = absurd (never-both refl f)
 

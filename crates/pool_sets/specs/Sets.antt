@@ -1,5 +1,4 @@
--- Document 02, P12: "takes the servers' page sets, end to end in one slice beside a list of their lengths"; "18 fewer than 2 or more than 16 sets,
--- or lengths that don't sum to the slice, first".
+-- Document 02, P12: "takes the servers' page sets, end to end in one slice beside a list of their lengths"
 use mathlib.Core.Bool.{Bool, _&&_}
 use mathlib.Core.List.{List}
 use Prim.Native.Nat.{ℕ, _-_}
@@ -22,8 +21,12 @@ setAt pages lengths k = take (getD lengths k 0) (drop (setStart lengths k) pages
 abbrev pub lastOf : List ℕ → ℕ
 lastOf lengths = length lengths - 1
 
+-- "18 fewer than 2 or more than 16 sets, or lengths that don't sum to the slice, first"
+abbrev pub mostSets : ℕ
+mostSets = 16
+
 unfoldable pub lawfulSets : List ℕ → List ℕ → Bool
-lawfulSets pages lengths = leb 2 (length lengths) && (leb (length lengths) 16 && eqb (setStart lengths (length lengths)) (length pages))
+lawfulSets pages lengths = leb 2 (length lengths) && (leb (length lengths) mostSets && eqb (setStart lengths (length lengths)) (length pages))
 
 unfoldable pub setsVerdict : List ℕ → List ℕ → Verdict
 setsVerdict pages lengths = refuseUnless (lawfulSets pages lengths) PoolSets

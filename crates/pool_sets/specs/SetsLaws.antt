@@ -12,7 +12,7 @@ use lib.ListN.{length, getD, take, drop}
 use borrow.Author.Tests.{leb-true, eqb-true, eqb-false, eq-eqb, ne-eqb, le-leb, lt-leb}
 use Rattle.bits.specs.ChoiceLaws.{and-left, and-right}
 use Rattle.bits.specs.Lists.{sumTo}
-use Rattle.pool_sets.specs.Sets.{setStart, setAt, lawfulSets}
+use Rattle.pool_sets.specs.Sets.{setStart, setAt, mostSets, lawfulSets}
 
 -- ---- where sets stand
 
@@ -49,23 +49,23 @@ module _ (pages lengths : List ℕ) where
   unfolding lawfulSets
   too-few h = rw (lt-leb 2 (length lengths) h)
 
-  pub too-many : 2 ≤ length lengths → 16 < length lengths → lawfulSets pages lengths ≡ false
+  pub too-many : 2 ≤ length lengths → mostSets < length lengths → lawfulSets pages lengths ≡ false
   unfolding lawfulSets
-  too-many l h = rw (le-leb 2 (length lengths) l, lt-leb (length lengths) 16 h)
+  too-many l h = rw (le-leb 2 (length lengths) l, lt-leb (length lengths) mostSets h)
 
-  sum-decides : 2 ≤ length lengths → length lengths ≤ 16 → lawfulSets pages lengths ≡ eqb (setStart lengths (length lengths)) (length pages)
+  sum-decides : 2 ≤ length lengths → length lengths ≤ mostSets → lawfulSets pages lengths ≡ eqb (setStart lengths (length lengths)) (length pages)
   unfolding lawfulSets
-  sum-decides l h = rw (le-leb 2 (length lengths) l, le-leb (length lengths) 16 h)
+  sum-decides l h = rw (le-leb 2 (length lengths) l, le-leb (length lengths) mostSets h)
 
   -- a set that goes beyond the slice
-  pub beyond : 2 ≤ length lengths → length lengths ≤ 16 → (k : ℕ) → k < length lengths → length pages < setStart lengths (k + 1)
+  pub beyond : 2 ≤ length lengths → length lengths ≤ mostSets → (k : ℕ) → k < length lengths → length pages < setStart lengths (k + 1)
       → lawfulSets pages lengths ≡ false
   beyond l h k u b =
       sum-decides l h
       ∙ ne-eqb (setStart lengths (length lengths)) (length pages)
       (λ (e : setStart lengths (length lengths) ≡ length pages). omega (arith, e, start-up lengths (k + 1) (length lengths) (omega arith)))
 
-  pub summed : 2 ≤ length lengths → length lengths ≤ 16 → (left : ℕ) → left + setStart lengths (length lengths) ≡ length pages
+  pub summed : 2 ≤ length lengths → length lengths ≤ mostSets → (left : ℕ) → left + setStart lengths (length lengths) ≡ length pages
       → eqb left 0 ≡ lawfulSets pages lengths
   summed l h left e = go (eqb left 0) refl ∙ sym (sum-decides l h)
     where
@@ -82,13 +82,13 @@ module _ (pages lengths : List ℕ) where
     unfolding lawfulSets
     at-least-two = leb-true 2 (length lengths) (and-left _ _ e)
 
-    pub at-most-sixteen : length lengths ≤ 16
+    pub not-too-many : length lengths ≤ mostSets
     unfolding lawfulSets
-    at-most-sixteen = leb-true (length lengths) 16 (and-left _ _ (and-right (leb 2 (length lengths)) _ e))
+    not-too-many = leb-true (length lengths) mostSets (and-left _ _ (and-right (leb 2 (length lengths)) _ e))
 
     pub sums-to-slice : setStart lengths (length lengths) ≡ length pages
     unfolding lawfulSets
-    sums-to-slice = eqb-true _ _ (and-right (leb (length lengths) 16) _ (and-right (leb 2 (length lengths)) _ e))
+    sums-to-slice = eqb-true _ _ (and-right (leb (length lengths) mostSets) _ (and-right (leb 2 (length lengths)) _ e))
 
     pub set-ends : (k : ℕ) → k < length lengths → setStart lengths k + getD lengths k 0 ≤ length pages
     set-ends k l = omega (arith, sums-to-slice, start-next lengths k, start-up lengths (k + 1) (length lengths) (omega arith))

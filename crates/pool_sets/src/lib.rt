@@ -15,6 +15,9 @@ ghost use Rattle.pool_sets.specs.Servers.{serverVerdict, serverRows, Joi
 
 pub mod server;
 
+// So many servers a pool has at most: `mostSets` of specs/Sets.antt.
+pub const MOST_SETS: usize = 16;
+
 // What joining gives beside the joined registers: the first server that is refused, or that none is, and the places at which those that were
 // joined are like the first.
 pub struct Joined {
@@ -23,7 +26,7 @@ pub struct Joined {
     pub alike: [bool; PLACES],
 }
 
-// Whether there are 2 to 16 sets, and their lengths sum to that of the slice: each is taken from what is left of it, so no sum can wrap.
+// Whether there are 2 to `MOST_SETS` sets, and their lengths sum to that of the slice: each is taken from what is left of it, so no sum can wrap.
 pub fn sets_fit(pages: &[u8], lengths: &[u64]) -> bool
     ensures { λ r. ⌜ r ≡ lawfulSets (now (pages .entry)) (now (lengths .entry)) ⌝ }
 {
@@ -31,7 +34,7 @@ pub fn sets_fit(pages: &[u8], lengths: &[u64]) -> bool
     if n < 2 {
         return false;
     }
-    if n > 16 {
+    if n > MOST_SETS {
         return false;
     }
     let mut left = pages.len();

@@ -30,7 +30,7 @@ use Rattle.features.specs.Finish.{Needed, Rule, ruleAt, enabledBy, settings, fi
 use Rattle.features.specs.Finish.Needed.{extendedState1}
 use Rattle.features.specs.Finish.Rule.{made, needed, component}
 use Rattle.finish.specs.Kinds.{Kinds, Registers, registerKinds, kindsAt, fromEntry}
-use Rattle.finish.specs.RuleKinds.{featureEax, kindsOf, kinds-at, component-kinds}
+use Rattle.finish.specs.RuleKinds.{kindsOf, kinds-at, component-kinds}
 use Rattle.finish.specs.FeatureLaws.{bothEnable}
 use Rattle.finish.specs.JoinLaws.{joinRows, joinResults, MaskedState, FeaturesJoin, xfem-join, xss-join, enabled-join, mask-join, finish-join-at}
 use Rattle.finish.specs.PlaceLaws.{always, position, always-required, component-rule, Sort, sort}
@@ -193,7 +193,7 @@ module _ (edition : ℕ) where
   no-features : (i : ℕ) → i < places → (z x y : CpuidResult) → always (ruleAt i) ≡ false → FeaturesJoin (kindsAt i) z x y
   no-features i l z x y e = subst (λ (k : Kinds). FeaturesJoin k z x y) (sym (kinds-at i l)) (go (ruleAt i) e)
     where
-      go : (t : Rule) → always t ≡ false → FeaturesJoin (kindsOf (featureEax i) t) z x y
+      go : (t : Rule) → always t ≡ false → FeaturesJoin (kindsOf (kindsAt i) t) z x y
       go (made t) e = record { eax = tt; ebx = tt; ecx = tt; edx = tt }
       go (needed t) e = absurd (never-both refl e)
       go (component k) e = record { eax = tt; ebx = tt; ecx = tt; edx = tt }

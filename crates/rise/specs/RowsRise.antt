@@ -9,7 +9,7 @@ use Rattle.bits.specs.ChoiceLaws.{and-left, and-both, pick-true}
 use Rattle.bits.specs.Bits.{has, Within}
 use Rattle.bits.specs.BitsLaws.{has-mono, within-or}
 use Rattle.topology.specs.Topology.{Inputs, topologyOf}
-use Rattle.masking.specs.Kept.{places}
+use Rattle.masking.specs.Kept.{places, keptLeaves, slot}
 use Rattle.masking.specs.Place
 use Rattle.table.specs.declared.Refusal.the-variants.{InvlpgbUnavailable}
 use Rattle.table.specs.declared.Verdict.{Verdict}
@@ -22,9 +22,9 @@ use Rattle.checks.specs.ExtendedStateLaws.{area-mono, xss-mono, in-combined}
 use Rattle.checks.specs.TopologyInputs.{inputsOf}
 use Rattle.features.specs.Finish.{Settings, ymmClears, ruleAt, enabledBy, settings, remains, finished}
 use Rattle.finish.specs.FeatureLaws.{ClearsFewer}
-use Rattle.finish.specs.Kinds.{Kinds, kinds, EntryAtLeast, TableAtLeast, Registers, kindsAt, fromEntry}
+use Rattle.finish.specs.Kinds.{Kinds, kinds, EntryAtLeast, TableAtLeast, Registers, registerKinds, kindsAt, fromEntry}
 use Rattle.finish.specs.Kinds.Kind.{other}
-use Rattle.finish.specs.RuleKinds.{featureEax, kindsOf, kinds-at, component-kinds}
+use Rattle.finish.specs.RuleKinds.{kindsOf, kinds-at, component-kinds}
 use Rattle.finish.specs.XsavesLaws.{XsavesEdx, xsaves-at}
 use Rattle.checks.specs.Checks.{invlpgbVerdict, componentsVerdict, areaVerdict, topologyVerdict, topologyRefusal, rowsVerdict, refuseUnless}
 use Rattle.checks.specs.ChecksLaws.{AllPass, all-pass, required-present, present-required, component-present, demanded, then-accepted, then-skips}
@@ -54,10 +54,10 @@ module _ (nA nB : ℕ) (fewer : ClearsFewer (ymmClears nA) (ymmClears nB)) (A B 
 
   -- its registers, by its rule's kinds
   byRule : (i : ℕ) → i < places → Registers EntryAtLeast (kindsAt i) (A i .result) (B i .result)
-      → Registers EntryAtLeast (kindsOf (featureEax i) (ruleAt i)) (A i .result) (B i .result)
+      → Registers EntryAtLeast (kindsOf (kindsAt i) (ruleAt i)) (A i .result) (B i .result)
   byRule i l = subst (λ (k : Kinds). Registers EntryAtLeast k (A i .result) (B i .result)) (kinds-at i l)
 
-  at : (i : ℕ) → i < places → always (ruleAt i) ≡ true → Registers EntryAtLeast (kindsOf (featureEax i) (ruleAt i)) (A i .result) (B i .result)
+  at : (i : ℕ) → i < places → always (ruleAt i) ≡ true → Registers EntryAtLeast (kindsOf (kindsAt i) (ruleAt i)) (A i .result) (B i .result)
   at i l e = byRule i l (entry i l e .registers)
 
   componentInTableA : (k : ℕ) → 2 ≤ k → k < 64 → has k (combinedMask A) ≡ true → finished nA A (Place.extendedState k) .present ≡ true
@@ -70,6 +70,14 @@ module _ (nA nB : ℕ) (fewer : ClearsFewer (ymmClears nA) (ymmClears nB)) (A B 
       subst (λ (q : Kinds). Registers EntryAtLeast q (A i .result) (B i .result)) (component-kinds k l u)
       (entries i (omega arith) (ap fromEntry (component-rule k l u)) (componentInTableA k l u h) .registers)
 
+  threadsSame : A Place.processorTopologyDefinition .result .ebx ≡ B Place.processorTopologyDefinition .result .ebx
+  unfolding kindsAt registerKinds slot keptLeaves
+  threadsSame = at Place.processorTopologyDefinition (lit< tt) refl .ebx
+
+  sevRises : Within (A Place.extendedSevFeatures .result .eax) (B Place.extendedSevFeatures .result .eax)
+  unfolding kindsAt registerKinds slot keptLeaves
+  sevRises = at Place.extendedSevFeatures (lit< tt) refl .eax
+
   sameInputs : inputsOf A ≡ inputsOf B
   unfolding inputsOf
   sameInputs =
@@ -77,7 +85,7 @@ module _ (nA nB : ℕ) (fewer : ClearsFewer (ymmClears nA) (ymmClears nB)) (A B 
         at Place.extendedAddressSpaceSizes (lit< tt) refl .ecx,
         at Place.versionAndFeatures (lit< tt) refl .ebx,
         at Place.versionAndFeatures (lit< tt) refl .edx .1,
-        at Place.processorTopologyDefinition (lit< tt) refl .ebx,
+        threadsSame,
       )
 
   xfemRises : Within (xfem A) (xfem B)
@@ -97,7 +105,7 @@ module _ (nA nB : ℕ) (fewer : ClearsFewer (ymmClears nA) (ymmClears nB)) (A B 
   unfolding settings enabledBy
   settingsRise = record {
     clears = fewer;
-    enabled = record { xfem = xfemRises; xss = xssRises; tscAux = has-mono 9 (at Place.extendedSevFeatures (lit< tt) refl .eax) };
+    enabled = record { xfem = xfemRises; xss = xssRises; tscAux = has-mono 9 sevRises };
     saveArea = area-mono A B 64 xfemRises sums;
     threads = cc sameInputs;
     cores = cc sameInputs;
@@ -116,9 +124,10 @@ module _ (nA nB : ℕ) (fewer : ClearsFewer (ymmClears nA) (ymmClears nB)) (A B 
   pub registers-rise : (i : ℕ) → i < places → finished nA A i .present ≡ true
       → Registers TableAtLeast (kindsAt i) (finished nA A i .result) (finished nB B i .result)
   registers-rise i l h =
-      rw (kinds-at i l, finished-result nA A i h, finished-result nB B i (present-rises i l h))
-      (finish-rises settingsRise (featureEax i) (ruleAt i) (A i .result) (B i .result) (λ e. byRule i l (entries i l e h .registers))
-      (xsaves-at nA A zeroA i l) (xsaves-at nB B zeroB i l))
+      subst (λ (k : Kinds). Registers TableAtLeast k (finished nA A i .result) (finished nB B i .result)) (sym (kinds-at i l))
+      (rw (finished-result nA A i h, finished-result nB B i (present-rises i l h))
+      (finish-rises settingsRise (kindsAt i) (ruleAt i) (A i .result) (B i .result) (λ e. byRule i l (entries i l e h .registers))
+      (xsaves-at nA A zeroA i l) (xsaves-at nB B zeroB i l)))
 
   -- beyond these only the subleaves of further bits
   abbrev pub Beyond : ℕ → Type 0

@@ -12,9 +12,9 @@ use Rattle.x86defs.specs.declared.CpuidResult.{CpuidResult}
 use Rattle.features.specs.Finish.{Made, Needed, Rule, Enabled, Settings, makeRow, changeRow, finish, remains, unlessNoXss, addressSizesEbx, versionEcx, featuresEbx, featuresEcx, featuresEdx, extendedVersionEcx, extendedVersionEdx}
 use Rattle.features.specs.Finish.Needed.{versionAndFeatures, extendedFeatures, threadLevelRow, coreLevelRow, extendedState0, extendedState1, extendedVersionAndFeatures, extendedAddressSpaceSizes, untouched}
 use Rattle.features.specs.Finish.Rule.{made, needed, component}
-use Rattle.finish.specs.Kinds.{Kinds, kinds, EntryAtLeast, TableAtLeast, Registers, fromEntry}
-use Rattle.finish.specs.Kinds.Kind.{feature, freed, other}
-use Rattle.finish.specs.RuleKinds.{kindsOf}
+use Rattle.finish.specs.Kinds.{Kind, Kinds, kinds, EntryAtLeast, TableAtLeast, Registers, fromEntry}
+use Rattle.finish.specs.Kinds.Kind.{feature, featureBut28, area, freed, other}
+use Rattle.finish.specs.RuleKinds.{kept, kindsOf}
 use Rattle.finish.specs.XsavesLaws.{XsavesRow}
 use Rattle.finish.specs.FeatureLaws.{EnablesAtLeast, at-least-of-and, versionEcx-and, featuresEbx-and, featuresEcx-and, featuresEdx-and, extendedVersionEcx-and, extendedVersionEdx-and, addressSizesEbx-and, ClearsFewer, versionEcx-fewer, featuresEbx-fewer, featuresEcx-fewer, extendedVersionEcx-fewer}
 
@@ -46,20 +46,28 @@ zero-unless c {x} e = go (eqb (c .xss) 0)
 addressSizesEbx-mono : {x y : ℕ} → Within x y → Within (addressSizesEbx x) (addressSizesEbx y)
 addressSizesEbx-mono {x} {y} h = within-of-and (sym (addressSizesEbx-and x y) ∙ ap addressSizesEbx (and-of-within h))
 
+-- a register that keeps its masked value compares as its entry does
+kept-rises : (k : Kind) (x y : ℕ) → EntryAtLeast (kept k) x y → TableAtLeast (kept k) x y
+kept-rises feature x y h = h
+kept-rises featureBut28 x y h = h
+kept-rises area x y h = h
+kept-rises freed x y h = h
+kept-rises other x y h = h
+
 module _ {c d : Settings} (s : SettingsRise c d) where
   -- each register of each required row
-  needed-rises : (f : Bool) (t : Needed) (a b : CpuidResult) → Registers EntryAtLeast (kindsOf f (needed t)) a b
+  needed-rises : (f : Kinds) (t : Needed) (a b : CpuidResult) → Registers EntryAtLeast (kindsOf f (needed t)) a b
       → (needed t ≡ needed extendedState1 → XsavesRow c a) → (needed t ≡ needed extendedState1 → XsavesRow d b)
       → Registers TableAtLeast (kindsOf f (needed t)) (changeRow c t a) (changeRow d t b)
   needed-rises f versionAndFeatures a b h p q = record {
-    eax = h .eax;
+    eax = kept-rises (f .eax) _ _ (h .eax);
     ebx = h .ebx;
     ecx =
         within-trans (at-least-of-and (versionEcx (c .clears)) (versionEcx-and (c .clears)) (s .enabled) (h .ecx)) (versionEcx-fewer (s .clears) (d .enabled) (b .ecx));
     edx = h .edx;
   }
   needed-rises f extendedFeatures a b h p q = record {
-    eax = h .eax;
+    eax = kept-rises (f .eax) _ _ (h .eax);
     ebx =
         within-trans (at-least-of-and (featuresEbx (c .clears)) (featuresEbx-and (c .clears)) (s .enabled) (h .ebx)) (featuresEbx-fewer (s .clears) (d .enabled) (b .ebx));
     ecx =
@@ -68,7 +76,7 @@ module _ {c d : Settings} (s : SettingsRise c d) where
   }
   needed-rises f threadLevelRow a b h p q = made-registers (s .threads)
   needed-rises f coreLevelRow a b h p q = made-registers (s .cores)
-  needed-rises f extendedState0 a b h p q = record { eax = h .eax; ebx = h .ebx; ecx = s .saveArea; edx = h .edx }
+  needed-rises f extendedState0 a b h p q = record { eax = h .eax; ebx = h .ebx; ecx = s .saveArea; edx = kept-rises (f .edx) _ _ (h .edx) }
   needed-rises f extendedState1 a b h p q = record {
     eax = h .eax;
     ebx = h .ebx;
@@ -76,19 +84,23 @@ module _ {c d : Settings} (s : SettingsRise c d) where
     edx = zero-unless (c .enabled) (p refl .edx) ∙ sym (zero-unless (d .enabled) (q refl .edx));
   }
   needed-rises f extendedVersionAndFeatures a b h p q = record {
-    eax = h .eax;
-    ebx = h .ebx;
+    eax = kept-rises (f .eax) _ _ (h .eax);
+    ebx = kept-rises (f .ebx) _ _ (h .ebx);
     ecx =
         within-trans (at-least-of-and (extendedVersionEcx (c .clears)) (extendedVersionEcx-and (c .clears)) (s .enabled) (h .ecx))
         (extendedVersionEcx-fewer (s .clears) (d .enabled) (b .ecx));
     edx = at-least-of-and extendedVersionEdx extendedVersionEdx-and (s .enabled) (h .edx);
   }
   needed-rises f extendedAddressSpaceSizes a b h p q =
-      record { eax = h .eax; ebx = addressSizesEbx-mono (h .ebx); ecx = h .ecx; edx = h .edx }
-  needed-rises true untouched a b h p q = record { eax = h .eax; ebx = h .ebx; ecx = h .ecx; edx = h .edx }
-  needed-rises false untouched a b h p q = record { eax = h .eax; ebx = h .ebx; ecx = h .ecx; edx = h .edx }
+      record { eax = kept-rises (f .eax) _ _ (h .eax); ebx = addressSizesEbx-mono (h .ebx); ecx = h .ecx; edx = kept-rises (f .edx) _ _ (h .edx) }
+  needed-rises f untouched a b h p q = record {
+    eax = kept-rises (f .eax) _ _ (h .eax);
+    ebx = kept-rises (f .ebx) _ _ (h .ebx);
+    ecx = kept-rises (f .ecx) _ _ (h .ecx);
+    edx = kept-rises (f .edx) _ _ (h .edx);
+  }
 
-  pub finish-rises : (f : Bool) (t : Rule) (a b : CpuidResult) → (fromEntry t ≡ true → Registers EntryAtLeast (kindsOf f t) a b)
+  pub finish-rises : (f : Kinds) (t : Rule) (a b : CpuidResult) → (fromEntry t ≡ true → Registers EntryAtLeast (kindsOf f t) a b)
       → (t ≡ needed extendedState1 → XsavesRow c a) → (t ≡ needed extendedState1 → XsavesRow d b)
       → Registers TableAtLeast (kindsOf f t) (finish c t a) (finish d t b)
   finish-rises f (made t) a b h p q = made-registers refl

@@ -2,6 +2,7 @@
 
 use crate::page_sets::{Entries, epyc, rich, set, with, without};
 use crate::run::{EPYC, Folder, Ran, run, run_on};
+use snp_cpuid::MOST_SERVERS;
 use std::fs;
 
 fn note(text: &str) -> String {
@@ -120,7 +121,7 @@ fn refusals_in_their_order() {
     let unlike = folder.file("unlike", set(&with(5, 0, 0, |eax| eax + 1)));
     let wrong = folder.file("wrong", set(&without(0xD, 2)));
     let epyc = EPYC.to_string();
-    let sets = "the pool: refusal 18: a pool has 2 to 16 page sets, and their lengths sum to the bytes handed over".to_string();
+    let sets = format!("the pool: refusal 18: a pool has 2 to {MOST_SERVERS} page sets, and their lengths sum to the bytes handed over");
     let differ = "the pool: refusal 19: the servers of the pool differ, in a row that all their tables have, elsewhere than in feature bits or the \
                   size of the save area"
         .to_string();
@@ -128,12 +129,12 @@ fn refusals_in_their_order() {
     let own = format!("{wrong}: {own}");
     for (servers, line, words) in [
         (vec![wrong.clone()], "18", &sets),
-        (vec![wrong.clone(); 17], "3 0000000D 2", &own),
-        ([vec![epyc.clone(); 17], vec![unlike.clone(), wrong.clone()]].concat(), "3 0000000D 2", &own),
-        ([vec![epyc.clone(); 17], vec![unlike.clone()]].concat(), "19", &differ),
+        (vec![wrong.clone(); MOST_SERVERS + 1], "3 0000000D 2", &own),
+        ([vec![epyc.clone(); MOST_SERVERS + 1], vec![unlike.clone(), wrong.clone()]].concat(), "3 0000000D 2", &own),
+        ([vec![epyc.clone(); MOST_SERVERS + 1], vec![unlike.clone()]].concat(), "19", &differ),
         (vec![epyc.clone(), wrong.clone()], "3 0000000D 2", &own),
         (vec![epyc.clone(), unlike.clone(), wrong.clone()], "3 0000000D 2", &own),
-        ([vec![epyc.clone(); 15], vec![wrong.clone()]].concat(), "3 0000000D 2", &own),
+        ([vec![epyc.clone(); MOST_SERVERS - 1], vec![wrong.clone()]].concat(), "3 0000000D 2", &own),
         (vec![epyc.clone(), unlike.clone()], "19", &differ),
         (vec![unlike.clone(), epyc.clone(), epyc.clone()], "19", &differ),
     ] {
@@ -151,10 +152,10 @@ fn refusals_in_their_order() {
 }
 
 #[test]
-fn sixteen_servers_of_one_kind_cost_nothing() {
-    let folder = Folder::new("pool_sixteen");
-    let (notes, bytes) = written(&folder, &vec![EPYC.to_string(); 16], &[]);
-    assert_eq!(notes, note(&format!("{EPYC} cost the pool no feature bit")).repeat(16) + &fingerprint(&bytes));
+fn servers_of_one_kind_cost_nothing() {
+    let folder = Folder::new("pool_one_kind");
+    let (notes, bytes) = written(&folder, &vec![EPYC.to_string(); MOST_SERVERS], &[]);
+    assert_eq!(notes, note(&format!("{EPYC} cost the pool no feature bit")).repeat(MOST_SERVERS) + &fingerprint(&bytes));
     assert_eq!(bytes, fs::read("../crates/snp_cpuid_image/stdout").unwrap());
 }
 
@@ -222,6 +223,6 @@ fn more_than_sixteen_servers() {
     let (a, b, c) = (sized("a", 0xE7, 1024), sized("b", 0xE7, 1000), sized("c", 7, 1024));
     let small = pooled(&[a.clone(), b.clone(), c.clone()], &["-o", "-"]);
     assert_eq!(small.status, 0, "{}", small.err);
-    let large = pooled(&[vec![a.clone(); 15], vec![b; 15], vec![c]].concat(), &["-o", "-"]);
+    let large = pooled(&[vec![a.clone(); MOST_SERVERS - 1], vec![b; MOST_SERVERS - 1], vec![c]].concat(), &["-o", "-"]);
     assert_eq!((large.status, large.out), (0, small.out), "{}", large.err);
 }

@@ -11,7 +11,6 @@ use Rattle.bits.specs.ChoiceLaws.{pick-false}
 use Rattle.bits.specs.Lists.{tabulate}
 use Rattle.bits.specs.ListsLaws.{tabulate-at}
 use Rattle.masking.specs.Kept.{keptLeaves, slot, places}
-use Rattle.masking.specs.Place
 use Rattle.finish.specs.Kinds.{Kinds, kinds, registerKinds, kindsAt}
 use Rattle.finish.specs.Kinds.Kind.{other}
 use Rattle.register_masks.specs.RegisterMasks.{masksOf}
@@ -22,13 +21,9 @@ abbrev isOne : List ℕ → ℕ → Bool
 isOne [] i = false
 isOne (n ∷ ns) i = eqb i n || isOne ns i
 
--- the places that the code names
+-- the places that the code names; this list and all that follows it is written by tests/gate/kinds.py
 abbrev named : ℕ → Bool
-named =
-    isOne
-    (Place.vendorAndMaxFunction ∷ Place.versionAndFeatures ∷ Place.extendedFeatures ∷ Place.threadLevel ∷ Place.coreLevel
-    ∷ Place.extendedState 0 ∷ Place.extendedState 1 ∷ Place.extendedMaxFunction ∷ Place.extendedVersionAndFeatures
-    ∷ Place.extendedAddressSpaceSizes ∷ Place.extendedOptimizationIdentifiers ∷ Place.extendedSevFeatures ∷ [])
+named = isOne (0 ∷ 1 ∷ 3 ∷ 4 ∷ 5 ∷ 6 ∷ 7 ∷ 70 ∷ 71 ∷ 78 ∷ 81 ∷ 87 ∷ [])
 
 -- any other has no register of demand 3's list
 abbrev plain : Kinds

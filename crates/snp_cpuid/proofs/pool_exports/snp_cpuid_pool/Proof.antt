@@ -1,7 +1,7 @@
 -- `snp_cpuid_pool` meets its contract: the pool's answer as numbers.
 use borrow.Author.Needs.{needs}
 use mathlib.Core.Path.{sym, subst, _∙_}
-use Prim.Native.Nat.{ℕ, _<_}
+use Prim.Native.Nat.{ℕ, _^_, _<_}
 use Rattle.pool.specs.PooledLaws.{server-below}
 use Rattle.snp_cpuid.specs.PoolExports.{pooled-in}
 use Rattle.snp_cpuid.proofs.pool_exports.snp_cpuid_pool.Statement.{statement}
@@ -10,7 +10,7 @@ use Rattle.snp_cpuid.proofs.pool_exports.snp_cpuid_pool.Tie as tie
 pooled-numbers-requires : tie.Need-pooled-numbers-requires
 pooled-numbers-requires c κs =
     let k = c .before .before .before .before .pool-into .ensures in
-    subst (λ (n : ℕ). n < 16) (sym (k .server)) (server-below _ _ _)
+    subst (λ (n : ℕ). n < 2 ^ 32) (sym (k .server)) (server-below _ _ _)
 
 returns : tie.Need-returns
 returns c =

@@ -13,14 +13,14 @@ use crate::print::{self, Form, bit_json};
 use crate::reasons::{self, Reason};
 use crate::source::{Source, pool_tables};
 use crate::standing::Standing;
-use snp_cpuid::{NotPooled, Refusal, Table};
+use snp_cpuid::{MOST_SERVERS, NotPooled, Refusal, Table};
 use std::collections::BTreeMap;
 use std::ops::RangeInclusive;
 
 const IMAGE: Opt = output::file_or_standard_output("IMAGE");
 
 /// How many servers the library pools at once.
-const POOL: RangeInclusive<usize> = 2..=16;
+const POOL: RangeInclusive<usize> = 2..=MOST_SERVERS;
 
 pub const COMMAND: Command = Command {
     name: "pool",

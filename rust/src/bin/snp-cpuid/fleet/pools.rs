@@ -3,11 +3,8 @@
 use super::bits::{self, Bits};
 use super::{Class, Group};
 use crate::source::pool_tables;
-use snp_cpuid::Table;
+use snp_cpuid::{MOST_SERVERS, Table};
 use std::collections::HashSet;
-
-/// How many tables the library pools at once.
-const AT_ONCE: usize = 16;
 
 /// So many sets of a group are looked for: where states differ in size, there may be as many as classes.
 const MOST_SETS: usize = 16;
@@ -68,7 +65,7 @@ impl Set {
         self.classes.sort();
         let tables: Vec<Table> = self.classes.iter().map(|class| classes[*class].table.clone()).collect();
         let lost = lost(&tables.iter().collect::<Vec<_>>(), &self.classes);
-        let table = if tables.len() <= AT_ONCE { pool_tables(&tables).unwrap_or(self.table) } else { self.table };
+        let table = if tables.len() <= MOST_SERVERS { pool_tables(&tables).unwrap_or(self.table) } else { self.table };
         Pool { classes: self.classes, table, lost }
     }
 }

@@ -1,0 +1,80 @@
+"""Tests of figures.py on a copy of the files of its list: a changed number of the source needs --write alone, and a lost place is told."""
+from contextlib import redirect_stdout
+from io import StringIO
+from pathlib import Path
+import shutil
+import tempfile
+import unittest
+
+import figures
+
+SOURCES = 'crates/pool_sets/src/lib.rt', 'crates/masking/src/lib.rt', 'crates/memory/src/lib.rt', figures.COUNTS
+
+
+class Figures(unittest.TestCase):
+    def setUp(self):
+        folder = tempfile.TemporaryDirectory()
+        self.addCleanup(folder.cleanup)
+        self.root = Path(folder.name)
+        for path in {*SOURCES, figures.LIST, *(file for file, _ in figures.listed(figures.ROOT))}:
+            (self.root / path).parent.mkdir(parents=True, exist_ok=True)
+            shutil.copy(figures.ROOT / path, self.root / path)
+
+    def asked(self, word):
+        with redirect_stdout(StringIO()) as said:
+            return figures.main([word], self.root), said.getvalue()
+
+    def edit(self, path, old, new):
+        text = (self.root / path).read_text()
+        self.assertIn(old, text)
+        (self.root / path).write_text(text.replace(old, new))
+
+    def text(self, path):
+        return (self.root / path).read_text()
+
+    def test_the_repository_is_as_made(self):
+        self.assertEqual(self.asked('--check')[0], 0)
+
+    def test_a_pool_of_32(self):
+        self.edit('crates/pool_sets/src/lib.rt', 'MOST_SETS: usize = 16;', 'MOST_SETS: usize = 32;')
+        status, said = self.asked('--check')
+        self.assertEqual(status, 1)
+        self.assertIn('README.md has another figure', said)
+        self.assertEqual(self.asked('--write')[0], 0)
+        self.assertEqual(self.asked('--check')[0], 0)
+        self.assertIn('the tables of 2 to 32 servers', self.text('README.md'))
+        self.assertIn('#define SNP_CPUID_MOST_SERVERS 32\n', self.text('include/snp_cpuid.h'))
+
+    def test_a_place_more(self):
+        self.edit('crates/masking/src/lib.rt', 'PLACES: usize = 88;', 'PLACES: usize = 89;')
+        self.edit('crates/memory/src/lib.rt', 'REGISTERS: usize = 352;', 'REGISTERS: usize = 356;')
+        self.assertEqual(self.asked('--write')[0], 0)
+        header = self.text('include/snp_cpuid.h')
+        for line in 'memory: 2,136 bytes', 'uint32_t registers[356];', 'uint64_t origins[89];', '_ANY_KVM_BYTES 3568':
+            self.assertIn(line, header)
+
+    def test_a_lost_place_is_told(self):
+        self.edit('README.md', 'the tables of 2 to 16 servers', 'the tables of some servers')
+        for word in '--check', '--write':
+            status, said = self.asked(word)
+            self.assertEqual((status, said), (1, 'README.md does not have: the tables of 2 to {servers} servers\n'))
+
+    def test_unknown_figures_and_lines_without_one(self):
+        text = self.text(figures.LIST)
+        for line, why in ('    {sets} page sets', 'sets is no figure'), ('    page sets', 'names no figure'):
+            (self.root / figures.LIST).write_text(f'{text}\nREADME.md\n{line}\n')
+            status, said = self.asked('--check')
+            self.assertEqual(status, 1)
+            self.assertIn(why, said)
+            self.assertEqual(self.asked('--write')[0], 1)
+
+    def test_a_source_without_the_number(self):
+        self.edit('crates/pool_sets/src/lib.rt', 'MOST_SETS', 'MANY_SETS')
+        self.assertEqual(self.asked('--check'), (1, 'crates/pool_sets/src/lib.rt has no MOST_SETS\n'))
+
+    def test_other_words(self):
+        self.assertEqual(self.asked('--help')[0], 2)
+
+
+if __name__ == '__main__':
+    unittest.main()

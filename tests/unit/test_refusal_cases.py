@@ -1,0 +1,92 @@
+"""Tests of refusal_cases.py on a copy of the files that it writes: a further refusal needs its lines in the list, and --write."""
+from contextlib import redirect_stdout
+from io import StringIO
+from pathlib import Path
+import shutil
+import tempfile
+import unittest
+
+import refusal_cases
+
+FURTHER = '\n21 GuestGone{}\n    means the guest is gone\n    says no guest asks any more\n'
+NUMBERS, REFUSAL = 'crates/table/src/numbers.rt', 'crates/table/specs/Refusal.antt'
+
+
+class Cases(unittest.TestCase):
+    def setUp(self):
+        folder = tempfile.TemporaryDirectory()
+        self.addCleanup(folder.cleanup)
+        self.root = Path(folder.name)
+        for path in 'include/refusals.txt', 'crates/topology/src/lib.rt', *refusal_cases.made(refusal_cases.ROOT)[1]:
+            (self.root / path).parent.mkdir(parents=True, exist_ok=True)
+            shutil.copy(refusal_cases.ROOT / path, self.root / path)
+
+    def asked(self, word):
+        with redirect_stdout(StringIO()) as said:
+            return refusal_cases.main([word], self.root), said.getvalue()
+
+    def add(self, details=''):
+        with (self.root / 'include/refusals.txt').open('a') as file:
+            file.write(FURTHER.format(details))
+
+    def has(self, path, *lines):
+        text = (self.root / path).read_text()
+        for line in lines:
+            self.assertEqual(text.count(f'{line}\n'), 1, f'{path}: {line}')
+
+    def test_the_repository_is_as_made(self):
+        self.assertEqual(self.asked('--check')[0], 0)
+
+    def test_a_further_refusal(self):
+        self.add()
+        status, said = self.asked('--check')
+        self.assertEqual((status, said.count('is not as made')), (1, 13))
+        self.assertEqual(self.asked('--write')[0], 0)
+        self.assertEqual(self.asked('--check')[0], 0)
+        self.has('crates/table/src/lib.rt', '    NothingDecides,\n    GuestGone,')
+        self.has(NUMBERS, '        Refusal::GuestGone => sized(21, 0),')
+        self.has(REFUSAL, 'details GuestGone = alone 21', '    ∷ GuestGone\n    ∷ [])')
+        self.has('crates/table/specs/RefusalLaws.antt', 'refusal-told GuestGone = refl')
+        self.has('crates/table/proofs/numbers/refusal_numbers/Proof.antt',
+                 'returns-19 c = rw (c .before .enum-told16 .given .1) (c .sized16 .ensures)')
+        self.has('crates/lines/src/bytes/names.rt', 'const NUMBERS: usize = 22;', '    NOTHING, // 21')
+        self.has('crates/lines/specs/NumbersInUse.antt', '    nothing ∷  -- 21')
+        self.has('crates/answers/specs/Told.antt', '  told-21 : RefusalTold GuestGone 21 0 0 0 0',
+                 'refusal-in GuestGone = told-21', 'refusal-back told-21 = refl')
+        self.has('crates/nearest_exactly/specs/NearestExactly.antt', 'GivenFor c s GuestGone = ⊥')
+        self.has('crates/nearest_exactly/specs/NearestExactlyProof.antt', '  refusal-given GuestGone f = absurd f')
+        # what has a line of its own is left alone
+        text = (self.root / 'crates/nearest_exactly/specs/NearestExactly.antt').read_text()
+        self.assertEqual((text.count('GivenFor c s NothingDecides'), text.count('GivenFor c s UnknownEdition')), (1, 1))
+
+    def test_what_it_names(self):
+        for details, arm, told, row in (
+                (' leaf', 'Refusal::GuestGone(leaf) => at_leaf(21, leaf.0, Subleaf::None)',
+                 '(l : CpuidFunction) → RefusalTold (GuestGone l) 21 (l .0) 0 0 0',
+                 'GuestGone (function (d .leaf))'),
+                (' leaf subleaf', 'Refusal::GuestGone(leaf, subleaf) => at_leaf(21, leaf.0, subleaf)',
+                 '(l : CpuidFunction) → RefusalTold (GuestGone l None) 21 (l .0) 0 0 0', 'GuestGone (function (d .leaf)) (d .subleaf)'),
+                (' s', 'Refusal::GuestGone(s) => sized(21, s)', '(s : ℕ) → RefusalTold (GuestGone s) 21 0 0 0 s', 'GuestGone (d .s)')):
+            with self.subTest(details):
+                self.setUp()
+                self.add(details)
+                self.assertEqual(self.asked('--write')[0], 0)
+                self.has(NUMBERS, f'        {arm},')
+                self.has('crates/answers/specs/Told.antt', f'  told-21 : {told}')
+                self.has(REFUSAL, f'    ∷ {row}')
+
+    def test_what_has_no_case_is_told(self):
+        self.add(' subleaf')
+        self.assertEqual(self.asked('--check'), (1, 'include/refusals.txt: 21 names subleaf, which no case does\n'))
+
+    def test_numbers_that_do_not_count(self):
+        path = self.root / 'include/refusals.txt'
+        path.write_text(path.read_text().replace('20 NothingDecides', '22 NothingDecides'))
+        self.assertEqual(self.asked('--check'), (1, 'include/refusals.txt does not count from 1 on\n'))
+
+    def test_other_words(self):
+        self.assertEqual(self.asked('--help')[0], 2)
+
+
+if __name__ == '__main__':
+    unittest.main()
