@@ -1,5 +1,5 @@
--- Document 02, P12: "Answers: 18 .. first; then any server's own refusal in server order; then 19 where
--- rows that all tables have, B.0 and B.1 apart, differ elsewhere than in feature registers or D.0.ECX, by masked entry."
+-- Document 02, P12: "Answers: 18 fewer than 2 or more than 16 sets, or lengths that don't sum to the slice, first; then any server's own refusal in
+-- server order; then 19 where rows that all tables have, B.0 and B.1 apart, differ elsewhere than in feature registers or D.0.ECX, by masked entry."
 -- Each is given if and only if its condition holds and no earlier one does. 15 is every server's own (P7: "before 1"), and so the first's.
 use mathlib.Core.Path.{_≡_}
 use mathlib.Core.Bool.{true}
@@ -18,7 +18,7 @@ use Rattle.build.specs.Build.{rowsFor}
 use Rattle.refusals.specs.Conditions.{EditionFault}
 use Rattle.refusals.specs.Exactly.{FirstFault}
 use Rattle.register_masks.specs.Alike.{Alike}
-use Rattle.pool_sets.specs.Sets.{setStart, setAt, mostSets}
+use Rattle.pool_sets.specs.Sets.{setStart, setAt}
 use Rattle.pool_sets.specs.Servers.{serverVerdict}
 use Rattle.pool.specs.Pool.{pooled}
 use Rattle.pool_laws.specs.PoolRight.{serverTable, poolTable}
@@ -26,7 +26,7 @@ use Rattle.pool_laws.specs.PoolRight.{serverTable, poolTable}
 -- 18; `startOf lengths (length lengths)` is the sum of all lengths, over unbounded numbers
 pub data SetsFault (pages lengths : List ℕ) : Type 0 where
   few : length lengths < 2 → SetsFault pages lengths
-  many : mostSets < length lengths → SetsFault pages lengths
+  many : 16 < length lengths → SetsFault pages lengths
   sum : setStart lengths (length lengths) ≢ length pages → SetsFault pages lengths
 
 -- server k is refused by itself, with refusal r, and none before it is
