@@ -462,10 +462,11 @@ struct snp_cpuid_first {
     uint32_t entry;
 };
 
-/* Finds the first entry for a leaf that a table keeps, and for the subleaf where the leaf has them; of the query leaf and subleaf alone are read. The
- * entries are those below their page's count, pages in order; one of leaf Dh counts on page 1 alone. Whether a table is given does not matter: where
- * it is, and has the row, the entry is the row's origin, except for B.0 and B.1, which the library makes itself. After a comparison that names a
- * leaf, this tells which entries of A and B differ. Nothing is found for a leaf or subleaf that no table keeps, 0 and 80000000h among them. */
+/* Finds the first entry for a leaf that a table keeps, and for the subleaf where the leaf has them; of the query leaf and subleaf alone are read.
+ * The entries are those below their page's count, pages in order; one of leaf Dh counts on page 1 alone. Whether the pages give a table does not
+ * matter: where they do, and it has the row, the entry is the row's origin, except for B.0 and B.1, which the library makes itself. After a
+ * comparison that names a leaf, this tells which entries of A and B differ. Nothing is found for a leaf or subleaf that no table keeps, 0 and
+ * 80000000h among them. */
 static inline struct snp_cpuid_first snp_cpuid_find_entry(struct snp_cpuid_bytes pages, struct snp_cpuid_query query);
 
 /* The nearest bit that matters: number 0 with the bit's page, entry, register and bit, all from 0; else 15, 1, 2, 17 or 20, and no bit. */
@@ -569,7 +570,7 @@ struct snp_cpuid_counts snp_cpuid_table_counts(const uint32_t *registers, const 
 
 /* -- of pages, lists, images and lines */
 
-/* Where the first counted entry of a leaf and subleaf stands, whether or not a table is given. */
+/* Where the first counted entry of a leaf and subleaf stands, whether or not the pages give a table. */
 struct snp_cpuid_first snp_cpuid_first_entry(const uint8_t *pages, size_t length, uint32_t leaf, uint32_t subleaf);
 
 /* Whether a guest of the server with pages `a` may move to the one with pages `b`, or the first thing in the way. */
@@ -609,7 +610,7 @@ struct snp_cpuid_written snp_cpuid_write_image(const uint8_t *pages, size_t leng
 /* Builds, and gives the table's fingerprint; a refusal has the table without rows, whose image is no bytes. */
 struct snp_cpuid_built snp_cpuid_fingerprint(const uint8_t *pages, size_t length, bool secure_avic, uint32_t edition, uint8_t *digest);
 
-/* Builds the table of the given pages, and tells whether the processor's guest is given its table. */
+/* Builds the table of the given pages, and tells whether the table allows the processor's state. */
 struct snp_cpuid_built snp_cpuid_guest_build(const uint8_t *pages, size_t length, bool secure_avic, uint32_t edition, uint32_t x2apic, uint64_t xcr0,
                                              uint64_t xss, bool osxsave);
 

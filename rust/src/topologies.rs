@@ -6,7 +6,7 @@ use crate::{Refusal, exports};
 /// The bytes of the list: five for each of 1,019.
 pub const TOPOLOGIES_BYTES: usize = 5 * 1019;
 
-/// The five numbers that a server's topology is told by, as its CPUID pages have them.
+/// The five numbers that describe a server's topology, as its CPUID pages have them.
 #[derive(Clone, Copy, Debug, PartialEq, Eq, PartialOrd, Ord, Hash)]
 pub struct Topology {
     /// how many bits of an APIC number the cores of a socket take, 0 where the server does not say: 80000008h.ECX bits 12-15

@@ -21,7 +21,7 @@ use Rattle.pool.specs.Pool.{pooled}
 use Rattle.pool_laws.specs.PoolRight.{serverTable, poolTable, PoolRight, NoneBeyond, SetsAmong, NothingMore}
 use Rattle.pool_laws.specs.PoolProof.{pool-right, greatest, one-more}
 use Rattle.pool_laws.specs.PoolOrderProof.{order-free}
-use Rattle.pool_laws.specs.PoolMoves.{pool-moves}
+use Rattle.pool_laws.specs.PoolMovesProof.{pool-moves}
 use Rattle.pool_laws.specs.PoolExactly.{DifferFault, ServerFault}
 use Rattle.pool_laws.specs.PoolExactlyProof.{pool-exactly}
 use Rattle.examples.specs.PoolPassed.{poolOpened}

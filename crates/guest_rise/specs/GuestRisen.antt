@@ -2,8 +2,8 @@
 -- and OSXSAVE too, except that where A's D.1.EBX is 0 for want of both bits, B's may be any size or refused by 14." From a guest that A gives its
 -- table, B's answer is one of four, as B's own rows decide: refused by 3 or by 5, as demand 3 has it and for its reasons; refused by 14, only where
 -- A's D.1.EAX has neither bit; or given, and the guest's table rises from A's. 13 never stands in the way.
-use mathlib.Core.Path.{_≡_, refl, sym, _∙_}
-use mathlib.Core.Bool.{true, false}
+use mathlib.Core.Path.{_≡_}
+use mathlib.Core.Bool.{false}
 use mathlib.Core.List.{List}
 use Prim.Native.Nat.{ℕ}
 use Rattle.x86defs.specs.Functions.{ExtendedStateEnumeration}
@@ -11,22 +11,16 @@ use Rattle.table.specs.declared.Choices.{Choices}
 use Rattle.table.specs.declared.CpuidResults.{CpuidResults}
 use Rattle.table.specs.declared.Subleaf.the-variants.{Some}
 use Rattle.table.specs.declared.Refusal.the-variants.{MissingRequiredResult, SaveAreaOverflow, CompactSizeTooLarge}
-use Rattle.table.specs.declared.Verdict.{Verdict}
 use Rattle.table.specs.declared.Verdict.the-variants.{Accepted}
 use Rattle.table.specs.Rows.{Rows}
-use Rattle.build.specs.Build.{rowsFor, answer}
+use Rattle.build.specs.Build.{rowsFor}
 use Rattle.refusals.specs.Conditions.{Lacking, ComponentFault, AreaFault}
-use Rattle.rise.specs.Rise.{RiseHypothesis, Outcome, TableRises}
-use Rattle.rise.specs.Rise.Outcome.{missing as three, overflow as five, accepted as neither}
-use Rattle.rise.specs.RiseProof.{demand-3}
+use Rattle.rise.specs.Rise.{RiseHypothesis}
 use Rattle.guest.specs.declared.Processor.{Processor}
 use Rattle.guest.specs.declared.GuestAnswer.{GuestAnswer}
 use Rattle.guest.specs.Guest.{refusedAnswer}
 use Rattle.guest.specs.GuestPages.{guestPages}
-use Rattle.guest.specs.GuestPagesLaws.{building-first, refused-guest}
-use Rattle.guest_rise.specs.GuestRise.{compactsIn, GuestTableRises, GuestOutcome}
-use Rattle.guest_rise.specs.GuestRise.GuestOutcome.{given as gives, tooLarge as fourteen}
-use Rattle.guest_rise.specs.GuestRiseProof.{guest-rise}
+use Rattle.guest_rise.specs.GuestRise.{compactsIn, GuestTableRises}
 
 -- m: B's rows. a: A's guest table. g: B's answer, a refusal with the empty table
 pub data GuestRisen (m : Rows) (a : CpuidResults) (g : GuestAnswer) : Type 0 where
@@ -38,17 +32,3 @@ pub data GuestRisen (m : Rows) (a : CpuidResults) (g : GuestAnswer) : Type 0 whe
 abbrev pub GuestRiseAll : Type 0
 GuestRiseAll = (chosen : Choices) (a b : List ℕ) (v : Processor) → RiseHypothesis chosen a b → guestPages chosen a v .verdict ≡ Accepted
     → GuestRisen (rowsFor chosen b) (guestPages chosen a v .table) (guestPages chosen b v)
-
-pub guest-rises-all : GuestRiseAll
-guest-rises-all chosen a b v rises isGiven = go (demand-3 chosen a b rises .outcome)
-  where
-    on-table : ((k : ℕ) → Lacking (rowsFor chosen b) k → ⊥) → (AreaFault (rowsFor chosen b) → ⊥)
-        → GuestOutcome (guestPages chosen a v .table) (guestPages chosen b v)
-        → GuestRisen (rowsFor chosen b) (guestPages chosen a v .table) (guestPages chosen b v)
-    on-table n f (gives e t) = given n f e t
-    on-table n f (fourteen c e) = tooLarge n f c (refused-guest chosen b v CompactSizeTooLarge e)
-
-    go : Outcome (rowsFor chosen b) (answer chosen b .verdict) → GuestRisen (rowsFor chosen b) (guestPages chosen a v .table) (guestPages chosen b v)
-    go (three k f e) = missing k f (building-first chosen b v _ e)
-    go (five n f e) = overflow n f (building-first chosen b v _ e)
-    go (neither n f e) = on-table n f (guest-rise chosen a b v rises e isGiven)

@@ -7,4 +7,5 @@ pub mod SeenRises
 pub mod GuestTablesRise
 pub mod GuestRiseProof
 pub mod GuestRisen
+pub mod GuestRisenProof
 pub mod GuestPreorder

@@ -15,9 +15,8 @@ use Rattle.bits.specs.ListsLaws.{getD-tabulate}
 use Rattle.x86defs.specs.Functions.{result}
 use Rattle.masking.specs.Kept.{places}
 use Rattle.masking.specs.Place
-use Rattle.table.specs.declared.CpuidResults.{CpuidResults}
 use Rattle.table.specs.Rows.{Row, Rows}
-use Rattle.table.specs.Table.{countRows, tableOf, emptyTable, rowIn}
+use Rattle.table.specs.Table.{countRows, emptyTable, rowIn}
 use Rattle.table.specs.Table as Tables
 use Rattle.table.specs.TableLaws.{table-ext}
 use Rattle.checks.specs.ExtendedState.{xssOf, xfem, xss, combinedMask}

@@ -8,3 +8,4 @@ pub mod PoolWrites
 pub mod ByTheLetter
 pub mod ByTheLetterProof
 pub mod PoolMoves
+pub mod PoolMovesProof

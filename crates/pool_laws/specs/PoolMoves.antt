@@ -7,19 +7,11 @@ use Rattle.table.specs.declared.Choices.{Choices}
 use Rattle.table.specs.declared.Verdict.the-variants.{Accepted}
 use Rattle.build.specs.Build.{answer}
 use Rattle.rise.specs.Rise.{RiseHypothesis, TableRises}
-use Rattle.rise.specs.RiseProof.{demand-3}
-use Rattle.rise.specs.PreorderProof.{table-rises-compose}
 use Rattle.pool_sets.specs.Sets.{setAt, lastOf}
 use Rattle.pool.specs.Pool.{pooled}
-use Rattle.pool_laws.specs.PoolRight.{serverTable, poolTable}
-use Rattle.pool_laws.specs.PoolProof.{pool-right}
+use Rattle.pool_laws.specs.PoolRight.{poolTable}
 
 abbrev pub PoolMoves : Type 0
 PoolMoves = (c : Choices) (pages lengths : List ℕ) → pooled c pages lengths .verdict ≡ Accepted → (k : ℕ) → k ≤ lastOf lengths
     → (s : List ℕ) → RiseHypothesis c (setAt pages lengths k) s → answer c s .verdict ≡ Accepted
     → TableRises (poolTable c pages lengths) (answer c s .table)
-
-pub pool-moves : PoolMoves
-pool-moves c pages lengths accepted k l s rises given =
-    table-rises-compose (poolTable c pages lengths) (serverTable c pages lengths k) (answer c s .table)
-    (pool-right c pages lengths accepted .rises k l) (demand-3 c (setAt pages lengths k) s rises .table given)

@@ -16,7 +16,7 @@ ghost use Rattle.table.specs.Numbers.{subleafOf};
 ghost use Rattle.answers.specs.Answers.{choicesOf, processorOf, writtenNumbers};
 ghost use Rattle.snp_cpuid.specs.GuestExports.{guestNumbers, guestFound};
 
-// Builds the table of the given pages, and tells whether the processor's guest is given its table.
+// Builds the table of the given pages, and tells whether the table allows the processor's state.
 #[no_mangle]
 pub extern "C" fn snp_cpuid_guest_build(
     pages: &[u8],

@@ -74,7 +74,7 @@ pub extern "C" fn snp_cpuid_lookup(
     found_at(&registers, &origins, leaf, named, enforce_subleaf)
 }
 
-// Where the first counted entry of a leaf and subleaf stands, whether or not a table is given.
+// Where the first counted entry of a leaf and subleaf stands, whether or not the pages give a table.
 #[no_mangle]
 pub extern "C" fn snp_cpuid_first_entry(pages: &[u8], leaf: u32, subleaf: u32) -> SnpCpuidFirst
     ensures { λ r. ⌜ r ≡ firstNumbers (firstEntry (now (pages .entry)) (record { 0 = leaf }) subleaf) ⌝ }

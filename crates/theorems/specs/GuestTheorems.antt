@@ -31,13 +31,15 @@ use Rattle.guest_rise.specs.GuestRiseProof as GuestRiseProof
 use Rattle.guest.specs.SeenLaws as Seen
 use Rattle.guest.specs.SeenExactly.{SeenExactly}
 use Rattle.guest.specs.SeenExactlyProof.{seen-exactly}
-use Rattle.guest_rise.specs.GuestRisen.{GuestRiseAll, guest-rises-all}
+use Rattle.guest_rise.specs.GuestRisen.{GuestRiseAll}
+use Rattle.guest_rise.specs.GuestRisenProof.{guest-rises-all}
 use Rattle.examples.specs.CompactSizes.{sizes, sizes-are}
 use Rattle.examples.specs.SeenExamples.{processor, figures}
 use Rattle.examples.specs.Views as Views
 use Rattle.examples.specs.Exception as Exception
 use Rattle.examples.specs.Composed as Composed
-use Rattle.theorems.specs.GuestExported.{GuestExportsRise, guest-exports-rise}
+use Rattle.theorems.specs.GuestExported.{GuestExportsRise}
+use Rattle.theorems.specs.GuestExportedProof.{guest-exports-rise}
 use Rattle.page_sets.specs.Evaluation.{firstEdition}
 use Rattle.page_sets.specs.PageSets.{serverA, serverB, serverW, serverWithLargeD6}
 use Rattle.theorems.specs.BuildingTheorems.{a-to-b}

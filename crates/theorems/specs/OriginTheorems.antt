@@ -11,9 +11,12 @@ use Rattle.pages.specs.Entries.{counted}
 use Rattle.masking.specs.Kept.{places}
 use Rattle.masking.specs.Place
 use Rattle.build.specs.Build.{answer, originAt}
-use Rattle.theorems.specs.Exported.{FoundOrigins, found-origins}
-use Rattle.theorems.specs.GuestExported.{GuestOrigins, guest-origins}
-use Rattle.theorems.specs.PoolExported.{PoolOrigins, pool-origins}
+use Rattle.theorems.specs.Exported.{FoundOrigins}
+use Rattle.theorems.specs.ExportedProof.{found-origins}
+use Rattle.theorems.specs.GuestExported.{GuestOrigins}
+use Rattle.theorems.specs.GuestExportedProof.{guest-origins}
+use Rattle.theorems.specs.PoolExported.{PoolOrigins}
+use Rattle.theorems.specs.PoolExportedProof.{pool-origins}
 use Rattle.memory.specs.Origin.Origin.{madeHere, entry}
 use Rattle.collect.specs.Stands.{standsAt}
 use Rattle.rise.specs.Located.{ComesFrom, Origins}

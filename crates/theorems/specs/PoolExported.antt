@@ -1,35 +1,19 @@
 -- Document 02, P12 and P11: with a row that snp_cpuid_pool_lookup finds, it tells where the first server's row came from.
-use mathlib.Core.Path.{_≡_, refl, ap, _∙_}
-use mathlib.Core.Bool.{Bool, true, false}
+use mathlib.Core.Path.{_≡_}
+use mathlib.Core.Bool.{Bool}
 use mathlib.Core.List.{List}
-use Prim.Native.Nat.{ℕ, _≤_, _<_}
-use native.Mathlib.Nat.{le-of-eq}
-use native.Mathlib.Omega.{arith}
-use lib.ListN.{length, length-replicate, getD-replicate}
-use Rattle.bits.specs.ChoiceLaws.{never-both}
-use Rattle.bits.specs.ListsLaws.{length-tabulate}
+use Prim.Native.Nat.{ℕ}
 use Rattle.x86defs.specs.declared.CpuidFunction.{CpuidFunction}
-use Rattle.masking.specs.Kept.{places}
 use Rattle.table.specs.declared.Choices.{Choices}
-use Rattle.table.specs.declared.CpuidResults.{CpuidResults}
 use Rattle.table.specs.declared.Subleaf.{Subleaf}
-use Rattle.table.specs.declared.Verdict.{Verdict}
-use Rattle.table.specs.declared.Verdict.the-variants.{Accepted, Refused}
-use Rattle.table.specs.Table.{rowIn}
-use Rattle.finish.specs.RowsBuilt.{tableFor}
 use Rattle.build.specs.Build.{originAt}
 use Rattle.lookup.specs.Lookup.{placeAsked}
 use Rattle.pool_sets.specs.Sets.{setAt}
-use Rattle.pool_sets.specs.Servers.{poolRows}
-use Rattle.pool.specs.Pool.{poolVerdict, pooled}
-use Rattle.pool_laws.specs.PoolRight.{poolTable, PoolRight}
-use Rattle.pool_laws.specs.PoolProof.{pool-right}
+use Rattle.pool.specs.Pool.{pooled}
 use Rattle.answers.specs.declared.SnpCpuidFound.{SnpCpuidFound}
 use Rattle.snp_cpuid.specs.PoolExports.{pooledFound}
-use Rattle.memory.specs.Origin.{originRead, originTold}
-use Rattle.rise.specs.LocatedProof.{rows-have-origins}
+use Rattle.memory.specs.Origin.{originTold}
 use Rattle.theorems.specs.Exported.{originFound}
-use Rattle.theorems.specs.Looked.{looked-present, looked-inside, looked-at}
 
 -- what snp_cpuid_pool_lookup gives
 abbrev pub poolSeen : Choices → List ℕ → List ℕ → CpuidFunction → Subleaf → Bool → SnpCpuidFound
@@ -39,34 +23,3 @@ abbrev pub PoolOrigins : Type 0
 PoolOrigins = (c : Choices) (pages lengths : List ℕ) (leaf : CpuidFunction) (subleaf : Subleaf) (enforce : Bool)
     → poolSeen c pages lengths leaf subleaf enforce .found ≡ 1
     → originFound (poolSeen c pages lengths leaf subleaf enforce) ≡ originTold (originAt c (setAt pages lengths 0) (placeAsked leaf subleaf enforce))
-
-pool-whole : (c : Choices) (pages lengths : List ℕ) → length (poolTable c pages lengths .present) ≤ places
-unfolding pooled
-pool-whole c pages lengths = go (poolVerdict c pages lengths)
-  where
-    go : (v : Verdict) → length (tableFor (c .edition) v (poolRows c pages lengths) .present) ≤ places
-    go Accepted = le-of-eq (length-tabulate places _)
-    go (Refused r) = le-of-eq (length-replicate places false)
-
--- a pool that is refused has no row
-there-accepted : (c : Choices) (pages lengths : List ℕ) (i : ℕ) → i < places → rowIn (poolTable c pages lengths) i .present ≡ true
-    → pooled c pages lengths .verdict ≡ Accepted
-unfolding pooled
-there-accepted c pages lengths i l = go (poolVerdict c pages lengths)
-  where
-    go : (v : Verdict) → rowIn (tableFor (c .edition) v (poolRows c pages lengths)) i .present ≡ true → v ≡ Accepted
-    go Accepted p = refl
-    go (Refused r) p = absurd (never-both p (getD-replicate places i false false l))
-
-pub pool-origins : PoolOrigins
-pool-origins c pages lengths leaf subleaf enforce e =
-    let t : CpuidResults = poolTable c pages lengths in
-    let o : List ℕ = pooled c pages lengths .origins in
-    let i : ℕ = placeAsked leaf subleaf enforce in
-    let w : length (poolTable c pages lengths .present) ≤ places = pool-whole c pages lengths in
-    let p : rowIn (poolTable c pages lengths) (placeAsked leaf subleaf enforce) .present ≡ true = looked-present t w o leaf subleaf enforce e in
-    let l : placeAsked leaf subleaf enforce < places = looked-inside t w o leaf subleaf enforce p in
-    let r : PoolRight c pages lengths = pool-right c pages lengths (there-accepted c pages lengths i l p) in
-    ap originFound (looked-at t w o leaf subleaf enforce p)
-    ∙ ap originRead (r .origins i l p)
-    ∙ rows-have-origins c (setAt pages lengths 0) (r .each 0 (omega arith)) i l .told

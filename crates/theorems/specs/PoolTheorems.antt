@@ -19,7 +19,8 @@ use Rattle.pool_laws.specs.PoolProof.{pool-right, greatest, one-more}
 use Rattle.pool_laws.specs.ByTheLetter.{NoFeatureBeyond, GreatestByTheLetter, OneMoreByTheLetter}
 use Rattle.pool_laws.specs.ByTheLetterProof.{greatest-by-the-letter, one-more-by-the-letter}
 use Rattle.pool_laws.specs.PoolOrderProof.{order-free}
-use Rattle.pool_laws.specs.PoolMoves.{PoolMoves, pool-moves}
+use Rattle.pool_laws.specs.PoolMoves.{PoolMoves}
+use Rattle.pool_laws.specs.PoolMovesProof.{pool-moves}
 use Rattle.pool_laws.specs.PoolExactly.{PoolExactly, ServerFault, DifferFault}
 use Rattle.pool_laws.specs.PoolExactlyProof.{pool-exactly}
 use Rattle.pool_laws.specs.PoolWrites.{pool-writes-exactly}

@@ -21,7 +21,8 @@ use Rattle.rise.specs.SameProof.{rises-itself, same-figures}
 use Rattle.rise.specs.Preorder as Preorder
 use Rattle.rise.specs.PreorderProof as PreorderProof
 use Rattle.rise.specs.Preorder.{SameRows}
-use Rattle.theorems.specs.Exported.{ExportsRise, exports-rise}
+use Rattle.theorems.specs.Exported.{ExportsRise}
+use Rattle.theorems.specs.ExportedProof.{exports-rise}
 use Rattle.topology.specs.declared.TopologyError.the-variants.{ThreadsPerUnit}
 use Rattle.pages.specs.Layout.{Entry}
 use Rattle.rise.specs.Added.{Added, Covered}
