@@ -6,6 +6,8 @@ pub mod Stands
 pub mod OriginsLaws
 pub mod Walked
 pub mod StoreLaws
+pub mod Full
+pub mod FullLaws
 pub mod WalkingLaws
 pub mod CollectedLaws
 pub mod Mask

@@ -1,5 +1,6 @@
 // From pages to the 88 rows in lent memory: one walk collects the first entry of each place and where it stands, and `mask` masks the rows there.
 // Pages that are not lawful are refused by 1, 2 or 17.
+mod full;
 pub mod mask;
 
 use masking::PLACES;
@@ -24,6 +25,8 @@ ghost use Rattle.collect.specs.Collect.{countedPlace};
 ghost use mathlib.Core.Bool.{true};
 ghost use Rattle.pages.specs.Layout.{countsFit};
 ghost use Rattle.memory.specs.Memory.{Cleared};
+ghost use Rattle.collect.specs.Full.{Asked};
+ghost use Rattle.collect.specs.WalkingLaws.{Added};
 ghost use Rattle.collect.specs.Walked.{Walked};
 ghost use Rattle.collect.specs.WalkedPages.{WalkedPages};
 ghost use Rattle.collect.specs.FirstEntry.{firstEntry};
@@ -31,6 +34,9 @@ ghost use Rattle.collect.specs.FirstEntry.{firstEntry};
 pub const LEGACY_FEATURES: u32 = 3;
 
 const WORD: u32 = 0xFFFF_FFFF;
+
+// How many subleaves of leaf Dh have a place.
+const STATES: u32 = 64;
 
 // Refusals 1, 2 and 17, in this order: whether length and counts of the pages are lawful, and their reserved bytes zero. The same walk stores the
 // masked first entries and where each stands in memory that comes without rows. Pages that are not lawful leave it without rows.
@@ -59,8 +65,8 @@ pub fn walk_pages(
 }
 
 // The first entry of every place as it stands and where, from pages whose counts are lawful: what the reader gives, page by page, up to the first
-// entry that is not clean. The memory comes without rows; a place whose origin is 0 has none yet. A step to position 0 has left the page: with the
-// count read once, that makes the inner loop a count of its entries.
+// entry that is not clean. The memory comes without rows. A step to position 0 has left the page: with the count read once, that makes the inner loop
+// a count of its entries.
 fn collect_into(
     pages: &[u8],
     registers: &mut [u32; REGISTERS],
@@ -71,6 +77,7 @@ fn collect_into(
 {
     let n = pages::page_count(pages);
     let mut index = reader::start(pages);
+    let mut full = full::NOT_KEPT;
     while index.page_index < n {
         let page = index.page_index;
         let count = pages::count_of(pages, page) as usize;
@@ -78,18 +85,12 @@ fn collect_into(
             let read = reader::take(pages, index);
             match read {
                 Read::Entry(entry) => {
-                    let place = counted_place(entry);
-                    if place < PLACES {
-                        if origins[place] == 0 {
-                            let r = entry.result;
-                            let row = words(r);
-                            put_row(registers, place, row);
-                            origins[place] = memory::origins::entry_number(
-                                index.page_index,
-                                index.function_index,
-                            );
-                        }
-                    }
+                    let origin = memory::origins::entry_number(
+                        index.page_index,
+                        index.function_index,
+                    );
+                    let after = add_entry(full, entry, origin, registers, origins);
+                    full = after;
                     let next = reader::step(pages, index, count);
                     index = next;
                     if index.function_index == 0 {
@@ -103,6 +104,52 @@ fn collect_into(
         }
     }
     Reserved::Zero
+}
+
+// One entry added, where it is the first of its place; and the leaves that are known to be full after it. A place whose origin is 0 has no row yet.
+fn add_entry(
+    full: u64,
+    entry: ParsedCpuidEntry,
+    origin: u64,
+    registers: &mut [u32; REGISTERS],
+    origins: &mut [u64; PLACES],
+) -> u64
+    ensures { λ r. ⌜ Added full entry origin (now (registers .entry)) (now (origins .entry)) r (now (registers .exit)) (now (origins .exit)) ⌝ }
+{
+    let place = asked_place(full, entry, origins);
+    if place < PLACES {
+        if origins[place] == 0 {
+            let r = entry.result;
+            let row = words(r);
+            put_row(registers, place, row);
+            origins[place] = origin;
+            return full;
+        }
+        return full::with_leaf(full, entry.leaf, origins);
+    }
+    full
+}
+
+// The place of an entry; 88 where it has none, and where it is known that there is a row. Leaf Dh is never full, so its places are asked here.
+fn asked_place(full: u64, entry: ParsedCpuidEntry, origins: &[u64; PLACES]) -> usize
+    ensures { λ r. ⌜ Asked full entry (now (origins .entry)) r ⌝ }
+{
+    let leaf = entry.leaf;
+    if full::has_leaf(full, leaf) {
+        return PLACES;
+    }
+    if leaf.0 == leaf::EXTENDED_STATE_ENUMERATION {
+        if entry.page == 1 {
+            if entry.subleaf < STATES {
+                let place = place::EXTENDED_STATE_0 + entry.subleaf as usize;
+                if origins[place] == 0 {
+                    return place;
+                }
+            }
+        }
+        return PLACES;
+    }
+    masking::place_of(leaf, entry.subleaf)
 }
 
 // The registers as words of 32 bits, which they are: so a proof knows it of what the walk stores, and nothing is left of it in the compiled code.
