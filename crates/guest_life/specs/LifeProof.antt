@@ -38,7 +38,7 @@ use Rattle.lookup.specs.Lookup.{lookup, placeAsked, rowResult}
 use Rattle.lookup.specs.LookupLaws.{lookup-at}
 use Rattle.rise.specs.Rise.{TableRises}
 use Rattle.rise.specs.Preorder.{SameRows, table-rises-compose, both-ways-same, same-both-ways}
-use Rattle.tables_compared.specs.TablesDecideProof.{decides}
+use Rattle.compare.specs.TablesDecideProof.{decides}
 use Rattle.carry.specs.Carry.{withoutBits, carriedTable, keeps, carry}
 use Rattle.guest_state.specs.State.{compacts, stateVerdict}
 use Rattle.guest.specs.declared.Processor.{Processor}
