@@ -3,9 +3,9 @@ use Prim.Native.Nat.{ℕ}
 use Rattle.table.specs.declared.Verdict.the-variants.{Accepted}
 use Rattle.compare.specs.declared.Compared.{Compared}
 use Rattle.compare.specs.declared.Compared.the-variants.{Rises, RefusedA, UnlawfulB, NoEntry, Differs}
-use Rattle.register_kinds.specs.Registers.{order}
-use Rattle.tables_compared.specs.declared.TablesCompared.{TablesCompared}
-use Rattle.tables_compared.specs.declared.TablesCompared.the-variants.{Rises as TablesRise, NoRow, Differs as RowDiffers, Beyond, MaskLacks}
+use Rattle.compare.specs.Registers.{order}
+use Rattle.compare.specs.declared.rows.RowsCompared.{RowsCompared}
+use Rattle.compare.specs.declared.rows.RowsCompared.the-variants.{Rises as TablesRise, NoRow, Differs as RowDiffers, Beyond, MaskLacks}
 use Rattle.table.specs.declared.numbers.AnswerNumbers.{AnswerNumbers}
 use Rattle.table.specs.Numbers.{numbersOf, refusalNumbers, leafNumbers}
 use Rattle.answers.specs.declared.comparison.SnpCpuidCompared.{SnpCpuidCompared}
@@ -42,7 +42,7 @@ tablesComparedWith answer n register = record {
 }
 
 -- which answer it is; the leaf and subleaf in question; EAX to EDX as 0 to 3
-abbrev pub tablesComparedNumbers : TablesCompared → SnpCpuidTablesCompared
+abbrev pub tablesComparedNumbers : RowsCompared → SnpCpuidTablesCompared
 tablesComparedNumbers TablesRise = tablesComparedWith 0 (numbersOf Accepted) 0
 tablesComparedNumbers (NoRow leaf subleaf) = tablesComparedWith 1 (leafNumbers 0 (leaf .0) subleaf) 0
 tablesComparedNumbers (RowDiffers leaf subleaf register) = tablesComparedWith 2 (leafNumbers 0 (leaf .0) subleaf) (order register)

@@ -31,12 +31,12 @@ use Rattle.guest.specs.declared.GuestFound.{GuestFound}
 use Rattle.guest.specs.declared.GuestFound.the-variants.{Refused as NotGiven, Looked}
 use Rattle.carry.specs.declared.in_image.CarriedImage.{CarriedImage}
 use Rattle.carry.specs.declared.in_image.CarriedImage.the-variants.{NotAnImage, Image}
-use Rattle.register_kinds.specs.declared.Register.{Register}
-use Rattle.register_kinds.specs.declared.Register.the-variants.{Eax, Ebx, Ecx, Edx}
+use Rattle.compare.specs.declared.registers.Register.{Register}
+use Rattle.compare.specs.declared.registers.Register.the-variants.{Eax, Ebx, Ecx, Edx}
 use Rattle.compare.specs.declared.Compared.{Compared}
 use Rattle.compare.specs.declared.Compared.the-variants.{Rises, RefusedA, UnlawfulB, NoEntry, Differs}
-use Rattle.tables_compared.specs.declared.TablesCompared.{TablesCompared}
-use Rattle.tables_compared.specs.declared.TablesCompared.the-variants.{Rises as TablesRise, NoRow, Differs as RowDiffers, Beyond, MaskLacks}
+use Rattle.compare.specs.declared.rows.RowsCompared.{RowsCompared as TablesCompared}
+use Rattle.compare.specs.declared.rows.RowsCompared.the-variants.{Rises as TablesRise, NoRow, Differs as RowDiffers, Beyond, MaskLacks}
 use Rattle.pool.specs.declared.Pooled.{Pooled}
 use Rattle.nearest.specs.declared.Nearest.{Nearest}
 use Rattle.nearest.specs.declared.Nearest.the-variants.{Bit, NoBit}

@@ -1,11 +1,11 @@
 // A comparison's answer as C and Rust are given it: a struct of plain numbers.
 use compare::Compared;
-use register_kinds::Register;
+use compare::registers::Register;
+use compare::rows::RowsCompared;
 use table::Verdict;
 use table::numbers::AnswerNumbers;
-use tables_compared::TablesCompared;
 ghost use mathlib.Core.Path.{_≡_};
-ghost use Rattle.register_kinds.specs.Registers.{order};
+ghost use Rattle.compare.specs.Registers.{order};
 ghost use Rattle.answers.specs.ComparedAnswers.{comparedWith, comparedNumbers, tablesComparedWith, tablesComparedNumbers};
 
 #[repr(C)]
@@ -100,24 +100,24 @@ fn tables_compared_with(
 }
 
 // What comparing two tables gives, as numbers.
-pub fn tables_compared_numbers(compared: TablesCompared) -> SnpCpuidTablesCompared
+pub fn tables_compared_numbers(compared: RowsCompared) -> SnpCpuidTablesCompared
     ensures { λ r. ⌜ r ≡ tablesComparedNumbers compared ⌝ }
 {
     match compared {
-        TablesCompared::Rises => {
+        RowsCompared::Rises => {
             tables_compared_with(0, table::numbers::answer_numbers(Verdict::Accepted), 0)
         }
-        TablesCompared::NoRow(leaf, subleaf) => {
+        RowsCompared::NoRow(leaf, subleaf) => {
             tables_compared_with(1, table::numbers::at_leaf(0, leaf.0, subleaf), 0)
         }
-        TablesCompared::Differs(leaf, subleaf, register) => {
+        RowsCompared::Differs(leaf, subleaf, register) => {
             let numbers = table::numbers::at_leaf(0, leaf.0, subleaf);
             tables_compared_with(2, numbers, register_index(register))
         }
-        TablesCompared::Beyond(leaf, subleaf) => {
+        RowsCompared::Beyond(leaf, subleaf) => {
             tables_compared_with(3, table::numbers::at_leaf(0, leaf.0, subleaf), 0)
         }
-        TablesCompared::MaskLacks => {
+        RowsCompared::MaskLacks => {
             tables_compared_with(4, table::numbers::answer_numbers(Verdict::Accepted), 0)
         }
     }

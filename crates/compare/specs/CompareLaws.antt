@@ -1,60 +1,103 @@
--- The search for the first place that fails, as the loop runs: a turn passes a place or stops there; after the last place
--- nothing has failed.
-use mathlib.Core.Path.{_≡_, sym, ap, _∙_}
-use mathlib.Core.Bool.{Bool, true, false}
-use mathlib.Core.List.{List}
-use Prim.Native.Nat.{ℕ, _+_, _-_, _≤_, _<_}
-use lib.ListN.{getD}
+-- The comparison of two servers, one case for each return of the function. The rows of A's table that are asked for are its origins without those of
+-- the two rows that come from no entry.
+use mathlib.Core.Path.{_≡_, refl, sym, ap, _∙_}
+use mathlib.Core.Bool.{Bool, true, false, not, _&&_, _||_, or-true}
+use mathlib.Core.List.{List, [], _∷_}
+use Prim.Native.Nat.{ℕ, zero, suc, _<_}
+use lib.Dec.{eqb}
+use lib.ListN.{getD, set}
+use lib.Seq.{getD-set-other}
+use borrow.Author.Tests.{eqb-true, eqb-false}
 use Rattle.bits.specs.Choice.{pick}
-use Rattle.bits.specs.Search.{Failing, lowest}
-use Rattle.bits.specs.SearchLaws.{lowest-passes, lowest-stops, lowest-ends}
-use Rattle.x86defs.specs.declared.CpuidResult.{CpuidResult}
+use Rattle.bits.specs.Lists.{tabulate}
+use Rattle.bits.specs.ListsLaws.{tabulate-at}
 use Rattle.masking.specs.Kept.{places}
+use Rattle.masking.specs.KeptLaws.{madeHere}
+use Rattle.masking.specs.Place
 use Rattle.table.specs.declared.CpuidResults.{CpuidResults}
-use Rattle.table.specs.Rows.{Row}
 use Rattle.table.specs.Table.{rowIn}
-use Rattle.memory.specs.Memory.{rowOf, isThere, rowsIn}
-use Rattle.memory.specs.Held.{flags, flag-at}
-use Rattle.finish.specs.Kinds.{Kinds}
-use Rattle.rows_checked.specs.Checked.{registersIn}
-use Rattle.rise.specs.Decide.{risesTest, rowTest, placeTest}
+use Rattle.features.specs.Finish.{ruleAt}
+use Rattle.finish.specs.Kinds.{fromEntry}
+use Rattle.memory.specs.Memory.{isThere, rowsIn}
+use Rattle.memory.specs.Held.{heldIn, flags, flag-at}
+use Rattle.compare.specs.Compare.{askedRows, entriesNamed, afterA, afterB, comparedRows, compared}
+use Rattle.table.specs.declared.Choices.{Choices}
+use Rattle.table.specs.declared.Refusal.{Refusal}
+use Rattle.table.specs.declared.Verdict.{Verdict}
+use Rattle.table.specs.declared.Verdict.the-variants.{Accepted, Refused}
+use Rattle.build.specs.Build.{rowsFor, answer}
+use Rattle.collect.specs.Lawful.{lawfulVerdict}
+use Rattle.compare.specs.declared.rows.Asked.the-variants.{Entries}
+use Rattle.compare.specs.declared.rows.RowsCompared.{RowsCompared}
+use Rattle.compare.specs.RowsCompared.{wantedBy, rowsCompared}
+use Rattle.compare.specs.RowsComparedLaws.{rows-same}
 use Rattle.compare.specs.declared.Compared.{Compared}
-use Rattle.compare.specs.declared.Compared.the-variants.{Rises}
-use Rattle.compare.specs.Compare.{failingOf, failingAt, firstFailing}
+use Rattle.compare.specs.declared.Compared.the-variants.{RefusedA, UnlawfulB}
 
 -- whether a table has a row at a place
 abbrev pub hasRow : CpuidResults → ℕ → Bool
 hasRow t i = rowIn t i .present
 
--- whether the table has one whose memory has these origins
-abbrev pub hasOrigin : List ℕ → ℕ → Bool
-hasOrigin o i = getD (flags o) i false
+-- the origins of a table's rows, without those of leaves 0 and 80000000h
+abbrev pub asked : List ℕ → List ℕ
+asked o = set (set o Place.vendorAndMaxFunction 0) Place.extendedMaxFunction 0
 
-abbrev pub rowWith : Bool → CpuidResult → Row
-rowWith p r = record { present = p; result = r }
+cleared : (l : List ℕ) (i : ℕ) → getD (set l i 0) i 0 ≡ 0
+cleared [] i = refl
+cleared (x ∷ xs) zero = refl
+cleared (x ∷ xs) (suc i) = cleared xs i
 
--- the first failing place from k on
-unfoldable pub failingFrom : (ℕ → Bool) → (ℕ → Compared) → ℕ → Compared
-failingFrom test failing k = firstFailing (lowest test k (places - k)) failing
+set-zero : (l : List ℕ) (k i : ℕ) → getD (set l k 0) i 0 ≡ pick (eqb i k) 0 (getD l i 0)
+set-zero l k i = go (eqb i k) refl
+  where
+    go : (b : Bool) → eqb i k ≡ b → getD (set l k 0) i 0 ≡ pick b 0 (getD l i 0)
+    go true e = ap (λ (j : ℕ). getD (set l j 0) i 0) (sym (eqb-true i k e)) ∙ cleared l i
+    go false e = getD-set-other l k i 0 0 (eqb-false i k e)
 
-module _ (test : ℕ → Bool) (failing : ℕ → Compared) (k : ℕ) where
-  pub turn-passes : k < places → test k ≡ true → failingFrom test failing k ≡ failingFrom test failing (k + 1)
-  unfolding failingFrom
-  turn-passes l e = ap (λ (f : Failing). firstFailing f failing) (lowest-passes test places k l e)
+-- every other row comes from an entry
+from-entries : (i : ℕ) → i < places → fromEntry (ruleAt i) ≡ not (madeHere i)
+unfolding tabulate
+from-entries = tabulate-at places (λ i. fromEntry (ruleAt i)) (λ i. not (madeHere i)) refl
 
-  pub turn-stops : k < places → test k ≡ false → failingFrom test failing k ≡ failing k
-  unfolding failingFrom
-  turn-stops l e = ap (λ (f : Failing). firstFailing f failing) (lowest-stops test places k l e)
+module _ (o : List ℕ) (i : ℕ) (l : i < places) where
+  asked-there : isThere (getD (asked o) i 0) ≡ (fromEntry (ruleAt i) && getD (flags o) i false)
+  asked-there =
+      rw (set-zero (set o Place.vendorAndMaxFunction 0) Place.extendedMaxFunction i, set-zero o Place.vendorAndMaxFunction i, from-entries i l, flag-at o i l)
+      (go (eqb i Place.vendorAndMaxFunction) (eqb i Place.extendedMaxFunction))
+    where
+      go : (p q : Bool) → isThere (pick q 0 (pick p 0 (getD o i 0))) ≡ (not (p || q) && isThere (getD o i 0))
+      go p true = sym (ap (λ (r : Bool). not r && isThere (getD o i 0)) (or-true p))
+      go true false = refl
+      go false false = refl
 
-  pub turns-end : places ≤ k → failingFrom test failing k ≡ Rises
-  unfolding failingFrom
-  turns-end l = ap (λ (f : Failing). firstFailing f failing) (lowest-ends test places k l)
+-- of a table in memory w, o and entries in memory v, q
+pub asked-rows : (w o v q : List ℕ) (i : ℕ) → i < places → rowsIn v (asked o) i ≡ askedRows (hasRow (heldIn w o)) (rowsIn v q) i
+asked-rows w o v q i l t = record { present = asked-there o i l t; result = rowsIn v q i .result }
 
--- what the code finds at a place: of A's table, A's entry and B's, whether it rises and what fails
-module _ (t a b o : List ℕ) (i : ℕ) (l : i < places) {p q : Bool} {x y : CpuidResult}
-    (f : p ≡ isThere (getD t i 0)) (g : q ≡ isThere (getD o i 0)) (h : x ≡ rowOf a i) (k : y ≡ rowOf b i) where
-  pub rises-found : {r : Bool} → r ≡ rowTest i p x (rowWith q y) → r ≡ placeTest (hasOrigin t) (registersIn a) (rowsIn b o) i
-  rises-found e = e ∙ (λ j. rowTest i ((f ∙ sym (flag-at t i l)) j) (h j) (rowWith (g j) (k j)))
+-- ---- the returns
 
-  pub fails-found : {c : Compared} → c ≡ failingOf i x (rowWith q y) → c ≡ failingAt (registersIn a) (rowsIn b o) i
-  fails-found e = e ∙ (λ j. failingOf i (h j) (rowWith (g j) (k j)))
+module _ (chosen : Choices) (a b : List ℕ) where
+  -- with a verdict on A, and one on B's pages
+  pub with-verdicts : {v w : Verdict} → answer chosen a .verdict ≡ v → lawfulVerdict b ≡ w
+      → compared chosen a b ≡ afterA v (afterB w (comparedRows (hasRow (answer chosen a .table)) (rowsFor chosen a) (rowsFor chosen b)))
+  unfolding compared
+  with-verdicts e f = rw (e, f)
+
+  pub refused-a : {r : Refusal} → answer chosen a .verdict ≡ Refused r → RefusedA r ≡ compared chosen a b
+  refused-a e = sym (with-verdicts e refl)
+
+  module _ (accepted : answer chosen a .verdict ≡ Accepted) where
+    pub unlawful-b : {r : Refusal} → lawfulVerdict b ≡ Refused r → UnlawfulB r ≡ compared chosen a b
+    unlawful-b e = sym (with-verdicts accepted e)
+
+    -- the table of A is in memory w, o; v and u are the rows of A's entries and of B's
+    pub rows-compared : lawfulVerdict b ≡ Accepted → (w o v q u p : List ℕ)
+        → heldIn w o ≡ answer chosen a .table → rowsIn v q ≡ rowsFor chosen a → rowsIn u p ≡ rowsFor chosen b
+        → {f : RowsCompared} → f ≡ rowsCompared (wantedBy Entries) (rowsIn v (asked o)) (rowsIn u p)
+        → {r : Compared} → r ≡ entriesNamed f → r ≡ compared chosen a b
+    unfolding comparedRows
+    rows-compared e w o v q u p t f g c n =
+        n
+        ∙ ap entriesNamed (c ∙ rows-same _ _ _ _ _ (asked-rows w o v q) (λ i l. refl))
+        ∙ (λ k. comparedRows (hasRow (t k)) (f k) (g k))
+        ∙ sym (with-verdicts accepted e)

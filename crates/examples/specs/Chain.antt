@@ -18,7 +18,7 @@ use Rattle.rise.specs.LevelsProof.{accepted-levels}
 use Rattle.page_sets.specs.PageSets.{entry, withFirst, serverA, serverB, serverW}
 use Rattle.page_sets.specs.PassLaws.{lawful-passed, verdict-passed, table-passed}
 use Rattle.page_sets.specs.Evaluation.{firstEdition, passed}
-use Rattle.examples.specs.RisePassed.{rises-passed}
+use Rattle.examples.specs.RisePassed.{passedCompared, rises-passed}
 use Rattle.examples.specs.Computed.{serverB-rises}
 
 -- ---- servers W, A and B
@@ -28,7 +28,7 @@ unfolding passed serverW
 w-accepted = verdict-passed firstEdition serverW
 
 pub w-to-a : RiseHypothesis firstEdition serverW serverA
-unfolding passed serverW serverA
+unfolding passed passedCompared serverW serverA
 w-to-a = rises-passed firstEdition serverW serverA w-accepted (lawful-passed serverA) refl
 
 -- x87 and SSE state alone; A has 7, B 18E7h (Computed.antt, `masks`)

@@ -12,7 +12,7 @@ use Rattle.rise.specs.Rise.{RiseHypothesis}
 use Rattle.page_sets.specs.PageSets.{serverA, serverB, serverWithoutD12, serverWithLargeD6}
 use Rattle.page_sets.specs.PassLaws.{lawful-passed, verdict-passed, table-passed}
 use Rattle.page_sets.specs.Evaluation.{firstEdition, passed}
-use Rattle.examples.specs.RisePassed.{rises-passed}
+use Rattle.examples.specs.RisePassed.{passedCompared, rises-passed}
 
 -- 8,192 bytes, accepted: 27 rows, AVX state
 pub serverA-length : length serverA ≡ 8192
@@ -29,7 +29,7 @@ serverA-rows = ap (λ (t : CpuidResults). t .«row_count») (table-passed firstE
 
 -- B meets the hypothesis, is accepted, and is strictly richer
 pub serverB-rises : RiseHypothesis firstEdition serverA serverB
-unfolding passed serverA serverB
+unfolding passed passedCompared serverA serverB
 serverB-rises = rises-passed firstEdition serverA serverB serverA-accepted (lawful-passed serverB) refl
 
 pub serverB-accepted : answer firstEdition serverB .verdict ≡ Accepted
@@ -44,7 +44,7 @@ masks =
 
 -- without D.12: the hypothesis holds, and B is refused by 3
 pub without-rises : RiseHypothesis firstEdition serverA serverWithoutD12
-unfolding passed serverA serverWithoutD12
+unfolding passed passedCompared serverA serverWithoutD12
 without-rises = rises-passed firstEdition serverA serverWithoutD12 serverA-accepted (lawful-passed serverWithoutD12) refl
 
 pub without-refused : answer firstEdition serverWithoutD12 .verdict ≡ Refused (MissingRequiredResult ExtendedStateEnumeration (Some 12))
@@ -53,7 +53,7 @@ without-refused = verdict-passed firstEdition serverWithoutD12
 
 -- with D.6 too large: the hypothesis holds, and B is refused by 5
 pub large-rises : RiseHypothesis firstEdition serverA serverWithLargeD6
-unfolding passed serverA serverWithLargeD6
+unfolding passed passedCompared serverA serverWithLargeD6
 large-rises = rises-passed firstEdition serverA serverWithLargeD6 serverA-accepted (lawful-passed serverWithLargeD6) refl
 
 pub large-refused : answer firstEdition serverWithLargeD6 .verdict ≡ Refused SaveAreaOverflow

@@ -11,7 +11,7 @@ use Rattle.build.specs.Build.{answer}
 use Rattle.rise.specs.Rise.{RiseHypothesis}
 use Rattle.page_sets.specs.PageSets.{entry, page, firstPage}
 use Rattle.page_sets.specs.PassLaws.{lawful-passed, verdict-passed}
-use Rattle.examples.specs.RisePassed.{rises-passed}
+use Rattle.examples.specs.RisePassed.{passedCompared, rises-passed}
 use Rattle.guest_state.specs.State.{stateVerdict}
 use Rattle.guest.specs.Guest.{guestTable}
 use Rattle.guest.specs.GuestPages.{guestPages}
@@ -42,7 +42,7 @@ unfolding viewed compacting
 compacting-accepted = verdict-passed firstEdition compacting
 
 pub plain-to-compacting : RiseHypothesis firstEdition plain compacting
-unfolding viewed plain compacting
+unfolding viewed passedCompared plain compacting
 plain-to-compacting = rises-passed firstEdition plain compacting plain-accepted (lawful-passed compacting) refl
 
 -- D.0.EBX is FFFFFFFFh, the largest; D.1.EBX is 0 on A, and on B 576 more than 32 bits hold

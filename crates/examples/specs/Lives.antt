@@ -19,9 +19,9 @@ use Rattle.page_sets.specs.PassLaws.{verdict-passed, table-passed}
 use Rattle.page_sets.specs.Evaluation.{firstEdition, passed}
 use Rattle.rise.specs.Rise.{RiseHypothesis}
 use Rattle.rise.specs.RiseProof.{demand-3, answer-table}
-use Rattle.tables_compared.specs.declared.TablesCompared.the-variants.{Rises}
-use Rattle.tables_compared.specs.CompareTables.{comparedTables}
-use Rattle.tables_compared.specs.TablesDecideProof.{decides}
+use Rattle.compare.specs.declared.rows.RowsCompared.the-variants.{Rises}
+use Rattle.compare.specs.RowsCompared.{comparedTables}
+use Rattle.compare.specs.TablesDecideProof.{decides}
 use Rattle.carry.specs.Carry.{carry}
 use Rattle.guest_state.specs.State.{stateVerdict}
 use Rattle.guest.specs.declared.Processor.{Processor}

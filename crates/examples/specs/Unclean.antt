@@ -17,7 +17,7 @@ use Rattle.collect.specs.LawfulLaws.{lawful-clean}
 use Rattle.rise.specs.RiseProof.{accepted-lawful}
 use Rattle.compare.specs.declared.Compared.the-variants.{UnlawfulB}
 use Rattle.compare.specs.Compare.{compared}
-use Rattle.compare.specs.CompareReturnLaws.{unlawful-b}
+use Rattle.compare.specs.CompareLaws.{unlawful-b}
 use Rattle.page_sets.specs.PassLaws.{lawful-passed, verdict-passed}
 use Rattle.page_sets.specs.Evaluation.{firstEdition, passed}
 use Rattle.page_sets.specs.PageSets.{word, page, requiredEntries, stateEntries, serverA}

@@ -25,8 +25,8 @@ use Rattle.build.specs.Build.{answer, TableIn}
 use Rattle.lookup.specs.declared.LeafResult.the-variants.{Some as Found}
 use Rattle.lookup.specs.Lookup.{lookup, placeAsked}
 use Rattle.rise.specs.Preorder.{SameRows}
-use Rattle.tables_compared.specs.declared.TablesCompared.the-variants.{Rises}
-use Rattle.tables_compared.specs.CompareTables.{comparedTables}
+use Rattle.compare.specs.declared.rows.RowsCompared.the-variants.{Rises}
+use Rattle.compare.specs.RowsCompared.{comparedTables}
 use Rattle.carry.specs.Carry.{carry}
 use Rattle.guest.specs.declared.Processor.{Processor}
 use Rattle.guest.specs.declared.GuestAnswer.{GuestAnswer}

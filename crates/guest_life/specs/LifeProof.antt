@@ -39,7 +39,7 @@ use Rattle.lookup.specs.LookupLaws.{lookup-at}
 use Rattle.rise.specs.Rise.{TableRises}
 use Rattle.rise.specs.Preorder.{SameRows}
 use Rattle.rise.specs.PreorderProof.{table-rises-compose, both-ways-same, same-both-ways}
-use Rattle.tables_compared.specs.TablesDecideProof.{decides}
+use Rattle.compare.specs.TablesDecideProof.{decides}
 use Rattle.carry.specs.Carry.{withoutBits, carriedTable, keeps, carry}
 use Rattle.guest_state.specs.State.{compacts, stateVerdict}
 use Rattle.guest.specs.declared.Processor.{Processor}

@@ -16,9 +16,10 @@ use Rattle.checks.specs.ExtendedState.{xssOf, xfem, xss, combinedMask}
 use Rattle.finish.specs.Kinds.{TableAtLeast, Registers, registerKinds, kindsAt}
 use Rattle.memory.specs.Memory.{rowsIn}
 use Rattle.memory.specs.Held.{wholeOf, heldIn, whole-row}
-use Rattle.tables_compared.specs.declared.TablesCompared.the-variants.{MaskLacks}
-use Rattle.tables_compared.specs.TablesMean.{PlaceRises, TablesAnswerMeans}
-use Rattle.tables_compared.specs.TablesDecideProof.{decides}
+use Rattle.compare.specs.declared.rows.RowsCompared.the-variants.{MaskLacks}
+use Rattle.compare.specs.RowsMean.{PlaceRises}
+use Rattle.compare.specs.TablesMean.{tables, TablesAnswerMeans}
+use Rattle.compare.specs.TablesDecideProof.{decides}
 use Rattle.images.specs.TablesMoved.{MaskFollows}
 
 picked : (b c : Bool) {x y : ℕ} → (b ≡ true → c ≡ true) → Within x y → Within (pick b x 0) (pick c y 0)
@@ -40,7 +41,7 @@ unfolding kindsAt registerKinds slot keptLeaves
 state1 a b h = (h .eax, h .ecx)
 
 module _ (m n : Rows) (absent : (i : ℕ) → i < places → m i .present ≡ false → m i .result ≡ result 0 0 0 0)
-    (rise : (i : ℕ) → i < places → PlaceRises (wholeOf m) (wholeOf n) i) where
+    (rise : (i : ℕ) → i < places → PlaceRises (tables (wholeOf m) (wholeOf n)) i) where
   registers : (i : ℕ) → i < places → m i .present ≡ true → Registers TableAtLeast (kindsAt i) (m i .result) (n i .result)
   registers i l e =
       subst₂ (Registers TableAtLeast (kindsAt i)) (ap (λ (r : Row). r .result) (whole-row m i l)) (ap (λ (r : Row). r .result) (whole-row n i l))

@@ -3,9 +3,9 @@ use mathlib.Core.Path.{_≡_}
 use Rattle.table.specs.declared.CpuidResults.{CpuidResults}
 use Rattle.rise.specs.Preorder.{SameRows}
 use Rattle.rise.specs.PreorderProof.{table-rises-itself, table-rises-compose, both-ways-same, same-both-ways}
-use Rattle.tables_compared.specs.declared.TablesCompared.the-variants.{Rises}
-use Rattle.tables_compared.specs.CompareTables.{comparedTables}
-use Rattle.tables_compared.specs.TablesDecideProof.{decides}
+use Rattle.compare.specs.declared.rows.RowsCompared.the-variants.{Rises}
+use Rattle.compare.specs.RowsCompared.{comparedTables}
+use Rattle.compare.specs.TablesDecideProof.{decides}
 
 pub compared-itself : (t : CpuidResults) → comparedTables t t ≡ Rises
 compared-itself t = decides t t .complete (table-rises-itself t)

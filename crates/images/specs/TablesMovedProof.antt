@@ -25,9 +25,9 @@ use Rattle.compare.specs.Means as PagesMean
 use Rattle.compare.specs.DecidesProof as PagesDecided
 use Rattle.image_read.specs.ReadIn.{ReadIn}
 use Rattle.image_read.specs.ReadHeld.{read-row, read-held}
-use Rattle.tables_compared.specs.declared.TablesCompared.the-variants.{Rises}
-use Rattle.tables_compared.specs.CompareTables.{comparedTables}
-use Rattle.tables_compared.specs.TablesDecideProof.{decides}
+use Rattle.compare.specs.declared.rows.RowsCompared.the-variants.{Rises}
+use Rattle.compare.specs.RowsCompared.{comparedTables}
+use Rattle.compare.specs.TablesDecideProof.{decides}
 use Rattle.images.specs.TablesMoved.{CompareAgrees, ImagesAgree, PlainIn, Back, ImageBack, BuiltBack}
 
 -- ---- pages

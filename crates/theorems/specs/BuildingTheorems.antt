@@ -40,7 +40,7 @@ use Rattle.images.specs.Images.{ImageAscends, EqualImages}
 use Rattle.images.specs.AscendLaws.{image-ascends}
 use Rattle.images.specs.ImagesProof.{equal-images}
 use Rattle.rise.specs.Rise.{RiseHypothesis}
-use Rattle.register_kinds.specs.declared.Register.the-variants.{Ecx}
+use Rattle.compare.specs.declared.registers.Register.the-variants.{Ecx}
 use Rattle.compare.specs.declared.Compared.the-variants.{Rises as Yes, RefusedA, UnlawfulB, NoEntry, Differs}
 use Rattle.compare.specs.Compare.{compared}
 use Rattle.pages.specs.Reserved.{eightZeros, clean, allClean}

@@ -33,10 +33,10 @@ use Rattle.pool.specs.declared.Pooled.{Pooled}
 use Rattle.pool.specs.Pool.{pooled}
 use Rattle.rise.specs.Rise.{TableRises}
 use Rattle.rise.specs.Preorder.{SameRows}
-use Rattle.tables_compared.specs.declared.TablesCompared.the-variants.{Rises}
-use Rattle.tables_compared.specs.CompareTables.{comparedTables}
-use Rattle.tables_compared.specs.TablesMean.{DecidesTables}
-use Rattle.tables_compared.specs.TablesDecideProof.{decides}
+use Rattle.compare.specs.declared.rows.RowsCompared.the-variants.{Rises}
+use Rattle.compare.specs.RowsCompared.{comparedTables}
+use Rattle.compare.specs.TablesMean.{DecidesTables}
+use Rattle.compare.specs.TablesDecideProof.{decides}
 use Rattle.images.specs.TablesMoved.{CompareAgrees, ImagesAgree, BuiltBack, AnyBack, MaskFollows}
 use Rattle.images.specs.TablesMovedProof as Moved
 use Rattle.images.specs.AnyMemory as AnyMemory
@@ -106,7 +106,7 @@ pub any-read-back : AnyBack
 any-read-back = AnyMemory.any-back
 
 -- comparing two tables decides `TableRises`, for tables of any content: yes if and only if it holds, else the first thing that fails.
--- crates/tables_compared/specs/TablesMean.antt
+-- crates/compare/specs/TablesMean.antt
 pub tables-decided : (a b : CpuidResults) → DecidesTables a b (comparedTables a b)
 tables-decided = decides
 

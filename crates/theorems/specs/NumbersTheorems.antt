@@ -46,10 +46,10 @@ use Rattle.guest.specs.declared.GuestAnswer.{GuestAnswer}
 use Rattle.guest.specs.declared.GuestFound.{GuestFound}
 use Rattle.guest.specs.GuestPages.{guestPages}
 use Rattle.carry.specs.declared.in_image.CarriedImage.{CarriedImage}
-use Rattle.register_kinds.specs.declared.Register.the-variants.{Ecx}
+use Rattle.compare.specs.declared.registers.Register.the-variants.{Ecx}
 use Rattle.compare.specs.declared.Compared.{Compared}
 use Rattle.compare.specs.declared.Compared.the-variants.{Differs}
-use Rattle.tables_compared.specs.declared.TablesCompared.{TablesCompared}
+use Rattle.compare.specs.declared.rows.RowsCompared.{RowsCompared as TablesCompared}
 use Rattle.pool.specs.declared.Pooled.{Pooled}
 use Rattle.nearest.specs.declared.Nearest.{Nearest}
 use Rattle.nearest.specs.declared.Nearest.the-variants.{Bit}

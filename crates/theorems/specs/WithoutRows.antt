@@ -58,8 +58,8 @@ use Rattle.guest.specs.declared.Processor.{Processor}
 use Rattle.guest.specs.Guest.{guestAnswer, answerFor}
 use Rattle.guest.specs.Seen.{tableWith, guestFoundIn as foundIn}
 use Rattle.carry.specs.Carry.{carry, carryVerdict, ownRows}
-use Rattle.tables_compared.specs.declared.TablesCompared.the-variants.{Rises, NoRow, Beyond}
-use Rattle.tables_compared.specs.CompareTables.{comparedTables, furtherTest}
+use Rattle.compare.specs.declared.rows.RowsCompared.the-variants.{Rises, NoRow, Beyond}
+use Rattle.compare.specs.RowsCompared.{furtherTest, rowsCompared, comparedTables}
 use Rattle.images.specs.TableOrderProof as Order
 use Rattle.answers.specs.Answers.{countsOf, readWith, foundAt, foundGiven, foundNumbers, guestFoundNumbers, stateNumbers, writtenNumbers}
 use Rattle.snp_cpuid.specs.GuestExports.{guestNumbers}
@@ -233,7 +233,7 @@ pub no-rows-compared : (chosen : Choices) (s : List ℕ) → answer chosen s .ve
     → (comparedTables noRows noRows ≡ Rises)
     × (comparedTables noRows (answer chosen s .table) ≡ Beyond (function 0) None)
     × (comparedTables (answer chosen s .table) noRows ≡ NoRow (function 0) None)
-unfolding comparedTables lowest furtherTest slot keptLeaves
+unfolding comparedTables rowsCompared lowest furtherTest slot keptLeaves
 no-rows-compared chosen s e = (
   Order.compared-itself noRows,
   ap₂ comparedTables cleared-held (table-by-figures chosen s e),

@@ -8,7 +8,7 @@ use Rattle.build.specs.declared.Built.{Built}
 use Rattle.build.specs.Build.{answer, InMemory}
 use Rattle.build.specs.BuildLaws.{answer-unknown, answer-unlawful}
 use Rattle.build.specs.InMemoryLaws.{walked-rows, answer-in-memory, edition-known}
-use Rattle.compare.specs.CompareReturnLaws.{refused-a, unlawful-b, rows-compared}
+use Rattle.compare.specs.CompareLaws.{refused-a, unlawful-b, rows-compared}
 use Rattle.compare.specs.DecidesProof.{decided}
 use Rattle.compare.proofs.compare.Statement.{statement}
 use Rattle.compare.proofs.compare.Tie as tie
@@ -63,7 +63,7 @@ returns-4 c =
 
 returns-5 : tie.Need-returns-5
 returns-5 c =
-    let z = c .before .before .before .before .before in let e = z .before .before .before in let w = e .before .before in
+    let f = c .before in let z = f .before .before .before .before .before in let e = z .before .before .before in let w = e .before .before in
     let d = w .before .before .before in let b = d .before .before in let chosen = start (walked b) .args .choices in
     decided _ _ _
     (rows-compared _ _ _ (accepted d) (sym (w .walk-pages2 .ensures .verdict) ∙ e .enum-told3 .given .1)
@@ -71,7 +71,7 @@ returns-5 c =
     (w .walk-pages2 .last .1 .1 .0) (w .walk-pages2 .last .1 .1 .1 .0) (built b .table)
     (walked-rows chosen _ _ _ (size b .sized .ensures .0) (size b .sized .ensures .1) (walked b .walk-pages .ensures) (told b .enum-told .given .1))
     (walked-rows chosen _ _ _ (z .sized2 .ensures .0) (z .sized2 .ensures .1) (w .walk-pages2 .ensures) (e .enum-told3 .given .1))
-    (c .first-failing .ensures))
+    (f .compare-rows .ensures) (c .entries-named .ensures))
 
 pub compare-spec : {M : Type 1} → statement M
 compare-spec =
@@ -88,10 +88,13 @@ compare-spec =
     (λ c. search needs)
     returns-3
     (λ c. search needs)
+    (λ c. search needs)
+    (λ c. search needs)
     (λ c κs. search needs)
     (λ c. search needs)
     returns-4
     (λ c. search needs)
+    (λ c κs. search needs)
     (λ c κs. search needs)
     (λ c κs. search needs)
     returns-5)
