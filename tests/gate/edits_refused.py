@@ -6,7 +6,7 @@ that no longer fits the shape of the code would also come of an edit that change
 
 A file may hold several edits, each under a comment that opens with its name and with a line `at: FILE` or `at: FILE DECLARATION`: one check then
 tries them all. Such an edit must be refused at a fact of its own, in the file of the crate that it names or in that declaration of it, and no two of
-them name one place.
+them name one place. Of a source file the declaration is a function that has no proof file.
 """
 from collections import Counter
 from pathlib import Path
@@ -21,8 +21,8 @@ ERROR = re.compile(r'^(\S+):\d+:\d+: error(?:\[[^]]*\])?: (.*(?:\n  .*)*)', re.M
 DECLARATION = re.compile(r'`[^`]+`: (.*)')
 # such an error repeats another one
 REPEATS = re.compile(r'.* was not admitted ')
-# what rattle says of a fact that the proof which it made itself does not show
-UNPROVED = re.compile(r'^note: (\S+):\d+:\d+: it is not proved that', re.MULTILINE)
+# what rattle says of a fact that the proof which it made itself does not show, and then of the function
+UNPROVED = re.compile(r'^note: (\S+):\d+:\d+: it is not proved that|^fn (?:\w+::)*(\w+): no proof: ', re.MULTILINE)
 
 # a whole Need that is another one than the code now asks for
 OTHER_NEED = re.compile(r'expected type `[^` ]*Need-')
@@ -45,12 +45,24 @@ def within(place):
     return lambda path, message: path.endswith('/' + file) and (not declaration or message.startswith(f'`{declaration}`: '))
 
 
+def unproved(text):
+    """(file, function) of each fact that a proof which rattle made itself does not show."""
+    found, files = [], []
+    for file, function in UNPROVED.findall(text):
+        if file:
+            files.append(file)
+        else:
+            found += [(file, function) for file in files]
+            files = []
+    return found + [(file, '') for file in files]
+
+
 def no_fact(text, own=anywhere):
     """Why the first error of a log, of those that are its own, is no fact that is refused, with that error; None where it is a fact."""
     errors = (message for path, message in ERROR.findall(text) if own(path, message))
     first = next((message for message in errors if not REPEATS.match(message)), None)
     if first is None:
-        return None if any(own(path, '') for path in UNPROVED.findall(text)) else ('no error', '')
+        return None if any(own(path, f'`{function}`: ') for path, function in unproved(text)) else ('no error', '')
     line = first.split('\n')[0]
     inside = DECLARATION.match(line)
     if OTHER_NEED.search(first):

@@ -69,6 +69,16 @@ class Logs(unittest.TestCase):
         self.assertEqual(edits_refused.no_fact(f'{REPEAT}\n{END}'), ('no error', ''))
         self.assertEqual(edits_refused.no_fact(''), ('no error', ''))
 
+    def test_functions_without_a_proof_file(self):
+        note = 'note: /r/src/lib.rt:{}:1: it is not proved that what the function ensures holds when it returns (`returns`)\n'
+        said = 'fn bits::{}: no proof: expected `{}-spec` in /r/proofs/{}/Proof.antt; `search` does not close `returns`\n'
+        text = note.format(3) + said.format('low', 'low', 'low') + 'fn bits::mid: proved\n' + note.format(9) + said.format('in::high', 'high', 'in/high')
+        self.assertEqual(edits_refused.unproved(text + END), [('/r/src/lib.rt', 'low'), ('/r/src/lib.rt', 'high')])
+        for place in 'src/lib.rt', 'src/lib.rt low', 'src/lib.rt high':
+            self.assertIsNone(edits_refused.no_fact(text + END, edits_refused.within(place)), place)
+        for place in 'src/lib.rt mid', 'src/lib.rt lo', 'src/in.rt high', 'src/in.rt':
+            self.assertEqual(edits_refused.no_fact(text + END, edits_refused.within(place)), ('no error', ''), place)
+
     def test_error_of_the_compiler(self):
         text = '/r/src/lib.rt:26:26: error[unknown-name]: cannot find value `y` in this scope\n'
         self.assertEqual(edits_refused.no_fact(text)[0], 'an error outside every declaration')

@@ -1,11 +1,12 @@
--- The carried table by the two stores of the code.
+-- Within one edition the bits are kept; and the carried table by the two stores of the code.
 use mathlib.Core.Path.{_≡_, refl, ap, _∙_}
-use mathlib.Core.Bool.{Bool}
+use mathlib.Core.Bool.{Bool, true, _||_}
 use mathlib.Core.List.{List}
 use Prim.Native.Nat.{ℕ, _+_, _^_}
 use lib.ListN.{length, set}
+use borrow.Author.Tests.{eq-eqb}
 use Rattle.bits.specs.Choice.{pick}
-use Rattle.bits.specs.Bits.{maskOf}
+use Rattle.bits.specs.Bits.{has, maskOf}
 use Rattle.bits.specs.Lists.{tabulate}
 use Rattle.bits.specs.ListsLaws.{tabulated}
 use Rattle.x86defs.specs.declared.CpuidResult.{CpuidResult}
@@ -14,8 +15,15 @@ use Rattle.masking.specs.Kept.{places}
 use Rattle.table.specs.declared.CpuidResults.{CpuidResults}
 use Rattle.table.specs.Rows.{Row, Rows}
 use Rattle.table.specs.Table.{rowIn, rowsOfTable}
+use Rattle.checks.specs.ExtendedState.{xfem}
 use Rattle.features.specs.Finish.{f16c, xopAndFma4}
-use Rattle.carry.specs.Carry.{withoutBits, carriedAt, carriedTable}
+use Rattle.carry.specs.Carry.{ownRows, withoutBits, carriedAt, carriedTable, keeps}
+
+-- ---- within one edition
+
+pub kept-within : (t : CpuidResults) (from to : ℕ) → from ≡ to → keeps t from to ≡ true
+unfolding keeps
+kept-within t from to e = ap (λ (b : Bool). b || has 2 (xfem (ownRows t))) (eq-eqb from to e)
 
 -- ---- the two stores
 

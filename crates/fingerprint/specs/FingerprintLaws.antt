@@ -1,4 +1,5 @@
--- The image of a table of any content has at most 2,132 bytes, so it stands whole at the front of the array in which it is hashed.
+-- The image of a table of any content has at most 2,132 bytes, so it stands whole at the front of the array in which it is hashed; and the digest of
+-- those bytes is the fingerprint.
 use mathlib.Core.Path.{_≡_, sym, ap, _∙_}
 use mathlib.Core.Bool.{Bool, true, false}
 use mathlib.Core.List.{List}
@@ -15,6 +16,12 @@ use Rattle.buffer.specs.FrontLaws.{front-whole}
 use Rattle.image.specs.Image.{image}
 use Rattle.image.specs.ImagePieces.{rowsAmong}
 use Rattle.image.specs.LengthLaws.{image-length}
+use Rattle.sha256.specs.Sha256.{sha256}
+use Rattle.fingerprint.specs.Fingerprint.{fingerprint}
+
+pub digest-of-image : (t : CpuidResults) {b : List ℕ} → b ≡ image t → sha256 b ≡ fingerprint t
+unfolding fingerprint
+digest-of-image t e = ap sha256 e
 
 at-most-one : (b : Bool) → one b ≤ 1
 at-most-one true = omega arith

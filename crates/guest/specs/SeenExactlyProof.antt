@@ -13,10 +13,12 @@ use Rattle.bits.specs.Search.{every}
 use Rattle.bits.specs.SearchLaws.{every-at}
 use Rattle.bits.specs.Bits.{bit, has, clear}
 use Rattle.bits.specs.BitsLaws.{bit-lt, bit-and, bit-or, bit-shr}
+use Rattle.x86defs.specs.declared.CpuidResult.{CpuidResult}
 use Rattle.masking.specs.Place
 use Rattle.table.specs.declared.CpuidResults.{CpuidResults}
+use Rattle.table.specs.Table.{rowIn}
 use Rattle.guest.specs.declared.Processor.{Processor}
-use Rattle.guest.specs.Guest.{numberSeen, osxsaveSeen}
+use Rattle.guest.specs.Guest.{numberSeen, osxsaveSeen, versionSeen}
 use Rattle.guest.specs.SeenLaws.{seen-there, elsewhere, absent-stays}
 use Rattle.guest.specs.SeenExactly.{NumberBits, OsxsaveBit, SeenExactly}
 
@@ -91,6 +93,11 @@ osxsave-bit on x = go (on && has 26 x) refl
       others = λ k l n. let a = apart k l n in omega (arith, bit-and k x (2 ^ 32 - 1 - 2 ^ 27), a .kept, bit-lt k x);
     }
 
+-- ---- leaf 1, EAX
+
+version-eax : (v : Processor) (r : CpuidResult) → versionSeen v r .eax ≡ r .eax
+version-eax v r = refl
+
 -- ---- the statement
 
 pub seen-exactly : (t : CpuidResults) (v : Processor) → SeenExactly t v
@@ -99,7 +106,7 @@ seen-exactly t v = record {
   count = refl;
   mask = refl;
   version = λ p. rw (seen-there t v Place.versionAndFeatures (lit< tt) p)
-      (record { eax = refl; ebx = number-bits (v .x2apic) _; ecx = osxsave-bit (v .osxsave) _; edx = refl });
+      (record { eax = version-eax v (rowIn t Place.versionAndFeatures .result); ebx = number-bits (v .x2apic) _; ecx = osxsave-bit (v .osxsave) _; edx = refl });
   threads = λ p. rw (seen-there t v Place.threadLevel (lit< tt) p) (record { eax = refl; ebx = refl; ecx = refl; edx = refl });
   cores = λ p. rw (seen-there t v Place.coreLevel (lit< tt) p) (record { eax = refl; ebx = refl; ecx = refl; edx = refl });
   state0 = λ p. rw (seen-there t v (Place.extendedState 0) (lit< tt) p) (record { eax = refl; ebx = refl; ecx = refl; edx = refl });

@@ -81,17 +81,14 @@ module _ (w o : List ℕ) (fits : (k : ℕ) → getD w k 0 < 2 ^ 32) {r : Bool} 
       same-bytes (heldIn w o) t (λ i l.
       ap (placeBytes i) (whole-row (rowsIn w o) i l) ∙ sym (clean-bytes i (rowsIn w o i)) ∙ ap (placeBytes i) (sym (whole-row rows i l)))
 
-  back : ReadsBack t
-  back = image-reads-back t plain
-
   of-clean : ReadIn (image t) r v q
   of-clean = subst (λ (s : List ℕ). ReadIn s r v q) same h
 
-  rows-back : RowsBack w o r v q
-  rows-back = record {
+  rows-back : ReadsBack t → RowsBack w o r v q
+  rows-back back = record {
     read = of-clean .image ∙ back .read;
     rows = λ i l. read-row of-clean i l ∙ back .rows i l ∙ whole-row rows i l;
   }
 
 pub any-back : AnyBack
-any-back w o f r v q h = rows-back w o f h
+any-back w o f r v q h = rows-back w o f h (image-reads-back _ (plain w o f h))

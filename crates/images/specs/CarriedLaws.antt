@@ -9,7 +9,7 @@ use native.Mathlib.Omega.{arith}
 use lib.Dec.{eqb}
 use lib.ListN.{length}
 use lib.Seq.{drop-length}
-use borrow.Author.Tests.{eq-eqb, le-leb, ne-eqb}
+use borrow.Author.Tests.{le-leb, ne-eqb}
 use Rattle.bits.specs.Choice.{pick}
 use Rattle.bits.specs.Bits.{clearUnless}
 use Rattle.bits.specs.Lists.{tabulate}
@@ -29,6 +29,7 @@ use Rattle.image_read.specs.WrittenAgain.{read-has-image}
 use Rattle.table.specs.declared.Verdict.{Verdict}
 use Rattle.table.specs.declared.Verdict.the-variants.{Accepted}
 use Rattle.carry.specs.Carry.{carriedAt, carriedTable, keeps, carriedGiven, carry}
+use Rattle.carry.specs.CarryLaws.{kept-within}
 use Rattle.carry.specs.CarryImage.{carryImage}
 use Rattle.images.specs.Carried.{CarryKeeps, CarriesInPlace}
 
@@ -49,10 +50,6 @@ kept-table t n =
     let e : t .results ≡ tabulate places (λ i. carriedAt true i (rowIn t i)) =
     tabulated places _ (t .results) (result 0 0 0 0) n (λ i h. sym (kept-at i (rowIn t i))) in
     λ k. record { present = t .present; results = sym e k; «row_count» = t .«row_count»; «max_extended_state» = t .«max_extended_state» }
-
-kept-within : (t : CpuidResults) (from to : ℕ) → from ≡ to → keeps t from to ≡ true
-unfolding keeps
-kept-within t from to e = rw (eq-eqb from to e)
 
 -- ---- two rows alone
 

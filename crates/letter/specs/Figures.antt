@@ -19,7 +19,7 @@ use Rattle.checks.specs.ExtendedState as State
 use Rattle.checks.specs.TopologyInputs.{inputsOf}
 use Rattle.collect.specs.FirstEntries.{legacyFeatures, maskedAt}
 use Rattle.features.specs.Finish as Finish
-use Rattle.letter.specs.Paper.{Line, masked, linesWith, xfem, combined, area, leastFrom}
+use Rattle.letter.specs.Paper.{Line, masked, linesWith, xfem, avx512, combined, area, leastFrom}
 use Rattle.letter.specs.Names.{placeFor}
 
 module _ (g : ℕ → CpuidResult) where
@@ -32,6 +32,10 @@ module _ (g : ℕ → CpuidResult) where
   pub xfem-same : (second avic : Bool) → State.xfem (m avic) ≡ xfem (masked avic e)
   unfolding State.xfem placeOf keptLeaves slot Masks.extendedState0 maskOf legacyFeatures
   xfem-same second avic = refl
+
+  pub avx512-same : (avic : Bool) → Finish.hasAvx512 (Finish.enabledBy (m avic)) ≡ avx512 (masked avic e)
+  unfolding State.xfem Finish.enabledBy placeOf keptLeaves slot Masks.extendedState0 maskOf legacyFeatures
+  avx512-same avic = refl
 
   pub table-same : (n : ℕ) (second avic : Bool) → eqb n 2 ≡ second
       → tabulate 88 (Finish.finished n (m avic))

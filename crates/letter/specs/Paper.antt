@@ -210,7 +210,7 @@ module _ (m : ℕ → Subleaf → CpuidResult) where
   abbrev ymm : Bool
   ymm = has 2 xfem
 
-  abbrev avx512 : Bool
+  abbrev pub avx512 : Bool
   avx512 = has 2 xfem && (has 5 xfem && (has 6 xfem && has 7 xfem))
 
   -- "Without 8000001Fh.EAX bit 9, 80000001h.EDX bit 27 and 7.0.ECX bit 22 are cleared."

@@ -60,25 +60,34 @@ module _ (l : CpuidFunction) where
 
 -- ---- the place that is asked for
 
--- past the last place there is no row, since a table has 88
+-- without a subleaf and with one, where past the last place there is no row
+module _ (t : CpuidResults) (past : rowResult (rowIn t places) ≡ Nothing) (l : CpuidFunction) where
+  asked-whole : (enforce : Bool) → lookup t l None enforce ≡ rowResult (rowIn t (placeAsked l None enforce))
+  unfolding lookup placeAsked
+  asked-whole enforce = go (withSubleaves l)
+    where
+      go : (b : Bool) → pick b Nothing (rowResult (rowIn t (placeWhole l))) ≡ rowResult (rowIn t (pick b places (placeWhole l)))
+      go true = sym past
+      go false = refl
+
+  asked-within : (k : ℕ) (enforce : Bool) → lookup t l (Some k) enforce ≡ rowResult (rowIn t (placeAsked l (Some k) enforce))
+  unfolding lookup placeAsked
+  asked-within k enforce = go (withSubleaves l) enforce
+    where
+      go : (b c : Bool) → pick b (rowResult (rowIn t (placeOf l k))) (pick c Nothing (rowResult (rowIn t (placeWhole l))))
+          ≡ rowResult (rowIn t (pick b (placeOf l k) (pick c places (placeWhole l))))
+      go true c = refl
+      go false true = sym past
+      go false false = refl
+
+-- a table has 88 places
 module _ (t : CpuidResults) (whole : length (t .present) ≤ places) where
   past-last : rowResult (rowIn t places) ≡ Nothing
   past-last = rw (List·getD-eq-default (t .present) false whole)
 
   lookup-asked : (l : CpuidFunction) (sub : Subleaf) (enforce : Bool) → lookup t l sub enforce ≡ rowResult (rowIn t (placeAsked l sub enforce))
-  unfolding lookup placeAsked
-  lookup-asked l None enforce = go (withSubleaves l)
-    where
-      go : (b : Bool) → pick b Nothing (rowResult (rowIn t (placeWhole l))) ≡ rowResult (rowIn t (pick b places (placeWhole l)))
-      go true = sym past-last
-      go false = refl
-  lookup-asked l (Some k) enforce = go (withSubleaves l) enforce
-    where
-      go : (b c : Bool) → pick b (rowResult (rowIn t (placeOf l k))) (pick c Nothing (rowResult (rowIn t (placeWhole l))))
-          ≡ rowResult (rowIn t (pick b (placeOf l k) (pick c places (placeWhole l))))
-      go true c = refl
-      go false true = sym past-last
-      go false false = refl
+  lookup-asked l None enforce = asked-whole t past-last l enforce
+  lookup-asked l (Some k) enforce = asked-within t past-last l k enforce
 
   -- so the row of that place is what is found
   pub lookup-at : (l : CpuidFunction) (sub : Subleaf) (enforce : Bool) (i : ℕ) → i ≡ placeAsked l sub enforce

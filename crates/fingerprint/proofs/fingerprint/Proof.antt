@@ -5,8 +5,7 @@ use lib.ListN.{length-take, length-replicate}
 use denote.Ref.{now}
 use borrow.Author.Needs.{needs}
 use Rattle.memory.specs.Held.{heldIn}
-use Rattle.fingerprint.specs.Fingerprint.{fingerprint}
-use Rattle.fingerprint.specs.FingerprintLaws.{image-fits, array-kept, image-in-front}
+use Rattle.fingerprint.specs.FingerprintLaws.{digest-of-image, image-fits, array-kept, image-in-front}
 use Rattle.fingerprint.proofs.fingerprint.Statement.{statement}
 use Rattle.fingerprint.proofs.fingerprint.Tie as tie
 
@@ -23,12 +22,11 @@ slice-aggregate-sha256 c =
     simp length-take (omega (arith, n .ensures (now (a .registers)), image-fits t, array-kept t _ refl (c .before .before .write-table .ensures .1)))
 
 returns : tie.Need-returns
-unfolding fingerprint
 returns c =
     let w = c .before .before .before .before in
     let i = w .before .before in let n = i .image-length in let a = i .before .args in
     let t = heldIn (now (a .registers)) (now (a .origins)) in
-    rw (c .sha256 .ensures, image-in-front t _ refl (w .write-table .ensures .1) (n .ensures (now (a .registers))))
+    c .sha256 .ensures ∙ digest-of-image t (image-in-front t _ refl (w .write-table .ensures .1) (n .ensures (now (a .registers))))
 
 pub fingerprint-spec : {M : Type 1} → statement M
 fingerprint-spec =

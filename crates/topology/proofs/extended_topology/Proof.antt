@@ -7,6 +7,14 @@ use Rattle.topology.specs.TopologyLaws.{one-agrees, one-differs, legacy-
 use Rattle.topology.proofs.extended_topology.Statement.{statement}
 use Rattle.topology.proofs.extended_topology.Tie as tie
 
+-- with s = 0 and older fields that differ
+returns-4 : tie.Need-returns-4
+returns-4 c = legacy-differs _ _ _ _ _ (c .before .before .if1 .taken) (c .before .if2 .left) (c .if4 .left)
+
+-- with s from 8 on, which has nothing to be compared with
+returns-8 : tie.Need-returns-8
+returns-8 c = size-decides _ _ _ _ _ (one-shifted _ (omega arith)) (c .before .before .if1 .left) (c .before .if5 .left) (c .threads-in4 .ensures)
+
 pub extended-topology-spec : {M : Type 1} → statement M
 extended-topology-spec =
     tie.close
@@ -27,7 +35,7 @@ extended-topology-spec =
     (λ c.
     let mt = c .before .before in
     legacy-agrees _ _ _ _ _ (mt .before .if1 .taken) (mt .if2 .left) (c .before .if4 .taken) (c .threads-in2 .ensures))
-    (λ c. legacy-differs _ _ _ _ _ (c .before .before .if1 .taken) (c .before .if2 .left) (c .if4 .left))
+    returns-4
     (λ c. search needs)
     (λ c κs. search needs)
     (λ c κs. search needs)
@@ -46,4 +54,4 @@ extended-topology-spec =
     counts-differ _ _ _ _ _ (one-shifted _ (omega arith)) (size .before .if1 .left) (size .if5 .taken)
     (sym (c .before .counts-agree .ensures) ∙ c .if6 .left))
     (λ c κs. search needs)
-    (λ c. size-decides _ _ _ _ _ (one-shifted _ (omega arith)) (c .before .before .if1 .left) (c .before .if5 .left) (c .threads-in4 .ensures)))
+    returns-8)
