@@ -5,7 +5,7 @@
   crates/table/src/lib.rt, numbers.rt      the cases of `Refusal`, the arms of `refusal_numbers`
   crates/table/specs, proofs               `details`, `refusalWith`, `refusal-told`; the proof of `refusal_numbers`, the whole file
   crates/lines/src, specs                  what each number names; `only-named`
-  crates/answers/specs/Told.antt           `RefusalTold`, and the two laws on it
+  crates/answers/specs/Told.antt, ToldProof.antt    `RefusalTold`, and the two laws on it
   crates/letter, crates/nearest_exactly    one line for each case that has none of its own
 What the definitions say is proved against `carried` of crates/letter/specs/Paper.antt, which is written by hand, as are the models. The cases of
 `TopologyError`, crates/topology, stand under one case of `Refusal`. interface.py --write comes after this.
@@ -19,7 +19,7 @@ from refusal_list import listed
 
 ROOT = Path(__file__).resolve().parents[2]
 NESTED = 'TopologyInconsistent'
-TOLD, NEAREST = 'crates/answers/specs/Told.antt', 'crates/nearest_exactly/specs/NearestExactly'
+TOLD, NEAREST = 'crates/answers/specs/Told', 'crates/nearest_exactly/specs/NearestExactly'
 TYPES = {'leaf': 'CpuidFunction', 'subleaf': 'Subleaf', 's': 'u8'}
 
 
@@ -127,8 +127,8 @@ def named(case, words):
     return words[len(case.details) if case.details != ['s'] else 3]
 
 
-def told(every, text):
-    """The three lists of Told.antt: 3 may name a subleaf or not, and so has two rows."""
+def told(every):
+    """The list of Told.antt and the two of its proof: 3 may name a subleaf or not, and so has two rows."""
     rows, given, back = '', '', ''
     for case in every:
         both = case.details == ['leaf', 'subleaf']
@@ -143,9 +143,7 @@ def told(every, text):
             rows += f'  told-{case.number}{suffix} : {arrow}RefusalTold {case.pattern(*words)} {numbers}\n'
             given += f'refusal-in {case.pattern(*words)} = {name}\n'
             back += f'refusal-back {f"({name})" if " " in name else name} = refl\n'
-    text = replaced(TOLD, text, r'(?:^  told-\d+.*\n)+', rows)
-    text = replaced(TOLD, text, r'(?:^refusal-in .* = .*\n)+', given)
-    return replaced(TOLD, text, r'(?:^refusal-back .* = .*\n)+', back)
+    return rows, given, back
 
 
 def others(path, text, head, tail, every, names):
@@ -193,7 +191,11 @@ def made(root):
     of('crates/lines/specs/NumbersNamed.antt', lambda path, text: clauses(path, text, 'only-named', ' = refl', expanded))
     of('crates/letter/specs/Paper.antt')
     of('crates/letter/specs/ImageProof.antt', lambda path, text: clauses(path, text, 'carried-same', ' = refl', expanded))
-    of(TOLD, lambda path, text: told(every, text))
+    rows, given, back = told(every)
+    of(f'{TOLD}.antt', lambda path, text: replaced(path, text, r'(?:^  told-\d+.*\n)+', rows))
+    of(f'{TOLD}Proof.antt',
+       lambda path, text: replaced(path, text, r'(?:^refusal-in .* = .*\n)+', given),
+       lambda path, text: replaced(path, text, r'(?:^refusal-back .* = .*\n)+', back))
     of(f'{NEAREST}.antt', lambda path, text: others(path, text, 'GivenFor c s', ' = ⊥', every, names))
     of(f'{NEAREST}Proof.antt', lambda path, text: others(path, text, '  refusal-given', ' f = absurd f', every, names))
     return every, read

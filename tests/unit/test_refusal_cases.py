@@ -40,7 +40,7 @@ class Cases(unittest.TestCase):
     def test_a_further_refusal(self):
         self.add()
         status, said = self.asked('--check')
-        self.assertEqual((status, said.count('is not as made')), (1, 13))
+        self.assertEqual((status, said.count('is not as made')), (1, 14))
         self.assertEqual(self.asked('--write')[0], 0)
         self.assertEqual(self.asked('--check')[0], 0)
         self.has('crates/table/src/lib.rt', '    NothingDecides,\n    GuestGone,')
@@ -51,8 +51,8 @@ class Cases(unittest.TestCase):
                  'returns-19 c = rw (c .before .enum-told16 .given .1) (c .sized16 .ensures)')
         self.has('crates/lines/src/bytes/names.rt', 'const NUMBERS: usize = 22;', '    NOTHING, // 21')
         self.has('crates/lines/specs/NumbersInUse.antt', '    nothing ∷  -- 21')
-        self.has('crates/answers/specs/Told.antt', '  told-21 : RefusalTold GuestGone 21 0 0 0 0',
-                 'refusal-in GuestGone = told-21', 'refusal-back told-21 = refl')
+        self.has('crates/answers/specs/Told.antt', '  told-21 : RefusalTold GuestGone 21 0 0 0 0')
+        self.has('crates/answers/specs/ToldProof.antt', 'refusal-in GuestGone = told-21', 'refusal-back told-21 = refl')
         self.has('crates/nearest_exactly/specs/NearestExactly.antt', 'GivenFor c s GuestGone = ⊥')
         self.has('crates/nearest_exactly/specs/NearestExactlyProof.antt', '  refusal-given GuestGone f = absurd f')
         # what has a line of its own is left alone
