@@ -114,7 +114,8 @@ module _ (w o : List ℕ) (x : ℕ) (c : Components o x) {out₀ : List ℕ} {at
 
       -- the row of the lowest component that is left comes first of those that are left
       component-more : {r : CpuidResult} → r ≡ rowOf w (Place.extendedState z)
-          → rowsFrom (heldIn w o) (Place.extendedState z) ≡ indexedRow ExtendedStateEnumeration z r ++ rowsFrom (heldIn w o) (Place.extendedState z + 1)
+          → rowsFrom (heldIn w o) (Place.extendedState z)
+          ≡ indexedRow ExtendedStateEnumeration z r ++ rowsFrom (heldIn w o) (Place.extendedState z + 1)
       component-more {r} e =
           let there : true ≡ isThere (getD o (Place.extendedState z) 0) =
           sym (c .there z (omega (arith, p .low, putting-taken .from)) (putting-taken .inside) ∙ putting-taken .here) in
@@ -139,7 +140,8 @@ module _ (w o : List ℕ) (x : ℕ) (c : Components o x) {out₀ : List ℕ} {at
           → out′ ≡ sets out at (indexedRow ExtendedStateEnumeration z r)
           → Putting w o x out₀ at₀ out′ (at + 25) (bitAnd left (left - 1))
       putting-next {r} {out′} e f =
-          let on = onward-piece (rowsFrom (heldIn w o)) (indexedRow ExtendedStateEnumeration z r) (Place.extendedState z) (component-more e) out out′ at f in
+          let row : List ℕ = indexedRow ExtendedStateEnumeration z r in
+          let on = onward-piece (rowsFrom (heldIn w o)) row (Place.extendedState z) (component-more e) out out′ at f in
           let one : Place.extendedState (z + 1) ≡ Place.extendedState z + 1 = omega arith in
           record {
             upto = z + 1;

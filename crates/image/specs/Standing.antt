@@ -33,7 +33,11 @@ stands x i = pick (component i) (has (i - Place.extendedState 0) x) true
 pub component-stands : (x k : ℕ) → 2 ≤ k → k < 64 → stands x (Place.extendedState k) ≡ has k x
 component-stands x k low high =
     let back : Place.extendedState k - Place.extendedState 0 ≡ k = omega arith in
-    rw (le-leb (Place.extendedState 2) (Place.extendedState k) (omega arith), lt-ltb (Place.extendedState k) (Place.extendedState 64) (omega arith), back)
+    rw (
+      le-leb (Place.extendedState 2) (Place.extendedState k) (omega arith),
+      lt-ltb (Place.extendedState k) (Place.extendedState 64) (omega arith),
+      back,
+    )
 
 -- what remains, for any entries
 abbrev kept : ℕ → (ℕ → Bool) → ℕ → Bool

@@ -117,7 +117,7 @@ fn put_run(
     at
 }
 
-// Writes the rows of the components that are there, from index `from` on, and gives the index after them.
+// Writes the rows of the components that are there, from index `from` on, and gives the index after them. The contract alone needs `origins`.
 fn put_components(
     registers: &[u32; REGISTERS],
     origins: &[u64; PLACES],

@@ -44,7 +44,8 @@ loop-again : tie.Need-loop-again Inv-loop μ-loop
 loop-again c =
     let put = c .before .before in
     let l = put .before .before .before in let s = l .before in
-    putting-next _ _ _ (s .before .before .pre .0) (s .loop .inv) (l .loop-test .taken) (put .before .before .row-at .ensures) (put .put-indexed-row .ensures)
+    putting-next _ _ _ (s .before .before .pre .0) (s .loop .inv) (l .loop-test .taken)
+    (put .before .before .row-at .ensures) (put .put-indexed-row .ensures)
 
 same-length : tie.Need-same-length Inv-loop μ-loop
 same-length c = c .before .loop .inv .onward .kept

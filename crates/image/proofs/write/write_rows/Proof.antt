@@ -21,7 +21,8 @@ returns-2 : tie.Need-returns-2
 returns-2 c =
     let put = c .before .before in
     let s = put .before .before .before .before in let a = s .args in
-    rw (front-whole (image (heldIn (a .registers .now) (a .origins .now))) (a .out .now) (omega (arith, s .pre .1))) (ap Bytes (s .pre .1), put .put-rows .ensures)
+    rw (front-whole (image (heldIn (a .registers .now) (a .origins .now))) (a .out .now) (omega (arith, s .pre .1)))
+    (ap Bytes (s .pre .1), put .put-rows .ensures)
 
 pub write-rows-spec : {M : Type 1} → statement M
 write-rows-spec = tie.close (tie.spec returns put-rows-requires (λ c. search needs) returns-2)
