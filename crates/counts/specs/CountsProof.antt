@@ -1,31 +1,24 @@
 -- The proofs of the statements of Counts.
-use mathlib.Core.Path.{_≡_, ap}
+use mathlib.Core.Path.{_≡_}
 use mathlib.Core.List.{List}
 use Prim.Native.Nat.{ℕ, _≤_, _<_}
 use lib.ListN.{length}
 use native.Mathlib.Omega.{arith}
 use Rattle.masking.specs.Kept.{places}
 use Rattle.table.specs.declared.Choices.{Choices}
-use Rattle.table.specs.declared.Verdict.{Verdict}
 use Rattle.table.specs.declared.Verdict.the-variants.{Accepted}
 use Rattle.table.specs.Rows.{Rows}
 use Rattle.checks.specs.ExtendedState.{combinedMask}
 use Rattle.features.specs.Finish.{finished}
-use Rattle.checks.specs.ChecksLaws.{then-right, AllPass, all-pass}
 use Rattle.table.specs.Table.{tableOf}
-use Rattle.finish.specs.RowsBuilt.{tableFor}
-use Rattle.build.specs.Build.{rowsFor, editionVerdict, verdictOf, answer}
-use Rattle.collect.specs.Lawful.{lawfulVerdict}
+use Rattle.build.specs.Build.{rowsFor, answer}
 use Rattle.image.specs.Image.{image}
 use Rattle.counts.specs.Counts.{Counted, RowsCounted, SinglePageRefused}
-use Rattle.counts.specs.Standing.{stands, row-stands}
+use Rattle.image.specs.Standing.{stands, row-stands}
+use Rattle.image.specs.AcceptedLaws.{rows-pass, accepted-table}
 use Rattle.counts.specs.Sizes.{rows-count, bytes-count}
 use Rattle.counts.specs.Mask.{mask-within, components-most}
 use Rattle.counts.specs.SinglePage.{single-refused}
-
-rows-pass : (chosen : Choices) (s : List ℕ) → answer chosen s .verdict ≡ Accepted → AllPass (rowsFor chosen s)
-unfolding answer verdictOf
-rows-pass chosen s e = all-pass (rowsFor chosen s) (then-right (lawfulVerdict s) _ (then-right (editionVerdict (chosen .edition)) _ e))
 
 pub rows-counted : RowsCounted
 unfolding answer
@@ -40,7 +33,7 @@ rows-counted chosen s e = record {
     m = rowsFor chosen s
 
     table : answer chosen s .table ≡ tableOf (finished (chosen .edition) m) (combinedMask m)
-    table = ap (λ (v : Verdict). tableFor (chosen .edition) v m) e
+    table = accepted-table chosen s e
 
     standing : (i : ℕ) → i < places → finished (chosen .edition) m i .present ≡ stands (combinedMask m) i
     standing = row-stands (chosen .edition) m (rows-pass chosen s e)

@@ -1,6 +1,4 @@
 pub mod Counts
-pub mod Standing
-pub mod Sums
 pub mod Sizes
 pub mod Mask
 pub mod SinglePage

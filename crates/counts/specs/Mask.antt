@@ -19,7 +19,7 @@ use Rattle.table.specs.Rows.{Row, Rows, vacant}
 use Rattle.checks.specs.ExtendedState.{xfem, xss, combinedMask}
 use Rattle.collect.specs.FirstEntries.{firstAt, legacyFeatures, maskedAt, maskRow, rowsOf}
 use Rattle.counts.specs.Counts.{componentsIn}
-use Rattle.counts.specs.Sums.{sum-mono}
+use Rattle.image.specs.Sums.{sum-mono}
 
 -- ---- the mask
 

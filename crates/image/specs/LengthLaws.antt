@@ -1,22 +1,28 @@
 -- How many bytes an image has: the rows are counted in stretches of places whose rows are equally long.
-use mathlib.Core.Path.{_≡_, refl, ap}
+use mathlib.Core.Path.{_≡_, refl, sym, ap, _∙_}
 use mathlib.Core.Bool.{Bool, true, false}
 use mathlib.Core.List.{List, []}
-use Prim.Native.Nat.{ℕ, zero, suc, _+_, _-_, _*_, _≤_}
+use Prim.Native.Nat.{ℕ, zero, suc, _+_, _-_, _*_, _/_, _^_, _≤_, _<_}
 use native.Mathlib.Nat.{add-zero, sub-self, mul-add}
 use native.Mathlib.Omega.{arith}
+use lib.Count.{ones}
 use lib.Dec.{eqb, lit≤}
 use lib.ListN.{length, getD, length-append}
 use borrow.Author.Tests.{eqb-true}
 use Rattle.bits.specs.Choice.{pick}
 use Rattle.bits.specs.ChoiceLaws.{and-left, and-right}
+use Rattle.bits.specs.Bits.{has}
 use Rattle.bits.specs.Lists.{sumTo, one}
+use Rattle.bits.specs.ListsLaws.{sum-ext}
 use Rattle.bits.specs.Search.{every}
 use Rattle.masking.specs.Kept.{keptLeaves, slot, places, indexedAt}
 use Rattle.masking.specs.Place
 use Rattle.table.specs.declared.CpuidResults.{CpuidResults}
 use Rattle.table.specs.Rows.{Row}
 use Rattle.table.specs.Table.{rowIn}
+use Rattle.memory.specs.Held.{heldIn, flags, flag-at}
+use Rattle.image.specs.Components.{Components}
+use Rattle.image.specs.ComponentsLaws.{ones-sum}
 use Rattle.image.specs.Image.{placeBytes, image}
 use Rattle.image.specs.ImagePieces.{rowsFrom, rowsAmong}
 use Rattle.image.specs.PiecesLaws.{rows-more, rows-all, rows-none}
@@ -33,6 +39,23 @@ among-more p first i h =
     let d : i + 1 - first ≡ suc (i - first) = omega arith in
     let e : first + (i - first) ≡ i = omega arith in
     rw (d, e)
+
+among-split : (p : List Bool) (first i n : ℕ) → first ≤ i → rowsAmong p first (i + n) ≡ rowsAmong p first i + rowsAmong p i (i + n)
+among-split p first i zero h = rw (add-zero, among-none p i) (omega arith)
+among-split p first i (suc n) h =
+    let q : i + suc n ≡ i + n + 1 = omega arith in
+    rw q (omega (arith, among-split p first i n h, among-more p first (i + n) (omega arith), among-more p i (i + n) (omega arith)))
+
+-- the components, by the ones of the word that tells which of them have a row
+components-among : (o : List ℕ) (x : ℕ) → Components o x → x < 2 ^ 64
+    → rowsAmong (flags o) (Place.extendedState 2) Place.extendedMaxFunction ≡ ones (x / 2 ^ 2)
+unfolding rowsAmong
+components-among o x c h = sum-ext _ _ 62 (λ k l. ap one (at k l)) ∙ sym (ones-sum x h)
+  where
+    at : (k : ℕ) → k < 62 → getD (flags o) (Place.extendedState 2 + k) false ≡ has (2 + k) x
+    at k l =
+        let q : Place.extendedState 2 + k ≡ Place.extendedState (2 + k) = omega arith in
+        rw q (flag-at o (Place.extendedState (2 + k)) (omega arith) ∙ c .there (2 + k) (omega arith) (omega arith))
 
 -- ---- how many bytes
 
@@ -88,3 +111,22 @@ module _ (t : CpuidResults) where
         stretch 21 Place.processorTopologyDefinition 2 (lit≤ tt) refl,
         ap length (rows-none t),
       )
+
+-- the same with the components by their word
+pub components-length : (w o : List ℕ) (x : ℕ) → Components o x → x < 2 ^ 64
+    → length (image (heldIn w o))
+    ≡ 21
+    * (rowsAmong (flags o) 0 Place.extendedFeatures
+    + rowsAmong (flags o) Place.extendedMaxFunction (Place.cacheTopology 0)
+    + rowsAmong (flags o) Place.processorTopologyDefinition places)
+    + 25
+    * (rowsAmong (flags o) Place.extendedFeatures (Place.extendedState 2)
+    + rowsAmong (flags o) (Place.cacheTopology 0) Place.processorTopologyDefinition
+    + ones (x / 2 ^ 2))
+components-length w o x c h =
+    omega (
+      arith,
+      image-length (heldIn w o),
+      among-split (flags o) Place.extendedFeatures (Place.extendedState 2) 62 (lit≤ tt),
+      components-among o x c h,
+    )

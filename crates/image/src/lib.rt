@@ -9,6 +9,7 @@ ghost use Rattle.masking.specs.Kept.{places};
 ghost use Rattle.memory.specs.Held.{heldIn, flags};
 ghost use Rattle.image.specs.Image.{image};
 ghost use Rattle.image.specs.ImagePieces.{rowsAmong};
+ghost use Rattle.image.specs.Components.{Components};
 use masking::PLACES;
 use masking::place;
 use memory::is_there;
@@ -19,8 +20,19 @@ pub mod write;
 // The first place of a leaf from 80000000h on.
 const EXTENDED: usize = place::EXTENDED_MAX_FUNCTION;
 
-// How many bytes the image of a table has: 25 for a row with a subleaf, 21 for one without.
+// The first place of a component. Components are the subleaves of leaf Dh from 2 up.
+const COMPONENTS: usize = place::EXTENDED_STATE_0 + 2;
+
+// How many bytes the image of a table has.
 pub fn image_length(origins: &[u64; PLACES]) -> usize
+    ensures { λ r. ⌜ ((w : List ℕ) → r ≡ length (image (heldIn w (now (origins .entry))))) ⌝ }
+{
+    length_with(origins, components_there(origins))
+}
+
+// The same where it is known which components have a row: 25 bytes for a row with a subleaf, 21 for one without.
+pub fn length_with(origins: &[u64; PLACES], components: u64) -> usize
+    requires { ⌜ Components (now origins) components ⌝ }
     ensures { λ r. ⌜ ((w : List ℕ) → r ≡ length (image (heldIn w (now (origins .entry))))) ⌝ }
 {
     let whole = rows_among(
@@ -30,13 +42,27 @@ pub fn image_length(origins: &[u64; PLACES]) -> usize
     )
         + rows_among(origins, EXTENDED, place::CACHE_TOPOLOGY_0)
         + rows_among(origins, place::PROCESSOR_TOPOLOGY_DEFINITION, PLACES);
-    let indexed = rows_among(origins, place::EXTENDED_FEATURES, EXTENDED)
+    let indexed = rows_among(origins, place::EXTENDED_FEATURES, COMPONENTS)
         + rows_among(
             origins,
             place::CACHE_TOPOLOGY_0,
             place::PROCESSOR_TOPOLOGY_DEFINITION,
         );
-    21 * (whole as usize) + 25 * (indexed as usize)
+    21 * whole as usize + 25 * (indexed as usize + u64::count_ones(components >> 2) as usize)
+}
+
+// Which components have a row: bit k for subleaf k of leaf Dh. Bits 0 and 1 tell of subleaves 0 and 1, which are no components.
+pub fn components_there(origins: &[u64; PLACES]) -> u64
+    ensures { λ r. ⌜ Components (now (origins .entry)) r ⌝ }
+{
+    let mut components: u64 = 0;
+    let mut k: usize = 64;
+    while k > 0 {
+        k -= 1;
+        let origin = origins[place::EXTENDED_STATE_0 + k];
+        components = 2 * components + is_there(origin) as u64;
+    }
+    components
 }
 
 // How many of the places from `first` up to `end` have a row. The count is a byte, so that many can be added at once.

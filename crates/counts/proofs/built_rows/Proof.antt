@@ -3,7 +3,8 @@ use borrow.Author.Needs.{needs}
 use mathlib.Core.Path.{refl, ap}
 use native.Mathlib.Omega.{arith}
 use Prim.Native.Nat.{ℕ, _+_}
-use Rattle.counts.specs.BuiltRows.{builtRows, components-ones, components-few}
+use Rattle.image.specs.ComponentsLaws.{ones-few}
+use Rattle.counts.specs.BuiltRows.{builtRows, components-ones}
 use Rattle.counts.proofs.built_rows.Statement.{statement}
 use Rattle.counts.proofs.built_rows.Tie as tie
 
@@ -20,8 +21,8 @@ built-rows-spec =
     tie.close
     (tie.spec
     (λ c. search needs)
-    (λ c. record { fits = omega (arith, components-few (c .before .before .args .mask) (search needs)) })
-    (λ c. record { fits = omega (arith, components-few (c .before .before .args .mask) (search needs)) })
+    (λ c. record { fits = omega (arith, ones-few (c .before .before .args .mask) (search needs)) })
+    (λ c. record { fits = omega (arith, ones-few (c .before .before .args .mask) (search needs)) })
     (λ c. search needs)
     returns
     returns-2)

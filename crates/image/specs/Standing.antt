@@ -4,7 +4,7 @@ use mathlib.Core.Bool.{Bool, true, false, _&&_, _||_}
 use Prim.Native.Nat.{ℕ, _-_, _≤_, _<_}
 use native.Mathlib.Omega.{arith}
 use lib.Dec.{ltb, leb}
-use borrow.Author.Tests.{ltb-true, leb-true}
+use borrow.Author.Tests.{ltb-true, leb-true, lt-ltb, le-leb}
 use Rattle.bits.specs.Choice.{pick}
 use Rattle.bits.specs.ChoiceLaws.{and-left, and-right, and-implied}
 use Rattle.bits.specs.Search.{every}
@@ -29,6 +29,15 @@ component i = leb (Place.extendedState 2) i && ltb i (Place.extendedState 64)
 -- whether a table with combined mask x has a row at place i
 abbrev pub stands : ℕ → ℕ → Bool
 stands x i = pick (component i) (has (i - Place.extendedState 0) x) true
+
+pub component-stands : (x k : ℕ) → 2 ≤ k → k < 64 → stands x (Place.extendedState k) ≡ has k x
+component-stands x k low high =
+    let back : Place.extendedState k - Place.extendedState 0 ≡ k = omega arith in
+    rw (
+      le-leb (Place.extendedState 2) (Place.extendedState k) (omega arith),
+      lt-ltb (Place.extendedState k) (Place.extendedState 64) (omega arith),
+      back,
+    )
 
 -- what remains, for any entries
 abbrev kept : ℕ → (ℕ → Bool) → ℕ → Bool
