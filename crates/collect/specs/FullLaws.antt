@@ -11,24 +11,22 @@ use lib.Dec.{eqb, leb, ltb}
 use lib.Bits.{bitAnd, bitOr, and-mask}
 use lib.Pow.{pow-mono}
 use lib.ListN.{length, getD, set}
-use borrow.Author.Tests.{eqb-true, eqb-false, leb-true, ltb-true, ltb-false, lt-ltb, le-ltb, ne-eqb, eq-eqb}
+use borrow.Author.Tests.{eqb-true, eqb-false, leb-true, ltb-true, ltb-false, ne-eqb, eq-eqb}
 use Rattle.bits.specs.Choice.{pick}
-use Rattle.bits.specs.ChoiceLaws.{and-left, and-right, if-holds, pick-true, pick-false}
+use Rattle.bits.specs.ChoiceLaws.{and-left, and-right, if-holds}
 use Rattle.bits.specs.Bits.{bit, has}
 use Rattle.bits.specs.BitsLaws.{bit-lt, bit-or, bit-zero, bit-suc, zero-bit, has-bit, bit-has}
-use Rattle.bits.specs.Lists.{tabulate}
 use Rattle.bits.specs.Search.{every}
 use Rattle.bits.specs.SearchLaws.{every-at}
 use Rattle.x86defs.specs.declared.CpuidFunction.{CpuidFunction}
 use Rattle.x86defs.specs.Functions.{function, VendorAndMaxFunction, ExtendedMaxFunction}
 use Rattle.masking.specs.Kept.{keptLeaves, places, placeOf, slot, leafAt, subleafAt}
 use Rattle.masking.specs.KeptLaws.{entry-belongs, firstPlace, place-from-first}
-use Rattle.masking.specs.PlaceOfLaws.{subleaf-run}
 use Rattle.pages.specs.declared.ParsedCpuidEntry.{ParsedCpuidEntry}
 use Rattle.pages.specs.Parsed.{countsRead}
 use Rattle.memory.specs.Memory.{isThere}
 use Rattle.memory.specs.MemoryLaws.{set-at}
-use Rattle.collect.specs.Collect.{countedPlace, counted-dh}
+use Rattle.collect.specs.Collect.{countedPlace}
 use Rattle.collect.specs.Full.{leafNumber, Full, FullLeaves, RowsFrom, HasRow, Passed, Asked}
 
 -- ---- the number of a leaf
@@ -77,15 +75,18 @@ made-none l k e = go (eqb (l .0) 0) refl e
     go true f g = ap (λ (n : ℕ). placeOf (function n) k) (eqb-true (l .0) 0 f)
     go false f g = ap (λ (n : ℕ). placeOf (function n) k) (eqb-true (l .0) 0x80000000 g)
 
--- the bits of all other leaves are clear
-pub not-kept-full : (o : List ℕ) → FullLeaves o 0x57D7FFFFFB9D1153
-unfolding slot keptLeaves leafNumber has bit
-not-kept-full o = record { at = λ l e. record { at = λ k h. absurd (none l k e h) } }
+-- whether a number has no bit of a leaf that a table keeps entries of
+unfoldable pub noneKept : ℕ → Bool
+noneKept n = every (λ i. made (leafAt i) || not (has (leafNumber (leafAt i)) n)) places
+
+pub none-kept-full : (o : List ℕ) (n : ℕ) → noneKept n ≡ true → FullLeaves o n
+unfolding noneKept
+none-kept-full o n t = record { at = λ l e. record { at = λ k h. absurd (none l k e h) } }
   where
-    none : (l : CpuidFunction) (k : ℕ) → has (leafNumber l) 0x57D7FFFFFB9D1153 ≡ true → placeOf l k < places → ⊥
-    none l k e h = go (made l) refl (at-place (λ x i. made x || not (has (leafNumber x) 0x57D7FFFFFB9D1153)) refl l k h)
+    none : (l : CpuidFunction) (k : ℕ) → has (leafNumber l) n ≡ true → placeOf l k < places → ⊥
+    none l k e h = go (made l) refl (at-place (λ x i. made x || not (has (leafNumber x) n)) t l k h)
       where
-        go : (b : Bool) → made l ≡ b → (b || not (has (leafNumber l) 0x57D7FFFFFB9D1153)) ≡ true → ⊥
+        go : (b : Bool) → made l ≡ b → (b || not (has (leafNumber l) n)) ≡ true → ⊥
         go true f g = let z : placeOf l k ≡ places = made-none l k f in omega (arith, h, z)
         go false f g = false≢true (sym (ap not e) ∙ g)
 
@@ -190,24 +191,15 @@ counted-is-place e h = go (countsRead e) h
     go true h = refl
     go false h = absurd (omega (arith, h))
 
--- leaf Dh on page 1
-module _ (e : ParsedCpuidEntry) (l : e .leaf .0 ≡ 0xD) (p : e .page ≡ 1) where
-  state-place : pick (ltb (e .subleaf) 64) (6 + e .subleaf) places ≡ countedPlace e
-  unfolding placeOf keptLeaves tabulate
-  state-place = counted-dh e l p (subleaf-run 6 64 (e .subleaf) l refl refl refl)
-
-  pub state-found : e .subleaf < 64 → 6 + e .subleaf ≡ countedPlace e
-  state-found h = sym (pick-true _ _ (lt-ltb _ _ h)) ∙ state-place
-
-  pub state-none : 64 ≤ e .subleaf → places ≡ countedPlace e
-  state-none h = sym (pick-false _ _ (le-ltb _ _ h)) ∙ state-place
-
 module _ {n : ℕ} {e : ParsedCpuidEntry} {o : List ℕ} where
   pub asked-found : {r : ℕ} → r ≡ countedPlace e → Asked n e o r
   asked-found q = record { found = λ h. q; passed = λ h f. record { there = λ g. absurd (omega (arith, q, h, g)) } }
 
-  pub asked-none : (FullLeaves o n → Passed o e) → Asked n e o places
+  asked-none : (FullLeaves o n → Passed o e) → Asked n e o places
   asked-none p = record { found = λ h. absurd (omega (arith, h)); passed = λ h f. p f }
+
+  pub asked-beyond : places ≤ countedPlace e → Asked n e o places
+  asked-beyond h = asked-none (λ f. record { there = λ g. absurd (omega (arith, g, h)) })
 
   pub asked-full : has (leafNumber (e .leaf)) n ≡ true → Asked n e o places
   asked-full q = asked-none (λ f. record {

@@ -35,9 +35,6 @@ pub const LEGACY_FEATURES: u32 = 3;
 
 const WORD: u32 = 0xFFFF_FFFF;
 
-// How many subleaves of leaf Dh have a place.
-const STATES: u32 = 64;
-
 // Refusals 1, 2 and 17, in this order: whether length and counts of the pages are lawful, and their reserved bytes zero. The same walk stores the masked
 // first entries and where each stands in memory that comes without rows. Pages that are not lawful leave it without rows.
 pub fn walk_pages(
@@ -139,12 +136,10 @@ fn asked_place(full: u64, entry: ParsedCpuidEntry, origins: &[u64; PLACES]) -> u
         return PLACES;
     }
     if leaf.0 == leaf::EXTENDED_STATE_ENUMERATION {
-        if entry.page == 1 {
-            if entry.subleaf < STATES {
-                let place = place::EXTENDED_STATE_0 + entry.subleaf as usize;
-                if origins[place] == 0 {
-                    return place;
-                }
+        let place = counted_place(entry);
+        if place < PLACES {
+            if origins[place] == 0 {
+                return place;
             }
         }
         return PLACES;

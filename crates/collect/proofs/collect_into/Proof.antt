@@ -9,7 +9,11 @@ use Rattle.pages.specs.Layout.{pagesIn, countOf}
 use Rattle.reader.specs.Walk.{incremented, rest}
 use Rattle.reader.specs.WalkLaws.{turn}
 use Rattle.reader.specs.ReadLaws.{read-entry}
+use Rattle.bits.specs.Bits.{bit, has}
+use Rattle.masking.specs.Kept.{keptLeaves, slot}
 use Rattle.collect.specs.OriginsLaws.{number-fits}
+use Rattle.collect.specs.Full.{leafNumber}
+use Rattle.collect.specs.FullLaws.{noneKept}
 use Rattle.collect.specs.WalkingLaws.{Walking, walking-first, walking-last, walking-stops, AtEntry, walking-falls, walking-leaves, walking-stays}
 use Rattle.collect.proofs.collect_into.Statement.{statement}
 use Rattle.collect.proofs.collect_into.Tie as tie
@@ -27,7 +31,8 @@ abbrev μ-loop : tie.MeasureT-loop
 μ-loop pages registers₀ origins₀ n index₀ full₀ registers origins index full = pagesIn pages - index .«page_index»
 
 loop-holds : tie.Need-loop-holds Inv-loop2 μ-loop2 Inv-loop μ-loop
-loop-holds c = let z = c .before .before .before .pre .1 in rw (c .start .ensures, z .0, z .1) (walking-first _)
+unfolding noneKept leafNumber slot keptLeaves has bit
+loop-holds c = let z = c .before .before .before .pre .1 in rw (c .start .ensures, z .0, z .1) (walking-first _ _ refl)
 
 count-of-requires : tie.Need-count-of-requires Inv-loop2 μ-loop2 Inv-loop μ-loop
 count-of-requires c κs = rw (c .before .before .before .before .page-count .ensures) at (c .if1 .taken)
