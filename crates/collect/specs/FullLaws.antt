@@ -212,8 +212,8 @@ module _ {n : ℕ} {e : ParsedCpuidEntry} {o : List ℕ} where
   asked-there q z = asked-none (λ f. record { there = λ h. subst (λ (j : ℕ). getD o j 0 ≢ 0) q z })
 
 -- an entry whose place has a row
-pub has-row : (o : List ℕ) (e : ParsedCpuidEntry) {i : ℕ} → i ≡ countedPlace e → i < places → getD o i 0 ≢ 0 → HasRow o (e .leaf) (e .subleaf) × Passed o e
-has-row o e {i} q h z =
+pub row-there : (o : List ℕ) (e : ParsedCpuidEntry) {i : ℕ} → i ≡ countedPlace e → i < places → getD o i 0 ≢ 0 → HasRow o (e .leaf) (e .subleaf) × Passed o e
+row-there o e {i} q h z =
     let same : i ≡ placeOf (e .leaf) (e .subleaf) = q ∙ counted-is-place e (subst (λ (x : ℕ). x < places) q h) in (
       record { kept = subst (λ (x : ℕ). x < places) same h; there = subst (λ (x : ℕ). getD o x 0 ≢ 0) same z },
       record { there = λ g. subst (λ (x : ℕ). getD o x 0 ≢ 0) q z },

@@ -74,10 +74,11 @@ start c = turned c .before .before .before .before .before .before .before .befo
 at-entry : (c : Turned) → AtEntry (now (start c .args .pages)) (turned c .loop2 .registers) (turned c .loop2 .origins) (turned c .loop2 .full)
     (turned c .loop2 .index) (c .before .before .before .before .before .read .given .0 .0)
 at-entry c =
-    let read = read-entry _ _ (sym (c .before .before .before .before .before .read .given .1) ∙ taken c .take .ensures) in
+    let k = taken c in
+    let read = read-entry _ _ (sym (c .before .before .before .before .before .read .given .1) ∙ k .take .ensures) in
     record {
       walking = turned c .loop2 .inv .0;
-      inside = take-requires (turned c) (taken c .take .lifetimes) .inside .page;
+      inside = take-requires (turned c) (k .take .lifetimes) .inside .page;
       entry = read .0;
       clean = read .1;
     }
