@@ -2,9 +2,9 @@
 -- law of the leaves' numbers and places is one computed test over the 88 places.
 use mathlib.Core.Path.{_≡_, refl, sym, ap, _∙_, subst}
 use mathlib.Core.Bool.{Bool, true, false, not, _&&_, _||_, false≢true}
-use mathlib.Core.List.{List, [], _∷_}
+use mathlib.Core.List.{List}
 use mathlib.Core.Logic.{_≢_}
-use Prim.Native.Nat.{ℕ, zero, suc, _+_, _*_, _/_, _%_, _^_, _≤_, _<_, max}
+use Prim.Native.Nat.{ℕ, zero, suc, _+_, _*_, _/_, _%_, _^_, _≤_, _<_}
 use native.Mathlib.Nat.{mod-lt, zero-lt-suc}
 use native.Mathlib.Omega.{arith}
 use lib.Dec.{eqb, leb, ltb}
@@ -19,9 +19,9 @@ use Rattle.bits.specs.BitsLaws.{bit-lt, bit-or, bit-zero, bit-suc, zero-bit, ha
 use Rattle.bits.specs.Search.{every}
 use Rattle.bits.specs.SearchLaws.{every-at}
 use Rattle.x86defs.specs.declared.CpuidFunction.{CpuidFunction}
-use Rattle.x86defs.specs.Functions.{function, VendorAndMaxFunction, ExtendedMaxFunction}
-use Rattle.masking.specs.Kept.{keptLeaves, places, placeOf, slot, leafAt, subleafAt}
-use Rattle.masking.specs.KeptLaws.{entry-belongs, firstPlace, place-from-first}
+use Rattle.x86defs.specs.Functions.{function}
+use Rattle.masking.specs.Kept.{keptLeaves, places, placeOf, slot, leafAt}
+use Rattle.masking.specs.KeptLaws.{entry-belongs, firstPlace}
 use Rattle.pages.specs.declared.ParsedCpuidEntry.{ParsedCpuidEntry}
 use Rattle.pages.specs.Parsed.{countsRead}
 use Rattle.memory.specs.Memory.{isThere}
@@ -120,14 +120,16 @@ number-back : (l : CpuidFunction) (k : ℕ) → placeOf l k < places → backFro
 unfolding slot keptLeaves leafNumber
 number-back l k h = eqb-true _ _ (at-place (λ x i. eqb (backFrom (leafNumber x)) (x .0)) refl l k h)
 
-pub leaves-with : (o : List ℕ) (n : ℕ) (l : CpuidFunction) (k : ℕ) → HasRow o l k → Full o l → FullLeaves o n → FullLeaves o (bitOr n (2 ^ leafNumber l))
+pub leaves-with : (o : List ℕ) (n : ℕ) (l : CpuidFunction) (k : ℕ) → HasRow o l k → Full o l → FullLeaves o n
+    → FullLeaves o (bitOr n (2 ^ leafNumber l))
 leaves-with o n l k r f g = record { at = λ x e. record { at = λ j h. go x j h (has-bit _ _ e) (bit (leafNumber x) n) refl } }
   where
     go : (x : CpuidFunction) (j : ℕ) → placeOf x j < places → bit (leafNumber x) (bitOr n (2 ^ leafNumber l)) ≡ 1
         → (b : ℕ) → bit (leafNumber x) n ≡ b → getD o (placeOf x j) 0 ≢ 0
     go x j h e (suc b) q = g .at x (bit-has _ _ (omega (arith, q, bit-lt (leafNumber x) n))) .at j h
     go x j h e zero q =
-        let m : leafNumber x ≡ leafNumber l = bit-pow _ _ (omega (arith, e, q, bit-or (leafNumber x) n (2 ^ leafNumber l), bit-lt (leafNumber x) (2 ^ leafNumber l))) in
+        let m : leafNumber x ≡ leafNumber l =
+        bit-pow _ _ (omega (arith, e, q, bit-or (leafNumber x) n (2 ^ leafNumber l), bit-lt (leafNumber x) (2 ^ leafNumber l))) in
         let s : x ≡ l = ap function (sym (number-back x j h) ∙ ap backFrom m ∙ number-back l k (r .kept)) in
         subst (λ (y : CpuidFunction). placeOf y j < places → getD o (placeOf y j) 0 ≢ 0) (sym s) (f .at j) h
 
@@ -187,7 +189,8 @@ counted-is-place : (e : ParsedCpuidEntry) → countedPlace e < places → counte
 unfolding countedPlace
 counted-is-place e h = go (countsRead e) h
   where
-    go : (b : Bool) → pick b (placeOf (e .leaf) (e .subleaf)) places < places → pick b (placeOf (e .leaf) (e .subleaf)) places ≡ placeOf (e .leaf) (e .subleaf)
+    go : (b : Bool) → pick b (placeOf (e .leaf) (e .subleaf)) places < places
+        → pick b (placeOf (e .leaf) (e .subleaf)) places ≡ placeOf (e .leaf) (e .subleaf)
     go true h = refl
     go false h = absurd (omega (arith, h))
 
@@ -212,7 +215,8 @@ module _ {n : ℕ} {e : ParsedCpuidEntry} {o : List ℕ} where
   asked-there q z = asked-none (λ f. record { there = λ h. subst (λ (j : ℕ). getD o j 0 ≢ 0) q z })
 
 -- an entry whose place has a row
-pub row-there : (o : List ℕ) (e : ParsedCpuidEntry) {i : ℕ} → i ≡ countedPlace e → i < places → getD o i 0 ≢ 0 → HasRow o (e .leaf) (e .subleaf) × Passed o e
+pub row-there : (o : List ℕ) (e : ParsedCpuidEntry) {i : ℕ} → i ≡ countedPlace e → i < places → getD o i 0 ≢ 0
+    → HasRow o (e .leaf) (e .subleaf) × Passed o e
 row-there o e {i} q h z =
     let same : i ≡ placeOf (e .leaf) (e .subleaf) = q ∙ counted-is-place e (subst (λ (x : ℕ). x < places) q h) in (
       record { kept = subst (λ (x : ℕ). x < places) same h; there = subst (λ (x : ℕ). getD o x 0 ≢ 0) same z },

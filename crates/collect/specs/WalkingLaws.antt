@@ -146,9 +146,12 @@ module _ {s w o : List ℕ} {n : ℕ} {i : CpuidPageIndex} {e : ParsedCpuidEntry
   pub walking-passed : Passed o e → {m : ℕ} → FullLeaves o m → Walking s w o m (incremented s i)
   walking-passed p {m} f = go (ltb place places) refl
     where
+      with-full : Walking s w o n (incremented s i) → Walking s w o m (incremented s i)
+      with-full g = record { full = f; size = g .size; rows = g .rows; stands = g .stands; answer = g .answer }
+
       go : (b : Bool) → ltb place places ≡ b → Walking s w o m (incremented s i)
-      go true q = let g = walking-kept (ltb-true _ _ q) (p .there (ltb-true _ _ q)) in record { full = f; size = g .size; rows = g .rows; stands = g .stands; answer = g .answer }
-      go false q = let g = walking-none (ltb-false _ _ q) in record { full = f; size = g .size; rows = g .rows; stands = g .stands; answer = g .answer }
+      go true q = with-full (walking-kept (ltb-true _ _ q) (p .there (ltb-true _ _ q)))
+      go false q = with-full (walking-none (ltb-false _ _ q))
 
   -- r is the row as the code stores it
   pub walking-new : place < places → getD o place 0 ≡ 0 → {r : CpuidResult} → r ≡ words (e .result)

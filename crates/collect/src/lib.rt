@@ -103,7 +103,7 @@ fn collect_into(
     Reserved::Zero
 }
 
-// One entry added, where it is the first of its place; and the leaves that are known to be full after it. A place whose origin is 0 has no row yet.
+// Adds an entry if it is the first of its place, and gives the full leaves after it. A place whose origin is 0 has no row yet.
 fn add_entry(
     full: u64,
     entry: ParsedCpuidEntry,
@@ -127,7 +127,7 @@ fn add_entry(
     full
 }
 
-// The place of an entry; 88 where it has none, and where it is known that there is a row. Leaf Dh is never full, so its places are asked here.
+// The place of an entry; 88 where it has none, or where it is known to have a row: by its leaf's bit, or of leaf Dh, which is never full, by its origin.
 fn asked_place(full: u64, entry: ParsedCpuidEntry, origins: &[u64; PLACES]) -> usize
     ensures { λ r. ⌜ Asked full entry (now (origins .entry)) r ⌝ }
 {

@@ -18,7 +18,8 @@ returns-2 c =
     record { turned = λ a f. walking-passed a (r .1) (c .with-leaf .ensures .leaves _ (r .0) (a .walking .full)) }
 
 returns-3 : tie.Need-returns-3
-returns-3 c = record { turned = λ a f. walking-passed a (c .before .asked-place .ensures .passed (c .if1 .left) (a .walking .full)) (a .walking .full) }
+returns-3 c =
+    record { turned = λ a f. walking-passed a (c .before .asked-place .ensures .passed (c .if1 .left) (a .walking .full)) (a .walking .full) }
 
 pub add-entry-spec : {M : Type 1} → statement M
 add-entry-spec =

@@ -1,8 +1,9 @@
--- `collect::collect_into` meets its contract: before each turn the entries that are left give what all give. The inner loop keeps to one page: a step to position 0 leaves it, so a turn of the outer one ends on a later page.
+-- `collect::collect_into` meets its contract: before each turn the entries that are left give what all give. The inner loop keeps to one page: a step
+-- to position 0 leaves it, so a turn of the outer one ends on a later page.
 use borrow.Author.Needs.{needs}
 use native.Mathlib.Omega.{arith}
 use mathlib.Core.Path.{_≡_, refl, sym, ap, _∙_}
-use Prim.Native.Nat.{_-_, _^_, _≤_, _<_}
+use Prim.Native.Nat.{_-_, _^_, _<_}
 use lib.ListN.{length}
 use denote.Ref.{now}
 use Rattle.pages.specs.Layout.{pagesIn, countOf}
@@ -19,7 +20,8 @@ use Rattle.collect.proofs.collect_into.Statement.{statement}
 use Rattle.collect.proofs.collect_into.Tie as tie
 
 abbrev Inv-loop2 : tie.InvT-loop2
-Inv-loop2 pages registers₀ origins₀ n index₀ full₀ page count registers origins index full = Walking pages registers origins full index × (index .«page_index» ≡ page)
+Inv-loop2 pages registers₀ origins₀ n index₀ full₀ page count registers origins index full =
+    Walking pages registers origins full index × (index .«page_index» ≡ page)
 
 abbrev μ-loop2 : tie.MeasureT-loop2
 μ-loop2 pages registers₀ origins₀ n index₀ full₀ page count registers origins index full = length (rest pages index)
@@ -83,7 +85,8 @@ at-entry c =
       clean = read .1;
     }
 
-walks : (c : Turned) → Walking (now (start c .args .pages)) (c .add-entry .last .1 .1 .1 .0) (c .add-entry .last .1 .1 .1 .1 .0) (c .add-entry .result)
+walks : (c : Turned)
+    → Walking (now (start c .args .pages)) (c .add-entry .last .1 .1 .1 .0) (c .add-entry .last .1 .1 .1 .1 .0) (c .add-entry .result)
     (incremented (now (start c .args .pages)) (turned c .loop2 .index))
 walks c = c .add-entry .ensures .turned (at-entry c) (c .before .before .before .entry-number .ensures)
 
