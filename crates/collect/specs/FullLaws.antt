@@ -2,33 +2,31 @@
 -- law of the leaves' numbers and places is one computed test over the 88 places.
 use mathlib.Core.Path.{_≡_, refl, sym, ap, _∙_, subst}
 use mathlib.Core.Bool.{Bool, true, false, not, _&&_, _||_, false≢true}
-use mathlib.Core.List.{List, [], _∷_}
+use mathlib.Core.List.{List}
 use mathlib.Core.Logic.{_≢_}
-use Prim.Native.Nat.{ℕ, zero, suc, _+_, _*_, _/_, _%_, _^_, _≤_, _<_, max}
+use Prim.Native.Nat.{ℕ, zero, suc, _+_, _*_, _/_, _%_, _^_, _≤_, _<_}
 use native.Mathlib.Nat.{mod-lt, zero-lt-suc}
 use native.Mathlib.Omega.{arith}
 use lib.Dec.{eqb, leb, ltb}
 use lib.Bits.{bitAnd, bitOr, and-mask}
 use lib.Pow.{pow-mono}
 use lib.ListN.{length, getD, set}
-use borrow.Author.Tests.{eqb-true, eqb-false, leb-true, ltb-true, ltb-false, lt-ltb, le-ltb, ne-eqb, eq-eqb}
+use borrow.Author.Tests.{eqb-true, eqb-false, leb-true, ltb-true, ltb-false, ne-eqb, eq-eqb}
 use Rattle.bits.specs.Choice.{pick}
-use Rattle.bits.specs.ChoiceLaws.{and-left, and-right, if-holds, pick-true, pick-false}
+use Rattle.bits.specs.ChoiceLaws.{and-left, and-right, if-holds}
 use Rattle.bits.specs.Bits.{bit, has}
 use Rattle.bits.specs.BitsLaws.{bit-lt, bit-or, bit-zero, bit-suc, zero-bit, has-bit, bit-has}
-use Rattle.bits.specs.Lists.{tabulate}
 use Rattle.bits.specs.Search.{every}
 use Rattle.bits.specs.SearchLaws.{every-at}
 use Rattle.x86defs.specs.declared.CpuidFunction.{CpuidFunction}
-use Rattle.x86defs.specs.Functions.{function, VendorAndMaxFunction, ExtendedMaxFunction}
-use Rattle.masking.specs.Kept.{keptLeaves, places, placeOf, slot, leafAt, subleafAt}
-use Rattle.masking.specs.KeptLaws.{entry-belongs, firstPlace, place-from-first}
-use Rattle.masking.specs.PlaceOfLaws.{subleaf-run}
+use Rattle.x86defs.specs.Functions.{function}
+use Rattle.masking.specs.Kept.{keptLeaves, places, placeOf, slot, leafAt}
+use Rattle.masking.specs.KeptLaws.{entry-belongs, firstPlace}
 use Rattle.pages.specs.declared.ParsedCpuidEntry.{ParsedCpuidEntry}
 use Rattle.pages.specs.Parsed.{countsRead}
 use Rattle.memory.specs.Memory.{isThere}
 use Rattle.memory.specs.MemoryLaws.{set-at}
-use Rattle.collect.specs.Collect.{countedPlace, counted-dh}
+use Rattle.collect.specs.Collect.{countedPlace}
 use Rattle.collect.specs.Full.{leafNumber, Full, FullLeaves, RowsFrom, HasRow, Passed, Asked}
 
 -- ---- the number of a leaf
@@ -77,15 +75,18 @@ made-none l k e = go (eqb (l .0) 0) refl e
     go true f g = ap (λ (n : ℕ). placeOf (function n) k) (eqb-true (l .0) 0 f)
     go false f g = ap (λ (n : ℕ). placeOf (function n) k) (eqb-true (l .0) 0x80000000 g)
 
--- the bits of all other leaves are clear
-pub not-kept-full : (o : List ℕ) → FullLeaves o 0x57D7FFFFFB9D1153
-unfolding slot keptLeaves leafNumber has bit
-not-kept-full o = record { at = λ l e. record { at = λ k h. absurd (none l k e h) } }
+-- whether a number has no bit of a leaf that a table keeps entries of
+unfoldable pub noneKept : ℕ → Bool
+noneKept n = every (λ i. made (leafAt i) || not (has (leafNumber (leafAt i)) n)) places
+
+pub none-kept-full : (o : List ℕ) (n : ℕ) → noneKept n ≡ true → FullLeaves o n
+unfolding noneKept
+none-kept-full o n t = record { at = λ l e. record { at = λ k h. absurd (none l k e h) } }
   where
-    none : (l : CpuidFunction) (k : ℕ) → has (leafNumber l) 0x57D7FFFFFB9D1153 ≡ true → placeOf l k < places → ⊥
-    none l k e h = go (made l) refl (at-place (λ x i. made x || not (has (leafNumber x) 0x57D7FFFFFB9D1153)) refl l k h)
+    none : (l : CpuidFunction) (k : ℕ) → has (leafNumber l) n ≡ true → placeOf l k < places → ⊥
+    none l k e h = go (made l) refl (at-place (λ x i. made x || not (has (leafNumber x) n)) t l k h)
       where
-        go : (b : Bool) → made l ≡ b → (b || not (has (leafNumber l) 0x57D7FFFFFB9D1153)) ≡ true → ⊥
+        go : (b : Bool) → made l ≡ b → (b || not (has (leafNumber l) n)) ≡ true → ⊥
         go true f g = let z : placeOf l k ≡ places = made-none l k f in omega (arith, h, z)
         go false f g = false≢true (sym (ap not e) ∙ g)
 
@@ -119,14 +120,16 @@ number-back : (l : CpuidFunction) (k : ℕ) → placeOf l k < places → backFro
 unfolding slot keptLeaves leafNumber
 number-back l k h = eqb-true _ _ (at-place (λ x i. eqb (backFrom (leafNumber x)) (x .0)) refl l k h)
 
-pub leaves-with : (o : List ℕ) (n : ℕ) (l : CpuidFunction) (k : ℕ) → HasRow o l k → Full o l → FullLeaves o n → FullLeaves o (bitOr n (2 ^ leafNumber l))
+pub leaves-with : (o : List ℕ) (n : ℕ) (l : CpuidFunction) (k : ℕ) → HasRow o l k → Full o l → FullLeaves o n
+    → FullLeaves o (bitOr n (2 ^ leafNumber l))
 leaves-with o n l k r f g = record { at = λ x e. record { at = λ j h. go x j h (has-bit _ _ e) (bit (leafNumber x) n) refl } }
   where
     go : (x : CpuidFunction) (j : ℕ) → placeOf x j < places → bit (leafNumber x) (bitOr n (2 ^ leafNumber l)) ≡ 1
         → (b : ℕ) → bit (leafNumber x) n ≡ b → getD o (placeOf x j) 0 ≢ 0
     go x j h e (suc b) q = g .at x (bit-has _ _ (omega (arith, q, bit-lt (leafNumber x) n))) .at j h
     go x j h e zero q =
-        let m : leafNumber x ≡ leafNumber l = bit-pow _ _ (omega (arith, e, q, bit-or (leafNumber x) n (2 ^ leafNumber l), bit-lt (leafNumber x) (2 ^ leafNumber l))) in
+        let m : leafNumber x ≡ leafNumber l =
+        bit-pow _ _ (omega (arith, e, q, bit-or (leafNumber x) n (2 ^ leafNumber l), bit-lt (leafNumber x) (2 ^ leafNumber l))) in
         let s : x ≡ l = ap function (sym (number-back x j h) ∙ ap backFrom m ∙ number-back l k (r .kept)) in
         subst (λ (y : CpuidFunction). placeOf y j < places → getD o (placeOf y j) 0 ≢ 0) (sym s) (f .at j) h
 
@@ -186,28 +189,20 @@ counted-is-place : (e : ParsedCpuidEntry) → countedPlace e < places → counte
 unfolding countedPlace
 counted-is-place e h = go (countsRead e) h
   where
-    go : (b : Bool) → pick b (placeOf (e .leaf) (e .subleaf)) places < places → pick b (placeOf (e .leaf) (e .subleaf)) places ≡ placeOf (e .leaf) (e .subleaf)
+    go : (b : Bool) → pick b (placeOf (e .leaf) (e .subleaf)) places < places
+        → pick b (placeOf (e .leaf) (e .subleaf)) places ≡ placeOf (e .leaf) (e .subleaf)
     go true h = refl
     go false h = absurd (omega (arith, h))
-
--- leaf Dh on page 1
-module _ (e : ParsedCpuidEntry) (l : e .leaf .0 ≡ 0xD) (p : e .page ≡ 1) where
-  state-place : pick (ltb (e .subleaf) 64) (6 + e .subleaf) places ≡ countedPlace e
-  unfolding placeOf keptLeaves tabulate
-  state-place = counted-dh e l p (subleaf-run 6 64 (e .subleaf) l refl refl refl)
-
-  pub state-found : e .subleaf < 64 → 6 + e .subleaf ≡ countedPlace e
-  state-found h = sym (pick-true _ _ (lt-ltb _ _ h)) ∙ state-place
-
-  pub state-none : 64 ≤ e .subleaf → places ≡ countedPlace e
-  state-none h = sym (pick-false _ _ (le-ltb _ _ h)) ∙ state-place
 
 module _ {n : ℕ} {e : ParsedCpuidEntry} {o : List ℕ} where
   pub asked-found : {r : ℕ} → r ≡ countedPlace e → Asked n e o r
   asked-found q = record { found = λ h. q; passed = λ h f. record { there = λ g. absurd (omega (arith, q, h, g)) } }
 
-  pub asked-none : (FullLeaves o n → Passed o e) → Asked n e o places
+  asked-none : (FullLeaves o n → Passed o e) → Asked n e o places
   asked-none p = record { found = λ h. absurd (omega (arith, h)); passed = λ h f. p f }
+
+  pub asked-beyond : places ≤ countedPlace e → Asked n e o places
+  asked-beyond h = asked-none (λ f. record { there = λ g. absurd (omega (arith, g, h)) })
 
   pub asked-full : has (leafNumber (e .leaf)) n ≡ true → Asked n e o places
   asked-full q = asked-none (λ f. record {
@@ -220,8 +215,9 @@ module _ {n : ℕ} {e : ParsedCpuidEntry} {o : List ℕ} where
   asked-there q z = asked-none (λ f. record { there = λ h. subst (λ (j : ℕ). getD o j 0 ≢ 0) q z })
 
 -- an entry whose place has a row
-pub has-row : (o : List ℕ) (e : ParsedCpuidEntry) {i : ℕ} → i ≡ countedPlace e → i < places → getD o i 0 ≢ 0 → HasRow o (e .leaf) (e .subleaf) × Passed o e
-has-row o e {i} q h z =
+pub row-there : (o : List ℕ) (e : ParsedCpuidEntry) {i : ℕ} → i ≡ countedPlace e → i < places → getD o i 0 ≢ 0
+    → HasRow o (e .leaf) (e .subleaf) × Passed o e
+row-there o e {i} q h z =
     let same : i ≡ placeOf (e .leaf) (e .subleaf) = q ∙ counted-is-place e (subst (λ (x : ℕ). x < places) q h) in (
       record { kept = subst (λ (x : ℕ). x < places) same h; there = subst (λ (x : ℕ). getD o x 0 ≢ 0) same z },
       record { there = λ g. subst (λ (x : ℕ). getD o x 0 ≢ 0) q z },

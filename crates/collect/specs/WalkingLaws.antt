@@ -40,7 +40,7 @@ use Rattle.memory.specs.Memory.{rowOf, putRow, isThere, tableIn}
 use Rattle.memory.specs.MemoryLaws.{put-length, known-by-rows}
 use Rattle.collect.specs.Walked.{Walked}
 use Rattle.collect.specs.Full.{FullLeaves, Passed}
-use Rattle.collect.specs.FullLaws.{not-kept-full, leaves-stay}
+use Rattle.collect.specs.FullLaws.{noneKept, none-kept-full, leaves-stay}
 use Rattle.collect.specs.StoreLaws.{put-is-store, cleared}
 
 pub record Walking (s : List ℕ) (w o : List ℕ) (n : ℕ) (i : CpuidPageIndex) : Type 0 where
@@ -50,10 +50,10 @@ pub record Walking (s : List ℕ) (w o : List ℕ) (n : ℕ) (i : CpuidPageIndex
   pub stands : Locating s (tableIn w o .present) o i
   pub answer : firstNonzero s (rest s i) ≡ reservedOf s
 
-pub walking-first : (s : List ℕ) → Walking s (replicate (4 * places) 0) (replicate places 0) 0x57D7FFFFFB9D1153 (firstIndex s)
+pub walking-first : (s : List ℕ) (n : ℕ) → noneKept n ≡ true → Walking s (replicate (4 * places) 0) (replicate places 0) n (firstIndex s)
 unfolding reservedOf
-walking-first s = record {
-  full = not-kept-full (replicate places 0);
+walking-first s n e = record {
+  full = none-kept-full (replicate places 0) n e;
   size = length-replicate {A = ℕ} (4 * places) 0;
   rows = subst (λ t. Collecting s t (firstIndex s)) (sym cleared) (collecting-first s);
   stands = subst (λ t. Locating s (t .present) (replicate places 0) (firstIndex s)) (sym cleared) (locating-first s);
@@ -146,9 +146,12 @@ module _ {s w o : List ℕ} {n : ℕ} {i : CpuidPageIndex} {e : ParsedCpuidEntry
   pub walking-passed : Passed o e → {m : ℕ} → FullLeaves o m → Walking s w o m (incremented s i)
   walking-passed p {m} f = go (ltb place places) refl
     where
+      with-full : Walking s w o n (incremented s i) → Walking s w o m (incremented s i)
+      with-full g = record { full = f; size = g .size; rows = g .rows; stands = g .stands; answer = g .answer }
+
       go : (b : Bool) → ltb place places ≡ b → Walking s w o m (incremented s i)
-      go true q = let g = walking-kept (ltb-true _ _ q) (p .there (ltb-true _ _ q)) in record { full = f; size = g .size; rows = g .rows; stands = g .stands; answer = g .answer }
-      go false q = let g = walking-none (ltb-false _ _ q) in record { full = f; size = g .size; rows = g .rows; stands = g .stands; answer = g .answer }
+      go true q = with-full (walking-kept (ltb-true _ _ q) (p .there (ltb-true _ _ q)))
+      go false q = with-full (walking-none (ltb-false _ _ q))
 
   -- r is the row as the code stores it
   pub walking-new : place < places → getD o place 0 ≡ 0 → {r : CpuidResult} → r ≡ words (e .result)

@@ -1,5 +1,5 @@
-// The leaves of which no entry can add a row any more, as bits of one number: they are not kept, or each of their places has a row. So the walk passes
-// over most entries of a long page set by one bit.
+// Full leaves, as bits of one number: no entry of them can add a row, because they are not kept or each of their places has a row. By one such bit the
+// walk passes over an entry.
 ghost use mathlib.Core.Path.{_≡_};
 ghost use mathlib.Core.Bool.{true};
 ghost use Prim.Native.Nat.{_+_, _<_};
@@ -13,10 +13,10 @@ use memory::is_there;
 use x86defs::CpuidFunction;
 use x86defs::leaf;
 
-// All leaves but those that a table keeps entries of.
+// The bits of all leaves but those that a table keeps entries of.
 pub const NOT_KEPT: u64 = 0x57D7_FFFF_FB9D_1153;
 
-// Whether a leaf is among them.
+// Whether the bit of a leaf is set.
 pub fn has_leaf(full: u64, leaf: CpuidFunction) -> bool
     ensures { λ r. ⌜ r ≡ has (leafNumber leaf) full ⌝ }
 {
@@ -31,8 +31,8 @@ fn leaf_number(leaf: CpuidFunction) -> u32
     ((leaf.0 << 1) + (leaf.0 >> 31)) & 63
 }
 
-// The leaves that are full, with this one if it is; one of its places has a row. The number is worked out in 64 bits: in 32 bits the compiler sees that
-// it is the number above, and makes the bit for every entry that is passed over, too.
+// The full leaves, with this one if it is full; one of its places has a row. The number is worked out in 64 bits: from 32 bits the compiler sees that
+// it is `leaf_number`, and then makes the bit for every entry that is passed over, too.
 pub fn with_leaf(full: u64, leaf: CpuidFunction, origins: &[u64; PLACES]) -> u64
     ensures { λ r. ⌜ Filled leaf (now (origins .entry)) full r ⌝ }
 {
@@ -44,7 +44,7 @@ pub fn with_leaf(full: u64, leaf: CpuidFunction, origins: &[u64; PLACES]) -> u64
     full
 }
 
-// Whether a leaf, of which one place has a row, has one at each. Leaf Dh is not asked: it has 64 places.
+// Whether a leaf that has a row has one at each of its places. Leaf Dh, which has 64, is never told as full.
 fn is_full(leaf: CpuidFunction, origins: &[u64; PLACES]) -> bool
     ensures { λ r. ⌜ FullBy leaf (now (origins .entry)) r ⌝ }
 {

@@ -35,9 +35,6 @@ pub const LEGACY_FEATURES: u32 = 3;
 
 const WORD: u32 = 0xFFFF_FFFF;
 
-// How many subleaves of leaf Dh have a place.
-const STATES: u32 = 64;
-
 // Refusals 1, 2 and 17, in this order: whether length and counts of the pages are lawful, and their reserved bytes zero. The same walk stores the
 // masked first entries and where each stands in memory that comes without rows. Pages that are not lawful leave it without rows.
 pub fn walk_pages(
@@ -106,7 +103,7 @@ fn collect_into(
     Reserved::Zero
 }
 
-// One entry added, where it is the first of its place; and the leaves that are known to be full after it. A place whose origin is 0 has no row yet.
+// Adds an entry if it is the first of its place, and gives the full leaves after it. A place whose origin is 0 has no row yet.
 fn add_entry(
     full: u64,
     entry: ParsedCpuidEntry,
@@ -130,7 +127,7 @@ fn add_entry(
     full
 }
 
-// The place of an entry; 88 where it has none, and where it is known that there is a row. Leaf Dh is never full, so its places are asked here.
+// The place of an entry; 88 where it has none, or where it is known to have a row: by its leaf's bit, or of leaf Dh, which is never full, by its origin.
 fn asked_place(full: u64, entry: ParsedCpuidEntry, origins: &[u64; PLACES]) -> usize
     ensures { λ r. ⌜ Asked full entry (now (origins .entry)) r ⌝ }
 {
@@ -139,12 +136,10 @@ fn asked_place(full: u64, entry: ParsedCpuidEntry, origins: &[u64; PLACES]) -> u
         return PLACES;
     }
     if leaf.0 == leaf::EXTENDED_STATE_ENUMERATION {
-        if entry.page == 1 {
-            if entry.subleaf < STATES {
-                let place = place::EXTENDED_STATE_0 + entry.subleaf as usize;
-                if origins[place] == 0 {
-                    return place;
-                }
+        let place = counted_place(entry);
+        if place < PLACES {
+            if origins[place] == 0 {
+                return place;
             }
         }
         return PLACES;

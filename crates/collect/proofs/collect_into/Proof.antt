@@ -3,20 +3,25 @@
 use borrow.Author.Needs.{needs}
 use native.Mathlib.Omega.{arith}
 use mathlib.Core.Path.{_≡_, refl, sym, ap, _∙_}
-use Prim.Native.Nat.{_-_, _^_, _≤_, _<_}
+use Prim.Native.Nat.{_-_, _^_, _<_}
 use lib.ListN.{length}
 use denote.Ref.{now}
 use Rattle.pages.specs.Layout.{pagesIn, countOf}
 use Rattle.reader.specs.Walk.{incremented, rest}
 use Rattle.reader.specs.WalkLaws.{turn}
 use Rattle.reader.specs.ReadLaws.{read-entry}
+use Rattle.bits.specs.Bits.{bit, has}
+use Rattle.masking.specs.Kept.{keptLeaves, slot}
 use Rattle.collect.specs.OriginsLaws.{number-fits}
+use Rattle.collect.specs.Full.{leafNumber}
+use Rattle.collect.specs.FullLaws.{noneKept}
 use Rattle.collect.specs.WalkingLaws.{Walking, walking-first, walking-last, walking-stops, AtEntry, walking-falls, walking-leaves, walking-stays}
 use Rattle.collect.proofs.collect_into.Statement.{statement}
 use Rattle.collect.proofs.collect_into.Tie as tie
 
 abbrev Inv-loop2 : tie.InvT-loop2
-Inv-loop2 pages registers₀ origins₀ n index₀ full₀ page count registers origins index full = Walking pages registers origins full index × (index .«page_index» ≡ page)
+Inv-loop2 pages registers₀ origins₀ n index₀ full₀ page count registers origins index full =
+    Walking pages registers origins full index × (index .«page_index» ≡ page)
 
 abbrev μ-loop2 : tie.MeasureT-loop2
 μ-loop2 pages registers₀ origins₀ n index₀ full₀ page count registers origins index full = length (rest pages index)
@@ -28,7 +33,8 @@ abbrev μ-loop : tie.MeasureT-loop
 μ-loop pages registers₀ origins₀ n index₀ full₀ registers origins index full = pagesIn pages - index .«page_index»
 
 loop-holds : tie.Need-loop-holds Inv-loop2 μ-loop2 Inv-loop μ-loop
-loop-holds c = let z = c .before .before .before .pre .1 in rw (c .start .ensures, z .0, z .1) (walking-first _)
+unfolding noneKept leafNumber slot keptLeaves has bit
+loop-holds c = let z = c .before .before .before .pre .1 in rw (c .start .ensures, z .0, z .1) (walking-first _ _ refl)
 
 count-of-requires : tie.Need-count-of-requires Inv-loop2 μ-loop2 Inv-loop μ-loop
 count-of-requires c κs = rw (c .before .before .before .before .page-count .ensures) at (c .if1 .taken)
@@ -70,15 +76,17 @@ start c = turned c .before .before .before .before .before .before .before .befo
 at-entry : (c : Turned) → AtEntry (now (start c .args .pages)) (turned c .loop2 .registers) (turned c .loop2 .origins) (turned c .loop2 .full)
     (turned c .loop2 .index) (c .before .before .before .before .before .read .given .0 .0)
 at-entry c =
-    let read = read-entry _ _ (sym (c .before .before .before .before .before .read .given .1) ∙ taken c .take .ensures) in
+    let k = taken c in
+    let read = read-entry _ _ (sym (c .before .before .before .before .before .read .given .1) ∙ k .take .ensures) in
     record {
       walking = turned c .loop2 .inv .0;
-      inside = take-requires (turned c) (taken c .take .lifetimes) .inside .page;
+      inside = take-requires (turned c) (k .take .lifetimes) .inside .page;
       entry = read .0;
       clean = read .1;
     }
 
-walks : (c : Turned) → Walking (now (start c .args .pages)) (c .add-entry .last .1 .1 .1 .0) (c .add-entry .last .1 .1 .1 .1 .0) (c .add-entry .result)
+walks : (c : Turned)
+    → Walking (now (start c .args .pages)) (c .add-entry .last .1 .1 .1 .0) (c .add-entry .last .1 .1 .1 .1 .0) (c .add-entry .result)
     (incremented (now (start c .args .pages)) (turned c .loop2 .index))
 walks c = c .add-entry .ensures .turned (at-entry c) (c .before .before .before .entry-number .ensures)
 

@@ -1,6 +1,6 @@
 -- `collect::full::is_full` meets its contract: by the places of leaves Bh and 8000001Dh, and for any other leaf by its one place.
 use borrow.Author.Needs.{needs}
-use mathlib.Core.Path.{refl, sym, _∙_}
+use mathlib.Core.Path.{refl}
 use mathlib.Core.Bool.{false≢true}
 use Rattle.masking.specs.Kept.{keptLeaves, slot}
 use Rattle.collect.specs.FullLaws.{run-full, one-place-full, rows-join}
@@ -12,7 +12,8 @@ unfolding slot keptLeaves
 returns c = record {
   full = λ e k h.
       let d = c .before .before in
-      run-full _ _ 0x8000001D 82 4 (d .before .match .keys3) refl (rows-join _ 82 2 2 (d .two-rows2 .ensures (c .before .if1 .taken)) (c .two-rows3 .ensures e));
+      run-full _ _ 0x8000001D 82 4 (d .before .match .keys3) refl
+      (rows-join _ 82 2 2 (d .two-rows2 .ensures (c .before .if1 .taken)) (c .two-rows3 .ensures e));
 }
 
 returns-2 : tie.Need-returns-2
