@@ -59,7 +59,7 @@ pub fn walk_pages(
 }
 
 // The first entry of every place as it stands and where, from pages whose counts are lawful: what the reader gives, page by page, up to the first
-// entry that is not clean. The memory comes without rows; a place whose origin is 0 has none yet. A step to position 0 has left the page: with the
+// entry that is not clean. The memory is cleared before; origin 0 marks a place without a row. A step to position 0 has left the page: with the
 // count read once, that makes the inner loop a count of its entries.
 fn collect_into(
     pages: &[u8],
