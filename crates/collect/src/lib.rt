@@ -62,7 +62,7 @@ pub fn walk_pages(
 }
 
 // The first entry of every place as it stands and where, from pages whose counts are lawful: what the reader gives, page by page, up to the first
-// entry that is not clean. The memory comes without rows. A step to position 0 has left the page: with the count read once, that makes the inner loop
+// entry that is not clean. The memory is cleared before. A step to position 0 has left the page: with the count read once, that makes the inner loop
 // a count of its entries.
 fn collect_into(
     pages: &[u8],

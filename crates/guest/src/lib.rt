@@ -33,6 +33,11 @@ ghost use Rattle.guest.specs.Seen.{tableWith, guestFoundIn, SeenIn};
 
 pub mod from_pages;
 
+// Leaf 1 ECX: the number of bit XSAVE, and bit OSXSAVE.
+const XSAVE_BIT: u32 = 26;
+
+const OSXSAVE: u32 = 0x08000000;
+
 // A processor: its x2APIC number, XCR0, XSS, and whether OSXSAVE is on.
 pub struct Processor {
     pub x2apic: u32,
@@ -212,10 +217,10 @@ fn see_version(present: bool, processor: Processor, r: CpuidResult) -> CpuidResu
 fn see_osxsave(osxsave: bool, ecx: u32) -> u32
     ensures { λ q. ⌜ q ≡ osxsaveSeen osxsave ecx ⌝ }
 {
-    if osxsave & bits::has_bit(ecx, 26) {
-        return ecx | 0x08000000;
+    if osxsave & bits::has_bit(ecx, XSAVE_BIT) {
+        return ecx | OSXSAVE;
     }
-    ecx & !0x08000000
+    ecx & !OSXSAVE
 }
 
 // B.0 or B.1, where it is there.

@@ -22,6 +22,12 @@ ghost use Rattle.guest_state.specs.Compact.{placed, compactSize};
 ghost use Rattle.guest_state.specs.State.{isWithin, allowed, compactRegister, saveRegister};
 ghost use Rattle.guest_state.specs.InUse.{readRows, inUse};
 
+// The size of the legacy area and the header of the save area, with which the compacted one begins.
+const HEADER_END: u64 = 576;
+
+// The largest number that a register holds.
+const LARGEST: u64 = 0xFFFFFFFF;
+
 // Refused by 13 or 14, or allowed, with the compacted size (D.1.EBX).
 pub enum InUse {
     Refused(Refusal),
@@ -42,7 +48,7 @@ pub fn state_in_use(
     let subleaf1 = read_row(registers, origins, absent_as_zero, place::EXTENDED_STATE_1);
     if is_allowed(subleaf0.eax, max_xss(subleaf1), xcr0, xss) {
         let size = compact_register(registers, origins, absent_as_zero, xcr0, xss);
-        if size > 0xFFFFFFFF {
+        if size > LARGEST {
             return InUse::Refused(Refusal::CompactSizeTooLarge);
         }
         return InUse::Compacted(size as u32);
@@ -119,7 +125,7 @@ fn compact_size(
 ) -> u64
     ensures { λ r. ⌜ r ≡ compactSize (readRows «absent_as_zero» (now (registers .entry)) (now (origins .entry))) mask ⌝ }
 {
-    let mut size: u64 = 576;
+    let mut size: u64 = HEADER_END;
     let mut rest = mask & FROM_2;
     while rest != 0 {
         let place = place::EXTENDED_STATE_0 + u64::trailing_zeros(rest) as usize;
@@ -142,7 +148,7 @@ fn place_component(subleaf: CpuidResult, size: u64) -> u64
     size + subleaf.eax as u64
 }
 
-// D.0.EBX.
+// D.0.EBX, held to 32 bits.
 pub fn save_register(registers: &[u32; REGISTERS], xcr0: u64) -> u32
     ensures { λ r. ⌜ r ≡ saveRegister (registersIn (now (registers .entry))) xcr0 ⌝ }
 {

@@ -23,7 +23,7 @@ use Rattle.register_masks.specs.Join.{pooledResults}
 use Rattle.register_masks.specs.Alike.{registersAlike}
 use Rattle.pool_rows.specs.Joins.{joinedRow, foundAlike, Joins, alikeWhere}
 
--- ---- one server more: before place i, v and out are as they will be, and as they were from it on
+-- ---- one server more: before place i, v and out have their new values, from it on their old ones
 
 module _ (w u : List ℕ) (alike : List Bool) where
   pub record Joining (i : ℕ) (v : List ℕ) (out : List Bool) : Type 0 where
