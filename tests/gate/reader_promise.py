@@ -44,8 +44,9 @@ CHANGES = (
 
 def main():
     with tempfile.TemporaryDirectory() as room:
-        # of target/ what rt takes of an earlier proof, and nothing that a test beside this one may write
-        for name in ('crates', 'target/rlib', 'target/stamp'):
+        # of target/ what rt takes of an earlier proof, and nothing that a test or proof beside this one may write
+        below = next(line.split(':')[1].split() for line in (ROOT / 'crates.txt').read_text(encoding='utf-8').splitlines() if line.startswith('collect:'))
+        for name in ('crates', 'target/stamp', *(f'target/rlib/{crate}.rlib' for crate in below)):
             if (ROOT / name).is_dir():
                 shutil.copytree(ROOT / name, Path(room) / name, symlinks=True, ignore=shutil.ignore_patterns('must-fail'))
         shutil.copy(ROOT / 'crates.txt', room)

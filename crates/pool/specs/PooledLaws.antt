@@ -161,7 +161,7 @@ module _ (c : Choices) (pages lengths : List ℕ) where
   module _ (lawful : lawfulSets pages lengths ≡ true) where
     named : (x : Failing) → firstRefused c pages lengths ≡ x → serverNamed c pages lengths ≡ numberOf x
     unfolding serverNamed setsVerdict
-    named x e = rw (lawful, e)
+    named x e = rw lawful (ap numberOf e)
 
     -- a server is refused
     server-with : {v : Verdict} → serversVerdict c pages lengths ≡ v → poolVerdict c pages lengths ≡ andThen v (alikeVerdict c pages lengths)
