@@ -148,8 +148,8 @@ struct snp_cpuid_query {
  *
  * registers has EAX, EBX, ECX and EDX of each of 88 places, by rising leaf and subleaf: 0, 1, 5, 7.0, B.0, B.1, D.0 to D.63, 80000000h to 80000008h,
  * 8000000Ah, 80000019h, 8000001Ah, 8000001Dh.0 to .3, 8000001Eh and 8000001Fh. origins says of each place where its row came from: 0 there is no row,
- * 1 the builder made it, 3 it is not known, else 4 + 64 * page + entry; 2 is written by no function and read as page 0 entry 0. A place
- * has a row exactly where its origin is not 0.
+ * 1 the builder made it, 3 it is not known, else 4 + 64 * page + entry; 2 is written by no function and read as page 0 entry 0. A place has a row
+ * exactly where its origin is not 0.
  *
  * What builds, pools or reads a table writes both arrays whole, with zeros at places without a row. Where a caller's own memory has other numbers at
  * such a place of leaf Dh, the combined mask, 13 and 14 and the sizes of save areas are those of the registers as they stand, whether or not there is

@@ -5,8 +5,8 @@ mod replay;
 use replay::{edited, shipped};
 use snp_cpuid::exports::{self, snp_cpuid_build, snp_cpuid_guest_build, snp_cpuid_table_build};
 use snp_cpuid::{
-    Comparison, MOST_IMAGE_BYTES, MOST_KVM_BYTES, NotCarried, NotPooled, Options, Processor, Refusal, Table, TableComparison, build, carry_image,
-    compare, guest, guest_lookup, lookup, pool, pool_lookup, write_guest_image, write_image, write_kvm, write_pool_image,
+    Comparison, MOST_IMAGE_BYTES, MOST_KVM_BYTES, NotCarried, NotPooled, Options, PLACES, Processor, Refusal, Table, TableComparison, build,
+    carry_image, compare, guest, guest_lookup, lookup, pool, pool_lookup, write_guest_image, write_image, write_kvm, write_pool_image,
 };
 use std::collections::{BTreeSet, HashSet};
 
@@ -51,7 +51,7 @@ fn built_and_found() {
     for pages in page_sets() {
         for options in choices() {
             let Options { secure_avic, edition, .. } = options;
-            let mut memory = exports::Table { registers: [0x5A5A_5A5A; 352], origins: [7; 88] };
+            let mut memory = exports::Table { registers: [0x5A5A_5A5A; 4 * PLACES], origins: [7; PLACES] };
             let (registers, origins) = (memory.registers.as_mut_ptr(), memory.origins.as_mut_ptr());
             // SAFETY: pointers and lengths are those of vectors and of the two arrays
             let (plain, kept) = unsafe {
@@ -63,7 +63,7 @@ fn built_and_found() {
             assert_eq!((table.clone().map_err(|refusal| refusal.number()).err().unwrap_or(0), &table), (plain.number, &build(&pages, options)));
             let Ok(table) = table else {
                 refused.insert(plain.number);
-                assert!(memory.registers == [0; 352] && memory.origins == [0; 88]);
+                assert!(memory.registers == [0; 4 * PLACES] && memory.origins == [0; PLACES]);
                 assert_eq!(Table::from(memory).rows().len(), 0);
                 continue;
             };

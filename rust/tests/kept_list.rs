@@ -4,10 +4,10 @@ mod replay;
 
 use replay::edited;
 use snp_cpuid::exports;
-use snp_cpuid::{Found, NotPooled, Options, Origin, Processor, Refusal, Register, Table, TableComparison};
+use snp_cpuid::{Found, NotPooled, Options, Origin, PLACES, Processor, Refusal, Register, Table, TableComparison};
 use std::collections::BTreeMap;
 
-const TABLE_BYTES: usize = 2112;
+const TABLE_BYTES: usize = size_of::<exports::Table>();
 
 fn number(word: &str) -> u64 {
     u64::from_str_radix(word, 16).expect("a number")
@@ -21,8 +21,8 @@ fn bytes(table: &Table) -> Vec<u8> {
 
 /// The table of a struct's bytes.
 fn table(bytes: &[u8]) -> Table {
-    let (registers, origins) = bytes.split_at(4 * 352);
-    let mut memory = exports::Table { registers: [0; 352], origins: [0; 88] };
+    let (registers, origins) = bytes.split_at(4 * 4 * PLACES);
+    let mut memory = exports::Table { registers: [0; 4 * PLACES], origins: [0; PLACES] };
     memory.registers.iter_mut().zip(registers.chunks_exact(4)).for_each(|(word, bytes)| *word = u32::from_le_bytes(bytes.try_into().unwrap()));
     memory.origins.iter_mut().zip(origins.chunks_exact(8)).for_each(|(word, bytes)| *word = u64::from_le_bytes(bytes.try_into().unwrap()));
     memory.into()

@@ -20,14 +20,27 @@ impl Numbers {
     }
 }
 
-/// The leaves and subleaves of the 88 places, rising.
+/// The places by tests/gate/leaves.py: the first leaf, how many follow each other, and how many subleaves each has where it has them.
+const RUNS: [(u32, u32, Option<u32>); 10] = [
+    (0x0, 2, None),
+    (0x5, 1, None),
+    (0x7, 1, Some(1)),
+    (0xB, 1, Some(2)),
+    (0xD, 1, Some(64)),
+    (0x8000_0000, 9, None),
+    (0x8000_000A, 1, None),
+    (0x8000_0019, 2, None),
+    (0x8000_001D, 1, Some(4)),
+    (0x8000_001E, 2, None),
+];
+
+/// The leaves and subleaves of the places, rising.
 fn places() -> Vec<(u32, Option<u32>)> {
-    let plain = [0, 1, 5].into_iter().chain(0x8000_0000..=0x8000_0008).chain([0x8000_000A, 0x8000_0019, 0x8000_001A, 0x8000_001E, 0x8000_001F]);
-    let many = [(7, 1), (0xB, 2), (0xD, 64), (0x8000_001D, 4)];
-    let of_many = many.into_iter().flat_map(|(leaf, subleaves)| (0..subleaves).map(move |subleaf| (leaf, Some(subleaf))));
-    let mut places: Vec<_> = plain.map(|leaf| (leaf, None)).chain(of_many).collect();
-    places.sort();
-    places
+    let rows = |leaf, subleaves: Option<u32>| match subleaves {
+        None => vec![(leaf, None)],
+        Some(many) => (0..many).map(|subleaf| (leaf, Some(subleaf))).collect(),
+    };
+    RUNS.into_iter().flat_map(|(leaf, leaves, subleaves)| (leaf..leaf + leaves).flat_map(move |leaf| rows(leaf, subleaves))).collect()
 }
 
 /// The place of a leaf and subleaf.
@@ -37,7 +50,7 @@ fn place(leaf: u32, subleaf: Option<u32>) -> usize {
 
 /// Memory of random content, in which about one place of `gap` has no row.
 fn random(numbers: &mut Numbers, gap: usize) -> exports::Table {
-    let mut memory = exports::Table { registers: [0; 352], origins: [0; 88] };
+    let mut memory = exports::Table { registers: [0; 4 * PLACES], origins: [0; PLACES] };
     memory.registers.fill_with(|| numbers.next() as u32);
     memory.origins.fill_with(|| match numbers.below(gap) {
         0 => 0,
@@ -225,13 +238,13 @@ fn comparisons() {
 /// One change: a bit of a feature register or of any, a row more or less, a larger save area, a state with its row.
 fn changed(numbers: &mut Numbers, memory: &mut exports::Table) {
     let all = places();
-    let features = (0..352).filter(|&at| is_feature(all[at / 4].0, all[at / 4].1, at % 4)).collect::<Vec<_>>();
+    let features = (0..4 * PLACES).filter(|&at| is_feature(all[at / 4].0, all[at / 4].1, at % 4)).collect::<Vec<_>>();
     let (at, bit) = (features[numbers.below(features.len())], 1 << numbers.below(32));
     match numbers.below(8) {
         0..3 => memory.registers[at] ^= bit,
-        3 => memory.registers[numbers.below(352)] ^= bit,
-        4 => memory.origins[numbers.below(88)] = 0,
-        5 => memory.origins[numbers.below(88)] = 3,
+        3 => memory.registers[numbers.below(4 * PLACES)] ^= bit,
+        4 => memory.origins[numbers.below(PLACES)] = 0,
+        5 => memory.origins[numbers.below(PLACES)] = 3,
         6 => memory.registers[4 * place(0xD, Some(0)) + 2] |= bit,
         _ => {
             let state = 2 + numbers.below(30);
@@ -250,7 +263,7 @@ fn sameness() {
         let a = random(&mut numbers, 4);
         let mut b = a;
         b.origins.iter_mut().filter(|origin| **origin != 0).for_each(|origin| *origin = 1 + numbers.next() % 1000);
-        let at = numbers.below(352);
+        let at = numbers.below(4 * PLACES);
         b.registers[at] ^= 1 << numbers.below(32);
         let equal = b.origins[at / 4] == 0 && mask(&a) == mask(&b);
         assert_eq!(Table::from(a) == Table::from(b), equal);

@@ -65,7 +65,7 @@ static void put(struct buffer *buffer, const void *bytes, size_t length) {
 
 /* The two arrays that calls work on, and a second pair; the bytes of a struct are moved in and out. */
 static struct buffer registers[2], origins[2], pages, image, out, lengths;
-enum { REGISTERS = 352 * 4, ORIGINS = 88 * 8 };
+enum { REGISTERS = sizeof((struct snp_cpuid_kept_table *)0)->registers, ORIGINS = sizeof((struct snp_cpuid_kept_table *)0)->origins };
 #define REG(i) ((uint32_t *)registers[i].at)
 #define ORG(i) ((uint64_t *)origins[i].at)
 #define BOTH(i) REG(i), ORG(i)

@@ -1,20 +1,22 @@
 #!/usr/bin/env python3
-"""figures.py: the figures of the proved source that stand outside it, in constants, comments, messages and documents.
+"""figures.py: the figures of the proved source, in constants, comments, messages, documents, and where one follows from another in the source.
 
 tests/gate/figures.txt has the places: a file, and below it texts of that file with {FIGURE} where the number stands, or {FIGURE:,} where it has
-commas. --write puts each number there, and --check fails where a file has another one or does not have the text at all. A new place is a new line of
-the list. include/refusals.txt has figures too, so interface.py --write comes after this.
+commas. {place:7.0} is the number of the place of leaf 7 subleaf 0, and {row:7.0} that of its row in the table of kept leaves; \\n is a new line.
+--write puts each number there, and --check fails where a file has another one or does not have the text at all. A new place is a new line of the
+list. The other tools read what this one writes, so it comes first.
 """
 from pathlib import Path
 import re
 import sys
 
+from kept_leaves import rows as kept_rows
 from proved_source import Unlisted, constant
 
 ROOT = Path(__file__).resolve().parents[2]
 LIST = 'tests/gate/figures.txt'
 COUNTS = 'crates/counts/specs/Counts.antt'
-FIGURE = re.compile(r'\{(\w+)(:,)?\}')
+FIGURE = re.compile(r'\{(\w+)(?::(,|[0-9A-F.]+))?\}')
 
 
 def stated(root, pattern):
@@ -28,14 +30,17 @@ def stated(root, pattern):
 def figures(root):
     """{name: number}. A row of a subleaf has 25 bytes in the image, and each row that an accepted table may lack is one; in a list for KVM any row
     has 40, after 8 of the head."""
-    places, registers = constant(root, 'masking', 'PLACES'), constant(root, 'memory', 'REGISTERS')
+    table = kept_rows(root)
+    places = sum(map(len, table))
+    numbers = {f'{place.leaf:X}' + ('' if place.subleaf is None else f'.{place.subleaf}'): row for row, each in enumerate(table) for place in each}
     rows, most = stated(root, r'«row_count» ≡ (\d+) \+'), stated(root, r'«row_count» ≤ (\d+)')
     image = stated(root, r'length \(image .*\) ≡ (\d+) \+ 25 \*')
     return {
         'servers': constant(root, 'pool_sets', 'MOST_SETS'),
-        'places': places, 'registers': registers, 'table_bytes': 4 * registers + 8 * places,
+        'places': places, 'registers': 4 * places, 'table_bytes': 24 * places,
         'rows': rows, 'most_rows': most, 'image': image, 'most_image': image + 25 * (most - rows), 'most_kvm': 8 + 40 * most,
-        'any_image': image + 25 * (places - rows), 'any_kvm': 8 + 40 * places,
+        'any_image': image + 25 * (places - rows), 'any_kvm': 8 + 40 * places, 'kept_rows': len(table),
+        **{f'place:{name}': place for place, name in enumerate(numbers)}, **{f'row:{name}': row for name, row in numbers.items()},
     }
 
 
@@ -48,7 +53,7 @@ def listed(root):
         if not line.startswith(' '):
             file = line.strip()
         elif file and FIGURE.search(line):
-            found.append((file, line.strip()))
+            found.append((file, line.strip().replace(r'\n', '\n')))
         else:
             raise Unlisted(f'{LIST}: {line.strip()} names no figure, or stands below no file')
     return found
@@ -58,10 +63,11 @@ def with_figures(text, place, known):
     """The text with the figures of a place, or None where it does not have the place."""
     pattern, wanted, at = '', '', 0
     for found in FIGURE.finditer(place):
-        if found[1] not in known:
-            raise Unlisted(f'{LIST}: {found[1]} is no figure: {", ".join(known)}')
-        before = place[at:found.start()]
-        pattern, wanted, at = f'{pattern}{re.escape(before)}[0-9,]*[0-9]', f'{wanted}{before}{known[found[1]]:{"," if found[2] else ""}}', found.end()
+        name = found[1] if found[2] in (None, ',') else f'{found[1]}:{found[2]}'
+        if name not in known:
+            raise Unlisted(f'{LIST}: {name} is no figure: {", ".join(each for each in known if ":" not in each)}')
+        before, number = place[at:found.start()], f'{known[name]:,}' if found[2] == ',' else str(known[name])
+        pattern, wanted, at = f'{pattern}{re.escape(before)}[0-9,]*[0-9]', wanted + before + number, found.end()
     pattern, wanted = f'(?<![0-9]){pattern}(?![0-9]){re.escape(place[at:])}', wanted + place[at:]
     made, many = re.subn(pattern, lambda _: wanted, text)
     return made if many else None
@@ -91,7 +97,7 @@ def main(words, root=ROOT):
             if text != (root / file).read_text(encoding='utf-8'):
                 (root / file).write_text(text, encoding='utf-8')
                 print(f'{file} written')
-    print(f'{len(places)} places of {len(known)} figures in {len(texts)} files')
+    print(f'{len(places)} places of figures in {len(texts)} files')
     return status
 
 

@@ -27,25 +27,30 @@ def read(root, path):
     return (root / path).read_text(encoding='utf-8')
 
 
-def places(root):
-    """The places in their order."""
+def rows(root):
+    """The rows of the table of kept leaves, each with its places."""
     numbers = {name: int(number, 16) for name, number in re.findall(r'^(\w+) = function (0x[0-9A-F]+)$', read(root, FUNCTIONS), re.MULTILINE)}
-    rows = re.search(r'^keptLeaves avic =\n((?:    .*\n)+)', read(root, KEPT), re.MULTILINE)
+    table = re.search(r'^keptLeaves avic =\n((?:    .*\n)+)', read(root, KEPT), re.MULTILINE)
     found = []
-    for name, first, last in re.findall(r'\bkept (\w+) (?:made|whole|\(subleaves (\d+) (\d+)\)) ', rows[1] if rows else ''):
+    for name, first, last in re.findall(r'\bkept (\w+) (?:made|whole|\(subleaves (\d+) (\d+)\)) ', table[1] if table else ''):
         if name not in numbers:
             raise Unlisted(f'{FUNCTIONS} has no number for {name} of {KEPT}')
-        found += [Place(numbers[name], subleaf) for subleaf in (range(int(first), int(last) + 1) if first else [None])]
+        found.append([Place(numbers[name], subleaf) for subleaf in (range(int(first), int(last) + 1) if first else [None])])
     if not found:
         raise Unlisted(f'{KEPT} has no keptLeaves')
     return found
 
 
+def places(root):
+    """The places in their order."""
+    return [place for row in rows(root) for place in row]
+
+
 def kinds(root):
     """{place: the kinds of its four registers} of the places that the table names, in the table's order."""
-    rows = re.search(r'^registerKinds =\n((?:    .*\n)+)', read(root, KINDS), re.MULTILINE)
+    table = re.search(r'^registerKinds =\n((?:    .*\n)+)', read(root, KINDS), re.MULTILINE)
     known, found = places(root), {}
-    for leaf, subleaf, *four in re.findall(r'leaf \(function (0x[0-9A-F]+)\) (\d+) (\w+) (\w+) (\w+) (\w+)', rows[1] if rows else ''):
+    for leaf, subleaf, *four in re.findall(r'leaf \(function (0x[0-9A-F]+)\) (\d+) (\w+) (\w+) (\w+) (\w+)', table[1] if table else ''):
         place = next((each for each in known if (each.leaf, each.subleaf or 0) == (int(leaf, 16), int(subleaf))), None)
         if place is None:
             raise Unlisted(f'{KINDS}: {leaf} {subleaf} is no place of {KEPT}')

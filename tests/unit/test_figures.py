@@ -8,7 +8,7 @@ import unittest
 
 import figures
 
-SOURCES = 'crates/pool_sets/src/lib.rt', 'crates/masking/src/lib.rt', 'crates/memory/src/lib.rt', figures.COUNTS
+SOURCES = 'crates/pool_sets/src/lib.rt', 'crates/x86defs/specs/Functions.antt', figures.COUNTS
 
 
 class Figures(unittest.TestCase):
@@ -46,9 +46,11 @@ class Figures(unittest.TestCase):
         self.assertIn('#define SNP_CPUID_MOST_SERVERS 32\n', self.text('include/snp_cpuid.h'))
 
     def test_a_place_more(self):
-        self.edit('crates/masking/src/lib.rt', 'PLACES: usize = 88;', 'PLACES: usize = 89;')
-        self.edit('crates/memory/src/lib.rt', 'REGISTERS: usize = 352;', 'REGISTERS: usize = 356;')
+        row = '    ∷ kept ProcessorTopologyDefinition whole'
+        self.edit('crates/masking/specs/Kept.antt', row, f'    ∷ kept CacheTopologyDefinition whole allOnes\n{row}')
         self.assertEqual(self.asked('--write')[0], 0)
+        self.assertIn('PLACES: usize = 89;', self.text('crates/masking/src/lib.rt'))
+        self.assertIn('REGISTERS: usize = 356;', self.text('crates/memory/src/lib.rt'))
         header = self.text('include/snp_cpuid.h')
         for line in 'memory: 2,136 bytes', 'uint32_t registers[356];', 'uint64_t origins[89];', '_ANY_KVM_BYTES 3568':
             self.assertIn(line, header)

@@ -14,9 +14,9 @@ const MEANINGS: [&str; 20] = [
     "The first four bytes of a page are its count of entries, and a page has room for 64. A larger count means that the page is damaged or \
      is no CPUID page. It comes after 1 and before all others that speak of entries.",
     // 3
-    "24 rows need an entry: leaves 1, 5, 7.0, B.0, B.1, D.0, D.1, 80000001 to 80000008, 8000000A, 80000019, \
-     8000001A, 8000001D.0 to .3, 8000001E and 8000001F. Besides, each extended state from bit 2 up that D.0.EAX or XSS has needs its \
-     subleaf of Dh. An entry counts below its page's count and, for leaf Dh, on page 1 alone. 'entries' shows what the pages have.",
+    "24 rows need an entry: leaves 1, 5, 7.0, B.0, B.1, D.0, D.1, 80000001 to 80000008, 8000000A, 80000019, 8000001A, 8000001D.0 to .3, 8000001E \
+     and 8000001F. Besides, each extended state from bit 2 up that D.0.EAX or XSS has needs its subleaf of Dh. An entry counts below its page's \
+     count and, for leaf Dh, on page 1 alone. 'entries' shows what the pages have.",
     // 4
     "A guest of OpenHCL must be able to use INVLPGB, bit 3 of 80000008h.EBX, and the pages say that it cannot. The processor may be older \
      than Zen 3, or the pages were captured where a hypervisor hides the bit: in a virtual machine, or from KVM's supported list. Capture \

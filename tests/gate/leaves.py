@@ -1,0 +1,161 @@
+#!/usr/bin/env python3
+"""leaves.py: where the kept leaves stand in lists that follow from the table of them, made of `keptLeaves` of crates/masking/specs/Kept.antt.
+
+--write writes them, and --check fails where a file has something else:
+  crates/masking/src/run.rt                 the numbers of each run: its places and its rows of the table
+  include/snp_cpuid.h                       the places of a table, in words
+  rust/src/places.rs                        the runs of places
+  rust/tests/memory.rs, command/page_sets.rs    the places, and the rows that every table needs, for tests
+  rust/src/bin/snp-cpuid                    in the help of from-dump and from-kvm, and in what refusal 3 means, the rows that are read or needed
+  docs/COMMAND.md                           what `explain` prints of refusal 3
+A new run of the code is written by hand, with any numbers; figures.py --write comes before this. Every place is needed but the two made here and Dh's
+subleaves from 2 up: `all-found` of crates/finish/specs/PlaceLaws.antt holds that.
+"""
+from itertools import groupby
+from pathlib import Path
+import re
+import sys
+import textwrap
+
+from kept_leaves import names, places, rows as kept_rows
+from proved_source import Unlisted
+
+ROOT = Path(__file__).resolve().parents[2]
+COMMAND = 'rust/src/bin/snp-cpuid'
+STATE, FIRST_STATE = 0xD, 2
+MADE = 0x0, 0x80000000
+
+
+def runs(kept):
+    """[(first place, first leaf, leaves, subleaves or None)]: leaves that follow each other without subleaves, or one leaf with its subleaves."""
+    found = []
+    for leaf, group in groupby(enumerate(kept), lambda each: each[1].leaf):
+        rows = list(group)
+        first, subleaves = rows[0][0], None if rows[0][1].subleaf is None else len(rows)
+        if found and subleaves is None and found[-1][3] is None and found[-1][1] + found[-1][2] == leaf:
+            found[-1] = (*found[-1][:2], found[-1][2] + 1, None)
+        else:
+            found.append((first, leaf, 1, subleaves))
+    return found
+
+
+def code_runs(path, text, root, kept):
+    """The runs of the code with their numbers: how many places, the row of the first in the table of kept leaves, and of the last."""
+    first = {name: number for number, name in names(root).items()}
+    row_of = [row for row, each in enumerate(kept_rows(root)) for _ in each]
+    known = {each[0]: each[2] if each[3] is None else each[3] for each in runs(kept)}
+
+    def made(found):
+        place = first.get(found[1])
+        if place not in known:
+            raise Unlisted(f'{path}: no run of the kept leaves begins at {found[1]}')
+        count, row = known[place], row_of[place]
+        return (f'    first: place::{found[1]},\n    count: {count},\n    leaf: CpuidFunction(KEPT_LEAVES[{row}].leaf.0),\n'
+                f'    indexed: KEPT_LEAVES[{row}].subleaf,\n    row: {row},\n    last_row: {row_of[place + count - 1]},\n')
+    new, many = re.subn(r'^    first: place::(\w+),\n(?:    .*\n){5}', made, text, flags=re.MULTILINE)
+    if many != len(known):
+        raise Unlisted(f'{path} has {many} runs, and the kept leaves {len(known)}')
+    return new
+
+
+def words(kept, h='', base='d'):
+    """Places in words: 1, 5, 7.0, B.0, B.1, 80000001 to 80000008; `h` stands after a leaf of eight digits."""
+    found = []
+    for _, leaf, leaves, subleaves in runs(kept):
+        names = [f'{each:X}' + (h if each > 0xFF else '') for each in range(leaf, leaf + leaves)]
+        if subleaves is not None:
+            last = f'{subleaves - 1:{base}}'.upper()
+            names = [f'{names[0]}.{each}' for each in range(subleaves)] if subleaves < 3 else [
+                f'{names[0]}.0 to .{last}' if leaf > 0xFF else f'{names[0]}.0 to {names[0]}.{last}']
+        elif leaves > 2:
+            names = [f'{names[0]} to {names[-1]}']
+        found += names
+    return ', '.join(found[:-1]) + f' and {found[-1]}'
+
+
+def number(leaf):
+    return f'0x{leaf:X}' if leaf < 0x10000 else f'0x{leaf >> 16:04X}_{leaf & 0xFFFF:04X}'
+
+
+def replaced(path, text, pattern, made):
+    new, many = re.subn(pattern, made, text, flags=re.MULTILINE)
+    if many != 1:
+        raise Unlisted(f'{path} has {many} places like {pattern}')
+    return new
+
+
+def in_paragraph(path, text, opens, closes, listed, prefix, width):
+    """The paragraph with a list between two texts, written anew in lines of this width. No line of it has a quote or is a command."""
+    for paragraph in re.finditer(rf'(?:^{re.escape(prefix)}[^\s$"/][^"\n]*\n)+', text, re.MULTILINE):
+        lines = ' '.join(line[len(prefix):] for line in paragraph[0].splitlines())
+        if opens in lines and closes in lines:
+            start = lines.index(opens) + len(opens)
+            lines = lines[:start] + listed + lines[lines.index(closes, start):]
+            made = textwrap.wrap(lines, width - len(prefix), break_long_words=False, break_on_hyphens=False)
+            return text[:paragraph.start()] + ''.join(f'{prefix}{line}\n' for line in made) + text[paragraph.end():]
+    raise Unlisted(f'{path} has no paragraph with "{opens} .. {closes}"')
+
+
+def in_string(path, text, opens, closes, made):
+    """The string of a Rust source that has this text, written anew in lines of 150."""
+    found = re.search(rf'^    "(?:[^"]*\s)?{opens}[^"]*",$', text, re.MULTILINE)
+    if not found:
+        raise Unlisted(f'{path} has no string with {opens}')
+    whole = re.sub(r' \\\n\s*', ' ', found[0].strip())
+    whole = re.sub(rf'{opens}.*?{re.escape(closes)}', made + closes, whole)
+    lines = textwrap.wrap(whole, 143, break_long_words=False, break_on_hyphens=False)
+    return text[:found.start()] + '    ' + ' \\\n     '.join(lines) + text[found.end():]
+
+
+def made(root):
+    """{path: its text as it should be}."""
+    kept = places(root)
+    read = [place for place in kept if place.leaf not in MADE]
+    needed = [place for place in read if place.leaf != STATE or place.subleaf < FIRST_STATE]
+    rows = [(first, leaf, leaves, 'None' if subleaves is None else f'Some({subleaves})') for first, leaf, leaves, subleaves in runs(kept)]
+    table = ''.join(f'    run({first}, {number(leaf) if leaf > 9 else leaf}, {leaves}, {subleaves}),\n' for first, leaf, leaves, subleaves in rows)
+    table += '    // the end\n    run(PLACES, 0, 0, None),\n'
+    tried = ''.join(f'    ({number(leaf)}, {leaves}, {subleaves}),\n' for _, leaf, leaves, subleaves in rows)
+    wanted = ''.join(f'    ({number(place.leaf)}, {place.subleaf or 0}),\n' for place in needed)
+    texts = {}
+
+    def of(path, step, *given):
+        texts[path] = step(path, (root / path).read_text(encoding='utf-8'), *given)
+
+    def array(path, text, name, many, lines):
+        return replaced(path, text, rf'^((?:pub )?const {name}: .*; )\d+\] = \[\n(?:    .*\n)+\];\n', lambda old: f'{old[1]}{many}] = [\n{lines}];\n')
+    of('crates/masking/src/run.rt', code_runs, root, kept)
+    of('include/snp_cpuid.h', in_paragraph, 'by rising leaf and subleaf: ', '. origins says', words(kept, 'h'), ' * ', 150)
+    of('rust/src/places.rs', array, 'RUNS', len(rows) + 1, table)
+    of('rust/tests/memory.rs', array, 'RUNS', len(rows), tried)
+    of('rust/tests/command/page_sets.rs', array, 'REQUIRED', len(needed), wanted)
+    of(f'{COMMAND}/commands/from_dump.rs', in_paragraph, 'reads go in: leaves ', '. The others', words(read, base='x'), '', 100)
+    of(f'{COMMAND}/commands/from_kvm.rs', in_paragraph, 'the table reads: leaves ', '. A page', words(read, base='x'), '', 100)
+    of(f'{COMMAND}/meanings.rs', in_string, r'\d+ rows need an entry', '. Besides', f'{len(needed)} rows need an entry: leaves {words(needed)}')
+    of('docs/COMMAND.md', in_paragraph, ' rows need an entry: leaves ', '. Besides', words(needed), '    ', 104)
+    texts['docs/COMMAND.md'] = re.sub(r'\d+ (?=rows need an entry)', f'{len(needed)} ', texts['docs/COMMAND.md'])
+    return kept, texts
+
+
+def main(asked, root=ROOT):
+    if asked not in (['--write'], ['--check']):
+        print(__doc__.strip())
+        return 2
+    status = 0
+    try:
+        kept, texts = made(root)
+    except Unlisted as why:
+        print(why)
+        return 1
+    for path, text in texts.items():
+        if asked == ['--write']:
+            (root / path).write_text(text, encoding='utf-8')
+        elif (root / path).read_text(encoding='utf-8') != text:
+            print(f'{path} is not as made: tests/gate/leaves.py --write')
+            status = 1
+    print(f'{len(kept)} places in lists of {len(texts)} files')
+    return status
+
+
+if __name__ == '__main__':
+    sys.exit(main(sys.argv[1:]))

@@ -1,0 +1,87 @@
+"""Tests of leaves.py on a copy of the files that it writes: a further kept leaf needs --write alone."""
+from contextlib import redirect_stdout
+from io import StringIO
+from pathlib import Path
+import shutil
+import tempfile
+import unittest
+
+import kept_leaves
+import leaves
+
+NUMBER = 'abbrev pub InstructionSampling : CpuidFunction\nInstructionSampling = function 0x8000001B\n'
+BEFORE = '    ∷ kept CacheTopologyDefinition '
+RUNS = 'crates/masking/src/run.rt'
+
+
+class Leaves(unittest.TestCase):
+    def setUp(self):
+        folder = tempfile.TemporaryDirectory()
+        self.addCleanup(folder.cleanup)
+        self.root = Path(folder.name)
+        for path in kept_leaves.FUNCTIONS, kept_leaves.KEPT, kept_leaves.LEAVES, kept_leaves.PLACES, *leaves.made(leaves.ROOT)[1]:
+            (self.root / path).parent.mkdir(parents=True, exist_ok=True)
+            shutil.copy(leaves.ROOT / path, self.root / path)
+
+    def asked(self, word):
+        with redirect_stdout(StringIO()) as said:
+            return leaves.main([word], self.root), said.getvalue()
+
+    def edit(self, path, old, new):
+        text = (self.root / path).read_text()
+        self.assertIn(old, text)
+        (self.root / path).write_text(text.replace(old, new, 1))
+
+    def text(self, path):
+        return ' '.join((self.root / path).read_text().split())
+
+    def test_the_repository_is_as_made(self):
+        self.assertEqual(self.asked('--check')[0], 0)
+
+    def further(self, row, places, run=''):
+        self.edit(kept_leaves.FUNCTIONS, 'abbrev pub vendorEcx', f'{NUMBER}\nabbrev pub vendorEcx')
+        self.edit(kept_leaves.KEPT, BEFORE, f'    ∷ kept InstructionSampling {row} allOnes\n{BEFORE}')
+        for name, number in ('CACHE_TOPOLOGY_0', 82), ('PROCESSOR_TOPOLOGY_DEFINITION', 86):
+            self.edit(kept_leaves.PLACES, f'{name}: usize = {number};', f'{name}: usize = {number + places};')
+        if run:
+            self.edit(kept_leaves.PLACES, 'pub const CACHE_TOPOLOGY_0', 'pub const SAMPLING: usize = 82;\n\npub const CACHE_TOPOLOGY_0')
+            self.edit(RUNS, 'pub const CACHE_TOPOLOGY', run + 'pub const CACHE_TOPOLOGY')
+        status, said = self.asked('--check')
+        self.assertEqual((status, said.count('is not as made')), (1, 9))
+        self.assertEqual(self.asked('--write')[0], 0)
+        self.assertEqual(self.asked('--check')[0], 0)
+
+    def test_a_leaf_that_lengthens_a_run(self):
+        self.further('whole', 1)
+        self.assertIn('leaf: CpuidFunction(KEPT_LEAVES[18].leaf.0), indexed: KEPT_LEAVES[18].subleaf, row: 18, last_row: 20, };', self.text(RUNS))
+        self.assertIn('row: 22, last_row: 23, };', self.text(RUNS))
+        runs = 'run(80, 0x8000_0019, 3, None), run(83, 0x8000_001D, 1, Some(4)), run(87, 0x8000_001E, 2, None),'
+        self.assertIn(runs, self.text('rust/src/places.rs'))
+        self.assertIn('80000019h to 8000001Bh, 8000001Dh.0 to .3', self.text('include/snp_cpuid.h').replace(' * ', ' '))
+        self.assertIn('(0x8000_001B, 0), (0x8000_001D, 0),', self.text('rust/tests/command/page_sets.rs'))
+        self.assertIn('; 25] = [', self.text('rust/tests/command/page_sets.rs'))
+        for path in 'docs/COMMAND.md', 'rust/src/bin/snp-cpuid/meanings.rs':
+            self.assertIn('25 rows need an entry: leaves 1, 5,', self.text(path))
+        for path in 'from_dump', 'from_kvm':
+            self.assertIn('8000000A, 80000019 to 8000001B, 8000001D.0 to .3', self.text(f'rust/src/bin/snp-cpuid/commands/{path}.rs'))
+
+    def test_a_leaf_with_subleaves(self):
+        self.further('(subleaves 0 1)', 2, 'pub const SAMPLING: Run = Run {\n    first: place::SAMPLING,\n' + '    row: 0,\n' * 5 + '};\n\n')
+        self.assertIn('first: place::SAMPLING, count: 2, leaf: CpuidFunction(KEPT_LEAVES[20].leaf.0),', self.text(RUNS))
+        self.assertIn('run(82, 0x8000_001B, 1, Some(2)), run(84, 0x8000_001D, 1, Some(4)),', self.text('rust/src/places.rs'))
+        self.assertIn('8000001A, 8000001B.0, 8000001B.1, 8000001D.0 to .3', self.text('docs/COMMAND.md'))
+
+    def test_a_name_without_a_number(self):
+        self.edit(kept_leaves.KEPT, BEFORE, f'    ∷ kept Unknown whole allOnes\n{BEFORE}')
+        self.assertEqual(self.asked('--check'), (1, f'{kept_leaves.FUNCTIONS} has no number for Unknown of {kept_leaves.KEPT}\n'))
+
+    def test_a_lost_place_is_told(self):
+        self.edit('rust/src/places.rs', 'const RUNS', 'const ROWS')
+        self.assertEqual(self.asked('--write')[0], 1)
+
+    def test_other_words(self):
+        self.assertEqual(self.asked('--help')[0], 2)
+
+
+if __name__ == '__main__':
+    unittest.main()
