@@ -132,7 +132,7 @@ module _ (chosen : Choices) (s : List ℕ) (accepted : answer chosen s .verdict 
   keeps : Keeps (rowsFor chosen s) full
   unfolding rowsOf
   keeps = record {
-    keptFirst = λ i. at′ i (ltb i places) (firstAt i (counted s) .present);
+    kept = λ i. at′ i (ltb i places) (firstAt i (counted s) .present);
     beyond = λ i l. pick-false _ _ (le-ltb i places l) ∙ sym (row-beyond avic s i l);
   }
     where
