@@ -5,6 +5,9 @@ tests/gate/figures.txt has the places: a file, and below it texts of that file w
 commas. {place:7.0} is the number of the place of leaf 7 subleaf 0, and {row:7.0} that of its row in the table of kept leaves; \\n is a new line.
 --write puts each number there, and --check fails where a file has another one or does not have the text at all. A new place is a new line of the
 list. The other tools read what this one writes, so it comes first.
+
+The number of places, 88, and that of their registers also stand bare in definitions and proofs. Where the table of kept leaves has another number
+than the code's PLACES, --write puts the new numbers for the old ones in every file of the crates but those of BY_HAND, which state them.
 """
 from pathlib import Path
 import re
@@ -16,6 +19,7 @@ from proved_source import Unlisted, constant
 ROOT = Path(__file__).resolve().parents[2]
 LIST = 'tests/gate/figures.txt'
 COUNTS = 'crates/counts/specs/Counts.antt'
+BY_HAND = 'crates/theorems/', 'crates/letter/specs/Paper.antt', 'crates/vectors/'
 FIGURE = re.compile(r'\{(\w+)(?::(,|[0-9A-F.]+))?\}')
 
 
@@ -73,6 +77,20 @@ def with_figures(text, place, known):
     return made if many else None
 
 
+def renumbered(root, old, new):
+    """Puts the new number of places, and of registers, for the old one. Gives the files that changed."""
+    numbers, changed = {str(old): str(new), str(4 * old): str(4 * new)}, []
+    for path in sorted((root / 'crates').glob('*/*/**/*')):
+        file = str(path.relative_to(root))
+        if path.suffix in ('.antt', '.rt') and not file.startswith(BY_HAND):
+            text = path.read_text(encoding='utf-8')
+            made = re.sub(r'(?<![\w.#])(?:' + '|'.join(numbers) + r')(?![\w.])', lambda found: numbers[found[0]], text)
+            if made != text:
+                path.write_text(made, encoding='utf-8')
+                changed.append(file)
+    return changed
+
+
 def main(words, root=ROOT):
     if words not in (['--write'], ['--check']):
         print(__doc__.strip())
@@ -80,6 +98,9 @@ def main(words, root=ROOT):
     status, texts = 0, {}
     try:
         known, places = figures(root), listed(root)
+        old = constant(root, 'masking', 'PLACES')
+        if words == ['--write'] and old != known['places']:
+            print(*renumbered(root, old, known['places']), sep='\n')
         for file, place in places:
             text = texts.setdefault(file, (root / file).read_text(encoding='utf-8'))
             made = with_figures(text, place, known)

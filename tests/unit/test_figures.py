@@ -48,7 +48,13 @@ class Figures(unittest.TestCase):
     def test_a_place_more(self):
         row = '    ∷ kept ProcessorTopologyDefinition whole'
         self.edit('crates/masking/specs/Kept.antt', row, f'    ∷ kept CacheTopologyDefinition whole allOnes\n{row}')
+        (self.root / 'crates/memory/specs').mkdir()
+        (self.root / 'crates/memory/specs/Memory.antt').write_text('-- 88 rows\nw = replicate 352 0x88 .88 188\n')
+        (self.root / 'crates/theorems/specs').mkdir(parents=True)
+        (self.root / 'crates/theorems/specs/Page.antt').write_text('w = 88\n')
         self.assertEqual(self.asked('--write')[0], 0)
+        self.assertEqual(self.text('crates/memory/specs/Memory.antt'), '-- 89 rows\nw = replicate 356 0x88 .88 188\n')
+        self.assertEqual(self.text('crates/theorems/specs/Page.antt'), 'w = 88\n')
         self.assertIn('PLACES: usize = 89;', self.text('crates/masking/src/lib.rt'))
         self.assertIn('REGISTERS: usize = 356;', self.text('crates/memory/src/lib.rt'))
         header = self.text('include/snp_cpuid.h')
