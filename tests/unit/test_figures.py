@@ -8,7 +8,7 @@ import unittest
 
 import figures
 
-SOURCES = 'crates/pool_sets/src/lib.rt', 'crates/x86defs/specs/Functions.antt', figures.COUNTS
+SOURCES = figures.EDITION, 'crates/pool_sets/src/lib.rt', 'crates/x86defs/specs/Functions.antt', figures.COUNTS
 
 
 class Figures(unittest.TestCase):
@@ -60,6 +60,14 @@ class Figures(unittest.TestCase):
         header = self.text('include/snp_cpuid.h')
         for line in 'memory: 2,136 bytes', 'uint32_t registers[356];', 'uint64_t origins[89];', '_ANY_KVM_BYTES 3568':
             self.assertIn(line, header)
+
+    def test_a_third_edition(self):
+        self.edit(figures.EDITION, 'eqb n 2', 'eqb n 2 || eqb n 3')
+        self.assertEqual(self.asked('--write')[0], 0)
+        self.assertEqual(self.asked('--check')[0], 0)
+        self.assertIn('it has editions 1, 2 and 3\n', self.text('include/refusals.txt'))
+        self.assertIn('is neither 1, 2 nor 3\n', self.text('include/refusals.txt'))
+        self.assertIn('editions 1, 2 and 3, of which 1 is', self.text('rust/src/bin/snp-cpuid/meanings.rs'))
 
     def test_a_lost_place_is_told(self):
         self.edit('README.md', 'the tables of 2 to 16 servers', 'the tables of some servers')
