@@ -393,7 +393,7 @@ struct snp_cpuid_pooled {
 /* Builds one table for a pool of 2 to 16 servers, which a guest may keep when it moves between them. The choices are the same for all. Feature
  * registers of the servers' first entries are joined by and, all else is the first server's, and the table is built of that: its feature registers
  * and combined mask are the and of the servers' tables', its rows are those that all have, and origins are the first server's. Refusals in this
- * order: 18; then any server's own, in server order, which server tells (an edition other than 1 or 2 is the first's own, 15); then 19. A refusal
+ * order: 18; then any server's own, in server order, which server tells (an edition that is not known is the first's own, 15); then 19. A refusal
  * leaves a table without rows. */
 SNP_CPUID_DECIDES struct snp_cpuid_pooled snp_cpuid_pool_into(struct snp_cpuid_kept_table *table, struct snp_cpuid_servers servers,
                                                               struct snp_cpuid_options options);
@@ -407,8 +407,8 @@ struct snp_cpuid_editions {
 /* Takes a running table from one edition to another in place, on a processor with this XCR0 and XSS. From 1 to 2, F16C, XOP and FMA4 are cleared
  * where the table's own D.0.EAX lacks bit 2, rows that it lacks reading as zeros, and nothing else changes; within one edition nothing does. So a
  * table that was built under edition 1 becomes the one that edition 2 makes of the same pages, and both save sizes of the processor's guest stay.
- * Gives 0, or in this order 15 where either edition is neither 1 nor 2; 16 from 2 to 1; then 13 and 14, as a guest has them, also within one edition.
- * The table is then as it was. Origins are only read. */
+ * Gives 0, or in this order 15 where either edition is not known; 16 from a later edition to an earlier one; then 13 and 14, as a guest has them,
+ * also within one edition. The table is then as it was. Origins are only read. */
 SNP_CPUID_DECIDES uint32_t snp_cpuid_carry_table(struct snp_cpuid_kept_table *table, struct snp_cpuid_editions editions,
                                                  struct snp_cpuid_processor processor);
 
@@ -448,7 +448,7 @@ struct snp_cpuid_compared {
 /* Compares two servers by their pages, under the same choices. Each row of A's table must have its entry in B's pages, except rows 0 and 80000000h,
  * which the library makes itself. Registers are compared as masked, D.0.EAX with bits 0 and 1 set on both sides, whatever the edition. Feature
  * registers of B must have every bit of A's; D.0.ECX and all of B.0 and B.1 are left free; all else must be equal, bit 28 of 1.EDX too. An edition
- * that is neither 1 nor 2 is answer 1 with number 15. After a yes, building B gives a table with every row of A's, at least A's bits in every feature
+ * that is not known is answer 1 with number 15. After a yes, building B gives a table with every row of A's, at least A's bits in every feature
  * register, a save area no smaller and all else equal; or refuses it by 3, for a subleaf of leaf Dh that B's own further state needs, or by 5. So
  * build B's table too before a guest of A moves there. */
 SNP_CPUID_DECIDES struct snp_cpuid_compared snp_cpuid_compare_pages(struct snp_cpuid_pages_move move, struct snp_cpuid_options options);

@@ -32,9 +32,9 @@ pub enum Refusal {
     StateBeyondTable,
     /// 14: the size of the compacted save area of XCR0 and XSS does not fit 32 bits.
     CompactSizeTooLarge,
-    /// 15: the edition of the AVX rule is neither 1 nor 2.
+    /// 15: the AVX rule has no such edition.
     UnknownEdition,
-    /// 16: a table was to go from edition 2 of the AVX rule back to 1.
+    /// 16: a table was to go from an edition of the AVX rule back to an earlier one.
     EditionBack,
     /// 17: a reserved byte of an entry below its page's count is not zero. It comes after 2 and before 3.
     ReservedBytes {

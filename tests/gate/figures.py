@@ -2,9 +2,12 @@
 """figures.py: the figures of the proved source, in constants, comments, messages, documents, and where one follows from another in the source.
 
 tests/gate/figures.txt has the places: a file, and below it texts of that file with {FIGURE} where the number stands, or {FIGURE:,} where it has
-commas. {place:7.0} is the number of the place of leaf 7 subleaf 0, and {row:7.0} that of its row in the table of kept leaves; \\n is a new line.
---write puts each number there, and --check fails where a file has another one or does not have the text at all. A new place is a new line of the
-list. The other tools read what this one writes, so it comes first.
+commas. {place:7.0} is the number of the place of leaf 7 subleaf 0, and {row:7.0} that of its row in the table of kept leaves. {editions:and} has the
+known editions, as "1 and 2", and likewise with `or` and `nor`. \\n is a new line. --write puts each number there, and --check fails where a file has
+another one or does not have the text at all. A new place is a new line of the list. The other tools read what this one writes, so it comes first.
+
+The number of places, 88, and that of their registers also stand bare in definitions and proofs. Where the table of kept leaves has another number
+than the code's PLACES, --write puts the new numbers for the old ones in every file of the crates but those of BY_HAND, which state them.
 """
 from pathlib import Path
 import re
@@ -16,7 +19,10 @@ from proved_source import Unlisted, constant
 ROOT = Path(__file__).resolve().parents[2]
 LIST = 'tests/gate/figures.txt'
 COUNTS = 'crates/counts/specs/Counts.antt'
-FIGURE = re.compile(r'\{(\w+)(?::(,|[0-9A-F.]+))?\}')
+BY_HAND = 'crates/theorems/', 'crates/letter/specs/Paper.antt', 'crates/vectors/'
+FIGURE = re.compile(r'\{(\w+)(?::(,|and|or|nor|[0-9A-F.]+))?\}')
+EDITION = 'crates/table/specs/Edition.antt'
+NUMBER, NUMBERS = '[0-9,]*[0-9]', r'[0-9]+(?:, [0-9]+)* (?:and|n?or) [0-9]+'
 
 
 def stated(root, pattern):
@@ -44,6 +50,14 @@ def figures(root):
     }
 
 
+def editions(root):
+    """{name: the known editions in words}."""
+    known = re.findall(r'eqb n (\d+)', (root / EDITION).read_text(encoding='utf-8'))
+    if len(known) < 2:
+        raise Unlisted(f'{EDITION} has no editions')
+    return {f'editions:{word}': f'{", ".join(known[:-1])} {word} {known[-1]}' for word in ('and', 'or', 'nor')}
+
+
 def listed(root):
     """[(file, text)] of the list."""
     found, file = [], None
@@ -67,10 +81,25 @@ def with_figures(text, place, known):
         if name not in known:
             raise Unlisted(f'{LIST}: {name} is no figure: {", ".join(each for each in known if ":" not in each)}')
         before, number = place[at:found.start()], f'{known[name]:,}' if found[2] == ',' else str(known[name])
-        pattern, wanted, at = f'{pattern}{re.escape(before)}[0-9,]*[0-9]', wanted + before + number, found.end()
+        matched = NUMBERS if name.startswith('editions:') else NUMBER
+        pattern, wanted, at = f'{pattern}{re.escape(before)}{matched}', wanted + before + number, found.end()
     pattern, wanted = f'(?<![0-9]){pattern}(?![0-9]){re.escape(place[at:])}', wanted + place[at:]
     made, many = re.subn(pattern, lambda _: wanted, text)
     return made if many else None
+
+
+def renumbered(root, old, new):
+    """Puts the new number of places, and of registers, for the old one. Gives the files that changed."""
+    numbers, changed = {str(old): str(new), str(4 * old): str(4 * new)}, []
+    for path in sorted((root / 'crates').glob('*/*/**/*')):
+        file = str(path.relative_to(root))
+        if path.suffix in ('.antt', '.rt') and not file.startswith(BY_HAND):
+            text = path.read_text(encoding='utf-8')
+            made = re.sub(r'(?<![\w.#-])(?:' + '|'.join(numbers) + r')(?![\w.])', lambda found: numbers[found[0]], text)
+            if made != text:
+                path.write_text(made, encoding='utf-8')
+                changed.append(file)
+    return changed
 
 
 def main(words, root=ROOT):
@@ -79,7 +108,10 @@ def main(words, root=ROOT):
         return 2
     status, texts = 0, {}
     try:
-        known, places = figures(root), listed(root)
+        known, places = {**figures(root), **editions(root)}, listed(root)
+        old = constant(root, 'masking', 'PLACES')
+        if words == ['--write'] and old != known['places']:
+            print(*renumbered(root, old, known['places']), sep='\n')
         for file, place in places:
             text = texts.setdefault(file, (root / file).read_text(encoding='utf-8'))
             made = with_figures(text, place, known)

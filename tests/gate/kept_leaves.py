@@ -75,7 +75,12 @@ def constants(text, known, module):
     return found
 
 
+def leaf_names(root):
+    """{number of a leaf: its name in the source}."""
+    return {number: name for name, number in constants(read(root, LEAVES), {}, 'leaf::').items()}
+
+
 def names(root):
     """{number of a place: its name in the source}."""
-    leaves = constants(read(root, LEAVES), {}, 'leaf::')
+    leaves = {name: number for number, name in leaf_names(root).items()}
     return {number: name for name, number in constants(read(root, PLACES), leaves, 'leaf::').items()}

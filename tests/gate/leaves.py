@@ -3,6 +3,7 @@
 
 --write writes them, and --check fails where a file has something else:
   crates/masking/src/run.rt                 the numbers of each run: its places and its rows of the table
+  crates/masking/src/lib.rt, specs, proofs  the arms of `place_of`, its proof, and the leaves that they name
   include/snp_cpuid.h                       the places of a table, in words
   rust/src/places.rs                        the runs of places
   rust/tests/memory.rs, command/page_sets.rs    the places, and the rows that every table needs, for tests
@@ -17,13 +18,15 @@ import re
 import sys
 import textwrap
 
-from kept_leaves import names, places, rows as kept_rows
+from kept_leaves import leaf_names, names, places, rows as kept_rows
 from proved_source import Unlisted
 
 ROOT = Path(__file__).resolve().parents[2]
 COMMAND = 'rust/src/bin/snp-cpuid'
 STATE, FIRST_STATE = 0xD, 2
 MADE = 0x0, 0x80000000
+# the leaves that `place_of` has as one arm
+TOGETHER = range(0x80000001, 0x80000009)
 
 
 def runs(kept):
@@ -56,6 +59,53 @@ def code_runs(path, text, root, kept):
     if many != len(known):
         raise Unlisted(f'{path} has {many} runs, and the kept leaves {len(known)}')
     return new
+
+
+def known(table, number, path):
+    if number not in table:
+        raise Unlisted(f'{path} has no name for {number:X}')
+    return table[number]
+
+
+def alone(kept):
+    """The leaves that have an arm of their own, with their first place and whether they have subleaves."""
+    found = {}
+    for number, place in enumerate(kept):
+        if place.leaf not in MADE and place.leaf not in TOGETHER:
+            found.setdefault(place.leaf, (place.leaf, number, place.subleaf is not None))
+    return list(found.values())
+
+
+def place_of(path, text, root, kept):
+    """The arms of `place_of`."""
+    leaf, place = leaf_names(root), names(root)
+    source = (root / 'crates/masking/src/run.rt').read_text(encoding='utf-8')
+    run = {first: name for name, first in re.findall(r'^pub const (\w+): Run = Run \{\n    first: place::(\w+),', source, re.MULTILINE)}
+    together = (f'        leaf::{leaf[TOGETHER[0]]}..=leaf::{leaf[TOGETHER[-1]]} => {{\n            place::{leaf[MADE[1]]}'
+                f' + (n - leaf::{leaf[MADE[1]]}) as usize\n        }}\n')
+    before, after = '', ''
+    for number, first, indexed in alone(kept):
+        name, own = known(leaf, number, 'crates/x86defs/src/leaf.rt'), known(place, first, 'crates/masking/src/place.rt')
+        arm = f'        leaf::{name} => ' + (f'subleaf_place(run::{run.get(own, own)}, subleaf)' if indexed else f'place::{own}') + ',\n'
+        before, after = (before + arm, after) if number < TOGETHER[0] else (before, after + arm)
+    return replaced(path, text, r'(^    match n \{\n)(?:        .*\n)+?(        _ => PLACES,\n)',
+                    lambda old: old[1] + before + together + after + old[2])
+
+
+def place_of_proof(path, text, kept):
+    """The arms in the proof of `place_of`: the leaves with an arm of their own in the order of the code, then the run."""
+    arms, called = '', 0
+    for key, (_, _, indexed) in enumerate(alone(kept), 1):
+        if indexed:
+            called += 1
+            call = f'subleaf-place{called if called > 1 else ""}'
+            arms += (f'    (λ c. (subleaf-run _ _ (c .before .before .args .subleaf) (c .before .match .keys{key}) '
+                     f'(c .{call} .ensures .0) refl refl, c .{call} .ensures .1))\n')
+        else:
+            arms += f'    (λ c. (rw (c .match .keys{key}), search needs))\n'
+    text = replaced(path, text, r'^    \(tie\.spec\n(?:    \(λ c κs\. search needs\)\n)+',
+                    lambda _: '    (tie.spec\n' + '    (λ c κs. search needs)\n' * called)
+    return replaced(path, text, r'(?:^    \(λ c\. \((?:rw \(c \.match|subleaf-run _ _) .*\n)+', lambda _: arms)
 
 
 def words(kept, h='', base='d'):
@@ -125,6 +175,10 @@ def made(root):
     def array(path, text, name, many, lines):
         return replaced(path, text, rf'^((?:pub )?const {name}: .*; )\d+\] = \[\n(?:    .*\n)+\];\n', lambda old: f'{old[1]}{many}] = [\n{lines}];\n')
     of('crates/masking/src/run.rt', code_runs, root, kept)
+    of('crates/masking/src/lib.rt', place_of, root, kept)
+    of('crates/masking/proofs/place_of/Proof.antt', place_of_proof, kept)
+    single = ' ∷ '.join(f'0x{leaf:X}' for leaf, _, _ in reversed(alone(kept)))
+    of('crates/masking/specs/PlaceOfLaws.antt', replaced, r'^singleLeaves =\n    .*\n', f'singleLeaves =\n    {single} ∷ []\n')
     of('include/snp_cpuid.h', in_paragraph, 'by rising leaf and subleaf: ', '. origins says', words(kept, 'h'), ' * ', 150)
     of('rust/src/places.rs', array, 'RUNS', len(rows) + 1, table)
     of('rust/tests/memory.rs', array, 'RUNS', len(rows), tried)

@@ -8,7 +8,7 @@ import unittest
 
 import figures
 
-SOURCES = 'crates/pool_sets/src/lib.rt', 'crates/x86defs/specs/Functions.antt', figures.COUNTS
+SOURCES = figures.EDITION, 'crates/pool_sets/src/lib.rt', 'crates/x86defs/specs/Functions.antt', figures.COUNTS
 
 
 class Figures(unittest.TestCase):
@@ -48,12 +48,26 @@ class Figures(unittest.TestCase):
     def test_a_place_more(self):
         row = '    ∷ kept ProcessorTopologyDefinition whole'
         self.edit('crates/masking/specs/Kept.antt', row, f'    ∷ kept CacheTopologyDefinition whole allOnes\n{row}')
+        (self.root / 'crates/memory/specs').mkdir()
+        (self.root / 'crates/memory/specs/Memory.antt').write_text('-- 88 rows\nw = replicate 352 0x88 .88 188\n')
+        (self.root / 'crates/theorems/specs').mkdir(parents=True)
+        (self.root / 'crates/theorems/specs/Page.antt').write_text('w = 88\n')
         self.assertEqual(self.asked('--write')[0], 0)
+        self.assertEqual(self.text('crates/memory/specs/Memory.antt'), '-- 89 rows\nw = replicate 356 0x88 .88 188\n')
+        self.assertEqual(self.text('crates/theorems/specs/Page.antt'), 'w = 88\n')
         self.assertIn('PLACES: usize = 89;', self.text('crates/masking/src/lib.rt'))
         self.assertIn('REGISTERS: usize = 356;', self.text('crates/memory/src/lib.rt'))
         header = self.text('include/snp_cpuid.h')
         for line in 'memory: 2,136 bytes', 'uint32_t registers[356];', 'uint64_t origins[89];', '_ANY_KVM_BYTES 3568':
             self.assertIn(line, header)
+
+    def test_a_third_edition(self):
+        self.edit(figures.EDITION, 'eqb n 2', 'eqb n 2 || eqb n 3')
+        self.assertEqual(self.asked('--write')[0], 0)
+        self.assertEqual(self.asked('--check')[0], 0)
+        self.assertIn('it has editions 1, 2 and 3\n', self.text('include/refusals.txt'))
+        self.assertIn('is neither 1, 2 nor 3\n', self.text('include/refusals.txt'))
+        self.assertIn('editions 1, 2 and 3, of which 1 is', self.text('rust/src/bin/snp-cpuid/meanings.rs'))
 
     def test_a_lost_place_is_told(self):
         self.edit('README.md', 'the tables of 2 to 16 servers', 'the tables of some servers')

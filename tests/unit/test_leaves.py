@@ -43,11 +43,11 @@ class Leaves(unittest.TestCase):
         self.edit(kept_leaves.KEPT, BEFORE, f'    ∷ kept InstructionSampling {row} allOnes\n{BEFORE}')
         for name, number in ('CACHE_TOPOLOGY_0', 82), ('PROCESSOR_TOPOLOGY_DEFINITION', 86):
             self.edit(kept_leaves.PLACES, f'{name}: usize = {number};', f'{name}: usize = {number + places};')
-        if run:
-            self.edit(kept_leaves.PLACES, 'pub const CACHE_TOPOLOGY_0', 'pub const SAMPLING: usize = 82;\n\npub const CACHE_TOPOLOGY_0')
-            self.edit(RUNS, 'pub const CACHE_TOPOLOGY', run + 'pub const CACHE_TOPOLOGY')
+        self.edit(kept_leaves.PLACES, 'pub const CACHE_TOPOLOGY_0', 'pub const SAMPLING: usize = 82;\n\npub const CACHE_TOPOLOGY_0')
+        self.edit(kept_leaves.LEAVES, 'pub const CACHE_TOPOLOGY', 'pub const SAMPLING: u32 = 0x8000_001B;\n\npub const CACHE_TOPOLOGY')
+        self.edit(RUNS, 'pub const CACHE_TOPOLOGY', run + 'pub const CACHE_TOPOLOGY')
         status, said = self.asked('--check')
-        self.assertEqual((status, said.count('is not as made')), (1, 9))
+        self.assertEqual((status, said.count('is not as made')), (1, 12))
         self.assertEqual(self.asked('--write')[0], 0)
         self.assertEqual(self.asked('--check')[0], 0)
 
@@ -55,6 +55,9 @@ class Leaves(unittest.TestCase):
         self.further('whole', 1)
         self.assertIn('leaf: CpuidFunction(KEPT_LEAVES[18].leaf.0), indexed: KEPT_LEAVES[18].subleaf, row: 18, last_row: 20, };', self.text(RUNS))
         self.assertIn('row: 22, last_row: 23, };', self.text(RUNS))
+        self.assertIn('leaf::SAMPLING => place::SAMPLING, leaf::CACHE_TOPOLOGY_DEFINITION', self.text('crates/masking/src/lib.rt'))
+        self.assertIn('0x8000001D ∷ 0x8000001B ∷ 0x8000001A', self.text('crates/masking/specs/PlaceOfLaws.antt'))
+        self.assertIn('(rw (c .match .keys12), search needs)', self.text('crates/masking/proofs/place_of/Proof.antt'))
         runs = 'run(80, 0x8000_0019, 3, None), run(83, 0x8000_001D, 1, Some(4)), run(87, 0x8000_001E, 2, None),'
         self.assertIn(runs, self.text('rust/src/places.rs'))
         self.assertIn('80000019h to 8000001Bh, 8000001Dh.0 to .3', self.text('include/snp_cpuid.h').replace(' * ', ' '))
@@ -67,6 +70,8 @@ class Leaves(unittest.TestCase):
 
     def test_a_leaf_with_subleaves(self):
         self.further('(subleaves 0 1)', 2, 'pub const SAMPLING: Run = Run {\n    first: place::SAMPLING,\n' + '    row: 0,\n' * 5 + '};\n\n')
+        self.assertIn('leaf::SAMPLING => subleaf_place(run::SAMPLING, subleaf),', self.text('crates/masking/src/lib.rt'))
+        self.assertIn('subleaf-place5 .ensures .1))', self.text('crates/masking/proofs/place_of/Proof.antt'))
         self.assertIn('first: place::SAMPLING, count: 2, leaf: CpuidFunction(KEPT_LEAVES[20].leaf.0),', self.text(RUNS))
         self.assertIn('run(82, 0x8000_001B, 1, Some(2)), run(84, 0x8000_001D, 1, Some(4)),', self.text('rust/src/places.rs'))
         self.assertIn('8000001A, 8000001B.0, 8000001B.1, 8000001D.0 to .3', self.text('docs/COMMAND.md'))

@@ -53,7 +53,7 @@ const MEANINGS: [&str; 20] = [
     "The compacted save area of the XCR0 and XSS that were given, which the guest reads in D.1.EBX, would not fit 32 bits. No processor \
      reports such sizes.",
     // 15
-    "The AVX rule has editions 1, which is OpenHCL's, and 2. Another number was given. It comes before all other refusals.",
+    "The AVX rule has editions 1 and 2, of which 1 is OpenHCL's. Another number was given. It comes before all other refusals.",
     // 16
     "A table was to go from edition 2 of the AVX rule back to edition 1, which would give a running guest features that it never had. Tables \
      go from 1 to 2, or stay.",
