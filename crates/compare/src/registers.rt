@@ -1,4 +1,5 @@
-// The registers of two rows. Two rows come in with the masks of their registers; which registers of B's are as wanted goes out, and the first that fails.
+// The registers of two rows. Two rows come in with the masks of their registers; which registers of B's are as wanted goes out, and the first that
+// fails.
 use x86defs::CpuidResult;
 ghost use mathlib.Core.Path.{_≡_};
 ghost use Rattle.compare.specs.Registers.{firstToFail};
