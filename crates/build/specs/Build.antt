@@ -7,7 +7,9 @@ use Rattle.bits.specs.Lists.{tabulate}
 use Rattle.pages.specs.Entries.{counted}
 use Rattle.table.specs.declared.Refusal.the-variants.{UnknownEdition}
 use Rattle.table.specs.declared.Choices.{Choices}
+use Rattle.table.specs.declared.Refusal.{Refusal}
 use Rattle.table.specs.declared.Verdict.{Verdict}
+use Rattle.table.specs.declared.Verdict.the-variants.{Accepted, Refused}
 use Rattle.table.specs.Refusal.{andThen}
 use Rattle.table.specs.Edition.{knownEdition}
 use Rattle.table.specs.Rows.{Rows}
@@ -15,18 +17,22 @@ use Rattle.table.specs.declared.CpuidResults.{CpuidResults}
 use Rattle.table.specs.Table.{rowIn}
 use Rattle.masking.specs.Kept.{places}
 use Rattle.memory.specs.Origin.{Origin, originOf, originNumber}
-use Rattle.memory.specs.Memory.{layout}
+use Rattle.memory.specs.Memory.{layout, Cleared}
 use Rattle.memory.specs.Held.{heldIn}
 use Rattle.checks.specs.Checks.{refuseUnless, rowsVerdict}
 use Rattle.collect.specs.Lawful.{lawfulVerdict}
 use Rattle.finish.specs.RowsBuilt.{tableFor}
 use Rattle.build.specs.declared.Built.{Built}
 use Rattle.collect.specs.FirstEntries.{rowsOf}
-use Rattle.collect.specs.Stands.{standsAt}
+use Rattle.collect.specs.Stands.{standsAt, foundOrigins}
 
 -- document 02, P7: "15 an edition other than 1 or 2, before 1"
 unfoldable pub editionVerdict : ℕ → Verdict
 editionVerdict n = refuseUnless (knownEdition n) UnknownEdition
+
+-- 15, then 1, 2 and 17: the refusals that come before the rows are looked at
+abbrev pub frontVerdict : Choices → List ℕ → Verdict
+frontVerdict c s = andThen (editionVerdict (c .edition)) (lawfulVerdict s)
 
 -- what document 01 has: secure AVIC off, here under edition n
 abbrev pub underEdition : ℕ → Choices
@@ -54,7 +60,18 @@ answer c s = record { verdict = verdictOf c s; table = tableOfPages c s; origins
 abbrev pub originAt : Choices → List ℕ → ℕ → Origin
 originAt c s i = originOf (rowIn (answer c s .table) i .present) i (standsAt i (counted s))
 
--- ---- the answer in memory that a caller lends
+-- ---- in memory that a caller lends
+
+-- the verdict v is u; where it accepts, the memory w, o holds the masked first entries and where each stands, else no rows
+pub record EntriesIn (u : Verdict) (c : Choices) (s : List ℕ) (v : Verdict) (w o : List ℕ) : Type 0 where
+  pub verdict : v ≡ u
+  pub registers : v ≡ Accepted → w ≡ layout (λ i. rowsFor c s i .result)
+  pub stands : v ≡ Accepted → o ≡ foundOrigins s
+  pub refused : (r : Refusal) → v ≡ Refused r → Cleared w o
+
+-- what pages give before their rows are looked at
+abbrev pub FrontIn : Choices → List ℕ → Verdict → List ℕ → List ℕ → Type 0
+FrontIn c s = EntriesIn (frontVerdict c s) c s
 
 -- the memory w, o and the verdict v are the answer b: every word, and count and mask, which follow from the words
 pub record InMemory (b : Built) (v : Verdict) (w o : List ℕ) : Type 0 where

@@ -1,4 +1,4 @@
--- The answer, one case for each return of the function.
+-- The answer, by its verdict and by its parts.
 use mathlib.Core.Path.{_≡_, refl, sym, ap, _∙_}
 use mathlib.Core.Bool.{Bool, true, false}
 use mathlib.Core.List.{List}
@@ -19,14 +19,17 @@ use Rattle.table.specs.declared.Refusal.the-variants.{UnknownEdition}
 use Rattle.table.specs.declared.Choices.{Choices}
 use Rattle.table.specs.declared.Verdict.{Verdict}
 use Rattle.table.specs.declared.Verdict.the-variants.{Accepted, Refused}
+use Rattle.table.specs.Refusal.{andThen}
 use Rattle.table.specs.declared.CpuidResults.{CpuidResults}
+use Rattle.checks.specs.Checks.{rowsVerdict}
+use Rattle.checks.specs.ChecksLaws.{demanded, then-left, then-right}
 use Rattle.finish.specs.RowsBuilt.{builtFrom}
 use Rattle.build.specs.Built.{withoutOrigins, notBuilt}
 use Rattle.table.specs.Table.{emptyTable}
 use Rattle.table.specs.Rows.{Rows}
 use Rattle.table.specs.Edition.{knownEdition}
 use Rattle.finish.specs.Stages.{builtBy}
-use Rattle.build.specs.Build.{editionVerdict, rowsFor, verdictOf, originsIn, answer}
+use Rattle.build.specs.Build.{editionVerdict, frontVerdict, rowsFor, verdictOf, originsIn, answer}
 use Rattle.collect.specs.Lawful.{lawfulVerdict}
 
 -- a table without rows has no origins, whatever stands in the pages
@@ -67,10 +70,23 @@ module _ (c : Choices) (s : List ℕ) where
   unfolding answer verdictOf builtFrom
   answer-of-rows e f = rw (e, f)
 
-  pub answer-unknown : {q : Built} → knownEdition (c .edition) ≡ false → q ≡ notBuilt UnknownEdition → q ≡ answer c s
-  answer-unknown k g = refused-with g (unfold verdictOf editionVerdict in rw k)
+  -- ---- by what 15, 1, 2 and 17 come to
 
-  -- v is what is found of the pages
-  module _ (k : knownEdition (c .edition) ≡ true) {v : Verdict} (e : v ≡ lawfulVerdict s) where
-    pub answer-unlawful : {r : Refusal} {q : Built} → v ≡ Refused r → q ≡ notBuilt r → q ≡ answer c s
-    answer-unlawful f g = refused-with g (unfold verdictOf editionVerdict in rw (k, ← e, f))
+  pub front-known : frontVerdict c s ≡ Accepted → knownEdition (c .edition) ≡ true
+  unfolding editionVerdict
+  front-known e = demanded (knownEdition (c .edition)) UnknownEdition (then-left (editionVerdict (c .edition)) _ e)
+
+  pub front-lawful : frontVerdict c s ≡ Accepted → lawfulVerdict s ≡ Accepted
+  front-lawful e = then-right (editionVerdict (c .edition)) _ e
+
+  pub front-rows : frontVerdict c s ≡ Accepted → withoutOrigins (answer c s) ≡ builtFrom (c .edition) m
+  front-rows e = answer-of-rows (then-left (editionVerdict (c .edition)) _ e) (front-lawful e)
+
+  pub front-refused : {r : Refusal} → frontVerdict c s ≡ Refused r → answer c s .verdict ≡ Refused r
+  unfolding answer verdictOf
+  front-refused {r} = go (editionVerdict (c .edition)) (lawfulVerdict s)
+    where
+      go : (u v : Verdict) → andThen u v ≡ Refused r → andThen u (andThen v (rowsVerdict m)) ≡ Refused r
+      go Accepted (Refused q) e = e
+      go Accepted Accepted e = cc
+      go (Refused q) v e = e

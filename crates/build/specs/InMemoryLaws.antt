@@ -1,34 +1,33 @@
--- Laws of the answer in lent memory: where the walk left the masked first entries and where they stand, `build_rows` leaves the answer of the pages.
-use mathlib.Core.Path.{_≡_, refl, sym, ap, _∙_, subst}
-use mathlib.Core.Bool.{true}
+-- Laws of lent memory: where it holds the masked first entries and where each stands, `finish_rows` leaves the answer of the pages.
+use mathlib.Core.Path.{_≡_, refl, sym, ap, ap₂, _∙_, subst}
+use mathlib.Core.Bool.{true, false}
 use mathlib.Core.List.{List, []}
-use Prim.Native.Nat.{ℕ, _*_}
+use Prim.Native.Nat.{ℕ}
 use lib.ListN.{length}
-use Rattle.pages.specs.Entries.{counted}
+use Rattle.bits.specs.ListsLaws.{length-tabulate}
 use Rattle.masking.specs.Kept.{places}
 use Rattle.table.specs.declared.Choices.{Choices}
-use Rattle.table.specs.declared.CpuidResults.{CpuidResults}
 use Rattle.table.specs.declared.Verdict.{Verdict}
 use Rattle.table.specs.declared.Refusal.{Refusal}
+use Rattle.table.specs.declared.Refusal.the-variants.{UnknownEdition}
 use Rattle.table.specs.declared.Verdict.the-variants.{Accepted, Refused}
 use Rattle.table.specs.Edition.{knownEdition}
 use Rattle.table.specs.Table as Tables
 use Rattle.memory.specs.Origin.{finishedOrigins}
-use Rattle.memory.specs.Memory.{rowsIn, layout, tableIn, Cleared}
-use Rattle.memory.specs.MemoryLaws.{rows-in}
-use Rattle.memory.specs.Held.{heldIn}
+use Rattle.memory.specs.Memory.{rowsIn, tableIn, Cleared}
+use Rattle.memory.specs.MemoryLaws.{layout-length, rows-in}
 use Rattle.collect.specs.Collect.{collected-rows}
 use Rattle.collect.specs.Stands.{foundOrigins}
-use Rattle.collect.specs.Lawful.{lawfulVerdict}
-use Rattle.collect.specs.WalkedPages.{WalkedPages, walked-table}
+use Rattle.collect.specs.CollectedLaws.{walked-collected}
+use Rattle.collect.specs.WalkedPages.{WalkedPages}
 use Rattle.finish.specs.declared.RowsBuilt.{RowsBuilt}
 use Rattle.finish.specs.RowsBuilt.{builtFrom}
-use Rattle.rows_finished.specs.Finished.{Answered}
+use Rattle.rows_finished.specs.Finished.{Answered, Tried}
 use Rattle.rows_finished.specs.AnsweredLaws.{cleared, cleared-whole}
 use Rattle.build.specs.declared.Built.{Built}
 use Rattle.build.specs.Built.{withoutOrigins, notBuilt}
-use Rattle.build.specs.Build.{editionVerdict, rowsFor, answer, InMemory}
-use Rattle.build.specs.BuildLaws.{answer-of-rows, located-origins}
+use Rattle.build.specs.Build.{editionVerdict, rowsFor, answer, EntriesIn, FrontIn, InMemory}
+use Rattle.build.specs.BuildLaws.{located-origins, front-rows}
 
 -- a refusal is in memory without rows
 pub refused-in-memory : {r : Refusal} {b : Built} {w o : List ℕ} → notBuilt r ≡ b → Cleared w o → InMemory b (Refused r) w o
@@ -41,30 +40,43 @@ refused-in-memory {r} {b} {w} {o} e d =
     } in
     subst (λ (k : Built). InMemory k (Refused r) w o) e n
 
--- what building makes of the rows that the walk left
-module _ (c : Choices) (s w o : List ℕ) (a : length w ≡ 4 * places) (b : length o ≡ places) {r : Verdict}
-    (k : WalkedPages (c .«secure_avic») s r w o) (z : r ≡ Accepted) where
-  pub walked-rows : rowsIn w o ≡ rowsFor c s
-  walked-rows = sym (rows-in w o a b) ∙ ap Tables.rowsOfTable (walked-table (c .«secure_avic») s w o k z refl) ∙ collected-rows (c .«secure_avic») s
+-- pages and choices into memory without rows, by whether the edition is known
+module _ (c : Choices) (s w o : List ℕ) where
+  pub front-unknown : knownEdition (c .edition) ≡ false → Cleared w o → FrontIn c s (Refused UnknownEdition) w o
+  unfolding editionVerdict
+  front-unknown k z = record { verdict = rw k; registers = λ a. cc; stands = λ a. cc; refused = λ _ _. z }
 
-  answered-rows : editionVerdict (c .edition) ≡ Accepted → builtFrom (c .edition) (rowsIn w o) ≡ withoutOrigins (answer c s)
-  answered-rows e = ap (builtFrom (c .edition)) walked-rows ∙ sym (answer-of-rows c s e (sym (k .verdict) ∙ z))
+  pub front-walked : knownEdition (c .edition) ≡ true → {v : Verdict} → WalkedPages (c .«secure_avic») s v w o → FrontIn c s v w o
+  unfolding editionVerdict
+  front-walked k d = record { verdict = rw k (d .verdict); registers = d .rows; stands = d .stands; refused = d .refused }
 
-  pub answer-in-memory : editionVerdict (c .edition) ≡ Accepted → {v : Verdict} {w₁ o₁ : List ℕ}
-      → Answered (builtFrom (c .edition) (rowsIn w o)) o v w₁ o₁ → InMemory (answer c s) v w₁ o₁
+-- the masked first entries in memory are rows of the definition
+pub rows-held : {u : Verdict} (c : Choices) (s w o : List ℕ) {v : Verdict} → EntriesIn u c s v w o → v ≡ Accepted → rowsIn w o ≡ rowsFor c s
+unfolding foundOrigins
+rows-held c s w o k z =
+    sym (rows-in w o (ap length (k .registers z) ∙ layout-length _) (ap length (k .stands z) ∙ length-tabulate places _))
+    ∙ ap Tables.rowsOfTable (ap₂ tableIn (k .registers z) (k .stands z) ∙ walked-collected (c .«secure_avic») s)
+    ∙ collected-rows (c .«secure_avic») s
+
+-- what finishing makes of them
+module _ (c : Choices) (s w o : List ℕ) {v : Verdict} (k : FrontIn c s v w o) (z : v ≡ Accepted) {x : Verdict} {w₁ o₁ : List ℕ}
+    (t : Tried (builtFrom (c .edition) (rowsIn w o)) w o x w₁ o₁) where
+  rows-answered : builtFrom (c .edition) (rowsIn w o) ≡ withoutOrigins (answer c s)
+  rows-answered = ap (builtFrom (c .edition)) (rows-held c s w o k z) ∙ sym (front-rows c s (sym (k .verdict) ∙ z))
+
+  pub finished-verdict : answer c s .verdict ≡ x
+  finished-verdict = sym (t .verdict ∙ ap (λ (b : RowsBuilt). b .verdict) rows-answered)
+
+  pub answer-in-memory : x ≡ Accepted → InMemory (answer c s) Accepted w₁ o₁
   unfolding answer
-  answer-in-memory e {v} {w₁} {o₁} d =
-      let d₁ : Answered (withoutOrigins (answer c s)) o v w₁ o₁ = subst (λ (x : RowsBuilt). Answered x o v w₁ o₁) (answered-rows e) d in
+  answer-in-memory e =
+      let d : Answered (withoutOrigins (answer c s)) o x w₁ o₁ = subst (λ (b : RowsBuilt). Answered b o x w₁ o₁) rows-answered (t .accepted e) in
       record {
-        verdict = d₁ .verdict;
-        registers = d₁ .table .registers;
-        table = d₁ .whole;
+        verdict = sym e ∙ d .verdict;
+        registers = d .table .registers;
+        table = d .whole;
         origins =
-            d₁ .table .origins
+            d .table .origins
             ∙ ap (finishedOrigins (answer c s .table .present)) (k .stands z)
             ∙ located-origins (answer c s .table) s;
       }
-
-pub edition-known : (n : ℕ) → knownEdition n ≡ true → editionVerdict n ≡ Accepted
-unfolding editionVerdict
-edition-known n e = rw e

@@ -1,5 +1,5 @@
 -- What one walk over any bytes gives: whether they are lawful pages; where they are, the masked first entries and where each stands; else no rows.
-use mathlib.Core.Path.{_≡_, sym, ap₂, _∙_}
+use mathlib.Core.Path.{_≡_, sym, _∙_}
 use mathlib.Core.Bool.{Bool, true}
 use mathlib.Core.List.{List}
 use Prim.Native.Nat.{ℕ}
@@ -8,13 +8,10 @@ use Rattle.pages.specs.declared.reserved.Reserved.{Reserved}
 use Rattle.table.specs.declared.Refusal.{Refusal}
 use Rattle.table.specs.declared.Verdict.{Verdict}
 use Rattle.table.specs.declared.Verdict.the-variants.{Accepted, Refused}
-use Rattle.table.specs.declared.CpuidResults.{CpuidResults}
 use Rattle.collect.specs.FirstEntries.{maskRow, rowsOf}
-use Rattle.collect.specs.Collect.{collected}
 use Rattle.collect.specs.Stands.{foundOrigins}
-use Rattle.memory.specs.Memory.{rowsIn, layout, tableIn, Cleared}
+use Rattle.memory.specs.Memory.{rowsIn, layout, Cleared}
 use Rattle.collect.specs.Walked.{Walked}
-use Rattle.collect.specs.CollectedLaws.{walked-collected}
 use Rattle.pages.specs.Reserved.{allClean}
 use Rattle.collect.specs.Mask.{Unmasked}
 use Rattle.collect.specs.MaskLaws.{firsts-unmasked, firsts-masked}
@@ -45,8 +42,3 @@ module _ (s w o : List ℕ) {b : Reserved} (e : Accepted ≡ lawfulVerdict s) (k
     stands = λ _. k .stands clean;
     refused = λ x f. absurd (let z : _≡_ {A = ℕ} 0 1 = cc in omega arith);
   }
-
--- the table that the arrays stand for is that of the masked first entries
-pub walked-table : (avic : Bool) (s w o : List ℕ) {r : Verdict} {t : CpuidResults} → WalkedPages avic s r w o → r ≡ Accepted → t ≡ tableIn w o
-    → t ≡ collected avic s
-walked-table avic s w o k e f = f ∙ ap₂ tableIn (k .rows e) (k .stands e) ∙ walked-collected avic s

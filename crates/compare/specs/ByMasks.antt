@@ -147,9 +147,12 @@ isArea other = false
 abbrev areasOf : Kinds → RegistersRise
 areasOf k = record { eax = isArea (k .eax); ebx = isArea (k .ebx); ecx = isArea (k .ecx); edx = isArea (k .edx) }
 
-only-area : (i : ℕ) → i < places → areasOf (kindsAt i) ≡ record { eax = false; ebx = false; ecx = eqb i (Place.extendedState 0); edx = false }
+abbrev areasAt : ℕ → RegistersRise
+areasAt i = record { eax = false; ebx = false; ecx = eqb i (Place.extendedState 0); edx = false }
+
+only-area : (i : ℕ) → i < places → areasOf (kindsAt i) ≡ areasAt i
 unfolding tabulate kindsAt registerKinds slot keptLeaves
-only-area = tabulate-at places (λ i. areasOf (kindsAt i)) (λ i. record { eax = false; ebx = false; ecx = eqb i (Place.extendedState 0); edx = false }) refl
+only-area = tabulate-at places (λ i. areasOf (kindsAt i)) areasAt refl
 
 -- ---- a register, by its size where it is the save area
 

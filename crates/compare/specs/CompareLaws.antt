@@ -25,7 +25,8 @@ use Rattle.table.specs.declared.Choices.{Choices}
 use Rattle.table.specs.declared.Refusal.{Refusal}
 use Rattle.table.specs.declared.Verdict.{Verdict}
 use Rattle.table.specs.declared.Verdict.the-variants.{Accepted, Refused}
-use Rattle.build.specs.Build.{rowsFor, answer}
+use Rattle.build.specs.Build.{editionVerdict, frontVerdict, rowsFor, verdictOf, answer}
+use Rattle.checks.specs.ChecksLaws.{then-left, then-skips}
 use Rattle.collect.specs.Lawful.{lawfulVerdict}
 use Rattle.compare.specs.declared.rows.Asked.the-variants.{Entries}
 use Rattle.compare.specs.declared.rows.RowsCompared.{RowsCompared}
@@ -62,7 +63,8 @@ from-entries = tabulate-at places (λ i. fromEntry (ruleAt i)) (λ i. not (madeH
 module _ (o : List ℕ) (i : ℕ) (l : i < places) where
   asked-there : isThere (getD (asked o) i 0) ≡ (fromEntry (ruleAt i) && getD (flags o) i false)
   asked-there =
-      rw (set-zero (set o Place.vendorAndMaxFunction 0) Place.extendedMaxFunction i, set-zero o Place.vendorAndMaxFunction i, from-entries i l, flag-at o i l)
+      let first = set o Place.vendorAndMaxFunction 0 in
+      rw (set-zero first Place.extendedMaxFunction i, set-zero o Place.vendorAndMaxFunction i, from-entries i l, flag-at o i l)
       (go (eqb i Place.vendorAndMaxFunction) (eqb i Place.extendedMaxFunction))
     where
       go : (p q : Bool) → isThere (pick q 0 (pick p 0 (getD o i 0))) ≡ (not (p || q) && isThere (getD o i 0))
@@ -87,6 +89,11 @@ module _ (chosen : Choices) (a b : List ℕ) where
   refused-a e = sym (with-verdicts e refl)
 
   module _ (accepted : answer chosen a .verdict ≡ Accepted) where
+    -- the edition is known, so the way in refuses B's pages only for themselves
+    pub lawful-b : {v : Verdict} → v ≡ frontVerdict chosen b → lawfulVerdict b ≡ v
+    unfolding answer verdictOf
+    lawful-b e = sym (e ∙ then-skips (then-left (editionVerdict (chosen .edition)) _ accepted))
+
     pub unlawful-b : {r : Refusal} → lawfulVerdict b ≡ Refused r → UnlawfulB r ≡ compared chosen a b
     unlawful-b e = sym (with-verdicts accepted e)
 

@@ -1,6 +1,6 @@
--- The rows of A that count beside the rows of B: whether B's rise from A's, or the first thing that fails: by rising leaf and subleaf a row of A's that
--- B has not, its EAX, EBX, ECX, EDX, each as its kind asks (crates/finish/specs/Kinds.antt), or a row of B's that A has not, where B may not have one;
--- last the combined mask. Entries of two servers and tables are its two uses.
+-- The rows of A that count beside the rows of B: whether B's rise from A's, or the first thing that fails. By rising leaf and subleaf: a row of A's
+-- that B has not; its EAX, EBX, ECX, EDX, each as its kind asks (crates/finish/specs/Kinds.antt); a row of B's that A has not, where B may not have
+-- one. Last the combined mask. Entries of two servers and tables are its two uses.
 use mathlib.Core.Bool.{Bool, true, false, not, _&&_}
 use Prim.Native.Nat.{ℕ, _-_}
 use lib.Dec.{eqb, leb, ltb}

@@ -103,8 +103,11 @@ module _ (w : Wanted) (A B C D : Rows) (p : (i : ℕ) → i < places → A i ≡
   same-place : (i : ℕ) → i < places → placeCompared w A B i ≡ placeCompared w C D i
   same-place i l = ap₂ (rowCompared w i) (p i l) (q i l)
 
+  abbrev last : RowsCompared
+  last = pick (w .masks) Rises MaskLacks
+
   same-found : (f : Failing) → lowest (placeTest w A B) 0 places ≡ f
-      → firstFailing f (placeCompared w A B) (pick (w .masks) Rises MaskLacks) ≡ firstFailing f (placeCompared w C D) (pick (w .masks) Rises MaskLacks)
+      → firstFailing f (placeCompared w A B) last ≡ firstFailing f (placeCompared w C D) last
   same-found none e = refl
   same-found (at i) e = same-place i (lowest-at (placeTest w A B) 0 places i e .below)
 
@@ -112,7 +115,7 @@ module _ (w : Wanted) (A B C D : Rows) (p : (i : ℕ) → i < places → A i ≡
   unfolding rowsCompared
   rows-same =
       same-found (lowest (placeTest w A B) 0 places) refl
-      ∙ ap (λ (f : Failing). firstFailing f (placeCompared w C D) (pick (w .masks) Rises MaskLacks))
+      ∙ ap (λ (f : Failing). firstFailing f (placeCompared w C D) last)
       (lowest-same (placeTest w A B) (placeTest w C D) 0 places (λ j _ l. ap rises (same-place j l)))
 
 -- two tables in lent memory, by what the code has at hand: their rows and their combined masks

@@ -22,7 +22,8 @@ tables a b = record {
 abbrev pub TablesAnswerMeans : CpuidResults → CpuidResults → RowsCompared → Type 0
 TablesAnswerMeans a b = RowsMean (tables a b)
 
--- The answer means what it says, and no other answer does: it is c if and only if Means .. c holds. So it is `Rises` if and only if `TableRises` holds.
+-- The answer means what it says, and no other answer does: it is c if and only if TablesAnswerMeans .. c holds. So it is `Rises` if and only if
+-- `TableRises` holds.
 pub record DecidesTables (a b : CpuidResults) (r : RowsCompared) : Type 0 where
   pub means : TablesAnswerMeans a b r
   pub exact : (c : RowsCompared) → TablesAnswerMeans a b c → r ≡ c

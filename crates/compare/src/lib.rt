@@ -8,17 +8,15 @@ use crate::registers::Register;
 use crate::rows::Asked;
 use crate::rows::RowsCompared;
 use crate::rows::compare_rows;
-use collect::walk_pages;
+use build::rows_into;
 use masking::PLACES;
 use masking::place;
 use memory::REGISTERS;
-use memory::sized;
-use rows_finished::build_rows;
+use rows_finished::finish_rows;
 use table::Choices;
 use table::Refusal;
 use table::Subleaf;
 use table::Verdict;
-use table::known_edition;
 use x86defs::CpuidFunction;
 ghost use mathlib.Core.Path.{_≡_};
 ghost use Rattle.compare.specs.Compare.{entriesNamed, compared};
@@ -40,19 +38,15 @@ pub fn compare(a: &[u8], b: &[u8], choices: Choices) -> Compared
     ensures { λ r. ⌜ r ≡ compared choices (now (a .entry)) (now (b .entry)) ⌝ }
     ensures decides { λ r. ⌜ Decides choices (now (a .entry)) (now (b .entry)) r ⌝ }
 {
-    if known_edition(choices.edition) {} else {
-        return Compared::RefusedA(Refusal::UnknownEdition);
-    }
     let mut registers: [u32; REGISTERS] = [0; REGISTERS];
     let mut origins: [u64; PLACES] = [0; PLACES];
-    let walked = walk_pages(a, choices.secure_avic, &mut registers, &mut origins);
-    if let Verdict::Refused(refusal) = walked {
+    let front = rows_into(a, choices, &mut registers, &mut origins);
+    if let Verdict::Refused(refusal) = front {
         return Compared::RefusedA(refusal);
     }
-    sized(&registers, &origins);
     // A's entries, before its table takes their place: of the table only the places that have a row from an entry are asked
     let entries = registers;
-    let verdict = build_rows(&mut registers, &mut origins, choices.edition);
+    let verdict = finish_rows(&mut registers, &mut origins, choices.edition);
     if let Verdict::Refused(refusal) = verdict {
         return Compared::RefusedA(refusal);
     }
@@ -60,11 +54,10 @@ pub fn compare(a: &[u8], b: &[u8], choices: Choices) -> Compared
     origins[place::EXTENDED_MAX_FUNCTION] = 0;
     registers = [0; REGISTERS];
     let mut origins_b: [u64; PLACES] = [0; PLACES];
-    let lawful = walk_pages(b, choices.secure_avic, &mut registers, &mut origins_b);
+    let lawful = rows_into(b, choices, &mut registers, &mut origins_b);
     if let Verdict::Refused(refusal) = lawful {
         return Compared::UnlawfulB(refusal);
     }
-    sized(&registers, &origins_b);
     entries_named(compare_rows(Asked::Entries, &entries, &origins, &registers, &origins_b))
 }
 

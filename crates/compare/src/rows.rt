@@ -1,5 +1,5 @@
-// Rows compared as demand 3 has it. The rows of A that count and those of B come in, in lent memory, with what is asked of them; whether B's rise from
-// A's goes out, or the first thing that fails.
+// Rows compared as demand 3 has it. The rows of A that count and those of B come in, in lent memory, with what is asked of them; whether B's rise
+// from A's goes out, or the first thing that fails.
 use crate::registers::Register;
 use crate::registers::RegistersRise;
 use crate::registers::first_register;
@@ -31,8 +31,8 @@ pub enum Asked {
     Tables(u64, u64),
 }
 
-// What a comparison gives: B's rows rise from A's; B lacks a row of A's; a register of its row is not as wanted; it has a row that A has not, where it
-// may not; or its combined mask lacks a bit of A's.
+// What a comparison gives: B's rows rise from A's; B lacks a row of A's; a register of its row is not as wanted; it has a row that A has not, where
+// it may not; or its combined mask lacks a bit of A's.
 pub enum RowsCompared {
     Rises,
     NoRow(CpuidFunction, Subleaf),

@@ -1,5 +1,5 @@
 -- Examples: page sets with a nonzero reserved byte (document 02, P10), by computation.
-use mathlib.Core.Path.{_≡_, refl, sym, ap}
+use mathlib.Core.Path.{_≡_, sym}
 use mathlib.Core.Bool.{true}
 use mathlib.Core.List.{List, [], _∷_, _++_}
 use Prim.Native.Nat.{ℕ}
@@ -9,10 +9,9 @@ use Rattle.pages.specs.Reserved.{allClean}
 use Rattle.table.specs.declared.Refusal.the-variants.{PageCount, ReservedBytes}
 use Rattle.table.specs.declared.Verdict.the-variants.{Accepted, Refused}
 use Rattle.table.specs.Edition.{knownEdition}
-use Rattle.build.specs.declared.Built.{Built}
 use Rattle.collect.specs.Lawful.{lawfulVerdict}
-use Rattle.build.specs.Build.{answer}
-use Rattle.build.specs.BuildLaws.{answer-unlawful}
+use Rattle.build.specs.Build.{editionVerdict, answer}
+use Rattle.build.specs.BuildLaws.{front-refused}
 use Rattle.collect.specs.LawfulLaws.{lawful-clean}
 use Rattle.rise.specs.RiseProof.{accepted-lawful}
 use Rattle.compare.specs.declared.Compared.the-variants.{UnlawfulB}
@@ -36,8 +35,8 @@ unfolding passed withUnclean
 unlawful = lawful-passed (withUnclean 23)
 
 pub filtered-refused : answer firstEdition (withUnclean 23) .verdict ≡ Refused (ReservedBytes (function 0x40000000))
-unfolding knownEdition
-filtered-refused = sym (ap (λ (b : Built). b .verdict) (answer-unlawful firstEdition (withUnclean 23) refl refl unlawful refl))
+unfolding knownEdition editionVerdict
+filtered-refused = front-refused firstEdition (withUnclean 23) unlawful
 
 pub a-to-unclean : compared firstEdition serverA (withUnclean 23) ≡ UnlawfulB (ReservedBytes (function 0x40000000))
 a-to-unclean = sym (unlawful-b firstEdition serverA (withUnclean 23) serverA-accepted unlawful)

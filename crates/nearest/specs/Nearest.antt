@@ -9,9 +9,7 @@ use Rattle.table.specs.declared.Choices.{Choices}
 use Rattle.table.specs.declared.Refusal.the-variants.{NothingDecides}
 use Rattle.table.specs.declared.Verdict.{Verdict}
 use Rattle.table.specs.declared.Verdict.the-variants.{Accepted, Refused}
-use Rattle.table.specs.Refusal.{andThen}
-use Rattle.build.specs.Build.{editionVerdict}
-use Rattle.collect.specs.Lawful.{lawfulVerdict}
+use Rattle.build.specs.Build.{frontVerdict}
 use Rattle.flips.specs.declared.Flip.{Flip}
 use Rattle.flips.specs.Flips.{flips}
 use Rattle.search.specs.Changes.{changes}
@@ -27,10 +25,7 @@ unfoldable pub firstThat : (Flip → Bool) → List Flip → Nearest
 firstThat test [] = NoBit NothingDecides
 firstThat test (f ∷ fs) = pick (test f) (Bit f) (firstThat test fs)
 
--- 15, then 1, 2 and 17, which building gives in this order
-abbrev pub frontVerdict : Choices → List ℕ → Verdict
-frontVerdict c s = andThen (editionVerdict (c .edition)) (lawfulVerdict s)
-
+-- 15, then 1, 2 and 17 come first, which building gives in this order
 abbrev pub unlessRefused : Verdict → Nearest → Nearest
 unlessRefused Accepted x = x
 unlessRefused (Refused r) x = NoBit r

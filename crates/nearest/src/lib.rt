@@ -1,9 +1,8 @@
 // The nearest bit that matters: the first result bit of the pages whose flip changes the answer, or why there is none. The pages are not written.
-use collect::walk_pages;
+use build::rows_into;
 use flips::Flip;
 use masking::PLACES;
 use memory::REGISTERS;
-use memory::sized;
 use reader::Read;
 use search::decisive::Decisive;
 use search::decisive::first_bit;
@@ -11,7 +10,6 @@ use search::irrelevant::check_unflipped;
 use table::Choices;
 use table::Refusal;
 use table::Verdict;
-use table::known_edition;
 ghost use mathlib.Core.Path.{_≡_};
 ghost use mathlib.Core.Bool.{true};
 ghost use Rattle.table.specs.Edition.{knownEdition};
@@ -32,16 +30,12 @@ pub enum Nearest {
 pub fn nearest_bit(pages: &[u8], choices: Choices) -> Nearest
     ensures { λ r. ⌜ r ≡ nearest choices (now (pages .entry)) ⌝ }
 {
-    if known_edition(choices.edition) {} else {
-        return Nearest::NoBit(Refusal::UnknownEdition);
-    }
     let mut registers: [u32; REGISTERS] = [0; REGISTERS];
     let mut origins: [u64; PLACES] = [0; PLACES];
-    let lawful = walk_pages(pages, choices.secure_avic, &mut registers, &mut origins);
-    if let Verdict::Refused(r) = lawful {
+    let front = rows_into(pages, choices, &mut registers, &mut origins);
+    if let Verdict::Refused(r) = front {
         return Nearest::NoBit(r);
     }
-    sized(&registers, &origins);
     search_flips(
         pages,
         choices.secure_avic,

@@ -9,7 +9,7 @@ use Rattle.table.specs.declared.Refusal.the-variants.{PagesLength, PageCount, M
 use Rattle.table.specs.declared.Verdict.{Verdict}
 use Rattle.table.specs.declared.Verdict.the-variants.{Accepted, Refused}
 use Rattle.table.specs.Refusal.{andThen}
-use Rattle.build.specs.Build.{editionVerdict}
+use Rattle.build.specs.Build.{editionVerdict, frontVerdict}
 use Rattle.collect.specs.Lawful.{lengthVerdict, countsVerdict, reservedVerdict, lawfulVerdict}
 use Rattle.refusals.specs.Conditions.{EditionFault, LengthFault, CountFault, ReservedFault}
 use Rattle.refusals.specs.Settles.{Settles}
@@ -20,7 +20,7 @@ use Rattle.flips.specs.Flips.{flips}
 use Rattle.search.specs.Changes.{changes}
 use Rattle.nearest.specs.declared.Nearest.{Nearest}
 use Rattle.nearest.specs.declared.Nearest.the-variants.{Bit, NoBit}
-use Rattle.nearest.specs.Nearest.{firstThat, frontVerdict, unlessRefused, nearest}
+use Rattle.nearest.specs.Nearest.{firstThat, unlessRefused, nearest}
 use Rattle.nearest_exactly.specs.NearestExactly.{LawfulPages, GivenFor, Answers, NearestExactly}
 use Rattle.nearest_exactly.specs.FirstLaws.{Searched, searched, none-found, first-found}
 use Rattle.nearest_exactly.specs.FirstLaws.Searched.{found, none}

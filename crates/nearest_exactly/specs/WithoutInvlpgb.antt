@@ -15,7 +15,8 @@ use Rattle.table.specs.Rows.{Rows}
 use Rattle.checks.specs.Checks.{missingRequired, requiredVerdict, rowsVerdict}
 use Rattle.checks.specs.ChecksLaws.{then-left}
 use Rattle.collect.specs.Collect.{storedAt}
-use Rattle.build.specs.Build.{editionVerdict, rowsFor, verdictOf, answer}
+use Rattle.build.specs.Build.{editionVerdict, frontVerdict, rowsFor, verdictOf, answer}
+use Rattle.build.specs.BuildLaws.{front-known, front-lawful, front-refused}
 use Rattle.refusals.specs.Conditions.{RequiredFault}
 use Rattle.refusals.specs.Settles.{Settles}
 use Rattle.refusals.specs.Settles.Settles.{passes, refuses}
@@ -23,11 +24,11 @@ use Rattle.refusals.specs.RequiredSettled.{required-decides}
 use Rattle.table.specs.Numbers.{numbersOf}
 use Rattle.flips.specs.Flips.{flip}
 use Rattle.nearest.specs.declared.Nearest.the-variants.{Bit, NoBit}
-use Rattle.nearest.specs.Nearest.{frontVerdict, nearest}
+use Rattle.nearest.specs.Nearest.{nearest}
+use Rattle.nearest.specs.NearestFrontLaws.{front-refuses, searched}
 use Rattle.nearest_exactly.specs.NearestExactlyProof.{nearest-exactly}
 use Rattle.nearest_exactly.specs.Invlpgb.{invlpgb, not-four}
 use Rattle.nearest_exactly.specs.Ends.{without-invlpgb}
-use Rattle.nearest_exactly.specs.Twenty.{known, lawful, searched, front-refuses, front-answers}
 
 -- bit 3 of EBX of an entry that is stored as 80000008h's
 abbrev pub InvlpgbNearest : Choices → List ℕ → Type 0
@@ -40,11 +41,11 @@ module _ (c : Choices) (s : List ℕ) (bytes : (k : ℕ) → getD s k 0 < 256) w
 
   of-rows : frontVerdict c s ≡ Accepted → answer c s .verdict ≡ rowsVerdict m
   unfolding answer verdictOf
-  of-rows e = rw (then-left (editionVerdict (c .edition)) _ e, lawful c s bytes e)
+  of-rows e = rw (then-left (editionVerdict (c .edition)) _ e, front-lawful c s e)
 
   found : (e : frontVerdict c s ≡ Accepted) → requiredVerdict m ≡ Accepted → invlpgb m ≡ false → InvlpgbNearest c s
   found e f g =
-      let (p, q, stored, h) = without-invlpgb c s bytes (known c s bytes e) (lawful c s bytes e) f g in (p, q, stored, searched c s bytes e ∙ h)
+      let (p, q, stored, h) = without-invlpgb c s bytes (front-known c s e) (front-lawful c s e) f g in (p, q, stored, searched c s e ∙ h)
 
   by-rows : (e : frontVerdict c s ≡ Accepted) → rowsVerdict m ≡ Refused InvlpgbUnavailable
       → Settles (λ q. (j : ℕ) × RequiredFault m j × (q ≡ missingRequired j)) (requiredVerdict m) → InvlpgbNearest c s
@@ -63,5 +64,5 @@ module _ (c : Choices) (s : List ℕ) (bytes : (k : ℕ) → getD s k 0 < 256) w
       go : (v : Verdict) → frontVerdict c s ≡ v → InvlpgbNearest c s
       go Accepted f = by-rows f (sym (of-rows f) ∙ e) (required-decides m)
       go (Refused r) f =
-          let q : r ≡ InvlpgbUnavailable = (let h : Refused r ≡ Refused InvlpgbUnavailable = sym (front-answers c s bytes r f) ∙ e in cc) in
-          absurd (nearest-exactly c s (NoBit InvlpgbUnavailable) .0 (front-refuses c s bytes r f ∙ ap NoBit q))
+          let q : r ≡ InvlpgbUnavailable = (let h : Refused r ≡ Refused InvlpgbUnavailable = sym (front-refused c s f) ∙ e in cc) in
+          absurd (nearest-exactly c s (NoBit InvlpgbUnavailable) .0 (front-refuses c s f ∙ ap NoBit q))

@@ -41,7 +41,7 @@ use Rattle.finish.specs.RowsBuilt.{tableFor, builtFrom}
 use Rattle.build.specs.Build.{editionVerdict, verdictOf, originsIn, answer}
 use Rattle.collect.specs.Lawful.{lawfulVerdict}
 use Rattle.build.specs.BuildLaws.{no-origins, located-origins}
-use Rattle.rows_finished.specs.Finished.{Answered}
+use Rattle.rows_finished.specs.Finished.{Answered, Tried}
 use Rattle.counts.specs.Mask.{register-within, xfem-within, xss-within}
 use Rattle.register_masks.specs.Join.{pool}
 use Rattle.register_masks.specs.Alike.{allHave, alikeTo, allAlike}
@@ -185,9 +185,9 @@ module _ (c : Choices) (pages lengths : List ℕ) where
           refused-with (server-with (joined-verdict ∙ e))
           (named (firstRefused c pages lengths) refl ∙ sym (ap (λ (x : Joined). x .server) (j .answer)))
 
-      -- all are accepted: o are the first server's origins, and v, w₁ and o₁ what building leaves
+      -- all are accepted: o are the first server's origins, and v, w₁ and o₁ what finishing leaves
       module _ (passed : q .verdict ≡ Accepted) {o : List ℕ} (stands : o ≡ foundOrigins (setAt pages lengths 0)) {v : Verdict} {w₁ o₁ : List ℕ}
-          (b : Answered (builtFrom (c .edition) (rowsIn w o)) o v w₁ o₁) where
+          (b : Tried (builtFrom (c .edition) (rowsIn w o)) w o v w₁ o₁) where
         all-accepted : serversVerdict c pages lengths ≡ Accepted
         all-accepted = joined-verdict ∙ passed
 
@@ -212,7 +212,8 @@ module _ (c : Choices) (pages lengths : List ℕ) where
             ∙ ap (λ (x : Verdict). record { verdict = x; table = tableFor (c .edition) x (pool f n) }) (pool-accepted f n servers)
 
         answered : Answered (record { verdict = Accepted; table = table }) o v w₁ o₁
-        answered = subst (λ (x : RowsBuilt). Answered x o v w₁ o₁) built b
+        answered =
+            subst (λ (x : RowsBuilt). Answered x o v w₁ o₁) built (b .accepted (b .verdict ∙ ap (λ (x : RowsBuilt). x .verdict) built))
 
         -- the rows of the pool's table are those that all tables have
         asked-all : (i : ℕ) → i < places → isThere (getD o₁ i 0) ≡ allHave (c .edition) f n i

@@ -7,7 +7,7 @@ use pool_rows::all_alike;
 use pool_sets::join_rest;
 use pool_sets::server::server_into;
 use pool_sets::sets_fit;
-use rows_finished::build_rows;
+use rows_finished::finish_rows;
 use table::Choices;
 use table::CpuidResults;
 use table::Refusal;
@@ -73,7 +73,7 @@ fn pool_servers(
     if let Verdict::Refused(r) = verdict {
         return refuse(registers, origins, r, joined.server);
     }
-    let built = build_rows(registers, origins, choices.edition);
+    let built = finish_rows(registers, origins, choices.edition);
     let alike = joined.alike;
     if all_alike(origins, alike) {
         return PoolVerdict {

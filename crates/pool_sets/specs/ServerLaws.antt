@@ -1,63 +1,49 @@
 -- One server, one case for each return of the function.
 use mathlib.Core.Path.{_≡_, sym, ap, _∙_}
-use mathlib.Core.Bool.{true, false}
 use mathlib.Core.List.{List}
-use Prim.Native.Nat.{ℕ, _*_}
+use Prim.Native.Nat.{ℕ}
 use native.Mathlib.Omega.{arith}
-use lib.ListN.{length}
-use Rattle.masking.specs.Kept.{places}
 use Rattle.table.specs.declared.Choices.{Choices}
 use Rattle.table.specs.declared.Refusal.{Refusal}
-use Rattle.table.specs.declared.Refusal.the-variants.{UnknownEdition}
 use Rattle.table.specs.declared.Verdict.{Verdict}
 use Rattle.table.specs.declared.Verdict.the-variants.{Accepted, Refused}
-use Rattle.table.specs.Edition.{knownEdition}
 use Rattle.memory.specs.Memory.{rowsIn, Cleared}
-use Rattle.checks.specs.Checks.{rowsVerdict}
-use Rattle.collect.specs.Lawful.{lawfulVerdict}
-use Rattle.collect.specs.WalkedPages.{WalkedPages}
+use Rattle.finish.specs.declared.RowsBuilt.{RowsBuilt}
+use Rattle.finish.specs.RowsBuilt.{builtFrom}
 use Rattle.rows_checked.specs.declared.Checked.{Checked}
 use Rattle.rows_checked.specs.declared.Checked.the-variants.{Refused as NotReady, Ready}
 use Rattle.rows_checked.specs.Checked.{checkedRows, verdictOf}
 use Rattle.rows_checked.specs.CheckedLaws.{verdict-of}
-use Rattle.build.specs.Build as Build
-use Rattle.build.specs.Build.{editionVerdict, rowsFor, answer}
-use Rattle.build.specs.InMemoryLaws.{walked-rows}
+use Rattle.build.specs.Build.{answer, FrontIn}
+use Rattle.build.specs.BuildLaws.{front-rows, front-refused}
+use Rattle.build.specs.InMemoryLaws.{rows-held}
 use Rattle.pool_sets.specs.Server.{ServerIn}
 
-module _ (c : Choices) (s : List ℕ) {w₁ o₁ : List ℕ} (z : Cleared w₁ o₁) where
-  refused-with : {r : Refusal} → Build.verdictOf c s ≡ Refused r → ServerIn c s (Refused r) w₁ o₁
-  unfolding answer
-  refused-with e = record { verdict = sym e; rows = λ a. cc; stands = λ a. cc; refused = λ _ _. z }
-
-  pub server-unknown : knownEdition (c .edition) ≡ false → ServerIn c s (Refused UnknownEdition) w₁ o₁
-  server-unknown k = refused-with (unfold Build.verdictOf editionVerdict in rw k)
-
 module _ (c : Choices) (s w o : List ℕ) where
-  module _ (k : knownEdition (c .edition) ≡ true) {v : Verdict} (walk : WalkedPages (c .«secure_avic») s v w o) where
-    pub server-unlawful : {r : Refusal} → v ≡ Refused r → ServerIn c s (Refused r) w o
-    server-unlawful {r} f =
-        refused-with c s (walk .refused r f) (unfold Build.verdictOf editionVerdict in rw (k, ← walk .verdict, f))
+  refused-with : {r : Refusal} → answer c s .verdict ≡ Refused r → Cleared w o → ServerIn c s (Refused r) w o
+  refused-with e z = record { verdict = sym e; registers = λ a. cc; stands = λ a. cc; refused = λ _ _. z }
 
-    -- x is what the checks give of the rows that the walk left
-    module _ (f : v ≡ Accepted) (a : length w ≡ 4 * places) (b : length o ≡ places) {x : Checked} (e : x ≡ checkedRows (rowsIn w o)) where
-      checked : verdictOf x ≡ rowsVerdict (rowsFor c s)
-      unfolding checkedRows
-      checked = ap verdictOf e ∙ verdict-of _ (rowsIn w o) ∙ ap rowsVerdict (walked-rows c s w o a b walk f)
+  module _ {v : Verdict} (k : FrontIn c s v w o) where
+    pub server-front : {r : Refusal} → v ≡ Refused r → ServerIn c s (Refused r) w o
+    server-front e = refused-with (front-refused c s (sym (k .verdict) ∙ e)) (k .refused _ e)
 
-      judged : Build.verdictOf c s ≡ verdictOf x
-      unfolding Build.verdictOf editionVerdict
-      judged = let l : lawfulVerdict s ≡ Accepted = sym (walk .verdict) ∙ f in rw (k, l) (sym checked)
-
-      -- the memory cleared then
-      pub server-refused : {r : Refusal} {w₁ o₁ : List ℕ} → x ≡ NotReady r → Cleared w₁ o₁ → ServerIn c s (Refused r) w₁ o₁
-      server-refused g z = refused-with c s z (judged ∙ ap verdictOf g)
+    -- x is what the checks give of the rows
+    module _ (z : v ≡ Accepted) {x : Checked} (e : x ≡ checkedRows (rowsIn w o)) where
+      pub judged : answer c s .verdict ≡ verdictOf x
+      unfolding checkedRows builtFrom
+      judged =
+          ap (λ (b : RowsBuilt). b .verdict) (front-rows c s (sym (k .verdict) ∙ z) ∙ ap (builtFrom (c .edition)) (sym (rows-held c s w o k z)))
+          ∙ sym (ap verdictOf e ∙ verdict-of _ (rowsIn w o))
 
       pub server-accepted : {mask size n : ℕ} → x ≡ Ready mask size n → ServerIn c s Accepted w o
-      unfolding answer
       server-accepted g = record {
         verdict = sym (judged ∙ ap verdictOf g);
-        rows = λ _. walk .rows f;
-        stands = λ _. walk .stands f;
+        registers = λ _. k .registers z;
+        stands = λ _. k .stands z;
         refused = λ r h. absurd (let z : _≡_ {A = ℕ} 0 1 = cc in omega arith);
       }
+
+-- the checks refuse the rows, and the memory is cleared then
+pub server-refused : (c : Choices) (s w o : List ℕ) {v : Verdict} → FrontIn c s v w o → v ≡ Accepted → {x : Checked} → x ≡ checkedRows (rowsIn w o)
+    → {r : Refusal} {w₁ o₁ : List ℕ} → x ≡ NotReady r → Cleared w₁ o₁ → ServerIn c s (Refused r) w₁ o₁
+server-refused c s w o k z e {r} {w₁} {o₁} g d = refused-with c s w₁ o₁ (judged c s w o k z e ∙ ap verdictOf g) d

@@ -31,7 +31,7 @@ module _ (c : Choices) (pages lengths : List ℕ) (k : ℕ) {s w o : List ℕ} {
   part-verdict p = sym (e .verdict ∙ ap (λ (t : List ℕ). answer c t .verdict) part) ∙ p
 
   pub part-rows : v ≡ Accepted → w ≡ registersOf (serverRows c pages lengths k)
-  part-rows p = e .rows p ∙ ap (λ (t : List ℕ). registersOf (rowsFor c t)) part
+  part-rows p = e .registers p ∙ ap (λ (t : List ℕ). registersOf (rowsFor c t)) part
 
   pub part-stands : v ≡ Accepted → o ≡ foundOrigins (setAt pages lengths k)
   part-stands p = e .stands p ∙ ap foundOrigins part

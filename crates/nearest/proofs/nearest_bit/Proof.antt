@@ -1,47 +1,35 @@
--- `nearest::nearest_bit` meets its contract: 15, then 1, 2 and 17, then the search.
+-- `nearest::nearest_bit` meets its contract: 15, 1, 2 or 17, or the search.
 use borrow.Author.Needs.{needs}
-use mathlib.Core.Path.{_≡_, sym, _∙_}
-use mathlib.Core.Bool.{true}
-use Rattle.table.specs.Edition.{knownEdition}
-use Rattle.build.specs.InMemoryLaws.{walked-rows}
-use Rattle.nearest.specs.NearestFrontLaws.{nearest-unknown, nearest-unlawful, nearest-searched}
+use mathlib.Core.Path.{sym, _∙_}
+use Rattle.build.specs.BuildLaws.{front-known, front-lawful}
+use Rattle.build.specs.InMemoryLaws.{rows-held}
+use Rattle.nearest.specs.NearestFrontLaws.{front-refuses, searched}
 use Rattle.nearest.proofs.nearest_bit.Statement.{statement}
 use Rattle.nearest.proofs.nearest_bit.Tie as tie
 
 returns : tie.Need-returns
-returns c = nearest-unknown _ _ (sym (c .before .known-edition .ensures) ∙ c .if1 .left)
-
--- the edition is known, when the pages are walked
-known : (l : tie.After-walk-pages) → knownEdition (l .before .before .before .before .before .before .args .choices .edition) ≡ true
-known l = let t = l .before .before .before in sym (t .before .known-edition .ensures) ∙ t .if1 .taken
-
-returns-2 : tie.Need-returns-2
-returns-2 c =
-    let v = c .before in let l = v .before .before in
-    nearest-unlawful _ _ (known l) (l .walk-pages .ensures .verdict) (v .lawful .given .1)
+returns c =
+    let v = c .before in
+    sym (front-refuses _ _ (sym (v .before .before .rows-into .ensures .verdict) ∙ v .front .given .1))
 
 search-flips-requires : tie.Need-search-flips-requires
 search-flips-requires c κs =
-    let z = c .before .before in let e = z .before .before .before in let l = e .before .before in
-    let w = l .walk-pages .ensures in let a = e .enum-told .given .1 in
-    let chosen = l .before .before .before .before .before .before .args .choices in
-    (known l, sym (w .verdict) ∙ a, walked-rows chosen _ _ _ (z .sized .ensures .0) (z .sized .ensures .1) w a)
+    let e = c .before .before in let l = e .before .before in let k = l .rows-into .ensures in let a = e .enum-told .given .1 in
+    let chosen = l .before .before .before .before .args .choices in let front = sym (k .verdict) ∙ a in
+    (front-known chosen _ front, front-lawful chosen _ front, rows-held chosen _ _ _ k a)
 
-returns-3 : tie.Need-returns-3
-returns-3 c =
-    let e = c .before .before .before .before .before .before in let l = e .before .before in
-    nearest-searched _ _ (known l) (l .walk-pages .ensures .verdict) (e .enum-told .given .1) (c .search-flips .ensures)
+returns-2 : tie.Need-returns-2
+returns-2 c =
+    let e = c .before .before .before in
+    c .search-flips .ensures ∙ sym (searched _ _ (sym (e .before .before .rows-into .ensures .verdict) ∙ e .enum-told .given .1))
 
 pub nearest-bit-spec : {M : Type 1} → statement M
 nearest-bit-spec =
     tie.close
     (tie.spec
     (λ c κs. search needs)
+    (λ c. search needs)
     returns
-    (λ c κs. search needs)
     (λ c. search needs)
-    returns-2
-    (λ c. search needs)
-    (λ c κs. search needs)
     search-flips-requires
-    returns-3)
+    returns-2)

@@ -57,7 +57,7 @@ returns-3 c =
     pooled-accepted (a .choices) (a .pages .now) (a .lengths .now) (start r .pre) (j .join-rest .ensures) (m .enum-told2 .given .1)
     (part-stands (a .choices) (a .pages .now) (a .lengths .now) 0 (first-set (a .pages .now) (a .lengths .now)) (r .server-into .ensures)
     (e .enum-told .given .1))
-    (b .build-rows .ensures) (c .before .all-alike .ensures) (c .if1 .taken)
+    (b .finish-rows .ensures) (c .before .all-alike .ensures) (c .if1 .taken)
 
 returns-4 : tie.Need-returns-4
 returns-4 c =
@@ -68,7 +68,7 @@ returns-4 c =
     (pooled-differs (a .choices) (a .pages .now) (a .lengths .now) (start r .pre) (j .join-rest .ensures) (m .enum-told2 .given .1)
     (part-stands (a .choices) (a .pages .now) (a .lengths .now) 0 (first-set (a .pages .now) (a .lengths .now)) (r .server-into .ensures)
     (e .enum-told .given .1))
-    (b .build-rows .ensures) (i .before .all-alike .ensures) (i .if1 .left))
+    (b .finish-rows .ensures) (i .before .all-alike .ensures) (i .if1 .left))
     (c .refuse3 .ensures)
 
 pub pool-servers-spec : {M : Type 1} → statement M
