@@ -105,6 +105,15 @@ class Gate(unittest.TestCase):
             status, lines = self.run_gate(proofs=proofs)
             self.assertEqual((status, lines[-1]), (1, last), lines)
 
+    def test_the_library_is_made_beside_the_last_proofs(self):
+        """rt goes on only when the library is there, which waits for no crate but those that snp_cpuid stands on."""
+        self.before = lambda root: (root / 'crates.txt').write_text('one:\nsnp_cpuid: one\nlast: snp_cpuid\n')
+        rt = ('[ "$1" = ci ] || exit 0; rm -rf target; mkdir -p target; echo "rt: one proved (1 s)"; for i in $(seq 600); do [ ! -e made ] || break; '
+              'sleep 0.1; done; [ -e made ] || exit 1; echo "rt: snp_cpuid proved (1 s)"; echo "rt: last proved (1 s)"; echo "7 passed, 0 failed"')
+        status, lines = self.run_gate(rt=rt, make='touch made')
+        self.assertEqual((status, lines[-1]), (0, f'{TESTS + 7} passed, 0 failed'), lines)
+        self.assertIn('rt: snp_cpuid proved (1 s), 1 left', lines)
+
     def test_tests_passed_over_are_named(self):
         skipped = "skipped: Debian's cpuid is not installed\n" * 2 + "..skipped: Debian's jq is not installed (apt-get install jq)\n" \
             + "test_x (a.b) ... skipped 'fish is not installed'\n"
