@@ -1,4 +1,4 @@
--- The stages of `build_rows`: the answer from a check on.
+-- The stages of `finish_rows`: the answer from a check on.
 use Prim.Native.Nat.{ℕ}
 use Rattle.table.specs.declared.Refusal.{Refusal}
 use Rattle.table.specs.declared.Verdict.{Verdict}
