@@ -28,7 +28,7 @@ DETERMINED = {
     ('masking', 'Kept', 'leafAt'): ('registers-by-the-letter',),
     ('letter', 'Names', 'subAt'): ('registers-by-the-letter',),
     ('finish', 'Kinds', 'kindsAt'): ('registers-by-the-letter',),
-    ('features', 'Finish', 'ruleAt'): ('rows-without-entry',),
+    ('finish', 'Finish', 'ruleAt'): ('rows-without-entry',),
 }
 MOST_NAMED = 12  # of more words the list says how many they are
 HEAD = ['| file | what is used of it | lines |', '|---|---|---|']

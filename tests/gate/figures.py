@@ -42,7 +42,7 @@ def figures(root):
     rows, most = stated(root, r'«row_count» ≡ (\d+) \+'), stated(root, r'«row_count» ≤ (\d+)')
     image = stated(root, r'length \(image .*\) ≡ (\d+) \+ 25 \*')
     return {
-        'servers': constant(root, 'pool_sets', 'MOST_SETS'),
+        'servers': constant(root, 'pool/src/sets.rt', 'MOST_SETS'),
         'places': places, 'last': places - 1, 'registers': 4 * places, 'table_bytes': 24 * places,
         'rows': rows, 'most_rows': most, 'image': image, 'most_image': image + 25 * (most - rows), 'most_kvm': 8 + 40 * most,
         'any_image': image + 25 * (places - rows), 'any_kvm': 8 + 40 * places, 'kept_rows': len(table),

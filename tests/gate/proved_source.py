@@ -96,11 +96,11 @@ def functions(root):
     return sorted(found, key=lambda function: not function.name.startswith('snp_cpuid_table_'))
 
 
-def constant(root, crate, name):
-    """The value of a named number."""
-    found = re.search(rf'^pub const {name}: usize = (\d+);', (root / 'crates' / crate / 'src' / 'lib.rt').read_text(encoding='utf-8'), re.MULTILINE)
+def constant(root, file, name):
+    """The value of a named number of a file in crates/."""
+    found = re.search(rf'^pub const {name}: usize = (\d+);', (root / 'crates' / file).read_text(encoding='utf-8'), re.MULTILINE)
     if not found:
-        raise Unlisted(f'crates/{crate}/src/lib.rt has no {name}')
+        raise Unlisted(f'crates/{file} has no {name}')
     return int(found[1])
 
 

@@ -8,7 +8,7 @@ import unittest
 
 import figures
 
-SOURCES = figures.EDITION, 'crates/pool_sets/src/lib.rt', 'crates/x86defs/specs/Functions.antt', figures.COUNTS
+SOURCES = figures.EDITION, 'crates/pool/src/sets.rt', 'crates/x86defs/specs/Functions.antt', figures.COUNTS
 
 
 class Figures(unittest.TestCase):
@@ -36,7 +36,7 @@ class Figures(unittest.TestCase):
         self.assertEqual(self.asked('--check')[0], 0)
 
     def test_a_pool_of_32(self):
-        self.edit('crates/pool_sets/src/lib.rt', 'MOST_SETS: usize = 16;', 'MOST_SETS: usize = 32;')
+        self.edit('crates/pool/src/sets.rt', 'MOST_SETS: usize = 16;', 'MOST_SETS: usize = 32;')
         status, said = self.asked('--check')
         self.assertEqual(status, 1)
         self.assertIn('README.md has another figure', said)
@@ -85,8 +85,8 @@ class Figures(unittest.TestCase):
             self.assertEqual(self.asked('--write')[0], 1)
 
     def test_a_source_without_the_number(self):
-        self.edit('crates/pool_sets/src/lib.rt', 'MOST_SETS', 'MANY_SETS')
-        self.assertEqual(self.asked('--check'), (1, 'crates/pool_sets/src/lib.rt has no MOST_SETS\n'))
+        self.edit('crates/pool/src/sets.rt', 'MOST_SETS', 'MANY_SETS')
+        self.assertEqual(self.asked('--check'), (1, 'crates/pool/src/sets.rt has no MOST_SETS\n'))
 
     def test_other_words(self):
         self.assertEqual(self.asked('--help')[0], 2)

@@ -10,7 +10,7 @@ import model_table
 from pagesets import MILAN
 
 ROOT = Path(__file__).resolve().parents[2]
-SERVER_A = ROOT / 'crates/fingerprints/specs/FingerprintA.antt'
+SERVER_A = ROOT / 'crates/images/specs/FingerprintA.antt'
 
 
 def literal(name):

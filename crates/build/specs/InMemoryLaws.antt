@@ -22,8 +22,8 @@ use Rattle.collect.specs.CollectedLaws.{walked-collected}
 use Rattle.collect.specs.WalkedPages.{WalkedPages}
 use Rattle.finish.specs.declared.RowsBuilt.{RowsBuilt}
 use Rattle.finish.specs.RowsBuilt.{builtFrom}
-use Rattle.rows_finished.specs.Finished.{Answered, Tried}
-use Rattle.rows_finished.specs.AnsweredLaws.{cleared, cleared-whole}
+use Rattle.rows.specs.Finished.{Answered, Tried}
+use Rattle.rows.specs.AnsweredLaws.{cleared, cleared-whole}
 use Rattle.build.specs.declared.Built.{Built}
 use Rattle.build.specs.Built.{withoutOrigins, notBuilt}
 use Rattle.build.specs.Build.{editionVerdict, rowsFor, answer, EntriesIn, FrontIn, InMemory}

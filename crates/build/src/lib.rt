@@ -4,7 +4,7 @@ use collect::walk_pages;
 use masking::PLACES;
 use memory::REGISTERS;
 use memory::clear;
-use rows_finished::finish_rows;
+use rows::finish_rows;
 use table::Choices;
 use table::CpuidResults;
 use table::Refusal;

@@ -17,7 +17,7 @@ use Rattle.table.specs.Edition.{knownEdition}
 use Rattle.table.specs.Rows.{Row, Rows}
 use Rattle.table.specs.Table.{emptyTable, rowIn}
 use Rattle.checks.specs.ExtendedState.{xfem}
-use Rattle.features.specs.Finish.{f16c, xopAndFma4}
+use Rattle.finish.specs.Finish.{f16c, xopAndFma4}
 use Rattle.guest_state.specs.State.{stateVerdict}
 use Rattle.table.specs.declared.Refusal.{Refusal}
 use Rattle.table.specs.declared.Refusal.the-variants.{UnknownEdition, EditionBack}

@@ -1,7 +1,7 @@
 // Carries a running table, in lent memory or as its image, from one edition of the AVX rule to another, under one processor's state. A refusal leaves
 // it as it was.
-use features::F16C;
-use features::XOP_AND_FMA4;
+use finish::features::F16C;
+use finish::features::XOP_AND_FMA4;
 use guest_state::InUse;
 use guest_state::read_row;
 use guest_state::state_in_use;

@@ -19,8 +19,8 @@ use Rattle.pages.specs.declared.ParsedCpuidEntry.{ParsedCpuidEntry}
 use Rattle.pages.specs.declared.CpuidPageIndex.{CpuidPageIndex}
 use Rattle.pages.specs.Layout.{Entry, entryAt, pagesIn}
 use Rattle.pages.specs.Parsed.{parsed, countsRead}
-use Rattle.reader.specs.Walk.{firstIndex, incremented, rest}
-use Rattle.reader.specs.WalkLaws.{Valid, Turn, turn, first-valid, rest-first, rest-end}
+use Rattle.pages.specs.Walk.{firstIndex, incremented, rest}
+use Rattle.pages.specs.WalkLaws.{Valid, Turn, turn, first-valid, rest-first, rest-end}
 use Rattle.pages.specs.Entries.{entries, counts, counted}
 use Rattle.masking.specs.Masks.{Masks, applyMask}
 use Rattle.masking.specs.Kept.{places, placeOf}

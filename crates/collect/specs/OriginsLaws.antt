@@ -16,8 +16,8 @@ use Rattle.bits.specs.ListsLaws.{tabulated}
 use Rattle.pages.specs.declared.CpuidPageIndex.{CpuidPageIndex}
 use Rattle.pages.specs.Layout.{Entry, entryAt, pagesIn, countOf, countsFit}
 use Rattle.pages.specs.LayoutLaws.{counts-fit-at}
-use Rattle.reader.specs.Walk.{firstIndex, incremented, rest}
-use Rattle.reader.specs.WalkLaws.{Valid, turn, rest-first, rest-end}
+use Rattle.pages.specs.Walk.{firstIndex, incremented, rest}
+use Rattle.pages.specs.WalkLaws.{Valid, turn, rest-first, rest-end}
 use Rattle.pages.specs.Entries.{entries, counts, counted}
 use Rattle.masking.specs.Kept.{places}
 use Rattle.memory.specs.OriginLaws.{number-pick}

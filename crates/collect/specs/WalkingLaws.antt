@@ -18,15 +18,15 @@ use Rattle.pages.specs.declared.ParsedCpuidEntry.{ParsedCpuidEntry}
 use Rattle.pages.specs.declared.CpuidPageIndex.{CpuidPageIndex}
 use Rattle.pages.specs.Layout.{entryAt, pagesIn}
 use Rattle.pages.specs.Parsed.{parsed}
-use Rattle.reader.specs.Walk.{firstIndex, incremented, rest}
-use Rattle.reader.specs.WalkLaws.{turn, rest-first, rest-end}
+use Rattle.pages.specs.Walk.{firstIndex, incremented, rest}
+use Rattle.pages.specs.WalkLaws.{turn, rest-first, rest-end}
 use Rattle.pages.specs.declared.reserved.Reserved.{Reserved}
 use Rattle.pages.specs.declared.reserved.Reserved.the-variants.{Zero, Nonzero}
 use Rattle.pages.specs.Reserved.{clean, firstNonzero, reservedOf, allClean}
 use Rattle.pages.specs.ReservedLaws.{clean-zero}
-use Rattle.reader.specs.declared.Read.the-variants.{Unclean}
-use Rattle.reader.specs.Read.{entryHere, cleanHere, readAt}
-use Rattle.reader.specs.ReadLaws.{read-unclean}
+use Rattle.pages.specs.declared.reader.Read.the-variants.{Unclean}
+use Rattle.pages.specs.Read.{entryHere, cleanHere, readAt}
+use Rattle.pages.specs.ReadLaws.{read-unclean}
 use Rattle.masking.specs.Kept.{places}
 use Rattle.table.specs.Table.{emptyTable}
 use Rattle.table.specs.declared.CpuidResults.{CpuidResults}

@@ -10,8 +10,8 @@ use memory::REGISTERS;
 use memory::clear;
 use memory::put_row;
 use pages::ParsedCpuidEntry;
+use pages::reader::Read;
 use pages::reserved::Reserved;
-use reader::Read;
 use table::Refusal;
 use table::Verdict;
 use x86defs::CpuidFunction;
@@ -73,13 +73,13 @@ fn collect_into(
     ensures { λ r. ⌜ Walked (now (pages .entry)) r (now (registers .exit)) (now (origins .exit)) ⌝ }
 {
     let n = pages::page_count(pages);
-    let mut index = reader::start(pages);
+    let mut index = pages::reader::start(pages);
     let mut full = full::NOT_KEPT;
     while index.page_index < n {
         let page = index.page_index;
         let count = pages::count_of(pages, page) as usize;
         loop {
-            let read = reader::take(pages, index);
+            let read = pages::reader::take(pages, index);
             match read {
                 Read::Entry(entry) => {
                     let origin = memory::origins::entry_number(
@@ -88,7 +88,7 @@ fn collect_into(
                     );
                     let after = add_entry(full, entry, origin, registers, origins);
                     full = after;
-                    let next = reader::step(pages, index, count);
+                    let next = pages::reader::step(pages, index, count);
                     index = next;
                     if index.function_index == 0 {
                         break;

@@ -16,7 +16,7 @@ use Rattle.masking.specs.KeptLaws.{madeHere}
 use Rattle.masking.specs.Place
 use Rattle.table.specs.declared.CpuidResults.{CpuidResults}
 use Rattle.table.specs.Table.{rowIn}
-use Rattle.features.specs.Finish.{ruleAt}
+use Rattle.finish.specs.Finish.{ruleAt}
 use Rattle.finish.specs.Kinds.{fromEntry}
 use Rattle.memory.specs.Memory.{isThere, rowsIn}
 use Rattle.memory.specs.Held.{heldIn, flags, flag-at}

@@ -12,7 +12,7 @@ use build::rows_into;
 use masking::PLACES;
 use masking::place;
 use memory::REGISTERS;
-use rows_finished::finish_rows;
+use rows::finish_rows;
 use table::Choices;
 use table::Refusal;
 use table::Subleaf;

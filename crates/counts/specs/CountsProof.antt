@@ -9,7 +9,7 @@ use Rattle.table.specs.declared.Choices.{Choices}
 use Rattle.table.specs.declared.Verdict.the-variants.{Accepted}
 use Rattle.table.specs.Rows.{Rows}
 use Rattle.checks.specs.ExtendedState.{combinedMask}
-use Rattle.features.specs.Finish.{finished}
+use Rattle.finish.specs.Finish.{finished}
 use Rattle.table.specs.Table.{tableOf}
 use Rattle.build.specs.Build.{rowsFor, answer}
 use Rattle.image.specs.Image.{image}

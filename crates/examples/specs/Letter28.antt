@@ -29,7 +29,7 @@ use Rattle.page_sets.specs.Evaluation.{firstEdition}
 use Rattle.page_sets.specs.PageSets.{serverA}
 use Rattle.register_masks.specs.JoinedEntryLaws.{other-bits}
 use Rattle.register_masks.specs.Features.{FeatureWithin}
-use Rattle.pool_sets.specs.Sets.{setAt}
+use Rattle.pool.specs.Sets.{setAt}
 use Rattle.pool.specs.Pool.{pooled}
 use Rattle.pool_laws.specs.PoolRight.{serverTable, poolTable, NoneBeyond}
 use Rattle.pool_laws.specs.PoolProof.{pool-right}

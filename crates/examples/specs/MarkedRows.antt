@@ -15,7 +15,7 @@ use Rattle.table.specs.declared.Verdict.the-variants.{Accepted, Refused}
 use Rattle.table.specs.Refusal.{details, topologyDetails}
 use Rattle.table.specs.Rows.{Rows, row, vacant}
 use Rattle.checks.specs.Checks.{areaVerdict}
-use Rattle.features.specs.Finish.{finished}
+use Rattle.finish.specs.Finish.{finished}
 use Rattle.page_sets.specs.Evaluation.{opened}
 
 -- what a marked row tells

@@ -20,10 +20,10 @@ use Rattle.table.specs.Edition.{knownEdition}
 use Rattle.collect.specs.Collect.{storedAt}
 use Rattle.build.specs.Build.{editionVerdict, frontVerdict, answer}
 use Rattle.collect.specs.Lawful.{lawfulVerdict}
-use Rattle.flips.specs.declared.Flip.{Flip}
-use Rattle.flips.specs.Flips.{flip, flipped, flipsOf, flipsIn, flips}
-use Rattle.search.specs.SameVerdict.{sameResult, sameRows, sameTable, sameNumbers, sameAnswer}
-use Rattle.search.specs.Changes.{changes}
+use Rattle.nearest.specs.declared.flips.Flip.{Flip}
+use Rattle.nearest.specs.Flips.{flip, flipped, flipsOf, flipsIn, flips}
+use Rattle.nearest.specs.SameVerdict.{sameResult, sameRows, sameTable, sameNumbers, sameAnswer}
+use Rattle.nearest.specs.Changes.{changes}
 use Rattle.nearest.specs.declared.Nearest.the-variants.{Bit}
 use Rattle.nearest.specs.Nearest.{firstThat, unlessRefused, nearest}
 use Rattle.nearest_exactly.specs.OutsideLaws.{Among, not-first}

@@ -12,10 +12,10 @@ use Rattle.table.specs.declared.CpuidResults.{CpuidResults}
 use Rattle.table.specs.declared.Verdict.{Verdict}
 use Rattle.table.specs.declared.Verdict.the-variants.{Accepted}
 use Rattle.build.specs.Build.{frontVerdict, answer}
-use Rattle.flips.specs.declared.Flip.{Flip}
-use Rattle.flips.specs.Flips.{flip, flipped, flipsOf, flipsIn, flips}
-use Rattle.search.specs.SameVerdict.{sameAnswer}
-use Rattle.search.specs.Changes.{changes}
+use Rattle.nearest.specs.declared.flips.Flip.{Flip}
+use Rattle.nearest.specs.Flips.{flip, flipped, flipsOf, flipsIn, flips}
+use Rattle.nearest.specs.SameVerdict.{sameAnswer}
+use Rattle.nearest.specs.Changes.{changes}
 use Rattle.nearest.specs.declared.Nearest.the-variants.{Bit}
 use Rattle.nearest.specs.Nearest.{firstThat, unlessRefused, nearest}
 use Rattle.page_sets.specs.Pass.{passedTable}

@@ -15,7 +15,7 @@ use Rattle.table.specs.Rows.{Row}
 use Rattle.memory.specs.Origin.{Origin, isMadeHere, originOf}
 use Rattle.memory.specs.Origin.Origin.{madeHere, entry}
 use Rattle.collect.specs.Stands.{standsAt}
-use Rattle.features.specs.Finish.{ruleAt}
+use Rattle.finish.specs.Finish.{ruleAt}
 use Rattle.finish.specs.PlaceLaws.{always}
 use Rattle.build.specs.Build.{answer, originAt}
 use Rattle.rise.specs.RiseProof.{answer-row}

@@ -16,7 +16,7 @@ use Rattle.page_sets.specs.Evaluation.{firstEdition}
 use Rattle.page_sets.specs.PageSets.{serverA, serverB, serverW}
 use Rattle.rise.specs.Rise.{RiseHypothesis, TableRises}
 use Rattle.examples.specs.Computed.{serverB-rises, serverB-accepted}
-use Rattle.pool_sets.specs.Sets.{setAt, lawfulSets}
+use Rattle.pool.specs.Sets.{setAt, lawfulSets}
 use Rattle.pool.specs.Pool.{pooled}
 use Rattle.pool_laws.specs.PoolRight.{serverTable, poolTable, PoolRight, NoneBeyond, SetsAmong, NothingMore}
 use Rattle.pool_laws.specs.PoolProof.{pool-right, greatest, one-more}

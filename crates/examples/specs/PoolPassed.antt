@@ -15,8 +15,8 @@ use Rattle.page_sets.specs.PassLaws.{rows-passed, verdict-passed}
 use Rattle.page_sets.specs.Evaluation.{passed}
 use Rattle.register_masks.specs.Join.{withServer, pool, allTo}
 use Rattle.register_masks.specs.Alike.{allHave, alikeTo, allAlike}
-use Rattle.pool_sets.specs.Sets.{setStart, setAt, lastOf, lawfulSets, setsVerdict}
-use Rattle.pool_sets.specs.Servers.{isAccepted, firstRefused, refusedBy, serversVerdict, numberOf, serverVerdict, serverRows}
+use Rattle.pool.specs.Sets.{setStart, setAt, lastOf, lawfulSets, setsVerdict}
+use Rattle.pool.specs.Servers.{isAccepted, firstRefused, refusedBy, serversVerdict, numberOf, serverVerdict, serverRows}
 use Rattle.pool.specs.Pool.{alikeVerdict, poolVerdict, serverFor, serverNamed, pooled}
 
 -- the first server that is refused, by the servers' verdicts

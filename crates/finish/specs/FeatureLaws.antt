@@ -7,7 +7,7 @@ use lib.Bits.{bitAnd, bitOr}
 use Rattle.bits.specs.ChoiceLaws.{and-implied, and-swap}
 use Rattle.bits.specs.Bits.{has, maskOf, clear, clearUnless, Within}
 use Rattle.bits.specs.BitsLaws.{has-and, or-and, and-of-within, within-of-and, within-refl, within-eq, within-and, within-or, clear-unless-and}
-use Rattle.features.specs.Finish.{Enabled, YmmClears, edition1, edition2, xopAndFma4, hasYmm, hasAvx512, hasCet, versionEcx, featuresEbx, featuresEcx, featuresEdx, extendedVersionEcx, extendedVersionEdx, addressSizesEbx, hypervisorPresent, ibrsAndStibp, btcNo}
+use Rattle.finish.specs.Finish.{Enabled, YmmClears, edition1, edition2, xopAndFma4, hasYmm, hasAvx512, hasCet, versionEcx, featuresEbx, featuresEcx, featuresEdx, extendedVersionEcx, extendedVersionEdx, addressSizesEbx, hypervisorPresent, ibrsAndStibp, btcNo}
 
 -- what two sets both enable
 abbrev pub bothEnable : Enabled → Enabled → Enabled

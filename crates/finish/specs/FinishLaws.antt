@@ -3,7 +3,7 @@ use mathlib.Core.Path.{_≡_, refl}
 use mathlib.Core.List.{List, [], _∷_}
 use Prim.Native.Nat.{ℕ, _+_, _^_}
 use Rattle.bits.specs.Bits.{maskOf}
-use Rattle.features.specs.Finish.{YmmClears, edition1, edition2, xopAndFma4, avx512FeaturesEbx, avx512FeaturesEcx, avx512FeaturesEdx, cetSs, rdPid, rdtscp, ibrsAndStibp, btcNo, hypervisorPresent}
+use Rattle.finish.specs.Finish.{YmmClears, edition1, edition2, xopAndFma4, avx512FeaturesEbx, avx512FeaturesEcx, avx512FeaturesEdx, cetSs, rdPid, rdtscp, ibrsAndStibp, btcNo, hypervisorPresent}
 
 -- "Without XFEM bit 2: clear 1.ECX 10001000h, 7.0.EBX 20h, 7.0.ECX 700h"; in edition 2 also 1.ECX bit 29 and 80000001h.ECX bits 11 and 16
 abbrev pub figures : YmmClears → List ℕ

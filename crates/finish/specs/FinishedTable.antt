@@ -18,12 +18,12 @@ use Rattle.table.specs.declared.Verdict.the-variants.{Accepted}
 use Rattle.table.specs.Rows.{Row, Rows}
 use Rattle.checks.specs.ExtendedState.{xfem, xss, combinedMask}
 use Rattle.checks.specs.TopologyInputs.{inputsOf}
-use Rattle.features.specs.Finish.{Enabled, YmmClears, Settings, ymmClears, ruleAt, enabledBy, settings, finish, finishRow, finished}
+use Rattle.finish.specs.Finish.{Enabled, YmmClears, Settings, ymmClears, ruleAt, enabledBy, settings, finish, finishRow, finished}
 use Rattle.checks.specs.Checks.{requiredVerdict}
 use Rattle.table.specs.Table.{countRows, tableOf, rowsOfTable}
 use Rattle.finish.specs.PlaceLaws.{always, position, always-required}
 use Rattle.checks.specs.ChecksLaws.{required-present}
-use Rattle.features.specs.FeaturesInCode.{enabledFrom}
+use Rattle.finish.specs.FeaturesInCode.{enabledFrom}
 use Rattle.finish.specs.Stores.{table, presentCount, droppedRow, dropped, droppedTable, Ready}
 
 -- the stores, in the code's order

@@ -9,10 +9,10 @@ use Rattle.x86defs.specs.declared.CpuidResult.{CpuidResult}
 use Rattle.x86defs.specs.Functions.{AmdMaximum, ExtendedAmdMaximum}
 use Rattle.table.specs.Rows.{Rows, row, vacant}
 use Rattle.table.specs.Fits.{Fits}
-use Rattle.features.specs.Finish.{Made, Needed, Rule, Settings, Enabled, ruleAt, settings, makeRow, changeRow, finish, remains, finished, versionEcx, featuresEbx, featuresEcx, featuresEdx, extendedVersionEcx, extendedVersionEdx, addressSizesEbx, unlessNoXss, hypervisorPresent, btcNo}
-use Rattle.features.specs.Finish.Made.{vendorAndMaxFunction, extendedMaxFunction}
-use Rattle.features.specs.Finish.Needed.{versionAndFeatures, extendedFeatures, threadLevelRow, coreLevelRow, extendedState0, extendedState1, extendedVersionAndFeatures, extendedAddressSpaceSizes, untouched}
-use Rattle.features.specs.Finish.Rule.{made, needed, component}
+use Rattle.finish.specs.Finish.{Made, Needed, Rule, Settings, Enabled, ruleAt, settings, makeRow, changeRow, finish, remains, finished, versionEcx, featuresEbx, featuresEcx, featuresEdx, extendedVersionEcx, extendedVersionEdx, addressSizesEbx, unlessNoXss, hypervisorPresent, btcNo}
+use Rattle.finish.specs.Finish.Made.{vendorAndMaxFunction, extendedMaxFunction}
+use Rattle.finish.specs.Finish.Needed.{versionAndFeatures, extendedFeatures, threadLevelRow, coreLevelRow, extendedState0, extendedState1, extendedVersionAndFeatures, extendedAddressSpaceSizes, untouched}
+use Rattle.finish.specs.Finish.Rule.{made, needed, component}
 
 -- what rows need from each other fits
 pub record SettingsFit (c : Settings) : Type 0 where

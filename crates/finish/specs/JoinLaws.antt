@@ -17,9 +17,9 @@ use Rattle.masking.specs.Kept.{places, keptLeaves, slot}
 use Rattle.masking.specs.Place
 use Rattle.table.specs.Rows.{Row, Rows}
 use Rattle.checks.specs.ExtendedState.{xfem, xss, combinedMask}
-use Rattle.features.specs.Finish.{Made, Needed, Rule, Enabled, Settings, ruleAt, enabledBy, finish, unlessNoXss}
-use Rattle.features.specs.Finish.Needed.{versionAndFeatures, extendedFeatures, threadLevelRow, coreLevelRow, extendedState0, extendedState1, extendedVersionAndFeatures, extendedAddressSpaceSizes, untouched}
-use Rattle.features.specs.Finish.Rule.{made, needed, component}
+use Rattle.finish.specs.Finish.{Made, Needed, Rule, Enabled, Settings, ruleAt, enabledBy, finish, unlessNoXss}
+use Rattle.finish.specs.Finish.Needed.{versionAndFeatures, extendedFeatures, threadLevelRow, coreLevelRow, extendedState0, extendedState1, extendedVersionAndFeatures, extendedAddressSpaceSizes, untouched}
+use Rattle.finish.specs.Finish.Rule.{made, needed, component}
 use Rattle.finish.specs.Kinds.{Kind, Kinds, registerKinds, kindsAt}
 use Rattle.finish.specs.Kinds.Kind.{feature, featureBut28, area, freed, other}
 use Rattle.finish.specs.RuleKinds.{kept, kindsOf, kinds-at}

@@ -11,8 +11,8 @@ use Rattle.x86defs.specs.declared.CpuidFunction.{CpuidFunction}
 use Rattle.x86defs.specs.declared.CpuidResult.{CpuidResult}
 use Rattle.x86defs.specs.Functions.{function, sameFunction}
 use Rattle.masking.specs.Kept.{leafAt, subleafAt}
-use Rattle.features.specs.Finish.{Rule}
-use Rattle.features.specs.Finish.Rule.{made, needed, component}
+use Rattle.finish.specs.Finish.{Rule}
+use Rattle.finish.specs.Finish.Rule.{made, needed, component}
 
 pub data Kind : Type 0 where
   -- a feature register; 1.EDX, whose bit 28 is none; the save area; freed, so that entries may differ; any other register

@@ -1,3 +1,6 @@
+pub mod Finish
+pub mod UpdateMisread
+pub mod FeaturesInCode
 pub mod Kinds
 pub mod RegisterTestLaws
 pub mod Stores

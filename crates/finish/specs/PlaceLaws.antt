@@ -13,9 +13,9 @@ use Rattle.bits.specs.SearchLaws.{every-at}
 use Rattle.masking.specs.Kept.{keptLeaves, placeOf, places}
 use Rattle.masking.specs.Place
 use Rattle.checks.specs.Required.{commonRequiredLeaves, snpRequiredLeaves, requiredAt, requiredCount, placeRequired}
-use Rattle.features.specs.Finish.{Needed, Rule, ruleAt}
-use Rattle.features.specs.Finish.Needed.{versionAndFeatures, extendedFeatures, threadLevelRow, coreLevelRow, extendedState0, extendedState1, extendedVersionAndFeatures, extendedAddressSpaceSizes, untouched}
-use Rattle.features.specs.Finish.Rule.{made as madeRule, needed, component}
+use Rattle.finish.specs.Finish.{Needed, Rule, ruleAt}
+use Rattle.finish.specs.Finish.Needed.{versionAndFeatures, extendedFeatures, threadLevelRow, coreLevelRow, extendedState0, extendedState1, extendedVersionAndFeatures, extendedAddressSpaceSizes, untouched}
+use Rattle.finish.specs.Finish.Rule.{made as madeRule, needed, component}
 use Rattle.finish.specs.Kinds.{fromEntry}
 
 -- the rules of rows that every accepted table has from an entry

@@ -12,7 +12,7 @@ use Rattle.masking.specs.Kept.{places}
 use Rattle.masking.specs.Place
 use Rattle.table.specs.Rows.{Row, Rows, row, vacant}
 use Rattle.checks.specs.ExtendedState.{combinedMask}
-use Rattle.features.specs.Finish.{Rule, Settings, ruleAt, enabledBy, settings, finish, remains, finished}
+use Rattle.finish.specs.Finish.{Rule, Settings, ruleAt, enabledBy, settings, finish, remains, finished}
 use Rattle.finish.specs.Kinds.{fromEntry}
 use Rattle.finish.specs.PlaceLaws.{always, component-rule, Sort, sort}
 use Rattle.finish.specs.PlaceLaws.Sort.{made, required, subleaf}

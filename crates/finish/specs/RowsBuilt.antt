@@ -7,7 +7,7 @@ use Rattle.table.specs.declared.CpuidResults.{CpuidResults}
 use Rattle.table.specs.Table.{tableOf, emptyTable}
 use Rattle.checks.specs.ExtendedState.{combinedMask}
 use Rattle.checks.specs.Checks.{rowsVerdict}
-use Rattle.features.specs.Finish.{finished}
+use Rattle.finish.specs.Finish.{finished}
 use Rattle.finish.specs.declared.RowsBuilt.{RowsBuilt}
 
 -- the table that goes with a verdict on masked first entries, under edition n

@@ -14,9 +14,9 @@ use Rattle.masking.specs.Kept.{places}
 use Rattle.masking.specs.Place
 use Rattle.table.specs.Rows.{Rows}
 use Rattle.checks.specs.ExtendedStateLaws.{xsaves-ecx}
-use Rattle.features.specs.Finish.{Rule, Settings, ruleAt, enabledBy, settings, unlessNoXss}
-use Rattle.features.specs.Finish.Needed.{extendedState1}
-use Rattle.features.specs.Finish.Rule.{needed}
+use Rattle.finish.specs.Finish.{Rule, Settings, ruleAt, enabledBy, settings, unlessNoXss}
+use Rattle.finish.specs.Finish.Needed.{extendedState1}
+use Rattle.finish.specs.Finish.Rule.{needed}
 use Rattle.finish.specs.PlaceLaws.{isNeeded}
 
 -- what is asked of the row

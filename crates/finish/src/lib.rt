@@ -3,6 +3,8 @@
 use table::CpuidResults;
 use table::Verdict;
 
+pub mod features;
+
 // The result of building from the rows: accepted with their table, or refused with an empty one.
 pub struct RowsBuilt {
     pub verdict: Verdict,

@@ -27,7 +27,7 @@ use Rattle.lookup.specs.declared.LeafResult.{LeafResult}
 use Rattle.lookup.specs.declared.LeafResult.the-variants.{Some as Found, None as Nothing}
 use Rattle.lookup.specs.Lookup.{placeAsked, rowResult, lookup, withOrigin, found}
 use Rattle.lookup.specs.LookupLaws.{lookup-at}
-use Rattle.rows_checked.specs.Checked.{registersIn}
+use Rattle.rows.specs.Checked.{registersIn}
 use Rattle.guest_state.specs.declared.InUse.{InUse}
 use Rattle.guest_state.specs.declared.InUse.the-variants.{Refused as NotInUse, Compacted}
 use Rattle.guest_state.specs.State.{saveRegister, stateVerdict}

@@ -22,8 +22,8 @@ use Rattle.memory.specs.Memory.{isThere, rowOf, rowsIn, rowList}
 use Rattle.memory.specs.MemoryLaws.{Rowed}
 use Rattle.memory.specs.Held.{heldIn, whole-row, whole-ext}
 use Rattle.checks.specs.ExtendedState.{xssOf, xfem, xss, combinedMask}
-use Rattle.rows_checked.specs.Checked.{registersIn}
-use Rattle.rows_finished.specs.AnsweredLaws.{cleared-whole}
+use Rattle.rows.specs.Checked.{registersIn}
+use Rattle.rows.specs.AnsweredLaws.{cleared-whole}
 use Rattle.guest_state.specs.declared.InUse.{InUse}
 use Rattle.guest_state.specs.declared.InUse.the-variants.{Refused as NotInUse, Compacted}
 use Rattle.guest_state.specs.State.{saveRegister}

@@ -26,7 +26,7 @@ ghost use mathlib.Core.Bool.{Bool};
 ghost use Rattle.x86defs.specs.declared.CpuidFunction.{CpuidFunction};
 ghost use Rattle.table.specs.declared.Subleaf.{Subleaf};
 ghost use Rattle.lookup.specs.Lookup.{placeAsked, found};
-ghost use Rattle.rows_checked.specs.Checked.{registersIn};
+ghost use Rattle.rows.specs.Checked.{registersIn};
 ghost use Rattle.guest_state.specs.State.{saveRegister};
 ghost use Rattle.guest.specs.Guest.{osxsaveSeen, versionSeen, levelSeen, sizeSeen, seenAt, guestAnswer};
 ghost use Rattle.guest.specs.Seen.{tableWith, guestFoundIn, SeenIn};

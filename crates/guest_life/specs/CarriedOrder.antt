@@ -22,7 +22,7 @@ use Rattle.checks.specs.ExtendedState.{xfem}
 use Rattle.finish.specs.Kinds.{Kind, Kinds, TableAtLeast, Registers, kindsAt}
 use Rattle.finish.specs.Kinds.Kind.{feature}
 use Rattle.finish.specs.RuleKinds.{kinds-at}
-use Rattle.features.specs.Finish.{f16c, xopAndFma4}
+use Rattle.finish.specs.Finish.{f16c, xopAndFma4}
 use Rattle.rise.specs.Rise.{Further, TableRises}
 use Rattle.rise.specs.Preorder.{SameRows}
 use Rattle.rise.specs.PreorderProof.{registers-itself, table-rises-itself, table-rises-compose, same-both-ways}

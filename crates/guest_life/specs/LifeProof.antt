@@ -27,7 +27,7 @@ use Rattle.table.specs.declared.Verdict.{Verdict}
 use Rattle.table.specs.declared.Verdict.the-variants.{Accepted}
 use Rattle.table.specs.Rows.{Row, row}
 use Rattle.table.specs.Table.{rowIn, rowsOfTable}
-use Rattle.features.specs.Finish.{f16c, xopAndFma4}
+use Rattle.finish.specs.Finish.{f16c, xopAndFma4}
 use Rattle.finish.specs.Kinds.{Kind, TableAtLeast, Registers, kindsAt}
 use Rattle.finish.specs.Kinds.Kind.{feature, featureBut28, area, freed, other}
 use Rattle.memory.specs.Memory.{rowsIn}

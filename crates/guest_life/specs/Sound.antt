@@ -24,7 +24,7 @@ use Rattle.table.specs.Table.{countRows, rowIn, rowsOfTable}
 use Rattle.checks.specs.ExtendedState.{xfem, combinedMask, saveArea, sumAt}
 use Rattle.checks.specs.ExtendedStateLaws.{area-mono, in-combined}
 use Rattle.checks.specs.TopologyInputs.{inputsOf}
-use Rattle.features.specs.Finish.{Rule, settings, finish, finished}
+use Rattle.finish.specs.Finish.{Rule, settings, finish, finished}
 use Rattle.finish.specs.PlaceLaws.{component-rule}
 use Rattle.build.specs.Build.{rowsFor, answer}
 use Rattle.rise.specs.RiseProof.{answer-table, answer-row, answer-mask}

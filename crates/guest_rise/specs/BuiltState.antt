@@ -17,7 +17,7 @@ use Rattle.checks.specs.ExtendedState.{xfem, combinedMask, saveArea}
 use Rattle.checks.specs.ExtendedStateLaws.{area-mono, in-combined}
 use Rattle.checks.specs.ChecksLaws.{component-present}
 use Rattle.table.specs.declared.CpuidResults.{CpuidResults}
-use Rattle.features.specs.Finish.{Rule, ruleAt, settings, finish, finished}
+use Rattle.finish.specs.Finish.{Rule, ruleAt, settings, finish, finished}
 use Rattle.finish.specs.PlaceLaws.{always, component-rule}
 use Rattle.finish.specs.RemainsLaws.{component-finished}
 use Rattle.table.specs.Table.{rowIn, rowsOfTable}

@@ -17,7 +17,7 @@ use Rattle.memory.specs.Memory.{isThere, rowOf, rowsIn}
 use Rattle.memory.specs.Held.{heldIn, whole-row}
 use Rattle.guest_state.specs.State.{saveRegister, compactRegister, stateVerdict}
 use Rattle.guest_state.specs.StateLaws.{save-of-state, compact-of-state, verdict-of-state}
-use Rattle.rows_checked.specs.Checked.{registersIn}
+use Rattle.rows.specs.Checked.{registersIn}
 use Rattle.guest_state.specs.declared.InUse.{InUse}
 use Rattle.guest_state.specs.declared.InUse.the-variants.{Refused as NotGiven, Compacted}
 use Rattle.guest_state.specs.InUse.{readRows, inUseBy, inUse}

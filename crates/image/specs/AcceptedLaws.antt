@@ -18,7 +18,7 @@ use Rattle.table.specs.declared.Verdict.the-variants.{Accepted}
 use Rattle.table.specs.Table.{tableOf}
 use Rattle.checks.specs.ExtendedState.{combinedMask}
 use Rattle.checks.specs.ChecksLaws.{then-right, AllPass, all-pass}
-use Rattle.features.specs.Finish.{finished}
+use Rattle.finish.specs.Finish.{finished}
 use Rattle.finish.specs.RowsBuilt.{tableFor}
 use Rattle.collect.specs.Lawful.{lawfulVerdict}
 use Rattle.memory.specs.Held.{heldIn, flag-at, maskHeld, mask-held}

@@ -17,7 +17,7 @@ use Rattle.masking.specs.KeptLaws.{madeHere}
 use Rattle.masking.specs.Place
 use Rattle.table.specs.Rows.{Rows}
 use Rattle.checks.specs.ExtendedState.{combinedMask}
-use Rattle.features.specs.Finish.{ruleAt, enabledBy, settings, remains, finished}
+use Rattle.finish.specs.Finish.{ruleAt, enabledBy, settings, remains, finished}
 use Rattle.finish.specs.RemainsLaws.{finished-present}
 use Rattle.finish.specs.PlaceLaws.{always, position, always-required}
 use Rattle.checks.specs.ChecksLaws.{AllPass, required-present, component-present}

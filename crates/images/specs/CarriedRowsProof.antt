@@ -24,7 +24,7 @@ use Rattle.table.specs.declared.Verdict.the-variants.{Accepted, Refused}
 use Rattle.table.specs.Rows.{Row}
 use Rattle.table.specs.Table.{tableOf, emptyTable, rowIn}
 use Rattle.checks.specs.ExtendedState.{xfem, combinedMask}
-use Rattle.features.specs.Finish.{f16c, xopAndFma4}
+use Rattle.finish.specs.Finish.{f16c, xopAndFma4}
 use Rattle.image.specs.Image.{image}
 use Rattle.image_read.specs.ReadImage.{rowsRead, isImage, readImage}
 use Rattle.image_read.specs.WrittenAgain.{read-has-image}

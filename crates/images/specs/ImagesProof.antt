@@ -20,7 +20,7 @@ use Rattle.table.specs.Table.{rowIn, rowsOfTable}
 use Rattle.table.specs.Fits.{Fits}
 use Rattle.checks.specs.ExtendedState.{xssOf, xfem, xss, combinedMask}
 use Rattle.checks.specs.TopologyInputs.{inputsOf}
-use Rattle.features.specs.Finish.{settings, finished}
+use Rattle.finish.specs.Finish.{settings, finished}
 use Rattle.finish.specs.FitLaws.{SettingsFit, finished-fits}
 use Rattle.collect.specs.RowsFit.{rows-fit}
 use Rattle.build.specs.Build.{rowsFor, answer}

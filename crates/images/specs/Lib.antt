@@ -22,3 +22,6 @@ pub mod CarryExactlyProof
 pub mod CarriedRows
 pub mod CarriedRowsProof
 pub mod SecondInMemory
+pub mod Fingerprints
+pub mod FingerprintsProof
+pub mod FingerprintA

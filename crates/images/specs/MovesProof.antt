@@ -22,7 +22,7 @@ use Rattle.table.specs.Rows.{Row, vacant}
 use Rattle.table.specs.Edition.{knownEdition}
 use Rattle.table.specs.Table.{rowIn, rowsOfTable}
 use Rattle.checks.specs.ExtendedState.{xfem}
-use Rattle.features.specs.Finish.{f16c, xopAndFma4}
+use Rattle.finish.specs.Finish.{f16c, xopAndFma4}
 use Rattle.build.specs.Build.{answer}
 use Rattle.guest_state.specs.State.{stateVerdict}
 use Rattle.guest_state.specs.StateLaws.{save-of-state, compact-of-state, verdict-of-state}

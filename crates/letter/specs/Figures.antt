@@ -18,7 +18,7 @@ use Rattle.topology.specs.Topology as Topology
 use Rattle.checks.specs.ExtendedState as State
 use Rattle.checks.specs.TopologyInputs.{inputsOf}
 use Rattle.collect.specs.FirstEntries.{legacyFeatures, maskedAt}
-use Rattle.features.specs.Finish as Finish
+use Rattle.finish.specs.Finish as Finish
 use Rattle.letter.specs.Paper.{Line, masked, linesWith, xfem, avx512, combined, area, leastFrom}
 use Rattle.letter.specs.Names.{placeFor}
 

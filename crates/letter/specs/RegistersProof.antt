@@ -14,7 +14,7 @@ use Rattle.masking.specs.Kept.{keptLeaves, slot, leafAt, masksAt}
 use Rattle.table.specs.declared.Subleaf.{Subleaf}
 use Rattle.table.specs.declared.Subleaf.the-variants.{None}
 use Rattle.table.specs.Rows.{Row, vacant}
-use Rattle.features.specs.Finish.{ruleAt}
+use Rattle.finish.specs.Finish.{ruleAt}
 use Rattle.finish.specs.Kinds.{kindsAt, registerKinds, fromEntry}
 use Rattle.letter.specs.Paper.{name, masksOf, registers, lines, countFrom, without, fromD2, isKept, area, components, rowsVerdict}
 use Rattle.letter.specs.Names.{subAt}

@@ -34,7 +34,7 @@ use Rattle.checks.specs.Checks.{topologyRefusal, topologyVerdict, rowsVerdict}
 use Rattle.checks.specs.ChecksLaws.{all-pass}
 use Rattle.collect.specs.FirstEntries.{firstAt, legacyFeatures, maskedAt, rowsOf}
 use Rattle.collect.specs.FirstEntriesLaws.{row-beyond}
-use Rattle.features.specs.Finish.{finished}
+use Rattle.finish.specs.Finish.{finished}
 use Rattle.finish.specs.RowsBuilt.{tableFor, builtFrom}
 use Rattle.finish.specs.declared.RowsBuilt.{RowsBuilt}
 use Rattle.build.specs.Build.{rowsFor, answer}

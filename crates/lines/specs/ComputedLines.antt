@@ -6,8 +6,8 @@ use Prim.Native.Nat.{ℕ}
 use native.Mathlib.Omega.{arith}
 use lib.ListN.{length}
 use Rattle.bits.specs.Lists.{sumTo}
-use Rattle.digits.specs.Digits.{digits, width}
-use Rattle.digits.specs.Field.{fieldFrom, after}
+use Rattle.lines.specs.Digits.{digits, width}
+use Rattle.lines.specs.Field.{fieldFrom, after}
 use Rattle.table.specs.declared.Subleaf.{Subleaf}
 use Rattle.table.specs.declared.Subleaf.the-variants.{None, Some}
 use Rattle.table.specs.declared.Refusal.the-variants.{BufferTooShort}

@@ -1,3 +1,7 @@
+pub mod Digits
+pub mod DigitsLaws
+pub mod Field
+pub mod FieldLaws
 pub mod NumbersInUse
 pub mod NumbersInUseLaws
 pub mod Line

@@ -10,7 +10,7 @@ use Rattle.table.specs.declared.Subleaf.the-variants.{None, Some}
 use Rattle.table.specs.Numbers.{subleafOr0}
 use Rattle.lines.specs.declared.bytes.LineDetails.{LineDetails}
 use Rattle.lines.specs.declared.bytes.names.Named.{Named}
-use Rattle.digits.specs.Digits.{decimal, hex}
+use Rattle.lines.specs.Digits.{decimal, hex}
 use Rattle.lines.specs.NumbersInUse.{names}
 
 abbrev pub space : ℕ

@@ -14,8 +14,8 @@ use Rattle.table.specs.declared.Subleaf.the-variants.{None, Some}
 use Rattle.buffer.specs.FrontLaws.{sets-append}
 use Rattle.lines.specs.declared.bytes.LineDetails.{LineDetails}
 use Rattle.lines.specs.declared.bytes.names.Named.{Named}
-use Rattle.digits.specs.Digits.{width, decimal}
-use Rattle.digits.specs.DigitsLaws.{length-digits, width-le}
+use Rattle.lines.specs.Digits.{width, decimal}
+use Rattle.lines.specs.DigitsLaws.{length-digits, width-le}
 use Rattle.lines.specs.NumbersInUse.{names}
 use Rattle.lines.specs.NumbersInUseLaws.{room-few}
 use Rattle.lines.specs.Line.{leafField, subleafField, sField, fieldsAs, fields, line}

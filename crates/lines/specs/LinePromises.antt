@@ -21,8 +21,8 @@ use Rattle.lines.specs.declared.bytes.LineDetails.{LineDetails}
 use Rattle.lines.specs.declared.bytes.names.Named.{Named}
 use Rattle.lines.specs.declared.LineRead.the-variants.{Line, NoSuchLine}
 use Rattle.lines.specs.declared.LineWritten.the-variants.{Line as Answered, NoSuchLine as NotWritten}
-use Rattle.digits.specs.Digits.{width, decimal}
-use Rattle.digits.specs.DigitsLaws.{AtLeast, none, next, at-least-append, digits-at-least}
+use Rattle.lines.specs.Digits.{width, decimal}
+use Rattle.lines.specs.DigitsLaws.{AtLeast, none, next, at-least-append, digits-at-least}
 use Rattle.lines.specs.NumbersInUse.{names}
 use Rattle.lines.specs.NumbersNamed.{sets-named}
 use Rattle.lines.specs.Line.{newline, space, LineFits, mostS, leafField, subleafField, sField, fieldsAs, fields, writable, line}

@@ -12,8 +12,8 @@ use Rattle.bits.specs.Lists.{sumTo}
 use Rattle.bits.specs.Search.{every}
 use Rattle.bits.specs.SearchLaws.{every-at}
 use Rattle.lines.specs.declared.bytes.names.Named.{Named}
-use Rattle.digits.specs.Digits.{width}
-use Rattle.digits.specs.DigitsLaws.{width-le}
+use Rattle.lines.specs.Digits.{width}
+use Rattle.lines.specs.DigitsLaws.{width-le}
 use Rattle.lines.specs.NumbersInUse.{notInUse, rows, names}
 
 pub beyond : (n : ℕ) → length rows ≤ n → names n ≡ notInUse

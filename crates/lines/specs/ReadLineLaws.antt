@@ -10,9 +10,9 @@ use lib.Seq.{drop-cons}
 use borrow.Author.Tests.{eqb-true, eq-eqb, leb-true}
 use Rattle.bits.specs.Choice.{pick}
 use Rattle.bits.specs.ChoiceLaws.{never-both, and-left, and-right, and-both}
-use Rattle.digits.specs.Digits.{width, decimal, hex}
-use Rattle.digits.specs.Field.{fieldFrom, after}
-use Rattle.digits.specs.FieldLaws.{decimal-read, hex-read, after-number, field-fits}
+use Rattle.lines.specs.Digits.{width, decimal, hex}
+use Rattle.lines.specs.Field.{fieldFrom, after}
+use Rattle.lines.specs.FieldLaws.{decimal-read, hex-read, after-number, field-fits}
 use Rattle.table.specs.declared.Subleaf.{Subleaf}
 use Rattle.table.specs.declared.Subleaf.the-variants.{None, Some}
 use Rattle.table.specs.Numbers.{subleafOr0}

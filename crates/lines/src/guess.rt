@@ -1,8 +1,8 @@
 // What any bytes would say if they were a line: the number and details that a line with these fields would have.
 use crate::bytes::LineDetails;
 use crate::bytes::names::names_of;
-use digits::Field;
-use digits::field_at;
+use crate::digits::Field;
+use crate::digits::field_at;
 use table::Subleaf;
 ghost use mathlib.Core.Path.{_≡_};
 ghost use Prim.Native.Nat.{_≤_};

@@ -16,6 +16,7 @@ ghost use Rattle.lines.specs.WriteLine.{writeLine};
 ghost use Rattle.lines.specs.ReadLine.{readLine};
 
 pub mod bytes;
+mod digits;
 mod guess;
 
 // No line has more bytes.

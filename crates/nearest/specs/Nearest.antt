@@ -10,9 +10,9 @@ use Rattle.table.specs.declared.Refusal.the-variants.{NothingDecides}
 use Rattle.table.specs.declared.Verdict.{Verdict}
 use Rattle.table.specs.declared.Verdict.the-variants.{Accepted, Refused}
 use Rattle.build.specs.Build.{frontVerdict}
-use Rattle.flips.specs.declared.Flip.{Flip}
-use Rattle.flips.specs.Flips.{flips}
-use Rattle.search.specs.Changes.{changes}
+use Rattle.nearest.specs.declared.flips.Flip.{Flip}
+use Rattle.nearest.specs.Flips.{flips}
+use Rattle.nearest.specs.Changes.{changes}
 use Rattle.nearest.specs.declared.Nearest.{Nearest}
 use Rattle.nearest.specs.declared.Nearest.the-variants.{Bit, NoBit}
 

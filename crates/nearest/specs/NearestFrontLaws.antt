@@ -7,8 +7,8 @@ use Rattle.table.specs.declared.Refusal.{Refusal}
 use Rattle.table.specs.declared.Verdict.{Verdict}
 use Rattle.table.specs.declared.Verdict.the-variants.{Accepted, Refused}
 use Rattle.build.specs.Build.{frontVerdict}
-use Rattle.flips.specs.Flips.{flips}
-use Rattle.search.specs.Changes.{changes}
+use Rattle.nearest.specs.Flips.{flips}
+use Rattle.nearest.specs.Changes.{changes}
 use Rattle.nearest.specs.declared.Nearest.the-variants.{NoBit}
 use Rattle.nearest.specs.Nearest.{firstThat, unlessRefused, nearest}
 

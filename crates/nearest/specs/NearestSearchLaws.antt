@@ -23,11 +23,11 @@ use Rattle.pages.specs.LayoutLaws.{counts-fit-at}
 use Rattle.pages.specs.Entries.{entries}
 use Rattle.pages.specs.Parsed.{parsed}
 use Rattle.pages.specs.ReservedLaws.{clean-at}
-use Rattle.reader.specs.Walk.{firstIndex, incremented, rest}
-use Rattle.reader.specs.WalkLaws.{Valid, Turn, turn, first-valid, rest-first, rest-end}
-use Rattle.reader.specs.declared.Read.the-variants as Read
-use Rattle.reader.specs.Read.{entryHere, cleanHere, readAt}
-use Rattle.reader.specs.ReadLaws.{read-entry, read-unclean}
+use Rattle.pages.specs.Walk.{firstIndex, incremented, rest}
+use Rattle.pages.specs.WalkLaws.{Valid, Turn, turn, first-valid, rest-first, rest-end}
+use Rattle.pages.specs.declared.reader.Read.the-variants as Read
+use Rattle.pages.specs.Read.{entryHere, cleanHere, readAt}
+use Rattle.pages.specs.ReadLaws.{read-entry, read-unclean}
 use Rattle.masking.specs.Kept.{places}
 use Rattle.masking.specs.Masks.{applyMask}
 use Rattle.masking.specs.declared.masks.KeptLeaf.{KeptLeaf}
@@ -43,21 +43,21 @@ use Rattle.collect.specs.Collect.{countedPlace, storedAt, counted-place-stored,
 use Rattle.collect.specs.Lawful.{lawfulVerdict}
 use Rattle.build.specs.Build.{rowsFor}
 use Rattle.collect.specs.LawfulLaws.{lawful-counts, lawful-clean}
-use Rattle.flips.specs.declared.Flip.{Flip}
-use Rattle.flips.specs.Flips.{flip, flipsOf, flipsIn, flips}
-use Rattle.flips.specs.OneBit.{oneBit, xorResult}
-use Rattle.flips.specs.FlippedEntryLaws.{Inside}
-use Rattle.search.specs.SameVerdict.{sameFrom}
-use Rattle.search.specs.Changes.{changes}
-use Rattle.search.specs.WithRow.{withRow}
-use Rattle.search.specs.FlippedRowLaws.{firstAmong, first-none, first-cons, first-append, taken-row}
-use Rattle.search.specs.ChangesLaws.{changes-nothing, changes-row}
-use Rattle.search.specs.declared.decisive.Decisive.{Decisive}
-use Rattle.search.specs.declared.decisive.Decisive.the-variants.{Number, NoNumber}
+use Rattle.nearest.specs.declared.flips.Flip.{Flip}
+use Rattle.nearest.specs.Flips.{flip, flipsOf, flipsIn, flips}
+use Rattle.nearest.specs.OneBit.{oneBit, xorResult}
+use Rattle.nearest.specs.FlippedEntryLaws.{Inside}
+use Rattle.nearest.specs.SameVerdict.{sameFrom}
+use Rattle.nearest.specs.Changes.{changes}
+use Rattle.nearest.specs.WithRow.{withRow}
+use Rattle.nearest.specs.FlippedRowLaws.{firstAmong, first-none, first-cons, first-append, taken-row}
+use Rattle.nearest.specs.ChangesLaws.{changes-nothing, changes-row}
+use Rattle.nearest.specs.declared.search.decisive.Decisive.{Decisive}
+use Rattle.nearest.specs.declared.search.decisive.Decisive.the-variants.{Number, NoNumber}
 use Rattle.nearest.specs.declared.Nearest.{Nearest}
 use Rattle.nearest.specs.declared.Nearest.the-variants.{Bit, NoBit}
 use Rattle.nearest.specs.Nearest.{firstThat}
-use Rattle.search.specs.BitLaws.{keeps, bitFound, firstBit}
+use Rattle.nearest.specs.BitLaws.{keeps, bitFound, firstBit}
 
 -- ---- a search over a list of flips, and over the numbers below 128
 

@@ -1,12 +1,12 @@
 // The nearest bit that matters: the first result bit of the pages whose flip changes the answer, or why there is none. The pages are not written.
+use crate::flips::Flip;
+use crate::search::decisive::Decisive;
+use crate::search::decisive::first_bit;
+use crate::search::irrelevant::check_unflipped;
 use build::rows_into;
-use flips::Flip;
 use masking::PLACES;
 use memory::REGISTERS;
-use reader::Read;
-use search::decisive::Decisive;
-use search::decisive::first_bit;
-use search::irrelevant::check_unflipped;
+use pages::reader::Read;
 use table::Choices;
 use table::Refusal;
 use table::Verdict;
@@ -16,9 +16,12 @@ ghost use Rattle.table.specs.Edition.{knownEdition};
 ghost use Rattle.memory.specs.Memory.{rowsIn};
 ghost use Rattle.collect.specs.FirstEntries.{rowsOf};
 ghost use Rattle.collect.specs.Lawful.{lawfulVerdict};
-ghost use Rattle.flips.specs.Flips.{flips};
-ghost use Rattle.search.specs.Changes.{changes};
+ghost use Rattle.nearest.specs.Flips.{flips};
+ghost use Rattle.nearest.specs.Changes.{changes};
 ghost use Rattle.nearest.specs.Nearest.{chosen, firstThat, nearest};
+
+pub mod flips;
+pub mod search;
 
 // The first bit that matters, or why none is named.
 pub enum Nearest {
@@ -62,9 +65,9 @@ fn search_flips(
     let found = check_unflipped(registers, origins);
     let n = pages::page_count(pages);
     let mut seen = [false; PLACES];
-    let mut index = reader::start(pages);
+    let mut index = pages::reader::start(pages);
     while index.page_index < n {
-        let read = reader::take(pages, index);
+        let read = pages::reader::take(pages, index);
         match read {
             Read::Entry(entry) => {
                 let place = collect::counted_place(entry);
@@ -94,7 +97,7 @@ fn search_flips(
                     }
                 }
                 let count = pages::count_of(pages, index.page_index) as usize;
-                let next = reader::step(pages, index, count);
+                let next = pages::reader::step(pages, index, count);
                 index = next;
             }
             Read::Unclean(leaf) => {

@@ -17,8 +17,8 @@ use Rattle.bits.specs.Bits.{has}
 use Rattle.x86defs.specs.declared.CpuidResult.{CpuidResult}
 use Rattle.pages.specs.declared.CpuidPageIndex.{CpuidPageIndex}
 use Rattle.pages.specs.Layout.{Entry, entryAt, pagesIn}
-use Rattle.reader.specs.Walk.{firstIndex, incremented, rest}
-use Rattle.reader.specs.WalkLaws.{turn, rest-end}
+use Rattle.pages.specs.Walk.{firstIndex, incremented, rest}
+use Rattle.pages.specs.WalkLaws.{turn, rest-end}
 use Rattle.masking.specs.Kept.{keptLeaves, placeOf, places}
 use Rattle.masking.specs.Masks.{applyMask}
 use Rattle.masking.specs.Place
@@ -38,18 +38,18 @@ use Rattle.collect.specs.Collect.{storedAt, row-masks}
 use Rattle.collect.specs.Lawful.{lawfulVerdict}
 use Rattle.build.specs.Build.{rowsFor}
 use Rattle.collect.specs.LawfulLaws.{lawful-counts}
-use Rattle.flips.specs.Flips.{flip, flips}
-use Rattle.flips.specs.OneBit.{oneBit, xorResult}
-use Rattle.search.specs.SameVerdict.{sameFrom}
-use Rattle.search.specs.Changes.{changes}
-use Rattle.search.specs.WithRow.{withRow}
-use Rattle.search.specs.WithRowLaws.{required-same}
-use Rattle.search.specs.FlippedRowLaws.{firstAmong, rows-present, taken-row}
-use Rattle.search.specs.Irrelevant.{irrelevant}
-use Rattle.search.specs.SearchReturnLaws.{irrelevant-missing, irrelevant-clear}
-use Rattle.search.specs.declared.decisive.Decisive.{Decisive}
-use Rattle.search.specs.declared.decisive.Decisive.the-variants.{Number, NoNumber}
-use Rattle.search.specs.BitLaws.{keeps, bitFound, firstBit, bit-irrelevant}
+use Rattle.nearest.specs.Flips.{flip, flips}
+use Rattle.nearest.specs.OneBit.{oneBit, xorResult}
+use Rattle.nearest.specs.SameVerdict.{sameFrom}
+use Rattle.nearest.specs.Changes.{changes}
+use Rattle.nearest.specs.WithRow.{withRow}
+use Rattle.nearest.specs.WithRowLaws.{required-same}
+use Rattle.nearest.specs.FlippedRowLaws.{firstAmong, rows-present, taken-row}
+use Rattle.nearest.specs.Irrelevant.{irrelevant}
+use Rattle.nearest.specs.SearchReturnLaws.{irrelevant-missing, irrelevant-clear}
+use Rattle.nearest.specs.declared.search.decisive.Decisive.{Decisive}
+use Rattle.nearest.specs.declared.search.decisive.Decisive.the-variants.{Number, NoNumber}
+use Rattle.nearest.specs.BitLaws.{keeps, bitFound, firstBit, bit-irrelevant}
 use Rattle.nearest.specs.declared.Nearest.{Nearest}
 use Rattle.nearest.specs.declared.Nearest.the-variants.{Bit, NoBit}
 use Rattle.nearest.specs.Nearest.{firstThat}

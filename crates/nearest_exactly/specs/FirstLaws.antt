@@ -8,7 +8,7 @@ use Rattle.bits.specs.Choice.{pick}
 use Rattle.bits.specs.ChoiceLaws.{pick-true, pick-false}
 use Rattle.bits.specs.Lists.{keepIf}
 use Rattle.table.specs.declared.Refusal.the-variants.{NothingDecides}
-use Rattle.flips.specs.declared.Flip.{Flip}
+use Rattle.nearest.specs.declared.flips.Flip.{Flip}
 use Rattle.nearest.specs.declared.Nearest.the-variants.{Bit, NoBit}
 use Rattle.nearest.specs.Nearest.{firstThat}
 use Rattle.nearest_exactly.specs.NearestExactly.{FirstOf}

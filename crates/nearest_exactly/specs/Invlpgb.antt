@@ -33,13 +33,13 @@ use Rattle.checks.specs.TopologyInputs.{inputsOf}
 use Rattle.checks.specs.Checks.{refuseAt, missingComponent, sizeVerdict, topologyRefusal, requiredVerdict, invlpgbVerdict, componentsOf, componentsVerdict, areaVerdict, topologyVerdict, rowsVerdict}
 use Rattle.collect.specs.FirstEntries.{maskedAt}
 use Rattle.table.specs.Numbers.{numbersOf}
-use Rattle.flips.specs.OneBit.{bitIn, oneBit, xorResult}
-use Rattle.search.specs.SameVerdict.{sameNumbers, sameAnswer, sameFrom}
+use Rattle.nearest.specs.OneBit.{bitIn, oneBit, xorResult}
+use Rattle.nearest.specs.SameVerdict.{sameNumbers, sameAnswer, sameFrom}
 use Rattle.finish.specs.RowsBuilt.{tableFor}
-use Rattle.search.specs.SameLaws.{answer-same}
-use Rattle.search.specs.WithRow.{withRow}
-use Rattle.search.specs.WithRowLaws.{required-same}
-use Rattle.search.specs.FlippedMaskLaws.{bit-xor}
+use Rattle.nearest.specs.SameLaws.{answer-same}
+use Rattle.nearest.specs.WithRow.{withRow}
+use Rattle.nearest.specs.WithRowLaws.{required-same}
+use Rattle.nearest.specs.FlippedMaskLaws.{bit-xor}
 
 abbrev number : Verdict → ℕ
 number v = numbersOf v .number

@@ -28,11 +28,11 @@ use Rattle.finish.specs.RowsBuilt.{tableFor}
 use Rattle.build.specs.Build.{rowsFor, verdictOf, answer}
 use Rattle.table.specs.declared.numbers.AnswerNumbers.{AnswerNumbers}
 use Rattle.table.specs.Numbers.{named, subleafOr0, detailNumbers, numbersOf}
-use Rattle.flips.specs.declared.Flip.{Flip}
-use Rattle.flips.specs.Flips.{flipped}
-use Rattle.search.specs.SameVerdict.{agree, sameRow, sameRows, sameTable, sameNumbers, sameVerdict, sameAnswer}
-use Rattle.search.specs.SameLaws.{agree-equal, result-equal, answer-same}
-use Rattle.search.specs.Changes.{changes}
+use Rattle.nearest.specs.declared.flips.Flip.{Flip}
+use Rattle.nearest.specs.Flips.{flipped}
+use Rattle.nearest.specs.SameVerdict.{agree, sameRow, sameRows, sameTable, sameNumbers, sameVerdict, sameAnswer}
+use Rattle.nearest.specs.SameLaws.{agree-equal, result-equal, answer-same}
+use Rattle.nearest.specs.Changes.{changes}
 
 -- ---- a verdict is known by its numbers
 

@@ -15,9 +15,9 @@ use Rattle.table.specs.declared.Verdict.the-variants.{Refused}
 use Rattle.checks.specs.Checks.{missingRequired}
 use Rattle.build.specs.Build.{rowsFor, answer}
 use Rattle.refusals.specs.Conditions.{EditionFault, LengthFault, CountFault, ReservedFault, RequiredFault}
-use Rattle.flips.specs.declared.Flip.{Flip}
-use Rattle.flips.specs.Flips.{flips}
-use Rattle.search.specs.Changes.{changes}
+use Rattle.nearest.specs.declared.flips.Flip.{Flip}
+use Rattle.nearest.specs.Flips.{flips}
+use Rattle.nearest.specs.Changes.{changes}
 use Rattle.nearest.specs.declared.Nearest.{Nearest}
 use Rattle.nearest.specs.declared.Nearest.the-variants.{Bit, NoBit}
 use Rattle.nearest.specs.Nearest.{nearest}

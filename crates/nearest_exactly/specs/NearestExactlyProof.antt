@@ -16,8 +16,8 @@ use Rattle.refusals.specs.Settles.{Settles}
 use Rattle.refusals.specs.Settles.Settles.{passes, refuses}
 use Rattle.refusals.specs.PagesSettled.{edition-decides, length-decides, counts-decide}
 use Rattle.refusals.specs.ReservedSettled.{reserved-decides}
-use Rattle.flips.specs.Flips.{flips}
-use Rattle.search.specs.Changes.{changes}
+use Rattle.nearest.specs.Flips.{flips}
+use Rattle.nearest.specs.Changes.{changes}
 use Rattle.nearest.specs.declared.Nearest.{Nearest}
 use Rattle.nearest.specs.declared.Nearest.the-variants.{Bit, NoBit}
 use Rattle.nearest.specs.Nearest.{firstThat, unlessRefused, nearest}

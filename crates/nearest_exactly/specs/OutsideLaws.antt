@@ -13,13 +13,13 @@ use Rattle.table.specs.declared.Verdict.the-variants.{Accepted}
 use Rattle.table.specs.Edition.{knownEdition}
 use Rattle.collect.specs.Collect.{storedAt}
 use Rattle.collect.specs.Lawful.{lawfulVerdict}
-use Rattle.flips.specs.Flips.{flip}
-use Rattle.flips.specs.OneBit.{oneBit}
-use Rattle.flips.specs.FlippedEntryLaws.{Inside}
-use Rattle.search.specs.Changes.{changes}
-use Rattle.search.specs.FlippedRowLaws.{firstAmong}
-use Rattle.search.specs.ChangesLaws.{changes-nothing, changes-masked}
-use Rattle.search.specs.FlippedMaskLaws.{masked-out}
+use Rattle.nearest.specs.Flips.{flip}
+use Rattle.nearest.specs.OneBit.{oneBit}
+use Rattle.nearest.specs.FlippedEntryLaws.{Inside}
+use Rattle.nearest.specs.Changes.{changes}
+use Rattle.nearest.specs.FlippedRowLaws.{firstAmong}
+use Rattle.nearest.specs.ChangesLaws.{changes-nothing, changes-masked}
+use Rattle.nearest.specs.FlippedMaskLaws.{masked-out}
 
 -- the entry at position q of page p among the entries of lawful pages, and bit k of its register r
 pub record Among (c : Choices) (s : List ℕ) (p q r k : ℕ) : Type 0 where

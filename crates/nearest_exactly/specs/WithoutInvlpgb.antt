@@ -22,7 +22,7 @@ use Rattle.refusals.specs.Settles.{Settles}
 use Rattle.refusals.specs.Settles.Settles.{passes, refuses}
 use Rattle.refusals.specs.RequiredSettled.{required-decides}
 use Rattle.table.specs.Numbers.{numbersOf}
-use Rattle.flips.specs.Flips.{flip}
+use Rattle.nearest.specs.Flips.{flip}
 use Rattle.nearest.specs.declared.Nearest.the-variants.{Bit, NoBit}
 use Rattle.nearest.specs.Nearest.{nearest}
 use Rattle.nearest.specs.NearestFrontLaws.{front-refuses, searched}

@@ -25,7 +25,7 @@ use Rattle.table.specs.Rows.{Row, Rows, row, vacant}
 use Rattle.table.specs.Table.{tableOf}
 use Rattle.checks.specs.ExtendedState.{combinedMask}
 use Rattle.checks.specs.Checks.{refuseUnless, rowsVerdict}
-use Rattle.features.specs.Finish.{finished}
+use Rattle.finish.specs.Finish.{finished}
 use Rattle.collect.specs.FirstEntries.{placeOfEntry, maskedAt}
 use Rattle.build.specs.Build.{editionVerdict}
 use Rattle.collect.specs.Lawful.{lengthVerdict, cleanVerdict}

@@ -7,3 +7,7 @@ pub mod Parsed
 pub mod Reserved
 pub mod ZerosLaws
 pub mod ReservedLaws
+pub mod Walk
+pub mod WalkLaws
+pub mod Read
+pub mod ReadLaws

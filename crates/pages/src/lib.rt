@@ -7,6 +7,7 @@ ghost use lib.ListN.{length, getD};
 ghost use Rattle.pages.specs.Layout.{wordAt, registersAt, pagesIn, countOf, badLength, countsFit, entryAt, mostEntries};
 ghost use Rattle.pages.specs.Parsed.{parsed};
 
+pub mod reader;
 pub mod reserved;
 
 pub const PAGE_SIZE: usize = 4096;

@@ -24,7 +24,7 @@ use Rattle.collect.specs.CollectedLaws.{walked-collected}
 use Rattle.finish.specs.Kinds.{Kind, Kinds, kindsAt}
 use Rattle.finish.specs.Kinds.Kind.{feature, featureBut28, area, freed, other}
 use Rattle.register_masks.specs.Join.{joinedRegister, pooledResults, withServer, pool}
-use Rattle.pool_rows.specs.PoolJoinLaws.{registersOf}
+use Rattle.pool.specs.PoolJoinLaws.{registersOf}
 
 -- past the last place there are zeros on both sides
 pooled-zero : (k : Kind) → joinedRegister k 0 0 ≡ 0

@@ -17,8 +17,8 @@ use Rattle.checks.specs.Checks.{refuseUnless}
 use Rattle.finish.specs.RowsBuilt.{tableFor}
 use Rattle.build.specs.Build.{originsIn}
 use Rattle.register_masks.specs.Alike.{allAlike}
-use Rattle.pool_sets.specs.Sets.{setAt, lastOf, setsVerdict}
-use Rattle.pool_sets.specs.Servers.{serverRows, firstRefused, serversVerdict, numberOf, poolRows}
+use Rattle.pool.specs.Sets.{setAt, lastOf, setsVerdict}
+use Rattle.pool.specs.Servers.{serverRows, firstRefused, serversVerdict, numberOf, poolRows}
 use Rattle.pool.specs.declared.Pooled.{Pooled}
 
 -- 19

@@ -8,7 +8,7 @@ use Rattle.table.specs.declared.Verdict.the-variants.{Refused}
 use Rattle.table.specs.Table.{rowIn}
 use Rattle.memory.specs.Memory.{layout}
 use Rattle.memory.specs.Held.{heldIn}
-use Rattle.rows_finished.specs.AnsweredLaws.{cleared, cleared-whole}
+use Rattle.rows.specs.AnsweredLaws.{cleared, cleared-whole}
 use Rattle.pool.specs.declared.Pooled.{Pooled}
 use Rattle.pool.specs.declared.PoolVerdict.{PoolVerdict}
 use Rattle.pool.specs.Pool.{refusedPool}

@@ -31,7 +31,7 @@ use Rattle.memory.specs.Held.{flag-at}
 use Rattle.checks.specs.ExtendedState.{xss, combinedMask}
 use Rattle.checks.specs.Checks.{rowsVerdict}
 use Rattle.checks.specs.ChecksLaws.{then-left, then-right, demanded}
-use Rattle.features.specs.Finish.{finished}
+use Rattle.finish.specs.Finish.{finished}
 use Rattle.finish.specs.JoinLaws.{MaskedState}
 use Rattle.memory.specs.Origin.{finishedOrigins}
 use Rattle.collect.specs.FirstEntries.{rowsOf}
@@ -41,17 +41,17 @@ use Rattle.finish.specs.RowsBuilt.{tableFor, builtFrom}
 use Rattle.build.specs.Build.{editionVerdict, verdictOf, originsIn, answer}
 use Rattle.collect.specs.Lawful.{lawfulVerdict}
 use Rattle.build.specs.BuildLaws.{no-origins, located-origins}
-use Rattle.rows_finished.specs.Finished.{Answered, Tried}
+use Rattle.rows.specs.Finished.{Answered, Tried}
 use Rattle.counts.specs.Mask.{register-within, xfem-within, xss-within}
 use Rattle.register_masks.specs.Join.{pool}
 use Rattle.register_masks.specs.Alike.{allHave, alikeTo, allAlike}
 use Rattle.register_masks.specs.PoolLaws.{Servers, pool-accepted, pool-rows}
-use Rattle.pool_rows.specs.Joins.{alikeWhere}
-use Rattle.pool_rows.specs.PoolJoinLaws.{registersOf, alikeFlags}
-use Rattle.pool_sets.specs.declared.Joined.{Joined}
-use Rattle.pool_sets.specs.Sets.{setAt, lastOf, lawfulSets, setsVerdict}
-use Rattle.pool_sets.specs.SetsLaws.{at-least-two, not-too-many}
-use Rattle.pool_sets.specs.Servers.{serverVerdict, serverRows, isAccepted, firstRefused, refusedBy, serversVerdict, numberOf, poolRows, joinedTo, JoinsRest}
+use Rattle.pool.specs.Joins.{alikeWhere}
+use Rattle.pool.specs.PoolJoinLaws.{registersOf, alikeFlags}
+use Rattle.pool.specs.declared.sets.Joined.{Joined}
+use Rattle.pool.specs.Sets.{setAt, lastOf, lawfulSets, setsVerdict}
+use Rattle.pool.specs.SetsLaws.{at-least-two, not-too-many}
+use Rattle.pool.specs.Servers.{serverVerdict, serverRows, isAccepted, firstRefused, refusedBy, serversVerdict, numberOf, poolRows, joinedTo, JoinsRest}
 use Rattle.pool.specs.declared.Pooled.{Pooled}
 use Rattle.pool.specs.Pool.{alikeVerdict, poolVerdict, serverFor, serverNamed, pooled, refusedPool}
 use Rattle.pool.specs.PoolIn.{PoolIn, pool-in}

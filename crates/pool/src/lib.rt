@@ -1,23 +1,25 @@
 // One table for a pool of servers, from their page sets and a list of lengths: a table that any of them can keep, or its image, or one refusal with
 // the server whose own it is.
+use crate::join::all_alike;
+use crate::sets::join_rest;
+use crate::sets::server::server_into;
+use crate::sets::sets_fit;
 use masking::PLACES;
 use memory::REGISTERS;
 use memory::clear;
-use pool_rows::all_alike;
-use pool_sets::join_rest;
-use pool_sets::server::server_into;
-use pool_sets::sets_fit;
-use rows_finished::finish_rows;
+use rows::finish_rows;
 use table::Choices;
 use table::CpuidResults;
 use table::Refusal;
 use table::Verdict;
 ghost use mathlib.Core.Path.{_≡_};
 ghost use mathlib.Core.Bool.{true};
-ghost use Rattle.pool_sets.specs.Sets.{lawfulSets};
+ghost use Rattle.pool.specs.Sets.{lawfulSets};
 ghost use Rattle.pool.specs.Pool.{pooled, refusedPool};
 ghost use Rattle.pool.specs.PoolIn.{PoolIn};
 
+mod join;
+mod sets;
 pub mod write;
 
 // What pooling gives, as specs/Pool.antt has it: accepted with its table and where each row stood in the first server's pages, or refused with an

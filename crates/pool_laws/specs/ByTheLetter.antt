@@ -14,7 +14,7 @@ use Rattle.table.specs.declared.Verdict.the-variants.{Accepted}
 use Rattle.table.specs.Table.{rowIn}
 use Rattle.finish.specs.Kinds.{Kind, Registers, kindsAt}
 use Rattle.finish.specs.Kinds.Kind.{feature, featureBut28, area, freed, other}
-use Rattle.pool_sets.specs.Sets.{lastOf}
+use Rattle.pool.specs.Sets.{lastOf}
 use Rattle.pool.specs.Pool.{pooled}
 use Rattle.pool_laws.specs.PoolRight.{serverTable, poolTable, SetsAmong}
 

@@ -16,7 +16,7 @@ use Rattle.finish.specs.Kinds.Kind.{feature, featureBut28, area, freed, other}
 use Rattle.register_masks.specs.Join.{andTo}
 use Rattle.register_masks.specs.Features.{FeatureIs, FeaturesAre, FeatureWithin}
 use Rattle.register_masks.specs.RegisterRunLaws.{and-to-greatest}
-use Rattle.pool_sets.specs.Sets.{lastOf}
+use Rattle.pool.specs.Sets.{lastOf}
 use Rattle.pool.specs.Pool.{pooled}
 use Rattle.pool_laws.specs.PoolRight.{serverTable, poolTable, PoolRight, NoneBeyond, NothingMore}
 use Rattle.pool_laws.specs.PoolProof.{pool-right, one-more}

@@ -18,8 +18,8 @@ use Rattle.build.specs.Build.{rowsFor}
 use Rattle.refusals.specs.Conditions.{EditionFault}
 use Rattle.refusals.specs.Exactly.{FirstFault}
 use Rattle.register_masks.specs.Alike.{Alike}
-use Rattle.pool_sets.specs.Sets.{setStart, setAt}
-use Rattle.pool_sets.specs.Servers.{serverVerdict}
+use Rattle.pool.specs.Sets.{setStart, setAt}
+use Rattle.pool.specs.Servers.{serverVerdict}
 use Rattle.pool.specs.Pool.{pooled}
 use Rattle.pool_laws.specs.PoolRight.{serverTable, poolTable}
 

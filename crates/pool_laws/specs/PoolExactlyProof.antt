@@ -23,7 +23,7 @@ use Rattle.table.specs.declared.Verdict.the-variants.{Accepted, Refused}
 use Rattle.table.specs.Refusal.{andThen}
 use Rattle.table.specs.Rows.{Row, Rows}
 use Rattle.table.specs.Table.{emptyTable, rowIn}
-use Rattle.features.specs.Finish.{finished}
+use Rattle.finish.specs.Finish.{finished}
 use Rattle.finish.specs.Kinds.{Registers, kindsAt}
 use Rattle.finish.specs.RowsBuilt.{tableFor}
 use Rattle.build.specs.Build.{rowsFor, answer}
@@ -36,9 +36,9 @@ use Rattle.register_masks.specs.Join.{allTo}
 use Rattle.register_masks.specs.Alike.{Alike, registersAlike, allHave, alikeTo, allAlike, AllAlike}
 use Rattle.register_masks.specs.RegisterRunLaws.{all-at, all-of}
 use Rattle.register_masks.specs.AlikeLaws.{registers-test, alike-of-test}
-use Rattle.pool_sets.specs.Sets.{setStart, setAt, lastOf, mostSets, lawfulSets, setsVerdict}
-use Rattle.pool_sets.specs.SetsLaws.{at-least-two, not-too-many, sums-to-slice}
-use Rattle.pool_sets.specs.Servers.{serverVerdict, serverRows, isAccepted, firstRefused, refusedBy, serversVerdict, numberOf, poolRows}
+use Rattle.pool.specs.Sets.{setStart, setAt, lastOf, mostSets, lawfulSets, setsVerdict}
+use Rattle.pool.specs.SetsLaws.{at-least-two, not-too-many, sums-to-slice}
+use Rattle.pool.specs.Servers.{serverVerdict, serverRows, isAccepted, firstRefused, refusedBy, serversVerdict, numberOf, poolRows}
 use Rattle.pool.specs.Pool.{alikeVerdict, poolVerdict, serverNamed, pooled}
 use Rattle.pool.specs.PooledLaws.{is-accepted}
 use Rattle.pool_laws.specs.PoolRight.{serverTable}

@@ -7,7 +7,7 @@ use Rattle.table.specs.declared.Choices.{Choices}
 use Rattle.table.specs.declared.Verdict.the-variants.{Accepted}
 use Rattle.build.specs.Build.{answer}
 use Rattle.rise.specs.Rise.{RiseHypothesis, TableRises}
-use Rattle.pool_sets.specs.Sets.{setAt, lastOf}
+use Rattle.pool.specs.Sets.{setAt, lastOf}
 use Rattle.pool.specs.Pool.{pooled}
 use Rattle.pool_laws.specs.PoolRight.{poolTable}
 

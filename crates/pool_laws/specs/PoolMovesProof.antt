@@ -2,7 +2,7 @@
 use Rattle.build.specs.Build.{answer}
 use Rattle.rise.specs.RiseProof.{demand-3}
 use Rattle.rise.specs.PreorderProof.{table-rises-compose}
-use Rattle.pool_sets.specs.Sets.{setAt}
+use Rattle.pool.specs.Sets.{setAt}
 use Rattle.pool_laws.specs.PoolRight.{serverTable, poolTable}
 use Rattle.pool_laws.specs.PoolProof.{pool-right}
 use Rattle.pool_laws.specs.PoolMoves.{PoolMoves}

@@ -22,7 +22,7 @@ use Rattle.table.specs.declared.Refusal.the-variants.{PoolDiffers}
 use Rattle.table.specs.declared.Verdict.{Verdict}
 use Rattle.table.specs.declared.Verdict.the-variants.{Accepted, Refused}
 use Rattle.table.specs.Rows.{Row, Rows}
-use Rattle.features.specs.Finish.{finished}
+use Rattle.finish.specs.Finish.{finished}
 use Rattle.finish.specs.Kinds.{Kind, Kinds, Registers, kindsAt}
 use Rattle.finish.specs.Kinds.Kind.{feature, featureBut28, area, freed, other}
 use Rattle.finish.specs.RowsBuilt.{tableFor}
@@ -32,9 +32,9 @@ use Rattle.register_masks.specs.Alike.{registersAlike, allHave, alikeTo, allAli
 use Rattle.register_masks.specs.RegisterRunLaws.{all-at, all-of, and-to-within, and-to-greatest}
 use Rattle.register_masks.specs.JoinedEntryLaws.{keeps-28, joins-others}
 use Rattle.register_masks.specs.AlikeLaws.{same-truth, alike-of-test, test-of-alike}
-use Rattle.pool_sets.specs.Sets.{setAt, lastOf, lawfulSets}
-use Rattle.pool_sets.specs.SetsLaws.{at-least-two}
-use Rattle.pool_sets.specs.Servers.{serverVerdict, serverRows, poolRows}
+use Rattle.pool.specs.Sets.{setAt, lastOf, lawfulSets}
+use Rattle.pool.specs.SetsLaws.{at-least-two}
+use Rattle.pool.specs.Servers.{serverVerdict, serverRows, poolRows}
 use Rattle.pool.specs.declared.Pooled.{Pooled}
 use Rattle.pool.specs.Pool.{alikeVerdict}
 use Rattle.pool.specs.PooledLaws.{pooledBy, pooled-alike}

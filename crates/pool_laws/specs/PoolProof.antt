@@ -18,7 +18,7 @@ use Rattle.table.specs.declared.Verdict.the-variants.{Accepted}
 use Rattle.table.specs.Rows.{Row, Rows}
 use Rattle.table.specs.Table.{tableOf, rowIn}
 use Rattle.checks.specs.ExtendedState.{combinedMask}
-use Rattle.features.specs.Finish.{finished}
+use Rattle.finish.specs.Finish.{finished}
 use Rattle.finish.specs.Kinds.{Registers, TableAtLeast, kindsAt}
 use Rattle.finish.specs.XsavesLaws.{XsavesEdx}
 use Rattle.finish.specs.RowsBuilt.{tableFor}
@@ -33,9 +33,9 @@ use Rattle.register_masks.specs.Features.{FeaturesAre, FeatureWithin}
 use Rattle.register_masks.specs.RegisterRunLaws.{and-to-ext, all-to-ext}
 use Rattle.register_masks.specs.AlikeLaws.{alike-of-test}
 use Rattle.register_masks.specs.PoolLaws.{Servers, features-ext, in-each, pool-mask, pool-mask-within, pool-mask-greatest, pool-rows, pool-features, pool-greatest}
-use Rattle.pool_sets.specs.Sets.{setAt, lastOf}
-use Rattle.pool_sets.specs.SetsLaws.{at-least-two}
-use Rattle.pool_sets.specs.Servers.{serverVerdict, serverRows}
+use Rattle.pool.specs.Sets.{setAt, lastOf}
+use Rattle.pool.specs.SetsLaws.{at-least-two}
+use Rattle.pool.specs.Servers.{serverVerdict, serverRows}
 use Rattle.pool.specs.Pool.{poolVerdict, pooled}
 use Rattle.pool.specs.PooledLaws.{servers-of, each-accepted, passes-sets, passes-servers, passes-alike}
 use Rattle.pool_laws.specs.RowsPool.{pool-rises, pool-further, PoolAmong, no-row-more, no-mask-bit-more, no-feature-more}

@@ -17,8 +17,8 @@ use Rattle.build.specs.Build.{answer}
 use Rattle.rise.specs.Rise.{TableRises}
 use Rattle.register_masks.specs.Join.{andTo, allTo}
 use Rattle.register_masks.specs.Features.{FeaturesAre, FeatureWithin}
-use Rattle.pool_sets.specs.Sets.{setAt, lastOf, lawfulSets}
-use Rattle.pool_sets.specs.Servers.{serverVerdict}
+use Rattle.pool.specs.Sets.{setAt, lastOf, lawfulSets}
+use Rattle.pool.specs.Servers.{serverVerdict}
 use Rattle.pool.specs.Pool.{pooled}
 
 -- the tables of server k and of the pool

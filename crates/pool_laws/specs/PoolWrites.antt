@@ -9,7 +9,7 @@ use Rattle.table.specs.declared.Verdict.the-variants.{Refused}
 use Rattle.buffer.specs.WritesExactly.{FrontExactly, front-exactly}
 use Rattle.image.specs.Image.{image}
 use Rattle.refusals.specs.ExactlyProof.{builds-exactly, not-short}
-use Rattle.pool_sets.specs.Sets.{setAt}
+use Rattle.pool.specs.Sets.{setAt}
 use Rattle.pool.specs.Pool.{pooled}
 use Rattle.pool.specs.WritePool.{writePool}
 use Rattle.pool_laws.specs.PoolExactly.{ServerFault}

@@ -12,7 +12,7 @@ use Rattle.masking.specs.Kept.{places}
 use Rattle.masking.specs.Place
 use Rattle.table.specs.Rows.{Rows}
 use Rattle.checks.specs.ExtendedState.{combinedMask}
-use Rattle.features.specs.Finish.{ruleAt, finished}
+use Rattle.finish.specs.Finish.{ruleAt, finished}
 use Rattle.finish.specs.Kinds.{Kind, Kinds, Registers, EntryAtLeast, TableAtLeast, kindsAt, fromEntry}
 use Rattle.finish.specs.Kinds.Kind.{feature, featureBut28, area, freed, other}
 use Rattle.finish.specs.FeatureLaws.{clears-same}

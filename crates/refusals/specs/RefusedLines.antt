@@ -4,7 +4,7 @@ use mathlib.Core.Bool.{true}
 use mathlib.Core.List.{List, [], _∷_}
 use Prim.Native.Nat.{ℕ}
 use Rattle.bits.specs.Lists.{sumTo}
-use Rattle.digits.specs.Digits.{digits, width}
+use Rattle.lines.specs.Digits.{digits, width}
 use Rattle.x86defs.specs.Functions.{ExtendedStateEnumeration}
 use Rattle.pages.specs.Bytes.{areBytes, bytes-at}
 use Rattle.topology.specs.declared.TopologyError.the-variants.{ProcessorCount, ThreadsPerUnit}

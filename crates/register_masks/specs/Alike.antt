@@ -10,7 +10,7 @@ use Rattle.bits.specs.Bits.{bit}
 use Rattle.x86defs.specs.declared.CpuidResult.{CpuidResult}
 use Rattle.masking.specs.Kept.{places}
 use Rattle.table.specs.Rows.{Rows}
-use Rattle.features.specs.Finish.{finished}
+use Rattle.finish.specs.Finish.{finished}
 use Rattle.finish.specs.Kinds.{Kind, Kinds, Registers, allRegisters, kindsAt}
 use Rattle.finish.specs.Kinds.Kind.{feature, featureBut28, area, freed, other}
 use Rattle.register_masks.specs.Join.{allTo}

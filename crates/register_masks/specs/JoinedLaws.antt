@@ -26,9 +26,9 @@ use Rattle.checks.specs.ExtendedStateLaws.{area-mono}
 use Rattle.checks.specs.TopologyInputs.{inputsOf}
 use Rattle.checks.specs.Checks.{refuseAt, missingComponent, sizeVerdict, requiredVerdict, invlpgbVerdict, componentsOf, componentsVerdict, areaVerdict, topologyVerdict, topologyRefusal, rowsVerdict}
 use Rattle.checks.specs.ChecksLaws.{AllPass, all-pass, required-present, present-required, component-present, demanded, then-skips}
-use Rattle.features.specs.Finish.{Needed, Rule, ruleAt, enabledBy, settings, finished, unlessNoXss}
-use Rattle.features.specs.Finish.Needed.{extendedState1}
-use Rattle.features.specs.Finish.Rule.{made, needed, component}
+use Rattle.finish.specs.Finish.{Needed, Rule, ruleAt, enabledBy, settings, finished, unlessNoXss}
+use Rattle.finish.specs.Finish.Needed.{extendedState1}
+use Rattle.finish.specs.Finish.Rule.{made, needed, component}
 use Rattle.finish.specs.Kinds.{Kinds, Registers, registerKinds, kindsAt, fromEntry}
 use Rattle.finish.specs.RuleKinds.{kindsOf, kinds-at, component-kinds}
 use Rattle.finish.specs.FeatureLaws.{bothEnable}

@@ -15,7 +15,7 @@ use Rattle.table.specs.declared.Verdict.the-variants.{Accepted}
 use Rattle.table.specs.Rows.{Rows}
 use Rattle.checks.specs.ExtendedState.{combinedMask}
 use Rattle.checks.specs.Checks.{rowsVerdict}
-use Rattle.features.specs.Finish.{ruleAt, finished}
+use Rattle.finish.specs.Finish.{ruleAt, finished}
 use Rattle.finish.specs.Kinds.{Kind, Kinds, Registers, registerKinds, kindsAt}
 use Rattle.finish.specs.Kinds.Kind.{feature, featureBut28, area, freed, other}
 use Rattle.finish.specs.JoinLaws.{MaskedState, FeatureJoin}

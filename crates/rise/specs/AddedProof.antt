@@ -17,7 +17,7 @@ use Rattle.table.specs.Refusal.{andThen}
 use Rattle.table.specs.Rows.{Row}
 use Rattle.table.specs.Table.{rowIn}
 use Rattle.checks.specs.Checks.{rowsVerdict}
-use Rattle.features.specs.Finish.{ruleAt}
+use Rattle.finish.specs.Finish.{ruleAt}
 use Rattle.finish.specs.Kinds.{fromEntry}
 use Rattle.build.specs.declared.Built.{Built}
 use Rattle.finish.specs.declared.RowsBuilt.{RowsBuilt}

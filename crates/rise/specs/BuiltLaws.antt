@@ -25,7 +25,7 @@ use Rattle.checks.specs.SaveAreaLaws.{size-bytes}
 use Rattle.checks.specs.Checks.{sizeVerdict, areaVerdict}
 use Rattle.checks.specs.ExtendedStateLaws.{xsaves-ecx}
 use Rattle.checks.specs.ChecksLaws.{AllPass, all-pass, required-present, then-right}
-use Rattle.features.specs.Finish.{ruleAt, settings, enabledBy, finish, finished, unlessNoXss}
+use Rattle.finish.specs.Finish.{ruleAt, settings, enabledBy, finish, finished, unlessNoXss}
 use Rattle.finish.specs.PlaceLaws.{always, position, always-required}
 use Rattle.finish.specs.RemainsLaws.{finished-present, finished-result, always-remains}
 use Rattle.build.specs.Build.{rowsFor, verdictOf, answer}

@@ -27,8 +27,8 @@ use Rattle.checks.specs.ExtendedStateLaws.{area-mono, in-combined}
 use Rattle.checks.specs.TopologyInputs.{inputsOf}
 use Rattle.checks.specs.Checks.{refuseAt, missingComponent, requiredVerdict, invlpgbVerdict, componentsOf, componentsVerdict, areaVerdict, topologyVerdict, rowsVerdict}
 use Rattle.checks.specs.ChecksLaws.{all-pass, required-present, present-required, component-present}
-use Rattle.features.specs.Finish.{Rule, Settings, ruleAt, enabledBy, ymmClears, settings, finishRow, finished}
-use Rattle.features.specs.Finish.Rule.{made as madeRule, needed, component}
+use Rattle.finish.specs.Finish.{Rule, Settings, ruleAt, enabledBy, ymmClears, settings, finishRow, finished}
+use Rattle.finish.specs.Finish.Rule.{made as madeRule, needed, component}
 use Rattle.finish.specs.Kinds.{fromEntry}
 use Rattle.finish.specs.PlaceLaws.{always, required-place, position, always-required, component-rule, Sort, sort}
 use Rattle.finish.specs.PlaceLaws.Sort.{made, required, subleaf}

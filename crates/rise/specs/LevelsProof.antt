@@ -24,7 +24,7 @@ use Rattle.table.specs.Rows.{Row}
 use Rattle.table.specs.Table.{rowIn}
 use Rattle.checks.specs.Checks.{topologyRefusal, topologyVerdict}
 use Rattle.checks.specs.TopologyInputs.{inputsOf}
-use Rattle.features.specs.Finish.{settings}
+use Rattle.finish.specs.Finish.{settings}
 use Rattle.build.specs.Build.{rowsFor, answer}
 use Rattle.rise.specs.RiseProof.{answer-row}
 use Rattle.rise.specs.BuiltLaws.{accepted-passes, always-finished, result-at}

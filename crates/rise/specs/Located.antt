@@ -17,7 +17,7 @@ use Rattle.table.specs.Table.{rowIn}
 use Rattle.memory.specs.Origin.{isMadeHere, originRead, originTold}
 use Rattle.memory.specs.Origin.Origin.{neither, madeHere, entry}
 use Rattle.collect.specs.FirstEntries.{placeOfEntry, maskedAt}
-use Rattle.features.specs.Finish.{ruleAt, settings, finish}
+use Rattle.finish.specs.Finish.{ruleAt, settings, finish}
 use Rattle.build.specs.Build.{rowsFor, answer, originAt}
 
 -- none of the entries goes to place i

@@ -25,7 +25,7 @@ use Rattle.memory.specs.OriginLaws.{entry-read, neither-read, made-read}
 use Rattle.collect.specs.FirstEntries.{placeOfEntry, firstAt, maskedAt, maskRow}
 use Rattle.collect.specs.Stands.{standsAt}
 use Rattle.collect.specs.FirstEntriesLaws.{row-of-place}
-use Rattle.features.specs.Finish.{ruleAt, settings, finish, finished}
+use Rattle.finish.specs.Finish.{ruleAt, settings, finish, finished}
 use Rattle.finish.specs.Kinds.{fromEntry}
 use Rattle.finish.specs.PlaceLaws.{always}
 use Rattle.finish.specs.RemainsLaws.{finished-present, finished-result, made-remains, finished-entry}

@@ -25,7 +25,7 @@ use Rattle.table.specs.declared.Refusal.the-variants.{MissingRequiredResult, Sa
 use Rattle.table.specs.declared.Verdict.{Verdict}
 use Rattle.table.specs.declared.Verdict.the-variants.{Accepted, Refused}
 use Rattle.table.specs.Rows.{Row, Rows}
-use Rattle.features.specs.Finish.{ruleAt}
+use Rattle.finish.specs.Finish.{ruleAt}
 use Rattle.finish.specs.Kinds.{EntryAtLeast, TableAtLeast, Registers, kindsAt, fromEntry}
 use Rattle.table.specs.Table.{rowIn}
 use Rattle.collect.specs.FirstEntries.{firstAt}

@@ -27,7 +27,7 @@ use Rattle.table.specs.Refusal.{andThen}
 use Rattle.table.specs.Edition.{knownEdition}
 use Rattle.table.specs.Rows.{Row, Rows, row, vacant}
 use Rattle.checks.specs.ExtendedState.{combinedMask}
-use Rattle.features.specs.Finish.{ymmClears, ruleAt, finished}
+use Rattle.finish.specs.Finish.{ymmClears, ruleAt, finished}
 use Rattle.finish.specs.FeatureLaws.{ClearsFewer, clears-same, second-to-first}
 use Rattle.finish.specs.RemainsLaws.{finished-entry}
 use Rattle.finish.specs.XsavesLaws.{XsavesEdx}

@@ -20,7 +20,7 @@ use Rattle.checks.specs.Required.{placeRequired}
 use Rattle.checks.specs.ExtendedState.{xfem, xss, combinedMask, sumAt, saveArea}
 use Rattle.checks.specs.ExtendedStateLaws.{area-mono, xss-mono, in-combined}
 use Rattle.checks.specs.TopologyInputs.{inputsOf}
-use Rattle.features.specs.Finish.{Settings, ymmClears, ruleAt, enabledBy, settings, remains, finished}
+use Rattle.finish.specs.Finish.{Settings, ymmClears, ruleAt, enabledBy, settings, remains, finished}
 use Rattle.finish.specs.FeatureLaws.{ClearsFewer}
 use Rattle.finish.specs.Kinds.{Kinds, kinds, EntryAtLeast, TableAtLeast, Registers, registerKinds, kindsAt, fromEntry}
 use Rattle.finish.specs.Kinds.Kind.{other}

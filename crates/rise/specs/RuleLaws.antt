@@ -9,9 +9,9 @@ use Rattle.bits.specs.ChoiceLaws.{and-left, and-right, and-both}
 use Rattle.bits.specs.Bits.{has, Within}
 use Rattle.bits.specs.BitsLaws.{has-mono, within-or, within-of-and, and-of-within, within-trans}
 use Rattle.x86defs.specs.declared.CpuidResult.{CpuidResult}
-use Rattle.features.specs.Finish.{Made, Needed, Rule, Enabled, Settings, makeRow, changeRow, finish, remains, unlessNoXss, addressSizesEbx, versionEcx, featuresEbx, featuresEcx, featuresEdx, extendedVersionEcx, extendedVersionEdx}
-use Rattle.features.specs.Finish.Needed.{versionAndFeatures, extendedFeatures, threadLevelRow, coreLevelRow, extendedState0, extendedState1, extendedVersionAndFeatures, extendedAddressSpaceSizes, untouched}
-use Rattle.features.specs.Finish.Rule.{made, needed, component}
+use Rattle.finish.specs.Finish.{Made, Needed, Rule, Enabled, Settings, makeRow, changeRow, finish, remains, unlessNoXss, addressSizesEbx, versionEcx, featuresEbx, featuresEcx, featuresEdx, extendedVersionEcx, extendedVersionEdx}
+use Rattle.finish.specs.Finish.Needed.{versionAndFeatures, extendedFeatures, threadLevelRow, coreLevelRow, extendedState0, extendedState1, extendedVersionAndFeatures, extendedAddressSpaceSizes, untouched}
+use Rattle.finish.specs.Finish.Rule.{made, needed, component}
 use Rattle.finish.specs.Kinds.{Kind, Kinds, kinds, EntryAtLeast, TableAtLeast, Registers, fromEntry}
 use Rattle.finish.specs.Kinds.Kind.{feature, featureBut28, area, freed, other}
 use Rattle.finish.specs.RuleKinds.{kept, kindsOf}

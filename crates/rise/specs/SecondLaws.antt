@@ -19,8 +19,8 @@ use Rattle.masking.specs.Kept.{places}
 use Rattle.masking.specs.Place
 use Rattle.table.specs.Rows.{Row, Rows, row, vacant}
 use Rattle.checks.specs.ExtendedState.{xfem}
-use Rattle.features.specs.Finish.{Enabled, Rule, edition1, edition2, f16c, xopAndFma4, ymmClears, ruleAt, enabledBy, settings, versionEcx, featuresEbx, featuresEcx, extendedVersionEcx, hasYmm, finish, remains, finished, hypervisorPresent}
-use Rattle.features.specs.Finish.Rule.{made, needed, component}
+use Rattle.finish.specs.Finish.{Enabled, Rule, edition1, edition2, f16c, xopAndFma4, ymmClears, ruleAt, enabledBy, settings, versionEcx, featuresEbx, featuresEcx, extendedVersionEcx, hasYmm, finish, remains, finished, hypervisorPresent}
+use Rattle.finish.specs.Finish.Rule.{made, needed, component}
 use Rattle.rise.specs.Second.{clearEcx, secondRow}
 
 -- ---- the two registers, where state is missing

@@ -6,7 +6,7 @@ use lib.Dec.{ltb}
 use Rattle.bits.specs.Choice.{pick}
 use Rattle.masking.specs.Kept.{places}
 use Rattle.table.specs.Rows.{Row, Rows, vacant}
-use Rattle.features.specs.Finish.{ruleAt}
+use Rattle.finish.specs.Finish.{ruleAt}
 use Rattle.finish.specs.Kinds.{fromEntry}
 use Rattle.collect.specs.FirstEntries.{maskedAt, maskRow}
 

@@ -20,7 +20,7 @@ use Rattle.table.specs.declared.Verdict.the-variants.{Accepted}
 use Rattle.table.specs.Rows.{Row, Rows, vacant}
 use Rattle.table.specs.Table.{tableOf, countRows, rowIn, rowsOfTable as tableRows}
 use Rattle.checks.specs.Checks.{rowsVerdict}
-use Rattle.features.specs.Finish.{finished}
+use Rattle.finish.specs.Finish.{finished}
 use Rattle.collect.specs.FirstEntries.{firstAt, maskRow, rowsOf}
 use Rattle.finish.specs.RowsBuilt.{builtFrom}
 use Rattle.build.specs.Built.{withoutOrigins, SameButOrigins}

@@ -33,7 +33,7 @@ use Rattle.checks.specs.ExtendedStateLaws.{area-mono, xsaves-ecx, in-combined}
 use Rattle.checks.specs.TopologyInputs.{inputsOf}
 use Rattle.checks.specs.Checks.{refuseAt, missingComponent, invlpgbVerdict, componentsOf, componentsVerdict, areaVerdict, topologyVerdict, topologyRefusal, rowsVerdict}
 use Rattle.checks.specs.ChecksLaws.{AllPass, all-pass, required-present, present-required, component-present, demanded, then-skips}
-use Rattle.features.specs.Finish.{Rule, Settings, ymmClears, ruleAt, enabledBy, settings, finish, remains, finishRow, finished, unlessNoXss, addressSizesEbx}
+use Rattle.finish.specs.Finish.{Rule, Settings, ymmClears, ruleAt, enabledBy, settings, finish, remains, finishRow, finished, unlessNoXss, addressSizesEbx}
 use Rattle.finish.specs.Kinds.{fromEntry}
 use Rattle.finish.specs.PlaceLaws.{always, always-from-entry, required-place, position, always-required, component-rule}
 use Rattle.finish.specs.RemainsLaws.{finished-present, finished-result, finished-entry, always-remains, component-finished}

@@ -12,9 +12,9 @@ use Rattle.x86defs.specs.declared.CpuidResult.{CpuidResult}
 use Rattle.x86defs.specs.Functions.{result}
 use Rattle.masking.specs.Kept.{masksAt}
 use Rattle.table.specs.Rows.{Row, Rows, row, vacant}
-use Rattle.features.specs.Finish.{Needed, Rule, changeRow, Enabled, YmmClears, Settings, hasYmm, hasAvx512, hasCet, avx512FeaturesEbx, avx512FeaturesEcx, avx512FeaturesEdx, cetSs, rdPid, rdtscp, ibrsAndStibp, btcNo, hypervisorPresent, versionEcx, featuresEbx, featuresEcx, featuresEdx, extendedVersionEcx, extendedVersionEdx, addressSizesEbx, unlessNoXss, finish, remains}
-use Rattle.features.specs.Finish.Needed.{versionAndFeatures, extendedFeatures, threadLevelRow, coreLevelRow, extendedState0, extendedState1, extendedVersionAndFeatures, extendedAddressSpaceSizes, untouched}
-use Rattle.features.specs.Finish.Rule.{made, needed, component}
+use Rattle.finish.specs.Finish.{Needed, Rule, changeRow, Enabled, YmmClears, Settings, hasYmm, hasAvx512, hasCet, avx512FeaturesEbx, avx512FeaturesEcx, avx512FeaturesEdx, cetSs, rdPid, rdtscp, ibrsAndStibp, btcNo, hypervisorPresent, versionEcx, featuresEbx, featuresEcx, featuresEdx, extendedVersionEcx, extendedVersionEdx, addressSizesEbx, unlessNoXss, finish, remains}
+use Rattle.finish.specs.Finish.Needed.{versionAndFeatures, extendedFeatures, threadLevelRow, coreLevelRow, extendedState0, extendedState1, extendedVersionAndFeatures, extendedAddressSpaceSizes, untouched}
+use Rattle.finish.specs.Finish.Rule.{made, needed, component}
 use Rattle.finish.specs.Kinds.{fromEntry}
 use Rattle.finish.specs.PlaceLaws.{isNeeded}
 use Rattle.collect.specs.FirstEntries.{maskedAt}

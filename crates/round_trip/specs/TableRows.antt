@@ -22,7 +22,7 @@ use Rattle.masking.specs.Masks.{Masks, ones, secureAvicMask, versionAndFeatures
 use Rattle.masking.specs.Kept.{keptLeaves, slot, places, placeOf, leafAt, subleafAt, masksAt}
 use Rattle.table.specs.Rows.{Row, row, vacant}
 use Rattle.table.specs.declared.CpuidResults.{CpuidResults}
-use Rattle.features.specs.Finish.{ruleAt}
+use Rattle.finish.specs.Finish.{ruleAt}
 use Rattle.finish.specs.Kinds.{fromEntry}
 use Rattle.table.specs.Table.{rowIn}
 use Rattle.collect.specs.FirstEntries.{maskedAt, maskRow}

@@ -6,7 +6,7 @@ use native.Mathlib.Nat.{pow-suc, mul-comm, mul-assoc, add-mul, add-assoc}
 use native.Mathlib.Omega.{arith}
 use lib.Arith.{mod-mul}
 use lib.ListN.{length, length-append}
-use Rattle.sha256_block.specs.Block.{Σ₀, Σ₁, σ₀, σ₁, constants, wordAt, words, nextWord, withNext, schedule, turn, turns, added, compress}
+use Rattle.sha256.specs.Block.{Σ₀, Σ₁, σ₀, σ₁, constants, wordAt, words, nextWord, withNext, schedule, turn, turns, added, compress}
 use Rattle.sha256.specs.Sha256.{bigEndian, padding, padded, initial, hashed, digestOf, sha256}
 use Rattle.sha256.specs.Sha256Laws.{length-padding}
 

@@ -2,8 +2,8 @@
 use mathlib.Core.List.{List, [], _∷_, _++_}
 use Prim.Native.Nat.{ℕ, zero, suc, _+_, _-_, _*_, _/_, _%_, _^_}
 use lib.ListN.{length, replicate}
-use Rattle.sha256_block.specs.declared.State.{State}
-use Rattle.sha256_block.specs.Block.{words, compress}
+use Rattle.sha256.specs.declared.block.State.{State}
+use Rattle.sha256.specs.Block.{words, compress}
 
 -- ---- padding to whole blocks of 64 bytes: 5.1.1
 

@@ -6,8 +6,8 @@ use native.Mathlib.Numerals.{add-one, add-two, add-three, add-four, add-five, ad
 use native.Mathlib.Omega.{arith}
 use lib.ListN.{length, getD, set, take, drop, replicate, length-append, length-replicate, length-drop, List·getD-append, replicate-append-replicate}
 use lib.Seq.{sets, take-suc, take-all, take-length, getD-drop, set-at, drop-at, sets-eq, take-append-seam, drop-append-add, drop-append-le}
-use Rattle.sha256_block.specs.Block.{words, compress}
-use Rattle.sha256_block.specs.BlockLaws.{words-same}
+use Rattle.sha256.specs.Block.{words, compress}
+use Rattle.sha256.specs.BlockLaws.{words-same}
 use Rattle.sha256.specs.Sha256.{bigEndian, padding, padded, hashed, digestOf, sha256}
 
 -- ---- what is left of the message, padded

@@ -1,12 +1,14 @@
 // SHA-256 (FIPS 180-4) of a message that is there as a whole: the 32 bytes of its digest.
-use sha256_block::State;
-use sha256_block::block_at;
+use crate::block::State;
+use crate::block::block_at;
 ghost use mathlib.Core.Path.{_≡_};
 ghost use mathlib.Core.List.{_++_};
 ghost use Prim.Native.Nat.{_+_, _-_, _*_, _/_, _%_, _^_, _≤_, _<_};
 ghost use lib.ListN.{length, replicate};
 ghost use lib.Seq.{sets};
 ghost use Rattle.sha256.specs.Sha256.{bigEndian, padding, initial, digestOf, sha256};
+
+mod block;
 
 // The digest of a message of any length. The length's field holds the lowest 64 bits of the length in bits, which is the standard's for each
 // message that the standard admits: those below 2^61 bytes.

@@ -23,11 +23,11 @@ use Rattle.pages.specs.declared.ParsedCpuidEntry.{ParsedCpuidEntry}
 use Rattle.pages.specs.Layout.{entryAt}
 use Rattle.pages.specs.Entries.{entries, counted}
 use Rattle.pages.specs.Parsed.{parsed, countsRead}
-use Rattle.reader.specs.Walk.{firstIndex}
+use Rattle.pages.specs.Walk.{firstIndex}
 use Rattle.build.specs.Build.{answer}
-use Rattle.reader.specs.declared.Read.the-variants.{Entry as ReadEntry}
-use Rattle.reader.specs.Read.{readAt, given}
-use Rattle.reader.specs.ReadLaws.{read-entry, reader-gives, reader-gives-counted, reader-gives-clean}
+use Rattle.pages.specs.declared.reader.Read.the-variants.{Entry as ReadEntry}
+use Rattle.pages.specs.Read.{readAt, given}
+use Rattle.pages.specs.ReadLaws.{read-entry, reader-gives, reader-gives-counted, reader-gives-clean}
 use Rattle.lookup.specs.declared.LeafResult.the-variants.{None as Nothing}
 use Rattle.lookup.specs.Lookup.{lookup}
 use Rattle.lookup.specs.LookupLaws.{empty-finds-nothing}
@@ -74,7 +74,7 @@ refused-finds-nothing chosen s r e leaf sub enforce = rw (builds-exactly chosen 
 -- P9 ask.
 
 -- "The reader promises from now on, with each entry, that these bytes are zero": what it gives as an entry is the one that stands there, by document
--- 01's offsets, and its eight bytes from 40 on are zero. crates/reader/specs/ReadLaws.antt; `readAt` is what `reader::take` promises
+-- 01's offsets, and its eight bytes from 40 on are zero. crates/pages/specs/ReadLaws.antt; `readAt` is what `pages::reader::take` promises
 pub each-entry-read-is-clean : (s : List ℕ) (i : CpuidPageIndex) (e : ParsedCpuidEntry) → ReadEntry e ≡ readAt s i
     → (e ≡ parsed (entry s (i .«page_index») (i .«function_index»)))
     × ((k : ℕ) → k < 8 → getD s (4096 * i .«page_index» + 16 + 48 * i .«function_index» + 40 + k) 0 ≡ 0)
@@ -112,7 +112,7 @@ unclean-unused = Unclean.unused-accepted
 pub unclean-before-missing : answer firstEdition Unclean.twoUnclean .verdict ≡ Refused (ReservedBytes (function 0xD))
 unclean-before-missing = Unclean.two-refused
 
--- ---- The page reader in the source's form. crates/reader/specs/Read.antt.
+-- ---- The page reader in the source's form. crates/pages/specs/Read.antt.
 
 -- asked often enough, a new reader gives the entries of the pages, each once and in order, and then the end; those that by what it gives
 -- count are the counted entries, each once and in order

@@ -30,7 +30,7 @@ use Rattle.table.specs.declared.Verdict.the-variants.{Accepted, Refused}
 use Rattle.table.specs.Refusal.{details}
 use Rattle.table.specs.Rows.{Row, vacant}
 use Rattle.table.specs.Table.{rowIn}
-use Rattle.features.specs.Finish.{ruleAt}
+use Rattle.finish.specs.Finish.{ruleAt}
 use Rattle.finish.specs.Kinds.{kindsAt, fromEntry, EntryAtLeast, TableAtLeast}
 use Rattle.finish.specs.Kinds.Kind.{feature, featureBut28, area, freed, other}
 use Rattle.checks.specs.ExtendedState.{xfem as xfemIn, combinedMask}

@@ -31,8 +31,8 @@ use Rattle.bits.specs.Lists.{tabulate, keepIf}
 use Rattle.x86defs.specs.declared.CpuidResult.{CpuidResult}
 use Rattle.x86defs.specs.Functions.{result}
 use Rattle.pages.specs.Layout.{Entry}
-use Rattle.flips.specs.declared.Flip.{Flip}
-use Rattle.flips.specs.Flips.{flip, flipped, flipsOf}
+use Rattle.nearest.specs.declared.flips.Flip.{Flip}
+use Rattle.nearest.specs.Flips.{flip, flipped, flipsOf}
 use Rattle.masking.specs.Kept.{slot, keptLeaves, leafAt}
 use Rattle.masking.specs.Place
 use Rattle.topology.specs.Topology.{Inputs, topologyOf}

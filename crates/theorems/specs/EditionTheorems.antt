@@ -12,7 +12,7 @@ use Rattle.build.specs.Build.{answer, underEdition}
 use Rattle.rise.specs.Rise.{RiseTo, TableRises, SecondToFirst}
 use Rattle.rise.specs.RiseProof.{second-to-first-rises}
 use Rattle.examples.specs.SeenExamples.{figures}
-use Rattle.features.specs.Finish.{edition1, edition2}
+use Rattle.finish.specs.Finish.{edition1, edition2}
 use Rattle.finish.specs.FinishLaws.{figures as clears, ymm-figures, ymm-figures-2}
 use Rattle.rise.specs.Second.{SecondEdition, FirstEdition}
 use Rattle.rise.specs.SecondProof as Editions
@@ -32,7 +32,7 @@ use Rattle.images.specs.CarryExactlyProof.{carry-exactly}
 use Rattle.examples.specs.WithoutYmmMoved as Moved
 use Rattle.page_sets.specs.Evaluation.{firstEdition}
 
--- ---- P7, edition 2 of the AVX rule. crates/features/specs/Finish.antt has the clears of each edition, crates/rise/specs/Second.antt the
+-- ---- P7, edition 2 of the AVX rule. crates/finish/specs/Finish.antt has the clears of each edition, crates/rise/specs/Second.antt the
 -- statements. All that is said above and below of `chosen` is said for any edition, the same for A and B, in one argument.
 
 -- the bits cleared where XFEM lacks bit 2, of 1.ECX, 7.0.EBX, 7.0.ECX and 80000001h.ECX, in edition 1 and in edition 2

@@ -1,5 +1,5 @@
 -- A table's fingerprint: the SHA-256 of its image, by which a figure says under which table it was computed.
--- crates/fingerprint/specs/Fingerprint.antt; crates/sha256/specs/Sha256.antt and crates/sha256_block/specs/Block.antt have SHA-256, from FIPS 180-4.
+-- crates/fingerprint/specs/Fingerprint.antt; crates/sha256/specs/Sha256.antt and crates/sha256/specs/Block.antt have SHA-256, from FIPS 180-4.
 -- `answer chosen s` is the answer of the definition (crates/build/specs/Build.antt) to the page bytes s under what the caller chooses.
 use mathlib.Core.Path.{_≡_, ap}
 use mathlib.Core.List.{List, [], _∷_}
@@ -16,11 +16,11 @@ use Rattle.sha256.specs.Facts.{valueFrom}
 use Rattle.fingerprint.specs.Fingerprint.{fingerprint}
 use Rattle.page_sets.specs.PageSets.{serverA}
 use Rattle.page_sets.specs.Evaluation.{firstEdition}
-use Rattle.fingerprints.specs.Fingerprints.{RowsFingerprint, FingerprintRows, FingerprintTable}
-use Rattle.fingerprints.specs.FingerprintsProof as Fingerprints
-use Rattle.fingerprints.specs.FingerprintA as A
+use Rattle.images.specs.Fingerprints.{RowsFingerprint, FingerprintRows, FingerprintTable}
+use Rattle.images.specs.FingerprintsProof as Fingerprints
+use Rattle.images.specs.FingerprintA as A
 
--- tables with equal rows have one fingerprint, whatever their memory holds besides. crates/fingerprints/specs/Fingerprints.antt
+-- tables with equal rows have one fingerprint, whatever their memory holds besides. crates/images/specs/Fingerprints.antt
 pub equal-rows-one-fingerprint : RowsFingerprint
 equal-rows-one-fingerprint = Fingerprints.rows-fingerprint
 

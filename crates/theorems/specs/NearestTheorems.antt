@@ -1,5 +1,5 @@
--- The theorems page, P13: the nearest bit that matters. crates/flips/specs/Flips.antt has the flips of a page set in order and the flipped pages,
--- crates/search/specs/Changes.antt and SameVerdict.antt what it is for a flip to change the answer, crates/nearest/specs/Nearest.antt the answer.
+-- The theorems page, P13: the nearest bit that matters. crates/nearest/specs/Flips.antt has the flips of a page set in order and the flipped pages,
+-- crates/nearest/specs/Changes.antt and SameVerdict.antt what it is for a flip to change the answer, crates/nearest/specs/Nearest.antt the answer.
 -- `nearest::nearest_bit` promises `nearest`, for any bytes.
 use mathlib.Core.Path.{_≡_}
 use mathlib.Core.Bool.{false}
@@ -18,11 +18,11 @@ use Rattle.table.specs.declared.Subleaf.the-variants.{Some}
 use Rattle.table.specs.declared.Refusal.the-variants.{PagesLength, PageCount, MissingRequiredResult, InvlpgbUnavailable, UnknownEdition, ReservedBytes, NothingDecides}
 use Rattle.table.specs.declared.Verdict.the-variants.{Refused}
 use Rattle.build.specs.Build.{underEdition, answer}
-use Rattle.flips.specs.declared.Flip.{Flip}
-use Rattle.flips.specs.Flips.{flip}
-use Rattle.flips.specs.FlipOrder.{someFlips, flips-are}
-use Rattle.flips.specs.OneBit.{oneBit}
-use Rattle.search.specs.Changes.{changes}
+use Rattle.nearest.specs.declared.flips.Flip.{Flip}
+use Rattle.nearest.specs.Flips.{flip}
+use Rattle.nearest.specs.FlipOrder.{someFlips, flips-are}
+use Rattle.nearest.specs.OneBit.{oneBit}
+use Rattle.nearest.specs.Changes.{changes}
 use Rattle.nearest.specs.declared.Nearest.the-variants.{Bit, NoBit}
 use Rattle.nearest.specs.Nearest.{nearest}
 use Rattle.nearest_exactly.specs.NearestExactly.{NearestExactly, TwentyExactly}
@@ -55,7 +55,7 @@ pub refused-by-4 : (chosen : Choices) (s : List ℕ) → AreBytes s → answer c
 refused-by-4 = Invlpgb.refused-by-4
 
 -- the order of the flips, by page, entry, register and bit from 0: some of the 384 of three entries, two on page 0 and one on page 1.
--- crates/flips/specs/FlipOrder.antt
+-- crates/nearest/specs/FlipOrder.antt
 pub flips-in-order : someFlips
     ≡ flip 0 0 0 0 ∷ flip 0 0 0 1 ∷ flip 0 0 1 0 ∷ flip 0 0 3 31 ∷ flip 0 1 0 0 ∷ flip 1 0 0 0 ∷ flip 1 0 3 31 ∷ []
 flips-in-order = flips-are

@@ -8,7 +8,7 @@ use Rattle.table.specs.declared.Choices.{Choices}
 use Rattle.table.specs.declared.Subleaf.{Subleaf}
 use Rattle.build.specs.Build.{originAt}
 use Rattle.lookup.specs.Lookup.{placeAsked}
-use Rattle.pool_sets.specs.Sets.{setAt}
+use Rattle.pool.specs.Sets.{setAt}
 use Rattle.pool.specs.Pool.{pooled}
 use Rattle.answers.specs.declared.SnpCpuidFound.{SnpCpuidFound}
 use Rattle.snp_cpuid.specs.PoolExports.{pooledFound}

@@ -16,8 +16,8 @@ use Rattle.table.specs.declared.Verdict.the-variants.{Accepted, Refused}
 use Rattle.table.specs.Table.{rowIn}
 use Rattle.finish.specs.RowsBuilt.{tableFor}
 use Rattle.lookup.specs.Lookup.{placeAsked}
-use Rattle.pool_sets.specs.Sets.{setAt}
-use Rattle.pool_sets.specs.Servers.{poolRows}
+use Rattle.pool.specs.Sets.{setAt}
+use Rattle.pool.specs.Servers.{poolRows}
 use Rattle.pool.specs.Pool.{poolVerdict, pooled}
 use Rattle.pool_laws.specs.PoolRight.{poolTable, PoolRight}
 use Rattle.pool_laws.specs.PoolProof.{pool-right}

@@ -32,7 +32,7 @@ use Rattle.examples.specs.Letter28
 
 -- ---- P12, one table for a pool of servers
 
--- crates/register_masks/specs/Join.antt has the join and Alike.antt what 19 asks, crates/pool_sets/specs/Sets.antt the page sets in the slice,
+-- crates/register_masks/specs/Join.antt has the join and Alike.antt what 19 asks, crates/pool/specs/Sets.antt the page sets in the slice,
 -- crates/pool/specs/Pool.antt the answer.
 
 -- 18, 15, a server's own refusal with its number, 19 and the table, each if and only if its condition holds and no earlier one does; a refused pool

@@ -21,7 +21,7 @@ use Rattle.table.specs.Table.{rowIn}
 use Rattle.checks.specs.Checks.{topologyRefusal, topologyVerdict, rowsVerdict}
 use Rattle.checks.specs.ChecksLaws.{then-left, then-right, then-accepted}
 use Rattle.checks.specs.TopologyInputs.{inputsOf}
-use Rattle.features.specs.Finish.{ruleAt, settings, finish, finished}
+use Rattle.finish.specs.Finish.{ruleAt, settings, finish, finished}
 use Rattle.finish.specs.PlaceLaws.{always}
 use Rattle.finish.specs.RemainsLaws.{finished-present}
 use Rattle.build.specs.Build.{rowsFor, verdictOf, answer}

@@ -7,9 +7,9 @@ use Prim.Native.Nat.{_-_, _^_, _<_}
 use lib.ListN.{length}
 use denote.Ref.{now}
 use Rattle.pages.specs.Layout.{pagesIn, countOf}
-use Rattle.reader.specs.Walk.{incremented, rest}
-use Rattle.reader.specs.WalkLaws.{turn}
-use Rattle.reader.specs.ReadLaws.{read-entry}
+use Rattle.pages.specs.Walk.{incremented, rest}
+use Rattle.pages.specs.WalkLaws.{turn}
+use Rattle.pages.specs.ReadLaws.{read-entry}
 use Rattle.bits.specs.Bits.{bit, has}
 use Rattle.masking.specs.Kept.{keptLeaves, slot}
 use Rattle.collect.specs.OriginsLaws.{number-fits}

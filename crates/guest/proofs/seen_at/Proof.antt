@@ -2,7 +2,7 @@
 use borrow.Author.Needs.{needs}
 use Prim.Native.Nat.{ℕ}
 use Rattle.guest_state.specs.State.{saveRegister}
-use Rattle.rows_checked.specs.Checked.{registersIn}
+use Rattle.rows.specs.Checked.{registersIn}
 use Rattle.guest.specs.FindLaws.{rule-version, rule-threads, rule-cores, rule-area, rule-compact, rule-none}
 use Rattle.guest.proofs.seen_at.Statement.{statement}
 use Rattle.guest.proofs.seen_at.Tie as tie

@@ -4,7 +4,7 @@ use mathlib.Core.Path.{ap, _∙_}
 use Rattle.x86defs.specs.declared.CpuidResult.{CpuidResult}
 use Rattle.table.specs.Rows.{row}
 use Rattle.guest_state.specs.State.{saveRegister}
-use Rattle.rows_checked.specs.Checked.{registersIn}
+use Rattle.rows.specs.Checked.{registersIn}
 use Rattle.guest.specs.Guest.{seenAt}
 use Rattle.guest.specs.FindLaws.{seen-there, seen-absent, seen-past}
 use Rattle.guest.proofs.seen_row.Statement.{statement}

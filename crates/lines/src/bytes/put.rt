@@ -1,8 +1,8 @@
 // Lines into lent bytes: stores what a line says at an index, and gives the index after it.
 use crate::bytes::LineDetails;
 use crate::bytes::names::names_of;
-use digits::put_decimal;
-use digits::put_digits;
+use crate::digits::put_decimal;
+use crate::digits::put_digits;
 use table::Subleaf;
 ghost use mathlib.Core.Path.{_≡_};
 ghost use Prim.Native.Nat.{_+_, _≤_};

@@ -6,8 +6,8 @@ use mathlib.Core.Logic.{inl, inr}
 use Prim.Native.Nat.{ℕ, _<_}
 use lib.ListN.{length, getD}
 use denote.Ref.{now}
-use Rattle.reader.specs.Walk.{incremented, rest}
-use Rattle.reader.specs.WalkLaws.{turn}
+use Rattle.pages.specs.Walk.{incremented, rest}
+use Rattle.pages.specs.WalkLaws.{turn}
 use Rattle.collect.specs.LawfulLaws.{lawful-counts}
 use Rattle.nearest.specs.Nearest.{chosen}
 use Rattle.nearest.specs.NearestSearchLaws.{Searching, searching-first, searching-last, position-fits, AtEntry, entry-falls, entry-present, entry-seen, entry-not-kept, entry-none, entry-decides, no-unclean}

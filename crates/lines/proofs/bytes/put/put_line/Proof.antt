@@ -5,7 +5,7 @@ use native.Mathlib.Omega.{arith}
 use lib.Seq.{length-sets}
 use lib.ListN.{length, length-set}
 use denote.Ref.{now}
-use Rattle.digits.specs.Digits.{decimal}
+use Rattle.lines.specs.Digits.{decimal}
 use Rattle.lines.specs.Line.{newline, fields, line}
 use Rattle.lines.specs.LineLaws.{length-parts, at-most-22, three-sets}
 use Rattle.lines.proofs.bytes.put.put_line.Statement.{statement}

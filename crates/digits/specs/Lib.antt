@@ -1,4 +1,0 @@
-pub mod Digits
-pub mod DigitsLaws
-pub mod Field
-pub mod FieldLaws

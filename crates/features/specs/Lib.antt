@@ -1,3 +1,0 @@
-pub mod Finish
-pub mod UpdateMisread
-pub mod FeaturesInCode

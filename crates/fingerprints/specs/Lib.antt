@@ -1,3 +1,0 @@
-pub mod Fingerprints
-pub mod FingerprintsProof
-pub mod FingerprintA

@@ -1,4 +1,0 @@
-pub mod Joins
-pub mod PoolMaskLaws
-pub mod PoolJoinLaws
-pub mod CodeLaws

@@ -1,4 +1,0 @@
-pub mod Walk
-pub mod WalkLaws
-pub mod Read
-pub mod ReadLaws
