@@ -109,7 +109,7 @@ def main(words, root=ROOT):
     status, texts = 0, {}
     try:
         known, places = {**figures(root), **editions(root)}, listed(root)
-        old = constant(root, 'masking', 'PLACES')
+        old = constant(root, 'masking/src/lib.rt', 'PLACES')
         if words == ['--write'] and old != known['places']:
             print(*renumbered(root, old, known['places']), sep='\n')
         for file, place in places:

@@ -30,7 +30,7 @@ class Interface:
     def __init__(self, root):
         self.root = root
         self.structs, self.functions = structs(root), functions(root)
-        self.registers, self.places = constant(root, 'memory', 'REGISTERS'), constant(root, 'masking', 'PLACES')
+        self.registers, self.places = constant(root, 'memory/src/lib.rt', 'REGISTERS'), constant(root, 'masking/src/lib.rt', 'PLACES')
         self.refusals = refusal_list.refusals(root)
         for function in self.functions:
             if function.answer not in {struct.name for struct in self.structs} | {'u32'}:

@@ -1,5 +1,5 @@
-// The answer to the 88 rows, in specs/: the checks in order, then the rule of each place, and laws of the finished table. The only code is the struct
-// of that answer.
+// The answer to the 88 rows, in specs/: the checks in order, then the rule of each place, and laws of the finished table. In code the struct of that
+// answer, and the rules of single rows (`features`).
 use table::CpuidResults;
 use table::Verdict;
 

@@ -1,4 +1,5 @@
-// The CPUID pages of the SEV-SNP firmware: their counts, the entry at an index, and whether its reserved bytes are zero.
+// The CPUID pages of the SEV-SNP firmware: their counts, the entry at an index, and whether its reserved bytes are zero. `reader` reads the entries one
+// by one, as the source's reader does.
 use x86defs::CpuidFunction;
 use x86defs::CpuidResult;
 ghost use mathlib.Core.Path.{_≡_};
