@@ -18,7 +18,7 @@ from proved_source import Unlisted
 ROOT = Path(__file__).resolve().parents[2]
 CODE, PROOF, HEADER = 'crates/register_masks/src/lib.rt', 'crates/register_masks/proofs/masks_at/Proof.antt', 'include/snp_cpuid.h'
 # the feature bits of a kind, and the bits that must agree
-MASKS = {'feature': ('ALL', '0'), 'featureBut28': ('BUT_MT', 'MT_PER_SOCKET'), 'area': ('0', '0'), 'freed': ('0', '0'), 'other': ('0', 'ALL')}
+MASKS = {'feature': ('ALL', '0'), 'featureBut28': ('ALL_BUT_BIT_28', 'BIT_28'), 'area': ('0', '0'), 'freed': ('0', '0'), 'other': ('0', 'ALL')}
 WIDTH = 150
 
 

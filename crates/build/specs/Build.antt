@@ -24,7 +24,7 @@ use Rattle.collect.specs.Lawful.{lawfulVerdict}
 use Rattle.finish.specs.RowsBuilt.{tableFor}
 use Rattle.build.specs.declared.Built.{Built}
 use Rattle.collect.specs.FirstEntries.{rowsOf}
-use Rattle.collect.specs.Stands.{standsAt, foundOrigins}
+use Rattle.collect.specs.FirstEntryOrigin.{standsAt, foundOrigins}
 
 -- document 02, P7: "15 an edition other than 1 or 2, before 1"
 unfoldable pub editionVerdict : ℕ → Verdict

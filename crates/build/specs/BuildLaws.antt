@@ -11,7 +11,7 @@ use Rattle.masking.specs.Kept.{places}
 use Rattle.memory.specs.Origin.{isMadeHere, originOf, originNumber, finishedOrigins}
 use Rattle.memory.specs.Origin.Origin.{neither, madeHere}
 use Rattle.memory.specs.OriginLaws.{finished-origins}
-use Rattle.collect.specs.Stands.{standsAt, foundOrigins}
+use Rattle.collect.specs.FirstEntryOrigin.{standsAt, foundOrigins}
 use Rattle.finish.specs.declared.RowsBuilt.{RowsBuilt}
 use Rattle.build.specs.declared.Built.{Built}
 use Rattle.table.specs.declared.Refusal.{Refusal}

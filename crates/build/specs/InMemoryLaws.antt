@@ -17,7 +17,7 @@ use Rattle.memory.specs.Origin.{finishedOrigins}
 use Rattle.memory.specs.Memory.{rowsIn, tableIn, Cleared}
 use Rattle.memory.specs.MemoryLaws.{layout-length, rows-in}
 use Rattle.collect.specs.Collect.{collected-rows}
-use Rattle.collect.specs.Stands.{foundOrigins}
+use Rattle.collect.specs.FirstEntryOrigin.{foundOrigins}
 use Rattle.collect.specs.CollectedLaws.{walked-collected}
 use Rattle.collect.specs.WalkedPages.{WalkedPages}
 use Rattle.finish.specs.declared.RowsBuilt.{RowsBuilt}

@@ -9,9 +9,9 @@ use masking::PLACES;
 use masking::place;
 use memory::REGISTERS;
 use memory::is_there;
+use memory::lengths_known;
 use memory::put_row;
 use memory::row_at;
-use memory::sized;
 use table::CpuidResults;
 use table::Refusal;
 use table::Verdict;
@@ -69,7 +69,7 @@ fn clear_bits(registers: &mut [u32; REGISTERS], origins: &[u64; PLACES], keep: b
     ensures { λ _. ⌜ now (registers .exit)
         ≡ layout (λ i. rowIn (carriedTable keep (heldIn (now (registers .entry)) (now (origins .entry)))) i .result) ⌝ }
 {
-    sized(registers, origins);
+    lengths_known(registers, origins);
     let has_version = origins[place::VERSION_AND_FEATURES];
     let has_extended = origins[place::EXTENDED_VERSION_AND_FEATURES];
     let version = row_at(registers, place::VERSION_AND_FEATURES);

@@ -18,7 +18,7 @@ use Rattle.table.specs.Rows.{Row, row, vacant}
 use Rattle.collect.specs.FirstEntries.{placeOfEntry, firstAt, maskedAt, maskRow, rowsOf}
 use Rattle.collect.specs.FirstEntriesLaws.{row-of-place}
 use Rattle.collect.specs.Collect.{collected}
-use Rattle.collect.specs.Stands.{standsAt, foundOrigins}
+use Rattle.collect.specs.FirstEntryOrigin.{standsAt, foundOrigins}
 use Rattle.memory.specs.Memory.{rowOf, isThere, layout, tableIn}
 use Rattle.memory.specs.MemoryLaws.{layout-list}
 

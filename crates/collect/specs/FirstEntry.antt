@@ -11,7 +11,7 @@ use Rattle.table.specs.declared.Verdict.{Verdict}
 use Rattle.table.specs.declared.Verdict.the-variants.{Accepted, Refused}
 use Rattle.memory.specs.Origin.{Origin, originNumber}
 use Rattle.memory.specs.Origin.Origin.{neither}
-use Rattle.collect.specs.Stands.{standsAt}
+use Rattle.collect.specs.FirstEntryOrigin.{standsAt}
 use Rattle.collect.specs.Lawful.{lawfulVerdict}
 use Rattle.collect.specs.declared.FirstEntry.{FirstEntry}
 

@@ -2,7 +2,7 @@ pub mod FirstEntries
 pub mod FirstEntriesLaws
 pub mod Collect
 pub mod RowsFit
-pub mod Stands
+pub mod FirstEntryOrigin
 pub mod OriginsLaws
 pub mod Walked
 pub mod StoreLaws

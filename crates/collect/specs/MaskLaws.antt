@@ -28,7 +28,7 @@ use Rattle.memory.specs.Memory.{rowOf, putRow, isThere, rowsIn, layout}
 use Rattle.memory.specs.MemoryLaws.{put-length, put-at, layout-length, layout-row, layout-ext, known-by-rows}
 use Rattle.collect.specs.FirstEntries.{firstAt, words, wordRow, firstsOf, setLegacy, maskedAt, maskRow, rowsOf}
 use Rattle.collect.specs.FirstEntriesLaws.{first-of-place, row-of-place}
-use Rattle.collect.specs.Stands.{foundOrigins}
+use Rattle.collect.specs.FirstEntryOrigin.{foundOrigins}
 use Rattle.collect.specs.CollectedLaws.{stands-there}
 use Rattle.collect.specs.Mask.{Unmasked, Masked, legacyRow}
 

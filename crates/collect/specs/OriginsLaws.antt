@@ -25,7 +25,7 @@ use Rattle.memory.specs.Origin.{Origin, originNumber}
 use Rattle.memory.specs.Origin.Origin.{neither, entry}
 use Rattle.collect.specs.FirstEntries.{placeOfEntry}
 use Rattle.collect.specs.Collect.{storedAt}
-use Rattle.collect.specs.Stands.{standsAt, foundOrigins}
+use Rattle.collect.specs.FirstEntryOrigin.{standsAt, foundOrigins}
 
 -- where the first counted entry of place i stands, of a list of entries
 abbrev standsIn : ℕ → List Entry → ℕ

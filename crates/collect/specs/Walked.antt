@@ -7,7 +7,7 @@ use Rattle.pages.specs.declared.reserved.Reserved.{Reserved}
 use Rattle.pages.specs.Reserved.{reservedOf, allClean}
 use Rattle.memory.specs.Memory.{layout}
 use Rattle.collect.specs.FirstEntries.{firstsOf}
-use Rattle.collect.specs.Stands.{foundOrigins}
+use Rattle.collect.specs.FirstEntryOrigin.{foundOrigins}
 
 -- whether the reserved bytes of all entries are zero, or the leaf of the first entry where they are not; where they all are, the first entries and
 -- where each stands

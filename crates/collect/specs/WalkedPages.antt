@@ -9,7 +9,7 @@ use Rattle.table.specs.declared.Refusal.{Refusal}
 use Rattle.table.specs.declared.Verdict.{Verdict}
 use Rattle.table.specs.declared.Verdict.the-variants.{Accepted, Refused}
 use Rattle.collect.specs.FirstEntries.{maskRow, rowsOf}
-use Rattle.collect.specs.Stands.{foundOrigins}
+use Rattle.collect.specs.FirstEntryOrigin.{foundOrigins}
 use Rattle.memory.specs.Memory.{rowsIn, layout, Cleared}
 use Rattle.collect.specs.Walked.{Walked}
 use Rattle.pages.specs.Reserved.{allClean}

@@ -34,7 +34,7 @@ use Rattle.memory.specs.Origin.{originNumber}
 use Rattle.memory.specs.Origin.Origin.{entry}
 use Rattle.collect.specs.FirstEntries.{words, firstsOf}
 use Rattle.collect.specs.Collect.{gathered, countedPlace, counted-place-stored, storedAt, store, turn-kept, turn-new, turn-none, Collecting, collecting-first, collecting-next, collecting-last}
-use Rattle.collect.specs.Stands.{foundOrigins}
+use Rattle.collect.specs.FirstEntryOrigin.{foundOrigins}
 use Rattle.collect.specs.OriginsLaws.{Locating, locating-first, locating-kept, locating-none, locating-new, locating-last}
 use Rattle.memory.specs.Memory.{rowOf, putRow, isThere, tableIn}
 use Rattle.memory.specs.MemoryLaws.{put-length, known-by-rows}

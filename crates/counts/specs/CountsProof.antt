@@ -14,7 +14,7 @@ use Rattle.table.specs.Table.{tableOf}
 use Rattle.build.specs.Build.{rowsFor, answer}
 use Rattle.image.specs.Image.{image}
 use Rattle.counts.specs.Counts.{Counted, RowsCounted, SinglePageRefused}
-use Rattle.image.specs.Standing.{stands, row-stands}
+use Rattle.image.specs.RowsPresent.{stands, row-stands}
 use Rattle.image.specs.AcceptedLaws.{rows-pass, accepted-table}
 use Rattle.counts.specs.Sizes.{rows-count, bytes-count}
 use Rattle.counts.specs.Mask.{mask-within, components-most}

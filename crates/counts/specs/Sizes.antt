@@ -10,7 +10,7 @@ use Rattle.masking.specs.Kept.{places}
 use Rattle.table.specs.Rows.{Rows}
 use Rattle.table.specs.Table.{countRows, tableOf}
 use Rattle.image.specs.Image.{image}
-use Rattle.image.specs.Standing.{stands}
+use Rattle.image.specs.RowsPresent.{stands}
 use Rattle.image.specs.AcceptedLaws.{standing-length}
 use Rattle.counts.specs.Counts.{componentsIn}
 

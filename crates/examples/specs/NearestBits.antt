@@ -32,8 +32,8 @@ use Rattle.nearest.specs.FlippedRowLaws.{firstAmong}
 use Rattle.nearest.specs.declared.Nearest.the-variants.{Bit, NoBit}
 use Rattle.nearest.specs.Nearest.{firstThat, unlessRefused, nearest}
 use Rattle.nearest_exactly.specs.NearestExactly.{MissesRequired}
-use Rattle.nearest_exactly.specs.Twenty.{twenty-exactly}
-use Rattle.nearest_exactly.specs.Ends.{some-decides}
+use Rattle.nearest_exactly.specs.TwentyExactly.{twenty-exactly}
+use Rattle.nearest_exactly.specs.NoDecisiveBit.{some-decides}
 use Rattle.nearest_exactly.specs.WithoutInvlpgb.{InvlpgbNearest, refused-by-4}
 use Rattle.nearest_exactly.specs.OutsideLaws.{Among, FirstAt}
 use Rattle.page_sets.specs.PageSets.{word, entry, page, requiredEntries, firstPage, stateEntries, serverA}

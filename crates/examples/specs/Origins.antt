@@ -14,7 +14,7 @@ use Rattle.table.specs.declared.Verdict.the-variants.{Accepted}
 use Rattle.table.specs.Rows.{Row}
 use Rattle.memory.specs.Origin.{Origin, isMadeHere, originOf}
 use Rattle.memory.specs.Origin.Origin.{madeHere, entry}
-use Rattle.collect.specs.Stands.{standsAt}
+use Rattle.collect.specs.FirstEntryOrigin.{standsAt}
 use Rattle.finish.specs.Finish.{ruleAt}
 use Rattle.finish.specs.PlaceLaws.{always}
 use Rattle.build.specs.Build.{answer, originAt}

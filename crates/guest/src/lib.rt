@@ -9,9 +9,9 @@ use masking::place;
 use memory::REGISTERS;
 use memory::clear;
 use memory::is_there;
+use memory::lengths_known;
 use memory::put_row;
 use memory::row_at;
-use memory::sized;
 use table::CpuidResults;
 use table::Refusal;
 use table::Subleaf;
@@ -172,7 +172,7 @@ fn put_seen(
     ensures { λ _. ⌜ heldIn (now (registers .exit)) (now (origins .entry))
         ≡ tableWith (heldIn (now (registers .entry)) (now (origins .entry))) processor size ⌝ }
 {
-    sized(registers, origins);
+    lengths_known(registers, origins);
     let area = save_register(registers, processor.xcr0);
     let version = row_at(registers, place::VERSION_AND_FEATURES);
     let threads = row_at(registers, place::THREAD_LEVEL);

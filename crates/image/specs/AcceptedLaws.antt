@@ -28,7 +28,7 @@ use Rattle.image.specs.ImagePieces.{rowsAmong}
 use Rattle.image.specs.Components.{Components}
 use Rattle.image.specs.ComponentsLaws.{ones-sum}
 use Rattle.image.specs.LengthLaws.{image-length}
-use Rattle.image.specs.Standing.{stands, component-stands, row-stands}
+use Rattle.image.specs.RowsPresent.{stands, component-stands, row-stands}
 
 -- ---- a table whose rows are those that stand under x
 

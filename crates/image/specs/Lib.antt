@@ -6,6 +6,6 @@ pub mod Sums
 pub mod ComponentsLaws
 pub mod LengthLaws
 pub mod PutLaws
-pub mod Standing
+pub mod RowsPresent
 pub mod AcceptedLaws
 pub mod Write

@@ -20,7 +20,7 @@ use Rattle.memory.specs.Origin.Origin.{neither, madeHere, notKnown, entry}
 use Rattle.memory.specs.Memory.{isThere, rowsIn, layout}
 use Rattle.memory.specs.MemoryLaws.{layout-row}
 use Rattle.memory.specs.Held.{wholeOf, heldIn, whole-ext}
-use Rattle.collect.specs.Stands.{standsAt}
+use Rattle.collect.specs.FirstEntryOrigin.{standsAt}
 use Rattle.build.specs.Build.{originsIn, answer, originAt, TableIn}
 use Rattle.rise.specs.RiseProof.{answer-table, answer-row}
 use Rattle.rise.specs.BuiltLaws.{built-mask}

@@ -1,9 +1,9 @@
 pub mod Invlpgb
-pub mod Ends
+pub mod NoDecisiveBit
 pub mod NearestExactly
 pub mod FirstLaws
 pub mod NearestExactlyProof
-pub mod Twenty
+pub mod TwentyExactly
 pub mod OutsideLaws
 pub mod Meaning
 pub mod WithoutInvlpgb

@@ -28,7 +28,7 @@ use Rattle.nearest.specs.Nearest.{nearest}
 use Rattle.nearest.specs.NearestFrontLaws.{front-refuses, searched}
 use Rattle.nearest_exactly.specs.NearestExactlyProof.{nearest-exactly}
 use Rattle.nearest_exactly.specs.Invlpgb.{invlpgb, not-four}
-use Rattle.nearest_exactly.specs.Ends.{without-invlpgb}
+use Rattle.nearest_exactly.specs.NoDecisiveBit.{without-invlpgb}
 
 -- bit 3 of EBX of an entry that is stored as 80000008h's
 abbrev pub InvlpgbNearest : Choices → List ℕ → Type 0

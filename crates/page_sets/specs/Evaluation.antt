@@ -27,7 +27,7 @@ use Rattle.table.specs.Table.{countRows}
 use Rattle.build.specs.declared.Built.{Built}
 use Rattle.memory.specs.Origin.{isMadeHere, originOf}
 use Rattle.collect.specs.FirstEntries.{firstAt, legacyFeatures, rowsOf}
-use Rattle.collect.specs.Stands.{standsAt}
+use Rattle.collect.specs.FirstEntryOrigin.{standsAt}
 use Rattle.build.specs.Build.{editionVerdict, underEdition, verdictOf, originsIn, answer}
 use Rattle.collect.specs.Lawful.{lengthVerdict, countsVerdict, reservedVerdict, lawfulVerdict}
 use Rattle.page_sets.specs.Pass.{onPageIn, onPagesIn, uncleanOnPage, uncleanIn, passedLawful, placedEntry, placedEntries, firstPlaced, passedEntries, passedRows, passedVerdict}

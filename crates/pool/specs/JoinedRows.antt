@@ -19,7 +19,7 @@ use Rattle.memory.specs.MemoryLaws.{layout-row, layout-length, rows-in}
 use Rattle.memory.specs.Origin.{originNumber}
 use Rattle.collect.specs.FirstEntries.{rowsOf}
 use Rattle.collect.specs.Collect.{collected-rows}
-use Rattle.collect.specs.Stands.{standsAt, foundOrigins}
+use Rattle.collect.specs.FirstEntryOrigin.{standsAt, foundOrigins}
 use Rattle.collect.specs.CollectedLaws.{walked-collected}
 use Rattle.finish.specs.Kinds.{Kind, Kinds, kindsAt}
 use Rattle.finish.specs.Kinds.Kind.{feature, featureBut28, area, freed, other}

@@ -35,7 +35,7 @@ use Rattle.finish.specs.Finish.{finished}
 use Rattle.finish.specs.JoinLaws.{MaskedState}
 use Rattle.memory.specs.Origin.{finishedOrigins}
 use Rattle.collect.specs.FirstEntries.{rowsOf}
-use Rattle.collect.specs.Stands.{foundOrigins}
+use Rattle.collect.specs.FirstEntryOrigin.{foundOrigins}
 use Rattle.finish.specs.declared.RowsBuilt.{RowsBuilt}
 use Rattle.finish.specs.RowsBuilt.{tableFor, builtFrom}
 use Rattle.build.specs.Build.{editionVerdict, verdictOf, originsIn, answer}

@@ -16,7 +16,7 @@ use Rattle.table.specs.declared.Verdict.the-variants.{Accepted, Refused}
 use Rattle.table.specs.Rows.{Rows}
 use Rattle.memory.specs.MemoryLaws.{layout-length}
 use Rattle.build.specs.Build.{rowsFor, answer}
-use Rattle.collect.specs.Stands.{foundOrigins}
+use Rattle.collect.specs.FirstEntryOrigin.{foundOrigins}
 use Rattle.register_masks.specs.Join.{pool}
 use Rattle.pool.specs.Joins.{Joins}
 use Rattle.pool.specs.PoolJoinLaws.{registersOf, alikeFlags, flags-first, registers-next, flags-next}

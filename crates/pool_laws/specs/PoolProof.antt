@@ -23,7 +23,7 @@ use Rattle.finish.specs.Kinds.{Registers, TableAtLeast, kindsAt}
 use Rattle.finish.specs.XsavesLaws.{XsavesEdx}
 use Rattle.finish.specs.RowsBuilt.{tableFor}
 use Rattle.memory.specs.Origin.{originOf, originNumber}
-use Rattle.collect.specs.Stands.{standsAt}
+use Rattle.collect.specs.FirstEntryOrigin.{standsAt}
 use Rattle.build.specs.Build.{rowsFor, originsIn, answer}
 use Rattle.rise.specs.Rise.{Further, TableRises}
 use Rattle.rise.specs.RiseProof.{answer-row, answer-mask, xsaves-edx}

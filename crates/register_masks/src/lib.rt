@@ -18,9 +18,9 @@ pub struct RowMasks {
 const ALL: u32 = 0xFFFFFFFF;
 
 // Bit 28 of 1.EDX, which is no feature.
-const MT_PER_SOCKET: u32 = 0x10000000;
+const BIT_28: u32 = 0x10000000;
 
-const BUT_MT: u32 = 0xEFFFFFFF;
+const ALL_BUT_BIT_28: u32 = 0xEFFFFFFF;
 
 // Features of EAX, EBX, ECX and EDX, then what must agree of each.
 fn masks(f0: u32, f1: u32, f2: u32, f3: u32, a0: u32, a1: u32, a2: u32, a3: u32) -> RowMasks
@@ -50,7 +50,7 @@ pub fn masks_at(place: usize) -> RowMasks
 {
     match place {
         place::VENDOR_AND_MAX_FUNCTION => masks(0, 0, 0, 0, 0, 0, 0, 0),
-        place::VERSION_AND_FEATURES => masks(0, 0, ALL, BUT_MT, ALL, ALL, 0, MT_PER_SOCKET),
+        place::VERSION_AND_FEATURES => masks(0, 0, ALL, ALL_BUT_BIT_28, ALL, ALL, 0, BIT_28),
         place::EXTENDED_FEATURES => masks(0, ALL, ALL, ALL, ALL, 0, 0, 0),
         place::THREAD_LEVEL => masks(0, 0, 0, 0, 0, 0, 0, 0),
         place::CORE_LEVEL => masks(0, 0, 0, 0, 0, 0, 0, 0),

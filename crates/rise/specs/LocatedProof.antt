@@ -23,7 +23,7 @@ use Rattle.memory.specs.Origin.{Origin, isMadeHere, originOf, originNumber, ori
 use Rattle.memory.specs.Origin.Origin.{neither, madeHere, notKnown, entry}
 use Rattle.memory.specs.OriginLaws.{entry-read, neither-read, made-read}
 use Rattle.collect.specs.FirstEntries.{placeOfEntry, firstAt, maskedAt, maskRow}
-use Rattle.collect.specs.Stands.{standsAt}
+use Rattle.collect.specs.FirstEntryOrigin.{standsAt}
 use Rattle.collect.specs.FirstEntriesLaws.{row-of-place}
 use Rattle.finish.specs.Finish.{ruleAt, settings, finish, finished}
 use Rattle.finish.specs.Kinds.{fromEntry}

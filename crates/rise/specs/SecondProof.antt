@@ -21,7 +21,7 @@ use Rattle.table.specs.Table.{rowIn, countRows}
 use Rattle.table.specs.Edition.{knownEdition}
 use Rattle.checks.specs.ExtendedState.{xfem}
 use Rattle.memory.specs.Origin.{originOf, originNumber}
-use Rattle.collect.specs.Stands.{standsAt}
+use Rattle.collect.specs.FirstEntryOrigin.{standsAt}
 use Rattle.collect.specs.RowsFit.{rows-fit}
 use Rattle.finish.specs.Finish.{f16c, xopAndFma4, ymmClears, enabledBy, settings, finished}
 use Rattle.build.specs.Build.{editionVerdict, rowsFor, verdictOf, originsIn, answer, originAt}

@@ -15,7 +15,7 @@ use Rattle.table.specs.Rows.{Row, row}
 use Rattle.memory.specs.Origin.{Origin}
 use Rattle.memory.specs.Origin.Origin.{neither, madeHere, entry}
 use Rattle.collect.specs.FirstEntries.{placeOfEntry, firstAt}
-use Rattle.collect.specs.Stands.{standsAt}
+use Rattle.collect.specs.FirstEntryOrigin.{standsAt}
 use Rattle.rise.specs.Located.{Elsewhere}
 
 -- the first entry of place i in a list, with those before and after it

@@ -43,11 +43,11 @@ pub fn check_rows(registers: &[u32; REGISTERS], origins: &[u64; PLACES]) -> Chec
     if let Verdict::Refused(r) = verdict {
         return Checked::Refused(r);
     }
-    from_invlpgb(registers, origins)
+    checks_from_invlpgb(registers, origins)
 }
 
 // From the check of INVLPGB on.
-pub fn from_invlpgb(registers: &[u32; REGISTERS], origins: &[u64; PLACES]) -> Checked
+pub fn checks_from_invlpgb(registers: &[u32; REGISTERS], origins: &[u64; PLACES]) -> Checked
     ensures { λ r. ⌜ r ≡ checkedBy (fromInvlpgb (rowsIn (now (registers .entry)) (now (origins .entry)))) (rowsIn (now (registers .entry)) (now (origins .entry))) ⌝ }
 {
     let sizes = row_at(registers, place::EXTENDED_ADDRESS_SPACE_SIZES);
@@ -55,11 +55,11 @@ pub fn from_invlpgb(registers: &[u32; REGISTERS], origins: &[u64; PLACES]) -> Ch
     if let Verdict::Refused(r) = verdict {
         return Checked::Refused(r);
     }
-    from_components(registers, origins)
+    checks_from_components(registers, origins)
 }
 
 // From the check of D subleaves on.
-fn from_components(registers: &[u32; REGISTERS], origins: &[u64; PLACES]) -> Checked
+fn checks_from_components(registers: &[u32; REGISTERS], origins: &[u64; PLACES]) -> Checked
     ensures { λ r. ⌜ r ≡ checkedBy (fromComponents (rowsIn (now (registers .entry)) (now (origins .entry)))) (rowsIn (now (registers .entry)) (now (origins .entry))) ⌝ }
 {
     let mask = combined_mask(registers);
@@ -67,11 +67,11 @@ fn from_components(registers: &[u32; REGISTERS], origins: &[u64; PLACES]) -> Che
     if let Verdict::Refused(r) = verdict {
         return Checked::Refused(r);
     }
-    from_area(registers, origins, mask)
+    checks_from_area(registers, origins, mask)
 }
 
 // From the size of the save area on, which is over XFEM alone.
-fn from_area(registers: &[u32; REGISTERS], origins: &[u64; PLACES], mask: u64) -> Checked
+fn checks_from_area(registers: &[u32; REGISTERS], origins: &[u64; PLACES], mask: u64) -> Checked
     requires { ⌜ mask ≡ combinedMask (rowsIn (now registers) (now origins)) ⌝ }
     ensures { λ r. ⌜ r ≡ checkedBy (fromArea (rowsIn (now (registers .entry)) (now (origins .entry)))) (rowsIn (now (registers .entry)) (now (origins .entry))) ⌝ }
 {
@@ -80,11 +80,11 @@ fn from_area(registers: &[u32; REGISTERS], origins: &[u64; PLACES], mask: u64) -
     let Size::Bytes(bytes) = size else {
         return Checked::Refused(Refusal::SaveAreaOverflow);
     };
-    from_topology(registers, origins, mask, bytes)
+    check_topology(registers, origins, mask, bytes)
 }
 
 // The topology.
-fn from_topology(
+fn check_topology(
     registers: &[u32; REGISTERS],
     origins: &[u64; PLACES],
     mask: u64,

@@ -13,11 +13,11 @@ use masking::PLACES;
 use masking::place;
 use memory::REGISTERS;
 use memory::is_there;
+use memory::lengths_known;
 use memory::origins::MADE_HERE;
 use memory::origins::NONE;
 use memory::put_row;
 use memory::row_at;
-use memory::sized;
 use table::Verdict;
 use topology::core_level;
 use topology::thread_level;
@@ -139,7 +139,7 @@ pub fn finish(
     ensures { λ _. ⌜ Holds (tableOf (finished edition (rowsIn (now (registers .entry)) (now (origins .entry))))
         (combinedMask (rowsIn (now (registers .entry)) (now (origins .entry))))) (now (origins .entry)) (now (registers .exit)) (now (origins .exit)) ⌝ }
 {
-    sized(registers, origins);
+    lengths_known(registers, origins);
     let y = YmmClears::of(edition);
     let subleaf0 = row_at(registers, place::EXTENDED_STATE_0);
     let subleaf1 = row_at(registers, place::EXTENDED_STATE_1);

@@ -18,7 +18,7 @@ use Rattle.theorems.specs.GuestExportedProof.{guest-origins}
 use Rattle.theorems.specs.PoolExported.{PoolOrigins}
 use Rattle.theorems.specs.PoolExportedProof.{pool-origins}
 use Rattle.memory.specs.Origin.Origin.{madeHere, entry}
-use Rattle.collect.specs.Stands.{standsAt}
+use Rattle.collect.specs.FirstEntryOrigin.{standsAt}
 use Rattle.rise.specs.Located.{ComesFrom, Origins}
 use Rattle.rise.specs.LocatedProof.{rows-come-from, rows-have-origins, refused-has-none}
 use Rattle.examples.specs.Origins as Origin

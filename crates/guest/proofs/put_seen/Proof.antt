@@ -28,7 +28,7 @@ returns c =
     (put-rowed 6 (s₄ .see-size .result) (lit< tt) (p₄ .put-row4 .ensures)
     (put-rowed 5 (s₃ .see-level2 .result) (lit< tt) (p₃ .put-row3 .ensures)
     (put-rowed 4 (s₂ .see-level .result) (lit< tt) (p₂ .put-row2 .ensures)
-    (put-rowed 1 (s₁ .see-version .result) (lit< tt) (p₁ .put-row .ensures) (rowed w (n .sized .ensures .0)))))))
+    (put-rowed 1 (s₁ .see-version .result) (lit< tt) (p₁ .put-row .ensures) (rowed w (n .lengths-known .ensures .0)))))))
 
 pub put-seen-spec : {M : Type 1} → statement M
 put-seen-spec =

@@ -8,11 +8,11 @@ use crate::search::same_verdict;
 use masking::PLACES;
 use masking::masks::KeptLeaf;
 use memory::REGISTERS;
+use memory::lengths_known;
 use memory::put_row;
 use memory::row_at;
-use memory::sized;
 use rows::checked::Checked;
-use rows::checked::from_invlpgb;
+use rows::checked::checks_from_invlpgb;
 use rows::finish;
 use table::Verdict;
 use x86defs::CpuidResult;
@@ -56,7 +56,7 @@ pub fn first_bit(
     if is_irrelevant(found, place) {
         return Decisive::NoNumber;
     }
-    sized(registers, origins);
+    lengths_known(registers, origins);
     let checked = found.checked;
     let mut tried = *registers;
     let mut n = 0;
@@ -90,7 +90,7 @@ fn keeps_answer(
     if same_result(row_at(registers, place), row_at(tried, place)) {
         return true;
     }
-    let checked = from_invlpgb(tried, origins);
+    let checked = checks_from_invlpgb(tried, origins);
     match checked {
         Checked::Refused(r) => same_verdict(Verdict::Refused(r), verdict_of(found)),
         Checked::Ready(mask, size, processors) => {

@@ -25,7 +25,7 @@ drop-subleaves-requires : tie.Need-drop-subleaves-requires
 drop-subleaves-requires c κs =
     let r8 = c .before .before in let r4 = r8 .before .before .before .before .before .before .before .before in
     let r3 = r4 .before .before .before .before in let clears = r3 .before .before .before .before .before in
-    clears .before .sized .ensures
+    clears .before .lengths-known .ensures
 
 returns : tie.Need-returns
 unfolding AmdMaximum ExtendedAmdMaximum inputsOf
@@ -49,7 +49,7 @@ returns c =
     let s = settingsWith (clearsWith (clears .of .result)) (enabledWith (enabled .new .result)) (start .args .size) (inputsOf (rowsIn w o) .t) (start .args .processors) in
     let d₀ = r1 .row-at .result in
     let dropped = drop .drop-subleaves .ensures in
-    finished-memory (start .args .edition) w o (sized .sized .ensures .0) (sized .sized .ensures .1) (start .pre .1) (clears .of .ensures)
+    finished-memory (start .args .edition) w o (sized .lengths-known .ensures .0) (sized .lengths-known .ensures .1) (start .pre .1) (clears .of .ensures)
     (enabled .new .ensures ∙ (λ i. enabledFrom (r1 .row-at .ensures i) (r2 .row-at2 .ensures i) (r3 .row-at3 .ensures i)))
     (start .pre .0)
     dropped

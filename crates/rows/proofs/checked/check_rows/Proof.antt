@@ -27,7 +27,7 @@ returns-2 : tie.Need-returns-2
 unfolding rowsVerdict checkedRows
 returns-2 c =
     let v = c .before in let s = v .before .before in let m = rowsBefore s in
-    check-passes m (requiredVerdict m) (fromInvlpgb m) (found s) (v .enum-told .given .1) (c .from-invlpgb .ensures)
+    check-passes m (requiredVerdict m) (fromInvlpgb m) (found s) (v .enum-told .given .1) (c .checks-from-invlpgb .ensures)
 
 pub check-rows-spec : {M : Type 1} → statement M
 check-rows-spec =

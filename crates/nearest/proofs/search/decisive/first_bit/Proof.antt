@@ -41,7 +41,7 @@ returns : tie.Need-returns Inv-loop μ-loop
 returns c = let f = c .before in let s = f .before in bit-irrelevant _ (rows s) _ _ _ (s .pre .1) (judged f ∙ c .if1 .taken)
 
 loop-holds : tie.Need-loop-holds Inv-loop μ-loop
-loop-holds c = (omega arith, bit-first _ _ _ _ _, record { size = c .before .sized .ensures .0; rows = λ x. refl })
+loop-holds c = (omega arith, bit-first _ _ _ _ _, record { size = c .before .lengths-known .ensures .0; rows = λ x. refl })
 
 -- a turn, once its row is stored
 abbrev Put : Type 0

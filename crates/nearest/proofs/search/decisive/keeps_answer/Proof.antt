@@ -19,13 +19,13 @@ start f = f .before .before .before .before .before
 returns-2 : tie.Need-returns-2
 returns-2 c =
     let v = c .before .before .before in let f = v .before .before in let s = start f in
-    judged-accepted (s .args .edition) (s .pre .0) (f .from-invlpgb .ensures) (s .pre .1) (v .checked2 .given .1) (c .enum-told .given .1)
+    judged-accepted (s .args .edition) (s .pre .0) (f .checks-from-invlpgb .ensures) (s .pre .1) (v .checked2 .given .1) (c .enum-told .given .1)
 
 finished-row-requires : tie.Need-finished-row-requires
 finished-row-requires c κs =
     let v = c .before .before .before .before in let f = v .before .before in let s = start f in
     let r = checked-ready (rowsIn (s .args .tried .now) (s .args .origins .now))
-    (judged-ready (s .args .edition) (s .pre .0) (f .from-invlpgb .ensures) (s .pre .1) (v .checked2 .given .1)) in
+    (judged-ready (s .args .edition) (s .pre .0) (f .checks-from-invlpgb .ensures) (s .pre .1) (v .checked2 .given .1)) in
     (s .pre .0 .small, r .0, r .1)
 
 finished-row-requires-2 : tie.Need-finished-row-requires-2
@@ -37,14 +37,14 @@ finished-row-requires-2 c κs =
 returns-3 : tie.Need-returns-3
 returns-3 c =
     let d = c .before in let v = d .before .before in let f = v .before .before in let s = start f in
-    judged-refused (s .args .edition) (s .pre .0) (f .from-invlpgb .ensures) (s .pre .1) (v .checked .given .1) (d .verdict-of .ensures)
+    judged-refused (s .args .edition) (s .pre .0) (f .checks-from-invlpgb .ensures) (s .pre .1) (v .checked .given .1) (d .verdict-of .ensures)
     (c .same-verdict .ensures)
 
 returns-4 : tie.Need-returns-4
 returns-4 c =
     let b = c .before in let a = b .before in let w = a .before .before in let v = w .before .before .before in
     let f = v .before .before in let s = start f in
-    judged-finished (s .args .edition) (s .pre .0) (f .from-invlpgb .ensures) (s .pre .1) (v .checked2 .given .1) (w .found .given .1)
+    judged-finished (s .args .edition) (s .pre .0) (f .checks-from-invlpgb .ensures) (s .pre .1) (v .checked2 .given .1) (w .found .given .1)
     (a .finished-row .ensures) (b .finished-row2 .ensures) (c .same-result2 .ensures)
 
 pub keeps-answer-spec : {M : Type 1} → statement M

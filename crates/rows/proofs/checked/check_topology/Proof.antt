@@ -1,4 +1,4 @@
--- `from_topology` meets its contract: refused where the five numbers are inconsistent, else ready.
+-- `check_topology` meets its contract: refused where the five numbers are inconsistent, else ready.
 use borrow.Author.Needs.{needs}
 use mathlib.Core.Path.{_≡_, ap, _∙_}
 use Rattle.bits.specs.Bits.{bit}
@@ -12,8 +12,8 @@ use Rattle.memory.specs.Memory.{rowsIn}
 use Rattle.checks.specs.TopologyInputs.{inputsOf}
 use Rattle.finish.specs.StageLaws.{topology-inputs}
 use Rattle.rows.specs.CheckedLaws.{topology-accepts, topology-refuses}
-use Rattle.rows.proofs.checked.from_topology.Statement.{statement}
-use Rattle.rows.proofs.checked.from_topology.Tie as tie
+use Rattle.rows.proofs.checked.check_topology.Statement.{statement}
+use Rattle.rows.proofs.checked.check_topology.Tie as tie
 
 extended-topology-requires : tie.Need-extended-topology-requires
 extended-topology-requires c κs = let n = c .before .before .before in (n .before .apic-core-id-size .ensures .1, n .nc .ensures .1)

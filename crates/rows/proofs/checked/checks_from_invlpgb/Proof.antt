@@ -1,4 +1,4 @@
--- `from_invlpgb` meets its contract: refused without INVLPGB, or what the checks after it say.
+-- `checks_from_invlpgb` meets its contract: refused without INVLPGB, or what the checks after it say.
 use borrow.Author.Needs.{needs}
 use mathlib.Core.Path.{_≡_, ap, _∙_}
 use Rattle.table.specs.Rows.{Rows}
@@ -6,8 +6,8 @@ use Rattle.memory.specs.Memory.{rowsIn}
 use Rattle.checks.specs.Checks.{invlpgbOf, invlpgbVerdict}
 use Rattle.finish.specs.Stages.{fromComponents}
 use Rattle.rows.specs.CheckedLaws.{check-refuses, check-passes}
-use Rattle.rows.proofs.checked.from_invlpgb.Statement.{statement}
-use Rattle.rows.proofs.checked.from_invlpgb.Tie as tie
+use Rattle.rows.proofs.checked.checks_from_invlpgb.Statement.{statement}
+use Rattle.rows.proofs.checked.checks_from_invlpgb.Tie as tie
 
 abbrev rowsBefore : tie.After-validate-invlpgb → Rows
 rowsBefore c = let s = c .before .before in rowsIn (s .args .registers .now) (s .args .origins .now)
@@ -24,7 +24,7 @@ returns c =
 returns-2 : tie.Need-returns-2
 returns-2 c =
     let v = c .before in let s = v .before .before in let m = rowsBefore s in
-    check-passes m (invlpgbVerdict m) (fromComponents m) (found s) (v .enum-told .given .1) (c .from-components .ensures)
+    check-passes m (invlpgbVerdict m) (fromComponents m) (found s) (v .enum-told .given .1) (c .checks-from-components .ensures)
 
 pub from-invlpgb-spec : {M : Type 1} → statement M
 from-invlpgb-spec =

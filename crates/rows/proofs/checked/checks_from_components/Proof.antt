@@ -1,4 +1,4 @@
--- `from_components` meets its contract: refused at a missing subleaf, or what the checks after it say.
+-- `checks_from_components` meets its contract: refused at a missing subleaf, or what the checks after it say.
 use borrow.Author.Needs.{needs}
 use mathlib.Core.Path.{_≡_, ap, _∙_}
 use Rattle.table.specs.Rows.{Rows}
@@ -7,8 +7,8 @@ use Rattle.checks.specs.ExtendedState.{xfem, xss, combinedMask}
 use Rattle.checks.specs.Checks.{componentsOf, componentsVerdict}
 use Rattle.finish.specs.Stages.{fromArea}
 use Rattle.rows.specs.CheckedLaws.{check-refuses, check-passes}
-use Rattle.rows.proofs.checked.from_components.Statement.{statement}
-use Rattle.rows.proofs.checked.from_components.Tie as tie
+use Rattle.rows.proofs.checked.checks_from_components.Statement.{statement}
+use Rattle.rows.proofs.checked.checks_from_components.Tie as tie
 
 -- the rows, and the verdict on them that the code found, which is the definition's
 abbrev rowsBefore : tie.After-process-extended-state-subleaves → Rows
@@ -31,7 +31,7 @@ from-area-requires c κs = c .before .before .before .combined-mask .ensures
 returns-2 : tie.Need-returns-2
 returns-2 c =
     let v = c .before in let s = v .before .before in let m = rowsBefore s in
-    check-passes m (componentsVerdict m) (fromArea m) (found s) (v .enum-told .given .1) (c .from-area .ensures)
+    check-passes m (componentsVerdict m) (fromArea m) (found s) (v .enum-told .given .1) (c .checks-from-area .ensures)
 
 pub from-components-spec : {M : Type 1} → statement M
 from-components-spec =

@@ -23,7 +23,7 @@ use Rattle.nearest.specs.Nearest.{nearest}
 use Rattle.nearest.specs.NearestFrontLaws.{front-refuses, searched}
 use Rattle.nearest_exactly.specs.NearestExactly.{MissesRequired, TwentyExactly}
 use Rattle.nearest_exactly.specs.NearestExactlyProof.{settled-refuses, front-accepts, nearest-exactly}
-use Rattle.nearest_exactly.specs.Ends.{nothing-decides, some-decides}
+use Rattle.nearest_exactly.specs.NoDecisiveBit.{nothing-decides, some-decides}
 
 module _ (c : Choices) (s : List ℕ) (bytes : (k : ℕ) → getD s k 0 < 256) where
   abbrev m : Rows

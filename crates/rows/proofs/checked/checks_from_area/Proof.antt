@@ -1,4 +1,4 @@
--- `from_area` meets its contract: refused where the area is too large, or what the topology says.
+-- `checks_from_area` meets its contract: refused where the area is too large, or what the topology says.
 use borrow.Author.Needs.{needs}
 use mathlib.Core.Path.{_≡_, ap, _∙_}
 use Prim.Native.Nat.{ℕ}
@@ -8,8 +8,8 @@ use Rattle.checks.specs.ExtendedState.{xfem, saveArea, sizeOf}
 use Rattle.checks.specs.Checks.{sizeVerdict, areaVerdict, topologyVerdict}
 use Rattle.rows.specs.Checked.{registersIn}
 use Rattle.rows.specs.CheckedLaws.{area-verdict, area-found, check-refuses, check-passes}
-use Rattle.rows.proofs.checked.from_area.Statement.{statement}
-use Rattle.rows.proofs.checked.from_area.Tie as tie
+use Rattle.rows.proofs.checked.checks_from_area.Statement.{statement}
+use Rattle.rows.proofs.checked.checks_from_area.Tie as tie
 
 abbrev start : tie.After-xsave-size → tie.Start
 start c = c .before .before .before
@@ -37,7 +37,7 @@ returns-2 : tie.Need-returns-2
 returns-2 c =
     let v = c .before .before in let s = v .before .before in
     let w = start s .args .registers .now in let o = start s .args .origins .now in let m = rowsIn w o in
-    check-passes m (areaVerdict m) (topologyVerdict m) (area-verdict w o (found s)) (ap sizeVerdict (v .size .given .1)) (c .from-topology .ensures)
+    check-passes m (areaVerdict m) (topologyVerdict m) (area-verdict w o (found s)) (ap sizeVerdict (v .size .given .1)) (c .check-topology .ensures)
 
 pub from-area-spec : {M : Type 1} → statement M
 from-area-spec =
