@@ -45,8 +45,8 @@ returns c =
 returns-2 : tie.Need-returns-2
 returns-2 c = let v = c .before in let s = v .before .before in topology-refuses (rows s) (found s) (v .topology2 .given .1)
 
-pub from-topology-spec : {M : Type 1} → statement M
-from-topology-spec =
+pub check-topology-spec : {M : Type 1} → statement M
+check-topology-spec =
     tie.close
     (tie.spec
     (λ c κs. search needs)

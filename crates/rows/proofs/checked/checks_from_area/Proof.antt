@@ -28,8 +28,8 @@ returns c =
     let s = c .before .before in let w = start s .args .registers .now in let o = start s .args .origins .now in let m = rowsIn w o in
     check-refuses m (areaVerdict m) (topologyVerdict m) (area-verdict w o (found s)) (ap sizeVerdict (c .enum-told .given .1))
 
-from-topology-requires : tie.Need-from-topology-requires
-from-topology-requires c κs =
+check-topology-requires : tie.Need-check-topology-requires
+check-topology-requires c κs =
     let s = c .before .before .before in
     (start s .pre, area-found (start s .args .registers .now) (start s .args .origins .now) (found s) (c .before .size .given .1))
 
@@ -39,8 +39,8 @@ returns-2 c =
     let w = start s .args .registers .now in let o = start s .args .origins .now in let m = rowsIn w o in
     check-passes m (areaVerdict m) (topologyVerdict m) (area-verdict w o (found s)) (ap sizeVerdict (v .size .given .1)) (c .check-topology .ensures)
 
-pub from-area-spec : {M : Type 1} → statement M
-from-area-spec =
+pub checks-from-area-spec : {M : Type 1} → statement M
+checks-from-area-spec =
     tie.close
     (tie.spec
     (λ c κs. search needs)
@@ -49,5 +49,5 @@ from-area-spec =
     (λ c. search needs)
     (λ c. search needs)
     returns
-    from-topology-requires
+    check-topology-requires
     returns-2)

@@ -24,17 +24,17 @@ returns c =
     let v = c .before in let s = v .before .before in let m = rowsBefore s in
     check-refuses m (componentsVerdict m) (fromArea m) (found s) (v .verdict .given .1)
 
-from-area-requires : tie.Need-from-area-requires
+checks-from-area-requires : tie.Need-checks-from-area-requires
 unfolding xfem xss combinedMask
-from-area-requires c κs = c .before .before .before .combined-mask .ensures
+checks-from-area-requires c κs = c .before .before .before .combined-mask .ensures
 
 returns-2 : tie.Need-returns-2
 returns-2 c =
     let v = c .before in let s = v .before .before in let m = rowsBefore s in
     check-passes m (componentsVerdict m) (fromArea m) (found s) (v .enum-told .given .1) (c .checks-from-area .ensures)
 
-pub from-components-spec : {M : Type 1} → statement M
-from-components-spec =
+pub checks-from-components-spec : {M : Type 1} → statement M
+checks-from-components-spec =
     tie.close
     (tie.spec
     (λ c κs. search needs)
@@ -42,5 +42,5 @@ from-components-spec =
     (λ c. search needs)
     returns
     (λ c. search needs)
-    from-area-requires
+    checks-from-area-requires
     returns-2)

@@ -26,8 +26,8 @@ returns-2 c =
     let v = c .before in let s = v .before .before in let m = rowsBefore s in
     check-passes m (invlpgbVerdict m) (fromComponents m) (found s) (v .enum-told .given .1) (c .checks-from-components .ensures)
 
-pub from-invlpgb-spec : {M : Type 1} → statement M
-from-invlpgb-spec =
+pub checks-from-invlpgb-spec : {M : Type 1} → statement M
+checks-from-invlpgb-spec =
     tie.close
     (tie.spec
     (λ c κs. search needs)

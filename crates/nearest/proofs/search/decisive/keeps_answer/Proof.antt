@@ -13,7 +13,7 @@ returns c =
     judged-there (s .args .edition) (s .pre .0) (a .row-at .ensures) (b .row-at2 .ensures) (r .same-result .ensures) (c .if1 .taken)
 
 -- where the code started, once the rows are checked
-abbrev start : tie.After-from-invlpgb → tie.Start
+abbrev start : tie.After-checks-from-invlpgb → tie.Start
 start f = f .before .before .before .before .before
 
 returns-2 : tie.Need-returns-2
