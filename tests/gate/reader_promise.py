@@ -1,7 +1,7 @@
 #!/usr/bin/env python3
 """reader_promise.py: whether what stands above the page reader relies on what the reader promises with each entry, that its reserved bytes are zero.
 
-In a copy of the crates the promise is taken out of the contract of `reader::take`: it still says that it gives the entry there or the leaf of that
+In a copy of the crates the promise is taken out of the contract of `pages::reader::take`: it still says that it gives the entry there or the leaf of that
 entry, and no longer which. The code stays. The reader must still be proved, and the walk above it, crate collect, must not be, for want of that fact.
 """
 from pathlib import Path
@@ -16,23 +16,23 @@ ROOT = Path(__file__).resolve().parents[2]
 WEAKER = 'readBy b (now (pages .entry)) index'
 # file, what stands there once, what takes its place
 CHANGES = (
-    ('reader/src/lib.rt', 'ghost use mathlib.Core.Path.{_≡_};', 'ghost use mathlib.Core.Path.{_≡_};\nghost use mathlib.Core.Bool.{Bool};'),
-    ('reader/src/lib.rt', 'specs.Read.{Readable, readAt};', 'specs.Read.{Readable, readAt, readBy};'),
-    ('reader/src/lib.rt', '    ensures { λ r. ⌜ r ≡ readAt (now (pages .entry)) index ⌝ }', '    ensures { λ r. ⌜ ((b : Bool) × (r ≡ ' + WEAKER + ')) ⌝ }'),
-    ('reader/specs/Read.antt', 'unfoldable pub readAt :', 'abbrev pub readBy : Bool → List ℕ → CpuidPageIndex → Read\n'
+    ('pages/src/reader.rt', 'ghost use mathlib.Core.Path.{_≡_};', 'ghost use mathlib.Core.Path.{_≡_};\nghost use mathlib.Core.Bool.{Bool};'),
+    ('pages/src/reader.rt', 'specs.Read.{Readable, readAt};', 'specs.Read.{Readable, readAt, readBy};'),
+    ('pages/src/reader.rt', '    ensures { λ r. ⌜ r ≡ readAt (now (pages .entry)) index ⌝ }', '    ensures { λ r. ⌜ ((b : Bool) × (r ≡ ' + WEAKER + ')) ⌝ }'),
+    ('pages/specs/Read.antt', 'unfoldable pub readAt :', 'abbrev pub readBy : Bool → List ℕ → CpuidPageIndex → Read\n'
      'readBy b s i = pick b (Read′.Entry (parsed (entryHere s i))) (Read′.Unclean (entryHere s i .leaf))\n\nunfoldable pub readAt :'),
-    ('reader/specs/ReadLaws.antt', 'cleanHere, readAt, given}', 'cleanHere, readAt, readBy, given}'),
-    ('reader/specs/ReadLaws.antt', '-- by each answer of the code\n',
+    ('pages/specs/ReadLaws.antt', 'cleanHere, readAt, given}', 'cleanHere, readAt, readBy, given}'),
+    ('pages/specs/ReadLaws.antt', '-- by each answer of the code\n',
      'pub read-by : (s : List ℕ) (i : CpuidPageIndex) → readAt s i ≡ readBy (cleanHere s i) s i\nunfolding readAt\nread-by s i = refl\n\n'
      'pub by-clean : {b : Bool} (s : List ℕ) (i : CpuidPageIndex) → b ≡ cleanHere s i → readBy b s i ≡ readAt s i\n'
      'by-clean s i e = ap (λ (c : Bool). readBy c s i) e ∙ sym (read-by s i)\n\n-- by each answer of the code\n'),
-    ('reader/proofs/take/Proof.antt', 'use mathlib.Core.Path.{sym, _∙_}',
+    ('pages/proofs/reader/take/Proof.antt', 'use mathlib.Core.Path.{sym, _∙_}',
      'use mathlib.Core.Path.{ap}\nuse mathlib.Core.Bool.{true, false}\nuse Rattle.pages.specs.declared.ParsedCpuidEntry.{ParsedCpuidEntry}\n'
-     'use Rattle.reader.specs.declared.Read.the-variants.{Entry, Unclean}'),
-    ('reader/proofs/take/Proof.antt', 'ReadLaws.{readable-within, clean-read, unclean-read}', 'ReadLaws.{readable-within}'),
-    ('reader/proofs/take/Proof.antt', 'in clean-read _ _ (k .before .entry-at .ensures) (sym (k .clean-at .ensures) ∙ c .if1 .taken)',
+     'use Rattle.pages.specs.declared.reader.Read.the-variants.{Entry, Unclean}'),
+    ('pages/proofs/reader/take/Proof.antt', 'ReadLaws.{readable-within, clean-read, unclean-read}', 'ReadLaws.{readable-within}'),
+    ('pages/proofs/reader/take/Proof.antt', 'in clean-read _ _ (k .before .entry-at .ensures) (sym (k .clean-at .ensures) ∙ c .if1 .taken)',
      'in (true, ap (λ (x : ParsedCpuidEntry). Entry x) (k .before .entry-at .ensures))'),
-    ('reader/proofs/take/Proof.antt', 'in unclean-read _ _ (k .before .entry-at .ensures) (sym (k .clean-at .ensures) ∙ c .before .if1 .left)',
+    ('pages/proofs/reader/take/Proof.antt', 'in unclean-read _ _ (k .before .entry-at .ensures) (sym (k .clean-at .ensures) ∙ c .before .if1 .left)',
      'in (false, ap (λ (x : ParsedCpuidEntry). Unclean (x .leaf)) (k .before .entry-at .ensures))'),
     ('collect/proofs/collect_into/Proof.antt', 'ReadLaws.{read-entry}', 'ReadLaws.{read-entry, by-clean}'),
     ('collect/proofs/collect_into/Proof.antt', '.read .given .1) ∙ k .take .ensures)',
@@ -60,7 +60,7 @@ def main():
                              stdout=subprocess.PIPE, stderr=subprocess.STDOUT)
     said = run.stdout
     wanted = [line for line in said.split('\n') if 'collect/proofs/collect_into' in line and 'no proof of' in line and 'cleanHere' in line]
-    if 'rt: reader proved' not in said or 'rt: collect NOT PROVED' not in said or not wanted:
+    if 'rt: pages proved' not in said or 'rt: collect NOT PROVED' not in said or not wanted:
         sys.exit(said[-4000:] + '\nthe walk does not miss the promise, or something else fails')
     print(f'{len(wanted)} facts missed above the reader without its promise, and the reader still proved')
 
