@@ -35,8 +35,8 @@ use Rattle.compare.specs.declared.registers.Register.{Register}
 use Rattle.compare.specs.declared.registers.Register.the-variants.{Eax, Ebx, Ecx, Edx}
 use Rattle.compare.specs.declared.Compared.{Compared}
 use Rattle.compare.specs.declared.Compared.the-variants.{Rises, RefusedA, UnlawfulB, NoEntry, Differs}
-use Rattle.compare.specs.declared.rows.RowsCompared.{RowsCompared as TablesCompared}
-use Rattle.compare.specs.declared.rows.RowsCompared.the-variants.{Rises as TablesRise, NoRow, Differs as RowDiffers, Beyond, MaskLacks}
+use Rattle.compare.specs.declared.search.RowsCompared.{RowsCompared as TablesCompared}
+use Rattle.compare.specs.declared.search.RowsCompared.the-variants.{Rises as TablesRise, NoRow, Differs as RowDiffers, Beyond, MaskLacks}
 use Rattle.pool.specs.declared.Pooled.{Pooled}
 use Rattle.nearest.specs.declared.Nearest.{Nearest}
 use Rattle.nearest.specs.declared.Nearest.the-variants.{Bit, NoBit}

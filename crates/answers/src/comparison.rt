@@ -1,7 +1,7 @@
 // A comparison's answer as C and Rust are given it: a struct of plain numbers.
 use compare::Compared;
 use compare::registers::Register;
-use compare::rows::RowsCompared;
+use compare::search::RowsCompared;
 use table::Verdict;
 use table::numbers::AnswerNumbers;
 ghost use mathlib.Core.Path.{_≡_};

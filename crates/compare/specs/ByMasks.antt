@@ -27,8 +27,8 @@ use Rattle.bits.specs.ListsLaws.{tabulate-at}
 use Rattle.x86defs.specs.Functions.{result}
 use Rattle.masking.specs.Kept.{places, keptLeaves, slot}
 use Rattle.masking.specs.Place
-use Rattle.compare.specs.declared.rows.Asked.{Asked}
-use Rattle.compare.specs.declared.rows.Asked.the-variants.{Entries, Tables}
+use Rattle.compare.specs.declared.search.Asked.{Asked}
+use Rattle.compare.specs.declared.search.Asked.the-variants.{Entries, Tables}
 use Rattle.compare.specs.RowsCompared.{tableTest, wantedBy}
 
 -- ---- as the code has it: B's register has what A's has, in the features that A has and in the bits that must agree

@@ -13,9 +13,9 @@ use Rattle.finish.specs.Kinds.{fromEntry}
 use Rattle.build.specs.Build.{rowsFor, answer}
 use Rattle.collect.specs.Lawful.{lawfulVerdict}
 use Rattle.rise.specs.Decide.{inTable}
-use Rattle.compare.specs.declared.rows.Asked.the-variants.{Entries}
-use Rattle.compare.specs.declared.rows.RowsCompared.{RowsCompared}
-use Rattle.compare.specs.declared.rows.RowsCompared.the-variants.{Rises as RowsRise, NoRow, Differs as RowDiffers, Beyond, MaskLacks}
+use Rattle.compare.specs.declared.search.Asked.the-variants.{Entries}
+use Rattle.compare.specs.declared.search.RowsCompared.{RowsCompared}
+use Rattle.compare.specs.declared.search.RowsCompared.the-variants.{Rises as RowsRise, NoRow, Differs as RowDiffers, Beyond, MaskLacks}
 use Rattle.compare.specs.RowsCompared.{wantedBy, rowsCompared}
 use Rattle.compare.specs.declared.Compared.{Compared}
 use Rattle.compare.specs.declared.Compared.the-variants.{Rises, RefusedA, UnlawfulB, NoEntry, Differs}

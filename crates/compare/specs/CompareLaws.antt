@@ -28,8 +28,8 @@ use Rattle.table.specs.declared.Verdict.the-variants.{Accepted, Refused}
 use Rattle.build.specs.Build.{editionVerdict, frontVerdict, rowsFor, verdictOf, answer}
 use Rattle.checks.specs.ChecksLaws.{then-left, then-skips}
 use Rattle.collect.specs.Lawful.{lawfulVerdict}
-use Rattle.compare.specs.declared.rows.Asked.the-variants.{Entries}
-use Rattle.compare.specs.declared.rows.RowsCompared.{RowsCompared}
+use Rattle.compare.specs.declared.search.Asked.the-variants.{Entries}
+use Rattle.compare.specs.declared.search.RowsCompared.{RowsCompared}
 use Rattle.compare.specs.RowsCompared.{wantedBy, rowsCompared}
 use Rattle.compare.specs.RowsComparedLaws.{rows-same}
 use Rattle.compare.specs.declared.Compared.{Compared}

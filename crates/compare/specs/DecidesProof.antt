@@ -15,9 +15,9 @@ use Rattle.collect.specs.Lawful.{lawfulVerdict}
 use Rattle.rise.specs.Rise.{EntryRises, RiseHypothesis as Hypothesis}
 use Rattle.rise.specs.Decide.{inTable, test-rises, rises-test}
 use Rattle.rise.specs.RiseProof.{demand-3}
-use Rattle.compare.specs.declared.rows.Asked.the-variants.{Entries}
-use Rattle.compare.specs.declared.rows.RowsCompared.{RowsCompared}
-use Rattle.compare.specs.declared.rows.RowsCompared.the-variants.{Rises as RowsRise, NoRow, Differs as RowDiffers, Beyond, MaskLacks}
+use Rattle.compare.specs.declared.search.Asked.the-variants.{Entries}
+use Rattle.compare.specs.declared.search.RowsCompared.{RowsCompared}
+use Rattle.compare.specs.declared.search.RowsCompared.the-variants.{Rises as RowsRise, NoRow, Differs as RowDiffers, Beyond, MaskLacks}
 use Rattle.compare.specs.RowsCompared.{wantedBy, rowsCompared}
 use Rattle.compare.specs.RowsMean.{AllRise, RowsMean}
 use Rattle.compare.specs.RowsDecideProof.{Tested, rows-mean, rows-exact}

@@ -9,7 +9,7 @@ use Rattle.build.specs.Build.{rowsFor, answer}
 use Rattle.collect.specs.Lawful.{lawfulVerdict}
 use Rattle.rise.specs.Rise.{RiseConclusion, RiseHypothesis as Hypothesis}
 use Rattle.rise.specs.Decide.{inTable}
-use Rattle.compare.specs.declared.rows.RowsCompared.the-variants.{NoRow, Differs as RowDiffers}
+use Rattle.compare.specs.declared.search.RowsCompared.the-variants.{NoRow, Differs as RowDiffers}
 use Rattle.compare.specs.RowsMean.{Sides, First}
 use Rattle.compare.specs.declared.Compared.{Compared}
 use Rattle.compare.specs.declared.Compared.the-variants.{Rises, RefusedA, UnlawfulB, NoEntry, Differs}

@@ -15,10 +15,10 @@ use Rattle.table.specs.Rows.{Row, Rows}
 use Rattle.finish.specs.Kinds.{Kind, allRegisters, kindsAt}
 use Rattle.finish.specs.Kinds.Kind.{feature, featureBut28, area, freed, other}
 use Rattle.rise.specs.Decide.{risesTest}
-use Rattle.compare.specs.declared.rows.Asked.{Asked}
-use Rattle.compare.specs.declared.rows.Asked.the-variants.{Entries, Tables}
-use Rattle.compare.specs.declared.rows.RowsCompared.{RowsCompared}
-use Rattle.compare.specs.declared.rows.RowsCompared.the-variants.{Rises, NoRow, Differs, Beyond, MaskLacks}
+use Rattle.compare.specs.declared.search.Asked.{Asked}
+use Rattle.compare.specs.declared.search.Asked.the-variants.{Entries, Tables}
+use Rattle.compare.specs.declared.search.RowsCompared.{RowsCompared}
+use Rattle.compare.specs.declared.search.RowsCompared.the-variants.{Rises, NoRow, Differs, Beyond, MaskLacks}
 use Rattle.compare.specs.Registers.{registersRise, firstToFail, subleafNamed}
 use Rattle.table.specs.declared.CpuidResults.{CpuidResults}
 use Rattle.table.specs.Table.{rowIn}

@@ -24,11 +24,11 @@ use Rattle.compare.specs.declared.registers.RegistersRise.{RegistersRise
 use Rattle.compare.specs.Registers.{registersRise, firstToFail, subleafNamed}
 use Rattle.table.specs.Rows.{Row, Rows}
 use Rattle.memory.specs.Memory.{rowOf, isThere, rowsIn}
-use Rattle.compare.specs.declared.rows.RowsCompared.{RowsCompared}
-use Rattle.compare.specs.declared.rows.RowsCompared.the-variants.{Rises, Differs, MaskLacks}
+use Rattle.compare.specs.declared.search.RowsCompared.{RowsCompared}
+use Rattle.compare.specs.declared.search.RowsCompared.the-variants.{Rises, Differs, MaskLacks}
 use Rattle.compare.specs.RowsCompared.{furtherTest, Wanted, rises, rowCompared, placeCompared, placeTest, firstFailing, rowsCompared, wantedBy, comparedTables}
 use Rattle.memory.specs.Held.{whole-row, heldIn, maskHeld, mask-held}
-use Rattle.compare.specs.declared.rows.Asked.the-variants.{Tables}
+use Rattle.compare.specs.declared.search.Asked.the-variants.{Tables}
 
 abbrev pub rowWith : Bool → CpuidResult → Row
 rowWith p r = record { present = p; result = r }

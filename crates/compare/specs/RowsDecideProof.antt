@@ -14,8 +14,8 @@ use Rattle.finish.specs.Kinds.{Kind, Registers, allRegisters, kindsAt}
 use Rattle.finish.specs.RegisterTestLaws.{registers-hold}
 use Rattle.compare.specs.declared.registers.Register.{Register}
 use Rattle.compare.specs.declared.registers.Register.the-variants.{Eax, Ebx, Ecx, Edx}
-use Rattle.compare.specs.declared.rows.RowsCompared.{RowsCompared}
-use Rattle.compare.specs.declared.rows.RowsCompared.the-variants.{Rises, NoRow, Differs, Beyond, MaskLacks}
+use Rattle.compare.specs.declared.search.RowsCompared.{RowsCompared}
+use Rattle.compare.specs.declared.search.RowsCompared.the-variants.{Rises, NoRow, Differs, Beyond, MaskLacks}
 use Rattle.compare.specs.Registers.{registersRise, firstToFail, order, valueOf, kindOf, subleafNamed}
 use Rattle.compare.specs.RegistersLaws.{is-true, is-false, register-fails, registers-before, first-unique}
 use Rattle.compare.specs.RowsCompared.{Wanted, rises, placeCompared, placeTest, firstFailing, rowsCompared}

@@ -9,8 +9,8 @@ use Rattle.table.specs.declared.Subleaf.{Subleaf}
 use Rattle.table.specs.Rows.{Rows}
 use Rattle.finish.specs.Kinds.{Kind, Registers, kindsAt}
 use Rattle.compare.specs.declared.registers.Register.{Register}
-use Rattle.compare.specs.declared.rows.RowsCompared.{RowsCompared}
-use Rattle.compare.specs.declared.rows.RowsCompared.the-variants.{Rises, NoRow, Differs, Beyond, MaskLacks}
+use Rattle.compare.specs.declared.search.RowsCompared.{RowsCompared}
+use Rattle.compare.specs.declared.search.RowsCompared.the-variants.{Rises, NoRow, Differs, Beyond, MaskLacks}
 use Rattle.compare.specs.Registers.{order, valueOf, kindOf, subleafNamed}
 
 -- the rows of A that count, those of B, how a register of B's compares by its kind, where B may have a row that A has not, and how the

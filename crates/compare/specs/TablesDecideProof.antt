@@ -14,9 +14,9 @@ use Rattle.finish.specs.Kinds.{Kind, TableAtLeast}
 use Rattle.finish.specs.Kinds.Kind.{feature, featureBut28, area, freed, other}
 use Rattle.rise.specs.Rise.{Further, TableRises}
 use Rattle.rise.specs.Decide.{test-rises, rises-test}
-use Rattle.compare.specs.declared.rows.Asked.the-variants.{Tables}
-use Rattle.compare.specs.declared.rows.RowsCompared.{RowsCompared}
-use Rattle.compare.specs.declared.rows.RowsCompared.the-variants.{Rises}
+use Rattle.compare.specs.declared.search.Asked.the-variants.{Tables}
+use Rattle.compare.specs.declared.search.RowsCompared.{RowsCompared}
+use Rattle.compare.specs.declared.search.RowsCompared.the-variants.{Rises}
 use Rattle.compare.specs.RowsCompared.{tableTest, furtherTest, wantedBy, comparedTables}
 use Rattle.compare.specs.RowsDecideProof.{Tested, rows-mean, rows-exact}
 use Rattle.compare.specs.TablesMean.{tables, TablesAnswerMeans, DecidesTables}

@@ -5,8 +5,8 @@ use Rattle.table.specs.declared.CpuidResults.{CpuidResults}
 use Rattle.table.specs.Table.{rowIn}
 use Rattle.finish.specs.Kinds.{TableAtLeast}
 use Rattle.rise.specs.Rise.{Further, TableRises}
-use Rattle.compare.specs.declared.rows.RowsCompared.{RowsCompared}
-use Rattle.compare.specs.declared.rows.RowsCompared.the-variants.{Rises}
+use Rattle.compare.specs.declared.search.RowsCompared.{RowsCompared}
+use Rattle.compare.specs.declared.search.RowsCompared.the-variants.{Rises}
 use Rattle.compare.specs.RowsMean.{Sides, RowsMean}
 
 -- what `TableRises` says of the rows: B may have the extended states of its further mask bits

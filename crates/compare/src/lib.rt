@@ -1,13 +1,13 @@
 // Compares two servers by their pages, and two tables (`tables`): whether a guest of A may move to B, or the first thing in the way. One search over
-// the rows serves both (`rows`).
+// the rows serves both (`search`).
 pub mod registers;
-pub mod rows;
+pub mod search;
 pub mod tables;
 
 use crate::registers::Register;
-use crate::rows::Asked;
-use crate::rows::RowsCompared;
-use crate::rows::compare_rows;
+use crate::search::Asked;
+use crate::search::RowsCompared;
+use crate::search::compare_rows;
 use build::rows_into;
 use masking::PLACES;
 use masking::place;

@@ -1,7 +1,7 @@
 // Two tables compared. The tables of A and B come in, in lent memory; whether a guest of A's may move to B's goes out, or the first thing in the way.
-use crate::rows::Asked;
-use crate::rows::RowsCompared;
-use crate::rows::compare_rows;
+use crate::search::Asked;
+use crate::search::RowsCompared;
+use crate::search::compare_rows;
 use masking::PLACES;
 use memory::REGISTERS;
 use memory::combined_mask;

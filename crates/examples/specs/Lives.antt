@@ -19,7 +19,7 @@ use Rattle.page_sets.specs.PassLaws.{verdict-passed, table-passed}
 use Rattle.page_sets.specs.Evaluation.{firstEdition, passed}
 use Rattle.rise.specs.Rise.{RiseHypothesis}
 use Rattle.rise.specs.RiseProof.{demand-3, answer-table}
-use Rattle.compare.specs.declared.rows.RowsCompared.the-variants.{Rises}
+use Rattle.compare.specs.declared.search.RowsCompared.the-variants.{Rises}
 use Rattle.compare.specs.RowsCompared.{comparedTables}
 use Rattle.compare.specs.TablesDecideProof.{decides}
 use Rattle.carry.specs.Carry.{carry}

@@ -25,7 +25,7 @@ use Rattle.build.specs.Build.{answer, TableIn}
 use Rattle.lookup.specs.declared.LeafResult.the-variants.{Some as Found}
 use Rattle.lookup.specs.Lookup.{lookup, placeAsked}
 use Rattle.rise.specs.Preorder.{SameRows}
-use Rattle.compare.specs.declared.rows.RowsCompared.the-variants.{Rises}
+use Rattle.compare.specs.declared.search.RowsCompared.the-variants.{Rises}
 use Rattle.compare.specs.RowsCompared.{comparedTables}
 use Rattle.carry.specs.Carry.{carry}
 use Rattle.guest.specs.declared.Processor.{Processor}

@@ -16,7 +16,7 @@ use Rattle.checks.specs.ExtendedState.{xssOf, xfem, xss, combinedMask}
 use Rattle.finish.specs.Kinds.{TableAtLeast, Registers, registerKinds, kindsAt}
 use Rattle.memory.specs.Memory.{rowsIn}
 use Rattle.memory.specs.Held.{wholeOf, heldIn, whole-row}
-use Rattle.compare.specs.declared.rows.RowsCompared.the-variants.{MaskLacks}
+use Rattle.compare.specs.declared.search.RowsCompared.the-variants.{MaskLacks}
 use Rattle.compare.specs.RowsMean.{PlaceRises}
 use Rattle.compare.specs.TablesMean.{tables, TablesAnswerMeans}
 use Rattle.compare.specs.TablesDecideProof.{decides}

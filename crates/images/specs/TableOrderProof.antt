@@ -3,7 +3,7 @@ use mathlib.Core.Path.{_≡_}
 use Rattle.table.specs.declared.CpuidResults.{CpuidResults}
 use Rattle.rise.specs.Preorder.{SameRows}
 use Rattle.rise.specs.PreorderProof.{table-rises-itself, table-rises-compose, both-ways-same, same-both-ways}
-use Rattle.compare.specs.declared.rows.RowsCompared.the-variants.{Rises}
+use Rattle.compare.specs.declared.search.RowsCompared.the-variants.{Rises}
 use Rattle.compare.specs.RowsCompared.{comparedTables}
 use Rattle.compare.specs.TablesDecideProof.{decides}
 

@@ -18,7 +18,7 @@ use Rattle.image.specs.Image.{image}
 use Rattle.compare.specs.declared.Compared.the-variants.{Rises as PagesRise}
 use Rattle.compare.specs.Compare.{compared}
 use Rattle.image_read.specs.ReadIn.{ReadIn}
-use Rattle.compare.specs.declared.rows.RowsCompared.the-variants.{Rises, MaskLacks}
+use Rattle.compare.specs.declared.search.RowsCompared.the-variants.{Rises, MaskLacks}
 use Rattle.compare.specs.RowsCompared.{comparedTables}
 
 -- where the comparison of pages says yes and B is accepted, the comparison of the two memories says yes

@@ -25,7 +25,7 @@ use Rattle.compare.specs.Means as PagesMean
 use Rattle.compare.specs.DecidesProof as PagesDecided
 use Rattle.image_read.specs.ReadIn.{ReadIn}
 use Rattle.image_read.specs.ReadHeld.{read-row, read-held}
-use Rattle.compare.specs.declared.rows.RowsCompared.the-variants.{Rises}
+use Rattle.compare.specs.declared.search.RowsCompared.the-variants.{Rises}
 use Rattle.compare.specs.RowsCompared.{comparedTables}
 use Rattle.compare.specs.TablesDecideProof.{decides}
 use Rattle.images.specs.TablesMoved.{CompareAgrees, ImagesAgree, PlainIn, Back, ImageBack, BuiltBack}

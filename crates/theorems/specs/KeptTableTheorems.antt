@@ -33,7 +33,7 @@ use Rattle.pool.specs.declared.Pooled.{Pooled}
 use Rattle.pool.specs.Pool.{pooled}
 use Rattle.rise.specs.Rise.{TableRises}
 use Rattle.rise.specs.Preorder.{SameRows}
-use Rattle.compare.specs.declared.rows.RowsCompared.the-variants.{Rises}
+use Rattle.compare.specs.declared.search.RowsCompared.the-variants.{Rises}
 use Rattle.compare.specs.RowsCompared.{comparedTables}
 use Rattle.compare.specs.TablesMean.{DecidesTables}
 use Rattle.compare.specs.TablesDecideProof.{decides}

@@ -49,7 +49,7 @@ use Rattle.carry.specs.declared.in_image.CarriedImage.{CarriedImage}
 use Rattle.compare.specs.declared.registers.Register.the-variants.{Ecx}
 use Rattle.compare.specs.declared.Compared.{Compared}
 use Rattle.compare.specs.declared.Compared.the-variants.{Differs}
-use Rattle.compare.specs.declared.rows.RowsCompared.{RowsCompared as TablesCompared}
+use Rattle.compare.specs.declared.search.RowsCompared.{RowsCompared as TablesCompared}
 use Rattle.pool.specs.declared.Pooled.{Pooled}
 use Rattle.nearest.specs.declared.Nearest.{Nearest}
 use Rattle.nearest.specs.declared.Nearest.the-variants.{Bit}

@@ -58,7 +58,7 @@ use Rattle.guest.specs.declared.Processor.{Processor}
 use Rattle.guest.specs.Guest.{guestAnswer, answerFor}
 use Rattle.guest.specs.Seen.{tableWith, guestFoundIn as foundIn}
 use Rattle.carry.specs.Carry.{carry, carryVerdict, ownRows}
-use Rattle.compare.specs.declared.rows.RowsCompared.the-variants.{Rises, NoRow, Beyond}
+use Rattle.compare.specs.declared.search.RowsCompared.the-variants.{Rises, NoRow, Beyond}
 use Rattle.compare.specs.RowsCompared.{furtherTest, rowsCompared, comparedTables}
 use Rattle.images.specs.TableOrderProof as Order
 use Rattle.answers.specs.Answers.{countsOf, readWith, foundAt, foundGiven, foundNumbers, guestFoundNumbers, stateNumbers, writtenNumbers}

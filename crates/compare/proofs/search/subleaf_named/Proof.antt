@@ -1,7 +1,7 @@
--- `compare::rows::subleaf_named` meets its contract: whether the place has a subleaf, and which.
+-- `compare::search::subleaf_named` meets its contract: whether the place has a subleaf, and which.
 use borrow.Author.Needs.{needs}
-use Rattle.compare.proofs.rows.subleaf_named.Statement.{statement}
-use Rattle.compare.proofs.rows.subleaf_named.Tie as tie
+use Rattle.compare.proofs.search.subleaf_named.Statement.{statement}
+use Rattle.compare.proofs.search.subleaf_named.Tie as tie
 
 returns : tie.Need-returns
 returns c = cc

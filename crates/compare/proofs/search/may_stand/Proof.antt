@@ -1,7 +1,7 @@
--- `compare::rows::may_stand` meets its contract: by what is asked.
+-- `compare::search::may_stand` meets its contract: by what is asked.
 use borrow.Author.Needs.{needs}
-use Rattle.compare.proofs.rows.may_stand.Statement.{statement}
-use Rattle.compare.proofs.rows.may_stand.Tie as tie
+use Rattle.compare.proofs.search.may_stand.Statement.{statement}
+use Rattle.compare.proofs.search.may_stand.Tie as tie
 
 returns : tie.Need-returns
 returns c = rw (c .enum-told .given .1)

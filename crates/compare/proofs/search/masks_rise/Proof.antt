@@ -1,7 +1,7 @@
--- `compare::rows::masks_rise` meets its contract: by what is asked.
+-- `compare::search::masks_rise` meets its contract: by what is asked.
 use borrow.Author.Needs.{needs}
-use Rattle.compare.proofs.rows.masks_rise.Statement.{statement}
-use Rattle.compare.proofs.rows.masks_rise.Tie as tie
+use Rattle.compare.proofs.search.masks_rise.Statement.{statement}
+use Rattle.compare.proofs.search.masks_rise.Tie as tie
 
 returns-2 : tie.Need-returns-2
 returns-2 c = rw (c .before .asked .given .1)

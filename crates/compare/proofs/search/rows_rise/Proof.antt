@@ -1,4 +1,4 @@
--- `compare::rows::rows_rise` meets its contract: the test by masks is the one by kinds, since registers have 32 bits.
+-- `compare::search::rows_rise` meets its contract: the test by masks is the one by kinds, since registers have 32 bits.
 use mathlib.Core.Path.{_≡_, ap, _∙_}
 use mathlib.Core.Bool.{Bool}
 use native.Mathlib.Omega.{arith}
@@ -7,8 +7,8 @@ use Rattle.x86defs.specs.declared.CpuidResult.{CpuidResult}
 use Rattle.table.specs.Fits.{Fits}
 use Rattle.compare.specs.declared.registers.RegistersRise.{RegistersRise}
 use Rattle.compare.specs.ByMasks.{passesBy, withEcx, agreedIn, areaTest, rows-by-kind}
-use Rattle.compare.proofs.rows.rows_rise.Statement.{statement}
-use Rattle.compare.proofs.rows.rows_rise.Tie as tie
+use Rattle.compare.proofs.search.rows_rise.Statement.{statement}
+use Rattle.compare.proofs.search.rows_rise.Tie as tie
 
 first-fits : (c : tie.Start) → Fits (c .args .a)
 first-fits c = record { eax = omega arith; ebx = omega arith; ecx = omega arith; edx = omega arith }

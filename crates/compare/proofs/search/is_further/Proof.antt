@@ -1,9 +1,9 @@
--- `compare::rows::is_further` meets its contract: by the place, then by the two masks.
+-- `compare::search::is_further` meets its contract: by the place, then by the two masks.
 use mathlib.Core.Path.{sym}
 use borrow.Author.Needs.{needs}
 use Rattle.compare.specs.RowsComparedLaws.{further-low, further-state, further-high}
-use Rattle.compare.proofs.rows.is_further.Statement.{statement}
-use Rattle.compare.proofs.rows.is_further.Tie as tie
+use Rattle.compare.proofs.search.is_further.Statement.{statement}
+use Rattle.compare.proofs.search.is_further.Tie as tie
 
 returns : tie.Need-returns
 returns c = sym (further-low _ _ _ (search needs))

@@ -1,4 +1,4 @@
--- `compare::rows::compare_rows` meets its contract: before each turn the places that are left give what all give.
+-- `compare::search::compare_rows` meets its contract: before each turn the places that are left give what all give.
 use borrow.Author.Needs.{needs}
 use native.Mathlib.Omega.{arith}
 use mathlib.Core.Path.{_≡_, sym, _∙_}
@@ -8,8 +8,8 @@ use Rattle.masking.specs.Kept.{places}
 use Rattle.memory.specs.Memory.{rowsIn}
 use Rattle.compare.specs.RowsCompared.{wantedBy, rowsCompared}
 use Rattle.compare.specs.RowsComparedLaws.{comparedFrom, compared-all, row-read, turn-passes, turn-stops, turns-end}
-use Rattle.compare.proofs.rows.compare_rows.Statement.{statement}
-use Rattle.compare.proofs.rows.compare_rows.Tie as tie
+use Rattle.compare.proofs.search.compare_rows.Statement.{statement}
+use Rattle.compare.proofs.search.compare_rows.Tie as tie
 
 abbrev Inv-loop : tie.InvT-loop
 Inv-loop asked a-registers a-origins b-registers b-origins place₀ place =
