@@ -4,12 +4,14 @@ use crate::arithmetic::chosen_by;
 use crate::features::FEATURES;
 use std::process::Command;
 
-/// The bits that are marked for libm.
+/// The bits that are marked, by library: those of the sources that arithmetic.rs names.
 #[test]
-fn libm_has_three_bits() {
-    let bits = FEATURES.iter().flat_map(|register| register.bits_of(u32::MAX));
-    let marked: Vec<&str> = bits.filter(|bit| chosen_by(bit).contains(&"libm")).map(|bit| bit.name).collect();
-    assert_eq!(marked, ["FMA", "AVX2", "FMA4"]);
+fn every_library_has_its_bits() {
+    for (library, names) in [("libm", ["FMA", "AVX2", "FMA4"]), ("libmvec", ["FMA", "AVX2", "AVX512DQ"]), ("OpenBLAS", ["AVX", "AVX2", "AVX512VL"])] {
+        let bits = FEATURES.iter().flat_map(|register| register.bits_of(u32::MAX));
+        let marked: Vec<&str> = bits.filter(|bit| chosen_by(bit).contains(&library)).map(|bit| bit.name).collect();
+        assert_eq!(marked, names, "{library}");
+    }
 }
 
 /// Whether this machine has the bits, and a glibc that can be told to hide them: Debian's python3 is a program that uses it.

@@ -172,13 +172,13 @@ fn every_feature_bit_by_name() {
 }
 
 /// The mark behind a bit by which libraries choose their code: glibc's libm by FMA with AVX2 and by FMA4, libmvec by FMA with AVX2 and by AVX512DQ,
-/// OpenBLAS by AVX2 and by AVX-512.
+/// OpenBLAS by AVX, AVX2 and AVX512VL.
 fn chosen_by(name: &str) -> &'static str {
     match name {
         "FMA" => " (libm, libmvec)",
         "AVX2" => " (libm, libmvec, OpenBLAS)",
-        "AVX512DQ" => " (libmvec, OpenBLAS)",
-        "AVX512F" | "AVX512BW" | "AVX512VL" => " (OpenBLAS)",
+        "AVX512DQ" => " (libmvec)",
+        "AVX" | "AVX512VL" => " (OpenBLAS)",
         "FMA4" => " (libm)",
         _ => "",
     }
@@ -197,9 +197,10 @@ fn bits_of_states() {
     let Parts { verdict, in_the_way, free: lines, .. } = parts(&ran);
     let more = "AVX512F, AVX512DQ, AVX512_IFMA, AVX512CD, AVX512BW, AVX512VL, AVX512_VBMI, AVX512_VBMI2, AVX512_VNNI, AVX512_BITALG, \
                 AVX512_VPOPCNTDQ, AVX512_VP2INTERSECT, AVX512_FP16, opmask, ZMM_Hi256 and Hi16_ZMM";
-    assert_eq!((ran.status, verdict, in_the_way), (0, may(more, "AVX512F, AVX512DQ, AVX512BW and AVX512VL"), vec![]));
+    assert_eq!((ran.status, verdict, in_the_way), (0, may(more, "AVX512DQ and AVX512VL"), vec![]));
     for line in [
-        "00000007.0  EBX  AVX512F (bit 16): B has it, A has not (OpenBLAS)",
+        "00000007.0  EBX  AVX512F (bit 16): B has it, A has not",
+        "00000007.0  EBX  AVX512VL (bit 31): B has it, A has not (OpenBLAS)",
         "00000007.0  EDX  AVX512_FP16 (bit 23): B has it, A has not",
         "0000000D.0  EAX  opmask (bit 5): B has it, A has not",
         "0000000D.0  EAX  ZMM_Hi256 (bit 6): B has it, A has not",

@@ -2,8 +2,9 @@
 //! decimal.
 //!
 //! glibc's libm: sysdeps/x86_64/fpu/multiarch, ifunc-fma.h (FMA with AVX2), ifunc-fma4.h and ifunc-avx-fma4.h (then FMA4). Its vector library,
-//! libmvec: ifunc-mathvec-avx2.h (FMA with AVX2) and ifunc-mathvec-avx512-skx.h (AVX512DQ), in the same folder. OpenBLAS: driver/others/dynamic.c,
-//! `get_coretype`, by AVX2, and by AVX-512 in its kernels for SkylakeX.
+//! libmvec: ifunc-mathvec-avx2.h (FMA with AVX2) and ifunc-mathvec-avx512-skx.h (AVX512DQ), in the same folder. OpenBLAS 0.3.21:
+//! driver/others/dynamic.c, `support_avx`, `support_avx2` and `support_avx512`. The last asks for AVX512VL alone and runs kernels of AVX512F, DQ and
+//! BW, so those bits choose nothing by themselves.
 
 use crate::features::{EBX, ECX, FeatureBit};
 
@@ -15,10 +16,9 @@ const OPENBLAS: &str = "OpenBLAS";
 #[rustfmt::skip]
 const MARKED: &[(u32, usize, u32, &[&str])] = &[
     (0x1, ECX, 12, &[LIBM, LIBMVEC]),            // FMA
+    (0x1, ECX, 28, &[OPENBLAS]),                 // AVX
     (0x7, EBX, 5, &[LIBM, LIBMVEC, OPENBLAS]),   // AVX2
-    (0x7, EBX, 16, &[OPENBLAS]),                 // AVX512F
-    (0x7, EBX, 17, &[LIBMVEC, OPENBLAS]),        // AVX512DQ
-    (0x7, EBX, 30, &[OPENBLAS]),                 // AVX512BW
+    (0x7, EBX, 17, &[LIBMVEC]),                  // AVX512DQ
     (0x7, EBX, 31, &[OPENBLAS]),                 // AVX512VL
     (0x8000_0001, ECX, 16, &[LIBM]),             // FMA4
 ];

@@ -79,8 +79,8 @@ that are not, where B has more.
 
 By some bits libraries choose the code that computes, so a program that starts may print another
 last decimal: by FMA with AVX2, and by FMA4, glibc's libm; by FMA with AVX2, and by AVX512DQ, its
-vector library libmvec; by AVX2 and AVX-512 OpenBLAS. Such bits are marked with these names. A guest
-that must print the same figures after a restart needs --same, or the table of a pool.
+vector library libmvec; by AVX, AVX2 and AVX512VL OpenBLAS. Such bits are marked with these names. A
+guest that must print the same figures after a restart needs --same, or the table of a pool.
 
 What was captured or dumped inside a guest has the number of its processor and the sizes of its
 XCR0 and XSS in the place of the table's. With --view these are left out of the verdict: both
