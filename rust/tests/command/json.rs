@@ -1,6 +1,6 @@
 //! The JSON writer, read back by Debian's `jq`.
 
-use crate::json::{Json, array, hex, object};
+use crate::json::{Json, Part, array, hex, object};
 use std::cell::Cell;
 use std::io::Write;
 use std::process::{Command, Stdio};
@@ -47,6 +47,28 @@ fn text_by_hand() {
                 \"g\": 18446744073709551615,\n  \"h\": \"x\",\n  \"i\": null\n}\n";
     assert_eq!(value.to_string(), text);
     assert_eq!(object([("a", 1u32.into())]).with([("b", false.into())]).to_string(), "{\"a\": 1, \"b\": false}\n");
+}
+
+/// What is written piece by piece is the text of the whole value.
+#[test]
+fn pieces_are_the_text() {
+    let item = |number: u32| object([("n", number.into()), ("names", array(["a", "b"]))]);
+    let whole = object([
+        ("a", Json::Null),
+        ("b", array([1u32, 2])),
+        ("many", array((0..3).map(item))),
+        ("none", Json::Array(vec![])),
+        ("inside", object([("c", "x".into()), ("d", array([item(7)])), ("e", array([item(8)]))])),
+    ]);
+    let inside = vec![("c", "x".into()), ("d", array([item(7)]).into()), ("e", Part::items([item(8)].into_iter()))];
+    let parts = Part::Members(vec![
+        ("a", Json::Null.into()),
+        ("b", array([1u32, 2]).into()),
+        ("many", Part::items((0..3).map(item))),
+        ("none", Part::items([].into_iter())),
+        ("inside", Part::Members(inside)),
+    ]);
+    assert_eq!(parts.text().collect::<String>(), whole.to_string());
 }
 
 /// Every character below 256, and some above, comes back by its code from a parser that nobody here wrote.

@@ -13,7 +13,7 @@ pub fn asked(arguments: &Arguments) -> bool {
 }
 
 /// A value. Objects keep the order of their members.
-#[derive(Clone, Debug, PartialEq, Eq)]
+#[derive(Clone, Debug, PartialEq, Eq, Hash)]
 pub enum Json {
     Null,
     Bool(bool),
@@ -90,6 +90,48 @@ impl Json {
     }
 }
 
+/// A value of which not all is in memory while it is written.
+pub enum Part<'a> {
+    Value(Json),
+    /// an object
+    Members(Vec<(&'static str, Part<'a>)>),
+    /// an array of objects, each of which is made when its turn comes
+    Items(Box<dyn Iterator<Item = Json> + 'a>),
+}
+
+impl<'a> Part<'a> {
+    /// An array of these objects.
+    pub fn items(items: impl Iterator<Item = Json> + 'a) -> Part<'a> {
+        Part::Items(Box::new(items))
+    }
+
+    /// The text, a newline at its end, piece by piece: as that of the same value.
+    pub fn text(self) -> impl Iterator<Item = String> + 'a {
+        self.pieces(0).chain(["\n".to_string()])
+    }
+
+    fn pieces(self, depth: usize) -> Box<dyn Iterator<Item = String> + 'a> {
+        let line = |depth: usize| format!("\n{:1$}", "", 2 * depth);
+        let lead = move |number: usize| [if number == 0 { "" } else { "," }, &line(depth + 1)].concat();
+        match self {
+            Part::Value(value) => Box::new([value.inside(depth)].into_iter()),
+            Part::Members(members) => {
+                let member = move |(number, (name, part)): (usize, (&str, Part<'a>))| {
+                    [format!("{}\"{name}\": ", lead(number))].into_iter().chain(part.pieces(depth + 1))
+                };
+                let inside = members.into_iter().enumerate().flat_map(member);
+                Box::new(["{".to_string()].into_iter().chain(inside).chain([line(depth) + "}"]))
+            }
+            Part::Items(items) => {
+                let mut items = items.enumerate().peekable();
+                let close = if items.peek().is_some() { line(depth) + "]" } else { "]".into() };
+                let inside = items.map(move |(number, item)| lead(number) + &item.inside(depth + 1));
+                Box::new(["[".to_string()].into_iter().chain(inside).chain([close]))
+            }
+        }
+    }
+}
+
 /// The parts of an array or object between its brackets: on lines of their own, set in by the depth that is given, or on one line.
 fn list<T>(
     f: &mut fmt::Formatter<'_>,
@@ -117,21 +159,32 @@ fn list<T>(
 /// A string: quotation mark, backslash and control characters escaped (RFC 8259, section 7).
 fn string(f: &mut fmt::Formatter<'_>, text: &str) -> fmt::Result {
     f.write_str("\"")?;
-    for c in text.chars() {
+    let mut rest = text;
+    while let Some((at, c)) = rest.char_indices().find(|(_, c)| is_escaped(*c)) {
+        f.write_str(&rest[..at])?;
         match c {
             '"' => f.write_str("\\\"")?,
             '\\' => f.write_str("\\\\")?,
             '\n' => f.write_str("\\n")?,
             '\r' => f.write_str("\\r")?,
             '\t' => f.write_str("\\t")?,
-            // the line separators of JavaScript, which a page's script would end a line at
-            '\u{2028}' | '\u{2029}' | '\0'..='\u{1F}' | '\u{7F}' => write!(f, "\\u{:04x}", u32::from(c))?,
-            // so that the text may stand inside an HTML script element
-            '<' => f.write_str("\\u003c")?,
-            c => write!(f, "{c}")?,
+            c => write!(f, "\\u{:04x}", u32::from(c))?,
         }
+        rest = &rest[at + c.len_utf8()..];
     }
+    f.write_str(rest)?;
     f.write_str("\"")
+}
+
+fn is_escaped(c: char) -> bool {
+    match c {
+        '"' | '\\' | '\0'..='\u{1F}' | '\u{7F}' => true,
+        // the line separators of JavaScript, which a page's script would end a line at
+        '\u{2028}' | '\u{2029}' => true,
+        // so that the text may stand inside an HTML script element
+        '<' => true,
+        _ => false,
+    }
 }
 
 /// The text, a newline at its end.
@@ -182,5 +235,11 @@ impl From<String> for Json {
 impl<T: Into<Json>> From<Option<T>> for Json {
     fn from(value: Option<T>) -> Json {
         value.map_or(Json::Null, Into::into)
+    }
+}
+
+impl<T: Into<Json>> From<T> for Part<'_> {
+    fn from(value: T) -> Self {
+        Part::Value(value.into())
     }
 }

@@ -3,6 +3,7 @@
 use crate::features::{EAX, EBX, ECX, EDX};
 use crate::words;
 use snp_cpuid::{CpuidResult, Origin, Row};
+use std::collections::HashMap;
 
 /// A row of these registers.
 pub fn row(leaf: u32, subleaf: Option<u32>, [eax, ebx, ecx, edx]: [u32; 4]) -> Row {
@@ -15,13 +16,12 @@ pub fn apart(rows: &[Row], register: usize) -> Vec<String> {
     let fewest = told.iter().map(Vec::len).min().unwrap_or(0);
     let alike = told.iter().all(|parts| parts.len() == fewest);
     let unlike: Vec<usize> = (0..fewest).filter(|part| !alike || told.iter().any(|parts| parts[*part] != told[0][*part])).collect();
-    let value = |row: &Row| format!("{:08X}", words::registers(row)[register]);
-    let same_words = |a: usize, b: usize| unlike.iter().all(|part| told[a][*part] == told[b][*part]);
-    let told_apart = (0..rows.len()).all(|a| (0..a).all(|b| value(&rows[a]) == value(&rows[b]) || !same_words(a, b)));
-    if unlike.is_empty() || !told_apart {
-        return rows.iter().map(value).collect();
-    }
-    told.iter().map(|parts| unlike.iter().map(|part| parts[*part].as_str()).collect::<Vec<_>>().join(", ")).collect()
+    let value = |row: &Row| words::registers(row)[register];
+    let words: Vec<String> = told.iter().map(|parts| unlike.iter().map(|part| parts[*part].as_str()).collect::<Vec<_>>().join(", ")).collect();
+    // words tell two values apart where each stands for one of them
+    let mut stands_for = HashMap::new();
+    let told_apart = rows.iter().zip(&words).all(|(row, words)| *stands_for.entry(words).or_insert(value(row)) == value(row));
+    if unlike.is_empty() || !told_apart { rows.iter().map(|row| format!("{:08X}", value(row))).collect() } else { words }
 }
 
 /// The words of one register of a row, part by part.

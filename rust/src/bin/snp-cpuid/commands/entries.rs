@@ -5,7 +5,7 @@ use crate::building::{self, Building, refusal_json, told};
 use crate::command::Command;
 use crate::failure::Failure;
 use crate::input::read;
-use crate::json::{self, Json, array, object};
+use crate::json::{self, Json, Part, array, object};
 use crate::output;
 use crate::print::{place, place_json, registers_json};
 use crate::reasons::hex_bytes;
@@ -54,7 +54,7 @@ fn run(arguments: &Arguments) -> Result<(), Failure> {
     let (standing, answer) = (Standing::of(&source.pages), building.build(&source.pages));
     let report = Report { file: source.file, building, pages: source.pages, standing, answer };
     if building.json() {
-        output::print_parts(report.json())?;
+        output::print_parts(report.json().text())?;
     } else {
         output::print(report.text())?;
     }
@@ -163,27 +163,16 @@ impl Report {
         text
     }
 
-    /// The object, entry by entry: there may be a million.
-    fn json(&self) -> impl Iterator<Item = String> {
-        let head = self.head_json().to_string();
-        let head = head.strip_suffix("\n}\n").expect("an object of several lines").to_string();
-        let close = if self.standing.places.is_empty() { "]\n}\n" } else { "\n  ]\n}\n" };
-        let entry = |(number, entry): (usize, &Place)| {
-            let comma = if number == 0 { "" } else { "," };
-            format!("{comma}\n    {}", self.entry_json(entry).inside(2))
-        };
-        let entries = self.standing.places.iter().enumerate().map(entry);
-        [head, ",\n  \"entries\": [".to_string()].into_iter().chain(entries).chain([close.to_string()])
-    }
-
-    fn head_json(&self) -> Json {
+    /// The object; its entries are made one by one, as there may be a million.
+    fn json(&self) -> Part<'_> {
         let refusal = self.answer.as_ref().err().map(|refusal| refusal_json(*refusal, &self.building.reason(*refusal, &self.pages)));
-        object([
+        Part::Members(vec![
             ("answer", if self.answer.is_ok() { "accepted" } else { "refused" }.into()),
             ("file", self.file.as_str().into()),
             ("refusal", refusal.into()),
-            ("counts", array(self.standing.counts.iter().copied())),
+            ("counts", array(self.standing.counts.iter().copied()).into()),
             ("bytes_over", self.standing.over.into()),
+            ("entries", Part::items(self.standing.places.iter().map(|entry| self.entry_json(entry)))),
         ])
     }
 
