@@ -68,7 +68,7 @@ rises MaskLacks = false
 abbrev pub placeCompared : Wanted → Rows → Rows → ℕ → RowsCompared
 placeCompared w A B i = rowCompared w i (A i) (B i)
 
--- whether place i is as wanted
+-- whether nothing fails at place i
 abbrev pub placeTest : Wanted → Rows → Rows → ℕ → Bool
 placeTest w A B i = rises (placeCompared w A B i)
 

@@ -26,7 +26,7 @@ pub record Sides : Type 1 where
 abbrev pub RegisterRises : Sides → ℕ → Register → Type 0
 RegisterRises s i q = s .AtLeast (kindOf q (kindsAt i)) (valueOf q (s .A i .result)) (valueOf q (s .B i .result))
 
--- place i is as wanted
+-- nothing fails at place i
 pub record PlaceRises (s : Sides) (i : ℕ) : Type 0 where
   pub rows : s .A i .present ≡ true → s .B i .present ≡ true
   pub registers : s .A i .present ≡ true → Registers (s .AtLeast) (kindsAt i) (s .A i .result) (s .B i .result)
@@ -64,7 +64,7 @@ AtPlace s i (Differs leaf subleaf register) = DiffersAt s i leaf subleaf registe
 AtPlace s i (Beyond leaf subleaf) = BeyondAt s i leaf subleaf
 AtPlace s i MaskLacks = ⊥
 
--- it is so at a place, and every place before it is as wanted
+-- it is so at a place, and nothing fails at the places before it
 pub record First (s : Sides) (c : RowsCompared) : Type 0 where
   pub place : ℕ
   pub below : place < places

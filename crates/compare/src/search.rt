@@ -1,5 +1,5 @@
-// Rows compared as demand 3 has it. The rows of A that count and those of B come in, in lent memory, with what is asked of them; whether B's rise
-// from A's goes out, or the first thing that fails.
+// Compares rows as demand 3 does, in lent memory: whether B's rows rise from those of A that count, by what is asked of them, or the first thing that
+// fails.
 use crate::registers::Register;
 use crate::registers::RegistersRise;
 use crate::registers::first_register;
@@ -31,8 +31,8 @@ pub enum Asked {
     Tables(u64, u64),
 }
 
-// What a comparison gives: B's rows rise from A's; B lacks a row of A's; a register of its row is not as wanted; it has a row that A has not, where
-// it may not; or its combined mask lacks a bit of A's.
+// What a comparison gives: B's rows rise from A's; B lacks a row of A's; a register of its row may not replace A's; it has a row that A has not,
+// where it may not; or its combined mask lacks a bit of A's.
 pub enum RowsCompared {
     Rises,
     NoRow(CpuidFunction, Subleaf),
@@ -158,7 +158,7 @@ fn is_further(place: usize, a_mask: u64, b_mask: u64) -> bool
     false
 }
 
-// Which registers of B's row are as wanted, by the masks of their place.
+// Which registers of B's row may replace A's, by the masks of their place.
 fn rows_rise(asked: Asked, place: usize, a: CpuidResult, b: CpuidResult) -> RegistersRise
     requires { ⌜ place < places ⌝ }
     ensures { λ r. ⌜ r ≡ registersRise (wantedBy asked .register) (kindsAt place) a b ⌝ }
@@ -184,7 +184,7 @@ fn agreed_bits(asked: Asked, masks: RowMasks) -> CpuidResult
     }
 }
 
-// Whether ECX is as wanted, when this is its answer by the masks: the save area of D.0 may grow.
+// Whether B's ECX may replace A's, when this is its answer by the masks: the save area of D.0 may grow.
 fn area_rises(asked: Asked, place: usize, a: u32, b: u32, by_masks: bool) -> bool
     ensures { λ r. ⌜ r ≡ areaTest asked place a b «by_masks» ⌝ }
 {

@@ -1,4 +1,4 @@
-// Two tables compared. The tables of A and B come in, in lent memory; whether a guest of A's may move to B's goes out, or the first thing in the way.
+// Compares two tables in lent memory: whether a guest of A's may move to B's, or the first thing in the way.
 use crate::search::Asked;
 use crate::search::RowsCompared;
 use crate::search::compare_rows;

@@ -46,8 +46,8 @@ pub fn read_image(
     false
 }
 
-// Goes from place to place, run by run, as the image is written: the next bytes are the place's row, or the place has none. The index after the rows
-// goes out.
+// Goes from place to place, run by run, as the image is written: the next bytes are the place's row, or the place has none. Gives the index after
+// the rows.
 fn read_rows(bytes: &[u8], registers: &mut [u32; REGISTERS], origins: &mut [u64; PLACES]) -> usize
     ensures { λ r. ⌜ FoundIn (now (bytes .entry)) r (now (registers .exit)) (now (origins .exit)) ⌝ }
 {

@@ -44,7 +44,7 @@ fn same_row(masks: RowMasks, a: CpuidResult, b: CpuidResult) -> bool
 }
 
 // One server more, place by place: its registers are joined into those of the servers before it. `alike` has at which places these are like the
-// first; where the further one is too goes out.
+// first; gives where the further one is too.
 pub fn with_server(
     registers: &mut [u32; REGISTERS],
     other: &[u32; REGISTERS],

@@ -31,7 +31,7 @@ pub struct Pooled {
     pub origins: [u64; PLACES],
 }
 
-// What goes out beside the memory.
+// What is given beside the memory.
 pub struct PoolVerdict {
     pub verdict: Verdict,
     pub server: usize,
