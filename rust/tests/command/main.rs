@@ -28,6 +28,7 @@ mod inputs;
 #[path = "json.rs"]
 mod json_text;
 mod kvm;
+mod large_fleets;
 mod lookup;
 mod manual;
 #[path = "masks.rs"]

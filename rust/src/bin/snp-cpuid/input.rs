@@ -8,12 +8,19 @@ use std::io::{self, ErrorKind, Read};
 /// The most bytes that are read, 16,384 pages: a device without end is refused instead of read.
 pub const MOST_BYTES: u64 = 64 << 20;
 
+/// Room for a usual file, which is then read at once.
+const ROOM: usize = 16 << 10;
+
 /// A file's name as messages have it: on one line, whatever it is.
 pub fn shown(name: &OsStr) -> String {
     if name == "-" {
         return "standard input".into();
     }
-    name.to_string_lossy().chars().map(|c| if c.is_control() { c.escape_default().to_string() } else { c.to_string() }).collect()
+    let name = name.to_string_lossy();
+    if !name.contains(char::is_control) {
+        return name.into_owned();
+    }
+    name.chars().map(|c| if c.is_control() { c.escape_default().to_string() } else { c.to_string() }).collect()
 }
 
 /// What went wrong, without the number that the system gives it.
@@ -31,7 +38,7 @@ pub fn reason(error: &io::Error) -> String {
 
 /// The bytes of a file, or of standard input for `-`.
 pub fn read(name: &OsStr) -> Result<Vec<u8>, Failure> {
-    let mut bytes = Vec::new();
+    let mut bytes = Vec::with_capacity(ROOM);
     let result = if name == "-" {
         io::stdin().lock().take(MOST_BYTES + 1).read_to_end(&mut bytes)
     } else {

@@ -107,16 +107,16 @@ fn printed(written: io::Result<()>) -> Result<(), Failure> {
 
 /// Refuses an output that is one of these files: what it holds would be gone.
 pub fn not_one_of<'a>(output: &OsStr, mut inputs: impl Iterator<Item = &'a OsStr>) -> Result<(), Failure> {
-    match inputs.find(|input| same_file(input, output)) {
+    let Some(there) = place(output) else { return Ok(()) };
+    match inputs.find(|input| place(input) == Some(there)) {
         Some(input) => Err(Failure::Bad(format!("{}: not written: it is the input {}", shown(output), shown(input)))),
         None => Ok(()),
     }
 }
 
-/// Whether two names are of one file, through any links.
-fn same_file(a: &OsStr, b: &OsStr) -> bool {
-    let place = |name: &OsStr| fs::metadata(name).ok().filter(|there| there.is_file()).map(|there| (there.dev(), there.ino()));
-    place(a).is_some() && place(a) == place(b)
+/// Which file it is, under any name and through any links; none where there is no file.
+fn place(name: &OsStr) -> Option<(u64, u64)> {
+    fs::metadata(name).ok().filter(|there| there.is_file()).map(|there| (there.dev(), there.ino()))
 }
 
 /// Bytes to a file, or to standard output for `-`, unless that is a terminal.
@@ -124,16 +124,16 @@ pub fn to_file(name: &OsStr, bytes: &[u8]) -> Result<(), Failure> {
     Pending::new(name, bytes)?.put()
 }
 
-/// Bytes to a file and text to standard output. Where the text cannot be printed the file stays as it was.
-pub fn to_file_and_print(name: &OsStr, bytes: &[u8], text: &str) -> Result<(), Failure> {
+/// Bytes to a file and text to standard output part by part. Where the text cannot be printed the file stays as it was.
+pub fn to_file_and_print(name: &OsStr, bytes: &[u8], parts: impl Iterator<Item = String>) -> Result<(), Failure> {
     let pending = Pending::new(name, bytes)?;
-    print(text)?;
+    print_parts(parts)?;
     pending.put()
 }
 
 /// The same for the file that `-o` names.
 pub fn write_and_print(arguments: &Arguments, bytes: &[u8], text: &str) -> Result<(), Failure> {
-    to_file_and_print(arguments.value(NAMES[0]).expect("it is given"), bytes, text)
+    to_file_and_print(arguments.value(NAMES[0]).expect("it is given"), bytes, [text.to_string()].into_iter())
 }
 
 /// Bytes that are ready to be put where they belong.

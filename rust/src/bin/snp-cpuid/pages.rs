@@ -10,6 +10,7 @@ pub const PAGE_ENTRIES: usize = 64;
 pub const STATE: u32 = 0xD;
 
 /// One entry of a page: what CPUID gives for a leaf and subleaf.
+#[derive(PartialEq, Eq, Hash)]
 pub struct Entry {
     pub leaf: u32,
     pub subleaf: u32,

@@ -5,7 +5,7 @@ use crate::building::{self, Building};
 use crate::command::Command;
 use crate::failure::Failure;
 use crate::fleet::since::{Before, Since};
-use crate::fleet::{Fleet, data, page, source, text};
+use crate::fleet::{Fleet, data, page, text};
 use crate::input::{read, shown};
 use crate::option::{Opt, Value};
 use crate::{json, output, processor};
@@ -70,23 +70,22 @@ fn run(arguments: &Arguments) -> Result<(), Failure> {
     if to_output && building.json() {
         return Err(Failure::usage(COMMAND.name, "--html - and --json both go to standard output"));
     }
-    let sources = source::sources(&arguments.operands)?;
-    let fleet = Fleet::of(sources, building, arguments.has(&processor::VIEW));
+    let fleet = Fleet::of(&arguments.operands, building, arguments.has(&processor::VIEW))?;
     let since = arguments.value(SINCE.name()).map(|file| since(file, &fleet)).transpose()?;
-    let report = if building.json() {
-        data::of(&fleet).with(since.iter().map(|(file, since)| ("since", since.json(file)))).to_string()
+    let report: Box<dyn Iterator<Item = String>> = if building.json() {
+        Box::new(data::of(&fleet, since.as_ref().map(|(file, since)| since.json(file).into())).text())
     } else {
-        text::of(&fleet) + &since.iter().map(|(file, since)| format!("\n{}", since.text(file))).collect::<String>()
+        Box::new([text::of(&fleet)].into_iter().chain(since.iter().map(|(file, since)| format!("\n{}", since.text(file)))))
     };
     match arguments.value(HTML.name()) {
-        None => output::print(report)?,
+        None => output::print_parts(report)?,
         Some(_) if to_output => output::print(page::of(&fleet))?,
         Some(file) => {
-            output::not_one_of(file, fleet.servers.iter().map(|server| OsStr::new(&server.source.file)))?;
-            output::to_file_and_print(file, page::of(&fleet).as_bytes(), &report)?
+            output::not_one_of(file, fleet.servers.iter().map(|server| OsStr::new(server.file())))?;
+            output::to_file_and_print(file, page::of(&fleet).as_bytes(), report)?
         }
     }
-    let well = since.map_or(fleet.accepted() == fleet.servers.len(), |(_, since)| !since.has_changes());
+    let well = since.as_ref().map_or(fleet.accepted() == fleet.servers.len(), |(_, since)| !since.has_changes());
     if well { Ok(()) } else { Err(Failure::AnswerNo) }
 }
 

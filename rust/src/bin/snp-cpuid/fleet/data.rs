@@ -6,10 +6,9 @@ use super::groups;
 use super::moves::{Way, by_pages, index};
 use super::pools::{Lost, Pool};
 use super::text::servers_of;
-use super::{Answer, Class, Fleet, Group, Server};
-use crate::building::refusal_json;
+use super::{Answer, Class, Fleet, Group, Server, Why};
 use crate::features::REGISTERS;
-use crate::json::{Json, array, hex, object};
+use crate::json::{Json, Part, array, hex, object};
 use crate::print::{bit_json, place_json};
 use snp_cpuid::{Comparison, Register, TableComparison};
 
@@ -19,15 +18,18 @@ const MOST_LISTED: usize = 100;
 /// The version of this form: it rises where a member goes or means something else.
 pub const FORM: u32 = 1;
 
-/// The report.
-pub fn of(fleet: &Fleet) -> Json {
+/// The report: what there is one of for each server or class is made when it is written.
+pub fn of<'a>(fleet: &'a Fleet, since: Option<Part<'a>>) -> Part<'a> {
     let place = |class: &usize| fleet.classes[*class].name.as_str();
     let answer = match fleet.accepted() {
         0 => "all refused",
         accepted if accepted == fleet.servers.len() => "accepted",
         _ => "some refused",
     };
-    object([
+    let fingerprints: Vec<String> = fleet.classes.iter().map(|class| class.fingerprint.to_string()).collect();
+    let unread = |each: &super::Unread| object([("file", each.file.as_str().into()), ("why", each.why.as_str().into())]);
+    let apart_in = differing::apart(&fleet.groups.iter().collect::<Vec<_>>(), &fleet.classes);
+    let members = [
         ("answer", answer.into()),
         ("version", FORM.into()),
         ("tool", crate::VERSION.trim_end().into()),
@@ -36,41 +38,41 @@ pub fn of(fleet: &Fleet) -> Json {
         ("view", fleet.view.into()),
         ("accepted", fleet.accepted().into()),
         ("refused", (fleet.servers.len() - fleet.accepted()).into()),
-        ("servers", array(fleet.servers.iter().map(|each| server(fleet, each)))),
-        ("groups", array(fleet.groups.iter().map(|each| group(fleet, each)))),
-        ("classes", array((0..fleet.classes.len()).map(|each| class(fleet, each)))),
-        ("moves", if fleet.classes.len() > MOST_LISTED { Json::Null } else { array(moves(fleet)) }),
-        ("pools", array(fleet.pools.iter().map(|each| pool(fleet, each)))),
-        ("features", array(differing::features(&fleet.classes).iter().flat_map(|each| feature(fleet, each)))),
-        ("apart", array(differing::apart(&fleet.groups.iter().collect::<Vec<_>>(), &fleet.classes).iter().map(|each| apart(fleet, each)))),
-        ("unpromised", array(fleet.moves.unpromised.iter().map(|(from, to, why)| unpromised(place(from), place(to), why)))),
-        ("unlike", array(fleet.moves.unlike.iter().map(|(server, why)| unlike(fleet, *server, why)))),
-        ("not_read", array(fleet.not_read.iter().map(|each| object([("file", each.file.as_str().into()), ("why", each.why.as_str().into())])))),
-    ])
+        ("servers", Part::items(fleet.servers.iter().map(move |each| server(fleet, each, &fingerprints)))),
+        ("groups", Part::items(fleet.groups.iter().map(|each| group(fleet, each)))),
+        ("classes", Part::items((0..fleet.classes.len()).map(|each| class(fleet, each)))),
+        ("moves", if fleet.classes.len() > MOST_LISTED { Json::Null.into() } else { Part::items(moves(fleet)) }),
+        ("pools", Part::items(fleet.pools.iter().map(|each| pool(fleet, each)))),
+        ("features", array(differing::features(&fleet.classes).iter().flat_map(|each| feature(fleet, each))).into()),
+        ("apart", array(apart_in.iter().map(|each| apart(fleet, each))).into()),
+        ("unpromised", Part::items(fleet.moves.unpromised.iter().map(move |(from, to, why)| unpromised(place(from), place(to), why)))),
+        ("unlike", Part::items(fleet.moves.unlike.iter().map(|(server, why)| unlike(fleet, *server, why)))),
+        ("not_read", Part::items(fleet.not_read.iter().map(unread))),
+    ];
+    Part::Members(members.into_iter().chain(since.map(|since| ("since", since))).collect())
 }
 
 fn names(fleet: &Fleet, classes: &[usize]) -> Json {
     array(classes.iter().map(|class| fleet.classes[*class].name.as_str()))
 }
 
-fn server(fleet: &Fleet, server: &Server) -> Json {
-    let source = &server.source;
-    let fingerprint = if let Answer::Class(class) = server.answer { Some(fleet.classes[class].fingerprint.to_string()) } else { None };
-    let (answer, class, refusal, why) = match &server.answer {
-        Answer::Class(class) => ("accepted", fleet.classes[*class].name.as_str().into(), Json::Null, Json::Null),
-        Answer::Refused(refusal) => {
-            let reason = fleet.building.reason(*refusal, server.pages().unwrap_or_default());
-            ("refused", Json::Null, refusal_json(*refusal, &reason), Json::Null)
-        }
-        Answer::Unread(why) => ("not read", Json::Null, Json::Null, why.as_str().into()),
+/// A server; the fingerprints are those of the classes.
+fn server(fleet: &Fleet, server: &Server, fingerprints: &[String]) -> Json {
+    let class = server.class();
+    let (answer, refusal, why) = match server.answer {
+        Answer::Class { .. } => ("accepted", Json::Null, Json::Null),
+        Answer::Without(why) => match &fleet.whys[why as usize] {
+            Why::Refused { reason, .. } => ("refused", reason.clone(), Json::Null),
+            Why::Unread(why) => ("not read", Json::Null, why.as_str().into()),
+        },
     };
     object([
-        ("name", source.name.as_str().into()),
-        ("file", source.file.as_str().into()),
-        ("kind", source.kind.name().into()),
+        ("name", server.name().into()),
+        ("file", server.file().into()),
+        ("kind", server.kind.name().into()),
         ("answer", answer.into()),
-        ("class", class),
-        ("fingerprint", fingerprint.into()),
+        ("class", class.map(|class| fleet.classes[class].name.as_str()).into()),
+        ("fingerprint", class.map(|class| fingerprints[class].as_str()).into()),
         ("refusal", refusal),
         ("why", why),
     ])
@@ -96,7 +98,7 @@ fn class(fleet: &Fleet, place: usize) -> Json {
         ("name", name.as_str().into()),
         ("fingerprint", fingerprint.to_string().into()),
         ("group", fleet.groups[*group].letter.as_str().into()),
-        ("servers", array(servers.iter().map(|server| fleet.servers[*server].source.name.as_str()))),
+        ("servers", array(fleet.names(servers))),
         ("row_count", table.rows().count().into()),
         ("combined_mask", format!("{:08X}", table.max_extended_state()).into()),
         ("save_area_bytes", groups::save_area(table).into()),
@@ -107,9 +109,9 @@ fn class(fleet: &Fleet, place: usize) -> Json {
 }
 
 /// Every ordered pair of classes.
-fn moves(fleet: &Fleet) -> Vec<Json> {
+fn moves(fleet: &Fleet) -> impl Iterator<Item = Json> {
     let pairs = (0..fleet.classes.len()).flat_map(|from| (0..fleet.classes.len()).map(move |to| (from, to)));
-    pairs.filter(|(from, to)| from != to).map(|(from, to)| one_move(&fleet.classes[from], &fleet.classes[to])).collect()
+    pairs.filter(|(from, to)| from != to).map(|(from, to)| one_move(&fleet.classes[from], &fleet.classes[to]))
 }
 
 fn one_move(from: &Class, to: &Class) -> Json {
@@ -171,5 +173,5 @@ fn unpromised(from: &str, to: &str, why: &Comparison) -> Json {
 
 fn unlike(fleet: &Fleet, server: usize, why: &[Comparison; 2]) -> Json {
     let [to, from] = why.each_ref().map(|answer| if *answer == Comparison::Rises { Json::Null } else { by_pages(answer).into() });
-    object([("server", fleet.servers[server].source.name.as_str().into()), ("to_it", to), ("from_it", from)])
+    object([("server", fleet.servers[server].name().into()), ("to_it", to), ("from_it", from)])
 }

@@ -1,13 +1,15 @@
 //! Where a guest may go: from a class to those that have at least its table, and what stands in the way elsewhere.
 
 use super::bits::{self, Bits, register_name, short_place};
+use super::entries::Entries;
 use super::groups::processor;
-use super::{Class, Group, Server};
+use super::{Answer, Class, Group, Server};
 use crate::building::Building;
 use crate::components;
 use crate::features::{self, EAX, ECX};
 use crate::{said, words};
 use snp_cpuid::{Comparison, Register, Table, TableComparison};
+use std::collections::HashMap;
 
 /// A group of more classes is not compared: that would take more than a second.
 pub const MOST_COMPARED: usize = 1000;
@@ -26,21 +28,26 @@ pub struct Moves {
 }
 
 impl Moves {
-    pub fn of(groups: &[Group], classes: &[Class], servers: &[Server], building: &Building) -> Moves {
+    pub fn of(groups: &[Group], classes: &[Class], servers: &[Server], entries: &[Entries], building: &Building) -> Moves {
         let rises: Vec<_> = classes.iter().enumerate().map(|(place, class)| rises(place, &groups[class.group], classes)).collect();
-        // an image has no pages
-        let first = |class: usize| classes[class].servers.iter().find_map(|server| servers[*server].pages());
+        let compared = |from: u32, to: u32| building.compare(&entries[from as usize].pages(), &entries[to as usize].pages());
+        // an image has no entries
+        let own = |server: &usize| if let Answer::Class { entries, .. } = servers[*server].answer { entries } else { None };
+        let firsts: Vec<Option<u32>> = classes.iter().map(|class| class.servers.iter().find_map(own)).collect();
         let few = |class: &usize| groups[classes[*class].group].classes.len() <= MOST_BY_PAGES;
         let allowed = rises.iter().enumerate().filter(|(class, _)| few(class));
         let pairs = allowed.flat_map(|(from, to)| to.iter().flatten().map(move |to| (from, *to)));
-        let asked = |(from, to)| Some((from, to, building.compare(first(from)?, first(to)?)));
+        let asked = |(from, to): (usize, usize)| Some((from, to, compared(firsts[from]?, firsts[to]?)));
         let unpromised = pairs.filter_map(asked).filter(|(.., answer)| no(answer)).collect();
-        let members = classes.iter().enumerate().flat_map(|(place, class)| class.servers.iter().map(move |server| (place, *server)));
-        let both = |(place, server): (usize, usize)| {
-            let (first, other) = (first(place)?, servers[server].pages()?);
-            Some((server, [building.compare(first, other), building.compare(other, first)]))
-        };
-        let unlike = members.filter_map(both).filter(|(_, answers)| answers.iter().any(no)).collect();
+        let mut unlike = vec![];
+        for (class, first) in classes.iter().zip(&firsts).filter_map(|(class, first)| Some((class, (*first)?))) {
+            let mut answers = HashMap::new();
+            let others = class.servers.iter().filter_map(|server| Some((*server, own(server)?))).filter(|(_, entries)| *entries != first);
+            for (server, entries) in others {
+                let answers = *answers.entry(entries).or_insert_with(|| [compared(first, entries), compared(entries, first)]);
+                unlike.extend(answers.iter().any(no).then_some((server, answers)));
+            }
+        }
         Moves { rises, unpromised, unlike }
     }
 }

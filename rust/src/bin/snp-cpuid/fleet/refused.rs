@@ -1,8 +1,7 @@
 //! Servers without a table: by the refusal's number, then by its words, those with SEV-SNP first.
 
-use super::{Answer, Server};
+use super::{Answer, Server, Why};
 use crate::meanings;
-use crate::standing::Standing;
 use std::collections::BTreeMap;
 
 /// Servers that one refusal was given for.
@@ -43,28 +42,31 @@ impl Refused {
 }
 
 /// The servers without a table, in the order of the refusals' numbers and words.
-pub fn together(servers: &[Server]) -> Vec<Refused> {
-    let mut reasons: BTreeMap<(u32, String), [Vec<usize>; 2]> = BTreeMap::new();
+pub fn together(servers: &[Server], whys: &[Why]) -> Vec<Refused> {
+    let mut by_why: Vec<Vec<usize>> = whys.iter().map(|_| vec![]).collect();
     for (place, server) in servers.iter().enumerate() {
-        let reason = match &server.answer {
-            Answer::Class(_) => continue,
-            Answer::Refused(refusal) => (refusal.number(), refusal.to_string()),
-            Answer::Unread(why) => (0, why.clone()),
+        if let Answer::Without(why) = server.answer {
+            by_why[why as usize].push(place);
+        }
+    }
+    let mut reasons: BTreeMap<(u32, String), [Vec<usize>; 2]> = BTreeMap::new();
+    for (why, servers) in whys.iter().zip(by_why) {
+        let (reason, has_snp) = match why {
+            Why::Refused { refusal, has_snp, .. } => ((refusal.number(), refusal.to_string()), *has_snp),
+            Why::Unread(words) => ((0, words.clone()), false),
         };
-        reasons.entry(reason).or_default()[usize::from(!has_snp(server))].push(place);
+        reasons.entry(reason).or_default()[usize::from(!has_snp)].extend(servers);
     }
     let mut together: Vec<Refused> = vec![];
-    for ((number, words), [with_snp, without]) in reasons {
+    for ((number, words), mut lots) in reasons {
         if together.last().is_none_or(|last| last.number != number) {
             together.push(Refused { number, place: meanings::place(number), told: vec![] });
         }
+        // one refusal in the same words may have several reasons
+        lots.iter_mut().for_each(|servers| servers.sort_unstable());
+        let [with_snp, without] = lots;
         together.last_mut().expect("it was put there").told.push(Told { words, with_snp, without });
     }
     together.iter_mut().for_each(|refused| refused.told.sort_by_key(|told| told.with_snp.is_empty()));
     together
-}
-
-/// Whether its processor has SEV-SNP, bit 4 of 8000001Fh.EAX.
-fn has_snp(server: &Server) -> bool {
-    server.pages().is_some_and(|pages| Standing::of(pages).masked(0x8000_001F, None)[0] >> 4 & 1 == 1)
 }

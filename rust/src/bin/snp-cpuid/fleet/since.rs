@@ -2,7 +2,7 @@
 
 use super::bits::{self, names};
 use super::text::{listed, many};
-use super::{Answer, Fleet, data};
+use super::{Fleet, data};
 use crate::differences::differences;
 use crate::json::{Json, array, object};
 use crate::json_read::{Value, parse};
@@ -76,8 +76,8 @@ fn tables(report: &Value) -> Option<BTreeMap<Fingerprint, Table>> {
 
 impl Since {
     pub fn of(fleet: &Fleet, before: &Before) -> Since {
-        let fingerprint = |answer: &Answer| if let Answer::Class(class) = answer { Some(fleet.classes[*class].fingerprint) } else { None };
-        let now: Gave = fleet.servers.iter().map(|server| (server.source.name.clone(), fingerprint(&server.answer))).collect();
+        let fingerprint = |class: usize| fleet.classes[class].fingerprint;
+        let now: Gave = fleet.servers.iter().map(|server| (server.name().to_string(), server.class().map(fingerprint))).collect();
         let apart = |a: &Gave, b: &Gave| a.keys().filter(|name| !b.contains_key(*name)).cloned().collect();
         let (came, went) = (apart(&now, &before.servers), apart(&before.servers, &now));
         let pairs = now.iter().filter_map(|(name, to)| Some((name, *before.servers.get(name)?, *to)));

@@ -8,6 +8,7 @@ use super::pools::Pool;
 use super::refused::{Refused, Told};
 use super::{Class, Fleet, Group};
 use crate::wrap::wrapped_in;
+use std::borrow::Borrow;
 use std::collections::{BTreeMap, HashMap};
 
 const COLUMNS: usize = 80;
@@ -46,7 +47,7 @@ pub fn listed(names: &[String]) -> String {
 }
 
 /// The first names, and how many more there are.
-fn folded(names: &[String]) -> String {
+fn folded<S: Borrow<str>>(names: &[S]) -> String {
     if names.len() <= NAMES + 1 { names.join(" ") } else { format!("{} and {} more", names[..NAMES].join(" "), names.len() - NAMES) }
 }
 
@@ -87,10 +88,6 @@ fn class_names(fleet: &Fleet, classes: &[usize]) -> Vec<String> {
     classes.iter().map(|class| fleet.classes[*class].name.clone()).collect()
 }
 
-fn server_names(fleet: &Fleet, servers: &[usize]) -> Vec<String> {
-    servers.iter().map(|server| fleet.servers[*server].source.name.clone()).collect()
-}
-
 /// What a group's processors are.
 pub fn described(group: &Group, classes: &[Class]) -> String {
     let table = &classes[group.classes.start].table;
@@ -111,7 +108,7 @@ fn classes(fleet: &Fleet) -> String {
             let lacks: Vec<String> = lacks.into_iter().map(String::from).collect();
             let without = if lacks.is_empty() { String::new() } else { format!("; without {}", folded(&lacks)) };
             let label = format!("   {:5}{:.8}{:>5}  ", class.name, class.fingerprint, class.servers.len());
-            text += &wrapped(&label, &(folded(&server_names(fleet, &class.servers)) + &without));
+            text += &wrapped(&label, &(folded(&fleet.names(&class.servers)) + &without));
         }
         text += &more_classes(group);
     }
@@ -235,8 +232,9 @@ fn pooled(fleet: &Fleet, pool: &Pool) -> String {
     let mut text = wrapped(&format!("   {:6}", pool_name(fleet, pool)), &format!("{servers} in {classes}, {without}"));
     for (lacking, names) in losses(pool).iter().take(CLASSES) {
         let cost = if lacking.len() == 1 { "costs" } else { "together cost" };
-        let servers: Vec<usize> = lacking.iter().flat_map(|class| fleet.classes[*class].servers.iter().copied()).collect();
-        let servers = if servers.len() <= NAMED { server_names(fleet, &servers).join(" ") } else { many(servers.len(), "server") };
+        let named = || lacking.iter().flat_map(|class| fleet.names(&fleet.classes[*class].servers)).collect::<Vec<_>>().join(" ");
+        let servers = servers_of(fleet, lacking);
+        let servers = if servers <= NAMED { named() } else { many(servers, "server") };
         text += &wrapped("         ", &format!("{} ({servers}) {cost} {}", folded_list(&class_names(fleet, lacking)), folded(names)));
     }
     text
@@ -271,7 +269,7 @@ fn refused(fleet: &Fleet) -> String {
         return String::new();
     }
     let told = |told: &Told| {
-        let lot = |(label, servers): (&str, &[usize])| wrapped("         ", &format!("{label}: {}", server_names(fleet, servers).join(" ")));
+        let lot = |(label, servers): (&str, &[usize])| wrapped("         ", &format!("{label}: {}", fleet.names(servers).join(" ")));
         wrapped("      ", &told.words) + &told.lots().map(lot).collect::<String>()
     };
     let number = |refused: &Refused| {
@@ -287,15 +285,15 @@ pub const ADVICE: &str = "'snp-cpuid table FILE' says what a refusal rests on an
 
 /// What gave no server, or gave nothing of one: by the reason.
 fn not_read(fleet: &Fleet) -> String {
-    let mut reasons: BTreeMap<&str, Vec<String>> = BTreeMap::new();
+    let mut reasons: BTreeMap<&str, Vec<&str>> = BTreeMap::new();
     for refused in fleet.refused.iter().filter(|refused| refused.number == 0) {
-        refused.told.iter().for_each(|told| reasons.entry(&told.words).or_default().extend(server_names(fleet, &told.servers())));
+        refused.told.iter().for_each(|told| reasons.entry(&told.words).or_default().extend(fleet.names(&told.servers())));
     }
-    fleet.not_read.iter().for_each(|unread| reasons.entry(&unread.why).or_default().push(unread.file.clone()));
+    fleet.not_read.iter().for_each(|unread| reasons.entry(&unread.why).or_default().push(&unread.file));
     if reasons.is_empty() {
         return String::new();
     }
-    let told = |(why, files): (&&str, &Vec<String>)| wrapped("   ", &files.join(" ")) + &wrapped("      ", why);
+    let told = |(why, files): (&&str, &Vec<&str>)| wrapped("   ", &files.join(" ")) + &wrapped("      ", why);
     format!("Not read\n{}", reasons.iter().map(told).collect::<String>())
 }
 
@@ -308,7 +306,7 @@ fn notes(fleet: &Fleet) -> String {
         .map(|(from, to, answer)| format!("{} to {} ({})", fleet.classes[*from].name, fleet.classes[*to].name, by_pages(answer)));
     let unlike = fleet.moves.unlike.iter().map(|(server, answers)| {
         let first = answers.iter().find(|answer| **answer != snp_cpuid::Comparison::Rises);
-        format!("{} ({})", fleet.servers[*server].source.name, first.map(by_pages).unwrap_or_default())
+        format!("{} ({})", fleet.servers[*server].name(), first.map(by_pages).unwrap_or_default())
     });
     let (moves, unlike): (Vec<String>, Vec<String>) = (moves.collect(), unlike.collect());
     if moves.is_empty() && unlike.is_empty() {

@@ -221,7 +221,7 @@ fn group_rows(fleet: &Fleet, group: &Group) -> String {
 }
 
 fn server_names(fleet: &Fleet, servers: &[usize]) -> Vec<String> {
-    servers.iter().map(|server| name(&fleet.servers[*server].source.name)).collect()
+    servers.iter().map(|server| name(fleet.servers[*server].name())).collect()
 }
 
 fn class_row(fleet: &Fleet, place: usize) -> String {

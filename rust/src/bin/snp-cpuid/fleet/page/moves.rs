@@ -121,7 +121,7 @@ fn notes(fleet: &Fleet) -> String {
         unpromised.iter().map(|(from, to, why)| format!("{} to {} ({})", link(fleet, *from), link(fleet, *to), by_pages(why))).collect();
     let servers = unlike.iter().map(|(server, answers)| {
         let first = answers.iter().find(|answer| **answer != Comparison::Rises).map(by_pages).unwrap_or_default();
-        format!("{} ({first})", name(&fleet.servers[*server].source.name))
+        format!("{} ({first})", name(fleet.servers[*server].name()))
     });
     let servers: Vec<String> = servers.collect();
     let mut text = format!("<p class=\"note\">{} {}", mark("half", ""), escaped(NOTE));
