@@ -93,6 +93,17 @@ fn the_first_failure_is_told() {
     }
 }
 
+/// A report of before may be longer than a server's file may.
+#[test]
+fn a_long_report_of_before() {
+    let folder = Folder::new("fleet_long_report");
+    let fleet = folder.file("a.pages", set(&epyc()));
+    let report = run(&["fleet", &fleet, "--json"]).out;
+    let old = folder.file("old.json", [vec![b' '; 65 << 20], report].concat());
+    let ran = run(&["fleet", &fleet, "--since", &old]);
+    assert_eq!((ran.status, ran.text().ends_with(&format!("\nSince {old}: 0 servers changed\n"))), (0, true), "{}", ran.err);
+}
+
 /// At a terminal, which Debian's `script` gives, one line says how far the reading is, and it is cleared before the report.
 #[test]
 fn progress_at_a_terminal() {

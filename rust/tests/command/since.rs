@@ -91,3 +91,28 @@ fn reports_that_cannot_be_read() {
     let ran = run(&["fleet", &fleet, "--since", "no/such"]);
     assert!(ran.status == 2 && ran.line().starts_with("no/such: "), "{ran:?}");
 }
+
+/// Names of any characters come back from a report, whatever stands around them; of a member that stands twice the first counts.
+#[test]
+fn a_report_is_read_as_it_was_written() {
+    let folder = Folder::new("since_names");
+    fs::create_dir(folder.path("fleet")).unwrap();
+    for name in ["\"quoted\"", "<b>&amp;", "back\\slash", "\u{E4}\u{2028}\u{1F600}", "tab\tand\nline"] {
+        folder.file(&format!("fleet/{name}"), set(&epyc()));
+    }
+    let fleet = folder.path("fleet");
+    let text = String::from_utf8(run(&["fleet", &fleet, "--json"]).out).unwrap();
+    for (old, status) in [
+        (text.clone(), 0),
+        (text.replace('\n', " \r\n\t"), 0),
+        (text.replacen("\"version\": 1", "\"version\": 1, \"version\": 2, \"more\": [{\"x\": [null, -1.5e3]}, []]", 1), 0),
+        (text.replacen("\"version\": 1", "\"version\": 2, \"version\": 1", 1), 2),
+        (text.replacen("\"servers\": [", "\"servers\": 1, \"servers\": [", 1), 2),
+        (text.clone() + "0", 2),
+    ] {
+        let file = folder.file("old.json", &old);
+        let ran = run(&["fleet", &fleet, "--since", &file]);
+        assert_eq!(ran.status, status, "{}", ran.err);
+        assert!(status == 2 || told(&ran) == format!("Since {file}: 0 servers changed\n"), "{}", ran.text());
+    }
+}

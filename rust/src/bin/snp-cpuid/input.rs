@@ -39,14 +39,20 @@ pub fn reason(error: &io::Error) -> String {
 /// The bytes of a file, or of standard input for `-`.
 pub fn read(name: &OsStr) -> Result<Vec<u8>, Failure> {
     let mut bytes = Vec::with_capacity(ROOM);
-    let result = if name == "-" {
-        io::stdin().lock().take(MOST_BYTES + 1).read_to_end(&mut bytes)
-    } else {
-        File::open(name).and_then(|file| file.take(MOST_BYTES + 1).read_to_end(&mut bytes))
-    };
+    let result = open(name).and_then(|file| file.take(MOST_BYTES + 1).read_to_end(&mut bytes));
     match result {
-        Err(error) => Err(Failure::Bad(format!("{}: {}", shown(name), reason(&error)))),
+        Err(error) => Err(not_read(name, &error)),
         Ok(_) if bytes.len() as u64 > MOST_BYTES => Err(Failure::Bad(format!("{}: longer than 64 MiB", shown(name)))),
         Ok(_) => Ok(bytes),
     }
+}
+
+/// A file, or standard input for `-`.
+pub fn open(name: &OsStr) -> io::Result<Box<dyn Read>> {
+    Ok(if name == "-" { Box::new(io::stdin().lock()) } else { Box::new(File::open(name)?) })
+}
+
+/// A file that cannot be read.
+pub fn not_read(name: &OsStr, error: &io::Error) -> Failure {
+    Failure::Bad(format!("{}: {}", shown(name), reason(error)))
 }

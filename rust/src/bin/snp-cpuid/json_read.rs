@@ -1,4 +1,6 @@
-//! JSON (RFC 8259), read: what `fleet` has written before.
+//! JSON (RFC 8259), read as it comes: what `fleet` has written before.
+
+use std::io::{self, BufRead};
 
 /// A value. A number is kept as its text, and of an object that names a member twice the first counts.
 #[derive(Debug, PartialEq, Eq)]
@@ -12,14 +14,6 @@ pub enum Value {
 
 /// So deep may arrays and objects stand in each other.
 const DEEPEST: usize = 32;
-
-/// The value of a whole text.
-pub fn parse(text: &str) -> Option<Value> {
-    let mut reader = Reader { rest: text };
-    let value = reader.value(0)?;
-    reader.skip();
-    reader.rest.is_empty().then_some(value)
-}
 
 impl Value {
     /// A member of an object.
@@ -35,59 +29,137 @@ impl Value {
     pub fn word(&self) -> Option<&str> {
         if let Value::Word(word) = self { Some(word) } else { None }
     }
-
-    pub fn items(&self) -> Option<&[Value]> {
-        if let Value::Array(items) = self { Some(items) } else { None }
-    }
 }
 
-struct Reader<'a> {
-    rest: &'a str,
+/// A text that is read from front to back; nothing is kept of what was read. Where it is no JSON, every answer is none.
+pub struct Reader<R> {
+    input: R,
+    /// how many arrays and objects the next value stands in
+    depth: usize,
+    /// why no more can be read
+    pub failed: Option<io::Error>,
 }
 
-impl Reader<'_> {
-    fn skip(&mut self) {
-        self.rest = self.rest.trim_start_matches([' ', '\t', '\n', '\r']);
+impl<R: BufRead> Reader<R> {
+    pub fn new(input: R) -> Reader<R> {
+        Reader { input, depth: 0, failed: None }
     }
 
-    /// Passes over a character, where it stands next.
-    fn take(&mut self, wanted: char) -> bool {
+    /// The whole text: an object, whose members are read by the function that is given, or any other value.
+    pub fn whole(&mut self, mut member: impl FnMut(&mut Self, &str) -> Option<()>) -> Option<()> {
+        if self.is_next(b'{') {
+            self.parts([b'{', b'}'], |reader| reader.name().and_then(|name| member(reader, &name)))?;
+        } else {
+            self.value()?;
+        }
         self.skip();
-        let rest = self.rest.strip_prefix(wanted);
-        self.rest = rest.unwrap_or(self.rest);
-        rest.is_some()
+        self.peek().is_none().then_some(())
     }
 
-    fn value(&mut self, depth: usize) -> Option<Value> {
+    /// The items of an array, one by one, and whether the next value is one.
+    pub fn items(&mut self, mut item: impl FnMut(Value)) -> Option<bool> {
+        let is_array = self.is_next(b'[');
+        if is_array {
+            self.parts([b'[', b']'], |reader| reader.value().map(&mut item))?
+        } else {
+            drop(self.value()?)
+        }
+        Some(is_array)
+    }
+
+    /// The next value.
+    pub fn value(&mut self) -> Option<Value> {
         self.skip();
-        match self.rest.chars().next()? {
-            _ if depth > DEEPEST => None,
-            '{' => self.parts('{', '}', |reader| reader.member(depth)).map(Value::Object),
-            '[' => self.parts('[', ']', |reader| reader.value(depth + 1)).map(Value::Array),
-            '"' => self.string().map(Value::Text),
+        match self.peek()? {
+            _ if self.depth > DEEPEST => None,
+            b'{' => {
+                let mut members = vec![];
+                self.parts([b'{', b'}'], |reader| {
+                    members.push((reader.name()?, reader.value()?));
+                    Some(())
+                })?;
+                Some(Value::Object(members))
+            }
+            b'[' => {
+                let mut items = vec![];
+                self.parts([b'[', b']'], |reader| reader.value().map(|item| items.push(item)))?;
+                Some(Value::Array(items))
+            }
+            b'"' => self.string().map(Value::Text),
             _ => self.word().map(Value::Word),
         }
     }
 
-    fn member(&mut self, depth: usize) -> Option<(String, Value)> {
+    fn peek(&mut self) -> Option<u8> {
+        self.ahead(|bytes| bytes.first().copied())?
+    }
+
+    fn next(&mut self) -> Option<u8> {
+        let byte = self.peek()?;
+        self.input.consume(1);
+        Some(byte)
+    }
+
+    /// What a function makes of the bytes that can be read next, which are none at the end.
+    fn ahead<T>(&mut self, made: impl FnOnce(&[u8]) -> T) -> Option<T> {
+        self.input.fill_buf().map(made).map_err(|error| self.failed = Some(error)).ok()
+    }
+
+    /// Passes over bytes up to the first that is not wanted, and gives them to a function.
+    fn run(&mut self, wanted: impl Fn(&u8) -> bool, mut passed: impl FnMut(&[u8])) {
+        let mut is_over = false;
+        while !is_over {
+            let run = self.ahead(|bytes| {
+                let run = bytes.iter().position(|byte| !wanted(byte)).unwrap_or(bytes.len());
+                passed(&bytes[..run]);
+                is_over = run < bytes.len() || bytes.is_empty();
+                run
+            });
+            match run {
+                Some(run) => self.input.consume(run),
+                None => return,
+            }
+        }
+    }
+
+    fn skip(&mut self) {
+        self.run(|byte| b" \t\n\r".contains(byte), |_| {});
+    }
+
+    /// Whether a byte stands next.
+    fn is_next(&mut self, wanted: u8) -> bool {
+        self.skip();
+        self.peek() == Some(wanted)
+    }
+
+    /// Passes over a byte, where it stands next.
+    fn take(&mut self, wanted: u8) -> bool {
+        let there = self.is_next(wanted);
+        self.input.consume(usize::from(there));
+        there
+    }
+
+    /// The name of a member, and the colon behind it.
+    fn name(&mut self) -> Option<String> {
         self.skip();
         let name = self.string()?;
-        if self.take(':') { Some((name, self.value(depth + 1)?)) } else { None }
+        self.take(b':').then_some(name)
     }
 
     /// What stands between two brackets, with commas.
-    fn parts<T>(&mut self, open: char, close: char, mut part: impl FnMut(&mut Self) -> Option<T>) -> Option<Vec<T>> {
+    fn parts(&mut self, [open, close]: [u8; 2], mut part: impl FnMut(&mut Self) -> Option<()>) -> Option<()> {
         self.take(open);
-        let mut found = vec![];
         if self.take(close) {
-            return Some(found);
+            return Some(());
         }
+        self.depth += 1;
         loop {
-            found.push(part(self)?);
+            part(self)?;
             if self.take(close) {
-                return Some(found);
+                self.depth -= 1;
+                return Some(());
             }
-            if !self.take(',') {
+            if !self.take(b',') {
                 return None;
             }
         }
@@ -95,35 +167,41 @@ impl Reader<'_> {
 
     /// null, true, false or a number.
     fn word(&mut self) -> Option<String> {
-        let end = self.rest.find(|c: char| !(c.is_ascii_alphanumeric() || "+-.".contains(c))).unwrap_or(self.rest.len());
-        let (word, rest) = self.rest.split_at(end);
-        self.rest = rest;
-        (["null", "true", "false"].contains(&word) || word.parse::<f64>().is_ok()).then(|| word.into())
+        let mut bytes = vec![];
+        self.run(|byte| byte.is_ascii_alphanumeric() || b"+-.".contains(byte), |run| bytes.extend(run));
+        let word = String::from_utf8(bytes).ok()?;
+        (["null", "true", "false"].contains(&word.as_str()) || word.parse::<f64>().is_ok()).then_some(word)
     }
 
     fn string(&mut self) -> Option<String> {
-        let mut text = String::new();
-        let mut chars = self.rest.strip_prefix('"')?.chars();
-        loop {
-            match chars.next()? {
-                '"' => break,
-                '\\' => text.push(match chars.next()? {
-                    'n' => '\n',
-                    'r' => '\r',
-                    't' => '\t',
-                    'b' => '\u{8}',
-                    'f' => '\u{C}',
-                    'u' => {
-                        let code = u32::from_str_radix(chars.as_str().get(..4)?, 16).ok()?;
-                        chars = chars.as_str()[4..].chars();
-                        char::from_u32(code)?
-                    }
-                    other => other,
-                }),
-                c => text.push(c),
-            }
+        let mut bytes = vec![];
+        if self.next()? != b'"' {
+            return None;
         }
-        self.rest = chars.as_str();
-        Some(text)
+        loop {
+            self.run(|byte| !b"\"\\".contains(byte), |run| bytes.extend(run));
+            if self.next()? == b'"' {
+                return String::from_utf8(bytes).ok();
+            }
+            let escaped = match self.next()? {
+                b'n' => '\n',
+                b'r' => '\r',
+                b't' => '\t',
+                b'b' => '\u{8}',
+                b'f' => '\u{C}',
+                b'u' => self.code()?,
+                other => other.into(),
+            };
+            bytes.extend(escaped.encode_utf8(&mut [0; 4]).as_bytes());
+        }
+    }
+
+    /// A character by its number of four hexadecimal digits.
+    fn code(&mut self) -> Option<char> {
+        let mut code = 0;
+        for _ in 0..4 {
+            code = 16 * code + char::from(self.next()?).to_digit(16)?;
+        }
+        char::from_u32(code)
     }
 }

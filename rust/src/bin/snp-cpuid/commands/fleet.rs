@@ -6,7 +6,7 @@ use crate::command::Command;
 use crate::failure::Failure;
 use crate::fleet::since::{Before, Since};
 use crate::fleet::{Fleet, data, page, text};
-use crate::input::{read, shown};
+use crate::input::shown;
 use crate::option::{Opt, Value};
 use crate::{json, output, processor};
 use std::ffi::OsStr;
@@ -71,11 +71,13 @@ fn run(arguments: &Arguments) -> Result<(), Failure> {
         return Err(Failure::usage(COMMAND.name, "--html - and --json both go to standard output"));
     }
     let fleet = Fleet::of(&arguments.operands, building, arguments.has(&processor::VIEW))?;
-    let since = arguments.value(SINCE.name()).map(|file| since(file, &fleet)).transpose()?;
+    let old = arguments.value(SINCE.name()).map(|file| Ok((shown(file), Before::read(file, &fleet)?))).transpose()?;
+    let since = old.as_ref().map(|(file, before)| (file, Since::of(&fleet, before)));
     let report: Box<dyn Iterator<Item = String>> = if building.json() {
-        Box::new(data::of(&fleet, since.as_ref().map(|(file, since)| since.json(file).into())).text())
+        Box::new(data::of(&fleet, since.as_ref().map(|(file, since)| since.json(file))).text())
     } else {
-        Box::new([text::of(&fleet)].into_iter().chain(since.iter().map(|(file, since)| format!("\n{}", since.text(file)))))
+        let changes = since.iter().flat_map(|(file, since)| ["\n".to_string()].into_iter().chain(since.text(file)));
+        Box::new([text::of(&fleet)].into_iter().chain(changes))
     };
     match arguments.value(HTML.name()) {
         None => output::print_parts(report)?,
@@ -87,12 +89,4 @@ fn run(arguments: &Arguments) -> Result<(), Failure> {
     }
     let well = since.as_ref().map_or(fleet.accepted() == fleet.servers.len(), |(_, since)| !since.has_changes());
     if well { Ok(()) } else { Err(Failure::AnswerNo) }
-}
-
-/// What changed since the report of a file, with the file's name.
-fn since(file: &OsStr, fleet: &Fleet) -> Result<(String, Since), Failure> {
-    let bad = |why: String| Failure::Bad(format!("{}: {why}", shown(file)));
-    let text = String::from_utf8(read(file)?).map_err(|_| bad("is no JSON".into()))?;
-    let before = Before::read(&text, fleet).map_err(bad)?;
-    Ok((shown(file), Since::of(fleet, &before)))
 }
