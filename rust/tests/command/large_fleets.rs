@@ -23,26 +23,17 @@ fn copies(folder: &Folder, files: &[&str], number: usize) -> String {
 #[test]
 fn a_fleet_sixty_times() {
     let folder = Folder::new("fleet_sixty");
-    let one = folder.path("one");
-    fs::create_dir(&one).unwrap();
     small(&folder);
     folder.file("u1.pages", set(&with(7, 0, 1, |ebx| ebx | 1 << 16)));
-    let files: Vec<String> = folder.names().into_iter().filter_map(|name| name.strip_suffix(".pages").map(String::from)).collect();
-    let sixty = copies(&folder, &files.iter().map(String::as_str).collect::<Vec<_>>(), 60);
-    files.iter().for_each(|file| drop(fs::rename(folder.path(&format!("{file}.pages")), format!("{one}/{file}.pages"))));
-    let text = run(&["fleet", &sixty]);
+    let names = folder.names();
+    let few = run(&["fleet", &folder.path(""), "--json"]).out;
+    let sixty = copies(&folder, &names.iter().map(|name| name.trim_end_matches(".pages")).collect::<Vec<_>>(), 60);
+    let (text, json) = (run(&["fleet", &sixty]), run(&["fleet", &sixty, "--json"]));
     assert!(text.text().starts_with("600 servers: 480 accepted in 5 classes, 120 refused\n"), "{}", text.text());
-    let [json, page] = ["--json", "--html"].map(|form| {
-        let words = ["fleet", &sixty, form, "-"];
-        let words = if form == "--json" { &words[..3] } else { &words };
-        run(words)
-    });
     for _ in 0..4 {
         assert_eq!(run(&["fleet", &sixty]), text);
         assert_eq!(run(&["fleet", &sixty, "--json"]), json);
     }
-    assert_eq!(run(&["fleet", &sixty, "--html", "-"]).out, page.out);
-    let few = run(&["fleet", &one, "--json"]).out;
     for (of_one, of_sixty) in [
         (
             "[.classes[] | [.name, .fingerprint, 60 * (.servers | length), .lacks, .may_go_to]]",
