@@ -12,7 +12,7 @@ use Rattle.bits.specs.Choice.{pick}
 use Rattle.bits.specs.Lists.{tabulate}
 use Rattle.bits.specs.ListsLaws.{tabulate-at}
 use Rattle.masking.specs.Kept.{places}
-use Rattle.masking.specs.KeptLaws.{madeHere}
+use Rattle.masking.specs.Place.{madeHere}
 use Rattle.masking.specs.Place
 use Rattle.table.specs.declared.CpuidResults.{CpuidResults}
 use Rattle.table.specs.Table.{rowIn}

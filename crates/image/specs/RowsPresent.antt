@@ -13,7 +13,7 @@ use Rattle.bits.specs.Lists.{tabulate}
 use Rattle.bits.specs.ListsLaws.{tabulate-at}
 use Rattle.bits.specs.Bits.{has}
 use Rattle.masking.specs.Kept.{places}
-use Rattle.masking.specs.KeptLaws.{madeHere}
+use Rattle.masking.specs.Place.{madeHere}
 use Rattle.masking.specs.Place
 use Rattle.table.specs.Rows.{Rows}
 use Rattle.checks.specs.ExtendedState.{combinedMask}

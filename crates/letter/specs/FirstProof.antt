@@ -13,7 +13,8 @@ use Rattle.x86defs.specs.declared.CpuidFunction.{CpuidFunction}
 use Rattle.pages.specs.Layout.{Entry}
 use Rattle.x86defs.specs.Functions.{function}
 use Rattle.masking.specs.Kept.{keptLeaves, placeOf, slot, leafAt, subleafAt, indexedAt}
-use Rattle.masking.specs.KeptLaws.{madeHere, place-of-slot, Belongs, entry-belongs}
+use Rattle.masking.specs.Place.{madeHere}
+use Rattle.masking.specs.KeptLaws.{place-of-slot, Belongs, entry-belongs}
 use Rattle.table.specs.declared.Subleaf.the-variants.{None, Some}
 use Rattle.table.specs.Rows.{Row, vacant}
 use Rattle.collect.specs.FirstEntries.{firstAt, placeOfEntry}

@@ -15,7 +15,8 @@ use Rattle.bits.specs.ListsLaws.{tabulate-at}
 use Rattle.x86defs.specs.declared.CpuidFunction.{CpuidFunction}
 use Rattle.x86defs.specs.Functions.{function, sameFunction, VendorAndMaxFunction, ExtendedMaxFunction}
 use Rattle.masking.specs.Kept.{keptLeaves, placeOf, slot, leafAt, indexedAt, subleafAt}
-use Rattle.masking.specs.KeptLaws.{madeHere, place-of-slot, Belongs, entry-belongs}
+use Rattle.masking.specs.Place.{madeHere}
+use Rattle.masking.specs.KeptLaws.{place-of-slot, Belongs, entry-belongs}
 use Rattle.table.specs.declared.Choices.{Choices}
 use Rattle.table.specs.declared.Subleaf.{Subleaf}
 use Rattle.table.specs.declared.Subleaf.the-variants.{None, Some}

@@ -1,7 +1,7 @@
 -- The places of the table of kept leaves. There are 88. Each named place is the one that the table gives. The leaf and the subleaf of a place
 -- lead back to it. An entry that goes to a place has that place's leaf and, if the place has a subleaf, that subleaf.
 use mathlib.Core.Path.{_≡_, refl, ap, subst}
-use mathlib.Core.Bool.{Bool, true, false, _&&_, _||_, false≢true}
+use mathlib.Core.Bool.{Bool, true, false, _&&_, false≢true}
 use mathlib.Core.List.{List, [], _∷_}
 use Prim.Native.Nat.{ℕ, _+_, _-_, _≤_, _<_}
 use native.Mathlib.Nat.{sub-zero}
@@ -16,6 +16,7 @@ use Rattle.x86defs.specs.Functions.{function, sameFunction, VendorAndMaxFunctio
 use Rattle.masking.specs.Kept.{Span, Kept, keptLeaves, placesOf, places, subleafOf, hasSubleaf, takes, within, placeFrom, placeOf, Slot, slotIn, slot, leafAt, subleafAt}
 use Rattle.masking.specs.Kept.Span.{made, whole, subleaves}
 use Rattle.masking.specs.Place
+use Rattle.masking.specs.Place.{madeHere}
 
 same-function : (a b : CpuidFunction) → sameFunction a b ≡ true → a ≡ b
 same-function a b e = ap function (eqb-true (a .0) (b .0) e)
@@ -64,10 +65,6 @@ named-subleaves = refl
 pub extended-state-place : (k : ℕ) → k < 64 → placeOf ExtendedStateEnumeration k ≡ Place.extendedState k
 unfolding placeOf keptLeaves
 extended-state-place k h = eqb-true _ _ (every-at (λ k. eqb (placeOf ExtendedStateEnumeration k) (Place.extendedState k)) 64 refl k h)
-
--- the places of leaves 0 and 80000000h, to which no entry goes: the builder makes their rows
-abbrev pub madeHere : ℕ → Bool
-madeHere i = eqb i Place.vendorAndMaxFunction || eqb i Place.extendedMaxFunction
 
 pub made-leaves :
     leafAt Place.vendorAndMaxFunction ∷ leafAt Place.extendedMaxFunction ∷ [] ≡ VendorAndMaxFunction ∷ ExtendedMaxFunction ∷ []

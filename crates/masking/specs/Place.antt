@@ -1,5 +1,7 @@
 -- The places that have a name. `KeptLaws` shows that each is the place that the table of kept leaves gives.
+use mathlib.Core.Bool.{Bool, _||_}
 use Prim.Native.Nat.{ℕ, _+_}
+use lib.Dec.{eqb}
 
 abbrev pub vendorAndMaxFunction : ℕ
 vendorAndMaxFunction = 0
@@ -45,3 +47,7 @@ processorTopologyDefinition = 86
 
 abbrev pub extendedSevFeatures : ℕ
 extendedSevFeatures = 87
+
+-- the places of leaves 0 and 80000000h, to which no entry goes: the builder makes their rows
+abbrev pub madeHere : ℕ → Bool
+madeHere i = eqb i vendorAndMaxFunction || eqb i extendedMaxFunction

@@ -17,7 +17,7 @@ use Rattle.x86defs.specs.Functions.{function, result}
 use Rattle.pages.specs.Layout.{Entry}
 use Rattle.pages.specs.Entries as Entries
 use Rattle.masking.specs.Kept.{leafAt, masksAt}
-use Rattle.masking.specs.KeptLaws.{madeHere}
+use Rattle.masking.specs.Place.{madeHere}
 use Rattle.topology.specs.Topology.{Inputs, inputs}
 use Rattle.topology.specs.declared.TopologyError.the-variants.{ThreadsPerUnit}
 use Rattle.table.specs.declared.Subleaf.{Subleaf}
