@@ -15,6 +15,7 @@ from pathlib import Path
 import re
 import sys
 
+import made_files
 import refusal_list
 from proved_source import PLAIN, Unlisted, constant, functions, structs
 
@@ -165,38 +166,22 @@ def header(interface, text):
 
 
 def made(root):
-    """{path: its text as it should be}."""
+    """{path: its text as it should be}, and how many parts the interface has."""
     interface = Interface(root)
     read = {path: (root / path).read_text(encoding='utf-8') for path in ('include/snp_cpuid.h', 'docs/EMBEDDING.md')}
-    return interface, {
+    texts = {
         'include/snp_cpuid.h': header(interface, read['include/snp_cpuid.h']),
         'rust/src/exports.rs': interface.rust(),
         'rust/src/refusal_list.rs': refusal_list.rust_list(root, interface.refusals),
         'tests/c/layout.h': interface.layout(),
         'docs/EMBEDDING.md': between(read['docs/EMBEDDING.md'], 'refusals', '\n' + refusal_list.markdown(interface.refusals) + '\n'),
     }
+    parts = len(interface.structs), len(interface.functions), len(interface.refusals)
+    return texts, f'{sum(parts)} parts: {parts[0]} structs, {parts[1]} functions and {parts[2]} refusals in {len(texts)} files'
 
 
 def main(words, root=ROOT):
-    if words not in (['--write'], ['--check']):
-        print(__doc__.strip())
-        return 2
-    try:
-        interface, texts = made(root)
-    except Unlisted as why:
-        print(why)
-        return 1
-    status = 0
-    for path, text in texts.items():
-        there = root / path
-        if words == ['--write']:
-            there.write_text(text, encoding='utf-8')
-        elif not there.is_file() or there.read_text(encoding='utf-8') != text:
-            print(f'{path} is not as made: tests/gate/interface.py --write')
-            status = 1
-    print(f'{len(interface.structs) + len(interface.functions) + len(interface.refusals)} parts: {len(interface.structs)} structs, '
-          f'{len(interface.functions)} functions and {len(interface.refusals)} refusals in {len(texts)} files')
-    return status
+    return made_files.run(words, root, 'interface', __doc__, made)
 
 
 if __name__ == '__main__':

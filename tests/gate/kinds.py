@@ -12,6 +12,7 @@ import re
 import sys
 import textwrap
 
+import made_files
 from kept_leaves import REGISTERS, kinds, names, places
 from proved_source import Unlisted
 
@@ -76,26 +77,16 @@ def replaced(text, pattern, made, path):
     return new
 
 
+def made(root):
+    """{path: its text as it should be}, and how many places have kinds of their own."""
+    rows = arms(root)
+    old = {path: (root / path).read_text(encoding='utf-8') for path in (CODE, PROOF, HEADER)}
+    new = {CODE: code(old[CODE], rows), PROOF: proof(old[PROOF], rows), HEADER: header(old[HEADER], root)}
+    return new, f'{len(rows)} places with kinds of their own in {len(new)} files'
+
+
 def main(words, root=ROOT):
-    if words not in (['--write'], ['--check']):
-        print(__doc__.strip())
-        return 2
-    status = 0
-    try:
-        rows = arms(root)
-        old = {path: (root / path).read_text(encoding='utf-8') for path in (CODE, PROOF, HEADER)}
-        new = {CODE: code(old[CODE], rows), PROOF: proof(old[PROOF], rows), HEADER: header(old[HEADER], root)}
-    except Unlisted as why:
-        print(why)
-        return 1
-    for path, text in new.items():
-        if words == ['--write']:
-            (root / path).write_text(text, encoding='utf-8')
-        elif text != old[path]:
-            print(f'{path} is not as made: tests/gate/kinds.py --write')
-            status = 1
-    print(f'{len(rows)} places with kinds of their own in {len(new)} files')
-    return status
+    return made_files.run(words, root, 'kinds', __doc__, made)
 
 
 if __name__ == '__main__':

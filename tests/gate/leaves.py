@@ -18,6 +18,7 @@ import re
 import sys
 import textwrap
 
+import made_files
 from kept_leaves import leaf_names, names, places, rows as kept_rows
 from proved_source import Unlisted
 
@@ -188,27 +189,11 @@ def made(root):
     of(f'{COMMAND}/meanings.rs', in_string, r'\d+ rows need an entry', '. Besides', f'{len(needed)} rows need an entry: leaves {words(needed)}')
     of('docs/COMMAND.md', in_paragraph, ' rows need an entry: leaves ', '. Besides', words(needed), '    ', 104)
     texts['docs/COMMAND.md'] = re.sub(r'\d+ (?=rows need an entry)', f'{len(needed)} ', texts['docs/COMMAND.md'])
-    return kept, texts
+    return texts, f'{len(kept)} places in lists of {len(texts)} files'
 
 
 def main(asked, root=ROOT):
-    if asked not in (['--write'], ['--check']):
-        print(__doc__.strip())
-        return 2
-    status = 0
-    try:
-        kept, texts = made(root)
-    except Unlisted as why:
-        print(why)
-        return 1
-    for path, text in texts.items():
-        if asked == ['--write']:
-            (root / path).write_text(text, encoding='utf-8')
-        elif (root / path).read_text(encoding='utf-8') != text:
-            print(f'{path} is not as made: tests/gate/leaves.py --write')
-            status = 1
-    print(f'{len(kept)} places in lists of {len(texts)} files')
-    return status
+    return made_files.run(asked, root, 'leaves', __doc__, made)
 
 
 if __name__ == '__main__':

@@ -14,6 +14,7 @@ from pathlib import Path
 import re
 import sys
 
+import made_files
 from proved_source import Unlisted
 from refusal_list import listed
 
@@ -198,27 +199,11 @@ def made(root):
        lambda path, text: replaced(path, text, r'(?:^refusal-back .* = .*\n)+', back))
     of(f'{NEAREST}.antt', lambda path, text: others(path, text, 'GivenFor c s', ' = ⊥', every, names))
     of(f'{NEAREST}Proof.antt', lambda path, text: others(path, text, '  refusal-given', ' f = absurd f', every, names))
-    return every, read
+    return read, f'{len(every)} refusals in {len(read)} files of the proved source'
 
 
 def main(words, root=ROOT):
-    if words not in (['--write'], ['--check']):
-        print(__doc__.strip())
-        return 2
-    status = 0
-    try:
-        every, texts = made(root)
-    except Unlisted as why:
-        print(why)
-        return 1
-    for path, text in texts.items():
-        if words == ['--write']:
-            (root / path).write_text(text, encoding='utf-8')
-        elif (root / path).read_text(encoding='utf-8') != text:
-            print(f'{path} is not as made: tests/gate/refusal_cases.py --write')
-            status = 1
-    print(f'{len(every)} refusals in {len(texts)} files of the proved source')
-    return status
+    return made_files.run(words, root, 'refusal_cases', __doc__, made)
 
 
 if __name__ == '__main__':

@@ -19,7 +19,7 @@ class Leaves(unittest.TestCase):
         folder = tempfile.TemporaryDirectory()
         self.addCleanup(folder.cleanup)
         self.root = Path(folder.name)
-        for path in kept_leaves.FUNCTIONS, kept_leaves.KEPT, kept_leaves.LEAVES, kept_leaves.PLACES, *leaves.made(leaves.ROOT)[1]:
+        for path in kept_leaves.FUNCTIONS, kept_leaves.KEPT, kept_leaves.LEAVES, kept_leaves.PLACES, *leaves.made(leaves.ROOT)[0]:
             (self.root / path).parent.mkdir(parents=True, exist_ok=True)
             shutil.copy(leaves.ROOT / path, self.root / path)
 

@@ -17,7 +17,7 @@ class Cases(unittest.TestCase):
         folder = tempfile.TemporaryDirectory()
         self.addCleanup(folder.cleanup)
         self.root = Path(folder.name)
-        for path in 'include/refusals.txt', 'crates/topology/src/lib.rt', *refusal_cases.made(refusal_cases.ROOT)[1]:
+        for path in 'include/refusals.txt', 'crates/topology/src/lib.rt', *refusal_cases.made(refusal_cases.ROOT)[0]:
             (self.root / path).parent.mkdir(parents=True, exist_ok=True)
             shutil.copy(refusal_cases.ROOT / path, self.root / path)
 
