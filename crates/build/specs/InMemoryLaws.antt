@@ -3,22 +3,15 @@ use mathlib.Core.Path.{_≡_, refl, sym, ap, ap₂, _∙_, subst}
 use mathlib.Core.Bool.{true, false}
 use mathlib.Core.List.{List, []}
 use Prim.Native.Nat.{ℕ}
-use lib.ListN.{length}
-use Rattle.bits.specs.ListsLaws.{length-tabulate}
-use Rattle.masking.specs.Kept.{places}
 use Rattle.table.specs.declared.Choices.{Choices}
 use Rattle.table.specs.declared.Verdict.{Verdict}
 use Rattle.table.specs.declared.Refusal.{Refusal}
 use Rattle.table.specs.declared.Refusal.the-variants.{UnknownEdition}
 use Rattle.table.specs.declared.Verdict.the-variants.{Accepted, Refused}
 use Rattle.table.specs.Edition.{knownEdition}
-use Rattle.table.specs.Table as Tables
 use Rattle.memory.specs.Origin.{finishedOrigins}
-use Rattle.memory.specs.Memory.{rowsIn, tableIn, Cleared}
-use Rattle.memory.specs.MemoryLaws.{layout-length, rows-in}
-use Rattle.collect.specs.Collect.{collected-rows}
-use Rattle.collect.specs.FirstEntryOrigin.{foundOrigins}
-use Rattle.collect.specs.CollectedLaws.{walked-collected}
+use Rattle.memory.specs.Memory.{rowsIn, Cleared}
+use Rattle.collect.specs.FirstEntryOriginLaws.{found-rows}
 use Rattle.collect.specs.WalkedPages.{WalkedPages}
 use Rattle.finish.specs.declared.RowsBuilt.{RowsBuilt}
 use Rattle.finish.specs.RowsBuilt.{builtFrom}
@@ -52,11 +45,7 @@ module _ (c : Choices) (s w o : List ℕ) where
 
 -- the masked first entries in memory are rows of the definition
 pub rows-held : {u : Verdict} (c : Choices) (s w o : List ℕ) {v : Verdict} → EntriesIn u c s v w o → v ≡ Accepted → rowsIn w o ≡ rowsFor c s
-unfolding foundOrigins
-rows-held c s w o k z =
-    sym (rows-in w o (ap length (k .registers z) ∙ layout-length _) (ap length (k .stands z) ∙ length-tabulate places _))
-    ∙ ap Tables.rowsOfTable (ap₂ tableIn (k .registers z) (k .stands z) ∙ walked-collected (c .«secure_avic») s)
-    ∙ collected-rows (c .«secure_avic») s
+rows-held c s w o k z = ap₂ rowsIn (k .registers z) (k .stands z) ∙ found-rows (c .«secure_avic») s
 
 -- what finishing makes of them
 module _ (c : Choices) (s w o : List ℕ) {v : Verdict} (k : FrontIn c s v w o) (z : v ≡ Accepted) {x : Verdict} {w₁ o₁ : List ℕ}

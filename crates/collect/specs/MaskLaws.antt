@@ -7,11 +7,10 @@ use native.Mathlib.Nat.{mod-eq-of-lt}
 use lib.Bits.{bitAnd, and-mask, and-comm, and-self, and-zero-l}
 use lib.Dec.{eqb, lit<}
 use lib.ListN.{length, getD}
-use borrow.Author.Tests.{eqb-true, eqb-false}
+use borrow.Author.Tests.{eqb-true}
 use Rattle.bits.specs.Choice.{pick}
 use Rattle.bits.specs.ChoiceLaws.{pick-false}
 use Rattle.bits.specs.BitsLaws.{and-assoc}
-use Rattle.bits.specs.Lists.{tabulate}
 use Rattle.bits.specs.ListsLaws.{tabulate-ext}
 use Rattle.x86defs.specs.declared.CpuidResult.{CpuidResult}
 use Rattle.x86defs.specs.Functions.{result}
@@ -26,10 +25,10 @@ use Rattle.masking.specs.Place
 use Rattle.table.specs.Rows.{Row, row, vacant}
 use Rattle.memory.specs.Memory.{rowOf, putRow, isThere, rowsIn, layout}
 use Rattle.memory.specs.MemoryLaws.{put-length, put-at, layout-length, layout-row, layout-ext, known-by-rows}
-use Rattle.collect.specs.FirstEntries.{firstAt, words, wordRow, firstsOf, setLegacy, maskedAt, maskRow, rowsOf}
+use Rattle.collect.specs.FirstEntries.{firstAt, words, wordRow, firstsOf, maskedAt, maskRow, rowsOf}
 use Rattle.collect.specs.FirstEntriesLaws.{first-of-place, row-of-place}
 use Rattle.collect.specs.FirstEntryOrigin.{foundOrigins}
-use Rattle.collect.specs.CollectedLaws.{stands-there}
+use Rattle.collect.specs.FirstEntryOriginLaws.{stands-there}
 use Rattle.collect.specs.Mask.{Unmasked, Masked, legacyRow}
 
 -- ---- a row

@@ -21,14 +21,13 @@ use Rattle.table.specs.declared.Verdict.{Verdict}
 use Rattle.table.specs.declared.Verdict.the-variants.{Accepted, Refused}
 use Rattle.table.specs.Edition.{knownEdition}
 use Rattle.checks.specs.Checks.{requiredVerdict}
-use Rattle.collect.specs.Collect.{storedAt}
+use Rattle.collect.specs.Collect.{storedAt, firstAmong}
 use Rattle.build.specs.Build.{underEdition, editionVerdict, rowsFor, answer}
 use Rattle.collect.specs.Lawful.{lawfulVerdict}
 use Rattle.nearest.specs.Flips.{flip, flipped, flips}
 use Rattle.nearest.specs.OneBit.{bitIn, oneBit}
 use Rattle.nearest.specs.SameVerdict.{sameResult, sameRows, sameTable, sameNumbers, sameAnswer}
 use Rattle.nearest.specs.Changes.{changes}
-use Rattle.nearest.specs.FlippedRowLaws.{firstAmong}
 use Rattle.nearest.specs.declared.Nearest.the-variants.{Bit, NoBit}
 use Rattle.nearest.specs.Nearest.{firstThat, unlessRefused, nearest}
 use Rattle.nearest_exactly.specs.NearestExactly.{MissesRequired}

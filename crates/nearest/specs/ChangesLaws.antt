@@ -14,7 +14,7 @@ use Rattle.table.specs.Rows.{Rows, row}
 use Rattle.checks.specs.Checks.{rowsVerdict}
 use Rattle.checks.specs.ChecksLaws.{then-left, demanded}
 use Rattle.collect.specs.FirstEntries.{maskedAt}
-use Rattle.collect.specs.Collect.{storedAt}
+use Rattle.collect.specs.Collect.{storedAt, firstAmong}
 use Rattle.finish.specs.RowsBuilt.{tableFor}
 use Rattle.build.specs.Build.{editionVerdict, rowsFor, verdictOf, answer}
 use Rattle.collect.specs.Lawful.{lengthVerdict, lawfulVerdict}
@@ -28,7 +28,7 @@ use Rattle.nearest.specs.SameLaws.{answer-same}
 use Rattle.nearest.specs.Changes.{changes}
 use Rattle.nearest.specs.WithRow.{withRow}
 use Rattle.nearest.specs.WithRowLaws.{put-same}
-use Rattle.nearest.specs.FlippedRowLaws.{firstAmong, flip-passed, taken-row, flip-put}
+use Rattle.nearest.specs.FlippedRowLaws.{flip-passed, taken-row, flip-put}
 
 -- ---- the answer of lawful pages
 

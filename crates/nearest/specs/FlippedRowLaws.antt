@@ -4,42 +4,23 @@ use mathlib.Core.Path.{_≡_, refl, sym, ap, _∙_, fun-ext}
 use mathlib.Core.Bool.{Bool, true, false}
 use mathlib.Core.List.{List, [], _∷_, _++_}
 use Prim.Native.Nat.{ℕ, _≤_, _<_}
-use native.Mathlib.Omega.{arith}
 use lib.Dec.{eqb, ltb}
-use borrow.Author.Tests.{eqb-true, eqb-false, ne-eqb, eq-eqb, ltb-true, ltb-false}
+use borrow.Author.Tests.{eqb-true, eqb-false, eq-eqb, ltb-true, ltb-false}
 use Rattle.bits.specs.Choice.{pick}
 use Rattle.bits.specs.ChoiceLaws.{pick-true, pick-false}
-use Rattle.bits.specs.Lists.{keepIf}
 use Rattle.pages.specs.Layout.{Entry, entryAt, countsFit}
 use Rattle.pages.specs.Entries.{entries, counts, counted}
 use Rattle.masking.specs.Kept.{places}
 use Rattle.table.specs.Rows.{Row, row, vacant}
-use Rattle.collect.specs.FirstEntries.{placeOfEntry, firstAt, maskedAt, maskRow, rowsOf}
+use Rattle.collect.specs.FirstEntries.{maskedAt, maskRow, rowsOf}
 use Rattle.collect.specs.FirstEntriesLaws.{row-of-place, row-beyond}
-use Rattle.collect.specs.Collect.{storedAt}
+use Rattle.collect.specs.Collect.{storedAt, firstAmong}
+use Rattle.collect.specs.CollectLaws.{first-none, first-cons}
 use Rattle.nearest.specs.Flips.{flip, flipped}
 use Rattle.nearest.specs.OneBit.{oneBit, xorResult, flipEntry}
 use Rattle.nearest.specs.FlippedEntryLaws.{Inside}
 use Rattle.nearest.specs.FlippedListLaws.{flip-among}
 use Rattle.nearest.specs.WithRow.{withRow}
-
--- the first counted of some entries at place i
-unfoldable pub firstAmong : ℕ → List Entry → Row
-firstAmong i es = firstAt i (keepIf counts es)
-
-pub first-none : (i : ℕ) → firstAmong i [] ≡ vacant
-unfolding firstAmong keepIf firstAt
-first-none i = refl
-
-pub first-cons : (i : ℕ) → i < places → (e : Entry) (es : List Entry)
-    → firstAmong i (e ∷ es) ≡ pick (eqb (storedAt e) i) (row (e .registers)) (firstAmong i es)
-unfolding firstAmong keepIf firstAt storedAt
-first-cons i l e es = go (counts e)
-  where
-    go : (c : Bool) → firstAt i (pick c (e ∷ keepIf counts es) (keepIf counts es))
-        ≡ pick (eqb (pick c (placeOfEntry e) places) i) (row (e .registers)) (firstAt i (keepIf counts es))
-    go true = refl
-    go false = sym (pick-false _ _ (ne-eqb places i (λ q. omega arith)))
 
 pub first-append : (i : ℕ) → i < places → (xs ys : List Entry) → firstAmong i (xs ++ ys) ≡ pick (firstAmong i xs .present) (firstAmong i xs) (firstAmong i ys)
 first-append i l [] ys = sym (rw (first-none i))

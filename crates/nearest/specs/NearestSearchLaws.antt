@@ -39,7 +39,8 @@ use Rattle.table.specs.declared.Verdict.the-variants.{Accepted}
 use Rattle.table.specs.Edition.{knownEdition}
 use Rattle.table.specs.Rows.{Row, Rows, row, vacant}
 use Rattle.collect.specs.FirstEntries.{setLegacy, maskedAt}
-use Rattle.collect.specs.Collect.{countedPlace, storedAt, counted-place-stored, row-masks}
+use Rattle.collect.specs.Collect.{countedPlace, storedAt, firstAmong}
+use Rattle.collect.specs.CollectLaws.{counted-place-stored, first-none, first-cons, row-masks}
 use Rattle.collect.specs.Lawful.{lawfulVerdict}
 use Rattle.build.specs.Build.{rowsFor}
 use Rattle.collect.specs.LawfulLaws.{lawful-counts, lawful-clean}
@@ -50,7 +51,7 @@ use Rattle.nearest.specs.FlippedEntryLaws.{Inside}
 use Rattle.nearest.specs.SameVerdict.{sameFrom}
 use Rattle.nearest.specs.Changes.{changes}
 use Rattle.nearest.specs.WithRow.{withRow}
-use Rattle.nearest.specs.FlippedRowLaws.{firstAmong, first-none, first-cons, first-append, taken-row}
+use Rattle.nearest.specs.FlippedRowLaws.{first-append, taken-row}
 use Rattle.nearest.specs.ChangesLaws.{changes-nothing, changes-row}
 use Rattle.nearest.specs.declared.search.decisive.Decisive.{Decisive}
 use Rattle.nearest.specs.declared.search.decisive.Decisive.the-variants.{Number, NoNumber}

@@ -5,7 +5,7 @@ use mathlib.Core.List.{List}
 use mathlib.Core.Logic.{_↔_}
 use Prim.Native.Nat.{ℕ, _<_}
 use lib.Dec.{eqb}
-use lib.ListN.{getD, length-replicate}
+use lib.ListN.{length, getD, length-replicate}
 use borrow.Author.Tests.{eqb-true, ne-eqb}
 use Rattle.bits.specs.Choice.{pick}
 use Rattle.bits.specs.ChoiceLaws.{never-both, and-left, and-right, pick-false}
@@ -23,7 +23,6 @@ use Rattle.table.specs.declared.Verdict.{Verdict}
 use Rattle.table.specs.declared.Verdict.the-variants.{Accepted, Refused}
 use Rattle.table.specs.Rows.{Rows}
 use Rattle.table.specs.Table.{rowIn}
-use Rattle.collect.specs.Collect.{Whole}
 use Rattle.finish.specs.RowsBuilt.{tableFor}
 use Rattle.build.specs.Build.{rowsFor, verdictOf, answer}
 use Rattle.table.specs.declared.numbers.AnswerNumbers.{AnswerNumbers}
@@ -79,6 +78,10 @@ verdict-equal : (v w : Verdict) → sameVerdict v w ≡ true → v ≡ w
 verdict-equal v w e = sym (known-by-numbers v) ∙ ap verdictFrom (numbers-equal _ _ e) ∙ known-by-numbers w
 
 -- ---- a table of 88 places is known by its rows, its count and its mask
+
+record Whole (t : CpuidResults) : Type 0 where
+  pub present : length (t .present) ≡ places
+  pub results : length (t .results) ≡ places
 
 table-equal : (t u : CpuidResults) → Whole t → Whole u → sameTable t u ≡ true → t ≡ u
 unfolding sameTable sameRows

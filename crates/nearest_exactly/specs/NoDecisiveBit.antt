@@ -34,7 +34,8 @@ use Rattle.checks.specs.Required.{commonRequiredLeaves, snpRequiredLeaves, requ
 use Rattle.checks.specs.Checks.{requiredVerdict, invlpgbVerdict}
 use Rattle.checks.specs.ChecksLaws.{required-present}
 use Rattle.collect.specs.FirstEntries.{setLegacy, maskedAt}
-use Rattle.collect.specs.Collect.{storedAt, row-masks}
+use Rattle.collect.specs.Collect.{storedAt, firstAmong}
+use Rattle.collect.specs.CollectLaws.{row-masks}
 use Rattle.collect.specs.Lawful.{lawfulVerdict}
 use Rattle.build.specs.Build.{rowsFor}
 use Rattle.collect.specs.LawfulLaws.{lawful-counts}
@@ -44,7 +45,7 @@ use Rattle.nearest.specs.SameVerdict.{sameFrom}
 use Rattle.nearest.specs.Changes.{changes}
 use Rattle.nearest.specs.WithRow.{withRow}
 use Rattle.nearest.specs.WithRowLaws.{required-same}
-use Rattle.nearest.specs.FlippedRowLaws.{firstAmong, rows-present, taken-row}
+use Rattle.nearest.specs.FlippedRowLaws.{rows-present, taken-row}
 use Rattle.nearest.specs.Irrelevant.{irrelevant}
 use Rattle.nearest.specs.SearchReturnLaws.{irrelevant-missing, irrelevant-clear}
 use Rattle.nearest.specs.declared.search.decisive.Decisive.{Decisive}

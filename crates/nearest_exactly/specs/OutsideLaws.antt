@@ -11,13 +11,12 @@ use Rattle.masking.specs.Kept.{places, masksAt}
 use Rattle.table.specs.declared.Choices.{Choices}
 use Rattle.table.specs.declared.Verdict.the-variants.{Accepted}
 use Rattle.table.specs.Edition.{knownEdition}
-use Rattle.collect.specs.Collect.{storedAt}
+use Rattle.collect.specs.Collect.{storedAt, firstAmong}
 use Rattle.collect.specs.Lawful.{lawfulVerdict}
 use Rattle.nearest.specs.Flips.{flip}
 use Rattle.nearest.specs.OneBit.{oneBit}
 use Rattle.nearest.specs.FlippedEntryLaws.{Inside}
 use Rattle.nearest.specs.Changes.{changes}
-use Rattle.nearest.specs.FlippedRowLaws.{firstAmong}
 use Rattle.nearest.specs.ChangesLaws.{changes-nothing, changes-masked}
 use Rattle.nearest.specs.FlippedMaskLaws.{masked-out}
 

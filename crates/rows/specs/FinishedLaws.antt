@@ -1,11 +1,11 @@
 -- Memory finished by stores: subleaves dropped, four origins, ten rows. It holds the definition's table, since every required row is there.
-use mathlib.Core.Path.{_≡_, refl, sym, ap, _∙_, subst}
+use mathlib.Core.Path.{_≡_, refl, sym, ap, _∙_}
 use mathlib.Core.Bool.{Bool, true, false, _&&_}
 use mathlib.Core.List.{List}
-use Prim.Native.Nat.{ℕ, _*_, _-_, _<_}
+use Prim.Native.Nat.{ℕ, _-_, _<_}
 use lib.Bits.{bitOr}
 use lib.Dec.{ltb, leb}
-use lib.ListN.{length, getD, set}
+use lib.ListN.{length, getD}
 use Rattle.bits.specs.Choice.{pick}
 use Rattle.bits.specs.Bits.{has}
 use Rattle.bits.specs.Lists.{tabulate}
@@ -14,15 +14,13 @@ use Rattle.x86defs.specs.declared.CpuidResult.{CpuidResult}
 use Rattle.x86defs.specs.Functions.{result}
 use Rattle.masking.specs.Kept.{places}
 use Rattle.masking.specs.Place
-use Rattle.table.specs.declared.CpuidResults.{CpuidResults}
 use Rattle.table.specs.declared.Verdict.the-variants.{Accepted}
-use Rattle.table.specs.Rows.{Row, Rows, row, vacant}
-use Rattle.table.specs.Table as Tables
+use Rattle.table.specs.Rows.{Rows, row, vacant}
 use Rattle.table.specs.Table.{tableOf}
 use Rattle.memory.specs.Origin.{isMadeHere, finishedOrigins}
 use Rattle.memory.specs.OriginLaws.{marked}
-use Rattle.memory.specs.Memory.{rowOf, isThere, rowsIn, layout, rowList, tableIn}
-use Rattle.memory.specs.MemoryLaws.{Rowed, known-by-rows, layout-length, layout-ext, layout-list, rows-in}
+use Rattle.memory.specs.Memory.{rowOf, isThere, rowsIn, rowList}
+use Rattle.memory.specs.MemoryLaws.{Rowed, known-by-rows, layout-length, layout-ext, layout-list}
 use Rattle.checks.specs.ExtendedState.{combinedMask, xfem, xss}
 use Rattle.checks.specs.TopologyInputs.{inputsOf}
 use Rattle.checks.specs.Checks.{requiredVerdict}
@@ -30,8 +28,8 @@ use Rattle.checks.specs.ChecksLaws.{required-present}
 use Rattle.finish.specs.Finish.{Enabled, YmmClears, Settings, ymmClears, ruleAt, remains, enabledBy, settings, finished}
 use Rattle.finish.specs.FeaturesInCode.{enabledFrom}
 use Rattle.finish.specs.PlaceLaws.{always, position, always-required}
-use Rattle.finish.specs.Stores.{droppedRow, dropped, droppedTable, Ready}
-use Rattle.finish.specs.FinishedTable.{storeResults, settingsWith, finished-table}
+use Rattle.finish.specs.Stores.{droppedRow, dropped, Ready}
+use Rattle.finish.specs.FinishedTable.{storeResults, settingsWith, finished-rows}
 use Rattle.finish.specs.RemainsLaws.{finished-present}
 use Rattle.rows.specs.Finished.{Holds, stays, keptRow, keptOrigin, Dropped}
 
@@ -55,26 +53,6 @@ kept-dropped w o x i =
     go true true = refl
     go true false = refl
     go false c = refl
-
--- ---- the registers
-
-module _ (edition : ℕ) (w o : List ℕ) (a : length w ≡ 4 * places) (b : length o ≡ places) (y : YmmClears) (e : Enabled) (x size v : ℕ)
-    (clears : y ≡ ymmClears edition) (mask : x ≡ bitOr (e .xfem) (e .xss)) where
-  -- what is to be shown of rows m
-  abbrev Shown : Rows → Type 0
-  Shown m =
-      Ready m size v
-      → e ≡ enabledFrom (m (Place.extendedState 0) .result) (m (Place.extendedState 1) .result) (m Place.extendedSevFeatures .result)
-      → (l : List CpuidResult)
-      → l ≡ storeResults (settingsWith y e size (inputsOf m .t) v) (λ i. m i .result) (tabulate places (λ i. dropped m x i .result))
-      → l ≡ tabulate places (λ i. finished edition m i .result)
-
-  shown : Shown (Tables.rowsOfTable (tableIn w o))
-  shown ready f l r =
-      ap (λ (t : CpuidResults). t .results) (finished-table edition (tableIn w o) {d = droppedTable (tableIn w o) x} ready clears f mask refl refl r)
-
-  pub finished-registers : Shown (rowsIn w o)
-  finished-registers = subst Shown (rows-in w o a b) shown
 
 -- ---- the origins
 
@@ -110,13 +88,13 @@ module _ (n : ℕ) (w o : List ℕ) (h : requiredVerdict (rowsIn w o) ≡ Accept
 -- ---- both
 
 pub finished-memory : (edition : ℕ) (w o : List ℕ) {y : YmmClears} {e : Enabled} {x size n : ℕ} {d q v p : List ℕ} {l : List CpuidResult}
-    → length w ≡ 4 * places → length o ≡ places → Ready (rowsIn w o) size n → y ≡ ymmClears edition
+    → Ready (rowsIn w o) size n → y ≡ ymmClears edition
     → e ≡ enabledFrom (rowOf w (Place.extendedState 0)) (rowOf w (Place.extendedState 1)) (rowOf w Place.extendedSevFeatures)
     → x ≡ combinedMask (rowsIn w o) → Dropped w o x d q → p ≡ marked q → Rowed v l
     → l ≡ storeResults (settingsWith y e size (inputsOf (rowsIn w o) .t) n) (rowOf w) (tabulate places (keptRow w o x))
     → Holds (tableOf (finished edition (rowsIn w o)) (combinedMask (rowsIn w o))) o v p
 unfolding combinedMask xfem xss
-finished-memory edition w o {y} {e} {x} {size} {n} {d} {q} {v} {p} {l} a b ready clears f g dropped-to marks held stored =
+finished-memory edition w o {y} {e} {x} {size} {n} {d} {q} {v} {p} {l} ready clears f g dropped-to marks held stored =
     let m : Rows = rowsIn w o in
     let mask : x ≡ bitOr (e .xfem) (e .xss) = g ∙ sym (ap (λ (k : Enabled). bitOr (k .xfem) (k .xss)) f) in
     let r : tabulate places (keptRow w o x) ≡ tabulate places (λ i. dropped m x i .result) = tabulate-ext places _ _ (λ i h. kept-dropped w o x i) in
@@ -124,8 +102,9 @@ finished-memory edition w o {y} {e} {x} {size} {n} {d} {q} {v} {p} {l} a b ready
       registers =
           known-by-rows v (λ i. finished edition m i .result) (held .size)
           (held .rows
-          ∙ finished-registers edition w o a b y e x size n clears mask ready f l
-          (stored ∙ ap (storeResults (settingsWith y e size (inputsOf m .t) n) (rowOf w)) r))
+          ∙ stored
+          ∙ ap (storeResults (settingsWith y e size (inputsOf m .t) n) (rowOf w)) r
+          ∙ finished-rows edition m ready clears f mask)
           ∙ layout-ext _ _ (λ i h. sym (getD-tabulate places (λ j. finished edition m j .result) i (result 0 0 0 0) h));
       origins =
           marks

@@ -3,7 +3,7 @@ use borrow.Author.Needs.{needs}
 use mathlib.Core.Path.{sym, _∙_, subst}
 use Prim.Native.Nat.{ℕ, _≤_}
 use Rattle.masking.specs.Kept.{places}
-use Rattle.collect.specs.Collect.{counted-other}
+use Rattle.collect.specs.CollectLaws.{counted-other}
 use Rattle.collect.specs.FullLaws.{asked-found, asked-beyond, asked-full, asked-there}
 use Rattle.collect.proofs.asked_place.Statement.{statement}
 use Rattle.collect.proofs.asked_place.Tie as tie

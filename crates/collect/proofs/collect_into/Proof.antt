@@ -12,7 +12,7 @@ use Rattle.pages.specs.WalkLaws.{turn}
 use Rattle.pages.specs.ReadLaws.{read-entry}
 use Rattle.bits.specs.Bits.{bit, has}
 use Rattle.masking.specs.Kept.{keptLeaves, slot}
-use Rattle.collect.specs.OriginsLaws.{number-fits}
+use Rattle.collect.specs.FirstEntryOriginLaws.{number-fits}
 use Rattle.collect.specs.Full.{leafNumber}
 use Rattle.collect.specs.FullLaws.{noneKept}
 use Rattle.collect.specs.WalkingLaws.{Walking, walking-first, walking-last, walking-stops, AtEntry, walking-falls, walking-leaves, walking-stays}
@@ -47,7 +47,7 @@ take-requires c κs =
     let w = c .before .before in
     let n = w .before .before .before .before in
     let h : c .loop2 .index .«page_index» < _ = rw (n .page-count .ensures, ← c .loop2 .inv .1) at (w .if1 .taken) in
-    record { lawful = n .before .before .pre .0; inside = record { page = h; position = turn _ _ (c .loop2 .inv .0 .rows .valid) h .below } }
+    record { lawful = n .before .before .pre .0; inside = record { page = h; position = turn _ _ (c .loop2 .inv .0 .valid) h .below } }
 
 -- the length of a slice fits 64 bits
 short : (c : tie.Start Inv-loop2 μ-loop2 Inv-loop μ-loop) → length (now (c .args .pages)) < 2 ^ 64

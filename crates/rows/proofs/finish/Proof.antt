@@ -49,7 +49,7 @@ returns c =
     let s = settingsWith (clearsWith (clears .of .result)) (enabledWith (enabled .new .result)) (start .args .size) (inputsOf (rowsIn w o) .t) (start .args .processors) in
     let d₀ = r1 .row-at .result in
     let dropped = drop .drop-subleaves .ensures in
-    finished-memory (start .args .edition) w o (sized .lengths-known .ensures .0) (sized .lengths-known .ensures .1) (start .pre .1) (clears .of .ensures)
+    finished-memory (start .args .edition) w o (start .pre .1) (clears .of .ensures)
     (enabled .new .ensures ∙ (λ i. enabledFrom (r1 .row-at .ensures i) (r2 .row-at2 .ensures i) (r3 .row-at3 .ensures i)))
     (start .pre .0)
     dropped

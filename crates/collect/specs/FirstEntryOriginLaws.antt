@@ -1,26 +1,31 @@
--- What the walk leaves in its two arrays stands for the table of the masked first entries: a place has a number exactly where it has a row.
+-- Where first entries stand: a place has a number exactly where it has a row. So the masked first entries, laid out beside these numbers, are rows in
+-- lent memory.
 use mathlib.Core.Path.{_≡_, refl, sym, ap, _∙_}
 use mathlib.Core.Bool.{Bool, true, false, not}
 use mathlib.Core.List.{List, [], _∷_}
-use Prim.Native.Nat.{ℕ, _+_, _*_, _<_}
+use Prim.Native.Nat.{ℕ, _+_, _*_, _^_, _<_}
 use native.Mathlib.Omega.{arith}
 use lib.Dec.{eqb}
-use lib.ListN.{getD}
+use lib.ListN.{length, getD}
 use borrow.Author.Tests.{ne-eqb}
 use Rattle.bits.specs.Choice.{pick}
-use Rattle.bits.specs.ListsLaws.{getD-tabulate, tabulate-ext}
-use Rattle.pages.specs.Layout.{Entry}
+use Rattle.bits.specs.ListsLaws.{getD-tabulate, length-tabulate}
+use Rattle.pages.specs.Layout.{Entry, pagesIn, countOf, countsFit}
+use Rattle.pages.specs.LayoutLaws.{counts-fit-at}
 use Rattle.pages.specs.Entries.{counted}
 use Rattle.masking.specs.Kept.{places}
 use Rattle.memory.specs.Origin.{originNumber}
 use Rattle.memory.specs.Origin.Origin.{entry}
+use Rattle.memory.specs.Memory.{isThere, rowsIn, layout}
+use Rattle.memory.specs.MemoryLaws.{rows-laid}
 use Rattle.table.specs.Rows.{Row, row, vacant}
 use Rattle.collect.specs.FirstEntries.{placeOfEntry, firstAt, maskedAt, maskRow, rowsOf}
-use Rattle.collect.specs.FirstEntriesLaws.{row-of-place}
-use Rattle.collect.specs.Collect.{collected}
+use Rattle.collect.specs.FirstEntriesLaws.{row-of-place, row-beyond}
 use Rattle.collect.specs.FirstEntryOrigin.{standsAt, foundOrigins}
-use Rattle.memory.specs.Memory.{rowOf, isThere, layout, tableIn}
-use Rattle.memory.specs.MemoryLaws.{layout-list}
+
+-- the number of any entry fits 64 bits: its page lies inside the bytes
+pub number-fits : (s : List ℕ) → countsFit s ≡ true → length s < 2 ^ 64 → (p q : ℕ) → p < pagesIn s → q < countOf s p → 4 + 64 * p + q < 2 ^ 64
+number-fits s fit short p q h l = omega (arith, counts-fit-at s fit p h)
 
 stands-present : (i : ℕ) (es : List Entry) → not (eqb (originNumber (standsAt i es)) 0) ≡ firstAt i es .present
 unfolding standsAt firstAt
@@ -50,9 +55,10 @@ has-row avic s i h =
     stands-there s i h
     ∙ sym (ap (λ (x : Row). x .present) (row-of-place avic s i h) ∙ mask-present avic i (firstAt i (counted s)))
 
-pub walked-collected : (avic : Bool) (s : List ℕ) → tableIn (layout (λ i. rowsOf avic s i .result)) (foundOrigins s) ≡ collected avic s
-unfolding collected
-walked-collected avic s =
-    let p = tabulate-ext places (λ i. isThere (getD (foundOrigins s) i 0)) (λ i. rowsOf avic s i .present) (has-row avic s) in
-    let r = layout-list (λ i. rowsOf avic s i .result) in
-    λ k. record { present = p k; results = r k; «row_count» = 0; «max_extended_state» = 0 }
+pub found-length : (s : List ℕ) → length (foundOrigins s) ≡ places
+unfolding foundOrigins
+found-length s = length-tabulate places (λ i. originNumber (standsAt i (counted s)))
+
+-- what the walk leaves in its two arrays is the masked first entries, at every number
+pub found-rows : (avic : Bool) (s : List ℕ) → rowsIn (layout (λ i. rowsOf avic s i .result)) (foundOrigins s) ≡ rowsOf avic s
+found-rows avic s = rows-laid (rowsOf avic s) (foundOrigins s) (found-length s) (has-row avic s) (row-beyond avic s)
