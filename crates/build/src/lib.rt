@@ -38,21 +38,9 @@ pub fn rows_into(
     Verdict::Refused(Refusal::UnknownEdition)
 }
 
-// Pages of any length, count and content, into memory that the caller lends: one table with its origins; or one refusal, and the memory is cleared.
+// Pages of any length, count and content, into memory that comes without rows: one table with its origins; or one refusal, and the memory is without
+// rows again.
 pub fn build_into(
-    pages: &[u8],
-    choices: Choices,
-    registers: &mut [u32; REGISTERS],
-    origins: &mut [u64; PLACES],
-) -> Verdict
-    ensures { λ r. ⌜ InMemory (answer choices (now (pages .entry))) r (now (registers .exit)) (now (origins .exit)) ⌝ }
-{
-    clear(registers, origins);
-    build_pages(pages, choices, registers, origins)
-}
-
-// As `build_into`, into memory that comes without rows, as a caller makes it for one answer.
-pub fn build_pages(
     pages: &[u8],
     choices: Choices,
     registers: &mut [u32; REGISTERS],

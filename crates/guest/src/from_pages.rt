@@ -6,6 +6,7 @@ use build::build_into;
 use image::write::write_table;
 use masking::PLACES;
 use memory::REGISTERS;
+use memory::clear;
 use table::Choices;
 use table::Verdict;
 ghost use mathlib.Core.Path.{_≡_};
@@ -24,6 +25,7 @@ pub fn guest_pages(
     ensures { λ r. ⌜ SeenIn (guestPages choices (now (pages .entry)) processor)
         (answer choices (now (pages .entry)) .origins) r (now (registers .exit)) (now (origins .exit)) ⌝ }
 {
+    clear(registers, origins);
     let verdict = build_into(pages, choices, registers, origins);
     if let Verdict::Refused(r) = verdict {
         return Verdict::Refused(r);

@@ -1,7 +1,7 @@
 // Writes the image of the pages' table into a lent buffer. A refusal leaves the buffer as it was.
 use crate::write::write_rows;
 use buffer::Written;
-use build::build_pages;
+use build::build_into;
 use masking::PLACES;
 use memory::REGISTERS;
 use memory::combined_mask;
@@ -20,7 +20,7 @@ pub fn write_image(pages: &[u8], choices: Choices, out: &mut [u8]) -> Written
 {
     let mut registers: [u32; REGISTERS] = [0; REGISTERS];
     let mut origins: [u64; PLACES] = [0; PLACES];
-    let verdict = build_pages(pages, choices, &mut registers, &mut origins);
+    let verdict = build_into(pages, choices, &mut registers, &mut origins);
     if let Verdict::Refused(r) = verdict {
         return Written::Refused(r);
     }

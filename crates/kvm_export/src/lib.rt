@@ -2,7 +2,7 @@
 use buffer::Written;
 use buffer::put_registers;
 use buffer::put_word;
-use build::build_pages;
+use build::build_into;
 use image::rows_among;
 use kvm_list::HEAD_SIZE;
 use kvm_list::ROW_SIZE;
@@ -33,7 +33,7 @@ pub fn write_list(pages: &[u8], choices: Choices, out: &mut [u8]) -> Written
 {
     let mut registers: [u32; REGISTERS] = [0; REGISTERS];
     let mut origins: [u64; PLACES] = [0; PLACES];
-    let verdict = build_pages(pages, choices, &mut registers, &mut origins);
+    let verdict = build_into(pages, choices, &mut registers, &mut origins);
     if let Verdict::Refused(r) = verdict {
         return Written::Refused(r);
     }

@@ -1,6 +1,6 @@
 // The program's output: the image of the input's pages, or the bytes that say why there is none.
 use buffer::Written;
-use build::build_pages;
+use build::build_into;
 use image::write::write_table;
 use masking::PLACES;
 use memory::REGISTERS;
@@ -51,7 +51,7 @@ pub fn write_output(input: &[u8], out: &mut [u8]) -> Written
     }
     let mut registers: [u32; REGISTERS] = [0; REGISTERS];
     let mut origins: [u64; PLACES] = [0; PLACES];
-    let verdict = build_pages(input, CHOICES, &mut registers, &mut origins);
+    let verdict = build_into(input, CHOICES, &mut registers, &mut origins);
     if let Verdict::Refused(refusal) = verdict {
         return put_refusal(table::numbers::refusal_numbers(refusal), out);
     }

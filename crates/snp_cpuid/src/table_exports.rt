@@ -27,6 +27,7 @@ use guest::guest_table;
 use guest_state::state_in_use;
 use masking::PLACES;
 use memory::REGISTERS;
+use memory::clear;
 use table::Choices;
 use table::subleaf_of;
 use x86defs::CpuidFunction;
@@ -68,6 +69,7 @@ pub extern "C" fn snp_cpuid_table_build(
         secure_avic,
         edition,
     };
+    clear(registers, origins);
     let verdict = build_into(pages, choices, registers, origins);
     built_table_numbers(verdict, registers)
 }

@@ -12,7 +12,7 @@ returns : tie.Need-returns
 unfolding writeList
 returns c =
     let b = c .before .before .before in let a = b .before .before .before .before .before .args in
-    let e = verdict-refused _ (now (a .out)) (b .build-pages .ensures .verdict) (c .before .verdict .given .1) in
+    let e = verdict-refused _ (now (a .out)) (b .build-into .ensures .verdict) (c .before .verdict .given .1) in
     (ap (λ (o : AfterWrite). o .answer) e, ap (λ (o : AfterWrite). o .buffer) e)
 
 returns-2 : tie.Need-returns-2
@@ -20,7 +20,7 @@ unfolding writeList
 returns-2 c =
     let w = c .before .before in let t = w .before .before .before .before in
     let b = t .before .before in let a = b .before .before .before .before .before .args in
-    let k = b .build-pages .ensures in
+    let k = b .build-into .ensures in
     let e = verdict-accepted _ (now (a .out)) (k .verdict) (t .enum-told .given .1) (ap listOf (k .table)) in
     (w .write-table .ensures .0 ∙ ap (λ (o : AfterWrite). o .answer) e, w .write-table .ensures .1 ∙ ap (λ (o : AfterWrite). o .buffer) e)
 

@@ -13,7 +13,7 @@ returns-2 c =
     let n = p .before .before in
     let v = n .before .before in
     let b = v .before .before in
-    rw (← output-refused _ (b .before .before .before .if1 .left) (b .build-pages .ensures) _ _ (v .verdict .given .1) (n .refusal-numbers .ensures))
+    rw (← output-refused _ (b .before .before .before .if1 .left) (b .build-into .ensures) _ _ (v .verdict .given .1) (n .refusal-numbers .ensures))
     (p .put-refusal .ensures)
 
 returns-3 : tie.Need-returns-3
@@ -21,7 +21,7 @@ returns-3 c =
     let w = c .before .before in
     let t = w .before .before .before .before in
     let b = t .before .before in
-    rw (← output-accepted _ (b .before .before .before .if1 .left) (b .build-pages .ensures) (t .enum-told .given .1)) (w .write-table .ensures)
+    rw (← output-accepted _ (b .before .before .before .if1 .left) (b .build-into .ensures) (t .enum-told .given .1)) (w .write-table .ensures)
 
 pub write-output-spec : {M : Type 1} → statement M
 write-output-spec =

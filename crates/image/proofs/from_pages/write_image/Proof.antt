@@ -19,7 +19,7 @@ returns : tie.Need-returns
 unfolding write
 returns c =
     let b = c .before .before .before in let a = b .before .before .before .before .before .args in
-    let e = verdict-refused _ (now (a .out)) (b .build-pages .ensures .verdict) (c .before .verdict .given .1) in
+    let e = verdict-refused _ (now (a .out)) (b .build-into .ensures .verdict) (c .before .verdict .given .1) in
     (ap (λ (o : AfterWrite). o .answer) e, ap (λ (o : AfterWrite). o .buffer) e)
 
 few : (c : tie.After-combined-mask) → ones (c .combined-mask .result / 2 ^ 2) ≤ 62
@@ -29,7 +29,7 @@ write-rows-requires : tie.Need-write-rows-requires
 write-rows-requires c κs =
     let m = c .before .before .before in let t = m .before .before in
     let b = t .before .before in let a = b .before .before .before .before .before .args in
-    let k = b .build-pages .ensures in let e = t .enum-told .given .1 in (
+    let k = b .build-into .ensures in let e = t .enum-told .given .1 in (
       accepted-components (a .choices) (now (a .pages)) k e (m .combined-mask .ensures),
       accepted-length (a .choices) (now (a .pages)) k e (m .combined-mask .ensures) (search needs),
     )
@@ -39,7 +39,7 @@ unfolding write
 returns-2 c =
     let w = c .before .before in let t = w .before .before .before .before .before .before in
     let b = t .before .before in let a = b .before .before .before .before .before .args in
-    let k = b .build-pages .ensures in
+    let k = b .build-into .ensures in
     let e = verdict-accepted _ (now (a .out)) (k .verdict) (t .enum-told .given .1) (ap image (k .table)) in
     (w .write-rows .ensures .0 ∙ ap (λ (o : AfterWrite). o .answer) e, w .write-rows .ensures .1 ∙ ap (λ (o : AfterWrite). o .buffer) e)
 

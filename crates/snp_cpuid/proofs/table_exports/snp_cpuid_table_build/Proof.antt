@@ -13,4 +13,4 @@ returns c =
     )
 
 pub snp-cpuid-table-build-spec : {M : Type 1} → statement M
-snp-cpuid-table-build-spec = tie.close (tie.spec (λ c κs. search needs) (λ c κs. search needs) returns)
+snp-cpuid-table-build-spec = tie.close (tie.spec (λ c κs. search needs) (λ c κs. c .before .before .clear .ensures) (λ c κs. search needs) returns)
