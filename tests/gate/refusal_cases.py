@@ -189,7 +189,7 @@ def made(root):
     of('crates/lines/specs/NumbersInUse.antt', lambda path, text: replaced(
         path, text, r'(^    notInUse ∷\n)(?:    \w+ ∷  -- \d+\n)+',
         lambda found: found[1] + ''.join(f'    {named(case, kinds)} ∷  -- {case.number}\n' for case in every)))
-    of('crates/lines/specs/NumbersNamed.antt', lambda path, text: clauses(path, text, 'only-named', ' = refl', expanded))
+    of('crates/lines/specs/NumbersNamedProof.antt', lambda path, text: clauses(path, text, 'only-named', ' = refl', expanded))
     of('crates/letter/specs/Paper.antt')
     of('crates/letter/specs/ImageProof.antt', lambda path, text: clauses(path, text, 'carried-same', ' = refl', expanded))
     rows, given, back = told(every)

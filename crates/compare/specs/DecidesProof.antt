@@ -13,7 +13,8 @@ use Rattle.finish.specs.Kinds.{fromEntry}
 use Rattle.build.specs.Build.{rowsFor, answer}
 use Rattle.collect.specs.Lawful.{lawfulVerdict}
 use Rattle.rise.specs.Rise.{EntryRises, RiseHypothesis as Hypothesis}
-use Rattle.rise.specs.Decide.{inTable, test-rises, rises-test}
+use Rattle.rise.specs.Decide.{inTable}
+use Rattle.rise.specs.DecideProof.{test-rises, rises-test}
 use Rattle.rise.specs.RiseProof.{demand-3}
 use Rattle.compare.specs.declared.search.Asked.the-variants.{Entries}
 use Rattle.compare.specs.declared.search.RowsCompared.{RowsCompared}

@@ -13,7 +13,7 @@ use Rattle.table.specs.declared.CpuidResults.{CpuidResults}
 use Rattle.finish.specs.Kinds.{Kind, TableAtLeast}
 use Rattle.finish.specs.Kinds.Kind.{feature, featureBut28, area, freed, other}
 use Rattle.rise.specs.Rise.{Further, TableRises}
-use Rattle.rise.specs.Decide.{test-rises, rises-test}
+use Rattle.rise.specs.DecideProof.{test-rises, rises-test}
 use Rattle.compare.specs.declared.search.Asked.the-variants.{Tables}
 use Rattle.compare.specs.declared.search.RowsCompared.{RowsCompared}
 use Rattle.compare.specs.declared.search.RowsCompared.the-variants.{Rises}

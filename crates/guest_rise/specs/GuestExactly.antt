@@ -13,7 +13,8 @@ use Rattle.table.specs.Refusal.{details}
 use Rattle.table.specs.Rows.{Rows}
 use Rattle.table.specs.Table.{emptyTable, rowsOfTable}
 use Rattle.build.specs.Build.{answer}
-use Rattle.buffer.specs.WritesExactly.{FrontExactly, front-exactly}
+use Rattle.buffer.specs.WritesExactly.{FrontExactly}
+use Rattle.buffer.specs.WritesExactlyProof.{front-exactly}
 use Rattle.image.specs.Image.{image}
 use Rattle.refusals.specs.Exactly.{FirstFault, BuildsExactly}
 use Rattle.refusals.specs.ExactlyProof.{not-built}

@@ -7,6 +7,7 @@ pub mod NumbersInUseLaws
 pub mod Line
 pub mod LineLaws
 pub mod NumbersNamed
+pub mod NumbersNamedProof
 pub mod WriteLine
 pub mod ReadLine
 pub mod ReadLineLaws
@@ -14,3 +15,4 @@ pub mod WriteLineLaws
 pub mod LinePromises
 pub mod ComputedLines
 pub mod LineExactly
+pub mod LineExactlyProof

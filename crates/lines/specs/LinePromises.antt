@@ -24,7 +24,7 @@ use Rattle.lines.specs.declared.LineWritten.the-variants.{Line as Answer
 use Rattle.lines.specs.Digits.{width, decimal}
 use Rattle.lines.specs.DigitsLaws.{AtLeast, none, next, at-least-append, digits-at-least}
 use Rattle.lines.specs.NumbersInUse.{names}
-use Rattle.lines.specs.NumbersNamed.{sets-named}
+use Rattle.lines.specs.NumbersNamedProof.{sets-named}
 use Rattle.lines.specs.Line.{newline, space, LineFits, mostS, leafField, subleafField, sField, fieldsAs, fields, writable, line}
 use Rattle.lines.specs.WriteLine.{AfterLine, leaves, writeLine}
 use Rattle.lines.specs.WriteLineLaws.{write-none, write-short, write-whole, front}

@@ -6,4 +6,5 @@ pub mod NearestExactlyProof
 pub mod TwentyExactly
 pub mod OutsideLaws
 pub mod Meaning
+pub mod MeaningProof
 pub mod WithoutInvlpgb

@@ -6,7 +6,8 @@ use Rattle.bits.specs.ChoiceLaws.{impossible}
 use Rattle.table.specs.declared.Choices.{Choices}
 use Rattle.table.specs.declared.Refusal.the-variants.{BufferTooShort}
 use Rattle.table.specs.declared.Verdict.the-variants.{Refused}
-use Rattle.buffer.specs.WritesExactly.{FrontExactly, front-exactly}
+use Rattle.buffer.specs.WritesExactly.{FrontExactly}
+use Rattle.buffer.specs.WritesExactlyProof.{front-exactly}
 use Rattle.image.specs.Image.{image}
 use Rattle.refusals.specs.ExactlyProof.{builds-exactly, not-short}
 use Rattle.pool.specs.Sets.{setAt}

@@ -14,7 +14,7 @@ use Rattle.table.specs.Refusal.{details}
 use Rattle.table.specs.Table.{emptyTable}
 use Rattle.finish.specs.RowsBuilt.{tableFor}
 use Rattle.build.specs.Build.{rowsFor, answer}
-use Rattle.buffer.specs.WritesExactly.{front-exactly}
+use Rattle.buffer.specs.WritesExactlyProof.{front-exactly}
 use Rattle.image.specs.Write.{write}
 use Rattle.refusals.specs.Conditions.{Check, Fault}
 use Rattle.refusals.specs.Conditions.Check.{edition, pagesLength, pageCounts, reservedBytes, requiredLeaves, invlpgb, components, saveArea, processorCount, hyperthreading, threadsPerUnit}

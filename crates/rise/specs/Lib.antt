@@ -2,6 +2,7 @@ pub mod Rise
 pub mod RuleLaws
 pub mod RowsRise
 pub mod Decide
+pub mod DecideProof
 pub mod RiseProof
 pub mod Same
 pub mod SameProof

@@ -28,7 +28,7 @@ use Rattle.build.specs.Build.{rowsFor, answer}
 use Rattle.build.specs.BuildLaws.{answer-of-rows}
 use Rattle.buffer.specs.declared.Written.the-variants.{Bytes}
 use Rattle.buffer.specs.Front.{AfterWrite, writeFront}
-use Rattle.buffer.specs.WritesExactly.{front-exactly}
+use Rattle.buffer.specs.WritesExactlyProof.{front-exactly}
 use Rattle.image.specs.ImagePieces.{rowsAmong}
 use Rattle.refusals.specs.ExactlyProof.{not-short}
 use Rattle.rise.specs.RiseProof.{answer-table, answer-row, accepted-edition, accepted-lawful, accepted-rows}

@@ -21,8 +21,10 @@ use Rattle.lines.specs.WriteLine.{leaves, writeLine}
 use Rattle.lines.specs.ReadLine.{readLine}
 use Rattle.lines.specs.LinePromises as Lines
 use Rattle.lines.specs.LinePromises.{LineOf, lineDetails}
-use Rattle.lines.specs.LineExactly.{LineExactly, Nameable, line-exactly, writable-means}
-use Rattle.lines.specs.NumbersNamed.{NamesExactly, names-exactly}
+use Rattle.lines.specs.LineExactly.{LineExactly, Nameable}
+use Rattle.lines.specs.LineExactlyProof.{line-exactly, writable-means}
+use Rattle.lines.specs.NumbersNamed.{NamesExactly}
+use Rattle.lines.specs.NumbersNamedProof.{names-exactly}
 use Rattle.lines.specs.NumbersInUse.{names}
 use Rattle.refusals.specs.Lined.{BuildingLined, LinesTell}
 use Rattle.refusals.specs.LinedProof.{building-lined, lines-tell}

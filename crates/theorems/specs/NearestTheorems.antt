@@ -28,7 +28,7 @@ use Rattle.nearest.specs.Nearest.{nearest}
 use Rattle.nearest_exactly.specs.NearestExactly.{NearestExactly, TwentyExactly}
 use Rattle.nearest_exactly.specs.NearestExactlyProof as Exactly
 use Rattle.nearest_exactly.specs.TwentyExactly as Twenty
-use Rattle.nearest_exactly.specs.Meaning as Meaning
+use Rattle.nearest_exactly.specs.MeaningProof as Meaning
 use Rattle.nearest_exactly.specs.Meaning.{Unchanged}
 use Rattle.nearest_exactly.specs.WithoutInvlpgb as Invlpgb
 use Rattle.nearest_exactly.specs.WithoutInvlpgb.{InvlpgbNearest}

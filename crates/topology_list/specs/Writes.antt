@@ -4,7 +4,8 @@ use mathlib.Core.List.{List}
 use Prim.Native.Nat.{ℕ}
 use native.Mathlib.Omega.{arith}
 use Rattle.table.specs.declared.Verdict.the-variants.{Accepted}
-use Rattle.buffer.specs.WritesExactly.{FrontExactly, front-exactly}
+use Rattle.buffer.specs.WritesExactly.{FrontExactly}
+use Rattle.buffer.specs.WritesExactlyProof.{front-exactly}
 use Rattle.topologies.specs.Topologies.{acceptedInputs, inputsBytes, writeTopologies}
 
 pub writes-exactly : (buffer : List ℕ) → FrontExactly Accepted (inputsBytes acceptedInputs) buffer (writeTopologies buffer)
