@@ -79,7 +79,7 @@ def arm(case):
         return f'Refusal::{NESTED}(e) => topology_numbers(e)'
     if 'leaf' in case.details:
         return f'Refusal::{case.name}{given} => at_leaf({case.number}, leaf.0, {"subleaf" if "subleaf" in case.details else "Subleaf::None"})'
-    return f'Refusal::{case.name}{given} => sized({case.number}, {"s" if case.details else "0"})'
+    return f'Refusal::{case.name}{given} => with_s({case.number}, {"s" if case.details else "0"})'
 
 
 def detail(case):
@@ -89,7 +89,7 @@ def detail(case):
         subleaf = 'subleaf' if 'subleaf' in case.details else 'None'
         told = f'record {{ number = {case.number}; leaf = leaf .0; subleaf = {subleaf}; s = 0 }}'
     else:
-        told = f'sized {case.number} s' if case.details else f'alone {case.number}'
+        told = f'withS {case.number} s' if case.details else f'alone {case.number}'
     return f'details {case.pattern()} = {told}\n'
 
 
@@ -111,7 +111,7 @@ def numbers_proof(every):
     for at, case in enumerate(rows, 1):
         carries = case.nested or case.details
         told = f'c .before .before .{next_of("refusal")}' if carries else f'c .before .{next_of("enum-told")}'
-        called = next_of('topology-numbers' if case.nested else 'at-leaf' if 'leaf' in case.details else 'sized')
+        called = next_of('topology-numbers' if case.nested else 'at-leaf' if 'leaf' in case.details else 'with-s')
         name = 'returns' + (f'-{at}' if at > 1 else '')
         returns.append(f'{name} : tie.Need-{name}\n{name} c = rw ({told} .given .1) (c .{called} .ensures)\n\n')
     named = ['returns' + (f'-{at}' if at > 1 else '') for at in range(1, len(rows) + 1)]

@@ -12,7 +12,7 @@ pub mod FitLaws
 pub mod XsavesLaws
 pub mod RemainsLaws
 pub mod RuleKinds
-pub mod JoinLaws
+pub mod MeetLaws
 pub mod RowsBuilt
 pub mod Stages
 pub mod StageLaws

@@ -32,7 +32,7 @@ use Rattle.checks.specs.ExtendedState.{xss, combinedMask}
 use Rattle.checks.specs.Checks.{rowsVerdict}
 use Rattle.checks.specs.ChecksLaws.{then-left, then-right, demanded}
 use Rattle.finish.specs.Finish.{finished}
-use Rattle.finish.specs.JoinLaws.{MaskedState}
+use Rattle.finish.specs.MeetLaws.{MaskedState}
 use Rattle.memory.specs.Origin.{finishedOrigins}
 use Rattle.collect.specs.FirstEntries.{rowsOf}
 use Rattle.collect.specs.FirstEntryOrigin.{foundOrigins}

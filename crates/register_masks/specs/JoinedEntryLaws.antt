@@ -14,7 +14,7 @@ use Rattle.bits.specs.BitsLaws.{bit-and, bit-or, bit-lt, bits-ext, has-not, non
 use Rattle.x86defs.specs.declared.CpuidResult.{CpuidResult}
 use Rattle.finish.specs.Kinds.{Kind, Kinds, Registers}
 use Rattle.finish.specs.Kinds.Kind.{feature, featureBut28, area, freed, other}
-use Rattle.finish.specs.JoinLaws.{joined, joinResults}
+use Rattle.finish.specs.MeetLaws.{meet, meetResults}
 use Rattle.register_masks.specs.Join.{joinedRegister, pooledResults}
 use Rattle.register_masks.specs.Alike.{Alike}
 
@@ -75,7 +75,7 @@ alike-pooled area x a b p = tt
 alike-pooled freed x a b p = tt
 alike-pooled other x a b p = p
 
-pub pooled-joined : (k : Kind) (a b : ℕ) → Alike k a b → joinedRegister k a b ≡ joined k a b
+pub pooled-joined : (k : Kind) (a b : ℕ) → Alike k a b → joinedRegister k a b ≡ meet k a b
 pooled-joined feature a b p = refl
 pooled-joined featureBut28 a b p = plain-and a b p
 pooled-joined area a b p = refl
@@ -108,7 +108,7 @@ registers-pooled k b p = record {
   edx = alike-pooled (k .edx) _ _ (b .edx) (p .edx);
 }
 
-pub results-joined : (k : Kinds) {a b : CpuidResult} → Registers Alike k a b → pooledResults k a b ≡ joinResults k a b
+pub results-joined : (k : Kinds) {a b : CpuidResult} → Registers Alike k a b → pooledResults k a b ≡ meetResults k a b
 results-joined k p i = record {
   eax = pooled-joined (k .eax) _ _ (p .eax) i;
   ebx = pooled-joined (k .ebx) _ _ (p .ebx) i;

@@ -32,7 +32,7 @@ use Rattle.finish.specs.Finish.Rule.{made, needed, component}
 use Rattle.finish.specs.Kinds.{Kinds, Registers, registerKinds, kindsAt, fromEntry}
 use Rattle.finish.specs.RuleKinds.{kindsOf, kinds-at, component-kinds}
 use Rattle.finish.specs.FeatureLaws.{bothEnable}
-use Rattle.finish.specs.JoinLaws.{joinRows, joinResults, MaskedState, FeaturesJoin, xfem-join, xss-join, enabled-join, mask-join, finish-join-at}
+use Rattle.finish.specs.MeetLaws.{meetRows, meetResults, MaskedState, FeaturesMeet, xfem-meet, xss-meet, enabled-meet, mask-meet, finish-meet-at}
 use Rattle.finish.specs.PlaceLaws.{always, position, always-required, component-rule, Sort, sort}
 use Rattle.finish.specs.PlaceLaws.Sort.{made as madeHere, required, subleaf}
 use Rattle.finish.specs.RemainsLaws.{finished-present, finished-result, made-remains, always-remains, component-finished}
@@ -45,20 +45,20 @@ use Rattle.register_masks.specs.JoinedEntryLaws.{keeps-28, results-joine
 -- ---- what is enabled, and the mask: by feature registers alone, so the base's laws hold of this join too
 
 enabled-with : (a b : Rows) → enabledBy (withServer a b) ≡ bothEnable (enabledBy a) (enabledBy b)
-unfolding enabledBy withServer joinRows xfem xss kindsAt registerKinds slot keptLeaves
-enabled-with a b = enabled-join a b
+unfolding enabledBy withServer meetRows xfem xss kindsAt registerKinds slot keptLeaves
+enabled-with a b = enabled-meet a b
 
 pub xfem-with : (a b : Rows) → xfem (withServer a b) ≡ bitAnd (xfem a) (xfem b)
-unfolding withServer joinRows xfem kindsAt registerKinds slot keptLeaves
-xfem-with a b = xfem-join a b
+unfolding withServer meetRows xfem kindsAt registerKinds slot keptLeaves
+xfem-with a b = xfem-meet a b
 
 pub xss-with : (a b : Rows) → xss (withServer a b) ≡ bitAnd (xss a) (xss b)
-unfolding withServer joinRows xss kindsAt registerKinds slot keptLeaves
-xss-with a b = xss-join a b
+unfolding withServer meetRows xss kindsAt registerKinds slot keptLeaves
+xss-with a b = xss-meet a b
 
 pub mask-with : (a b : Rows) → MaskedState a → MaskedState b → combinedMask (withServer a b) ≡ bitAnd (combinedMask a) (combinedMask b)
-unfolding withServer joinRows combinedMask xfem xss kindsAt registerKinds slot keptLeaves
-mask-with a b p q = mask-join a b p q
+unfolding withServer meetRows combinedMask xfem xss kindsAt registerKinds slot keptLeaves
+mask-with a b p q = mask-meet a b p q
 
 pub masked-with : (a b : Rows) → MaskedState a → MaskedState (withServer a b)
 masked-with a b p = record {
@@ -190,10 +190,10 @@ module _ (edition : ℕ) where
   enabled-settings a b = enabled-with a b
 
   -- a row that not every table has holds no features
-  no-features : (i : ℕ) → i < places → (z x y : CpuidResult) → always (ruleAt i) ≡ false → FeaturesJoin (kindsAt i) z x y
-  no-features i l z x y e = subst (λ (k : Kinds). FeaturesJoin k z x y) (sym (kinds-at i l)) (go (ruleAt i) e)
+  no-features : (i : ℕ) → i < places → (z x y : CpuidResult) → always (ruleAt i) ≡ false → FeaturesMeet (kindsAt i) z x y
+  no-features i l z x y e = subst (λ (k : Kinds). FeaturesMeet k z x y) (sym (kinds-at i l)) (go (ruleAt i) e)
     where
-      go : (t : Rule) → always t ≡ false → FeaturesJoin (kindsOf (kindsAt i) t) z x y
+      go : (t : Rule) → always t ≡ false → FeaturesMeet (kindsOf (kindsAt i) t) z x y
       go (made t) e = record { eax = tt; ebx = tt; ecx = tt; edx = tt }
       go (needed t) e = absurd (never-both refl e)
       go (component k) e = record { eax = tt; ebx = tt; ecx = tt; edx = tt }
@@ -201,22 +201,22 @@ module _ (edition : ℕ) where
   -- the and of both tables', where the entries are alike else
   pub features-with : (a b : Rows) → rowsVerdict a ≡ Accepted → rowsVerdict b ≡ Accepted → (i : ℕ) → i < places
       → (always (ruleAt i) ≡ true → Registers Alike (kindsAt i) (a i .result) (b i .result))
-      → FeaturesJoin (kindsAt i) (finished edition (withServer a b) i .result) (finished edition a i .result) (finished edition b i .result)
-  unfolding withServer joinRows settings
+      → FeaturesMeet (kindsAt i) (finished edition (withServer a b) i .result) (finished edition a i .result) (finished edition b i .result)
+  unfolding withServer meetRows settings
   features-with a b p q i l alike = go (always (ruleAt i)) refl
     where
       go : (t : Bool) → always (ruleAt i) ≡ t
-          → FeaturesJoin (kindsAt i) (finished edition (withServer a b) i .result) (finished edition a i .result) (finished edition b i .result)
+          → FeaturesMeet (kindsAt i) (finished edition (withServer a b) i .result) (finished edition a i .result) (finished edition b i .result)
       go false e = no-features i l _ _ _ e
       go true e =
-          let s : withServer a b i .result ≡ joinRows a b i .result = results-joined (kindsAt i) (alike e) in
+          let s : withServer a b i .result ≡ meetRows a b i .result = results-joined (kindsAt i) (alike e) in
           rw (
             finished-result edition (withServer a b) i (required-in (withServer a b) (with-accepted a b p q) i l e),
             finished-result edition a i (required-in a p i l e),
             finished-result edition b i (required-in b q i l e),
             s,
           )
-          (finish-join-at (settings edition (withServer a b)) (settings edition a) (settings edition b) (enabled-settings a b) refl refl a b i l
+          (finish-meet-at (settings edition (withServer a b)) (settings edition a) (settings edition b) (enabled-settings a b) refl refl a b i l
           (λ r. (
             subst (λ (x : CpuidResult). unlessNoXss (settings edition (withServer a b) .enabled) (x .ecx) ≡ settings edition (withServer a b) .enabled .xss) s
                 (ends-as-xss (withServer a b) i l r),

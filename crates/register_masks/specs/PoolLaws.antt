@@ -18,7 +18,7 @@ use Rattle.checks.specs.Checks.{rowsVerdict}
 use Rattle.finish.specs.Finish.{ruleAt, finished}
 use Rattle.finish.specs.Kinds.{Kind, Kinds, Registers, registerKinds, kindsAt}
 use Rattle.finish.specs.Kinds.Kind.{feature, featureBut28, area, freed, other}
-use Rattle.finish.specs.JoinLaws.{MaskedState, FeatureJoin}
+use Rattle.finish.specs.MeetLaws.{MaskedState, FeatureMeet}
 use Rattle.finish.specs.PlaceLaws.{always}
 use Rattle.finish.specs.XsavesLaws.{XsavesEdx}
 use Rattle.register_masks.specs.Join.{withServer, pool, andTo, allTo}
@@ -89,7 +89,7 @@ feature-first area x = tt
 feature-first freed x = tt
 feature-first other x = tt
 
-feature-next : (k : Kind) (z y : ℕ) (x : ℕ → ℕ) (n : ℕ) → FeatureJoin k z y (x (suc n)) → FeatureIs k y x n → FeatureIs k z x (suc n)
+feature-next : (k : Kind) (z y : ℕ) (x : ℕ → ℕ) (n : ℕ) → FeatureMeet k z y (x (suc n)) → FeatureIs k y x n → FeatureIs k z x (suc n)
 unfolding andTo
 feature-next feature z y x n p q = p ∙ ap (λ (w : ℕ). bitAnd w (x (suc n))) q
 feature-next featureBut28 z y x n p q = p ∙ ap (λ (w : ℕ). bitAnd w (x (suc n))) q

@@ -23,12 +23,12 @@ pub record Details : Type 0 where
 abbrev alone : ℕ → Details
 alone n = record { number = n; leaf = 0; subleaf = None; s = 0 }
 
-abbrev sized : ℕ → ℕ → Details
-sized n s = record { number = n; leaf = 0; subleaf = None; s = s }
+abbrev withS : ℕ → ℕ → Details
+withS n s = record { number = n; leaf = 0; subleaf = None; s = s }
 
 abbrev pub topologyDetails : TopologyError → Details
-topologyDetails (Hyperthreading s) = sized 6 s
-topologyDetails (ProcessorCount s) = sized 7 s
+topologyDetails (Hyperthreading s) = withS 6 s
+topologyDetails (ProcessorCount s) = withS 7 s
 topologyDetails ThreadsPerUnit = alone 8
 
 abbrev pub details : Refusal → Details

@@ -16,7 +16,7 @@ pub struct AnswerNumbers {
 }
 
 // A number by itself, or with s.
-fn sized(number: u8, s: u8) -> AnswerNumbers
+fn with_s(number: u8, s: u8) -> AnswerNumbers
     ensures { λ r. ⌜ r ≡ record { number = number; leaf = 0; «has_subleaf» = 0; subleaf = 0; s = s } ⌝ }
 {
     AnswerNumbers {
@@ -32,9 +32,9 @@ fn topology_numbers(e: TopologyError) -> AnswerNumbers
     ensures { λ r. ⌜ r ≡ topologyNumbers e ⌝ }
 {
     match e {
-        TopologyError::Hyperthreading(s) => sized(6, s),
-        TopologyError::ProcessorCount(s) => sized(7, s),
-        TopologyError::ThreadsPerUnit => sized(8, 0),
+        TopologyError::Hyperthreading(s) => with_s(6, s),
+        TopologyError::ProcessorCount(s) => with_s(7, s),
+        TopologyError::ThreadsPerUnit => with_s(8, 0),
     }
 }
 
@@ -65,24 +65,24 @@ pub fn refusal_numbers(refusal: Refusal) -> AnswerNumbers
     ensures { λ r. ⌜ r ≡ refusalNumbers refusal ⌝ }
 {
     match refusal {
-        Refusal::PagesLength => sized(1, 0),
-        Refusal::PageCount => sized(2, 0),
+        Refusal::PagesLength => with_s(1, 0),
+        Refusal::PageCount => with_s(2, 0),
         Refusal::MissingRequiredResult(leaf, subleaf) => at_leaf(3, leaf.0, subleaf),
-        Refusal::InvlpgbUnavailable => sized(4, 0),
-        Refusal::SaveAreaOverflow => sized(5, 0),
+        Refusal::InvlpgbUnavailable => with_s(4, 0),
+        Refusal::SaveAreaOverflow => with_s(5, 0),
         Refusal::TopologyInconsistent(e) => topology_numbers(e),
-        Refusal::BufferTooShort => sized(9, 0),
-        Refusal::ListLength => sized(10, 0),
-        Refusal::ListRows => sized(11, 0),
-        Refusal::ListFields => sized(12, 0),
-        Refusal::StateBeyondTable => sized(13, 0),
-        Refusal::CompactSizeTooLarge => sized(14, 0),
-        Refusal::UnknownEdition => sized(15, 0),
-        Refusal::EditionBack => sized(16, 0),
+        Refusal::BufferTooShort => with_s(9, 0),
+        Refusal::ListLength => with_s(10, 0),
+        Refusal::ListRows => with_s(11, 0),
+        Refusal::ListFields => with_s(12, 0),
+        Refusal::StateBeyondTable => with_s(13, 0),
+        Refusal::CompactSizeTooLarge => with_s(14, 0),
+        Refusal::UnknownEdition => with_s(15, 0),
+        Refusal::EditionBack => with_s(16, 0),
         Refusal::ReservedBytes(leaf) => at_leaf(17, leaf.0, Subleaf::None),
-        Refusal::PoolSets => sized(18, 0),
-        Refusal::PoolDiffers => sized(19, 0),
-        Refusal::NothingDecides => sized(20, 0),
+        Refusal::PoolSets => with_s(18, 0),
+        Refusal::PoolDiffers => with_s(19, 0),
+        Refusal::NothingDecides => with_s(20, 0),
     }
 }
 
@@ -91,7 +91,7 @@ pub fn answer_numbers(verdict: Verdict) -> AnswerNumbers
     ensures { λ r. ⌜ r ≡ numbersOf verdict ⌝ }
 {
     match verdict {
-        Verdict::Accepted => sized(0, 0),
+        Verdict::Accepted => with_s(0, 0),
         Verdict::Refused(refusal) => refusal_numbers(refusal),
     }
 }

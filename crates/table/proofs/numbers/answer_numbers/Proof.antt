@@ -4,7 +4,7 @@ use Rattle.table.proofs.numbers.answer_numbers.Statement.{statement}
 use Rattle.table.proofs.numbers.answer_numbers.Tie as tie
 
 returns : tie.Need-returns
-returns c = rw (c .before .enum-told .given .1) (c .sized .ensures)
+returns c = rw (c .before .enum-told .given .1) (c .with-s .ensures)
 
 returns-2 : tie.Need-returns-2
 returns-2 c = rw (c .before .before .verdict .given .1) (c .refusal-numbers .ensures)
