@@ -2,9 +2,11 @@
 """figures.py: the figures of the proved source, in constants, comments, messages, documents, and where one follows from another in the source.
 
 tests/gate/figures.txt has the places: a file, and below it texts of that file with {FIGURE} where the number stands, or {FIGURE:,} where it has
-commas. {place:7.0} is the number of the place of leaf 7 subleaf 0, and {row:7.0} that of its row in the table of kept leaves. {editions:and} has the
-known editions, as "1 and 2", and likewise with `or` and `nor`. \\n is a new line. --write puts each number there, and --check fails where a file has
-another one or does not have the text at all. A new place is a new line of the list. The other tools read what this one writes, so it comes first.
+commas. {place:7.0} is the number of the place of leaf 7 subleaf 0, {row:7.0} that of its row in the table of kept leaves, {required:7.0} its position
+in the lists of required leaves, {stretch:7.0} how many places from there on have subleaves as it has, or have none; {end:1} is the leaf after those
+that follow each other from leaf 1 on. {editions:and} has the known editions, as "1 and 2", and likewise with `or` and `nor`. \\n is a new line.
+--write puts each number there, and --check fails where a file has another one or does not have the text at all. A new place is a new line of the
+list. The other tools read what this one writes, so it comes first.
 
 The number of places, 88, and that of their registers also stand bare in definitions and proofs. Where the table of kept leaves has another number
 than the code's PLACES, --write puts the new numbers for the old ones in every file of the crates but those of BY_HAND, which state them.
@@ -13,41 +15,59 @@ from pathlib import Path
 import re
 import sys
 
-from kept_leaves import rows as kept_rows
+from kept_leaves import required, rows as kept_rows
 from proved_source import Unlisted, constant
 
 ROOT = Path(__file__).resolve().parents[2]
 LIST = 'tests/gate/figures.txt'
-COUNTS = 'crates/counts/specs/Counts.antt'
-BY_HAND = 'crates/theorems/', 'crates/letter/specs/Paper.antt', 'crates/vectors/'
+MASK = 'crates/counts/specs/Mask.antt'
+BY_HAND = 'crates/theorems/specs/Document01.antt', 'crates/letter/specs/Paper.antt', 'crates/vectors/'
 FIGURE = re.compile(r'\{(\w+)(?::(,|and|or|nor|[0-9A-F.]+))?\}')
+STATE, FIRST_STATE = 0xD, 2
 EDITION = 'crates/table/specs/Edition.antt'
-NUMBER, NUMBERS = '[0-9,]*[0-9]', r'[0-9]+(?:, [0-9]+)* (?:and|n?or) [0-9]+'
+NUMBER, NUMBERS, LEAF = '[0-9,]*[0-9]', r'[0-9]+(?:, [0-9]+)* (?:and|n?or) [0-9]+', '0x[0-9A-F]+'
 
 
-def stated(root, pattern):
-    """A figure of the theorem on rows and bytes."""
-    found = re.search(pattern, (root / COUNTS).read_text(encoding='utf-8'))
+def most_components(root):
+    """The most bits that a combined mask has from 2 up: each is a row of leaf Dh."""
+    found = re.search(r'componentsIn x ≤ (\d+)', (root / MASK).read_text(encoding='utf-8'))
     if not found:
-        raise Unlisted(f'{COUNTS} has no line like {pattern}')
+        raise Unlisted(f'{MASK} has no bound of the components')
     return int(found[1])
 
 
 def figures(root):
-    """{name: number}. A row of a subleaf has 25 bytes in the image, and each row that an accepted table may lack is one; in a list for KVM any row
-    has 40, after 8 of the head."""
-    table = kept_rows(root)
-    places = sum(map(len, table))
-    numbers = {f'{place.leaf:X}' + ('' if place.subleaf is None else f'.{place.subleaf}'): row for row, each in enumerate(table) for place in each}
-    rows, most = stated(root, r'«row_count» ≡ (\d+) \+'), stated(root, r'«row_count» ≤ (\d+)')
-    image = stated(root, r'length \(image .*\) ≡ (\d+) \+ 25 \*')
+    """{name: number}. In the image a row has 21 bytes, and 25 with a subleaf; in a list for KVM any row has 40, after 8 of the head. The rows from D.2
+    on are those that an accepted table may lack."""
+    table, needed = kept_rows(root), required(root)
+    kept = [place for row in table for place in row]
+    always = [place for place in kept if place.leaf != STATE or place.subleaf < FIRST_STATE]
+    subleaf_rows = sum(place.subleaf is not None for place in always)
+    places, rows, image = len(kept), len(always), 21 * len(always) + 4 * subleaf_rows
+    most = rows + most_components(root)
     return {
         'servers': constant(root, 'pool/src/sets.rt', 'MOST_SETS'),
         'places': places, 'last': places - 1, 'registers': 4 * places, 'table_bytes': 24 * places,
         'rows': rows, 'most_rows': most, 'image': image, 'most_image': image + 25 * (most - rows), 'most_kvm': 8 + 40 * most,
         'any_image': image + 25 * (places - rows), 'any_kvm': 8 + 40 * places, 'kept_rows': len(table),
-        **{f'place:{name}': place for place, name in enumerate(numbers)}, **{f'row:{name}': row for name, row in numbers.items()},
+        'whole_rows': rows - subleaf_rows, 'subleaf_rows': subleaf_rows, 'required': len(needed), 'not_state': sum(p.leaf != STATE for p in kept),
+        **{f'{name}:{written(place)}': number for at, place in enumerate(kept) for name, number in of_place(table, kept, at).items()},
+        **{f'required:{written(place)}': at for at, place in enumerate(needed)},
     }
+
+
+def written(place):
+    """A place as the list has it: 7.0."""
+    return f'{place.leaf:X}' + ('' if place.subleaf is None else f'.{place.subleaf}')
+
+
+def of_place(table, kept, at):
+    """{name: number} of the place with this number."""
+    whole = {place.leaf for place in kept if place.subleaf is None}
+    alike = [(place.subleaf is None) == (kept[at].subleaf is None) for place in kept[at:]]
+    end = next(leaf for leaf in range(kept[at].leaf, kept[at].leaf + len(kept) + 1) if leaf not in whole)
+    return {'place': at, 'row': next(row for row, each in enumerate(table) if kept[at] in each),
+            'stretch': (alike + [False]).index(False), 'end': f'0x{end:X}'}
 
 
 def editions(root):
@@ -81,7 +101,7 @@ def with_figures(text, place, known):
         if name not in known:
             raise Unlisted(f'{LIST}: {name} is no figure: {", ".join(each for each in known if ":" not in each)}')
         before, number = place[at:found.start()], f'{known[name]:,}' if found[2] == ',' else str(known[name])
-        matched = NUMBERS if name.startswith('editions:') else NUMBER
+        matched = NUMBERS if name.startswith('editions:') else LEAF if name.startswith('end:') else NUMBER
         pattern, wanted, at = f'{pattern}{re.escape(before)}{matched}', wanted + before + number, found.end()
     pattern, wanted = f'(?<![0-9]){pattern}(?![0-9]){re.escape(place[at:])}', wanted + place[at:]
     made, many = re.subn(pattern, lambda _: wanted, text)

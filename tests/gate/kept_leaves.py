@@ -1,7 +1,8 @@
 """kept_leaves.py: the kept leaves, their places and the kinds of their registers, as the definitions have them.
 
-The leaves are `keptLeaves` of crates/masking/specs/Kept.antt with the numbers of crates/x86defs/specs/Functions.antt, the kinds `registerKinds` of
-crates/finish/specs/Kinds.antt; the names of places are the constants of crates/masking/src/place.rt.
+The leaves are `keptLeaves` of crates/masking/specs/Kept.antt with the numbers of crates/x86defs/specs/Functions.antt, those that every table needs
+the two lists of crates/checks/specs/Required.antt, the kinds `registerKinds` of crates/finish/specs/Kinds.antt; the names of places are the constants
+of crates/masking/src/place.rt.
 """
 import re
 from typing import NamedTuple
@@ -9,6 +10,7 @@ from typing import NamedTuple
 from proved_source import Unlisted
 
 FUNCTIONS, KEPT, KINDS = 'crates/x86defs/specs/Functions.antt', 'crates/masking/specs/Kept.antt', 'crates/finish/specs/Kinds.antt'
+REQUIRED = 'crates/checks/specs/Required.antt'
 LEAVES, PLACES = 'crates/x86defs/src/leaf.rt', 'crates/masking/src/place.rt'
 REGISTERS = 'EAX', 'EBX', 'ECX', 'EDX'
 
@@ -27,17 +29,46 @@ def read(root, path):
     return (root / path).read_text(encoding='utf-8')
 
 
+def defined(root):
+    """{name of a leaf in the definitions: its number}."""
+    return {name: int(number, 16) for name, number in re.findall(r'^(\w+) = function (0x[0-9A-F]+)$', read(root, FUNCTIONS), re.MULTILINE)}
+
+
+def table(root):
+    """[(name of a leaf, first subleaf, last subleaf, masks)] of the rows of the table of kept leaves, as they are written."""
+    there = re.search(r'^keptLeaves avic =\n((?:    .*\n)+)', read(root, KEPT), re.MULTILINE)
+    found = re.findall(r'\bkept (\w+) (?:made|whole|\(subleaves (\d+) (\d+)\)) (.*)\n', there[1] if there else '')
+    if not found:
+        raise Unlisted(f'{KEPT} has no keptLeaves')
+    return found
+
+
 def rows(root):
     """The rows of the table of kept leaves, each with its places."""
-    numbers = {name: int(number, 16) for name, number in re.findall(r'^(\w+) = function (0x[0-9A-F]+)$', read(root, FUNCTIONS), re.MULTILINE)}
-    table = re.search(r'^keptLeaves avic =\n((?:    .*\n)+)', read(root, KEPT), re.MULTILINE)
-    found = []
-    for name, first, last in re.findall(r'\bkept (\w+) (?:made|whole|\(subleaves (\d+) (\d+)\)) ', table[1] if table else ''):
+    numbers, found = defined(root), []
+    for name, first, last, _ in table(root):
         if name not in numbers:
             raise Unlisted(f'{FUNCTIONS} has no number for {name} of {KEPT}')
         found.append([Place(numbers[name], subleaf) for subleaf in (range(int(first), int(last) + 1) if first else [None])])
+    return found
+
+
+def masks(root):
+    """The name of the masks of each row."""
+    return [each[3] for each in table(root)]
+
+
+def required(root):
+    """The places that every table needs an entry for, in the order in which building asks for them."""
+    numbers, text, found = defined(root), read(root, REQUIRED), []
+    for name in 'commonRequiredLeaves', 'snpRequiredLeaves':
+        lines = re.search(rf'^{name} =\n((?:    .*\n)+)', text, re.MULTILINE)
+        for leaf, subleaf in re.findall(r'(?:whole|sub) (\w+)(?: (\d+))?\n', lines[1] if lines else ''):
+            if leaf not in numbers:
+                raise Unlisted(f'{FUNCTIONS} has no number for {leaf} of {REQUIRED}')
+            found.append(Place(numbers[leaf], int(subleaf) if subleaf else None))
     if not found:
-        raise Unlisted(f'{KEPT} has no keptLeaves')
+        raise Unlisted(f'{REQUIRED} has no required leaves')
     return found
 
 

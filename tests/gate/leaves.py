@@ -2,12 +2,19 @@
 """leaves.py: where the kept leaves stand in lists that follow from the table of them, made of `keptLeaves` of crates/masking/specs/Kept.antt.
 
 --write writes them, and --check fails where a file has something else:
+  crates/x86defs/src/leaf.rt, masking/src/place.rt    the numbers of the leaves, and a name for the first place of each
+  crates/masking/src/masks.rt               a row of the code's table for a leaf that is kept whole
   crates/masking/src/run.rt                 the numbers of each run: its places and its rows of the table
   crates/masking/src/lib.rt, specs, proofs  the arms of `place_of`, its proof, and the leaves that they name
+  crates/rows/src/checked/required.rt       the places of the required leaves, of the lists of crates/checks/specs/Required.antt
+  crates/collect/src/full.rt, must-fail     the leaves that are not kept, as bits, and the edit that changes them
+  crates/lookup/src/lib.rt                  where leaves without subleaves follow each other, the last of them
+  crates/kvm_export/specs/Flags.antt, crates/theorems/specs/ListTheorems.antt    the flag and the index of each place
   include/snp_cpuid.h                       the places of a table, in words
   rust/src/places.rs                        the runs of places
   rust/tests/memory.rs, command/page_sets.rs    the places, and the rows that every table needs, for tests
-  rust/src/bin/snp-cpuid                    in the help of from-dump and from-kvm, and in what refusal 3 means, the rows that are read or needed
+  rust/src/bin/snp-cpuid                    in the help of from-dump and from-kvm, and in what refusal 3 means, the rows that are read or needed;
+                                            a line of masks.rs for a leaf that is kept whole
   docs/COMMAND.md                           what `explain` prints of refusal 3
 A new run of the code is written by hand, with any numbers; figures.py --write comes before this. Every place is needed but the two made here and Dh's
 subleaves from 2 up: `all-found` of crates/finish/specs/PlaceLaws.antt holds that.
@@ -18,14 +25,15 @@ import re
 import sys
 import textwrap
 
+import leaf_code
+from leaf_code import FIRST_STATE, MADE, number, replaced
 import made_files
-from kept_leaves import leaf_names, names, places, rows as kept_rows
+from kept_leaves import LEAVES, PLACES, leaf_names, names, places, rows as kept_rows
 from proved_source import Unlisted
 
 ROOT = Path(__file__).resolve().parents[2]
 COMMAND = 'rust/src/bin/snp-cpuid'
-STATE, FIRST_STATE = 0xD, 2
-MADE = 0x0, 0x80000000
+STATE = 0xD
 # the leaves that `place_of` has as one arm
 TOGETHER = range(0x80000001, 0x80000009)
 
@@ -109,6 +117,13 @@ def place_of_proof(path, text, kept):
     return replaced(path, text, r'(?:^    \(λ c\. \((?:rw \(c \.match|subleaf-run _ _) .*\n)+', lambda _: arms)
 
 
+def last_leaves(path, text, root, kept):
+    """Where code asks for leaves up to one of a run, that is the run's last."""
+    leaf = leaf_names(root)
+    last = {leaf[each]: leaf[first + many - 1] for _, first, many, subleaves in runs(kept) if subleaves is None for each in range(first, first + many)}
+    return re.sub(r'(?<=<= leaf::)\w+', lambda found: last.get(found[0], found[0]), text)
+
+
 def words(kept, h='', base='d'):
     """Places in words: 1, 5, 7.0, B.0, B.1, 80000001 to 80000008; `h` stands after a leaf of eight digits."""
     found = []
@@ -122,17 +137,6 @@ def words(kept, h='', base='d'):
             names = [f'{names[0]} to {names[-1]}']
         found += names
     return ', '.join(found[:-1]) + f' and {found[-1]}'
-
-
-def number(leaf):
-    return f'0x{leaf:X}' if leaf < 0x10000 else f'0x{leaf >> 16:04X}_{leaf & 0xFFFF:04X}'
-
-
-def replaced(path, text, pattern, made):
-    new, many = re.subn(pattern, made, text, flags=re.MULTILINE)
-    if many != 1:
-        raise Unlisted(f'{path} has {many} places like {pattern}')
-    return new
 
 
 def in_paragraph(path, text, opens, closes, listed, prefix, width):
@@ -158,6 +162,15 @@ def in_string(path, text, opens, closes, made):
     return text[:found.start()] + '    ' + ' \\\n     '.join(lines) + text[found.end():]
 
 
+def named(root):
+    """{path: its text as it should be} of the names, which the other lists are made with."""
+    leaves = leaf_code.named_leaves((root / LEAVES).read_text(encoding='utf-8'), root)
+    firsts = [(first, leaf, indexed) for leaf, first, indexed in alone(places(root))]
+    text = (root / PLACES).read_text(encoding='utf-8')
+    texts = {LEAVES: leaves, PLACES: leaf_code.named_places(PLACES, text, leaf_code.numbered(leaves), firsts)}
+    return texts, f'{len(firsts)} leaves with a name'
+
+
 def made(root):
     """{path: its text as it should be}."""
     kept = places(root)
@@ -175,17 +188,26 @@ def made(root):
 
     def array(path, text, name, many, lines):
         return replaced(path, text, rf'^((?:pub )?const {name}: .*; )\d+\] = \[\n(?:    .*\n)+\];\n', lambda old: f'{old[1]}{many}] = [\n{lines}];\n')
+    of('crates/masking/src/masks.rt', leaf_code.table_of_masks, root)
     of('crates/masking/src/run.rt', code_runs, root, kept)
     of('crates/masking/src/lib.rt', place_of, root, kept)
     of('crates/masking/proofs/place_of/Proof.antt', place_of_proof, kept)
     single = ' ∷ '.join(f'0x{leaf:X}' for leaf, _, _ in reversed(alone(kept)))
     of('crates/masking/specs/PlaceOfLaws.antt', replaced, r'^singleLeaves =\n    .*\n', f'singleLeaves =\n    {single} ∷ []\n')
+    of('crates/rows/src/checked/required.rt', leaf_code.required_places, root, kept)
+    bits, with_1 = leaf_code.not_kept(kept)
+    of('crates/collect/src/full.rt', replaced, r'^pub const NOT_KEPT: .*\n', bits)
+    of('crates/collect/must-fail/several.edit', replaced, r'^old: pub const NOT_KEPT: .*\nnew: .*\n', f'old: {bits}new: {with_1}')
+    of('crates/lookup/src/lib.rt', last_leaves, root, kept)
+    of('crates/kvm_export/specs/Flags.antt', leaf_code.with_flags, kept, 'are')
+    of('crates/theorems/specs/ListTheorems.antt', leaf_code.with_flags, kept, 'by-place')
     of('include/snp_cpuid.h', in_paragraph, 'by rising leaf and subleaf: ', '. origins says', words(kept, 'h'), ' * ', 150)
     of('rust/src/places.rs', array, 'RUNS', len(rows) + 1, table)
     of('rust/tests/memory.rs', array, 'RUNS', len(rows), tried)
     of('rust/tests/command/page_sets.rs', array, 'REQUIRED', len(needed), wanted)
     of(f'{COMMAND}/commands/from_dump.rs', in_paragraph, 'reads go in: leaves ', '. The others', words(read, base='x'), '', 100)
     of(f'{COMMAND}/commands/from_kvm.rs', in_paragraph, 'the table reads: leaves ', '. A page', words(read, base='x'), '', 100)
+    of(f'{COMMAND}/masks.rs', leaf_code.command_masks, root)
     of(f'{COMMAND}/meanings.rs', in_string, r'\d+ rows need an entry', '. Besides', f'{len(needed)} rows need an entry: leaves {words(needed)}')
     of('docs/COMMAND.md', in_paragraph, ' rows need an entry: leaves ', '. Besides', words(needed), '    ', 104)
     texts['docs/COMMAND.md'] = re.sub(r'\d+ (?=rows need an entry)', f'{len(needed)} ', texts['docs/COMMAND.md'])
@@ -193,7 +215,7 @@ def made(root):
 
 
 def main(asked, root=ROOT):
-    return made_files.run(asked, root, 'leaves', __doc__, made)
+    return made_files.run(asked, root, 'leaves', __doc__, named) or made_files.run(asked, root, 'leaves', __doc__, made)
 
 
 if __name__ == '__main__':

@@ -6,7 +6,7 @@ or ('refusal', number, leaf, subleaf or None, s). Quotations and titles in the c
 """
 import struct
 
-from model_masks import KEPT
+from model_masks import COMMON_REQUIRED_LEAVES, KEPT, SNP_REQUIRED_LEAVES
 
 PAGE_SIZE = 4096
 PAGE_ENTRIES = 64
@@ -29,14 +29,6 @@ CET = 1 << 11 | 1 << 12
 EDITIONS = 1, 2
 F16C = 1 << 29
 XOP, FMA4 = 1 << 11, 1 << 16
-
-COMMON_REQUIRED_LEAVES = [
-    (1, None), (5, None), (7, 0), (0xB, 0), (0xB, 1), (0x80000001, None), (0x80000005, None), (0x80000006, None),
-    (0x80000007, None), (0x80000008, None), (0x80000002, None), (0x80000003, None), (0x80000004, None), (STATE, 0),
-    (STATE, 1)]
-SNP_REQUIRED_LEAVES = [
-    (0x8000001F, None), (0x8000000A, None), (0x80000019, None), (0x8000001A, None), (0x8000001D, 0), (0x8000001D, 1),
-    (0x8000001D, 2), (0x8000001D, 3), (0x8000001E, None)]
 
 # "Feature registers of demand 3", and the registers that it frees
 FEATURES = {

@@ -1,5 +1,5 @@
-"""The masks of document 01, "Corners of masking.rs": the names that masking.rs and snp.rs keep, in their order, each
-under its short name in cpuid-bits.csv and at the place given there."""
+"""The leaves of document 01. The masks of "Corners of masking.rs": the names that masking.rs and snp.rs keep, in their
+order, each under its short name in cpuid-bits.csv and at the place given there; and the leaves that building asks for."""
 import cpuid_csv
 
 ALL = 0xFFFFFFFF
@@ -99,3 +99,12 @@ def kept(secure_avic):
 
 
 KEPT = {choice: kept(choice) for choice in (False, True)}
+
+# refusal 3 names the first of these that has no row
+COMMON_REQUIRED_LEAVES = [
+    (1, None), (5, None), (7, 0), (0xB, 0), (0xB, 1), (0x80000001, None), (0x80000005, None), (0x80000006, None),
+    (0x80000007, None), (0x80000008, None), (0x80000002, None), (0x80000003, None), (0x80000004, None), (0xD, 0),
+    (0xD, 1)]
+SNP_REQUIRED_LEAVES = [
+    (0x8000001F, None), (0x8000000A, None), (0x80000019, None), (0x8000001A, None), (0x8000001D, 0), (0x8000001D, 1),
+    (0x8000001D, 2), (0x8000001D, 3), (0x8000001E, None)]

@@ -6,6 +6,8 @@ that a table has in model.py; a row without subleaf is written with ECX_IN 0.
 from pathlib import Path
 import struct
 
+from model_masks import COMMON_REQUIRED_LEAVES, SNP_REQUIRED_LEAVES
+
 PAGE_SIZE = 4096
 PAGE_ENTRIES = 64
 REGISTERS = ('eax', 'ebx', 'ecx', 'edx')
@@ -63,11 +65,8 @@ def without(rows, leaf, subleaf=None):
 
 
 def minimal():
-    """The 24 rows that building asks for, all zero but INVLPGB: one processor, legacy state only."""
-    keys = [(leaf, None) for leaf in (1, 5, *range(0x80000001, 0x80000009))]
-    keys += [(leaf, None) for leaf in (0x8000000A, 0x80000019, 0x8000001A, 0x8000001E, 0x8000001F)]
-    keys += [(7, 0), (0xB, 0), (0xB, 1), (STATE, 0), (STATE, 1)]
-    keys += [(0x8000001D, subleaf) for subleaf in range(4)]
+    """The rows that building asks for, all zero but INVLPGB: one processor, legacy state only. Those without subleaf come first."""
+    keys = sorted(COMMON_REQUIRED_LEAVES + SNP_REQUIRED_LEAVES, key=lambda key: (key[1] is not None, key[0], key[1] or 0))
     return changed({key: (0, 0, 0, 0) for key in keys}, 0x80000008, ebx=1 << 3)
 
 

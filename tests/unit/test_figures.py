@@ -8,7 +8,7 @@ import unittest
 
 import figures
 
-SOURCES = figures.EDITION, 'crates/pool/src/sets.rt', 'crates/x86defs/specs/Functions.antt', figures.COUNTS
+SOURCES = figures.EDITION, 'crates/pool/src/sets.rt', 'crates/x86defs/specs/Functions.antt', figures.MASK
 
 
 class Figures(unittest.TestCase):
@@ -51,10 +51,12 @@ class Figures(unittest.TestCase):
         (self.root / 'crates/memory/specs').mkdir()
         (self.root / 'crates/memory/specs/Memory.antt').write_text('-- 88 rows\nw = replicate 352 0x88 .88 188\n')
         (self.root / 'crates/theorems/specs').mkdir(parents=True)
-        (self.root / 'crates/theorems/specs/Page.antt').write_text('w = 88\n')
+        for page in 'Page', 'Document01':
+            (self.root / f'crates/theorems/specs/{page}.antt').write_text('w = 88\n')
         self.assertEqual(self.asked('--write')[0], 0)
         self.assertEqual(self.text('crates/memory/specs/Memory.antt'), '-- 89 rows\nw = replicate 356 0x88 .88 188\n')
-        self.assertEqual(self.text('crates/theorems/specs/Page.antt'), 'w = 88\n')
+        self.assertEqual(self.text('crates/theorems/specs/Page.antt'), 'w = 89\n')
+        self.assertEqual(self.text('crates/theorems/specs/Document01.antt'), 'w = 88\n')
         self.assertIn('PLACES: usize = 89;', self.text('crates/masking/src/lib.rt'))
         self.assertIn('REGISTERS: usize = 356;', self.text('crates/memory/src/lib.rt'))
         header = self.text('include/snp_cpuid.h')

@@ -11,6 +11,7 @@ import leaves
 
 NUMBER = 'abbrev pub InstructionSampling : CpuidFunction\nInstructionSampling = function 0x8000001B\n'
 BEFORE = '    ∷ kept CacheTopologyDefinition '
+LAST = '    ∷ whole ProcessorTopologyDefinition\n'
 RUNS = 'crates/masking/src/run.rt'
 
 
@@ -19,7 +20,7 @@ class Leaves(unittest.TestCase):
         folder = tempfile.TemporaryDirectory()
         self.addCleanup(folder.cleanup)
         self.root = Path(folder.name)
-        for path in kept_leaves.FUNCTIONS, kept_leaves.KEPT, kept_leaves.LEAVES, kept_leaves.PLACES, *leaves.made(leaves.ROOT)[0]:
+        for path in kept_leaves.FUNCTIONS, kept_leaves.KEPT, kept_leaves.REQUIRED, *leaves.named(leaves.ROOT)[0], *leaves.made(leaves.ROOT)[0]:
             (self.root / path).parent.mkdir(parents=True, exist_ok=True)
             shutil.copy(leaves.ROOT / path, self.root / path)
 
@@ -38,24 +39,38 @@ class Leaves(unittest.TestCase):
     def test_the_repository_is_as_made(self):
         self.assertEqual(self.asked('--check')[0], 0)
 
-    def further(self, row, places, run=''):
+    def further(self, row, places, needed, run=''):
         self.edit(kept_leaves.FUNCTIONS, 'abbrev pub vendorEcx', f'{NUMBER}\nabbrev pub vendorEcx')
         self.edit(kept_leaves.KEPT, BEFORE, f'    ∷ kept InstructionSampling {row} allOnes\n{BEFORE}')
         for name, number in ('CACHE_TOPOLOGY_0', 82), ('PROCESSOR_TOPOLOGY_DEFINITION', 86):
             self.edit(kept_leaves.PLACES, f'{name}: usize = {number};', f'{name}: usize = {number + places};')
-        self.edit(kept_leaves.PLACES, 'pub const CACHE_TOPOLOGY_0', 'pub const SAMPLING: usize = 82;\n\npub const CACHE_TOPOLOGY_0')
-        self.edit(kept_leaves.LEAVES, 'pub const CACHE_TOPOLOGY', 'pub const SAMPLING: u32 = 0x8000_001B;\n\npub const CACHE_TOPOLOGY')
         self.edit(RUNS, 'pub const CACHE_TOPOLOGY', run + 'pub const CACHE_TOPOLOGY')
+        self.edit(kept_leaves.REQUIRED, LAST, f'{needed}{LAST}')
         status, said = self.asked('--check')
-        self.assertEqual((status, said.count('is not as made')), (1, 12))
+        self.assertEqual((status, said.count('is not as made')), (1, 2))
         self.assertEqual(self.asked('--write')[0], 0)
         self.assertEqual(self.asked('--check')[0], 0)
 
     def test_a_leaf_that_lengthens_a_run(self):
-        self.further('whole', 1)
+        self.further('whole', 1, '    ∷ whole InstructionSampling\n')
         self.assertIn('leaf: CpuidFunction(KEPT_LEAVES[18].leaf.0), indexed: KEPT_LEAVES[18].subleaf, row: 18, last_row: 20, };', self.text(RUNS))
         self.assertIn('row: 22, last_row: 23, };', self.text(RUNS))
-        self.assertIn('leaf::SAMPLING => place::SAMPLING, leaf::CACHE_TOPOLOGY_DEFINITION', self.text('crates/masking/src/lib.rt'))
+        self.assertIn('leaf::INSTRUCTION_SAMPLING => place::INSTRUCTION_SAMPLING, leaf::CACHE_TOPOLOGY_DEFINITION', self.text('crates/masking/src/lib.rt'))
+        self.assertIn('pub const INSTRUCTION_SAMPLING: u32 = 0x8000_001B; pub const CACHE_TOPOLOGY_DEFINITION', self.text(kept_leaves.LEAVES))
+        self.assertIn('pub const INSTRUCTION_SAMPLING: usize = EXTENDED_OPTIMIZATION_IDENTIFIERS + 1; pub const CACHE_TOPOLOGY_0',
+                      self.text(kept_leaves.PLACES))
+        self.assertIn('leaf: CpuidFunction(leaf::INSTRUCTION_SAMPLING), eax: ONES, ebx: ONES, ecx: ONES, edx: ONES, subleaf: false, }, KeptLeaf { '
+                      'leaf: CpuidFunction(leaf::CACHE_TOPOLOGY_DEFINITION)', self.text('crates/masking/src/masks.rt'))
+        self.assertIn('[u8; 25] = [', self.text('crates/rows/src/checked/required.rt'))
+        self.assertIn('place::INSTRUCTION_SAMPLING as u8, place::PROCESSOR_TOPOLOGY_DEFINITION as u8, ];',
+                      self.text('crates/rows/src/checked/required.rt'))
+        self.assertIn('NOT_KEPT: u64 = 0x5757_FFFF_FB9D_1153;', self.text('crates/collect/src/full.rt'))
+        self.assertIn('new: pub const NOT_KEPT: u64 = 0x5757_FFFF_FB9D_1157;', self.text('crates/collect/must-fail/several.edit'))
+        self.assertIn('if n <= leaf::INSTRUCTION_SAMPLING {', self.text('crates/lookup/src/lib.rt'))
+        for path in 'crates/kvm_export/specs/Flags.antt', 'crates/theorems/specs/ListTheorems.antt':
+            self.assertIn('replicate 67 1 ++ replicate 13 0 ++ replicate 4 1 ++ replicate 2 0', self.text(path))
+            self.assertIn('tabulate 64 (λ k. k) ++ replicate 13 0 ++ (0 ∷ 1 ∷ 2 ∷ 3 ∷ [])', self.text(path))
+        self.assertIn('leaf(0x8000_001B, [Whole; 4]), subleaves(0x8000_001D,', self.text('rust/src/bin/snp-cpuid/masks.rs'))
         self.assertIn('0x8000001D ∷ 0x8000001B ∷ 0x8000001A', self.text('crates/masking/specs/PlaceOfLaws.antt'))
         self.assertIn('(rw (c .match .keys12), search needs)', self.text('crates/masking/proofs/place_of/Proof.antt'))
         runs = 'run(80, 0x8000_0019, 3, None), run(83, 0x8000_001D, 1, Some(4)), run(87, 0x8000_001E, 2, None),'
@@ -69,16 +84,29 @@ class Leaves(unittest.TestCase):
             self.assertIn('8000000A, 80000019 to 8000001B, 8000001D.0 to .3', self.text(f'rust/src/bin/snp-cpuid/commands/{path}.rs'))
 
     def test_a_leaf_with_subleaves(self):
-        self.further('(subleaves 0 1)', 2, 'pub const SAMPLING: Run = Run {\n    first: place::SAMPLING,\n' + '    row: 0,\n' * 5 + '};\n\n')
-        self.assertIn('leaf::SAMPLING => subleaf_place(run::SAMPLING, subleaf),', self.text('crates/masking/src/lib.rt'))
+        needed = ''.join(f'    ∷ sub InstructionSampling {subleaf}\n' for subleaf in (0, 1))
+        run = 'pub const SAMPLING: Run = Run {\n    first: place::INSTRUCTION_SAMPLING_0,\n' + '    row: 0,\n' * 5 + '};\n\n'
+        self.further('(subleaves 0 1)', 2, needed, run)
+        self.assertIn('place::INSTRUCTION_SAMPLING_0 as u8, place::INSTRUCTION_SAMPLING_0 as u8 + 1,', self.text('crates/rows/src/checked/required.rt'))
+        self.assertIn('replicate 4 0 ++ (0 ∷ 1 ∷ []) ++ tabulate 64 (λ k. k) ++ replicate 12 0 ++ (0 ∷ 1 ∷ []) ++ (0 ∷ 1 ∷ 2 ∷ 3 ∷ [])',
+                      self.text('crates/kvm_export/specs/Flags.antt'))
+        self.assertIn('subleaves(0x8000_001B, 0, 1, [Whole; 4]),', self.text('rust/src/bin/snp-cpuid/masks.rs'))
+        self.assertIn('leaf::INSTRUCTION_SAMPLING => subleaf_place(run::SAMPLING, subleaf),', self.text('crates/masking/src/lib.rt'))
         self.assertIn('subleaf-place5 .ensures .1))', self.text('crates/masking/proofs/place_of/Proof.antt'))
-        self.assertIn('first: place::SAMPLING, count: 2, leaf: CpuidFunction(KEPT_LEAVES[20].leaf.0),', self.text(RUNS))
+        self.assertIn('first: place::INSTRUCTION_SAMPLING_0, count: 2, leaf: CpuidFunction(KEPT_LEAVES[20].leaf.0),', self.text(RUNS))
         self.assertIn('run(82, 0x8000_001B, 1, Some(2)), run(84, 0x8000_001D, 1, Some(4)),', self.text('rust/src/places.rs'))
         self.assertIn('8000001A, 8000001B.0, 8000001B.1, 8000001D.0 to .3', self.text('docs/COMMAND.md'))
 
     def test_a_name_without_a_number(self):
         self.edit(kept_leaves.KEPT, BEFORE, f'    ∷ kept Unknown whole allOnes\n{BEFORE}')
         self.assertEqual(self.asked('--check'), (1, f'{kept_leaves.FUNCTIONS} has no number for Unknown of {kept_leaves.KEPT}\n'))
+
+    def test_a_leaf_that_is_not_kept_whole(self):
+        self.edit(kept_leaves.FUNCTIONS, 'abbrev pub vendorEcx', f'{NUMBER}\nabbrev pub vendorEcx')
+        self.edit(kept_leaves.KEPT, BEFORE, f'    ∷ kept InstructionSampling whole instructionSampling\n{BEFORE}')
+        status, said = self.asked('--write')
+        self.assertEqual(status, 1)
+        self.assertIn('has no row for INSTRUCTION_SAMPLING at its place', said)
 
     def test_a_lost_place_is_told(self):
         self.edit('rust/src/places.rs', 'const RUNS', 'const ROWS')

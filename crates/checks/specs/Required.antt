@@ -50,7 +50,7 @@ snpRequiredLeaves =
     ∷ whole ProcessorTopologyDefinition
     ∷ []
 
--- 15 and 9
+-- how many they are
 abbrev pub requiredCount : ℕ
 requiredCount = 24
 

@@ -17,6 +17,7 @@ use Rattle.bits.specs.SearchLaws.{lowest-at, lowest-passes, lowest-stops, lowes
 use Rattle.x86defs.specs.declared.CpuidResult.{CpuidResult}
 use Rattle.x86defs.specs.declared.CpuidFunction.{CpuidFunction}
 use Rattle.masking.specs.Kept.{places, leafAt}
+use Rattle.masking.specs.Place
 use Rattle.table.specs.declared.Subleaf.{Subleaf}
 use Rattle.finish.specs.Kinds.{kindsAt}
 use Rattle.compare.specs.declared.registers.Register.{Register}
@@ -35,17 +36,18 @@ rowWith p r = record { present = p; result = r }
 
 -- a place before D.2, one of D.2 to D.63, and one after
 module _ (x y i : ℕ) where
-  pub further-low : i < 8 → furtherTest x y i ≡ false
+  pub further-low : i < Place.extendedState 2 → furtherTest x y i ≡ false
   unfolding furtherTest
-  further-low h = rw (lt-leb 8 i h)
+  further-low h = rw (lt-leb (Place.extendedState 2) i h)
 
-  pub further-state : 8 ≤ i → i < 70 → furtherTest x y i ≡ (has (i - 6) y && not (has (i - 6) x))
+  pub further-state : Place.extendedState 2 ≤ i → i < Place.extendedState 64
+      → furtherTest x y i ≡ (has (i - Place.extendedState 0) y && not (has (i - Place.extendedState 0) x))
   unfolding furtherTest
-  further-state h l = rw (le-leb 8 i h, lt-ltb i 70 l)
+  further-state h l = rw (le-leb (Place.extendedState 2) i h, lt-ltb i (Place.extendedState 64) l)
 
-  pub further-high : 70 ≤ i → furtherTest x y i ≡ false
+  pub further-high : Place.extendedState 64 ≤ i → furtherTest x y i ≡ false
   unfolding furtherTest
-  further-high h = rw (le-leb 8 i (omega arith), le-ltb i 70 h)
+  further-high h = rw (le-leb (Place.extendedState 2) i (omega arith), le-ltb i (Place.extendedState 64) h)
 
 -- the comparison from place k on
 unfoldable pub comparedFrom : Wanted → Rows → Rows → ℕ → RowsCompared

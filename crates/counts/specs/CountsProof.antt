@@ -39,11 +39,11 @@ rows-counted chosen s e = record {
     standing = row-stands (chosen .edition) m (rows-pass chosen s e)
 
 -- the two bounds in plain words, so that neither can be weakened unseen
-pub at-most-32 : (chosen : Choices) (s : List ℕ) → answer chosen s .verdict ≡ Accepted → answer chosen s .table .«row_count» ≤ 32
-at-most-32 chosen s e = rows-counted chosen s e .most
+pub rows-at-most : (chosen : Choices) (s : List ℕ) → answer chosen s .verdict ≡ Accepted → answer chosen s .table .«row_count» ≤ 32
+rows-at-most chosen s e = rows-counted chosen s e .most
 
-pub at-most-732 : (chosen : Choices) (s : List ℕ) → answer chosen s .verdict ≡ Accepted → length (image (answer chosen s .table)) ≤ 732
-at-most-732 chosen s e =
+pub bytes-at-most : (chosen : Choices) (s : List ℕ) → answer chosen s .verdict ≡ Accepted → length (image (answer chosen s .table)) ≤ 732
+bytes-at-most chosen s e =
     let c : Counted chosen s = rows-counted chosen s e in
     omega (arith, c .bytes, components-most (c .mask))
 

@@ -15,6 +15,7 @@ use Rattle.bits.specs.ListsLaws.{tabulate-at}
 use Rattle.x86defs.specs.declared.CpuidFunction.{CpuidFunction}
 use Rattle.x86defs.specs.Functions.{function, sameFunction, VendorAndMaxFunction, ExtendedMaxFunction}
 use Rattle.masking.specs.Kept.{keptLeaves, placeOf, slot, leafAt, indexedAt, subleafAt}
+use Rattle.masking.specs.Place
 use Rattle.masking.specs.Place.{madeHere}
 use Rattle.masking.specs.KeptLaws.{place-of-slot, Belongs, entry-belongs}
 use Rattle.table.specs.declared.Choices.{Choices}
@@ -81,7 +82,7 @@ unfolding placeWhole slot keptLeaves
 leaf-whole l i h = go (sameFunction l VendorAndMaxFunction) (sameFunction l ExtendedMaxFunction) refl refl
   where
     go : (a b : Bool) → sameFunction l VendorAndMaxFunction ≡ a → sameFunction l ExtendedMaxFunction ≡ b
-        → pick a 0 (pick b 70 (placeOf l 0)) ≡ i → l ≡ leafAt i
+        → pick a Place.vendorAndMaxFunction (pick b Place.extendedMaxFunction (placeOf l 0)) ≡ i → l ≡ leafAt i
     go true b p q e = ap function (eqb-true _ _ p) ∙ ap leafAt e
     go false true p q e = ap function (eqb-true _ _ q) ∙ ap leafAt e
     go false false p q e = sym (entry-belongs l 0 i e h .leaf)

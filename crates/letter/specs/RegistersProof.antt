@@ -34,14 +34,14 @@ unfolding tabulate slot keptLeaves Masks.versionAndFeatures Masks.extendedFeatur
 masks-same true = refl
 masks-same false = refl
 
-pub rows-17-and-9 : (second avic : Bool) (e : ℕ → Subleaf → CpuidResult)
+pub rows-with-and-without : (second avic : Bool) (e : ℕ → Subleaf → CpuidResult)
     → countFrom 0 (λ l. without (l .subleaf) && l .row .present) (lines second avic e)
     ∷ countFrom 0 (λ l. not (without (l .subleaf) || fromD2 (l .leaf) (l .subleaf)) && l .row .present) (lines second avic e)
     ∷ countFrom 0 (λ l. fromD2 (l .leaf) (l .subleaf)) (lines second avic e)
     ∷ []
     ≡ 17 ∷ 9 ∷ 62 ∷ []
 unfolding tabulate
-rows-17-and-9 second avic e = refl
+rows-with-and-without second avic e = refl
 
 -- "All others are filtered."
 pub rows-filtered : (second avic : Bool) (e : ℕ → Subleaf → CpuidResult)

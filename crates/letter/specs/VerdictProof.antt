@@ -20,6 +20,7 @@ use Rattle.pages.specs.Reserved.{eightZeros, firstNonzero, reservedOf}
 use Rattle.pages.specs.declared.reserved.Reserved.the-variants.{Nonzero}
 use Rattle.masking.specs.Masks as Masks
 use Rattle.masking.specs.Kept.{keptLeaves, placeOf, slot}
+use Rattle.masking.specs.Place
 use Rattle.table.specs.declared.Subleaf.{Subleaf}
 use Rattle.table.specs.declared.Subleaf.the-variants.{None}
 use Rattle.table.specs.declared.Choices.{Choices}
@@ -33,7 +34,7 @@ use Rattle.table.specs.Rows.{Row, Rows, row, vacant}
 use Rattle.topology.specs.declared.Topology.the-variants.{Processors, Inconsistent}
 use Rattle.topology.specs.declared.TopologyError.the-variants.{Hyperthreading, ProcessorCount, ThreadsPerUnit}
 use Rattle.topology.specs.Topology.{Inputs, topologyOf, threadsIn}
-use Rattle.checks.specs.Required.{commonRequiredLeaves, snpRequiredLeaves, requiredAt, placeRequired}
+use Rattle.checks.specs.Required.{commonRequiredLeaves, snpRequiredLeaves, requiredAt, requiredCount, placeRequired}
 use Rattle.checks.specs.declared.Size.the-variants.{Bytes, TooLarge}
 use Rattle.checks.specs.ExtendedState as State
 use Rattle.checks.specs.ExtendedStateLaws.{area-mono, in-combined}
@@ -154,47 +155,48 @@ module _ (avic : Bool) (s : List ℕ) where
   pub required-same : requiredVerdict A ≡ firstMissing avic f required
   unfolding requiredVerdict requiredAt commonRequiredLeaves snpRequiredLeaves placeRequired placeOf keptLeaves
   required-same =
-      lowest-chain _ _ 0 24 ∙ ap (λ (p : ℕ → Bool). chain (λ j. p (placeRequired j)) missingRequired 0 24) (fun-ext present-same)
+      lowest-chain _ _ 0 requiredCount
+      ∙ ap (λ (p : ℕ → Bool). chain (λ j. p (placeRequired j)) missingRequired 0 requiredCount) (fun-ext present-same)
 
   module _ (found : requiredVerdict A ≡ Accepted) where
-    at-required : (j : ℕ) → j < 24 → A (placeRequired j) ≡ B (placeRequired j)
+    at-required : (j : ℕ) → j < requiredCount → A (placeRequired j) ≡ B (placeRequired j)
     at-required j l = same-where (placeRequired j) (required-present A found j l)
 
-    at-1 : A 1 ≡ B 1
+    at-version : A Place.versionAndFeatures ≡ B Place.versionAndFeatures
     unfolding placeRequired requiredAt commonRequiredLeaves snpRequiredLeaves placeOf keptLeaves
-    at-1 = at-required 0 (lit< tt)
+    at-version = at-required 0 (lit< tt)
 
-    at-78 : A 78 ≡ B 78
+    at-sizes : A Place.extendedAddressSpaceSizes ≡ B Place.extendedAddressSpaceSizes
     unfolding placeRequired requiredAt commonRequiredLeaves snpRequiredLeaves placeOf keptLeaves
-    at-78 = at-required 9 (lit< tt)
+    at-sizes = at-required 9 (lit< tt)
 
-    at-6 : A 6 ≡ B 6
+    at-state-0 : A (Place.extendedState 0) ≡ B (Place.extendedState 0)
     unfolding placeRequired requiredAt commonRequiredLeaves snpRequiredLeaves placeOf keptLeaves
-    at-6 = at-required 13 (lit< tt)
+    at-state-0 = at-required 13 (lit< tt)
 
-    at-7 : A 7 ≡ B 7
+    at-state-1 : A (Place.extendedState 1) ≡ B (Place.extendedState 1)
     unfolding placeRequired requiredAt commonRequiredLeaves snpRequiredLeaves placeOf keptLeaves
-    at-7 = at-required 14 (lit< tt)
+    at-state-1 = at-required 14 (lit< tt)
 
-    at-86 : A 86 ≡ B 86
+    at-units : A Place.processorTopologyDefinition ≡ B Place.processorTopologyDefinition
     unfolding placeRequired requiredAt commonRequiredLeaves snpRequiredLeaves placeOf keptLeaves
-    at-86 = at-required 23 (lit< tt)
+    at-units = at-required 23 (lit< tt)
 
     invlpgb-same : invlpgbVerdict A ≡ invlpgbVerdict B
     unfolding invlpgbVerdict
-    invlpgb-same = rw at-78
+    invlpgb-same = rw at-sizes
 
     pub mask-same : State.combinedMask A ≡ State.combinedMask B
     unfolding State.combinedMask State.xfem State.xss
-    mask-same = ap₂ (λ (a b : Row). bitOr (a .result .eax) (State.xssOf (b .result))) at-6 at-7
+    mask-same = ap₂ (λ (a b : Row). bitOr (a .result .eax) (State.xssOf (b .result))) at-state-0 at-state-1
 
     pub xfem-same : State.xfem A ≡ State.xfem B
     unfolding State.xfem
-    xfem-same = ap (λ (a : Row). a .result .eax) at-6
+    xfem-same = ap (λ (a : Row). a .result .eax) at-state-0
 
     inputs-same : inputsOf A ≡ inputsOf B
     unfolding inputsOf
-    inputs-same = rw (at-1, at-78, at-86)
+    inputs-same = rw (at-version, at-sizes, at-units)
 
     components-same : componentsVerdict A ≡ componentsVerdict B
     unfolding componentsVerdict componentsOf

@@ -43,7 +43,9 @@ span first count = record { first = first; count = count }
 -- the places of a leaf with subleaves; none for any other
 unfoldable pub spanOf : CpuidFunction → Span
 spanOf l =
-    pick (eqb (l .0) 0xD) (span 6 64) (pick (eqb (l .0) 0x8000001D) (span 82 4) (pick (eqb (l .0) 0xB) (span 4 2) (pick (eqb (l .0) 0x7) (span 3 1) (span 0 0))))
+    pick (eqb (l .0) 0xD) (span (Place.extendedState 0) 64)
+    (pick (eqb (l .0) 0x8000001D) (span (Place.cacheTopology 0) 4)
+    (pick (eqb (l .0) 0xB) (span Place.threadLevel 2) (pick (eqb (l .0) 0x7) (span Place.extendedFeatures 1) (span 0 0))))
 
 abbrev pub rowResult : Row → LeafResult
 rowResult r = pick (r .present) (Found (r .result)) Nothing

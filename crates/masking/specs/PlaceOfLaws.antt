@@ -40,7 +40,7 @@ past-end whole n k e h = absurd (false≢true e)
 past-end (subleaves first last) n k e h = let l : last < n = ltb-true last n e in and-right-false (leb first k) (lt-leb k last (omega arith))
 
 -- then an entry of such a leaf, with a subleaf from n on, is filtered
-filtered-from : (test : ℕ → Bool) (n : ℕ) (rs : List Kept) (i : ℕ) (l : CpuidFunction) (k : ℕ)
+pub filtered-from : (test : ℕ → Bool) (n : ℕ) (rs : List Kept) (i : ℕ) (l : CpuidFunction) (k : ℕ)
     → allEndBy test n rs ≡ true → test (l .0) ≡ true → n ≤ k → placeFrom rs i l k ≡ places
 filtered-from test n [] i l k e p h = refl
 filtered-from test n (r ∷ rs) i l k e p h =

@@ -57,7 +57,7 @@ all-sizes avic = refl
 keeps-12 : (avic : Bool) (i : ℕ) → i < places → isSizes (ruleAt i) ≡ true → bit 12 (masksAt avic i .ebx) ≡ 1
 keeps-12 avic i l e = has-bit 12 (masksAt avic i .ebx) (if-holds (isSizes (ruleAt i)) _ (every-at (sizesTest avic) places (all-sizes avic) i l) e)
 
-keeps-3 : (avic : Bool) → bit 3 (masksAt avic 78 .ebx) ≡ 1
+keeps-3 : (avic : Bool) → bit 3 (masksAt avic Place.extendedAddressSpaceSizes .ebx) ≡ 1
 unfolding slot keptLeaves extendedAddressSpaceSizes bit maskOf fieldsMask
 keeps-3 avic = refl
 
@@ -149,39 +149,46 @@ module _ (edition : ℕ) (avic : Bool) (m : Rows) (masked : MaskedAgain avic m) 
       made-row : n i .result ≡ maskedAt avic i (finish (settings edition m) (ruleAt i) (m i .result))
       made-row = ap (λ (r : Row). r .result) (required-row i l e)
 
+      left : (f : CpuidResult → ℕ)
+          → f (maskedAt avic i (finish (settings edition m) (ruleAt i) (m i .result))) ≡ f (maskedAt avic i (m i .result))
+          → f (n i .result) ≡ f (m i .result)
+      left f kept = ap f made-row ∙ kept ∙ ap f same-row
+
     xfem-again : xfem n ≡ xfem m
     unfolding xfem
-    xfem-again = ap (λ (r : CpuidResult). r .eax) (made-row 6 (lit< tt) refl) ∙ ap (λ (r : CpuidResult). r .eax) (same-row 6 (lit< tt) refl)
+    xfem-again = left (Place.extendedState 0) (lit< tt) refl (λ r. r .eax) refl
 
-    xsaves-eax : n 7 .result .eax ≡ m 7 .result .eax
-    xsaves-eax = ap (λ (r : CpuidResult). r .eax) (made-row 7 (lit< tt) refl) ∙ ap (λ (r : CpuidResult). r .eax) (same-row 7 (lit< tt) refl)
+    xsaves-eax : n (Place.extendedState 1) .result .eax ≡ m (Place.extendedState 1) .result .eax
+    xsaves-eax = left (Place.extendedState 1) (lit< tt) refl (λ r. r .eax) refl
 
-    xsaves-ecx-again : n 7 .result .ecx ≡ bitAnd (xss m) (masksAt avic 7 .ecx)
+    xsaves-ecx-again : n (Place.extendedState 1) .result .ecx ≡ bitAnd (xss m) (masksAt avic (Place.extendedState 1) .ecx)
     unfolding unlessNoXss settings enabledBy
     xsaves-ecx-again =
-        ap (λ (r : CpuidResult). r .ecx) (made-row 7 (lit< tt) refl) ∙ ap (λ (x : ℕ). bitAnd x (masksAt avic 7 .ecx)) (xsaves-ecx m)
+        ap (λ (r : CpuidResult). r .ecx) (made-row (Place.extendedState 1) (lit< tt) refl)
+        ∙ ap (λ (x : ℕ). bitAnd x (masksAt avic (Place.extendedState 1) .ecx)) (xsaves-ecx m)
 
     xss-again : xss n ≡ xss m
     unfolding xss
     xss-again =
         rw (xsaves-eax, xsaves-ecx-again)
-        (pick-again (has 1 (m 7 .result .eax) && has 3 (m 7 .result .eax)) (m 7 .result .ecx) (masksAt avic 7 .ecx)
-        (ap (λ (r : CpuidResult). r .ecx) (same-row 7 (lit< tt) refl)))
+        (pick-again (has 1 (m (Place.extendedState 1) .result .eax) && has 3 (m (Place.extendedState 1) .result .eax))
+        (m (Place.extendedState 1) .result .ecx) (masksAt avic (Place.extendedState 1) .ecx)
+        (ap (λ (r : CpuidResult). r .ecx) (same-row (Place.extendedState 1) (lit< tt) refl)))
 
-    sev-again : n 87 .result .eax ≡ m 87 .result .eax
-    sev-again = ap (λ (r : CpuidResult). r .eax) (made-row 87 (lit< tt) refl) ∙ ap (λ (r : CpuidResult). r .eax) (same-row 87 (lit< tt) refl)
+    sev-again : n Place.extendedSevFeatures .result .eax ≡ m Place.extendedSevFeatures .result .eax
+    sev-again = left Place.extendedSevFeatures (lit< tt) refl (λ r. r .eax) refl
 
     inputs-again : inputsOf n ≡ inputsOf m
     unfolding inputsOf
     inputs-again =
-        let a : n 78 .result .ecx ≡ m 78 .result .ecx =
-        ap (λ (r : CpuidResult). r .ecx) (made-row 78 (lit< tt) refl) ∙ ap (λ (r : CpuidResult). r .ecx) (same-row 78 (lit< tt) refl) in
-        let b : n 1 .result .ebx ≡ m 1 .result .ebx =
-        ap (λ (r : CpuidResult). r .ebx) (made-row 1 (lit< tt) refl) ∙ ap (λ (r : CpuidResult). r .ebx) (same-row 1 (lit< tt) refl) in
-        let d : n 1 .result .edx ≡ m 1 .result .edx =
-        ap (λ (r : CpuidResult). r .edx) (made-row 1 (lit< tt) refl) ∙ ap (λ (r : CpuidResult). r .edx) (same-row 1 (lit< tt) refl) in
-        let f : n 86 .result .ebx ≡ m 86 .result .ebx =
-        ap (λ (r : CpuidResult). r .ebx) (made-row 86 (lit< tt) refl) ∙ ap (λ (r : CpuidResult). r .ebx) (same-row 86 (lit< tt) refl) in
+        let a : n Place.extendedAddressSpaceSizes .result .ecx ≡ m Place.extendedAddressSpaceSizes .result .ecx =
+        left Place.extendedAddressSpaceSizes (lit< tt) refl (λ r. r .ecx) refl in
+        let b : n Place.versionAndFeatures .result .ebx ≡ m Place.versionAndFeatures .result .ebx =
+        left Place.versionAndFeatures (lit< tt) refl (λ r. r .ebx) refl in
+        let d : n Place.versionAndFeatures .result .edx ≡ m Place.versionAndFeatures .result .edx =
+        left Place.versionAndFeatures (lit< tt) refl (λ r. r .edx) refl in
+        let f : n Place.processorTopologyDefinition .result .ebx ≡ m Place.processorTopologyDefinition .result .ebx =
+        left Place.processorTopologyDefinition (lit< tt) refl (λ r. r .ebx) refl in
         rw (a, b, d, f)
 
     mask-again : combinedMask n ≡ combinedMask m
@@ -215,12 +222,12 @@ module _ (edition : ℕ) (avic : Bool) (m : Rows) (masked : MaskedAgain avic m) 
     required-again : (j : ℕ) → j < requiredCount → n (placeRequired j) .present ≡ true
     required-again j l = ap (λ (r : Row). r .present) (required-row (placeRequired j) (required-place j l .0) (required-place j l .1))
 
-    invlpgb-bit : has 3 (n 78 .result .ebx) ≡ has 3 (m 78 .result .ebx)
+    invlpgb-bit : has 3 (n Place.extendedAddressSpaceSizes .result .ebx) ≡ has 3 (m Place.extendedAddressSpaceSizes .result .ebx)
     invlpgb-bit =
         has-of-bit 3 _ _
-        (ap (λ (r : CpuidResult). bit 3 (r .ebx)) (made-row 78 (lit< tt) refl)
-        ∙ bit-and 3 (addressSizesEbx (m 78 .result .ebx)) (masksAt avic 78 .ebx)
-        ∙ omega (arith, sizes-bit-3 (m 78 .result .ebx), keeps-3 avic, bit-lt 3 (m 78 .result .ebx)))
+        (ap (λ (r : CpuidResult). bit 3 (r .ebx)) (made-row Place.extendedAddressSpaceSizes (lit< tt) refl)
+        ∙ bit-and 3 (addressSizesEbx (m Place.extendedAddressSpaceSizes .result .ebx)) (masksAt avic Place.extendedAddressSpaceSizes .ebx)
+        ∙ (let x : ℕ = m Place.extendedAddressSpaceSizes .result .ebx in omega (arith, sizes-bit-3 x, keeps-3 avic, bit-lt 3 x)))
 
     invlpgb-again : invlpgbVerdict n ≡ Accepted
     unfolding invlpgbVerdict

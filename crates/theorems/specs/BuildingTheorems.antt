@@ -35,7 +35,7 @@ use Rattle.image.specs.Image.{image}
 use Rattle.refusals.specs.Exactly.{BuildsExactly, WritesExactly}
 use Rattle.refusals.specs.ExactlyProof.{builds-exactly, writes-exactly}
 use Rattle.counts.specs.Counts.{Counted}
-use Rattle.counts.specs.CountsProof.{rows-counted, at-most-32, at-most-732, single-page-refused}
+use Rattle.counts.specs.CountsProof.{rows-counted, rows-at-most, bytes-at-most, single-page-refused}
 use Rattle.images.specs.Images.{ImageAscends, EqualImages}
 use Rattle.images.specs.AscendLaws.{image-ascends}
 use Rattle.images.specs.ImagesProof.{equal-images}
@@ -127,10 +127,10 @@ pub counts : (chosen : Choices) (s : List ℕ) → answer chosen s .verdict ≡ 
 counts = rows-counted
 
 pub at-most-32-rows : (chosen : Choices) (s : List ℕ) → answer chosen s .verdict ≡ Accepted → answer chosen s .table .«row_count» ≤ 32
-at-most-32-rows = at-most-32
+at-most-32-rows = rows-at-most
 
 pub at-most-732-bytes : (chosen : Choices) (s : List ℕ) → answer chosen s .verdict ≡ Accepted → length (image (answer chosen s .table)) ≤ 732
-at-most-732-bytes = at-most-732
+at-most-732-bytes = bytes-at-most
 
 -- page 1 is missing, and with it Dh
 pub single-page-never-accepted : (chosen : Choices) (s : List ℕ) → length s ≡ 4096 → answer chosen s .verdict ≡ Accepted → ⊥

@@ -41,7 +41,7 @@ use Rattle.lookup.specs.Lookup.{lookup}
 use Rattle.image.specs.Image.{image}
 use Rattle.image.specs.Write.{write}
 use Rattle.program.specs.Output.{output}
-use Rattle.counts.specs.CountsProof.{single-page-refused, at-most-32}
+use Rattle.counts.specs.CountsProof.{single-page-refused, rows-at-most}
 use Rattle.letter.specs.Paper.{readEntries, counted, first, xfem, combined, entryOf, name, required, firstMissing, masked, masksOf, topology, hyperthreading, processorCount, processors, leastFrom, isKept, lines, linesOf, combinedOf, countFrom, without, fromD2, furtherBits, Equations, verdict, table, rowsVerdict, carried, lawful, registers, written, wrote, find, findAfter, program}
 use Rattle.letter.specs.Names.{subAt}
 use Rattle.letter.specs.FirstProof as Firsts
@@ -106,11 +106,11 @@ pub rows-17-and-9 : (second avic : Bool) (e : ℕ → Subleaf → CpuidResult)
     ∷ countFrom 0 (λ l. fromD2 (l .leaf) (l .subleaf)) (lines second avic e)
     ∷ []
     ≡ 17 ∷ 9 ∷ 62 ∷ []
-rows-17-and-9 = Registers.rows-17-and-9
+rows-17-and-9 = Registers.rows-with-and-without
 
 pub rows-26-to-32 : (chosen : Choices) (s : List ℕ) → answer chosen s .verdict ≡ Accepted
     → (answer chosen s .table .«row_count» ≡ 26 + furtherBits (combinedOf chosen s)) × (answer chosen s .table .«row_count» ≤ 32)
-rows-26-to-32 chosen s e = (Counts.rows-said chosen s e, at-most-32 chosen s e)
+rows-26-to-32 chosen s e = (Counts.rows-said chosen s e, rows-at-most chosen s e)
 
 -- the number of each refusal, and what it names
 pub numbers-by-the-letter : (r : Refusal) → details r ≡ carried r

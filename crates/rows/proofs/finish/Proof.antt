@@ -15,6 +15,7 @@ use Rattle.finish.specs.FeaturesInCode.{clearsWith, enabledWith, enabledFrom}
 use Rattle.finish.specs.FinishedTable.{settingsWith, stores}
 use Rattle.bits.specs.Lists.{tabulate}
 use Rattle.masking.specs.Kept.{places}
+use Rattle.masking.specs.Place
 use Rattle.rows.specs.Finished.{keptRow}
 use Rattle.memory.specs.MemoryLaws.{put-rowed}
 use Rattle.rows.specs.FinishedLaws.{dropped-rowed, finished-memory}
@@ -54,16 +55,16 @@ returns c =
     (start .pre .0)
     dropped
     refl
-    (put-rowed 78 (sizes .update-extended-address-space-sizes .result) (omega arith) (c .put-row10 .ensures)
-    (put-rowed 71 (version₂ .extended-version-and-features .result) (omega arith) (p9 .put-row9 .ensures)
-    (put-rowed 70 (made₂ .vendor-and-max-function2 .result) (omega arith) (p8 .put-row8 .ensures)
-    (put-rowed 7 (state₁ .extended-state-1 .result) (omega arith) (p7 .put-row7 .ensures)
-    (put-rowed 6 (result (d₀ .eax) (d₀ .ebx) (start .args .size) (d₀ .edx)) (omega arith) (p6 .put-row6 .ensures)
-    (put-rowed 5 (cores .core-level .result) (omega arith) (p5 .put-row5 .ensures)
-    (put-rowed 4 (threads .thread-level .result) (omega arith) (p4 .put-row4 .ensures)
-    (put-rowed 3 (features .extended-features .result) (omega arith) (p3 .put-row3 .ensures)
-    (put-rowed 1 (version .version-and-features .result) (omega arith) (p2 .put-row2 .ensures)
-    (put-rowed 0 (made .vendor-and-max-function .result) (omega arith) (p1 .put-row .ensures)
+    (put-rowed Place.extendedAddressSpaceSizes (sizes .update-extended-address-space-sizes .result) (omega arith) (c .put-row10 .ensures)
+    (put-rowed Place.extendedVersionAndFeatures (version₂ .extended-version-and-features .result) (omega arith) (p9 .put-row9 .ensures)
+    (put-rowed Place.extendedMaxFunction (made₂ .vendor-and-max-function2 .result) (omega arith) (p8 .put-row8 .ensures)
+    (put-rowed (Place.extendedState 1) (state₁ .extended-state-1 .result) (omega arith) (p7 .put-row7 .ensures)
+    (put-rowed (Place.extendedState 0) (result (d₀ .eax) (d₀ .ebx) (start .args .size) (d₀ .edx)) (omega arith) (p6 .put-row6 .ensures)
+    (put-rowed Place.coreLevel (cores .core-level .result) (omega arith) (p5 .put-row5 .ensures)
+    (put-rowed Place.threadLevel (threads .thread-level .result) (omega arith) (p4 .put-row4 .ensures)
+    (put-rowed Place.extendedFeatures (features .extended-features .result) (omega arith) (p3 .put-row3 .ensures)
+    (put-rowed Place.versionAndFeatures (version .version-and-features .result) (omega arith) (p2 .put-row2 .ensures)
+    (put-rowed Place.vendorAndMaxFunction (made .vendor-and-max-function .result) (omega arith) (p1 .put-row .ensures)
     (dropped-rowed dropped)))))))))))
     (stores s (rowOf w) (tabulate places (keptRow w o (start .args .mask)))
     (made .vendor-and-max-function .ensures)
