@@ -4,13 +4,15 @@
 tests/gate/figures.txt has the places: a file, and below it texts of that file with {FIGURE} where the number stands, or {FIGURE:,} where it has
 commas. {place:7.0} is the number of the place of leaf 7 subleaf 0, {row:7.0} that of its row in the table of kept leaves, {required:7.0} its position
 in the lists of required leaves, {stretch:7.0} how many places from there on have subleaves as it has, or have none; {end:1} is the leaf after those
-that follow each other from leaf 1 on. {editions:and} has the known editions, as "1 and 2", and likewise with `or` and `nor`. \\n is a new line.
---write puts each number there, and --check fails where a file has another one or does not have the text at all. A new place is a new line of the
-list. The other tools read what this one writes, so it comes first.
+that follow each other from leaf 1 on. {rows:3}, {image:3} and {kvm:3} are the rows and the bytes of an accepted table with three components, as the
+EPYC's of tests/data is; {fingerprint} is that of its image, as the model writes it. {editions:and} has the known editions, as "1 and 2", and likewise
+with `or` and `nor`. \\n is a new line. --write puts each figure there, and --check fails where a file has another one or does not have the text at
+all. A new place is a new line of the list. The other tools read what this one writes, so it comes first.
 
 The number of places, 88, and that of their registers also stand bare in definitions and proofs. Where the table of kept leaves has another number
 than the code's PLACES, --write puts the new numbers for the old ones in every file of the crates but those of BY_HAND, which state them.
 """
+import hashlib
 from pathlib import Path
 import re
 import sys
@@ -21,11 +23,12 @@ from proved_source import Unlisted, constant
 ROOT = Path(__file__).resolve().parents[2]
 LIST = 'tests/gate/figures.txt'
 MASK = 'crates/counts/specs/Mask.antt'
+IMAGE = 'crates/snp_cpuid_image/stdout'
 BY_HAND = 'crates/theorems/specs/Document01.antt', 'crates/letter/specs/Paper.antt', 'crates/vectors/'
 FIGURE = re.compile(r'\{(\w+)(?::(,|and|or|nor|[0-9A-F.]+))?\}')
 STATE, FIRST_STATE = 0xD, 2
 EDITION = 'crates/table/specs/Edition.antt'
-NUMBER, NUMBERS, LEAF = '[0-9,]*[0-9]', r'[0-9]+(?:, [0-9]+)* (?:and|n?or) [0-9]+', '0x[0-9A-F]+'
+NUMBER, NUMBERS, LEAF, DIGEST = '[0-9,]*[0-9]', r'[0-9]+(?:, [0-9]+)* (?:and|n?or) [0-9]+', '0x[0-9A-F]+', '[0-9a-f]{64}'
 
 
 def most_components(root):
@@ -37,20 +40,25 @@ def most_components(root):
 
 
 def figures(root):
-    """{name: number}. In the image a row has 21 bytes, and 25 with a subleaf; in a list for KVM any row has 40, after 8 of the head. The rows from D.2
-    on are those that an accepted table may lack."""
+    """{name: number}. In the image a row has 21 bytes, and 25 with a subleaf; in a list for KVM any row has 40, after 8 of the head. The rows from
+    D.2 on are those that an accepted table may lack."""
     table, needed = kept_rows(root), required(root)
     kept = [place for row in table for place in row]
     always = [place for place in kept if place.leaf != STATE or place.subleaf < FIRST_STATE]
     subleaf_rows = sum(place.subleaf is not None for place in always)
     places, rows, image = len(kept), len(always), 21 * len(always) + 4 * subleaf_rows
-    most = rows + most_components(root)
+    longest = image + 25 * (places - rows)
+    most, entries = rows + most_components(root), sum(place.leaf != STATE for place in needed)
     return {
+        'fingerprint': hashlib.sha256((root / IMAGE).read_bytes()).hexdigest(),
         'servers': constant(root, 'pool/src/sets.rt', 'MOST_SETS'),
         'places': places, 'last': places - 1, 'registers': 4 * places, 'table_bytes': 24 * places,
         'rows': rows, 'most_rows': most, 'image': image, 'most_image': image + 25 * (most - rows), 'most_kvm': 8 + 40 * most,
-        'any_image': image + 25 * (places - rows), 'any_kvm': 8 + 40 * places, 'kept_rows': len(table),
+        'any_image': longest, 'any_but_one': longest - 1, 'any_kvm': 8 + 40 * places, 'kept_rows': len(table),
+        'entries': entries, 'one_more': entries + 1, 'two_more': entries + 2, 'entry_bytes': 48 * entries,
         'whole_rows': rows - subleaf_rows, 'subleaf_rows': subleaf_rows, 'required': len(needed), 'not_state': sum(p.leaf != STATE for p in kept),
+        **{f'rows:{n}': rows + n for n in range(most - rows + 1)}, **{f'image:{n}': image + 25 * n for n in range(most - rows + 1)},
+        **{f'kvm:{n}': 8 + 40 * (rows + n) for n in range(most - rows + 1)},
         **{f'{name}:{written(place)}': number for at, place in enumerate(kept) for name, number in of_place(table, kept, at).items()},
         **{f'required:{written(place)}': at for at, place in enumerate(needed)},
     }
@@ -101,7 +109,7 @@ def with_figures(text, place, known):
         if name not in known:
             raise Unlisted(f'{LIST}: {name} is no figure: {", ".join(each for each in known if ":" not in each)}')
         before, number = place[at:found.start()], f'{known[name]:,}' if found[2] == ',' else str(known[name])
-        matched = NUMBERS if name.startswith('editions:') else LEAF if name.startswith('end:') else NUMBER
+        matched = NUMBERS if name.startswith('editions:') else LEAF if name.startswith('end:') else DIGEST if name == 'fingerprint' else NUMBER
         pattern, wanted, at = f'{pattern}{re.escape(before)}{matched}', wanted + before + number, found.end()
     pattern, wanted = f'(?<![0-9]){pattern}(?![0-9]){re.escape(place[at:])}', wanted + place[at:]
     made, many = re.subn(pattern, lambda _: wanted, text)

@@ -15,6 +15,7 @@
   rust/tests/memory.rs, command/page_sets.rs    the places, and the rows that every table needs, for tests
   rust/src/bin/snp-cpuid                    in the help of from-dump and from-kvm, and in what refusal 3 means, the rows that are read or needed;
                                             a line of masks.rs for a leaf that is kept whole
+  differential/compare/src/pages.rs         the required leaves in the order of their lists
   docs/COMMAND.md                           what `explain` prints of refusal 3
 A new run of the code is written by hand, with any numbers; figures.py --write comes before this. Every place is needed but the two made here and Dh's
 subleaves from 2 up: `all-found` of crates/finish/specs/PlaceLaws.antt holds that.
@@ -28,7 +29,7 @@ import textwrap
 import leaf_code
 from leaf_code import FIRST_STATE, MADE, number, replaced
 import made_files
-from kept_leaves import LEAVES, PLACES, leaf_names, names, places, rows as kept_rows
+from kept_leaves import LEAVES, PLACES, leaf_names, names, places, required, rows as kept_rows
 from proved_source import Unlisted
 
 ROOT = Path(__file__).resolve().parents[2]
@@ -120,7 +121,8 @@ def place_of_proof(path, text, kept):
 def last_leaves(path, text, root, kept):
     """Where code asks for leaves up to one of a run, that is the run's last."""
     leaf = leaf_names(root)
-    last = {leaf[each]: leaf[first + many - 1] for _, first, many, subleaves in runs(kept) if subleaves is None for each in range(first, first + many)}
+    whole = [(first, first + many - 1) for _, first, many, subleaves in runs(kept) if subleaves is None]
+    last = {leaf[each]: leaf[end] for first, end in whole for each in range(first, end + 1)}
     return re.sub(r'(?<=<= leaf::)\w+', lambda found: last.get(found[0], found[0]), text)
 
 
@@ -209,6 +211,8 @@ def made(root):
     of(f'{COMMAND}/commands/from_kvm.rs', in_paragraph, 'the table reads: leaves ', '. A page', words(read, base='x'), '', 100)
     of(f'{COMMAND}/masks.rs', leaf_code.command_masks, root)
     of(f'{COMMAND}/meanings.rs', in_string, r'\d+ rows need an entry', '. Besides', f'{len(needed)} rows need an entry: leaves {words(needed)}')
+    asked = [('STATE' if leaf == STATE else str(leaf) if leaf < 0xA else f'0x{leaf:x}', subleaf or 0) for leaf, subleaf in required(root)]
+    of('differential/compare/src/pages.rs', array, 'REQUIRED', len(asked), ''.join(f'    ({leaf}, {subleaf}),\n' for leaf, subleaf in asked))
     of('docs/COMMAND.md', in_paragraph, ' rows need an entry: leaves ', '. Besides', words(needed), '    ', 104)
     texts['docs/COMMAND.md'] = re.sub(r'\d+ (?=rows need an entry)', f'{len(needed)} ', texts['docs/COMMAND.md'])
     return texts, f'{len(kept)} places in lists of {len(texts)} files'

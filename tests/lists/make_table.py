@@ -14,7 +14,7 @@ from make_carry import fullest, image as image_of, least
 import model
 from model import EAX, STATE
 import model_table as kept
-from model_table import EMPTY, PLACES
+from model_table import EMPTY, PLACES, REGISTERS
 from pagesets import MILAN, changed, minimal, rich, spread, with_byte, with_topology, without
 import replayed
 from replayed import edits
@@ -261,7 +261,7 @@ def state_memory(draw):
     """Memory at random, whose leaf Dh is as a table may have it now and then."""
     often = draw.choice((0, .3, .7, .95, 1))
     origins = [draw.choice((1, 2, 3, 4, 67, 68, draw.getrandbits(64) | 4)) if draw.random() < often else 0 for _ in PLACES]
-    registers = [draw.getrandbits(32) for _ in range(352)]
+    registers = [draw.getrandbits(32) for _ in range(REGISTERS)]
     d0, d1 = (4 * PLACES.index((STATE, subleaf)) for subleaf in (0, 1))
     registers[d0] |= 1
     registers[d1] |= draw.choice((0, 2, 8, 0xA, 0xA))
@@ -304,7 +304,7 @@ def compared(out):
         out.put_table(base)
         out.compare(base)
         out.compare(EMPTY)
-        for place in range(88):
+        for place in range(len(PLACES)):
             out.compare(with_origin(base, place, 0 if base[1][place] else 3))
             for register in range(4):
                 at = 4 * place + register
@@ -323,13 +323,13 @@ def compared(out):
     out.put_table(with_word(EMPTY, 4 * PLACES.index((STATE, 0)), 7))
     for second in EMPTY, with_origin(EMPTY, PLACES.index((STATE, 2)), 1), with_origin(with_word(EMPTY, 24, ALL), PLACES.index((STATE, 3)), 1):
         out.compare(second)
-    for place in range(0, 88, 3):
+    for place in range(0, len(PLACES), 3):
         out.compare(with_origin(with_word(EMPTY, 24, ALL), place, 9))
     for _ in range(8):
         first = state_memory(draw)
         out.put_table(first)
         out.compare(first)
-        out.compare(with_origin(first, draw.randrange(88), draw.choice((0, 1))))
+        out.compare(with_origin(first, draw.randrange(len(PLACES)), draw.choice((0, 1))))
 
 
 GROUPS = built, refused, pooled, read, at_random, compared

@@ -7,6 +7,7 @@ import random
 import struct
 
 import model
+from model_masks import KEPT
 from pagesets import MILAN, PAGE_SIZE, STATE, changed, minimal, page, pages, rich, split, spread, with_topology, without
 from vector import build, lookup, write
 
@@ -67,7 +68,7 @@ def masks():
               (0x80000000, 0), (0x80000009, 0), (0x80000018, 0), (0x8000001B, 0), (0x8000001C, 0), (0x8000001D, 4),
               (0x80000020, 0), (ALL, 0)]
     first, second = split(minimal())
-    strange = [(leaf, subleaf, ALL, ALL, ALL, ALL) for leaf, subleaf in beside]
+    strange = [(leaf, subleaf, ALL, ALL, ALL, ALL) for leaf, subleaf in beside if (leaf, None) not in KEPT[False]]
     states = [(STATE, subleaf, ALL, ALL, ALL, ALL) for subleaf in (2, 63, 64, ALL)]
     yield write('filtered leaves', pages(strange + first, states + second), 582)
 

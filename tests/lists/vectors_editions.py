@@ -59,7 +59,7 @@ def unknown_editions():
         yield build(f'{name}, no pages', b'', edition=edition)
         yield lookup(name, MILAN, 1, enforce=False, edition=edition)
         yield lookup(name, MILAN, STATE, 2, edition=edition)
-        for room in 0, 656, 657, 732:
+        for room in 0, 657 - 1, 657, 732:
             yield write(name, MILAN, room, edition=edition)
 
 

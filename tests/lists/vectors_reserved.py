@@ -64,7 +64,7 @@ def reserved_order():
         yield build(name, clean)
         yield build(f'{name}, unclean', with_byte(clean, 2, 0, 40, 1))
     data = with_byte(MILAN, 1, 0, 40, 1)
-    for room in 0, 731, 732, 733:
+    for room in 0, 732 - 1, 732, 732 + 1:
         yield write('EPYC, unclean', data, room)
     yield write('EPYC, unclean, secure AVIC', data, 732, secure_avic=True)
     yield lookup('EPYC, unclean', data, 1)

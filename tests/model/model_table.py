@@ -1,7 +1,7 @@
 """A model of a table in the caller's own memory, by include/snp_cpuid.h, "a table that the caller keeps".
 
-Memory is (registers, origins), tuples of 352 and of 88 numbers, of any content. The rows in it have model.py's form; what is made of them is what
-documents 01 and 02 say, by the other models. Quotations in the comments are the header's.
+Memory is (registers, origins), tuples of four numbers and of one for each place, of any content. The rows in it have model.py's form; what is made
+of them is what documents 01 and 02 say, by the other models. Quotations in the comments are the header's.
 """
 import hashlib
 import struct
@@ -15,22 +15,23 @@ import model_origins
 import model_pool
 
 ALL = 0xFFFFFFFF
-# "88 places, by rising leaf and subleaf"
+# the places, "by rising leaf and subleaf"
 PLACES = list(ROWS)
 NO_ROW, MADE, UNKNOWN, FIRST_ENTRY = 0, 1, 3, 4
 NOTHING = 0, 0, 0, 0
-EMPTY = (0,) * 352, (0,) * 88
-LAYOUT = '<352I88Q'
+REGISTERS = 4 * len(PLACES)
+EMPTY = (0,) * REGISTERS, (0,) * len(PLACES)
+LAYOUT = f'<{REGISTERS}I{len(PLACES)}Q'
 
 
 def to_bytes(memory):
-    """struct snp_cpuid_kept_table, 2,112 bytes."""
+    """struct snp_cpuid_kept_table."""
     return struct.pack(LAYOUT, *memory[0], *memory[1])
 
 
 def from_bytes(data):
     numbers = struct.unpack(LAYOUT, data)
-    return numbers[:352], numbers[352:]
+    return numbers[:REGISTERS], numbers[REGISTERS:]
 
 
 # What memory holds

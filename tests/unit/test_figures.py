@@ -8,7 +8,7 @@ import unittest
 
 import figures
 
-SOURCES = figures.EDITION, 'crates/pool/src/sets.rt', 'crates/x86defs/specs/Functions.antt', figures.MASK
+SOURCES = figures.EDITION, 'crates/pool/src/sets.rt', 'crates/x86defs/specs/Functions.antt', figures.MASK, figures.IMAGE
 
 
 class Figures(unittest.TestCase):
@@ -46,21 +46,20 @@ class Figures(unittest.TestCase):
         self.assertIn('#define SNP_CPUID_MOST_SERVERS 32\n', self.text('include/snp_cpuid.h'))
 
     def test_a_place_more(self):
-        row = '    ∷ kept ProcessorTopologyDefinition whole'
+        old = figures.figures(figures.ROOT)['places']
+        new, row = old + 1, '    ∷ kept ProcessorTopologyDefinition whole'
         self.edit('crates/masking/specs/Kept.antt', row, f'    ∷ kept CacheTopologyDefinition whole allOnes\n{row}')
-        (self.root / 'crates/memory/specs').mkdir()
-        (self.root / 'crates/memory/specs/Memory.antt').write_text('-- 88 rows\nw = replicate 352 0x88 .88 188\n')
-        (self.root / 'crates/theorems/specs').mkdir(parents=True)
-        for page in 'Page', 'Document01':
-            (self.root / f'crates/theorems/specs/{page}.antt').write_text('w = 88\n')
+        for path in 'memory/specs/Memory', 'theorems/specs/Page', 'theorems/specs/Document01':
+            (self.root / f'crates/{path}.antt').parent.mkdir(parents=True, exist_ok=True)
+            (self.root / f'crates/{path}.antt').write_text(f'-- {old} rows\nw = replicate {4 * old} 0x{old} .{old} 1{old}\n')
         self.assertEqual(self.asked('--write')[0], 0)
-        self.assertEqual(self.text('crates/memory/specs/Memory.antt'), '-- 89 rows\nw = replicate 356 0x88 .88 188\n')
-        self.assertEqual(self.text('crates/theorems/specs/Page.antt'), 'w = 89\n')
-        self.assertEqual(self.text('crates/theorems/specs/Document01.antt'), 'w = 88\n')
-        self.assertIn('PLACES: usize = 89;', self.text('crates/masking/src/lib.rt'))
-        self.assertIn('REGISTERS: usize = 356;', self.text('crates/memory/src/lib.rt'))
+        for path in 'memory/specs/Memory', 'theorems/specs/Page':
+            self.assertEqual(self.text(f'crates/{path}.antt'), f'-- {new} rows\nw = replicate {4 * new} 0x{old} .{old} 1{old}\n')
+        self.assertIn(f'-- {old} rows\n', self.text('crates/theorems/specs/Document01.antt'))
+        self.assertIn(f'PLACES: usize = {new};', self.text('crates/masking/src/lib.rt'))
+        self.assertIn(f'REGISTERS: usize = {4 * new};', self.text('crates/memory/src/lib.rt'))
         header = self.text('include/snp_cpuid.h')
-        for line in 'memory: 2,136 bytes', 'uint32_t registers[356];', 'uint64_t origins[89];', '_ANY_KVM_BYTES 3568':
+        for line in f'memory: {24 * new:,} bytes', f'uint32_t registers[{4 * new}];', f'uint64_t origins[{new}];', f'_ANY_KVM_BYTES {8 + 40 * new}':
             self.assertIn(line, header)
 
     def test_a_third_edition(self):

@@ -7,12 +7,19 @@ import tempfile
 import unittest
 
 import kept_leaves
+import leaf_code
 import leaves
 
-NUMBER = 'abbrev pub InstructionSampling : CpuidFunction\nInstructionSampling = function 0x8000001B\n'
+# the repository's leaves; the further one follows those from 80000019h on
+KEPT, NAMED = kept_leaves.places(leaves.ROOT), kept_leaves.names(leaves.ROOT)
+ROWS, NEEDED = len(kept_leaves.rows(leaves.ROOT)), len(kept_leaves.required(leaves.ROOT))
+AT, MANY = next((first, many) for first, leaf, many, _ in leaves.runs(KEPT) if leaf == 0x80000019)
+LEAF, PLACE = 0x80000019 + MANY, AT + MANY
+ROW = ROWS - 3
+NUMBER = f'abbrev pub InstructionSampling : CpuidFunction\nInstructionSampling = function 0x{LEAF:X}\n'
 BEFORE = '    ∷ kept CacheTopologyDefinition '
 LAST = '    ∷ whole ProcessorTopologyDefinition\n'
-RUNS = 'crates/masking/src/run.rt'
+RUNS, PLACE_OF, CHECKED = 'crates/masking/src/run.rt', 'crates/masking/src/lib.rt', 'crates/rows/src/checked/required.rt'
 
 
 class Leaves(unittest.TestCase):
@@ -42,7 +49,7 @@ class Leaves(unittest.TestCase):
     def further(self, row, places, needed, run=''):
         self.edit(kept_leaves.FUNCTIONS, 'abbrev pub vendorEcx', f'{NUMBER}\nabbrev pub vendorEcx')
         self.edit(kept_leaves.KEPT, BEFORE, f'    ∷ kept InstructionSampling {row} allOnes\n{BEFORE}')
-        for name, number in ('CACHE_TOPOLOGY_0', 82), ('PROCESSOR_TOPOLOGY_DEFINITION', 86):
+        for name, number in ('CACHE_TOPOLOGY_0', PLACE), ('PROCESSOR_TOPOLOGY_DEFINITION', PLACE + 4):
             self.edit(kept_leaves.PLACES, f'{name}: usize = {number};', f'{name}: usize = {number + places};')
         self.edit(RUNS, 'pub const CACHE_TOPOLOGY', run + 'pub const CACHE_TOPOLOGY')
         self.edit(kept_leaves.REQUIRED, LAST, f'{needed}{LAST}')
@@ -53,49 +60,53 @@ class Leaves(unittest.TestCase):
 
     def test_a_leaf_that_lengthens_a_run(self):
         self.further('whole', 1, '    ∷ whole InstructionSampling\n')
-        self.assertIn('leaf: CpuidFunction(KEPT_LEAVES[18].leaf.0), indexed: KEPT_LEAVES[18].subleaf, row: 18, last_row: 20, };', self.text(RUNS))
-        self.assertIn('row: 22, last_row: 23, };', self.text(RUNS))
-        self.assertIn('leaf::INSTRUCTION_SAMPLING => place::INSTRUCTION_SAMPLING, leaf::CACHE_TOPOLOGY_DEFINITION', self.text('crates/masking/src/lib.rt'))
-        self.assertIn('pub const INSTRUCTION_SAMPLING: u32 = 0x8000_001B; pub const CACHE_TOPOLOGY_DEFINITION', self.text(kept_leaves.LEAVES))
-        self.assertIn('pub const INSTRUCTION_SAMPLING: usize = EXTENDED_OPTIMIZATION_IDENTIFIERS + 1; pub const CACHE_TOPOLOGY_0',
+        self.assertIn(f'indexed: KEPT_LEAVES[{ROW - MANY}].subleaf, row: {ROW - MANY}, last_row: {ROW}, }};', self.text(RUNS))
+        self.assertIn(f'row: {ROWS - 1}, last_row: {ROWS}, }};', self.text(RUNS))
+        self.assertIn('leaf::INSTRUCTION_SAMPLING => place::INSTRUCTION_SAMPLING, leaf::CACHE_TOPOLOGY_DEFINITION', self.text(PLACE_OF))
+        self.assertIn(f'pub const INSTRUCTION_SAMPLING: u32 = {leaf_code.number(LEAF)}; pub const CACHE_TOPOLOGY_DEFINITION',
+                      self.text(kept_leaves.LEAVES))
+        self.assertIn(f'pub const INSTRUCTION_SAMPLING: usize = {NAMED[PLACE - 1]} + 1; pub const CACHE_TOPOLOGY_0',
                       self.text(kept_leaves.PLACES))
         self.assertIn('leaf: CpuidFunction(leaf::INSTRUCTION_SAMPLING), eax: ONES, ebx: ONES, ecx: ONES, edx: ONES, subleaf: false, }, KeptLeaf { '
                       'leaf: CpuidFunction(leaf::CACHE_TOPOLOGY_DEFINITION)', self.text('crates/masking/src/masks.rt'))
-        self.assertIn('[u8; 25] = [', self.text('crates/rows/src/checked/required.rt'))
-        self.assertIn('place::INSTRUCTION_SAMPLING as u8, place::PROCESSOR_TOPOLOGY_DEFINITION as u8, ];',
-                      self.text('crates/rows/src/checked/required.rt'))
-        self.assertIn('NOT_KEPT: u64 = 0x5757_FFFF_FB9D_1153;', self.text('crates/collect/src/full.rt'))
-        self.assertIn('new: pub const NOT_KEPT: u64 = 0x5757_FFFF_FB9D_1157;', self.text('crates/collect/must-fail/several.edit'))
+        self.assertIn(f'[u8; {NEEDED + 1}] = [', self.text(CHECKED))
+        self.assertIn('place::INSTRUCTION_SAMPLING as u8, place::PROCESSOR_TOPOLOGY_DEFINITION as u8, ];', self.text(CHECKED))
+        bits = leaf_code.not_kept([*KEPT, kept_leaves.Place(LEAF, None)])
+        self.assertEqual(int(leaf_code.not_kept(KEPT)[0].split()[-1][:-1], 16) - int(bits[0].split()[-1][:-1], 16), 1 << 2 * (LEAF & 0x1F) + 1)
+        self.assertIn(bits[0], (self.root / 'crates/collect/src/full.rt').read_text())
+        self.assertIn(f'old: {bits[0]}new: {bits[1]}', (self.root / 'crates/collect/must-fail/several.edit').read_text())
         self.assertIn('if n <= leaf::INSTRUCTION_SAMPLING {', self.text('crates/lookup/src/lib.rt'))
         for path in 'crates/kvm_export/specs/Flags.antt', 'crates/theorems/specs/ListTheorems.antt':
-            self.assertIn('replicate 67 1 ++ replicate 13 0 ++ replicate 4 1 ++ replicate 2 0', self.text(path))
-            self.assertIn('tabulate 64 (λ k. k) ++ replicate 13 0 ++ (0 ∷ 1 ∷ 2 ∷ 3 ∷ [])', self.text(path))
-        self.assertIn('leaf(0x8000_001B, [Whole; 4]), subleaves(0x8000_001D,', self.text('rust/src/bin/snp-cpuid/masks.rs'))
-        self.assertIn('0x8000001D ∷ 0x8000001B ∷ 0x8000001A', self.text('crates/masking/specs/PlaceOfLaws.antt'))
-        self.assertIn('(rw (c .match .keys12), search needs)', self.text('crates/masking/proofs/place_of/Proof.antt'))
-        runs = 'run(80, 0x8000_0019, 3, None), run(83, 0x8000_001D, 1, Some(4)), run(87, 0x8000_001E, 2, None),'
+            self.assertIn(f'replicate 67 1 ++ replicate {11 + MANY} 0 ++ replicate 4 1 ++ replicate 2 0', self.text(path))
+            self.assertIn(f'tabulate 64 (λ k. k) ++ replicate {11 + MANY} 0 ++ (0 ∷ 1 ∷ 2 ∷ 3 ∷ [])', self.text(path))
+        self.assertIn(f'leaf({leaf_code.number(LEAF)}, [Whole; 4]), subleaves(0x8000_001D,', self.text('rust/src/bin/snp-cpuid/masks.rs'))
+        self.assertIn(f'0x8000001D ∷ 0x{LEAF:X} ∷ 0x{LEAF - 1:X}', self.text('crates/masking/specs/PlaceOfLaws.antt'))
+        self.assertIn(f'(rw (c .match .keys{len(leaves.alone(KEPT)) + 1}), search needs)', self.text('crates/masking/proofs/place_of/Proof.antt'))
+        runs = f'run({AT}, 0x8000_0019, {MANY + 1}, None), run({PLACE + 1}, 0x8000_001D, 1, Some(4)), run({PLACE + 5}, 0x8000_001E, 2, None),'
         self.assertIn(runs, self.text('rust/src/places.rs'))
-        self.assertIn('80000019h to 8000001Bh, 8000001Dh.0 to .3', self.text('include/snp_cpuid.h').replace(' * ', ' '))
-        self.assertIn('(0x8000_001B, 0), (0x8000_001D, 0),', self.text('rust/tests/command/page_sets.rs'))
-        self.assertIn('; 25] = [', self.text('rust/tests/command/page_sets.rs'))
+        self.assertIn(f'80000019h to {LEAF:X}h, 8000001Dh.0 to .3', self.text('include/snp_cpuid.h').replace(' * ', ' '))
+        self.assertIn(f'({leaf_code.number(LEAF)}, 0), (0x8000_001D, 0),', self.text('rust/tests/command/page_sets.rs'))
+        self.assertIn(f'; {NEEDED + 1}] = [', self.text('rust/tests/command/page_sets.rs'))
         for path in 'docs/COMMAND.md', 'rust/src/bin/snp-cpuid/meanings.rs':
-            self.assertIn('25 rows need an entry: leaves 1, 5,', self.text(path))
+            self.assertIn(f'{NEEDED + 1} rows need an entry: leaves 1, 5,', self.text(path))
         for path in 'from_dump', 'from_kvm':
-            self.assertIn('8000000A, 80000019 to 8000001B, 8000001D.0 to .3', self.text(f'rust/src/bin/snp-cpuid/commands/{path}.rs'))
+            self.assertIn(f'8000000A, 80000019 to {LEAF:X}, 8000001D.0 to .3', self.text(f'rust/src/bin/snp-cpuid/commands/{path}.rs'))
 
     def test_a_leaf_with_subleaves(self):
         needed = ''.join(f'    ∷ sub InstructionSampling {subleaf}\n' for subleaf in (0, 1))
         run = 'pub const SAMPLING: Run = Run {\n    first: place::INSTRUCTION_SAMPLING_0,\n' + '    row: 0,\n' * 5 + '};\n\n'
         self.further('(subleaves 0 1)', 2, needed, run)
-        self.assertIn('place::INSTRUCTION_SAMPLING_0 as u8, place::INSTRUCTION_SAMPLING_0 as u8 + 1,', self.text('crates/rows/src/checked/required.rt'))
-        self.assertIn('replicate 4 0 ++ (0 ∷ 1 ∷ []) ++ tabulate 64 (λ k. k) ++ replicate 12 0 ++ (0 ∷ 1 ∷ []) ++ (0 ∷ 1 ∷ 2 ∷ 3 ∷ [])',
+        self.assertIn('place::INSTRUCTION_SAMPLING_0 as u8, place::INSTRUCTION_SAMPLING_0 as u8 + 1,', self.text(CHECKED))
+        self.assertIn('replicate 4 0 ++ (0 ∷ 1 ∷ []) ++ tabulate 64 (λ k. k) ++ '
+                      f'replicate {10 + MANY} 0 ++ (0 ∷ 1 ∷ []) ++ (0 ∷ 1 ∷ 2 ∷ 3 ∷ [])',
                       self.text('crates/kvm_export/specs/Flags.antt'))
-        self.assertIn('subleaves(0x8000_001B, 0, 1, [Whole; 4]),', self.text('rust/src/bin/snp-cpuid/masks.rs'))
-        self.assertIn('leaf::INSTRUCTION_SAMPLING => subleaf_place(run::SAMPLING, subleaf),', self.text('crates/masking/src/lib.rt'))
+        self.assertIn(f'subleaves({leaf_code.number(LEAF)}, 0, 1, [Whole; 4]),', self.text('rust/src/bin/snp-cpuid/masks.rs'))
+        self.assertIn('leaf::INSTRUCTION_SAMPLING => subleaf_place(run::SAMPLING, subleaf),', self.text(PLACE_OF))
         self.assertIn('subleaf-place5 .ensures .1))', self.text('crates/masking/proofs/place_of/Proof.antt'))
-        self.assertIn('first: place::INSTRUCTION_SAMPLING_0, count: 2, leaf: CpuidFunction(KEPT_LEAVES[20].leaf.0),', self.text(RUNS))
-        self.assertIn('run(82, 0x8000_001B, 1, Some(2)), run(84, 0x8000_001D, 1, Some(4)),', self.text('rust/src/places.rs'))
-        self.assertIn('8000001A, 8000001B.0, 8000001B.1, 8000001D.0 to .3', self.text('docs/COMMAND.md'))
+        self.assertIn(f'first: place::INSTRUCTION_SAMPLING_0, count: 2, leaf: CpuidFunction(KEPT_LEAVES[{ROW}].leaf.0),', self.text(RUNS))
+        runs = f'run({PLACE}, {leaf_code.number(LEAF)}, 1, Some(2)), run({PLACE + 2}, 0x8000_001D, 1, Some(4)),'
+        self.assertIn(runs, self.text('rust/src/places.rs'))
+        self.assertIn(f'{LEAF - 1:X}, {LEAF:X}.0, {LEAF:X}.1, 8000001D.0 to .3', self.text('docs/COMMAND.md'))
 
     def test_a_name_without_a_number(self):
         self.edit(kept_leaves.KEPT, BEFORE, f'    ∷ kept Unknown whole allOnes\n{BEFORE}')

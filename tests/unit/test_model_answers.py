@@ -42,10 +42,10 @@ class Answers(unittest.TestCase):
 
     def test_write(self):
         image = model.image(model.build(MILAN, False))
-        for lent in 657, 658, 1000:
+        for lent in len(image), len(image) + 1, 1000:
             buffer = bytes(range(256)) * 4
-            self.assertEqual(model.write(MILAN, False, buffer[:lent]), (('written', 657), image + buffer[657:lent]))
-        for lent in 0, 1, 656:
+            self.assertEqual(model.write(MILAN, False, buffer[:lent]), (('written', len(image)), image + buffer[len(image):lent]))
+        for lent in 0, 1, len(image) - 1:
             self.assertEqual(model.write(MILAN, False, b'x' * lent), (refusal(9), b'x' * lent))
         self.assertEqual(model.write(MILAN[:4096], False, b''), (refusal(3, STATE, 0), b''))
         self.assertEqual(model.write(b'', True, b'xy'), (refusal(1), b'xy'))

@@ -25,7 +25,7 @@ def listing(rows, zero=0, count=None):
 
 class Export(unittest.TestCase):
     def test_by_hand(self):
-        """The first three rows, the first with a subleaf and the last of the least table; 26 rows are 1,048 bytes."""
+        """The first three rows, the first with a subleaf and the last of the least table."""
         answer, data = write_list(spread(minimal()), False, bytes(1048))
         self.assertEqual(answer, ('written', 1048))
         vendor = (0x68747541, 0x444D4163, 0x69746E65)

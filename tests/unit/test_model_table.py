@@ -28,19 +28,21 @@ def memory(rows, origins=None, more=()):
 class Memory(unittest.TestCase):
     def test_places_rise(self):
         self.assertEqual(len(PLACES), 88)
-        self.assertEqual([PLACES[0], PLACES[1], PLACES[3], PLACES[6], PLACES[69], PLACES[70], PLACES[87]],
+        self.assertEqual([PLACES[0], PLACES[1], PLACES[3], PLACES[6], PLACES[69], PLACES[70], PLACES[-1]],
                          [(0, None), (1, None), (7, 0), (STATE, 0), (STATE, 63), (0x80000000, None), (0x8000001F, None)])
 
-    def test_the_struct_has_2112_bytes(self):
-        data = kept.to_bytes((tuple(range(352)), tuple(range(1000, 1088))))
-        self.assertEqual((len(data), struct.unpack_from('<I', data, 4), struct.unpack_from('<Q', data, 1408)), (2112, (1,), (1000,)))
-        self.assertEqual(kept.from_bytes(data), (tuple(range(352)), tuple(range(1000, 1088))))
+    def test_the_struct_in_bytes(self):
+        memory = tuple(range(4 * len(PLACES))), tuple(range(1000, 1000 + len(PLACES)))
+        data = kept.to_bytes(memory)
+        self.assertEqual((len(data), struct.unpack_from('<I', data, 4)), (2112, (1,)))
+        self.assertEqual(struct.unpack_from('<Q', data, 16 * len(PLACES)), (1000,))
+        self.assertEqual(kept.from_bytes(data), memory)
 
     def test_a_row_is_there_where_it_has_an_origin(self):
         one = memory({(1, None): (1, 2, 3, 4)}, more={(5, None, 0): 9})
         self.assertEqual(kept.rows(one), {(1, None): (1, 2, 3, 4)})
-        self.assertEqual(kept.rows((one[0], (0,) * 88)), {})
-        self.assertEqual(len(kept.rows((one[0], (ALL,) * 88))), 88)
+        self.assertEqual(kept.rows((one[0], (0,) * len(PLACES))), {})
+        self.assertEqual(len(kept.rows((one[0], (ALL,) * len(PLACES)))), len(PLACES))
 
     def test_the_mask_is_read_from_the_registers(self):
         rows = {(STATE, 0): (7, 0, 0, 0), (STATE, 1): (0xA, 0, 0x1800, 0)}

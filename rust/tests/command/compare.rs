@@ -1,7 +1,7 @@
 //! `compare`: pairs of page sets whose answer demand 3 and document 01 ("Feature registers of demand 3") give.
 
 use crate::features::{FEATURES, REGISTERS};
-use crate::page_sets::{epyc, page, position, rich, set, topology, unclean, with, without};
+use crate::page_sets::{EPYC_ROWS, epyc, page, position, rich, set, topology, unclean, with, without};
 use crate::run::{EPYC, Folder, Ran, run, run_on};
 use snp_cpuid::{Options, fingerprint as of_pages};
 use std::fs;
@@ -85,7 +85,7 @@ fn a_set_and_itself() {
     assert_eq!(parts(&ran), Parts { verdict: EQUAL.into(), in_the_way: vec![], free: vec![], there: yes("A", "B"), back: yes("B", "A") });
     let pages = fs::read(EPYC).unwrap();
     let piped = run_on(&pages, &["compare", "-", EPYC]);
-    let told = format!("accepted, 29 rows\n   fingerprint {}\n", fingerprint(&pages));
+    let told = format!("accepted, {EPYC_ROWS} rows\n   fingerprint {}\n", fingerprint(&pages));
     assert!(piped.text().contains(&format!("\nA  standard input: {told}B  {EPYC}: {told}")), "{}", piped.text());
 }
 

@@ -1,6 +1,6 @@
 //! `--edition`, of every command that builds under one: document 02, P7.
 
-use crate::page_sets::{rich, set, stated, without};
+use crate::page_sets::{EPYC_ROWS, rich, set, stated, without};
 use crate::run::{EPYC, Folder, Ran, run, under_one_edition, with_files};
 use std::fs;
 
@@ -104,7 +104,7 @@ fn compare_says_under_which() {
     less.get_mut(&(1, 0)).unwrap()[2] &= !(1 << 29);
     let (a, b) = (folder.file("a", stated(3)), folder.file("b", set(&less)));
     let compared = |edition| run(&["compare", &a, &b, "--edition", edition]);
-    let rows = "accepted, 28 rows";
+    let rows = format!("accepted, {} rows", EPYC_ROWS - 1);
     for (edition, status, verdict) in [
         ("1", 1, "no: a guest of A may not move to B. B lacks F16C, leaf 00000001 ECX bit 29."),
         ("2", 0, "same: A and B give a guest the same table, row for row.\n"),

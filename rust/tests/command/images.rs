@@ -1,7 +1,7 @@
 //! An image in the place of pages: what one command writes goes into the next.
 
 use crate::json_text::jq;
-use crate::page_sets::{epyc, rich, set, stated, with, without};
+use crate::page_sets::{EPYC_ROWS, epyc, rich, set, stated, with, without};
 use crate::run::{EPYC, Folder, run, run_on};
 use std::fs;
 
@@ -33,7 +33,7 @@ fn nobody_knows_where_its_rows_came_from() {
     let image = image(&folder, "image", EPYC, &[]);
     let ran = run(&["table", &image, "--origins"]);
     let rows: Vec<&str> = ran.text().lines().skip(1).take_while(|line| !line.is_empty()).filter(|line| !line.starts_with(' ')).collect();
-    assert!(rows.len() == 29 && rows.iter().all(|row| row.ends_with("  unknown")), "{rows:?}");
+    assert!(rows.len() == EPYC_ROWS && rows.iter().all(|row| row.ends_with("  unknown")), "{rows:?}");
     let filter = "[.edition, ([.rows[] | [.origin, .page, .entry]] | unique)]";
     if let Some(read) = jq(&run(&["table", &image, "--json"]).out, filter) {
         assert_eq!(read, "[null,[[\"unknown\",null,null]]]");
@@ -81,7 +81,7 @@ fn what_the_library_answers_of_pages_with_its_rows() {
     }
     let image = image(&folder, "image", EPYC, &[]);
     let seen = run(&[&["guest", &image, "--origins"], &processor[..]].concat());
-    assert_eq!(seen.text().lines().filter(|line| line.ends_with("  unknown")).count(), 29);
+    assert_eq!(seen.text().lines().filter(|line| line.ends_with("  unknown")).count(), EPYC_ROWS);
     // 13 as before
     assert!(run(&["guest", &image, "--apic", "0", "--xcr0", "e7", "--xss", "0"]).line().starts_with(&format!("{image}: refusal 13: ")));
 }
@@ -130,7 +130,7 @@ fn images_pooled() {
     let (left, right) = (pooled(&[&pages[0], &pages[1]], "left.image").0, pooled(&[&pages[2], &pages[3]], "right.image").0);
     assert_eq!(pooled(&[&left, &right], "pools.image").1, all.1);
     let origins = run(&["pool", &left, &pages[3], "--origins"]);
-    assert_eq!(origins.text().lines().filter(|line| line.ends_with("  unknown")).count(), 28);
+    assert_eq!(origins.text().lines().filter(|line| line.ends_with("  unknown")).count(), EPYC_ROWS - 1);
     // refusals as of pages: 18, a server's own, 19
     let other = folder.file("other", set(&with(5, 0, 0, |eax| eax + 1)));
     let refused = folder.file("refused", set(&without(5, 0)));
@@ -158,7 +158,7 @@ fn tables_that_building_does_not_give() {
     changed[21 + 5 + 3] |= 0x80;
     let changed = folder.file("changed", &changed);
     let processor = ["--apic", "1", "--xcr0", "1", "--xss", "0"];
-    for (file, rows) in [(&short, 28), (&changed, 29)] {
+    for (file, rows) in [(&short, EPYC_ROWS - 1), (&changed, EPYC_ROWS)] {
         assert_eq!(run(&["table", file]).status, 0);
         let seen = run(&[&["guest", file, "--origins"], &processor[..]].concat());
         assert_eq!((seen.status, seen.text().lines().filter(|line| line.ends_with("  unknown")).count()), (0, rows), "{}", seen.err);
@@ -211,8 +211,8 @@ fn commands_that_need_pages_make_them() {
     assert!(nearest.text().starts_with("page 0, entry 1, EAX bit 0\nleaf 00000001 EAX bit 0, "), "{}", nearest.text());
     let entries = run(&["entries", &image]);
     assert_eq!((entries.status, &entries.err), (0, &note));
-    assert_eq!(entries.text().matches("  first\n").count(), 25);
-    assert!(entries.text().starts_with(&format!("{image}: accepted, 29 rows\n")), "{}", entries.text());
+    assert_eq!(entries.text().matches("  first\n").count(), EPYC_ROWS - 4);
+    assert!(entries.text().starts_with(&format!("{image}: accepted, {EPYC_ROWS} rows\n")), "{}", entries.text());
     let written = run(&["from-dump", &image, "-o", "-"]);
     assert_eq!(run_on(&written.out, &["table", "-"]), run(&["table", EPYC]));
     let bytes = fs::read(&image).unwrap();

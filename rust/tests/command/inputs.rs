@@ -1,6 +1,6 @@
 //! Every command reads every kind of file, told apart by its bytes; a file that is none is said to be none. Folders are read as they are.
 
-use crate::page_sets::{Entries, epyc, page, set, unclean, with};
+use crate::page_sets::{EPYC_ROWS, Entries, epyc, page, set, unclean, with};
 use crate::run::{BUILDING, EPYC, Folder, READING, run, run_on, with_files};
 use std::fs;
 use std::process::{Command, Stdio};
@@ -194,7 +194,7 @@ fn a_list_as_long_as_pages() {
     let folder = Folder::new("inputs_long_list");
     let list = run(&["to-kvm", EPYC, "-o", "-"]).out;
     let empty = [&0x4000_0000u32.to_le_bytes()[..], &[0; 36]].concat();
-    let long = [&307u32.to_le_bytes()[..], &[0; 4], &list[8..], &empty.repeat(307 - 29)].concat();
+    let long = [&307u32.to_le_bytes()[..], &[0; 4], &list[8..], &empty.repeat(307 - EPYC_ROWS)].concat();
     assert_eq!(long.len(), 3 * 4096);
     assert_eq!(run(&["table", &folder.file("list", long)]).out, run(&["table", EPYC]).out);
 }

@@ -1,5 +1,6 @@
 //! `to-kvm` and `from-kvm`.
 
+use crate::page_sets::EPYC_ROWS;
 use crate::run::{EPYC, Folder, run, run_on};
 use snp_cpuid::{KVM_PAGES_BYTES, MOST_KVM_BYTES, Options, Refusal, build, read_kvm, write_kvm};
 use std::fs;
@@ -25,7 +26,8 @@ fn the_list_is_the_librarys_and_goes_round() {
         assert_eq!((wrote.status, wrote.err.as_str(), &wrote.out), (0, "", &epyc_list(options)));
         let back = run_on(&wrote.out, &["from-kvm", "-", "-o", "-"]);
         // leaves 0 and 80000000 are made here
-        assert_eq!((back.status, back.err.as_str()), (0, "snp-cpuid: note: 29 rows, of which the table reads 27\n"));
+        let note = format!("snp-cpuid: note: {EPYC_ROWS} rows, of which the table reads {}\n", EPYC_ROWS - 2);
+        assert_eq!((back.status, back.err), (0, note));
         assert_eq!(build(&back.out, options), build(&fs::read(EPYC).unwrap(), options));
     }
 }
@@ -43,18 +45,21 @@ fn rows_that_the_table_does_not_read_go_in_and_are_told() {
 /// A page holds 64 entries. Where a list has more for one, the rows that no table reads are left out, and the note says so; the library refuses it.
 #[test]
 fn a_long_list_loses_rows_that_no_table_reads() {
-    // the shipped table and 40 rows of a hypervisor's leaves, which stand first
+    // the shipped table, of which five rows are of leaf Dh, and rows of a hypervisor's leaves, which stand first
     let rows = epyc_list(Options::new());
-    let more = listed(&[[0x4000_0000, 0, 0, 1]; 40]);
-    let long = [&69u32.to_le_bytes()[..], &[0; 4], &more[8..], &rows[8..]].concat();
+    let more = listed(&[[0x4000_0000, 0, 0, 1]; 64 - (EPYC_ROWS - 5)]);
+    let count = |many: u32| [many.to_le_bytes(), [0; 4]].concat();
+    let long = [&count(64 + 5)[..], &more[8..], &rows[8..]].concat();
     let mut pages = [0; KVM_PAGES_BYTES];
-    assert_eq!(read_kvm(&long, &mut pages), Ok(KVM_PAGES_BYTES), "24 of the shipped rows are not of leaf Dh");
-    let longer = [&70u32.to_le_bytes()[..], &[0; 4], &more[8..48], &more[8..], &rows[8..]].concat();
+    assert_eq!(read_kvm(&long, &mut pages), Ok(KVM_PAGES_BYTES));
+    let longer = [&count(64 + 6)[..], &more[8..48], &more[8..], &rows[8..]].concat();
     assert_eq!(read_kvm(&longer, &mut pages), Err(Refusal::ListRows));
-    for (list, note) in [(long, ""), (longer, "; the 43 others are left out, as a page holds 64")] {
+    let read = EPYC_ROWS - 2;
+    let left_out = format!("; the {} others are left out, as a page holds 64", 64 + 6 - read);
+    for (list, note) in [(long, ""), (longer, left_out.as_str())] {
         let ran = run_on(&list, &["from-kvm", "-", "-o", "-"]);
         let count = (list.len() - 8) / 40;
-        assert_eq!((ran.status, ran.err), (0, format!("snp-cpuid: note: {count} rows, of which the table reads 27{note}\n")));
+        assert_eq!((ran.status, ran.err), (0, format!("snp-cpuid: note: {count} rows, of which the table reads {read}{note}\n")));
         assert_eq!(build(&ran.out, Options::new()), build(&fs::read(EPYC).unwrap(), Options::new()));
     }
     // rows that tables read stay, and are too many: 64 of leaf Dh fit, and no more

@@ -2,7 +2,7 @@
 
 use crate::features::FEATURES;
 use crate::masks::{kept, required};
-use crate::page_sets::{Entries, REQUIRED, page, rich, set};
+use crate::page_sets::{EPYC_ROWS, Entries, REQUIRED, page, rich, set};
 use snp_cpuid::{Comparison, Options, Refusal, build, compare, first_entry};
 
 /// Leaves with a reason to be tried: all kept ones, their neighbours, and numbers at the ends.
@@ -108,8 +108,8 @@ fn masks_are_those_of_the_library() {
             }
         }
     }
-    // 30 entries of 128 bits; free are B.0 and B.1, D.0.ECX and two bits
-    assert_eq!(tried, 2 * (30 * 128 - 2 * 128 - 32 - 2));
+    // 128 bits of an entry for each row of a table with six states, but the two made here; free are B.0 and B.1, D.0.ECX and two bits
+    assert_eq!(tried, 2 * ((EPYC_ROWS + 3 - 2) * 128 - 2 * 128 - 32 - 2));
 }
 
 /// Entries that the library accepts in which this bit is set.

@@ -1,6 +1,6 @@
 //! `nearest`: document 02, P13. The bits are the model's (rust/tests/nearest.txt), or follow from what the pages report.
 
-use crate::page_sets::{Entries, epyc, page, rich, set, topology, unclean, with, without};
+use crate::page_sets::{EPYC_ROWS, Entries, epyc, page, rich, set, topology, unclean, with, without};
 use crate::run::{EPYC, Folder, run};
 
 const INVLPGB_GONE: &str = "refusal 4: INVLPGB (80000008h.EBX bit 3) is required but unavailable";
@@ -28,9 +28,11 @@ fn a_bit_of_the_table() {
     assert_eq!((ran.status, ran.err.as_str()), (0, ""));
     assert_eq!(
         ran.text(),
-        "page 0, entry 1, EAX bit 0\nleaf 00000001 EAX bit 0, bit 0 of processor-stepping: set\n\n\
-         as it stands  accepted, 29 rows\nflipped       accepted, 29 rows\n\n\
-         00000001    EAX  as it stands 00A00F11, flipped 00A00F10\n"
+        format!(
+            "page 0, entry 1, EAX bit 0\nleaf 00000001 EAX bit 0, bit 0 of processor-stepping: set\n\n\
+             as it stands  accepted, {EPYC_ROWS} rows\nflipped       accepted, {EPYC_ROWS} rows\n\n\
+             00000001    EAX  as it stands 00A00F11, flipped 00A00F10\n"
+        )
     );
 }
 
@@ -55,13 +57,14 @@ fn refused_pages_have_a_bit_that_decides() {
     let text = told(&set(&clear), &[]);
     let (place, rest) = text.split_once('\n').unwrap();
     assert!(place.ends_with("EBX bit 3"), "{place}");
-    assert_eq!(rest, format!("leaf 80000008 EBX bit 3, INVLPGB: clear\n\nas it stands  {INVLPGB_GONE}\nflipped       accepted, 29 rows\n"));
+    assert_eq!(rest, format!("leaf 80000008 EBX bit 3, INVLPGB: clear\n\nas it stands  {INVLPGB_GONE}\nflipped       accepted, {EPYC_ROWS} rows\n"));
     // a subleaf of Dh that the mask needs: its bit of D.0.EAX
     let mut lacking = rich();
     lacking.remove(&(0xD, 5)).unwrap();
     let text = told(&led_by(&lacking, 0xD, 0), &[]);
     assert!(text.starts_with("page 1, entry 0, EAX bit 5\nleaf 0000000D.0 EAX bit 5, opmask: set\n\nas it stands  refusal 3: "), "{text}");
-    assert!(text.ends_with("\nflipped       accepted, 31 rows\n"), "{text}");
+    // opmask, and so one state of six less
+    assert!(text.ends_with(&format!("\nflipped       accepted, {} rows\n", EPYC_ROWS + 2)), "{text}");
     // 7 by nc = 200, which no bit of 8000001Eh or 1 mends: INVLPGB again, and from one refusal to another
     let mut many = rich();
     topology(&mut many, 7, 200, 128, 1, 1);

@@ -1,6 +1,6 @@
 //! `--origins` of table, lookup and guest: document 02, P11, on sets whose entries stand where the tests put them.
 
-use crate::page_sets::{Entries, epyc, page, position, rich, set};
+use crate::page_sets::{EPYC_ROWS, Entries, epyc, page, position, rich, set};
 use crate::run::{EPYC, Folder, run};
 use std::fs;
 
@@ -43,7 +43,7 @@ fn every_row_of_a_table() {
     let all: Entries = rich();
     let (state, others): (Vec<_>, Vec<_>) = all.iter().partition(|((leaf, _), _)| *leaf == 0xD);
     let falling = [page([]), page(state.into_iter().rev()), page([]), page(others.into_iter().rev())].concat();
-    for (pages, count) in [(fs::read(EPYC).unwrap(), 29), (set(&rich()), 32), (set(&epyc()), 29), (falling, 32)] {
+    for (pages, count) in [(fs::read(EPYC).unwrap(), EPYC_ROWS), (set(&rich()), EPYC_ROWS + 3), (set(&epyc()), EPYC_ROWS), (falling, EPYC_ROWS + 3)] {
         let file = folder.file("pages", &pages);
         let found = rows(&["table", &file]);
         assert_eq!(found.len(), count);
