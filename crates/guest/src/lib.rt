@@ -3,6 +3,7 @@ use guest_state::InUse;
 use guest_state::save_register;
 use guest_state::state_in_use;
 use lookup::Found;
+use lookup::PlaceAsked;
 use lookup::place_asked;
 use masking::PLACES;
 use masking::place;
@@ -22,10 +23,10 @@ ghost use mathlib.Core.Path.{_≡_};
 ghost use Rattle.bits.specs.Choice.{pick};
 ghost use Rattle.table.specs.Rows.{row};
 ghost use Rattle.memory.specs.Held.{heldIn};
-ghost use mathlib.Core.Bool.{Bool};
+ghost use mathlib.Core.Bool.{Bool, true};
 ghost use Rattle.x86defs.specs.declared.CpuidFunction.{CpuidFunction};
 ghost use Rattle.table.specs.declared.Subleaf.{Subleaf};
-ghost use Rattle.lookup.specs.Lookup.{placeAsked, found};
+ghost use Rattle.lookup.specs.Lookup.{placeAsked, atPlace, isPlace, found};
 ghost use Rattle.rows.specs.Checked.{registersIn};
 ghost use Rattle.guest_state.specs.State.{saveRegister};
 ghost use Rattle.guest.specs.Guest.{osxsaveSeen, versionSeen, levelSeen, sizeSeen, seenAt, guestAnswer};
@@ -74,8 +75,8 @@ pub fn guest_find(
     match state {
         InUse::Refused(r) => GuestFound::Refused(r),
         InUse::Compacted(size) => {
-            let i = place_asked(leaf, subleaf, enforce_subleaf);
-            GuestFound::Looked(seen_row(registers, origins, processor, size, i))
+            let asked = place_asked(leaf, subleaf, enforce_subleaf);
+            GuestFound::Looked(seen_row(registers, origins, processor, size, asked))
         }
     }
 }
@@ -94,8 +95,8 @@ pub fn find_kept(
     ensures { λ r. ⌜ r ≡ found (tableWith (heldIn (now (registers .entry)) (now (origins .entry))) processor size)
         (now (origins .entry)) leaf subleaf «enforce_subleaf» ⌝ }
 {
-    let i = place_asked(leaf, subleaf, enforce_subleaf);
-    seen_row(registers, origins, processor, size, i)
+    let asked = place_asked(leaf, subleaf, enforce_subleaf);
+    seen_row(registers, origins, processor, size, asked)
 }
 
 // The row of the place that is asked for, as the guest sees it, where it is there. `find_kept` and `guest_find` ask for the place themselves: so this
@@ -105,19 +106,23 @@ fn seen_row(
     origins: &[u64; PLACES],
     processor: Processor,
     size: u32,
-    i: usize,
+    asked: PlaceAsked,
 ) -> Found
-    ensures { λ r. ⌜ ((l : CpuidFunction) (sub : Subleaf) (enforce : Bool) → i ≡ placeAsked l sub enforce
+    requires { ⌜ isPlace asked ≡ true ⌝ }
+    ensures { λ r. ⌜ ((l : CpuidFunction) (sub : Subleaf) (enforce : Bool) → asked ≡ atPlace (placeAsked l sub enforce)
         → r ≡ found (tableWith (heldIn (now (registers .entry)) (now (origins .entry))) processor size) (now (origins .entry)) l sub enforce) ⌝ }
 {
-    if i < PLACES {
-        let origin = origins[i];
-        if is_there(origin) {
-            let r = row_at(registers, i);
-            return Found::Row(seen_at(registers, processor, size, i, r), origin);
+    match asked {
+        PlaceAsked::At(i) => {
+            let origin = origins[i];
+            if is_there(origin) {
+                let r = row_at(registers, i);
+                return Found::Row(seen_at(registers, processor, size, i, r), origin);
+            }
+            Found::NoRow
         }
+        PlaceAsked::Nowhere => Found::NoRow,
     }
-    Found::NoRow
 }
 
 // The row of a place as the guest sees it: five differ.

@@ -5,7 +5,7 @@ use mathlib.Core.Logic.{_≢_}
 use Prim.Native.Nat.{ℕ, _+_, _-_, _^_, _≤_, _<_}
 use native.Mathlib.Omega.{arith}
 use lib.Dec.{eqb, ltb, leb}
-use borrow.Author.Tests.{eqb-true, ne-eqb, le-leb, lt-ltb}
+use borrow.Author.Tests.{eqb-true, ne-eqb, le-leb, ltb-true, ltb-false, lt-ltb}
 use Rattle.bits.specs.Choice.{pick}
 use Rattle.bits.specs.ChoiceLaws.{pick-true, pick-false}
 use Rattle.bits.specs.Lists.{tabulate}
@@ -17,7 +17,53 @@ use Rattle.masking.specs.RunLaws.{on-run}
 use Rattle.masking.specs.PlaceOfLaws.{allEndBy, filtered-from, subleaf-run}
 use Rattle.table.specs.declared.Subleaf.the-variants.{Some}
 use Rattle.lookup.specs.declared.Span.{Span}
-use Rattle.lookup.specs.Lookup.{withSubleaves, placeWhole, placeAlone, spanOf, placeAsked}
+use Rattle.lookup.specs.declared.PlaceAsked.{PlaceAsked}
+use Rattle.lookup.specs.declared.PlaceAsked.the-variants.{At, Nowhere}
+use Rattle.lookup.specs.Lookup.{withSubleaves, placeWhole, placeAlone, spanOf, placeAsked, atPlace, isPlace}
+
+-- ---- a place as code has it
+
+pub at-below : {i p : ℕ} → i ≡ p → i < places → At i ≡ atPlace p
+at-below {i} {p} e h = rw (← e, lt-ltb i places h)
+
+pub at-past : {p : ℕ} → places ≡ p → Nowhere ≡ atPlace p
+at-past e = rw (← e)
+
+-- the number again, and whether there is one
+abbrev placeIn : PlaceAsked → ℕ
+placeIn (At i) = i
+placeIn Nowhere = places
+
+abbrev somewhere : PlaceAsked → Bool
+somewhere (At i) = true
+somewhere Nowhere = false
+
+module _ {a : PlaceAsked} (p : ℕ) (e : a ≡ atPlace p) where
+  somewhere-below : somewhere a ≡ ltb p places
+  somewhere-below = ap somewhere e ∙ go (ltb p places)
+    where
+      go : (b : Bool) → somewhere (pick b (At p) Nowhere) ≡ b
+      go true = refl
+      go false = refl
+
+  asked-below : {i : ℕ} → a ≡ At i → p < places
+  asked-below f = ltb-true p places (sym somewhere-below ∙ ap somewhere f)
+
+  pub asked-place : {i : ℕ} → a ≡ At i → i ≡ p
+  asked-place f = sym (ap placeIn f) ∙ ap placeIn (e ∙ pick-true (At p) Nowhere (lt-ltb p places (asked-below f)))
+
+  pub asked-inside : {i : ℕ} → a ≡ At i → i < places
+  asked-inside f = rw (asked-place f) (asked-below f)
+
+  pub asked-is-place : isPlace a ≡ true
+  asked-is-place = ap isPlace e ∙ go (ltb p places) refl
+    where
+      go : (b : Bool) → ltb p places ≡ b → isPlace (pick b (At p) Nowhere) ≡ true
+      go true f = f
+      go false f = refl
+
+  pub asked-past : a ≡ Nowhere → places ≤ p
+  asked-past f = ltb-false p places (sym somewhere-below ∙ ap somewhere f)
 
 -- ---- a leaf with subleaves
 

@@ -1,9 +1,9 @@
 -- Document 01, "Image and lookup": lookup answers as `leaf_result_ref`, enforcing or not. A leaf without subleaves is found where the
 -- caller names no subleaf or does not enforce; a leaf with subleaves is found only under a subleaf that the table has.
-use mathlib.Core.Bool.{Bool, _||_}
+use mathlib.Core.Bool.{Bool, true, _||_}
 use mathlib.Core.List.{List}
 use Prim.Native.Nat.{ℕ}
-use lib.Dec.{eqb}
+use lib.Dec.{eqb, ltb}
 use lib.ListN.{getD}
 use Rattle.bits.specs.Choice.{pick}
 use Rattle.x86defs.specs.declared.CpuidFunction.{CpuidFunction}
@@ -16,6 +16,8 @@ use Rattle.table.specs.declared.Subleaf.the-variants.{None, Some}
 use Rattle.table.specs.Rows.{Row}
 use Rattle.table.specs.Table.{rowIn}
 use Rattle.lookup.specs.declared.Span.{Span}
+use Rattle.lookup.specs.declared.PlaceAsked.{PlaceAsked}
+use Rattle.lookup.specs.declared.PlaceAsked.the-variants.{At, Nowhere}
 use Rattle.lookup.specs.declared.LeafResult.{LeafResult}
 use Rattle.lookup.specs.declared.LeafResult.the-variants.{Some as Found, None as Nothing}
 use Rattle.lookup.specs.declared.Found.{Found as Location}
@@ -67,6 +69,15 @@ lookup t l sub enforce = pick (withSubleaves l) (indexedResult t l sub) (wholeRe
 unfoldable pub placeAsked : CpuidFunction → Subleaf → Bool → ℕ
 placeAsked l None enforce = pick (withSubleaves l) places (placeWhole l)
 placeAsked l (Some k) enforce = pick (withSubleaves l) (placeOf l k) (pick enforce places (placeWhole l))
+
+-- the same as code has it
+abbrev pub atPlace : ℕ → PlaceAsked
+atPlace i = pick (ltb i places) (At i) Nowhere
+
+-- whether a place is one of the 88, where one is asked for
+abbrev pub isPlace : PlaceAsked → Bool
+isPlace (At i) = ltb i places
+isPlace Nowhere = true
 
 -- the origin of the row that is found, by its number in a column of origins; 0 past the last place
 abbrev pub lookupOrigin : List ℕ → CpuidFunction → Subleaf → Bool → ℕ

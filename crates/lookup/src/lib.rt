@@ -6,7 +6,7 @@ ghost use lib.Dec.{ltb};
 ghost use Rattle.bits.specs.Choice.{pick};
 ghost use Rattle.masking.specs.Kept.{places};
 ghost use Rattle.memory.specs.Held.{heldIn};
-ghost use Rattle.lookup.specs.Lookup.{spanOf, placeAlone, placeAsked, found};
+ghost use Rattle.lookup.specs.Lookup.{atPlace, spanOf, placeAlone, placeAsked, found};
 use masking::PLACES;
 use masking::place;
 use masking::run;
@@ -41,20 +41,29 @@ pub fn find(
 ) -> Found
     ensures { λ r. ⌜ r ≡ found (heldIn (now (registers .entry)) (now (origins .entry))) (now (origins .entry)) leaf subleaf «enforce_subleaf» ⌝ }
 {
-    let i = place_asked(leaf, subleaf, enforce_subleaf);
-    if i < PLACES {
-        let origin = origins[i];
-        if is_there(origin) {
-            return Found::Row(row_at(registers, i), origin);
+    let asked = place_asked(leaf, subleaf, enforce_subleaf);
+    match asked {
+        PlaceAsked::At(i) => {
+            let origin = origins[i];
+            if is_there(origin) {
+                return Found::Row(row_at(registers, i), origin);
+            }
+            Found::NoRow
         }
+        PlaceAsked::Nowhere => Found::NoRow,
     }
-    Found::NoRow
 }
 
-// The place that is asked for, or 88 where the question has no answer. It is kept small, so that the compiler puts it into each function that looks
-// up.
-pub fn place_asked(leaf: CpuidFunction, subleaf: Subleaf, enforce_subleaf: bool) -> usize
-    ensures { λ r. ⌜ (r ≡ placeAsked leaf subleaf «enforce_subleaf») × (r ≤ places) ⌝ }
+// The place that a question asks for, or that it has no answer.
+pub enum PlaceAsked {
+    At(usize),
+    Nowhere,
+}
+
+// The place that is asked for. It is kept small, so that the compiler puts it into each function that looks up; and it gives no number for a
+// question without an answer, which each of them would compare again.
+pub fn place_asked(leaf: CpuidFunction, subleaf: Subleaf, enforce_subleaf: bool) -> PlaceAsked
+    ensures { λ r. ⌜ r ≡ atPlace (placeAsked leaf subleaf «enforce_subleaf») ⌝ }
 {
     if let Subleaf::Some(k) = subleaf {
         let span = span_of(leaf);
@@ -62,7 +71,7 @@ pub fn place_asked(leaf: CpuidFunction, subleaf: Subleaf, enforce_subleaf: bool)
             return place_within(span, k);
         }
         if enforce_subleaf {
-            return PLACES;
+            return PlaceAsked::Nowhere;
         }
     }
     place_alone(leaf)
@@ -100,51 +109,53 @@ fn span_of(leaf: CpuidFunction) -> Span
     }
 }
 
-// The place of a subleaf, or 88 where there is none.
-fn place_within(span: Span, subleaf: u32) -> usize
+// The place of a subleaf.
+fn place_within(span: Span, subleaf: u32) -> PlaceAsked
     requires { ⌜ span .first + span .count ≤ places ⌝ }
-    ensures { λ r. ⌜ r ≡ pick (ltb subleaf (span .count)) (span .first + subleaf) places ⌝ }
-    ensures small { λ r. ⌜ r ≤ places ⌝ }
+    ensures { λ r. ⌜ r ≡ atPlace (pick (ltb subleaf (span .count)) (span .first + subleaf) places) ⌝ }
 {
     if subleaf < span.count {
-        return span.first + subleaf as usize;
+        return PlaceAsked::At(span.first + subleaf as usize);
     }
-    PLACES
+    PlaceAsked::Nowhere
 }
 
-// The place of a leaf without subleaves, the two made here included; 88 for a leaf with subleaves, and where no table has it.
-fn place_alone(leaf: CpuidFunction) -> usize
-    ensures { λ r. ⌜ (r ≡ placeAlone leaf) × (r ≤ places) ⌝ }
+// The place of a leaf without subleaves, the two made here included; nowhere for a leaf with subleaves, and where no table has it.
+fn place_alone(leaf: CpuidFunction) -> PlaceAsked
+    ensures { λ r. ⌜ r ≡ atPlace (placeAlone leaf) ⌝ }
 {
     let n = leaf.0;
     if n < leaf::EXTENDED_MAX_FUNCTION {
         if n <= leaf::VERSION_AND_FEATURES {
-            return n as usize;
+            return PlaceAsked::At(n as usize);
         }
         if n == leaf::MONITOR_MWAIT {
-            return place::MONITOR_MWAIT;
+            return PlaceAsked::At(place::MONITOR_MWAIT);
         }
-        return PLACES;
+        return PlaceAsked::Nowhere;
     }
     if n <= leaf::EXTENDED_ADDRESS_SPACE_SIZES {
-        return run::EXTENDED.first + (n - leaf::EXTENDED_MAX_FUNCTION) as usize;
+        return PlaceAsked::At(run::EXTENDED.first + (n - leaf::EXTENDED_MAX_FUNCTION) as usize);
     }
     if n < leaf::EXTENDED_TLB1GB_IDENTIFIERS {
         if n == leaf::EXTENDED_SVM_VERSION_AND_FEATURES {
-            return place::EXTENDED_SVM_VERSION_AND_FEATURES;
+            return PlaceAsked::At(place::EXTENDED_SVM_VERSION_AND_FEATURES);
         }
-        return PLACES;
+        return PlaceAsked::Nowhere;
     }
     if n < leaf::PROCESSOR_TOPOLOGY_DEFINITION {
         if n <= leaf::EXTENDED_OPTIMIZATION_IDENTIFIERS {
-            return run::TLB_AND_OPTIMIZATION.first
-                + (n - leaf::EXTENDED_TLB1GB_IDENTIFIERS) as usize;
+            return PlaceAsked::At(
+                run::TLB_AND_OPTIMIZATION.first + (n - leaf::EXTENDED_TLB1GB_IDENTIFIERS) as usize,
+            );
         }
-        return PLACES;
+        return PlaceAsked::Nowhere;
     }
     if n <= leaf::EXTENDED_SEV_FEATURES {
-        return run::PROCESSOR_TOPOLOGY_AND_SEV.first
-            + (n - leaf::PROCESSOR_TOPOLOGY_DEFINITION) as usize;
+        return PlaceAsked::At(
+            run::PROCESSOR_TOPOLOGY_AND_SEV.first
+                + (n - leaf::PROCESSOR_TOPOLOGY_DEFINITION) as usize,
+        );
     }
-    PLACES
+    PlaceAsked::Nowhere
 }
