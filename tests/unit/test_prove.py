@@ -120,6 +120,21 @@ class Prove(unittest.TestCase):
         # which of the two asks first is left to the machine
         self.assertEqual((status, asked[:1], sorted(asked[1:])), (0, ['base'], ['left', 'long']))
 
+    def test_the_earliest_goal_does_not_wait_for_later_ones(self):
+        """left, long and lone, which a later goal wants, are asked for before one of them ends; left and long wait for each other."""
+        self.write(self.root / 'crates.txt', 'base:\nlone:\nleft: base\nlong: base\nabove: base left long\n')
+        self.write(self.root / 'crates/lone/src/lib.rt', '')
+        self.write(self.root / 'crates/lone/specs/Lib.antt', '')
+        for crate in 'lone', 'left', 'long':
+            self.write(self.root / f'crates/{crate}/slow', '')
+        watch = f'while [ $(grep -c -e left -e long -e lone {self.asked}) -lt 3 ]; do sleep 0.01; done; rm {self.root}/crates/l*/slow'
+        with subprocess.Popen(['timeout', '20', 'sh', '-c', watch]) as beside:
+            unblock = threading.Timer(20, lambda: [path.unlink(missing_ok=True) for path in self.root.glob('crates/*/slow')])
+            unblock.start()
+            status, _, asked = self.prove('above', 'lone', RT_JOBS='2')
+            unblock.cancel()
+        self.assertEqual((status, beside.returncode, asked[-1], len(asked)), (0, 0, 'above', 5))
+
     def test_bad_words(self):
         for words, environment in ([], {}), (['nobody'], {}), (['program'], {}), (['base'], {'RT_JOBS': 'x'}), (['base'], {'RT_JOBS': '0'}):
             status, lines, asked = self.prove(*words, **environment)
