@@ -3,6 +3,7 @@
 The table of kept leaves, the numbers of the leaves and the lists of required leaves are definitions; the code's tables are made of them, and the
 proofs judge the code's tables. A row of `KEPT_LEAVES` or of the command's table that is there stays as it is, and a leaf that is kept whole gets one.
 """
+from itertools import groupby
 import re
 
 from kept_leaves import KEPT, PLACES, constants, defined, leaf_names, masks, names, required, rows
@@ -139,24 +140,16 @@ def required_places(path, text, root, kept):
 
 def flags(kept):
     """The flags and the indexes of the places, as lists of the laws: 1 where the place has a subleaf; the subleaf, or 0."""
-    def stretches(values):
-        found = []
-        for value in values:
-            if found and found[-1][0] == value and isinstance(value, int):
-                found[-1] = (value, found[-1][1] + 1)
-            else:
-                found.append((value, 1))
-        return found
-
     def listed(value, many):
-        if isinstance(value, int):
-            return f'replicate {many} {value}'
-        return f'({" ∷ ".join(map(str, range(value[0])))} ∷ [])' if value[0] < 5 else f'tabulate {value[0]} (λ k. k)'
-    subleaves = {leaf: sum(place.leaf == leaf for place in kept) for leaf in {place.leaf for place in kept}}
-    index = [0 if place.subleaf is None or subleaves[place.leaf] == 1 else (subleaves[place.leaf],)
-             for place in kept if not place.subleaf]
-    return (' ++ '.join(listed(*each) for each in stretches([int(place.subleaf is not None) for place in kept])),
-            ' ++ '.join(listed(*each) for each in stretches(index)))
+        """This number so many times; or, for a text, the text."""
+        return f'replicate {many} {value}' if isinstance(value, int) else ' ++ '.join([value] * many)
+
+    def counted(many):
+        """The numbers from 0 on."""
+        return f'({" ∷ ".join(map(str, range(many)))} ∷ [])' if many < 5 else f'tabulate {many} (λ k. k)'
+    leaves = [(indexed, len(list(group))) for (_, indexed), group in groupby(kept, lambda place: (place.leaf, place.subleaf is not None))]
+    values = [int(place.subleaf is not None) for place in kept], [counted(many) if indexed and many > 1 else 0 for indexed, many in leaves]
+    return [' ++ '.join(listed(value, len(list(group))) for value, group in groupby(each)) for each in values]
 
 
 def with_flags(path, text, kept, suffix):
