@@ -6,6 +6,7 @@ use Prim.Native.Nat.{ℕ, _-_, _<_}
 use lib.Bits.{bitOr}
 use lib.Dec.{ltb, leb}
 use lib.ListN.{length, getD}
+use borrow.Author.Tests.{ltb-true}
 use Rattle.bits.specs.Choice.{pick}
 use Rattle.bits.specs.Bits.{has}
 use Rattle.bits.specs.Lists.{tabulate}
@@ -20,7 +21,7 @@ use Rattle.table.specs.Table.{tableOf}
 use Rattle.memory.specs.Origin.{isMadeHere, finishedOrigins}
 use Rattle.memory.specs.OriginLaws.{marked}
 use Rattle.memory.specs.Memory.{rowOf, isThere, rowsIn, rowList}
-use Rattle.memory.specs.MemoryLaws.{Rowed, known-by-rows, layout-length, layout-ext, layout-list}
+use Rattle.memory.specs.MemoryLaws.{Rowed, known-by-rows, layout-length, layout-row, layout-ext, layout-list}
 use Rattle.checks.specs.ExtendedState.{combinedMask, xfem, xss}
 use Rattle.checks.specs.TopologyInputs.{inputsOf}
 use Rattle.checks.specs.Checks.{requiredVerdict}
@@ -40,6 +41,12 @@ dropped-rowed {w} {o} {x} d = record {
   size = ap length (d .registers) ∙ layout-length (keptRow w o x);
   rows = ap rowList (d .registers) ∙ layout-list (keptRow w o x);
 }
+
+-- a row other than D.2 to D.63 that is read is as it was
+pub dropped-read : {w o : List ℕ} {x : ℕ} {v q : List ℕ} → Dropped w o x v q → (i : ℕ) → ltb i places ≡ true
+    → (leb (Place.extendedState 2) i && ltb i (Place.extendedState 64)) ≡ false → {r : CpuidResult} → r ≡ rowOf v i → r ≡ rowOf w i
+dropped-read {w} {o} {x} d i h e f =
+    f ∙ ap (λ (u : List ℕ). rowOf u i) (d .registers) ∙ layout-row (keptRow w o x) i (ltb-true i places h) ∙ rw e
 
 -- ---- a row that stays is the row that is not dropped
 

@@ -126,7 +126,7 @@ fn drop_rows(registers: &mut [u32; REGISTERS], from: usize, to: usize)
 }
 
 // The table of rows that passed every check, from the edition of the AVX rule and what the checks worked out: the combined mask, the size of the save
-// area and the number of processors.
+// area and the number of processors. Subleaves are dropped first: rows that are read before would be put aside over the calls that fill memory.
 pub fn finish(
     registers: &mut [u32; REGISTERS],
     origins: &mut [u64; PLACES],
@@ -140,6 +140,7 @@ pub fn finish(
         (combinedMask (rowsIn (now (registers .entry)) (now (origins .entry))))) (now (origins .entry)) (now (registers .exit)) (now (origins .exit)) ⌝ }
 {
     lengths_known(registers, origins);
+    drop_subleaves(registers, origins, mask);
     let y = YmmClears::of(edition);
     let subleaf0 = row_at(registers, place::EXTENDED_STATE_0);
     let subleaf1 = row_at(registers, place::EXTENDED_STATE_1);
@@ -150,7 +151,6 @@ pub fn finish(
     let extended_version = row_at(registers, place::EXTENDED_VERSION_AND_FEATURES);
     let sizes = row_at(registers, place::EXTENDED_ADDRESS_SPACE_SIZES);
     let topology = row_at(registers, place::PROCESSOR_TOPOLOGY_DEFINITION);
-    drop_subleaves(registers, origins, mask);
     origins[place::CORE_LEVEL] = MADE_HERE;
     origins[place::THREAD_LEVEL] = MADE_HERE;
     origins[place::EXTENDED_MAX_FUNCTION] = MADE_HERE;

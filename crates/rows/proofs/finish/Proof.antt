@@ -18,15 +18,12 @@ use Rattle.masking.specs.Kept.{places}
 use Rattle.masking.specs.Place
 use Rattle.rows.specs.Finished.{keptRow}
 use Rattle.memory.specs.MemoryLaws.{put-rowed}
-use Rattle.rows.specs.FinishedLaws.{dropped-rowed, finished-memory}
+use Rattle.rows.specs.FinishedLaws.{dropped-rowed, dropped-read, finished-memory}
 use Rattle.rows.proofs.finish.Statement.{statement}
 use Rattle.rows.proofs.finish.Tie as tie
 
 drop-subleaves-requires : tie.Need-drop-subleaves-requires
-drop-subleaves-requires c κs =
-    let r8 = c .before .before in let r4 = r8 .before .before .before .before .before .before .before .before in
-    let r3 = r4 .before .before .before .before in let clears = r3 .before .before .before .before .before in
-    clears .before .lengths-known .ensures
+drop-subleaves-requires c κs = c .before .before .lengths-known .ensures
 
 returns : tie.Need-returns
 unfolding AmdMaximum ExtendedAmdMaximum inputsOf
@@ -40,18 +37,22 @@ returns c =
     let threads = p4 .before in let t = threads .before in let p3 = t .before .before in
     let features = p3 .before in let p2 = features .before .before in
     let version = p2 .before in let p1 = version .before .before in
-    let made = p1 .before in let drop = made .before .before in
-    let r8 = drop .before .before .before in let r7 = r8 .before .before in let r6 = r7 .before .before in let r5 = r6 .before .before in
+    let made = p1 .before in
+    let r8 = made .before .before in let r7 = r8 .before .before in let r6 = r7 .before .before in let r5 = r6 .before .before in
     let r4 = r5 .before .before in
     let enabled = r4 .before .before in
     let r3 = enabled .before in let r2 = r3 .before .before in let r1 = r2 .before .before in
-    let clears = r1 .before .before in let sized = clears .before in let start = sized .before .before .before in
+    let clears = r1 .before .before in let drop = clears .before in let sized = drop .before .before .before in
+    let start = sized .before .before .before in
     let w = start .args .registers .now in let o = start .args .origins .now in
     let s = settingsWith (clearsWith (clears .of .result)) (enabledWith (enabled .new .result)) (start .args .size) (inputsOf (rowsIn w o) .t) (start .args .processors) in
     let d₀ = r1 .row-at .result in
     let dropped = drop .drop-subleaves .ensures in
+    let d₀-was = dropped-read dropped (Place.extendedState 0) refl refl (r1 .row-at .ensures) in
+    let d₁-was = dropped-read dropped (Place.extendedState 1) refl refl (r2 .row-at2 .ensures) in
+    let sev-was = dropped-read dropped Place.extendedSevFeatures refl refl (r3 .row-at3 .ensures) in
     finished-memory (start .args .edition) w o (start .pre .1) (clears .of .ensures)
-    (enabled .new .ensures ∙ (λ i. enabledFrom (r1 .row-at .ensures i) (r2 .row-at2 .ensures i) (r3 .row-at3 .ensures i)))
+    (enabled .new .ensures ∙ (λ i. enabledFrom (d₀-was i) (d₁-was i) (sev-was i)))
     (start .pre .0)
     dropped
     refl
@@ -68,33 +69,36 @@ returns c =
     (dropped-rowed dropped)))))))))))
     (stores s (rowOf w) (tabulate places (keptRow w o (start .args .mask)))
     (made .vendor-and-max-function .ensures)
-    (version .version-and-features .ensures ∙ ap (changeRow s Needed.versionAndFeatures) (r4 .row-at4 .ensures))
-    (features .extended-features .ensures ∙ ap (changeRow s Needed.extendedFeatures) (r5 .row-at5 .ensures))
+    (version .version-and-features .ensures ∙ ap (changeRow s Needed.versionAndFeatures) (dropped-read dropped Place.versionAndFeatures refl refl (r4 .row-at4 .ensures)))
+    (features .extended-features .ensures ∙ ap (changeRow s Needed.extendedFeatures) (dropped-read dropped Place.extendedFeatures refl refl (r5 .row-at5 .ensures)))
     (threads .thread-level .ensures
-    ∙ ap threadLevel (t .threads-per-compute-unit .ensures .0 ∙ ap (λ (r : CpuidResult). cut threads-per-compute-unit (r .ebx)) (r8 .row-at8 .ensures)))
+    ∙ ap threadLevel
+    (t .threads-per-compute-unit .ensures .0 ∙ ap (λ (r : CpuidResult). cut threads-per-compute-unit (r .ebx)) (dropped-read dropped Place.processorTopologyDefinition refl refl (r8 .row-at8 .ensures))))
     (cores .core-level .ensures)
-    (ap (changeRow s Needed.extendedState0) (r1 .row-at .ensures))
-    (state₁ .extended-state-1 .ensures ∙ ap (changeRow s Needed.extendedState1) (r2 .row-at2 .ensures))
+    (ap (changeRow s Needed.extendedState0) d₀-was)
+    (state₁ .extended-state-1 .ensures ∙ ap (changeRow s Needed.extendedState1) d₁-was)
     (made₂ .vendor-and-max-function2 .ensures)
-    (version₂ .extended-version-and-features .ensures ∙ ap (changeRow s Needed.extendedVersionAndFeatures) (r6 .row-at6 .ensures))
-    (sizes .update-extended-address-space-sizes .ensures ∙ ap (changeRow s Needed.extendedAddressSpaceSizes) (r7 .row-at7 .ensures)))
+    (version₂ .extended-version-and-features .ensures
+    ∙ ap (changeRow s Needed.extendedVersionAndFeatures) (dropped-read dropped Place.extendedVersionAndFeatures refl refl (r6 .row-at6 .ensures)))
+    (sizes .update-extended-address-space-sizes .ensures
+    ∙ ap (changeRow s Needed.extendedAddressSpaceSizes) (dropped-read dropped Place.extendedAddressSpaceSizes refl refl (r7 .row-at7 .ensures))))
 
 pub finish-spec : {M : Type 1} → statement M
 finish-spec =
     tie.close
     (tie.spec
     (λ c κs. search needs)
-    (λ c κs. search needs)
-    (λ c κs. search needs)
-    (λ c κs. search needs)
-    (λ c κs. search needs)
-    (λ c κs. search needs)
-    (λ c κs. search needs)
-    (λ c κs. search needs)
-    (λ c κs. search needs)
-    (λ c κs. search needs)
-    (λ c κs. search needs)
     drop-subleaves-requires
+    (λ c κs. search needs)
+    (λ c κs. search needs)
+    (λ c κs. search needs)
+    (λ c κs. search needs)
+    (λ c κs. search needs)
+    (λ c κs. search needs)
+    (λ c κs. search needs)
+    (λ c κs. search needs)
+    (λ c κs. search needs)
+    (λ c κs. search needs)
     (λ c. search needs)
     (λ c. search needs)
     (λ c. search needs)
