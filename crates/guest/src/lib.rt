@@ -125,7 +125,7 @@ fn seen_row(
     }
 }
 
-// The row of a place as the guest sees it: five differ.
+// The row of a place as the guest sees it: five differ. Most places stand after these, and one comparison tells them.
 fn seen_at(
     registers: &[u32; REGISTERS],
     processor: Processor,
@@ -135,6 +135,9 @@ fn seen_at(
 ) -> CpuidResult
     ensures { λ q. ⌜ q ≡ seenAt processor (saveRegister (registersIn (now (registers .entry))) (processor .xcr0)) size place (row r) ⌝ }
 {
+    if place > place::EXTENDED_STATE_1 {
+        return r;
+    }
     match place {
         place::VERSION_AND_FEATURES => see_version(true, processor, r),
         place::THREAD_LEVEL => see_level(true, processor, r),
