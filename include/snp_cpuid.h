@@ -117,9 +117,10 @@ struct snp_cpuid_room {
     size_t length;
 };
 
-/* The choices of building. secure_avic adds one bit to the mask of 8000001Fh.EAX. edition is that of the AVX rule: 1 is OpenHCL's; 2 also clears F16C
- * (1.ECX bit 29), XOP and FMA4 (80000001h.ECX bits 11 and 16) where D.0.EAX lacks bit 2, the YMM state, and nothing else differs. Any other edition
- * is refused by 15, whatever the pages are. */
+/* The choices of building. secure_avic adds one bit to the mask of 8000001Fh.EAX. edition is that of the AVX rule: 1 is OpenHCL's; where D.0.EAX
+ * lacks bit 2, the YMM state, each later one also clears these bits, and nothing else differs:
+ *   2: F16C (1.ECX bit 29), XOP and FMA4 (80000001h.ECX bits 11 and 16)
+ * Any other edition is refused by 15, whatever the pages are. */
 struct snp_cpuid_options {
     bool secure_avic;
     uint32_t edition;
@@ -404,9 +405,10 @@ struct snp_cpuid_editions {
     uint32_t to;
 };
 
-/* Takes a running table from one edition to another in place, on a processor with this XCR0 and XSS. From 1 to 2, F16C, XOP and FMA4 are cleared
- * where the table's own D.0.EAX lacks bit 2, rows that it lacks reading as zeros, and nothing else changes; within one edition nothing does. So a
- * table that was built under edition 1 becomes the one that edition 2 makes of the same pages, and both save sizes of the processor's guest stay.
+/* Takes a running table from one edition to another in place, on a processor with this XCR0 and XSS. The bits that the later
+ * edition clears besides (struct snp_cpuid_options) are cleared where the table's own D.0.EAX lacks bit 2, rows that it lacks reading as zeros, and
+ * nothing else changes; within one edition nothing does. So a table that was built under edition 1 becomes the one that edition 2 makes of the same
+ * pages, and both save sizes of the processor's guest stay.
  * Gives 0, or in this order 15 where either edition is not known; 16 from a later edition to an earlier one; then 13 and 14, as a guest has them,
  * also within one edition. The table is then as it was. Origins are only read. */
 SNP_CPUID_DECIDES uint32_t snp_cpuid_carry_table(struct snp_cpuid_kept_table *table, struct snp_cpuid_editions editions,

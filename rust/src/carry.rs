@@ -18,8 +18,8 @@ impl Table {
     ///
     /// From 1 to 2 it is the table that edition 2 makes of the same pages, and the save sizes of the processor's guest stay what they were. Within
     /// one edition it is the same table. Where its rows came from stays unchanged. [`Refusal::UnknownEdition`] comes first, then
-    /// [`Refusal::EditionBack`] from 2 to 1, then [`Refusal::StateBeyondTable`] and [`Refusal::CompactSizeTooLarge`], which a guest of this processor
-    /// would have too.
+    /// [`Refusal::EditionBack`] to an earlier one, then [`Refusal::StateBeyondTable`] and [`Refusal::CompactSizeTooLarge`], which a guest of this
+    /// processor would have too.
     ///
     /// # Errors
     ///
@@ -66,8 +66,8 @@ impl Table {
 }
 
 /// The same for a table handed over as its image, [`Table::image`], which is rewritten in place. It may be any table's, also one that was built
-/// otherwise: from edition 1 to 2 F16C, XOP and FMA4 are cleared where its own D.0.EAX lacks bit 2, and nothing else changes; rows that it lacks read
-/// as zeros. Where the answer is an error, the bytes are as they were.
+/// otherwise: the bits that the later edition clears besides are cleared where its own D.0.EAX lacks bit 2, and nothing else changes; rows that it
+/// lacks read as zeros. Where the answer is an error, the bytes are as they were.
 ///
 /// # Errors
 ///

@@ -114,7 +114,7 @@ pub fn lookup(pages: &[u8], options: Options, leaf: u32, subleaf: Option<u32>, e
 }
 
 /// Compares two servers by their pages, under the same options: have the entries of `b` at least what the table of `a` has? After a yes, a guest of
-/// `a` may move to the table of `b`, where building gives one: it may still refuse `b`, by 3 or 5. What is said of a pair holds under either edition.
+/// `a` may move to the table of `b`, where building gives one: it may still refuse `b`, by 3 or 5. What is said of a pair holds under any edition.
 ///
 /// ```
 /// use snp_cpuid::{Comparison, Options, Register, compare};

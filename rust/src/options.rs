@@ -2,9 +2,12 @@
 
 /// The choices of every function that builds: the secure-AVIC bit, and the edition of the AVX rule.
 ///
-/// Edition 1 is the rule of OpenHCL. Edition 2 also clears F16C (1.ECX bit 29), XOP and FMA4 (80000001h.ECX bits 11 and 16) where D.0.EAX lacks
-/// bit 2, the YMM state that the AMD manual ties them to. Any other number is [`Refusal::UnknownEdition`](crate::Refusal::UnknownEdition), before
-/// every other refusal.
+/// Edition 1 is the rule of OpenHCL. Where D.0.EAX lacks bit 2, the YMM state that the AMD manual ties them to, each later edition also clears these
+/// bits:
+///
+/// 2: F16C (1.ECX bit 29), XOP and FMA4 (80000001h.ECX bits 11 and 16)
+///
+/// Any other number is [`Refusal::UnknownEdition`](crate::Refusal::UnknownEdition), before every other refusal.
 ///
 /// ```
 /// use snp_cpuid::{Options, Refusal, build};

@@ -5,9 +5,9 @@ tests/gate/figures.txt has the places: a file, and below it texts of that file w
 commas. {place:7.0} is the number of the place of leaf 7 subleaf 0, {row:7.0} that of its row in the table of kept leaves, {required:7.0} its position
 in the lists of required leaves, {stretch:7.0} how many places from there on have subleaves as it has, or have none; {end:1} is the leaf after those
 that follow each other from leaf 1 on. {rows:3}, {image:3} and {kvm:3} are the rows and the bytes of an accepted table with three components, as the
-EPYC's of tests/data is; {fingerprint} is that of its image, as the model writes it. {editions:and} has the known editions, as "1 and 2", and likewise
-with `or` and `nor`. \\n is a new line. --write puts each figure there, and --check fails where a file has another one or does not have the text at
-all. A new place is a new line of the list. The other tools read what this one writes, so it comes first.
+EPYC's of tests/data is; {fingerprint} is that of its image, as the model writes it. {editions:and} has the known editions, as "1 and 2", and
+edition_rows.py has their other forms. \\n is a new line. --write puts each figure there, and --check fails where a file has another one or does not
+have the text at all. A new place is a new line of the list. The other tools read what this one writes, so it comes first.
 
 The number of places, 88, and that of their registers also stand bare in definitions and proofs. Where the table of kept leaves has another number
 than the code's PLACES, --write puts the new numbers for the old ones in every file of the crates but those of BY_HAND, which state them.
@@ -17,6 +17,7 @@ from pathlib import Path
 import re
 import sys
 
+from edition_rows import FORMS, editions
 from kept_leaves import required, rows as kept_rows
 from proved_source import Unlisted, constant
 
@@ -25,10 +26,9 @@ LIST = 'tests/gate/figures.txt'
 MASK = 'crates/counts/specs/Mask.antt'
 IMAGE = 'crates/snp_cpuid_image/stdout'
 BY_HAND = 'crates/theorems/specs/Document01.antt', 'crates/letter/specs/Paper.antt', 'crates/vectors/'
-FIGURE = re.compile(r'\{(\w+)(?::(,|and|or|nor|[0-9A-F.]+))?\}')
+FIGURE = re.compile(r'\{(\w+)(?::(,|[a-z_]+|[0-9A-F.]+))?\}')
 STATE, FIRST_STATE = 0xD, 2
-EDITION = 'crates/table/specs/Edition.antt'
-NUMBER, NUMBERS, LEAF, DIGEST = '[0-9,]*[0-9]', r'[0-9]+(?:, [0-9]+)* (?:and|n?or) [0-9]+', '0x[0-9A-F]+', '[0-9a-f]{64}'
+NUMBER, LEAF, DIGEST = '[0-9,]*[0-9]', '0x[0-9A-F]+', '[0-9a-f]{64}'
 
 
 def most_components(root):
@@ -78,14 +78,6 @@ def of_place(table, kept, at):
             'stretch': (alike + [False]).index(False), 'end': f'0x{end:X}'}
 
 
-def editions(root):
-    """{name: the known editions in words}."""
-    known = re.findall(r'eqb n (\d+)', (root / EDITION).read_text(encoding='utf-8'))
-    if len(known) < 2:
-        raise Unlisted(f'{EDITION} has no editions')
-    return {f'editions:{word}': f'{", ".join(known[:-1])} {word} {known[-1]}' for word in ('and', 'or', 'nor')}
-
-
 def listed(root):
     """[(file, text)] of the list."""
     found, file = [], None
@@ -109,7 +101,8 @@ def with_figures(text, place, known):
         if name not in known:
             raise Unlisted(f'{LIST}: {name} is no figure: {", ".join(each for each in known if ":" not in each)}')
         before, number = place[at:found.start()], f'{known[name]:,}' if found[2] == ',' else str(known[name])
-        matched = NUMBERS if name.startswith('editions:') else LEAF if name.startswith('end:') else DIGEST if name == 'fingerprint' else NUMBER
+        matched = (FORMS[found[2]] if found[1] == 'editions' else
+                   LEAF if name.startswith('end:') else DIGEST if name == 'fingerprint' else NUMBER)
         pattern, wanted, at = f'{pattern}{re.escape(before)}{matched}', wanted + before + number, found.end()
     pattern, wanted = f'(?<![0-9]){pattern}(?![0-9]){re.escape(place[at:])}', wanted + place[at:]
     made, many = re.subn(pattern, lambda _: wanted, text)

@@ -10,7 +10,7 @@ STRUCT = re.compile(r'((?:^// [^\n]*\n)*)^#\[repr\(C\)\]\npub struct SnpCpuid(\w
 FUNCTION = re.compile(r'((?:^// [^\n]*\n)*)^#\[no_mangle\]\npub extern "C" fn (\w+)\((.*?)\)(?: -> (\w+))?\s*(?:ensures|\{)',
                       re.MULTILINE | re.DOTALL)
 LENT = re.compile(r'&(mut )?\[(u8|u32|u64)(?:; (\w+))?\]$')
-REFUSED = re.compile(r'(Refusal|TopologyError)::(\w+)(?:\(.*?\))? => (?:sized|at_leaf)\((\d+), ')
+REFUSED = re.compile(r'(Refusal|TopologyError)::(\w+)(?:\(.*?\))? => (?:with_s|at_leaf)\((\d+), ')
 PLAIN = {'u32': 4, 'u64': 8, 'usize': 8, 'bool': 1}
 
 

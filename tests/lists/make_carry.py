@@ -18,8 +18,10 @@ from vectors_document_01 import Damage
 ALL = 0xFFFFFFFF
 EXTENDED = 0x80000001
 ONE_TO_TWO = 1, 2, 1, 0
-# (leaf, bit of ECX): F16C, XOP and FMA4, and the bits beside them
-CLEARED = (1, 29), (EXTENDED, 11), (EXTENDED, 16)
+# those of the two editions first
+PAIRS = sorted(product(model.EDITIONS, repeat=2), key=lambda pair: (max(pair) > 2, (1, 2) != pair, pair == (2, 1)))
+# (leaf, bit of ECX): the bits that editions clear, and those beside F16C, XOP and FMA4
+CLEARED = (*model.CLEARED_LATER,)
 BESIDE = (1, 28), (1, 30), (1, 11), (1, 16), (EXTENDED, 10), (EXTENDED, 12), (EXTENDED, 15), (EXTENDED, 17), (EXTENDED, 29)
 
 
@@ -54,10 +56,10 @@ def built():
     """Tables that building makes, under either edition, carried to either."""
     sets = [spread(changed(rich(), STATE, 0, eax=xfem)) for xfem in (0, 3, 7, 0xE3, 0xE7)]
     sets += [spread(minimal()), spread(changed(minimal(), 1, ecx=ALL)), MILAN]
-    for data, choice, edition in product(sets, (False, True), (1, 2)):
+    for data, choice, edition in product(sets, (False, True), model.EDITIONS):
         table = model.build(data, choice, edition)
         xfem = table[1][STATE, 0][model.EAX]
-        for (old, new), xcr0, xss in product(((1, 2), (1, 1), (2, 2), (2, 1)), (1, xfem), (0, 0x800)):
+        for (old, new), xcr0, xss in product(PAIRS, (1, xfem), (0, 0x800)):
             yield model.image(table), (old, new, xcr0, xss)
 
 
@@ -92,9 +94,9 @@ def orders():
     """15 before 16, 13 and 14; 16 before 13 and 14; 13 before 14; and none of them before "no image". """
     sizes = {(STATE, 2): (ALL, 0, 0, 0)}
     rows = {**least(7, (0xA, 0, 0x800, 0)), **sizes}
-    for old, new in product((0, 1, 2, 3, 255, 256, 257, 258, 0x10001, 0x80000001, 0x80000002, ALL), repeat=2):
+    for old, new in product((0, *model.EDITIONS, model.NO_EDITION, 255, 256, 257, 258, 0x10001, 0x80000001, 0x80000002, ALL), repeat=2):
         # 1 and 3 are lawful states, 0 is beyond (13), 5 too large (14), 8 both
-        for xcr0 in (1, 0, 5) if old > 3 or new > 3 else (1, 3, 0, 5, 13):
+        for xcr0 in (1, 0, 5) if max(old, new) > model.NO_EDITION else (1, 3, 0, 5, 13):
             yield image(rows), (old, new, xcr0, 0)
     for old, new in product((0, 1, 2, ALL), repeat=2):
         for xcr0 in 0, 1, 5:

@@ -180,7 +180,7 @@ def by_entries():
 
 def unknown_editions():
     """Document 02, P7: 15 before all else, whatever A and B are."""
-    for edition, choice in product((0, 3, 257, 258, 1 << 31, ALL), (False, True)):
+    for edition, choice in product((0, model.NO_EDITION, 257, 258, 1 << 31, ALL), (False, True)):
         sets = MILAN, b'', put(MILAN, 0, PAGE_ENTRIES + 1), set_to(STATE, 2, model.EAX, ALL), with_byte(MILAN, 0, 0, 40, 1)
         for a, b in product(sets, repeat=2):
             yield a, b, choice, edition

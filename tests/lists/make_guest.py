@@ -141,7 +141,7 @@ def editions():
             yield data, ('l', one, leaf, None, True)
         yield data, ('w', one, 732)
     large_state = spread(changed(changed(rich(), STATE, 2, eax=ALL, ebx=0), STATE, 1, eax=2))
-    for edition in 0, 3, 257, 1 << 31, ALL:
+    for edition in 0, model.NO_EDITION, 257, 1 << 31, ALL:
         for data in b'', page([], 65), MILAN[:4096], with_byte(MILAN, 0, 0, 40, 1), large_state, MILAN:
             for one in view(0, 7, edition=edition), view(0, 2, edition=edition):
                 yield from built(data, one)

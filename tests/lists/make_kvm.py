@@ -52,7 +52,8 @@ def writes():
         for xfem in 0, 3, 7:
             yield from ((set_to(STATE, 0, model.EAX, xfem, every), choice, edition, room) for edition in (1, 2) for room in (0, 2000))
         yield from ((pages, choice, 2, room) for pages in accepted + refused for room in (0, 2000))
-        yield from ((pages, choice, edition, room) for pages in [MILAN, *refused] for edition in (0, 3, 257, 0xFFFFFFFF) for room in (0, 2000))
+        yield from ((pages, choice, edition, room)
+                    for pages in [MILAN, *refused] for edition in (0, model.NO_EDITION, 257, 0xFFFFFFFF) for room in (0, 2000))
 
 
 # Reading: (the list's parts, room)

@@ -38,7 +38,7 @@ def asked(data, choices=(USUAL,)):
 def unlawful():
     """15 before 1, 2, 17 and 20; 1 before 2; 2 before 17; 17 before 20 and before any bit, in entries below their counts alone."""
     lone, unclean = page([FILTERED]), with_byte(page([FILTERED, (5, 0, 0, 0, 0, 0)]), 0, 1, 47, 1)
-    for edition in 0, 1, 2, 3, 255, 257, 1 << 31 | 1, ALL:
+    for edition in 0, *model.EDITIONS, model.NO_EDITION, 255, 257, 1 << 31 | 1, ALL:
         for data in b'', lone[:-1], page([], 65), unclean, lone, MILAN:
             yield data, (False, edition)
     for length in 0, 1, 4095, 4097, 8191, 8192:

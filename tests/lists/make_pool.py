@@ -126,7 +126,7 @@ def own_refusals():
 def order():
     """18 before 15, that before every server's own, and that before 19."""
     unlike = set_to(5, 0, model.EAX, ALL)
-    for edition in 0, 3, 257, 1 << 31, ALL:
+    for edition in 0, model.NO_EDITION, 257, 1 << 31, ALL:
         some = (MILAN, MILAN), (b'', MILAN), (MILAN, b''), (MILAN, unlike), (REFUSED[0], REFUSED[3]), (MILAN, MILAN, REFUSED[1]), (MILAN,) * MOST
         for sets in some:
             yield from built(asked(*sets, edition=edition), asked(*sets, edition=edition, secure_avic=True))
@@ -244,7 +244,7 @@ def lookups():
             for enforce in False, True:
                 yield two, ('l', leaf, subleaf, enforce)
     unlike = set_to(5, 0, model.EAX, ALL)
-    without_a_table = [asked(), asked(MILAN), asked(MILAN, MILAN, lengths=(1, 1)), asked(MILAN, MILAN, edition=3)]
+    without_a_table = [asked(), asked(MILAN), asked(MILAN, MILAN, lengths=(1, 1)), asked(MILAN, MILAN, edition=model.NO_EDITION)]
     for one in [*without_a_table, asked(MILAN, REFUSED[3]), asked(MILAN, unlike)]:
         for leaf, subleaf in (0, None), (1, None), (1, 0), (STATE, 2), (0xB, 0):
             yield one, ('l', leaf, subleaf, False)
@@ -257,7 +257,8 @@ def writes():
         length = len(model.image(pool(b''.join(one[0]), *one[1:])[0]))
         for room in 0, 1, 20, 21, 22, length - 1, length, length + 1, 732, 1000:
             yield one, ('w', room)
-    wrong = [asked(), asked(MILAN), asked(*[MILAN] * (MOST + 1)), asked(MILAN, MILAN, lengths=(LENGTH, LENGTH + 1)), asked(MILAN, MILAN, edition=3)]
+    wrong = [asked(), asked(MILAN), asked(*[MILAN] * (MOST + 1)), asked(MILAN, MILAN, lengths=(LENGTH, LENGTH + 1))]
+    wrong += [asked(MILAN, MILAN, edition=model.NO_EDITION)]
     wrong += [asked(MILAN, data) for data in REFUSED] + [asked(MILAN, unlike), asked(REFUSED[0], unlike), asked(MILAN, b'')]
     for one in wrong:
         for room in 0, 10, 1000:

@@ -195,7 +195,7 @@ def of_a_table(out, processors, places, whole=True):
         out.find(leaf, subleaf, True)
     for processor in processors:
         of_a_processor(out, processor, whole=whole)
-    for editions in (1, 2), (1, 1), (2, 1), (3, 1):
+    for editions in (1, 2), (1, 1), (2, 1), (model.NO_EDITION, 1):
         for xcr0, xss in (1, 0), (0, 0), (3, 0x800):
             out.carry(*editions, xcr0, xss)
     for more in (-1, 0, 3) if whole else (-1,):
@@ -230,7 +230,7 @@ def refused(out):
     for data in sets:
         out.build(data, False, 1)
     of_a_table(out, PROCESSORS[:2], PLACES[::20])
-    for edition in 0, 3, ALL:
+    for edition in 0, model.NO_EDITION, ALL:
         out.build(MILAN, False, edition)
 
 

@@ -5,20 +5,21 @@ Quotations in a group's comment are document 02's.
 from itertools import product
 import struct
 
+import model
 from pagesets import MILAN, PAGE_SIZE, STATE, changed, minimal, page, rich, spread, with_byte, with_topology, without
 from vector import build, lookup, write
 from vectors_document_01 import Damage, stated
 
 ALL = 0xFFFFFFFF
 EXTENDED = 0x80000001
-# (leaf, bit of ECX): F16C, XOP and FMA4, and the bits beside them, of which the masks keep 28 and 30, and 10
-CLEARED = (1, 29), (EXTENDED, 11), (EXTENDED, 16)
+# (leaf, bit of ECX): the bits that editions clear, and those beside F16C, XOP and FMA4, of which the masks keep 28 and 30, and 10
+CLEARED = (*model.CLEARED_LATER,)
 BESIDE = (1, 28), (1, 30), (EXTENDED, 10), (EXTENDED, 12), (EXTENDED, 15), (EXTENDED, 17)
 
 
 def state_and_edition():
     """ "Edition 1 is document 01's rule. Edition 2 also clears .. when XFEM lacks bit 2": every bit reported, each XFEM, whole images. """
-    for xfem, edition in product((0, 3, 4, 7, 0xE3, 0x63, 0xC7, 0xE7), (1, 2)):
+    for xfem, edition in product((0, 3, 4, 7, 0xE3, 0x63, 0xC7, 0xE7), model.EDITIONS):
         data = spread(stated(xfem, (0xB, 0x1800), rich()))
         name = f'D.0.EAX {xfem:X}h, edition {edition}'
         yield build(name, data, edition=edition)
@@ -37,13 +38,13 @@ def with_legacy_state(data):
 def other_sets():
     """The shipped set, which reports F16C alone of the three, as it is and with legacy state alone, and the least set."""
     for name, data in ('EPYC', MILAN), ('EPYC, XFEM 3', with_legacy_state(MILAN)), ('least', spread(minimal())):
-        for edition in 1, 2:
+        for edition in model.EDITIONS:
             yield write(f'{name}, edition {edition}', data, 732, edition=edition)
 
 
 def single_bits():
-    """Each of the three, and each beside them, alone set in the least rows and alone clear in the fullest, without the state and with it."""
-    for (leaf, bit), xfem, edition in product(CLEARED + BESIDE, (3, 7), (1, 2)):
+    """Each bit that an edition clears, and each beside them, alone set in the least rows and alone clear in the fullest, without the state and with it."""
+    for (leaf, bit), xfem, edition in product(CLEARED + BESIDE, (3, 7), model.EDITIONS):
         state = changed(stated(xfem), STATE, 2, eax=256, ebx=576)
         alone, other = changed(state, leaf, ecx=1 << bit), changed(stated(xfem, rows=rich()), leaf, ecx=ALL & ~(1 << bit))
         for name, rows in ('set', alone), ('clear', other):
@@ -52,7 +53,7 @@ def single_bits():
 
 def unknown_editions():
     """ "15 an edition other than 1 or 2, before 1", of which a byte alone would be 1 or 2, and each end; nothing is found or written. """
-    for edition in 0, 3, 4, 255, 256, 257, 258, 65537, 0x01000001, 0x02000000, 0x80000001, 0x80000002, ALL - 1, ALL:
+    for edition in 0, model.NO_EDITION, model.NO_EDITION + 1, 255, 256, 257, 258, 65537, 0x01000001, 0x02000000, 0x80000001, 0x80000002, ALL - 1, ALL:
         name = f'edition {edition:X}h'
         for secure_avic in False, True:
             yield build(name, MILAN, secure_avic, edition)
@@ -79,7 +80,7 @@ def before_every_refusal():
         '8': spread(with_topology(rows, 7, 127, 128, 1, 2)),
         '17': with_byte(spread(rows), 1, 2, 41, 1),
     }
-    for (number, data), edition in product(refused.items(), (ALL, 0, 3, 2)):
+    for (number, data), edition in product(refused.items(), (ALL, 0, model.NO_EDITION, 2)):
         yield build(f'refusal {number}, edition {edition:X}h', data, edition=edition)
         yield write(f'refusal {number}, edition {edition:X}h', data, 40, edition=edition)
 

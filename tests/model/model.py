@@ -25,10 +25,14 @@ YMM = 1 << 2
 AVX512 = 1 << 5 | 1 << 6 | 1 << 7
 CET = 1 << 11 | 1 << 12
 
-# document 02, P7: edition 1 "is document 01's rule"
-EDITIONS = 1, 2
+# document 02, P7: edition 1 "is document 01's rule". "Edition 2 also clears 1.ECX bit 29 and 80000001h.ECX bits 11 (XOP) and 16 (FMA4) when XFEM
+# lacks bit 2." {edition: {leaf: the bits of ECX that it clears and the edition before it leaves}}
 F16C = 1 << 29
 XOP, FMA4 = 1 << 11, 1 << 16
+EDITIONS = {1: {}, 2: {1: F16C, 0x80000001: XOP | FMA4}}
+NO_EDITION = max(EDITIONS) + 1
+# (leaf, bit of ECX) of all that an edition clears and edition 1 leaves
+CLEARED_LATER = [(leaf, bit) for cleared in EDITIONS.values() for leaf, bits in cleared.items() for bit in range(32) if bits >> bit & 1]
 
 # "Feature registers of demand 3", and the registers that it frees
 FEATURES = {
@@ -152,9 +156,14 @@ def finish_state(rows, xfem, xss):
 
 # "Corners of mod.rs": features that hang on others
 
+def bits_between(old, new):
+    """[(leaf, bits of ECX)] that edition `new` clears and `old` leaves"""
+    return [bits for edition, cleared in EDITIONS.items() if old < edition <= new for bits in cleared.items()]
+
+
 def clear_by_state(rows, xfem, xss, edition):
     """CET_SS without both CET states; AVX and AVX-512 features without theirs."""
-    one, seven, extended = rows[1, None], rows[7, 0], rows[0x80000001, None]
+    one, seven = rows[1, None], rows[7, 0]
     if xss & CET != CET:
         seven[ECX] &= ~(1 << 7)
     if not xfem & YMM:
@@ -165,10 +174,9 @@ def clear_by_state(rows, xfem, xss, edition):
         seven[EBX] &= ~0xD0230000
         seven[ECX] &= ~0x5842
         seven[EDX] &= ~0x800100
-    # document 02, P7: "Edition 2 also clears 1.ECX bit 29 and 80000001h.ECX bits 11 (XOP) and 16 (FMA4) when XFEM lacks bit 2."
-    if edition == 2 and not xfem & YMM:
-        one[ECX] &= ~F16C
-        extended[ECX] &= ~(XOP | FMA4)
+    if not xfem & YMM:
+        for leaf, bits in bits_between(1, edition):
+            rows[leaf, None][ECX] &= ~bits
 
 
 def finish_features(rows):

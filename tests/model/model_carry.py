@@ -47,11 +47,11 @@ def check_editions(old, new):
         raise model.Refusal(16)
 
 
-def clear_bits(rows):
-    """ "the same three bits cleared where its own D.0.EAX lacks bit 2, and nothing else changed, absent rows reading as zeros" """
+def clear_bits(rows, cleared):
+    """ "the same three bits cleared where its own D.0.EAX lacks bit 2, and nothing else changed, absent rows reading as zeros": those of P7 """
     rows = dict(rows)
     if not register(rows, STATE, 0, EAX) & model.YMM:
-        for leaf, bits in (1, model.F16C), (0x80000001, model.XOP | model.FMA4):
+        for leaf, bits in cleared:
             with_registers(rows, leaf, None, ecx=register(rows, leaf, None, ECX) & ~bits)
     return rows
 
@@ -66,7 +66,7 @@ def carry(table, old, new, xcr0, xss):
     except model.Refusal as refusal:
         return refusal.answer
     # "Carrying any table within one edition, where it isn't refused, changes nothing."
-    return 'table', rows if old == new else clear_bits(rows), table[2]
+    return 'table', clear_bits(rows, model.bits_between(old, new)), table[2]
 
 
 def carry_image(data, old, new, xcr0, xss):

@@ -6,9 +6,12 @@ import shutil
 import tempfile
 import unittest
 
+from edition_rows import EDITION, NAMES
 import figures
 
-SOURCES = figures.EDITION, 'crates/pool/src/sets.rt', 'crates/x86defs/specs/Functions.antt', figures.MASK, figures.IMAGE
+VERSION, EXTENDED = f'{NAMES}/VersionAndFeaturesEcx.antt', f'{NAMES}/ExtendedVersionAndFeaturesEcx.antt'
+
+SOURCES = EDITION, VERSION, EXTENDED, 'crates/pool/src/sets.rt', 'crates/x86defs/specs/Functions.antt', figures.MASK, figures.IMAGE
 
 
 class Figures(unittest.TestCase):
@@ -63,12 +66,19 @@ class Figures(unittest.TestCase):
             self.assertIn(line, header)
 
     def test_a_third_edition(self):
-        self.edit(figures.EDITION, 'eqb n 2', 'eqb n 2 || eqb n 3')
+        self.edit(EDITION, 'bits f16c xopAndFma4 ∷ []', 'bits f16c xopAndFma4 ∷ bits popCnt 0 ∷ []')
+        self.edit(EDITION, 'abbrev bits : ', 'popCnt = maskOf Version.position (Version.VersionAndFeaturesEcx.pop-cnt ∷ [])\n\nabbrev bits : ')
         self.assertEqual(self.asked('--write')[0], 0)
         self.assertEqual(self.asked('--check')[0], 0)
         self.assertIn('it has editions 1, 2 and 3\n', self.text('include/refusals.txt'))
         self.assertIn('is neither 1, 2 nor 3\n', self.text('include/refusals.txt'))
         self.assertIn('editions 1, 2 and 3, of which 1 is', self.text('rust/src/bin/snp-cpuid/meanings.rs'))
+        self.assertIn('const EDITIONS: u32 = 3;', self.text('crates/table/src/edition.rt'))
+        self.assertIn('XOP and FMA4 (80000001h.ECX bits 11 and 16); 3: POPCNT (1.ECX bit 23)\n', self.text('include/snp_cpuid.h'))
+        self.assertIn('usually 1; 2 hides F16C, XOP, FMA4; 3 also POPCNT without YMM state', self.text('rust/src/bin/snp-cpuid/building.rs'))
+        self.assertIn('needs --edition 1, --edition 2 or --edition 3\n', self.text('docs/COMMAND.md'))
+        self.assertIn('from a later edition of the AVX rule back to an earlier one\n', self.text('tests/data/messages.txt'))
+        self.assertIn('answer (underEdition 4) []', self.text('crates/theorems/specs/EditionTheorems.antt'))
 
     def test_a_lost_place_is_told(self):
         self.edit('README.md', 'the tables of 2 to 16 servers', 'the tables of some servers')

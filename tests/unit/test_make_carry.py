@@ -11,6 +11,7 @@ from pagesets import STATE, changed
 
 BYTES = make_carry.questions()
 MASKS = {1: model.F16C, 0x80000001: model.XOP | model.FMA4}
+KNOWN = {*model.EDITIONS}
 
 
 def answers():
@@ -21,8 +22,10 @@ RIGHT = [*answers()]
 
 
 def clears(masks, gate=lambda rows: not register(rows, STATE, 0, model.EAX) & model.YMM, register_name='ecx'):
-    """Other bits, another register or another state than P8's."""
-    def clear(rows):
+    """From 1 to 2, other bits, another register or another state than P8's."""
+    def clear(rows, cleared):
+        if cleared != [*MASKS.items()]:
+            return clear_bits(rows, cleared)
         number = ['eax', 'ebx', 'ecx', 'edx'].index(register_name)
         for leaf, bits in masks.items():
             if (leaf, None) in rows and gate(rows):
@@ -41,7 +44,7 @@ def editions(unknown, back):
 
 
 def none(old, new):
-    return not {old, new} <= {1, 2}
+    return not {old, new} <= KNOWN
 
 
 def reader(allowed=lambda key: key in ROWS, follows=lambda key, below: key > below, left_over=False, first=first_row):
@@ -69,7 +72,7 @@ class WrongReadings(unittest.TestCase):
             self.assertTrue(self.differ(**{name: reading}), (name, number))
 
     def test_right(self):
-        self.assertFalse(self.differ(clear_bits=clears(MASKS), check_editions=editions(none, lambda old, new: (old, new) == (2, 1))))
+        self.assertFalse(self.differ(clear_bits=clears(MASKS), check_editions=editions(none, lambda old, new: new in range(1, old))))
         self.assertFalse(self.differ(read_image=reader()))
 
     def test_bits(self):
@@ -88,19 +91,19 @@ class WrongReadings(unittest.TestCase):
         self.told('clear_bits', [clears(MASKS, one) for one in gates])
 
     def test_a_row_that_was_absent(self):
-        def made(rows):
-            return clear_bits({(1, None): (0, 0, 0, 0), (0x80000001, None): (0, 0, 0, 0), **rows})
+        def made(rows, cleared):
+            return clear_bits({**({(1, None): (0, 0, 0, 0), (0x80000001, None): (0, 0, 0, 0)} if cleared else {}), **rows}, cleared)
         self.assertTrue(self.differ(clear_bits=made))
 
     def test_editions(self):
         """15 for one side alone, 16 before it or for any smaller number, editions cut to a byte or taken for others."""
         def back(old, new):
             return old > new
-        wrong = [editions(lambda old, new: old not in (1, 2), back), editions(lambda old, new: new not in (1, 2), back)]
-        wrong += [editions(lambda old, new: not {old, new} & {1, 2}, back), editions(none, lambda old, new: False)]
+        wrong = [editions(lambda old, new: old not in KNOWN, back), editions(lambda old, new: new not in KNOWN, back)]
+        wrong += [editions(lambda old, new: not {old, new} & KNOWN, back), editions(none, lambda old, new: False)]
         wrong += [editions(none, lambda old, new: old < new), editions(none, lambda old, new: old != new), editions(none, lambda old, new: new == 1)]
         wrong += [lambda old, new, cut=cut: check_editions(old & cut, new & cut) for cut in (0xFF, 0xFFFF, 0x7FFFFFFF)]
-        wrong += [lambda old, new: check_editions(old or 1, new or 1), lambda old, new: check_editions(min(old, 2), min(new, 2))]
+        wrong += [lambda old, new: check_editions(old or 1, new or 1), lambda old, new: check_editions(min(old, max(KNOWN)), min(new, max(KNOWN)))]
 
         def first_16(old, new):
             if old > new:
@@ -136,11 +139,11 @@ class WrongReadings(unittest.TestCase):
         right = model_carry.carry
 
         def unasked(table, old, new, xcr0, xss):
-            return right(table, old, new, xcr0, xss) if old != new or not 1 <= old <= 2 else table
+            return right(table, old, new, xcr0, xss) if old != new or old not in KNOWN else table
 
         def always(table, old, new, xcr0, xss):
             answer = right(table, old, new, xcr0, xss)
-            return answer if answer[0] == 'refusal' or new == 1 else ('table', clear_bits(answer[1]), None)
+            return answer if answer[0] == 'refusal' or new == 1 else ('table', clear_bits(answer[1], MASKS.items()), None)
         self.told('carry', [unasked, always])
 
     def test_images(self):
@@ -167,7 +170,7 @@ class WrongReadings(unittest.TestCase):
 
         def rewritten(data, *question):
             answer, after = right(data, *question)
-            return answer, model.image(('table', clear_bits(read_image(data)), None)) if answer[0] == 'refusal' else after
+            return answer, model.image(('table', clear_bits(read_image(data), MASKS.items()), None)) if answer[0] == 'refusal' else after
         self.assertTrue(self.differ(carry_image=rewritten))
 
 

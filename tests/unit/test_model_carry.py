@@ -14,7 +14,7 @@ from vectors_document_01 import Damage
 ALL = 0xFFFFFFFF
 EXTENDED = 0x80000001
 BITS = {(1, None): 1 << 29, (EXTENDED, None): 1 << 11 | 1 << 16}
-EDITIONS = 0, 1, 2, 3, 257, 258, 1 << 31, ALL
+EDITIONS = 0, *model.EDITIONS, model.NO_EDITION, 257, 258, 1 << 31, ALL
 
 
 def refusal(number):

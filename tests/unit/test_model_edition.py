@@ -12,7 +12,7 @@ from pagesets import MILAN, STATE, changed, minimal, page, rich, spread, with_by
 from vectors_document_01 import Damage
 
 ALL = 0xFFFFFFFF
-NONE = 0, 3, 4, 255, 256, 257, 258, 65537, 1 << 31, ALL - 1, ALL
+NONE = 0, model.NO_EDITION, model.NO_EDITION + 1, 255, 256, 257, 258, 65537, 1 << 31, ALL - 1, ALL
 # (leaf, bit of ECX) of F16C, XOP and FMA4
 BITS = (1, 29), (0x80000001, 11), (0x80000001, 16)
 
@@ -119,7 +119,7 @@ class Unknown(unittest.TestCase):
         self.assertEqual(told, {*range(9), 17})
 
     def test_a_lookup_finds_nothing(self):
-        self.assertIsNone(model.lookup(model.build(MILAN, False, 3), 1, None, False))
+        self.assertIsNone(model.lookup(model.build(MILAN, False, model.NO_EDITION), 1, None, False))
 
     def test_comparison(self):
         """A bad edition refuses A itself, whatever B is."""

@@ -44,11 +44,11 @@ class Cases(unittest.TestCase):
         self.assertEqual(self.asked('--write')[0], 0)
         self.assertEqual(self.asked('--check')[0], 0)
         self.has('crates/table/src/lib.rt', '    NothingDecides,\n    GuestGone,')
-        self.has(NUMBERS, '        Refusal::GuestGone => sized(21, 0),')
+        self.has(NUMBERS, '        Refusal::GuestGone => with_s(21, 0),')
         self.has(REFUSAL, 'details GuestGone = alone 21', '    ∷ GuestGone\n    ∷ [])')
         self.has('crates/table/specs/RefusalLaws.antt', 'refusal-told GuestGone = refl')
         self.has('crates/table/proofs/numbers/refusal_numbers/Proof.antt',
-                 'returns-19 c = rw (c .before .enum-told16 .given .1) (c .sized16 .ensures)')
+                 'returns-19 c = rw (c .before .enum-told16 .given .1) (c .with-s16 .ensures)')
         self.has('crates/lines/src/bytes/names.rt', 'const NUMBERS: usize = 22;', '    NOTHING, // 21')
         self.has('crates/lines/specs/NumbersInUse.antt', '    nothing ∷  -- 21')
         self.has('crates/answers/specs/Told.antt', '  told-21 : RefusalTold GuestGone 21 0 0 0 0')
@@ -66,7 +66,7 @@ class Cases(unittest.TestCase):
                  'GuestGone (function (d .leaf))'),
                 (' leaf subleaf', 'Refusal::GuestGone(leaf, subleaf) => at_leaf(21, leaf.0, subleaf)',
                  '(l : CpuidFunction) → RefusalTold (GuestGone l None) 21 (l .0) 0 0 0', 'GuestGone (function (d .leaf)) (d .subleaf)'),
-                (' s', 'Refusal::GuestGone(s) => sized(21, s)', '(s : ℕ) → RefusalTold (GuestGone s) 21 0 0 0 s', 'GuestGone (d .s)')):
+                (' s', 'Refusal::GuestGone(s) => with_s(21, s)', '(s : ℕ) → RefusalTold (GuestGone s) 21 0 0 0 s', 'GuestGone (d .s)')):
             with self.subTest(details):
                 self.setUp()
                 self.add(details)

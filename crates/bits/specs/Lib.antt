@@ -9,3 +9,4 @@ pub mod SearchLaws
 pub mod ListsLaws
 pub mod InPlace
 pub mod WidthLaws
+pub mod ComplementLaws

@@ -9,7 +9,7 @@ use table::Choices;
 use table::CpuidResults;
 use table::Refusal;
 use table::Verdict;
-use table::known_edition;
+use table::edition::known_edition;
 ghost use Rattle.memory.specs.Memory.{Cleared};
 ghost use Rattle.build.specs.Build.{answer, FrontIn, InMemory};
 

@@ -1,6 +1,7 @@
 -- Document 02, P8, "Moving a live guest to edition 2": "Carrying any table within one edition, where it isn't refused, changes nothing. From 1 to
 -- 2 a table built otherwise gets the same three bits cleared where its own D.0.EAX lacks bit 2, and nothing else changed, absent rows reading
--- as zeros". The three are P7's: "1.ECX bit 29 and 80000001h.ECX bits 11 (XOP) and 16 (FMA4)".
+-- as zeros". The three are P7's: "1.ECX bit 29 and 80000001h.ECX bits 11 (XOP) and 16 (FMA4)". From any edition to a later one they are the bits that
+-- the later one clears and the other leaves.
 use mathlib.Core.Bool.{Bool, _&&_, _||_}
 use Prim.Native.Nat.{ℕ}
 use lib.Dec.{eqb, leb}
@@ -13,11 +14,11 @@ use Rattle.masking.specs.Kept.{places}
 use Rattle.masking.specs.Place
 use Rattle.table.specs.declared.CpuidResults.{CpuidResults}
 use Rattle.table.specs.declared.Verdict.{Verdict}
-use Rattle.table.specs.Edition.{knownEdition}
+use Rattle.table.specs.declared.edition.EditionBits.{EditionBits}
+use Rattle.table.specs.Edition.{knownEdition, bitsBetween}
 use Rattle.table.specs.Rows.{Row, Rows}
 use Rattle.table.specs.Table.{emptyTable, rowIn}
 use Rattle.checks.specs.ExtendedState.{xfem}
-use Rattle.finish.specs.Finish.{f16c, xopAndFma4}
 use Rattle.guest_state.specs.State.{stateVerdict}
 use Rattle.table.specs.declared.Refusal.{Refusal}
 use Rattle.table.specs.declared.Refusal.the-variants.{UnknownEdition, EditionBack}
@@ -34,16 +35,16 @@ ownRows t i = record { present = rowIn t i .present; result = pick (rowIn t i .p
 abbrev pub withoutBits : Bool → ℕ → CpuidResult → CpuidResult
 withoutBits keep m r = result (r .eax) (r .ebx) (clearUnless keep m (r .ecx)) (r .edx)
 
--- the registers at a place: two rows lose "the same three bits", where they are there
-abbrev pub carriedAt : Bool → ℕ → Row → CpuidResult
-carriedAt keep i r =
-    pick (eqb i Place.versionAndFeatures && r .present) (withoutBits keep f16c (r .result))
-    (pick (eqb i Place.extendedVersionAndFeatures && r .present) (withoutBits keep xopAndFma4 (r .result)) (r .result))
+-- the registers at a place: two rows lose the bits, where they are there
+abbrev pub carriedAt : EditionBits → Bool → ℕ → Row → CpuidResult
+carriedAt b keep i r =
+    pick (eqb i Place.versionAndFeatures && r .present) (withoutBits keep (b .«version_ecx») (r .result))
+    (pick (eqb i Place.extendedVersionAndFeatures && r .present) (withoutBits keep (b .«extended_version_ecx») (r .result)) (r .result))
 
-abbrev pub carriedTable : Bool → CpuidResults → CpuidResults
-carriedTable keep t = record {
+abbrev pub carriedTable : EditionBits → Bool → CpuidResults → CpuidResults
+carriedTable b keep t = record {
   present = t .present;
-  results = tabulate places (λ i. carriedAt keep i (rowIn t i));
+  results = tabulate places (λ i. carriedAt b keep i (rowIn t i));
   «row_count» = t .«row_count»;
   «max_extended_state» = t .«max_extended_state»;
 }
@@ -73,4 +74,4 @@ abbrev pub refusedCarry : Refusal → Carried
 refusedCarry r = record { verdict = Refused r; table = emptyTable }
 
 unfoldable pub carry : CpuidResults → ℕ → ℕ → ℕ → ℕ → Carried
-carry t from to xcr0 xss = carriedFor (carryVerdict t from to xcr0 xss) (carriedTable (keeps t from to) t)
+carry t from to xcr0 xss = carriedFor (carryVerdict t from to xcr0 xss) (carriedTable (bitsBetween from to) (keeps t from to) t)

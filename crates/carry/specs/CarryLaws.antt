@@ -2,21 +2,21 @@
 use mathlib.Core.Path.{_≡_, refl, ap, _∙_}
 use mathlib.Core.Bool.{Bool, true, _||_}
 use mathlib.Core.List.{List}
-use Prim.Native.Nat.{ℕ, _+_, _^_}
+use Prim.Native.Nat.{ℕ}
 use lib.ListN.{length, set}
 use borrow.Author.Tests.{eq-eqb}
 use Rattle.bits.specs.Choice.{pick}
-use Rattle.bits.specs.Bits.{has, maskOf}
+use Rattle.bits.specs.Bits.{has}
 use Rattle.bits.specs.Lists.{tabulate}
 use Rattle.bits.specs.ListsLaws.{tabulated}
 use Rattle.x86defs.specs.declared.CpuidResult.{CpuidResult}
 use Rattle.x86defs.specs.Functions.{result}
 use Rattle.masking.specs.Kept.{places}
 use Rattle.table.specs.declared.CpuidResults.{CpuidResults}
+use Rattle.table.specs.declared.edition.EditionBits.{EditionBits}
 use Rattle.table.specs.Rows.{Row, Rows}
 use Rattle.table.specs.Table.{rowIn, rowsOfTable}
 use Rattle.checks.specs.ExtendedState.{xfem}
-use Rattle.finish.specs.Finish.{f16c, xopAndFma4}
 use Rattle.carry.specs.Carry.{ownRows, withoutBits, carriedAt, carriedTable, keeps}
 
 -- ---- within one edition
@@ -27,33 +27,25 @@ kept-within t from to e = ap (λ (b : Bool). b || has 2 (xfem (ownRows t))) (eq-
 
 -- ---- the two stores
 
--- the code's masks: "1.ECX bit 29 and 80000001h.ECX bits 11 (XOP) and 16 (FMA4)"
-f16c-mask : f16c ≡ 2 ^ 29
-unfolding f16c maskOf
-f16c-mask = refl
-
-xop-and-fma4-mask : xopAndFma4 ≡ 2 ^ 11 + 2 ^ 16
-unfolding xopAndFma4 maskOf
-xop-and-fma4-mask = refl
-
 -- a row that is there without bits; else as it is
 abbrev ifThere : Bool → ℕ → Row → CpuidResult
 ifThere keep m r = pick (r .present) (withoutBits keep m (r .result)) (r .result)
 
-abbrev storing : Bool → Rows → List CpuidResult → List CpuidResult
-storing keep m l = set (set l 1 (ifThere keep f16c (m 1))) 71 (ifThere keep xopAndFma4 (m 71))
+abbrev storing : EditionBits → Bool → Rows → List CpuidResult → List CpuidResult
+storing b keep m l = set (set l 1 (ifThere keep (b .«version_ecx») (m 1))) 71 (ifThere keep (b .«extended_version_ecx») (m 71))
 
-stores : (keep : Bool) (m : Rows) → storing keep m (tabulate places (λ i. m i .result)) ≡ tabulate places (λ i. carriedAt keep i (m i))
+stores : (b : EditionBits) (keep : Bool) (m : Rows)
+    → storing b keep m (tabulate places (λ i. m i .result)) ≡ tabulate places (λ i. carriedAt b keep i (m i))
 unfolding tabulate
-stores keep m = refl
+stores b keep m = refl
 
 abbrev tableWith : CpuidResults → List CpuidResult → CpuidResults
 tableWith t l = record { present = t .present; results = l; «row_count» = t .«row_count»; «max_extended_state» = t .«max_extended_state» }
 
-pub cleared : (t : CpuidResults) (keep : Bool) {version extended : CpuidResult} → length (t .results) ≡ places
-    → version ≡ ifThere keep 0x20000000 (rowIn t 1) → extended ≡ ifThere keep 0x10800 (rowIn t 71)
-    → tableWith t (set (set (t .results) 1 version) 71 extended) ≡ carriedTable keep t
-cleared t keep {version} {extended} n e f =
+pub cleared : (b : EditionBits) (t : CpuidResults) (keep : Bool) {version extended : CpuidResult} → length (t .results) ≡ places
+    → version ≡ ifThere keep (b .«version_ecx») (rowIn t 1) → extended ≡ ifThere keep (b .«extended_version_ecx») (rowIn t 71)
+    → tableWith t (set (set (t .results) 1 version) 71 extended) ≡ carriedTable b keep t
+cleared b t keep {version} {extended} n e f =
     let whole : t .results ≡ tabulate places (λ i. rowIn t i .result) = tabulated places _ (t .results) (result 0 0 0 0) n (λ i l. refl) in
     ap (λ (l : List CpuidResult). tableWith t l)
-    (rw (e, f, ← f16c-mask, ← xop-and-fma4-mask) (ap (λ (l : List CpuidResult). storing keep (rowsOfTable t) l) whole ∙ stores keep (rowsOfTable t)))
+    (rw (e, f) (ap (λ (l : List CpuidResult). storing b keep (rowsOfTable t) l) whole ∙ stores b keep (rowsOfTable t)))

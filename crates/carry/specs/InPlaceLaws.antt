@@ -18,11 +18,12 @@ use Rattle.x86defs.specs.Functions.{result}
 use Rattle.masking.specs.Kept.{places}
 use Rattle.masking.specs.Place
 use Rattle.table.specs.declared.CpuidResults.{CpuidResults}
+use Rattle.table.specs.declared.edition.EditionBits.{EditionBits}
 use Rattle.table.specs.declared.Refusal.{Refusal}
 use Rattle.table.specs.declared.Refusal.the-variants.{UnknownEdition, EditionBack}
 use Rattle.table.specs.declared.Verdict.{Verdict}
 use Rattle.table.specs.declared.Verdict.the-variants.{Accepted, Refused}
-use Rattle.table.specs.Edition.{knownEdition}
+use Rattle.table.specs.Edition.{knownEdition, bitsBetween}
 use Rattle.table.specs.Rows.{Row, Rows}
 use Rattle.table.specs.Table.{countRows, rowIn}
 use Rattle.memory.specs.Memory.{isThere, rowOf, putRow, rowsIn, layout, rowList}
@@ -66,37 +67,37 @@ module _ (w o : List ℕ) where
 
   -- ---- the two stores
 
-  module _ (n : length w ≡ 4 * places) (keep : Bool) {w₁ w₂ : List ℕ} {version extended : CpuidResult} {a b : Bool} where
+  module _ (n : length w ≡ 4 * places) (bits : EditionBits) (keep : Bool) {w₁ w₂ : List ℕ} {version extended : CpuidResult} {a b : Bool} where
     pub stored : a ≡ isThere (getD o 1 0) → b ≡ isThere (getD o 71 0)
-        → version ≡ pick a (withoutBits keep 0x20000000 (rowOf w 1)) (rowOf w 1)
-        → extended ≡ pick b (withoutBits keep 0x10800 (rowOf w 71)) (rowOf w 71)
+        → version ≡ pick a (withoutBits keep (bits .«version_ecx») (rowOf w 1)) (rowOf w 1)
+        → extended ≡ pick b (withoutBits keep (bits .«extended_version_ecx») (rowOf w 71)) (rowOf w 71)
         → w₁ ≡ putRow w 1 version → w₂ ≡ putRow w₁ 71 extended
-        → w₂ ≡ layout (λ i. rowIn (carriedTable keep t) i .result)
+        → w₂ ≡ layout (λ i. rowIn (carriedTable bits keep t) i .result)
     stored p q e f g h =
         let n₁ : length w₁ ≡ 4 * places = ap length g ∙ put-length w 1 version n (lit< tt) in
         let n₂ : length w₂ ≡ 4 * places = ap length h ∙ put-length w₁ 71 extended n₁ (lit< tt) in
         let l₁ : rowList w₁ ≡ set (rowList w) 1 version = ap rowList g ∙ put-is-set w 1 version n (lit< tt) in
         let l₂ : rowList w₂ ≡ set (set (rowList w) 1 version) 71 extended =
         ap rowList h ∙ put-is-set w₁ 71 extended n₁ (lit< tt) ∙ ap (λ (l : List CpuidResult). set l 71 extended) l₁ in
-        let e₁ : version ≡ pick (rowIn t 1 .present) (withoutBits keep 0x20000000 (rowIn t 1 .result)) (rowIn t 1 .result) =
-        e ∙ ap (λ (c : Bool). pick c (withoutBits keep 0x20000000 (rowOf w 1)) (rowOf w 1)) p
-        ∙ ap (λ (r : Row). pick (r .present) (withoutBits keep 0x20000000 (r .result)) (r .result)) (sym (whole-row (rowsIn w o) 1 (lit< tt))) in
-        let f₁ : extended ≡ pick (rowIn t 71 .present) (withoutBits keep 0x10800 (rowIn t 71 .result)) (rowIn t 71 .result) =
-        f ∙ ap (λ (c : Bool). pick c (withoutBits keep 0x10800 (rowOf w 71)) (rowOf w 71)) q
-        ∙ ap (λ (r : Row). pick (r .present) (withoutBits keep 0x10800 (r .result)) (r .result)) (sym (whole-row (rowsIn w o) 71 (lit< tt))) in
-        let l₃ : set (set (rowList w) 1 version) 71 extended ≡ tabulate places (λ i. carriedAt keep i (rowIn t i)) =
-        ap (λ (c : CpuidResults). c .results) (cleared t keep (length-tabulate places (rowOf w)) e₁ f₁) in
-        known-by-rows w₂ (λ i. rowIn (carriedTable keep t) i .result) n₂ (l₂ ∙ l₃
-        ∙ tabulate-ext places _ _ (λ i l. sym (getD-tabulate places (λ j. carriedAt keep j (rowIn t j)) i (result 0 0 0 0) l)))
+        let e₁ : version ≡ pick (rowIn t 1 .present) (withoutBits keep (bits .«version_ecx») (rowIn t 1 .result)) (rowIn t 1 .result) =
+        e ∙ ap (λ (c : Bool). pick c (withoutBits keep (bits .«version_ecx») (rowOf w 1)) (rowOf w 1)) p
+        ∙ ap (λ (r : Row). pick (r .present) (withoutBits keep (bits .«version_ecx») (r .result)) (r .result)) (sym (whole-row (rowsIn w o) 1 (lit< tt))) in
+        let f₁ : extended ≡ pick (rowIn t 71 .present) (withoutBits keep (bits .«extended_version_ecx») (rowIn t 71 .result)) (rowIn t 71 .result) =
+        f ∙ ap (λ (c : Bool). pick c (withoutBits keep (bits .«extended_version_ecx») (rowOf w 71)) (rowOf w 71)) q
+        ∙ ap (λ (r : Row). pick (r .present) (withoutBits keep (bits .«extended_version_ecx») (r .result)) (r .result)) (sym (whole-row (rowsIn w o) 71 (lit< tt))) in
+        let l₃ : set (set (rowList w) 1 version) 71 extended ≡ tabulate places (λ i. carriedAt bits keep i (rowIn t i)) =
+        ap (λ (c : CpuidResults). c .results) (cleared bits t keep (length-tabulate places (rowOf w)) e₁ f₁) in
+        known-by-rows w₂ (λ i. rowIn (carriedTable bits keep t) i .result) n₂ (l₂ ∙ l₃
+        ∙ tabulate-ext places _ _ (λ i l. sym (getD-tabulate places (λ j. carriedAt bits keep j (rowIn t j)) i (result 0 0 0 0) l)))
 
   -- ---- what the stores leave, read as a table
 
-  module _ (keep : Bool) {w₁ : List ℕ} (e : w₁ ≡ layout (λ i. rowIn (carriedTable keep t) i .result)) where
-    carried-row : (i : ℕ) → i < places → rowOf w₁ i ≡ carriedAt keep i (rowIn t i)
+  module _ (bits : EditionBits) (keep : Bool) {w₁ : List ℕ} (e : w₁ ≡ layout (λ i. rowIn (carriedTable bits keep t) i .result)) where
+    carried-row : (i : ℕ) → i < places → rowOf w₁ i ≡ carriedAt bits keep i (rowIn t i)
     carried-row i l =
         ap (λ (k : List ℕ). rowOf k i) e
-        ∙ layout-row (λ j. rowIn (carriedTable keep t) j .result) i l
-        ∙ getD-tabulate places (λ j. carriedAt keep j (rowIn t j)) i (result 0 0 0 0) l
+        ∙ layout-row (λ j. rowIn (carriedTable bits keep t) j .result) i l
+        ∙ getD-tabulate places (λ j. carriedAt bits keep j (rowIn t j)) i (result 0 0 0 0) l
 
     -- rows D.0 and D.1 stay, and with them the mask
     state-row : (k : ℕ) → k < 2 → rowOf w₁ (Place.extendedState k) ≡ rowOf w (Place.extendedState k)
@@ -104,7 +105,7 @@ module _ (w o : List ℕ) where
         go k l (carried-row (Place.extendedState k) (omega arith))
         ∙ ap (λ (r : Row). r .result) (whole-row (rowsIn w o) (Place.extendedState k) (omega arith))
       where
-        go : (k : ℕ) → k < 2 → {q : CpuidResult} → q ≡ carriedAt keep (Place.extendedState k) (rowIn t (Place.extendedState k))
+        go : (k : ℕ) → k < 2 → {q : CpuidResult} → q ≡ carriedAt bits keep (Place.extendedState k) (rowIn t (Place.extendedState k))
             → q ≡ rowIn t (Place.extendedState k) .result
         go zero h f = f
         go (suc zero) h f = f
@@ -114,10 +115,10 @@ module _ (w o : List ℕ) where
     unfolding combinedMask xfem xss
     same-mask = ap₂ (λ (d0 d1 : CpuidResult). bitOr (d0 .eax) (xssOf d1)) (state-row 0 (lit< tt)) (state-row 1 (lit< tt))
 
-    pub carried-held : heldIn w₁ o ≡ carriedTable keep t
+    pub carried-held : heldIn w₁ o ≡ carriedTable bits keep t
     unfolding countRows
     carried-held =
-        let rows : rowList w₁ ≡ tabulate places (λ i. carriedAt keep i (rowIn t i)) = tabulate-ext places _ _ carried-row in
+        let rows : rowList w₁ ≡ tabulate places (λ i. carriedAt bits keep i (rowIn t i)) = tabulate-ext places _ _ carried-row in
         λ k. record { present = t .present; results = rows k; «row_count» = t .«row_count»; «max_extended_state» = same-mask k }
 
   -- ---- the answer
@@ -144,7 +145,7 @@ module _ (w o : List ℕ) where
       in-back h = refused-in (back h)
 
       module _ (h : from ≤ to) {u : InUse} (e : u ≡ inUse (readRows true w o) x s) where
-        by-state : {v : Verdict} → stateVerdict (readRows true w o) x s ≡ v → carry t from to x s ≡ carriedFor v (carriedTable (keeps t from to) t)
+        by-state : {v : Verdict} → stateVerdict (readRows true w o) x s ≡ v → carry t from to x s ≡ carriedFor v (carriedTable (bitsBetween from to) (keeps t from to) t)
         unfolding carry carryVerdict
         by-state f = rw (← p, ← q, known, le-leb from to h, own-verdict x s, f)
 
@@ -158,13 +159,13 @@ module _ (w o : List ℕ) where
             ap (λ (c : Bool). eqb from to || c)
             (k ∙ ap (λ (r : CpuidResult). has 2 (r .eax)) (g ∙ sym (ap (λ (r : Row). r .result) (own-row (Place.extendedState 0) (lit< tt)))))
 
-        pub in-done : {n : ℕ} {ymm : Bool} {d : CpuidResult} {w₁ : List ℕ} → u ≡ Compacted n → d ≡ readRows true w o (Place.extendedState 0) .result
-            → ymm ≡ has 2 (d .eax) → w₁ ≡ layout (λ i. rowIn (carriedTable (eqb from to || ymm) t) i .result)
+        pub in-done : {n : ℕ} {ymm : Bool} {d : CpuidResult} {bits : EditionBits} {w₁ : List ℕ} → u ≡ Compacted n → d ≡ readRows true w o (Place.extendedState 0) .result
+            → ymm ≡ has 2 (d .eax) → bits ≡ bitsBetween from to → w₁ ≡ layout (λ i. rowIn (carriedTable bits (eqb from to || ymm) t) i .result)
             → CarriedIn (carry t from to x s) Accepted w o w₁
-        in-done {n} {ymm} {d} {w₁} f g k l =
+        in-done {n} {ymm} {d} {bits} {w₁} f g k q l =
             subst (λ (c : Carried). CarriedIn c Accepted w o w₁) (sym (by-state (told-given (readRows true w o) x s e f)))
             (record {
               verdict = refl;
-              registers = l ∙ ap (λ (c : Bool). layout (λ i. rowIn (carriedTable c t) i .result)) (kept g k);
-              table = λ z. carried-held (eqb from to || ymm) l ∙ ap (λ (c : Bool). carriedTable c t) (kept g k);
+              registers = l ∙ ap₂ (λ (b : EditionBits) (c : Bool). layout (λ i. rowIn (carriedTable b c t) i .result)) q (kept g k);
+              table = λ z. carried-held bits (eqb from to || ymm) l ∙ ap₂ (λ (b : EditionBits) (c : Bool). carriedTable b c t) q (kept g k);
             })

@@ -1,7 +1,5 @@
 // Carries a running table, in lent memory or as its image, from one edition of the AVX rule to another, under one processor's state. A refusal leaves
 // it as it was.
-use finish::features::F16C;
-use finish::features::XOP_AND_FMA4;
 use guest_state::InUse;
 use guest_state::read_row;
 use guest_state::state_in_use;
@@ -15,7 +13,8 @@ use memory::row_at;
 use table::CpuidResults;
 use table::Refusal;
 use table::Verdict;
-use table::known_edition;
+use table::edition::EditionBits;
+use table::edition::known_edition;
 use x86defs::CpuidResult;
 ghost use mathlib.Core.Path.{_≡_};
 ghost use Rattle.bits.specs.Choice.{pick};
@@ -56,27 +55,34 @@ pub fn carry(
         return Verdict::Refused(r);
     }
     let subleaf0 = read_row(registers, origins, true, place::EXTENDED_STATE_0);
+    let bits = EditionBits::between(from, to);
     clear_bits(
         registers,
         origins,
+        bits,
         (from == to) | bits::has_bit(subleaf0.eax, 2),
     );
     Verdict::Accepted
 }
 
-// The three bits cleared, unless they are kept. Nothing else changes.
-fn clear_bits(registers: &mut [u32; REGISTERS], origins: &[u64; PLACES], keep: bool)
+// The bits cleared in rows 1 and 80000001h, unless they are kept. Nothing else changes.
+fn clear_bits(
+    registers: &mut [u32; REGISTERS],
+    origins: &[u64; PLACES],
+    bits: EditionBits,
+    keep: bool,
+)
     ensures { λ _. ⌜ now (registers .exit)
-        ≡ layout (λ i. rowIn (carriedTable keep (heldIn (now (registers .entry)) (now (origins .entry)))) i .result) ⌝ }
+        ≡ layout (λ i. rowIn (carriedTable bits keep (heldIn (now (registers .entry)) (now (origins .entry)))) i .result) ⌝ }
 {
     lengths_known(registers, origins);
     let has_version = origins[place::VERSION_AND_FEATURES];
     let has_extended = origins[place::EXTENDED_VERSION_AND_FEATURES];
     let version = row_at(registers, place::VERSION_AND_FEATURES);
     let extended = row_at(registers, place::EXTENDED_VERSION_AND_FEATURES);
-    let cleared = clear_ecx(is_there(has_version), keep, F16C, version);
+    let cleared = clear_ecx(is_there(has_version), keep, bits.version_ecx, version);
     put_row(registers, place::VERSION_AND_FEATURES, cleared);
-    let cleared = clear_ecx(is_there(has_extended), keep, XOP_AND_FMA4, extended);
+    let cleared = clear_ecx(is_there(has_extended), keep, bits.extended_version_ecx, extended);
     put_row(registers, place::EXTENDED_VERSION_AND_FEATURES, cleared);
 }
 

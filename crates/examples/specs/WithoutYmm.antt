@@ -68,6 +68,6 @@ not-from-first t =
     f16c-gone (u .registers Place.versionAndFeatures (lit< tt) refl .ecx)
 
 -- there is no edition 3, also of no pages at all
-pub third-refused : answer (underEdition 3) [] .verdict ≡ Refused UnknownEdition
+pub unknown-refused : answer (underEdition 3) [] .verdict ≡ Refused UnknownEdition
 unfolding answer verdictOf editionVerdict knownEdition
-third-refused = refl
+unknown-refused = refl

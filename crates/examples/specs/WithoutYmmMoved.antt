@@ -58,6 +58,6 @@ pub goes-back : carry emptyTable 2 1 0 0 .verdict ≡ Refused EditionBack
 unfolding carry carryVerdict knownEdition
 goes-back = refl
 
-pub no-third : carry emptyTable 3 1 0 0 .verdict ≡ Refused UnknownEdition
+pub no-such : carry emptyTable 3 1 0 0 .verdict ≡ Refused UnknownEdition
 unfolding carry carryVerdict knownEdition
-no-third = refl
+no-such = refl

@@ -7,7 +7,8 @@ use lib.Bits.{bitAnd, bitOr}
 use Rattle.bits.specs.ChoiceLaws.{and-implied, and-swap}
 use Rattle.bits.specs.Bits.{has, maskOf, clear, clearUnless, Within}
 use Rattle.bits.specs.BitsLaws.{has-and, or-and, and-of-within, within-of-and, within-refl, within-eq, within-and, within-or, clear-unless-and}
-use Rattle.finish.specs.Finish.{Enabled, YmmClears, edition1, edition2, xopAndFma4, hasYmm, hasAvx512, hasCet, versionEcx, featuresEbx, featuresEcx, featuresEdx, extendedVersionEcx, extendedVersionEdx, addressSizesEbx, hypervisorPresent, ibrsAndStibp, btcNo}
+use Rattle.table.specs.Edition.{joinedFrom, bitsBetween}
+use Rattle.finish.specs.Finish.{Enabled, YmmClears, edition1, ymmClears, hasYmm, hasAvx512, hasCet, versionEcx, featuresEbx, featuresEcx, featuresEdx, extendedVersionEcx, extendedVersionEdx, addressSizesEbx, hypervisorPresent, ibrsAndStibp, btcNo}
 
 -- what two sets both enable
 abbrev pub bothEnable : Enabled → Enabled → Enabled
@@ -126,8 +127,8 @@ clears-same e = record {
 }
 
 -- edition 1 clears no bit that edition 2 leaves
-pub second-to-first : ClearsFewer edition2 edition1
-unfolding edition1 edition2 xopAndFma4 maskOf
+pub second-to-first : ClearsFewer (ymmClears 2) (ymmClears 1)
+unfolding ymmClears bitsBetween joinedFrom edition1 maskOf
 second-to-first = record {
   versionEcx = within-of-and refl;
   featuresEbx = within-of-and refl;

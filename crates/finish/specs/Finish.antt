@@ -13,12 +13,12 @@ use Rattle.x86defs.specs.VersionAndFeaturesEcx as Version
 use Rattle.x86defs.specs.ExtendedFeatureSubleaf0Ebx as Ebx7
 use Rattle.x86defs.specs.ExtendedFeatureSubleaf0Ecx as Ecx7
 use Rattle.x86defs.specs.ExtendedFeatureSubleaf0Edx as Edx7
-use Rattle.x86defs.specs.ExtendedVersionAndFeaturesEcx as ExtendedEcx
 use Rattle.x86defs.specs.ExtendedVersionAndFeaturesEdx as ExtendedVersion
 use Rattle.x86defs.specs.ExtendedAddressSpaceSizesEbx as Sizes
 use Rattle.x86defs.specs.ExtendedSevFeaturesEax as Sev
 use Rattle.topology.specs.Topology.{topologyOf, processors, threadLevel, coreLevel}
 use Rattle.masking.specs.Place
+use Rattle.table.specs.Edition.{bitsBetween}
 use Rattle.table.specs.Rows.{Row, Rows, row, vacant}
 use Rattle.checks.specs.ExtendedState.{xfem, xss, saveArea}
 use Rattle.checks.specs.TopologyInputs.{inputsOf}
@@ -94,28 +94,15 @@ edition1 = record {
   extendedVersionEcx = 0;
 }
 
--- the three bits that edition 2 clears besides: F16C of 1.ECX; XOP and FMA4 of 80000001h.ECX
-unfoldable pub f16c : ℕ
-f16c = maskOf Version.position (Version.VersionAndFeaturesEcx.f16c ∷ [])
-
-unfoldable pub xopAndFma4 : ℕ
-xopAndFma4 =
-    maskOf ExtendedEcx.position (ExtendedEcx.ExtendedVersionAndFeaturesEcx.xop ∷ ExtendedEcx.ExtendedVersionAndFeaturesEcx.fma4 ∷ [])
-
--- Document 02, P7: "Edition 2 also clears 1.ECX bit 29 and 80000001h.ECX bits 11 (XOP) and 16 (FMA4) when XFEM lacks bit 2"
-unfoldable pub edition2 : YmmClears
-edition2 = record {
-  versionEcx =
-      maskOf Version.position
-      (Version.VersionAndFeaturesEcx.fma ∷ Version.VersionAndFeaturesEcx.avx ∷ Version.VersionAndFeaturesEcx.f16c ∷ []);
+-- the clears of an edition by its number: those of edition 1, and the bits of the editions after it (crates/table/specs/Edition.antt). A number that is
+-- no edition is refused before a row is made (crates/build/specs/Build.antt, `editionVerdict`).
+unfoldable pub ymmClears : ℕ → YmmClears
+ymmClears n = record {
+  versionEcx = bitOr (bitsBetween 1 n .«version_ecx») (edition1 .versionEcx);
   featuresEbx = edition1 .featuresEbx;
   featuresEcx = edition1 .featuresEcx;
-  extendedVersionEcx = xopAndFma4;
+  extendedVersionEcx = bitsBetween 1 n .«extended_version_ecx»;
 }
-
--- the clears of an edition by its number; any number but 1 and 2 is refused before a row is made (crates/build/specs/Build.antt, `editionVerdict`)
-unfoldable pub ymmClears : ℕ → YmmClears
-ymmClears n = pick (eqb n 2) edition2 edition1
 
 -- n is the edition
 unfoldable pub settings : ℕ → Rows → Settings

@@ -11,6 +11,7 @@ use Rattle.topology.specs.Topology.{topologyOf, threadsIn, leastPower, shiftOf}
 use Rattle.table.specs.Rows.{Row, Rows, row, vacant}
 use Rattle.checks.specs.ExtendedState.{xfem, xss, areaBelow}
 use Rattle.checks.specs.TopologyInputs.{inputsOf}
+use Rattle.table.specs.Edition.{joinedFrom, bitsBetween}
 use Rattle.finish.specs.Finish.{finished, settings, enabledBy, ymmClears, edition1, featuresEcx, cetSs, rdPid, avx512FeaturesEcx}
 
 -- XFEM and XSS as given, D.11 of 4,096 bytes at 576, and 7.0 with CET_SS
@@ -32,6 +33,6 @@ pub cet-needs-both :
     ∷ finished 1 (stateRows 3 0x1800) Place.extendedFeatures .result .ecx
     ∷ []
     ≡ 0 ∷ 0 ∷ 0x80 ∷ []
-unfolding finished settings enabledBy ymmClears edition1 featuresEcx cetSs rdPid avx512FeaturesEcx maskOf clear clearUnless xfem xss areaBelow has
+unfolding finished settings enabledBy ymmClears bitsBetween joinedFrom edition1 featuresEcx cetSs rdPid avx512FeaturesEcx maskOf clear clearUnless xfem xss areaBelow has
     bit field inputsOf topologyOf threadsIn leastPower shiftOf
 cet-needs-both = refl

@@ -1,5 +1,6 @@
 // Feature rows: how finishing changes a masked row, by what other rows enable.
 use checks::max_xss;
+use table::edition::EditionBits;
 use x86defs::CpuidResult;
 use x86defs::ibpb;
 use x86defs::tsc_aux_virtualization;
@@ -8,19 +9,12 @@ ghost use Rattle.x86defs.specs.Functions.{result};
 ghost use Rattle.finish.specs.Finish.{hasYmm, hasAvx512, hasCet, ymmClears, versionEcx, featuresEbx, featuresEcx, featuresEdx, extendedVersionEcx, extendedVersionEdx, addressSizesEbx, unlessNoXss};
 ghost use Rattle.finish.specs.FeaturesInCode.{clearsWith, enabledWith, enabledFrom};
 
-// The clear masks: the bits cleared where the YMM state is absent, in both editions of the rule and beyond these in edition 2 (document 02, P7), and
-// without AVX-512 state.
+// The clear masks: the bits cleared where the YMM state is absent, in every edition of the rule, and without AVX-512 state.
 const YMM_VERSION_ECX: u32 = 0x10001000;
 
 const YMM_FEATURES_EBX: u32 = 0x20;
 
 const YMM_FEATURES_ECX: u32 = 0x700;
-
-pub const F16C: u32 = 0x20000000;
-
-pub const XOP_AND_FMA4: u32 = 0x10800;
-
-const EDITION_2: u32 = 2;
 
 const AVX512_FEATURES_EBX: u32 = 0xD0230000;
 
@@ -55,19 +49,12 @@ impl YmmClears {
     pub fn of(edition: u32) -> Self
         ensures { λ r. ⌜ clearsWith r ≡ ymmClears edition ⌝ }
     {
-        if edition == EDITION_2 {
-            return Self {
-                version_ecx: YMM_VERSION_ECX | F16C,
-                features_ebx: YMM_FEATURES_EBX,
-                features_ecx: YMM_FEATURES_ECX,
-                extended_version_ecx: XOP_AND_FMA4,
-            };
-        }
+        let further = EditionBits::between(1, edition);
         Self {
-            version_ecx: YMM_VERSION_ECX,
+            version_ecx: further.version_ecx | YMM_VERSION_ECX,
             features_ebx: YMM_FEATURES_EBX,
             features_ecx: YMM_FEATURES_ECX,
-            extended_version_ecx: 0,
+            extended_version_ecx: further.extended_version_ecx,
         }
     }
 }

@@ -1,4 +1,4 @@
--- The table that carrying from edition 1 to edition 2 gives, order by order: carrying loses no more than its three bits, keeps the order of tables,
+-- The table that carrying to the last edition gives, order by order: carrying loses no more than the bits of the editions, keeps the order of tables,
 -- and carrying twice loses nothing more.
 use mathlib.Core.Path.{_≡_, refl, sym, ap, _∙_, subst, subst₂}
 use mathlib.Core.Bool.{Bool, true, false, _&&_, _||_}
@@ -11,18 +11,21 @@ use Rattle.bits.specs.Choice.{pick}
 use Rattle.bits.specs.ChoiceLaws.{never-both}
 use Rattle.bits.specs.Bits.{bit, has, Within, clear, clearUnless}
 use Rattle.bits.specs.BitsLaws.{bit-and, within-refl, within-trans, within-and, clear-within, has-mono}
+use Rattle.bits.specs.ComplementLaws.{within-left}
 use Rattle.bits.specs.ListsLaws.{getD-tabulate}
 use Rattle.x86defs.specs.declared.CpuidResult.{CpuidResult}
 use Rattle.x86defs.specs.Functions.{result}
 use Rattle.masking.specs.Kept.{places}
 use Rattle.masking.specs.Place
 use Rattle.table.specs.declared.CpuidResults.{CpuidResults}
+use Rattle.table.specs.declared.edition.EditionBits.{EditionBits}
+use Rattle.table.specs.Edition.{laterBits}
+use Rattle.table.specs.EditionLaws.{Inside, later-small}
 use Rattle.table.specs.Table.{rowIn}
 use Rattle.checks.specs.ExtendedState.{xfem}
 use Rattle.finish.specs.Kinds.{Kind, Kinds, TableAtLeast, Registers, kindsAt}
 use Rattle.finish.specs.Kinds.Kind.{feature}
 use Rattle.finish.specs.RuleKinds.{kinds-at}
-use Rattle.finish.specs.Finish.{f16c, xopAndFma4}
 use Rattle.rise.specs.Rise.{Further, TableRises}
 use Rattle.rise.specs.Preorder.{SameRows}
 use Rattle.rise.specs.PreorderProof.{registers-itself, table-rises-itself, table-rises-compose, same-both-ways}
@@ -30,9 +33,9 @@ use Rattle.carry.specs.Carry.{withoutBits, carriedAt, carriedTable, keeps}
 use Rattle.guest_rise.specs.SeenRises.{state0-eax}
 use Rattle.images.specs.CarriedRows.{ownYmm}
 
--- what carrying makes of a table by its own D.0.EAX
-abbrev pub second : CpuidResults → CpuidResults
-second t = carriedTable (ownYmm t) t
+-- what carrying from edition 1 to the last one makes of a table by its own D.0.EAX
+abbrev pub latest : CpuidResults → CpuidResults
+latest t = carriedTable laterBits (ownYmm t) t
 
 -- ---- bits
 
@@ -44,26 +47,30 @@ within-clear true false m f h = absurd (never-both (f refl) refl)
 within-clear false true m {x} {y} f h = within-trans (clear-within m x) h
 within-clear false false m f h = within-and h (within-refl _)
 
--- cleared twice
-within-twice : (c : Bool) (m x : ℕ) → Within (clearUnless false m x) (clearUnless c m (clearUnless false m x))
+-- cleared twice, first of fewer bits
+within-twice : (c : Bool) (m n x : ℕ) → n < 2 ^ 32 → Within m n → Within (clearUnless false n x) (clearUnless c n (clearUnless false m x))
 unfolding clearUnless clear
-within-twice true m x = within-refl _
-within-twice false m x =
-    record { at = λ k. omega (arith, bit-and k (Rattle.bits.specs.Bits.clear m x) (2 ^ 32 - 1 - m), bit-and k x (2 ^ 32 - 1 - m)) }
+within-twice true m n x l h = within-and (within-refl x) (within-left l h)
+within-twice false m n x l h = record {
+  at = λ k.
+      let u = within-left l h .at k in
+      omega (arith, u, bit-and k (Rattle.bits.specs.Bits.clear m x) (2 ^ 32 - 1 - n), bit-and k x (2 ^ 32 - 1 - n), bit-and k x (2 ^ 32 - 1 - m));
+}
 
 -- ---- rows
 
-pub carried-row : (b : Bool) (t : CpuidResults) (i : ℕ) → i < places → rowIn (carriedTable b t) i .result ≡ carriedAt b i (rowIn t i)
-carried-row b t i l = getD-tabulate places (λ j. carriedAt b j (rowIn t j)) i (result 0 0 0 0) l
+pub carried-row : (bits : EditionBits) (b : Bool) (t : CpuidResults) (i : ℕ) → i < places
+    → rowIn (carriedTable bits b t) i .result ≡ carriedAt bits b i (rowIn t i)
+carried-row bits b t i l = getD-tabulate places (λ j. carriedAt bits b j (rowIn t j)) i (result 0 0 0 0) l
 
 -- of a row that is there
-abbrev pub carriedTo : Bool → ℕ → CpuidResult → CpuidResult
-carriedTo b i r = carriedAt b i (record { present = true; result = r })
+abbrev pub carriedTo : EditionBits → Bool → ℕ → CpuidResult → CpuidResult
+carriedTo bits b i r = carriedAt bits b i (record { present = true; result = r })
 
-pub carried-there : (b : Bool) (t : CpuidResults) (i : ℕ) → i < places → rowIn t i .present ≡ true
-    → rowIn (carriedTable b t) i .result ≡ carriedTo b i (rowIn t i .result)
-carried-there b t i l p =
-    carried-row b t i l ∙ ap (λ (q : Bool). carriedAt b i (record { present = q; result = rowIn t i .result })) p
+pub carried-there : (bits : EditionBits) (b : Bool) (t : CpuidResults) (i : ℕ) → i < places → rowIn t i .present ≡ true
+    → rowIn (carriedTable bits b t) i .result ≡ carriedTo bits b i (rowIn t i .result)
+carried-there bits b t i l p =
+    carried-row bits b t i l ∙ ap (λ (q : Bool). carriedAt bits b i (record { present = q; result = rowIn t i .result })) p
 
 module _ (i : ℕ) where
   abbrev RowRises : CpuidResult → CpuidResult → Type 0
@@ -86,83 +93,103 @@ version-feature i e = rw e (ap (λ (k : Kinds). k .ecx) (kinds-at Place.versionA
 pub extended-feature : (i : ℕ) → i ≡ Place.extendedVersionAndFeatures → kindsAt i .ecx ≡ feature
 extended-feature i e = rw e (ap (λ (k : Kinds). k .ecx) (kinds-at Place.extendedVersionAndFeatures (lit< tt)))
 
-rises-at : (b c : Bool) (i : ℕ) (r s : CpuidResult) → (b ≡ true → c ≡ true) → RowRises i r s → RowRises i (carriedTo b i r) (carriedTo c i s)
-rises-at b c i r s f q = go (eqb i Place.versionAndFeatures) (eqb i Place.extendedVersionAndFeatures) refl refl
-  where
-    go : (x y : Bool) → eqb i Place.versionAndFeatures ≡ x → eqb i Place.extendedVersionAndFeatures ≡ y
-        → RowRises i (pick (x && true) (withoutBits b f16c r) (pick (y && true) (withoutBits b xopAndFma4 r) r))
-        (pick (x && true) (withoutBits c f16c s) (pick (y && true) (withoutBits c xopAndFma4 s) s))
-    go true y d e = ecx-risen i r s _ _ (version-feature i (eqb-true i Place.versionAndFeatures d)) q (within-clear b c f16c f)
-    go false true d e = ecx-risen i r s _ _ (extended-feature i (eqb-true i Place.extendedVersionAndFeatures e)) q (within-clear b c xopAndFma4 f)
-    go false false d e = q
+module _ (bits : EditionBits) where
+  abbrev v : ℕ
+  v = bits .«version_ecx»
 
-twice-at : (c : Bool) (i : ℕ) (r : CpuidResult) → RowRises i (carriedTo false i r) (carriedTo c i (carriedTo false i r))
-twice-at c i r = go (eqb i Place.versionAndFeatures) (eqb i Place.extendedVersionAndFeatures) refl refl
-  where
-    go : (x y : Bool) → eqb i Place.versionAndFeatures ≡ x → eqb i Place.extendedVersionAndFeatures ≡ y
-        → RowRises i (pick (x && true) (withoutBits false f16c r) (pick (y && true) (withoutBits false xopAndFma4 r) r))
-        (pick (x && true) (withoutBits c f16c (pick (x && true) (withoutBits false f16c r) (pick (y && true) (withoutBits false xopAndFma4 r) r)))
-        (pick (y && true) (withoutBits c xopAndFma4 (pick (x && true) (withoutBits false f16c r) (pick (y && true) (withoutBits false xopAndFma4 r) r)))
-        (pick (x && true) (withoutBits false f16c r) (pick (y && true) (withoutBits false xopAndFma4 r) r))))
-    go true y d e =
-        let z = withoutBits false f16c r in
-        ecx-risen i z z _ _ (version-feature i (eqb-true i Place.versionAndFeatures d)) (registers-itself (kindsAt i) z)
-        (λ h. within-twice c f16c (r .ecx))
-    go false true d e =
-        let z = withoutBits false xopAndFma4 r in
-        ecx-risen i z z _ _ (extended-feature i (eqb-true i Place.extendedVersionAndFeatures e)) (registers-itself (kindsAt i) z)
-        (λ h. within-twice c xopAndFma4 (r .ecx))
-    go false false d e = registers-itself (kindsAt i) r
+  abbrev x : ℕ
+  x = bits .«extended_version_ecx»
 
--- ---- tables
+  rises-at : (b c : Bool) (i : ℕ) (r s : CpuidResult) → (b ≡ true → c ≡ true) → RowRises i r s
+      → RowRises i (carriedTo bits b i r) (carriedTo bits c i s)
+  rises-at b c i r s f q = go (eqb i Place.versionAndFeatures) (eqb i Place.extendedVersionAndFeatures) refl refl
+    where
+      go : (y z : Bool) → eqb i Place.versionAndFeatures ≡ y → eqb i Place.extendedVersionAndFeatures ≡ z
+          → RowRises i (pick (y && true) (withoutBits b v r) (pick (z && true) (withoutBits b x r) r))
+          (pick (y && true) (withoutBits c v s) (pick (z && true) (withoutBits c x s) s))
+      go true z d e = ecx-risen i r s _ _ (version-feature i (eqb-true i Place.versionAndFeatures d)) q (within-clear b c v f)
+      go false true d e = ecx-risen i r s _ _ (extended-feature i (eqb-true i Place.extendedVersionAndFeatures e)) q (within-clear b c x f)
+      go false false d e = q
 
-further-carried : (b c : Bool) (t u : CpuidResults) (i : ℕ) → Further t u i → Further (carriedTable b t) (carriedTable c u) i
-further-carried b c t u i f = record { subleaf = f .subleaf; place = f .place; from = f .from; below = f .below; inB = f .inB; notInA = f .notInA }
+  -- cleared of these bits and then of all
+  twice-at : Inside bits laterBits → (c : Bool) (i : ℕ) (r : CpuidResult)
+      → RowRises i (carriedTo laterBits false i r) (carriedTo laterBits c i (carriedTo bits false i r))
+  twice-at h c i r = go (eqb i Place.versionAndFeatures) (eqb i Place.extendedVersionAndFeatures) refl refl
+    where
+      allV : ℕ
+      allV = laterBits .«version_ecx»
 
-pub carried-mono : (b c : Bool) (t u : CpuidResults) → (b ≡ true → c ≡ true) → TableRises t u → TableRises (carriedTable b t) (carriedTable c u)
-carried-mono b c t u f r = record {
-  rows = r .rows;
-  registers = λ i l p.
-      subst₂ (Registers TableAtLeast (kindsAt i)) (sym (carried-there b t i l p)) (sym (carried-there c u i l (r .rows i l p)))
-      (rises-at b c i _ _ f (r .registers i l p));
-  others = λ i l p. ⊎-elim (λ q. inl q) (λ q. inr (further-carried b c t u i q)) (r .others i l p);
-  mask = r .mask;
-}
+      allX : ℕ
+      allX = laterBits .«extended_version_ecx»
 
-pub carried-twice : (c : Bool) (t : CpuidResults) → TableRises (carriedTable false t) (carriedTable c (carriedTable false t))
-carried-twice c t = record {
-  rows = λ i l p. p;
-  registers = λ i l p.
-      subst₂ (Registers TableAtLeast (kindsAt i)) (sym (carried-there false t i l p))
-      (sym (carried-there c (carriedTable false t) i l p ∙ ap (carriedTo c i) (carried-there false t i l p))) (twice-at c i (rowIn t i .result));
-  others = λ i l p. inl p;
-  mask = within-refl _;
-}
+      go : (y z : Bool) → eqb i Place.versionAndFeatures ≡ y → eqb i Place.extendedVersionAndFeatures ≡ z
+          → RowRises i (pick (y && true) (withoutBits false allV r) (pick (z && true) (withoutBits false allX r) r))
+          (pick (y && true) (withoutBits c allV (pick (y && true) (withoutBits false v r) (pick (z && true) (withoutBits false x r) r)))
+          (pick (z && true) (withoutBits c allX (pick (y && true) (withoutBits false v r) (pick (z && true) (withoutBits false x r) r)))
+          (pick (y && true) (withoutBits false v r) (pick (z && true) (withoutBits false x r) r))))
+      go true z d e =
+          let q = withoutBits false allV r in
+          ecx-risen i q q _ _ (version-feature i (eqb-true i Place.versionAndFeatures d)) (registers-itself (kindsAt i) q)
+          (λ w. within-twice c v allV (r .ecx) (later-small .0) (h .version))
+      go false true d e =
+          let q = withoutBits false allX r in
+          ecx-risen i q q _ _ (extended-feature i (eqb-true i Place.extendedVersionAndFeatures e)) (registers-itself (kindsAt i) q)
+          (λ w. within-twice c x allX (r .ecx) (later-small .1) (h .extended))
+      go false false d e = registers-itself (kindsAt i) r
 
--- nothing is lost where the bits are kept
-kept-at : (i : ℕ) (r : CpuidResult) → carriedTo true i r ≡ r
-unfolding clearUnless
-kept-at i r = go (eqb i Place.versionAndFeatures) (eqb i Place.extendedVersionAndFeatures)
-  where
-    go : (x y : Bool) → pick (x && true) (withoutBits true f16c r) (pick (y && true) (withoutBits true xopAndFma4 r) r) ≡ r
-    go true y = refl
-    go false true = refl
-    go false false = refl
+  -- ---- tables
 
-pub kept-same : (t : CpuidResults) → SameRows (carriedTable true t) t
-kept-same t = record { present = λ i l. refl; registers = λ i l p. carried-there true t i l p ∙ kept-at i (rowIn t i .result); mask = refl }
+  further-carried : (b c : Bool) (t u : CpuidResults) (i : ℕ) → Further t u i → Further (carriedTable bits b t) (carriedTable bits c u) i
+  further-carried b c t u i f = record { subleaf = f .subleaf; place = f .place; from = f .from; below = f .below; inB = f .inB; notInA = f .notInA }
 
--- a table is at least itself carried
-pub carried-below : (b : Bool) (t : CpuidResults) → TableRises (carriedTable b t) t
-carried-below b t =
-    table-rises-compose (carriedTable b t) (carriedTable true t) t (carried-mono b true t t (λ e. refl) (table-rises-itself t))
-    (same-both-ways (carriedTable true t) t (kept-same t) .0)
+  pub carried-mono : (b c : Bool) (t u : CpuidResults) → (b ≡ true → c ≡ true) → TableRises t u
+      → TableRises (carriedTable bits b t) (carriedTable bits c u)
+  carried-mono b c t u f r = record {
+    rows = r .rows;
+    registers = λ i l p.
+        subst₂ (Registers TableAtLeast (kindsAt i)) (sym (carried-there bits b t i l p)) (sym (carried-there bits c u i l (r .rows i l p)))
+        (rises-at b c i _ _ f (r .registers i l p));
+    others = λ i l p. ⊎-elim (λ q. inl q) (λ q. inr (further-carried b c t u i q)) (r .others i l p);
+    mask = r .mask;
+  }
+
+  pub carried-twice : Inside bits laterBits → (c : Bool) (t : CpuidResults)
+      → TableRises (carriedTable laterBits false t) (carriedTable laterBits c (carriedTable bits false t))
+  carried-twice h c t = record {
+    rows = λ i l p. p;
+    registers = λ i l p.
+        subst₂ (Registers TableAtLeast (kindsAt i)) (sym (carried-there laterBits false t i l p))
+        (sym (carried-there laterBits c (carriedTable bits false t) i l p ∙ ap (carriedTo laterBits c i) (carried-there bits false t i l p)))
+        (twice-at h c i (rowIn t i .result));
+    others = λ i l p. inl p;
+    mask = within-refl _;
+  }
+
+  -- nothing is lost where the bits are kept
+  kept-at : (i : ℕ) (r : CpuidResult) → carriedTo bits true i r ≡ r
+  unfolding clearUnless
+  kept-at i r = go (eqb i Place.versionAndFeatures) (eqb i Place.extendedVersionAndFeatures)
+    where
+      go : (y z : Bool) → pick (y && true) (withoutBits true v r) (pick (z && true) (withoutBits true x r) r) ≡ r
+      go true z = refl
+      go false true = refl
+      go false false = refl
+
+  pub kept-same : (t : CpuidResults) → SameRows (carriedTable bits true t) t
+  kept-same t = record { present = λ i l. refl; registers = λ i l p. carried-there bits true t i l p ∙ kept-at i (rowIn t i .result); mask = refl }
+
+  -- a table is at least itself carried
+  pub carried-below : (b : Bool) (t : CpuidResults) → TableRises (carriedTable bits b t) t
+  carried-below b t =
+      table-rises-compose (carriedTable bits b t) (carriedTable bits true t) t (carried-mono b true t t (λ e. refl) (table-rises-itself t))
+      (same-both-ways (carriedTable bits true t) t (kept-same t) .0)
 
 -- ---- bit 2 of its own D.0.EAX
 
-pub ymm-carried : (b : Bool) (t : CpuidResults) → ownYmm (carriedTable b t) ≡ ownYmm t
-ymm-carried b t =
-    ap (λ (r : CpuidResult). has 2 (pick (rowIn t (Place.extendedState 0) .present) (r .eax) 0)) (carried-row b t (Place.extendedState 0) (lit< tt))
+pub ymm-carried : (bits : EditionBits) (b : Bool) (t : CpuidResults) → ownYmm (carriedTable bits b t) ≡ ownYmm t
+ymm-carried bits b t =
+    ap (λ (r : CpuidResult). has 2 (pick (rowIn t (Place.extendedState 0) .present) (r .eax) 0))
+    (carried-row bits b t (Place.extendedState 0) (lit< tt))
 
 none-of-zero : has 2 0 ≡ false
 unfolding has bit

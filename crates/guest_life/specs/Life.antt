@@ -35,7 +35,7 @@ use Rattle.guest.specs.GuestPages.{guestPages}
 use Rattle.guest_rise.specs.GuestRise.{compactsIn}
 use Rattle.images.specs.CarriedRows.{ownYmm}
 use Rattle.guest_life.specs.Sound.{Sound}
-use Rattle.guest_life.specs.CarriedOrder.{second}
+use Rattle.guest_life.specs.CarriedOrder.{latest}
 use Rattle.guest_life.specs.SaveAreas.{subleaf}
 
 -- ---- steps
@@ -101,7 +101,7 @@ LifeShows = (chosen : Choices) (s : List ℕ) (w : CpuidResults) → Life (answe
 -- a life that comes back: every table on the way, carried, has the rows of the first one carried; with bit 2 in D.0.EAX, uncarried too
 pub record ComesBack (t u : CpuidResults) : Type 0 where
   pub ymm : ownYmm t ≡ ownYmm u
-  pub carried : SameRows (second t) (second u)
+  pub carried : SameRows (latest t) (latest u)
   pub whole : ownYmm t ≡ true → SameRows t u
 
 abbrev pub LifeComesBack : Type 0

@@ -22,12 +22,14 @@ use Rattle.x86defs.specs.declared.CpuidResult.{CpuidResult}
 use Rattle.masking.specs.Kept.{places}
 use Rattle.masking.specs.Place
 use Rattle.table.specs.declared.CpuidResults.{CpuidResults}
+use Rattle.table.specs.declared.edition.EditionBits.{EditionBits}
 use Rattle.table.specs.declared.Subleaf.{Subleaf}
 use Rattle.table.specs.declared.Verdict.{Verdict}
 use Rattle.table.specs.declared.Verdict.the-variants.{Accepted}
+use Rattle.table.specs.Edition.{joinedFrom, bitsBetween, laterBits}
+use Rattle.table.specs.EditionLaws.{Inside, inside-itself, between-later}
 use Rattle.table.specs.Rows.{Row, row}
 use Rattle.table.specs.Table.{rowIn, rowsOfTable}
-use Rattle.finish.specs.Finish.{f16c, xopAndFma4}
 use Rattle.finish.specs.Kinds.{Kind, TableAtLeast, Registers, kindsAt}
 use Rattle.finish.specs.Kinds.Kind.{feature, featureBut28, area, freed, other}
 use Rattle.memory.specs.Memory.{rowsIn}
@@ -58,7 +60,7 @@ use Rattle.images.specs.CarriedLaws as CarriedLaws
 use Rattle.images.specs.CarriedRows.{ownYmm}
 use Rattle.guest_life.specs.Sound.{Sound, built-sound}
 use Rattle.guest_life.specs.StatesAgree.{StatesAgree, mask-agrees, save-agrees, compact-agrees, verdict-agrees}
-use Rattle.guest_life.specs.CarriedOrder.{second, carried-row, carried-there, carried-mono, carried-twice, kept-same, carried-below, ymm-carried, ymm-mono, keeps-ymm, version-feature, extended-feature}
+use Rattle.guest_life.specs.CarriedOrder.{latest, carried-row, carried-there, carried-mono, carried-twice, kept-same, carried-below, ymm-carried, ymm-mono, keeps-ymm, version-feature, extended-feature}
 use Rattle.guest_life.specs.SaveAreas.{SameAreas}
 use Rattle.guest_life.specs.SaveAreasProof.{accepted-of, in-mask, areas-same}
 use Rattle.guest_life.specs.Life.{Life, threeBits, lostBit, StillShown, RowShown, AskedShown, ViewLasts, LifeOutcome, LifeShows, KeptLifeShows, LifeComesBack, EndsSeeTheSame, LivesSeeTheSame}
@@ -68,31 +70,32 @@ use Rattle.guest_life.specs.Life.LifeOutcome.{given, tooLarge}
 -- ---- tables
 
 -- rises carry over
-second-mono : (t u : CpuidResults) → TableRises t u → TableRises (second t) (second u)
-second-mono t u r = carried-mono (ownYmm t) (ownYmm u) t u (ymm-mono t u r) r
+latest-mono : (t u : CpuidResults) → TableRises t u → TableRises (latest t) (latest u)
+latest-mono t u r = carried-mono laterBits (ownYmm t) (ownYmm u) t u (ymm-mono t u r) r
 
 -- a table that is carried, whether its bits are kept or not
-second-carried : (b : Bool) (t : CpuidResults) → (ownYmm t ≡ true → b ≡ true) → TableRises (second t) (second (carriedTable b t))
-second-carried true t f = second-mono t (carriedTable true t) (same-both-ways (carriedTable true t) t (kept-same t) .1)
-second-carried false t f = go (ownYmm t) refl
+latest-carried : (bits : EditionBits) → Inside bits laterBits → (b : Bool) (t : CpuidResults) → (ownYmm t ≡ true → b ≡ true)
+    → TableRises (latest t) (latest (carriedTable bits b t))
+latest-carried bits h true t f = latest-mono t (carriedTable bits true t) (same-both-ways (carriedTable bits true t) t (kept-same bits t) .1)
+latest-carried bits h false t f = go (ownYmm t) refl
   where
-    go : (y : Bool) → ownYmm t ≡ y → TableRises (carriedTable y t) (second (carriedTable false t))
+    go : (y : Bool) → ownYmm t ≡ y → TableRises (carriedTable laterBits y t) (latest (carriedTable bits false t))
     go true e = absurd (never-both (f e) refl)
-    go false e = carried-twice (ownYmm (carriedTable false t)) t
+    go false e = carried-twice bits h (ownYmm (carriedTable bits false t)) t
 
 -- along a life nothing is lost but what carrying the first table loses
-pub life-rises : {t w : CpuidResults} → Life t w → TableRises (second t) w
-life-rises {t} starts = carried-below (ownYmm t) t
+pub life-rises : {t w : CpuidResults} → Life t w → TableRises (latest t) w
+life-rises {t} starts = carried-below laterBits (ownYmm t) t
 life-rises {t} {w} (moves {u = u} e l) =
-    table-rises-compose (second t) (second u) w (second-mono t u (decides t u .yes e)) (life-rises l)
+    table-rises-compose (latest t) (latest u) w (latest-mono t u (decides t u .yes e)) (life-rises l)
 life-rises {t} {w} (carries from to xcr0 xss e l) =
     let u = carry t from to xcr0 xss .table in
-    table-rises-compose (second t) (second u) w
-    (subst (λ (x : CpuidResults). TableRises (second t) (second x)) (sym (CarriedLaws.given t from to xcr0 xss e))
-    (second-carried (keeps t from to) t (keeps-ymm t from to)))
+    table-rises-compose (latest t) (latest u) w
+    (subst (λ (x : CpuidResults). TableRises (latest t) (latest x)) (sym (CarriedLaws.given t from to xcr0 xss e))
+    (latest-carried (bitsBetween from to) (between-later from to) (keeps t from to) t (keeps-ymm t from to)))
     (life-rises l)
 
--- ---- the three bits
+-- ---- the bits of the editions
 
 module _ (m : ℕ) (named : ℕ → Bool) where
   abbrev clearTest : ℕ → Bool
@@ -105,13 +108,13 @@ module _ (m : ℕ) (named : ℕ → Bool) where
       let one : bit k (2 ^ 32 - 1 - m) ≡ 1 = eqb-true _ _ (every-at clearTest 32 t k l) ∙ ap (λ (b : Bool). pick b 0 1) n in
       omega (arith, bit-and k x (2 ^ 32 - 1 - m), bit-lt k x, one)
 
-version-kept : (y : Bool) (x k : ℕ) → k < 32 → lostBit y Place.versionAndFeatures k ≡ false → bit k x ≡ bit k (clearUnless y f16c x)
-unfolding f16c maskOf bit
-version-kept = bits-kept f16c (threeBits Place.versionAndFeatures) refl
+version-kept : (y : Bool) (x k : ℕ) → k < 32 → lostBit y Place.versionAndFeatures k ≡ false → bit k x ≡ bit k (clearUnless y (laterBits .«version_ecx») x)
+unfolding laterBits joinedFrom maskOf bit
+version-kept = bits-kept (laterBits .«version_ecx») (threeBits Place.versionAndFeatures) refl
 
-extended-kept : (y : Bool) (x k : ℕ) → k < 32 → lostBit y Place.extendedVersionAndFeatures k ≡ false → bit k x ≡ bit k (clearUnless y xopAndFma4 x)
-unfolding xopAndFma4 maskOf bit
-extended-kept = bits-kept xopAndFma4 (threeBits Place.extendedVersionAndFeatures) refl
+extended-kept : (y : Bool) (x k : ℕ) → k < 32 → lostBit y Place.extendedVersionAndFeatures k ≡ false → bit k x ≡ bit k (clearUnless y (laterBits .«extended_version_ecx») x)
+unfolding laterBits joinedFrom maskOf bit
+extended-kept = bits-kept (laterBits .«extended_version_ecx») (threeBits Place.extendedVersionAndFeatures) refl
 
 not-26 : (y : Bool) → lostBit y Place.versionAndFeatures 26 ≡ false
 not-26 true = refl
@@ -127,24 +130,24 @@ module _ (t : CpuidResults) (v : Processor) (p : Sound t) where
   G = guestTable t v
 
   abbrev C : CpuidResults
-  C = guestTable (second t) v
+  C = guestTable (latest t) v
 
-  second-elsewhere : (i : ℕ) → i < places → i ≢ Place.versionAndFeatures → i ≢ Place.extendedVersionAndFeatures
-      → rowIn (second t) i .result ≡ rowIn t i .result
-  second-elsewhere i l a b = carried-row y t i l ∙ rw (ne-eqb i Place.versionAndFeatures a, ne-eqb i Place.extendedVersionAndFeatures b)
+  latest-elsewhere : (i : ℕ) → i < places → i ≢ Place.versionAndFeatures → i ≢ Place.extendedVersionAndFeatures
+      → rowIn (latest t) i .result ≡ rowIn t i .result
+  latest-elsewhere i l a b = carried-row laterBits y t i l ∙ rw (ne-eqb i Place.versionAndFeatures a, ne-eqb i Place.extendedVersionAndFeatures b)
 
-  states-second : StatesAgree t (second t) (v .xcr0) (v .xss)
-  states-second = record {
-    xfem = ap (λ (r : CpuidResult). r .eax) (sym (carried-row y t (Place.extendedState 0) (lit< tt)));
-    eax = ap (λ (r : CpuidResult). r .eax) (sym (carried-row y t (Place.extendedState 1) (lit< tt)));
-    ecx = ap (λ (r : CpuidResult). r .ecx) (sym (carried-row y t (Place.extendedState 1) (lit< tt)));
-    components = λ k l h d. sym (second-elsewhere (Place.extendedState k) (omega arith) (λ e. omega arith) (λ e. omega arith));
+  states-latest : StatesAgree t (latest t) (v .xcr0) (v .xss)
+  states-latest = record {
+    xfem = ap (λ (r : CpuidResult). r .eax) (sym (carried-row laterBits y t (Place.extendedState 0) (lit< tt)));
+    eax = ap (λ (r : CpuidResult). r .eax) (sym (carried-row laterBits y t (Place.extendedState 1) (lit< tt)));
+    ecx = ap (λ (r : CpuidResult). r .ecx) (sym (carried-row laterBits y t (Place.extendedState 1) (lit< tt)));
+    components = λ k l h d. sym (latest-elsewhere (Place.extendedState k) (omega arith) (λ e. omega arith) (λ e. omega arith));
   }
 
-  supplied-second : Supplied (second t)
-  supplied-second = record {
+  supplied-latest : Supplied (latest t)
+  supplied-latest = record {
     required = p .supplied .required;
-    components = λ k l h e. p .supplied .components k l h (ap (has k) (mask-agrees t (second t) (v .xcr0) (v .xss) states-second) ∙ e);
+    components = λ k l h e. p .supplied .components k l h (ap (has k) (mask-agrees t (latest t) (v .xcr0) (v .xss) states-latest) ∙ e);
   }
 
   record Carried (i : ℕ) (r s : CpuidResult) : Type 0 where
@@ -159,12 +162,12 @@ module _ (t : CpuidResults) (v : Processor) (p : Sound t) where
   version-carried : Carried Place.versionAndFeatures (rowIn G Place.versionAndFeatures .result) (rowIn C Place.versionAndFeatures .result)
   unfolding has
   version-carried =
-      let c = carried-there y t Place.versionAndFeatures (lit< tt) there1 in
+      let c = carried-there laterBits y t Place.versionAndFeatures (lit< tt) there1 in
       let a : VersionSeen v (rowIn t Place.versionAndFeatures .result) (rowIn G Place.versionAndFeatures .result) = seen-exactly t v .version there1 in
-      let b : VersionSeen v (rowIn (second t) Place.versionAndFeatures .result) (rowIn C Place.versionAndFeatures .result) =
-      seen-exactly (second t) v .version there1 in
+      let b : VersionSeen v (rowIn (latest t) Place.versionAndFeatures .result) (rowIn C Place.versionAndFeatures .result) =
+      seen-exactly (latest t) v .version there1 in
       let g = seen-there t v Place.versionAndFeatures (lit< tt) there1 in
-      let h = seen-there (second t) v Place.versionAndFeatures (lit< tt) there1 in
+      let h = seen-there (latest t) v Place.versionAndFeatures (lit< tt) there1 in
       record {
         eax = a .eax ∙ sym (ap (λ (r : CpuidResult). r .eax) c) ∙ sym (b .eax);
         ebx =
@@ -175,18 +178,18 @@ module _ (t : CpuidResults) (v : Processor) (p : Sound t) where
         edx = a .edx ∙ sym (ap (λ (r : CpuidResult). r .edx) c) ∙ sym (b .edx);
       }
     where
-      same : rowIn (second t) Place.versionAndFeatures .result
-          ≡ withoutBits y f16c (rowIn t Place.versionAndFeatures .result)
+      same : rowIn (latest t) Place.versionAndFeatures .result
+          ≡ withoutBits y (laterBits .«version_ecx») (rowIn t Place.versionAndFeatures .result)
           → (k : ℕ) → k < 32 → lostBit y Place.versionAndFeatures k ≡ false
-          → bit k (rowIn t Place.versionAndFeatures .result .ecx) ≡ bit k (rowIn (second t) Place.versionAndFeatures .result .ecx)
+          → bit k (rowIn t Place.versionAndFeatures .result .ecx) ≡ bit k (rowIn (latest t) Place.versionAndFeatures .result .ecx)
       same c k l n =
           version-kept y (rowIn t Place.versionAndFeatures .result .ecx) k l n ∙ sym (ap (λ (r : CpuidResult). bit k (r .ecx)) c)
 
       go : (k : ℕ) → k < 32 → lostBit y Place.versionAndFeatures k ≡ false
           → ((j : ℕ) → j < 32 → lostBit y Place.versionAndFeatures j ≡ false
-          → bit j (rowIn t Place.versionAndFeatures .result .ecx) ≡ bit j (rowIn (second t) Place.versionAndFeatures .result .ecx))
+          → bit j (rowIn t Place.versionAndFeatures .result .ecx) ≡ bit j (rowIn (latest t) Place.versionAndFeatures .result .ecx))
           → OsxsaveBit (v .osxsave) (rowIn t Place.versionAndFeatures .result .ecx) (rowIn G Place.versionAndFeatures .result .ecx)
-          → OsxsaveBit (v .osxsave) (rowIn (second t) Place.versionAndFeatures .result .ecx) (rowIn C Place.versionAndFeatures .result .ecx)
+          → OsxsaveBit (v .osxsave) (rowIn (latest t) Place.versionAndFeatures .result .ecx) (rowIn C Place.versionAndFeatures .result .ecx)
           → (b : Bool) → eqb k 27 ≡ b
           → bit k (rowIn G Place.versionAndFeatures .result .ecx) ≡ bit k (rowIn C Place.versionAndFeatures .result .ecx)
       go k l n f a b true e =
@@ -209,18 +212,18 @@ module _ (t : CpuidResults) (v : Processor) (p : Sound t) where
   extended-carried : Carried Place.extendedVersionAndFeatures (rowIn G Place.extendedVersionAndFeatures .result)
       (rowIn C Place.extendedVersionAndFeatures .result)
   extended-carried =
-      let c = carried-there y t Place.extendedVersionAndFeatures (lit< tt) there71 in
-      rw (extended-seen t, extended-seen (second t), c)
+      let c = carried-there laterBits y t Place.extendedVersionAndFeatures (lit< tt) there71 in
+      rw (extended-seen t, extended-seen (latest t), c)
       (record { eax = refl; ebx = refl; bits = λ k l n. extended-kept y _ k l n; edx = refl })
 
   -- every other row is seen alike
   elsewhere-carried : (i : ℕ) → i < places → i ≢ Place.versionAndFeatures → i ≢ Place.extendedVersionAndFeatures → rowIn t i .present ≡ true
       → rowIn G i .result ≡ rowIn C i .result
   elsewhere-carried i l a b e =
-      let s = save-agrees t (second t) (v .xcr0) (v .xss) states-second in
-      let c = compact-agrees t (second t) (v .xcr0) (v .xss) states-second in
-      let r = sym (second-elsewhere i l a b) in
-      seen-there t v i l e ∙ (λ k. seenAt v (s k) (c k) i (row (r k))) ∙ sym (seen-there (second t) v i l e)
+      let s = save-agrees t (latest t) (v .xcr0) (v .xss) states-latest in
+      let c = compact-agrees t (latest t) (v .xcr0) (v .xss) states-latest in
+      let r = sym (latest-elsewhere i l a b) in
+      seen-there t v i l e ∙ (λ k. seenAt v (s k) (c k) i (row (r k))) ∙ sym (seen-there (latest t) v i l e)
 
   compacts-carried : compactsIn G ≡ compactsIn C
   compacts-carried =
@@ -347,18 +350,18 @@ guest-whole w v l e = rw (given-table w v (sym (answer-verdict w v) ∙ e)) l
 -- any table that is sound
 module _ (t w : CpuidResults) (life : Life t w) (v : Processor) (p : Sound t) (whole : length (w .present) ≤ places)
     (isGiven : stateVerdict (rowsOfTable t) (v .xcr0) (v .xss) ≡ Accepted) where
-  givenC : stateVerdict (rowsOfTable (second t)) (v .xcr0) (v .xss) ≡ Accepted
-  givenC = sym (verdict-agrees t (second t) (v .xcr0) (v .xss) (states-second t v p)) ∙ isGiven
+  givenC : stateVerdict (rowsOfTable (latest t)) (v .xcr0) (v .xss) ≡ Accepted
+  givenC = sym (verdict-agrees t (latest t) (v .xcr0) (v .xss) (states-latest t v p)) ∙ isGiven
 
   pub life-outcome : LifeOutcome (lostBit (ownYmm t)) (guestTable t v) (guestAnswer w v)
   life-outcome =
-      go (table-outcome (second t) w v (life-rises life) (supplied-second t v p) (given-allowed (rowsOfTable (second t)) (v .xcr0) (v .xss) givenC) givenC)
+      go (table-outcome (latest t) w v (life-rises life) (supplied-latest t v p) (given-allowed (rowsOfTable (latest t)) (v .xcr0) (v .xss) givenC) givenC)
     where
-      go : GuestOutcome (guestAnswer (second t) v .table) (guestAnswer w v) → LifeOutcome (lostBit (ownYmm t)) (guestTable t v) (guestAnswer w v)
+      go : GuestOutcome (guestAnswer (latest t) v .table) (guestAnswer w v) → LifeOutcome (lostBit (ownYmm t)) (guestTable t v) (guestAnswer w v)
       go (risen e r) =
           given e (view-lasts t v p (guestAnswer w v .table) (guest-whole w v whole e)
-          (subst (λ (c : CpuidResults). GuestTableRises c (guestAnswer w v .table)) (given-table (second t) v givenC) r))
-      go (notGiven c e) = tooLarge (compacts-carried t v p ∙ sym (ap compactsIn (given-table (second t) v givenC)) ∙ c) e
+          (subst (λ (c : CpuidResults). GuestTableRises c (guestAnswer w v .table)) (given-table (latest t) v givenC) r))
+      go (notGiven c e) = tooLarge (compacts-carried t v p ∙ sym (ap compactsIn (given-table (latest t) v givenC)) ∙ c) e
 
 pub life-shows : LifeShows
 life-shows chosen s w life whole v g =
@@ -391,30 +394,30 @@ same-sym t u a = record {
 }
 
 -- a life carried is a life of tables carried
-life-second : {t u : CpuidResults} → Life t u → TableRises (second t) (second u)
-life-second {t} {u} l =
-    table-rises-compose (second t) (second (second t)) (second u) (second-carried (ownYmm t) t (λ e. e)) (second-mono (second t) u (life-rises l))
+life-latest : {t u : CpuidResults} → Life t u → TableRises (latest t) (latest u)
+life-latest {t} {u} l =
+    table-rises-compose (latest t) (latest (latest t)) (latest u) (latest-carried laterBits (inside-itself laterBits) (ownYmm t) t (λ e. e)) (latest-mono (latest t) u (life-rises l))
 
 life-ymm : {t u : CpuidResults} → Life t u → ownYmm t ≡ true → ownYmm u ≡ true
-life-ymm {t} {u} l e = ymm-mono (second t) u (life-rises l) (ymm-carried (ownYmm t) t ∙ e)
+life-ymm {t} {u} l e = ymm-mono (latest t) u (life-rises l) (ymm-carried laterBits (ownYmm t) t ∙ e)
 
 both : (a b : Bool) → (a ≡ true → b ≡ true) → (b ≡ true → a ≡ true) → a ≡ b
 both true b f g = sym (f refl)
 both false true f g = g refl
 both false false f g = refl
 
-kept-whole : (t : CpuidResults) → ownYmm t ≡ true → SameRows (second t) t
-kept-whole t e = subst (λ (b : Bool). SameRows (carriedTable b t) t) (sym e) (kept-same t)
+kept-whole : (t : CpuidResults) → ownYmm t ≡ true → SameRows (latest t) t
+kept-whole t e = subst (λ (b : Bool). SameRows (carriedTable laterBits b t) t) (sym e) (kept-same laterBits t)
 
 pub life-comes-back : LifeComesBack
 life-comes-back t u out back =
-    let same : SameRows (second t) (second u) = both-ways-same (second t) (second u) (life-second out) (life-second back) in
+    let same : SameRows (latest t) (latest u) = both-ways-same (latest t) (latest u) (life-latest out) (life-latest back) in
     record {
       ymm = both (ownYmm t) (ownYmm u) (life-ymm out) (life-ymm back);
       carried = same;
       whole = λ e.
-          same-trans t (second t) u (same-sym (second t) t (kept-whole t e))
-          (same-trans (second t) (second u) u same (kept-whole u (life-ymm out e)));
+          same-trans t (latest t) u (same-sym (latest t) t (kept-whole t e))
+          (same-trans (latest t) (latest u) u same (kept-whole u (life-ymm out e)));
     }
 
 -- ---- lives that end where they began

@@ -18,6 +18,8 @@ use Rattle.x86defs.specs.Functions.{result}
 use Rattle.masking.specs.Kept.{places}
 use Rattle.masking.specs.Place
 use Rattle.table.specs.declared.CpuidResults.{CpuidResults}
+use Rattle.table.specs.declared.edition.EditionBits.{EditionBits}
+use Rattle.table.specs.Edition.{bitsBetween}
 use Rattle.table.specs.Rows.{Row}
 use Rattle.table.specs.Table.{rowIn}
 use Rattle.buffer.specs.Front.{writeFront}
@@ -36,60 +38,61 @@ use Rattle.images.specs.Carried.{CarryKeeps, CarriesInPlace}
 -- ---- within one edition
 
 -- bits that are kept change nothing
-kept-at : (i : ℕ) (r : Row) → carriedAt true i r ≡ r .result
+kept-at : (bits : EditionBits) (i : ℕ) (r : Row) → carriedAt bits true i r ≡ r .result
 unfolding clearUnless
-kept-at i r = go (eqb i Place.versionAndFeatures && r .present) (eqb i Place.extendedVersionAndFeatures && r .present)
+kept-at bits i r = go (eqb i Place.versionAndFeatures && r .present) (eqb i Place.extendedVersionAndFeatures && r .present)
   where
     go : (a b : Bool) → pick a (r .result) (pick b (r .result) (r .result)) ≡ r .result
     go true b = refl
     go false true = refl
     go false false = refl
 
-kept-table : (t : CpuidResults) → length (t .results) ≡ places → carriedTable true t ≡ t
-kept-table t n =
-    let e : t .results ≡ tabulate places (λ i. carriedAt true i (rowIn t i)) =
-    tabulated places _ (t .results) (result 0 0 0 0) n (λ i h. sym (kept-at i (rowIn t i))) in
+kept-table : (bits : EditionBits) (t : CpuidResults) → length (t .results) ≡ places → carriedTable bits true t ≡ t
+kept-table bits t n =
+    let e : t .results ≡ tabulate places (λ i. carriedAt bits true i (rowIn t i)) =
+    tabulated places _ (t .results) (result 0 0 0 0) n (λ i h. sym (kept-at bits i (rowIn t i))) in
     λ k. record { present = t .present; results = sym e k; «row_count» = t .«row_count»; «max_extended_state» = t .«max_extended_state» }
 
 -- ---- two rows alone
 
-other-at : (keep : Bool) (i : ℕ) (r : Row) → (i ≡ Place.versionAndFeatures → ⊥) → (i ≡ Place.extendedVersionAndFeatures → ⊥)
-    → carriedAt keep i r ≡ r .result
-other-at keep i r p q = rw (ne-eqb i Place.versionAndFeatures p, ne-eqb i Place.extendedVersionAndFeatures q)
+other-at : (bits : EditionBits) (keep : Bool) (i : ℕ) (r : Row) → (i ≡ Place.versionAndFeatures → ⊥) → (i ≡ Place.extendedVersionAndFeatures → ⊥)
+    → carriedAt bits keep i r ≡ r .result
+other-at bits keep i r p q = rw (ne-eqb i Place.versionAndFeatures p, ne-eqb i Place.extendedVersionAndFeatures q)
 
-module _ (keep : Bool) (t : CpuidResults) where
+module _ (bits : EditionBits) (keep : Bool) (t : CpuidResults) where
   other-row : (i : ℕ) → i < places → (i ≡ Place.versionAndFeatures → ⊥) → (i ≡ Place.extendedVersionAndFeatures → ⊥)
-      → rowIn (carriedTable keep t) i ≡ rowIn t i
+      → rowIn (carriedTable bits keep t) i ≡ rowIn t i
   other-row i h p q = λ k. record {
     present = rowIn t i .present;
-    result = (getD-tabulate places (λ j. carriedAt keep j (rowIn t j)) i (result 0 0 0 0) h ∙ other-at keep i (rowIn t i) p q) k;
+    result = (getD-tabulate places (λ j. carriedAt bits keep j (rowIn t j)) i (result 0 0 0 0) h ∙ other-at bits keep i (rowIn t i) p q) k;
   }
 
-  state-row : (k : ℕ) → k < 64 → rowIn (carriedTable keep t) (Place.extendedState k) .result ≡ rowIn t (Place.extendedState k) .result
+  state-row : (k : ℕ) → k < 64 → rowIn (carriedTable bits keep t) (Place.extendedState k) .result ≡ rowIn t (Place.extendedState k) .result
   state-row k h = ap (λ (r : Row). r .result) (other-row (Place.extendedState k) (omega arith) (λ e. omega arith) (λ e. omega arith))
 
-  same-length : length (image (carriedTable keep t)) ≡ length (image t)
-  same-length = image-length (carriedTable keep t) ∙ sym (image-length t)
+  same-length : length (image (carriedTable bits keep t)) ≡ length (image t)
+  same-length = image-length (carriedTable bits keep t) ∙ sym (image-length t)
 
 -- ---- the table that is given
 
 module _ (t : CpuidResults) (from to xcr0 xss : ℕ) (e : carry t from to xcr0 xss .verdict ≡ Accepted) where
-  pub given : carry t from to xcr0 xss .table ≡ carriedTable (keeps t from to) t
+  pub given : carry t from to xcr0 xss .table ≡ carriedTable (bitsBetween from to) (keeps t from to) t
   unfolding carry
-  given = ap (λ (v : Verdict). carriedGiven v (carriedTable (keeps t from to) t)) e
+  given = ap (λ (v : Verdict). carriedGiven v (carriedTable (bitsBetween from to) (keeps t from to) t)) e
 
 pub carry-keeps : CarryKeeps
 carry-keeps t from to xcr0 xss n e =
+    let bits : EditionBits = bitsBetween from to in
     let keep : Bool = keeps t from to in
     rw (given t from to xcr0 xss e)
     (record {
       present = refl;
       count = refl;
       mask = refl;
-      others = other-row keep t;
-      save = save-of-state _ _ (state-row keep t) xcr0 xss;
-      compact = compact-of-state _ _ (state-row keep t) xcr0 xss;
-      same = λ q. ap (λ (b : Bool). carriedTable b t) (kept-within t from to q) ∙ kept-table t n;
+      others = other-row bits keep t;
+      save = save-of-state _ _ (state-row bits keep t) xcr0 xss;
+      compact = compact-of-state _ _ (state-row bits keep t) xcr0 xss;
+      same = λ q. ap (λ (b : Bool). carriedTable bits b t) (kept-within t from to q) ∙ kept-table bits t n;
     })
 
 -- ---- in place
@@ -111,7 +114,7 @@ carries-in-place s from to xcr0 xss bytes f e =
     let u : CpuidResults = carry t from to xcr0 xss .table in
     let n : length (image u) ≡ length s =
     ap (λ (w : CpuidResults). length (image w)) (given t from to xcr0 xss e)
-    ∙ same-length (keeps t from to) t
+    ∙ same-length (bitsBetween from to) (keeps t from to) t
     ∙ ap length (read-has-image s bytes f) in
     let b : carryImage s from to xcr0 xss .buffer ≡ image u = bytes-given s from to xcr0 xss f e ∙ written-over (image u) s n in
     (b, ap length b ∙ n)

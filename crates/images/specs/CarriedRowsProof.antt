@@ -21,10 +21,10 @@ use Rattle.masking.specs.Place
 use Rattle.table.specs.declared.CpuidResults.{CpuidResults}
 use Rattle.table.specs.declared.Verdict.{Verdict}
 use Rattle.table.specs.declared.Verdict.the-variants.{Accepted, Refused}
+use Rattle.table.specs.Edition.{joinedFrom, bitsBetween}
 use Rattle.table.specs.Rows.{Row}
 use Rattle.table.specs.Table.{tableOf, emptyTable, rowIn}
 use Rattle.checks.specs.ExtendedState.{xfem, combinedMask}
-use Rattle.finish.specs.Finish.{f16c, xopAndFma4}
 use Rattle.image.specs.Image.{image}
 use Rattle.image_read.specs.ReadImage.{rowsRead, isImage, readImage}
 use Rattle.image_read.specs.WrittenAgain.{read-has-image}
@@ -54,13 +54,13 @@ module _ (m : ℕ) (named : ℕ → Bool) where
       go k y true e f = omega arith
       go k y false e f = omega (arith, bit-lt k x)
 
-version-gone : (keep : Bool) (x : ℕ) → BitsGone keep ofVersion x (clearUnless keep f16c x)
-unfolding f16c maskOf bit
-version-gone = bits-gone f16c ofVersion refl
+version-gone : (keep : Bool) (x : ℕ) → BitsGone keep ofVersion x (clearUnless keep (bitsBetween 1 2 .«version_ecx») x)
+unfolding bitsBetween joinedFrom maskOf bit
+version-gone = bits-gone (bitsBetween 1 2 .«version_ecx») ofVersion refl
 
-extended-gone : (keep : Bool) (x : ℕ) → BitsGone keep ofExtended x (clearUnless keep xopAndFma4 x)
-unfolding xopAndFma4 maskOf bit
-extended-gone = bits-gone xopAndFma4 ofExtended refl
+extended-gone : (keep : Bool) (x : ℕ) → BitsGone keep ofExtended x (clearUnless keep (bitsBetween 1 2 .«extended_version_ecx») x)
+unfolding bitsBetween joinedFrom maskOf bit
+extended-gone = bits-gone (bitsBetween 1 2 .«extended_version_ecx») ofExtended refl
 
 -- ---- rows
 
@@ -75,42 +75,42 @@ own-keeps t = go (rowIn t (Place.extendedState 0) .present)
     go false = refl
 
 module _ (keep : Bool) (t : CpuidResults) where
-  carried-at : (i : ℕ) → i < places → rowIn (carriedTable keep t) i .result ≡ carriedAt keep i (rowIn t i)
-  carried-at i l = getD-tabulate places (λ j. carriedAt keep j (rowIn t j)) i (result 0 0 0 0) l
+  carried-at : (i : ℕ) → i < places → rowIn (carriedTable (bitsBetween 1 2) keep t) i .result ≡ carriedAt (bitsBetween 1 2) keep i (rowIn t i)
+  carried-at i l = getD-tabulate places (λ j. carriedAt (bitsBetween 1 2) keep j (rowIn t j)) i (result 0 0 0 0) l
 
-  absent-at : (i : ℕ) (r : Row) → r .present ≡ false → carriedAt keep i r ≡ r .result
+  absent-at : (i : ℕ) (r : Row) → r .present ≡ false → carriedAt (bitsBetween 1 2) keep i r ≡ r .result
   absent-at i r e = rw (e, none (eqb i Place.versionAndFeatures), none (eqb i Place.extendedVersionAndFeatures))
     where
       none : (b : Bool) → (b && false) ≡ false
       none true = refl
       none false = refl
 
-  absent-row : (i : ℕ) → i < places → rowIn t i .present ≡ false → rowIn (carriedTable keep t) i ≡ rowIn t i
+  absent-row : (i : ℕ) → i < places → rowIn t i .present ≡ false → rowIn (carriedTable (bitsBetween 1 2) keep t) i ≡ rowIn t i
   absent-row i l e = λ k. record { present = rowIn t i .present; result = (carried-at i l ∙ absent-at i (rowIn t i) e) k }
 
-  other-at : (i : ℕ) (r : Row) → i ≢ Place.versionAndFeatures → i ≢ Place.extendedVersionAndFeatures → carriedAt keep i r ≡ r .result
+  other-at : (i : ℕ) (r : Row) → i ≢ Place.versionAndFeatures → i ≢ Place.extendedVersionAndFeatures → carriedAt (bitsBetween 1 2) keep i r ≡ r .result
   other-at i r p q = rw (ne-eqb i Place.versionAndFeatures p, ne-eqb i Place.extendedVersionAndFeatures q)
 
-  other-row : (i : ℕ) → i < places → i ≢ Place.versionAndFeatures → i ≢ Place.extendedVersionAndFeatures → rowIn (carriedTable keep t) i ≡ rowIn t i
+  other-row : (i : ℕ) → i < places → i ≢ Place.versionAndFeatures → i ≢ Place.extendedVersionAndFeatures → rowIn (carriedTable (bitsBetween 1 2) keep t) i ≡ rowIn t i
   other-row i l p q = λ k. record {
     present = rowIn t i .present;
     result = (carried-at i l ∙ other-at i (rowIn t i) p q) k;
   }
 
   version-row : rowIn t Place.versionAndFeatures .present ≡ true
-      → RowGone keep ofVersion (rowIn t Place.versionAndFeatures .result) (rowIn (carriedTable keep t) Place.versionAndFeatures .result)
+      → RowGone keep ofVersion (rowIn t Place.versionAndFeatures .result) (rowIn (carriedTable (bitsBetween 1 2) keep t) Place.versionAndFeatures .result)
   version-row e = rw (carried-at Place.versionAndFeatures (lit< tt), e) (record { eax = refl; ebx = refl; ecx = version-gone keep _; edx = refl })
 
   extended-row : rowIn t Place.extendedVersionAndFeatures .present ≡ true
       → RowGone keep ofExtended (rowIn t Place.extendedVersionAndFeatures .result)
-      (rowIn (carriedTable keep t) Place.extendedVersionAndFeatures .result)
+      (rowIn (carriedTable (bitsBetween 1 2) keep t) Place.extendedVersionAndFeatures .result)
   extended-row e =
       rw (carried-at Place.extendedVersionAndFeatures (lit< tt), e) (record { eax = refl; ebx = refl; ecx = extended-gone keep _; edx = refl })
 
 pub carries-rows : CarriesRows
 carries-rows t xcr0 xss e =
-    let g : carry t 1 2 xcr0 xss .table ≡ carriedTable (ownYmm t) t =
-    given t 1 2 xcr0 xss e ∙ ap (λ (b : Bool). carriedTable b t) (own-keeps t) in
+    let g : carry t 1 2 xcr0 xss .table ≡ carriedTable (bitsBetween 1 2) (ownYmm t) t =
+    given t 1 2 xcr0 xss e ∙ ap (λ (b : Bool). carriedTable (bitsBetween 1 2) b t) (own-keeps t) in
     rw g
     (record {
       present = refl;

@@ -2,9 +2,10 @@
 -- table's own rows." Each is given if and only if its condition holds and no earlier one does.
 use mathlib.Core.Path.{_≡_}
 use mathlib.Core.Logic.{_↔_, _⊎_}
-use Prim.Native.Nat.{ℕ}
+use Prim.Native.Nat.{ℕ, _≤_, _<_}
 use Rattle.table.specs.declared.CpuidResults.{CpuidResults}
 use Rattle.table.specs.declared.Refusal.the-variants.{StateBeyondTable, CompactSizeTooLarge}
+use Rattle.table.specs.Edition.{editions}
 use Rattle.table.specs.Table.{emptyTable}
 use Rattle.refusals.specs.Conditions.{EditionFault}
 use Rattle.guest_rise.specs.StateExactly.{Allowed, SizeFault}
@@ -18,13 +19,17 @@ use Rattle.carry.specs.Carry.{ownRows, carry}
 abbrev pub EitherFault : ℕ → ℕ → Type 0
 EitherFault from to = EditionFault from ⊎ EditionFault to
 
--- neither 15 nor 16: from 1 or 2 to the same or the later one
+-- 16: both are editions, and the one wanted is the earlier one
+abbrev pub Back : ℕ → ℕ → Type 0
+Back from to = (1 ≤ to) × (to < from) × (from ≤ editions)
+
+-- neither 15 nor 16: from an edition to the same or a later one
 abbrev pub Forward : ℕ → ℕ → Type 0
-Forward from to = ((from ≡ 1) × (to ≡ 1)) ⊎ (((from ≡ 1) × (to ≡ 2)) ⊎ ((from ≡ 2) × (to ≡ 2)))
+Forward from to = (1 ≤ from) × (from ≤ to) × (to ≤ editions)
 
 pub record CarryExactly (t : CpuidResults) (from to xcr0 xss : ℕ) : Type 0 where
   pub unknown : (carry t from to xcr0 xss .verdict ≡ Refused UnknownEdition) ↔ EitherFault from to
-  pub back : (carry t from to xcr0 xss .verdict ≡ Refused EditionBack) ↔ ((from ≡ 2) × (to ≡ 1))
+  pub back : (carry t from to xcr0 xss .verdict ≡ Refused EditionBack) ↔ Back from to
   pub beyond : (carry t from to xcr0 xss .verdict ≡ Refused StateBeyondTable) ↔ (Forward from to × (Allowed (ownRows t) xcr0 xss → ⊥))
   pub large : (carry t from to xcr0 xss .verdict ≡ Refused CompactSizeTooLarge)
       ↔ (Forward from to × Allowed (ownRows t) xcr0 xss × SizeFault (ownRows t) xcr0 xss)

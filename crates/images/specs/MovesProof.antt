@@ -19,10 +19,9 @@ use Rattle.table.specs.declared.Choices.{Choices}
 use Rattle.table.specs.declared.CpuidResults.{CpuidResults}
 use Rattle.table.specs.declared.Verdict.the-variants.{Accepted}
 use Rattle.table.specs.Rows.{Row, vacant}
-use Rattle.table.specs.Edition.{knownEdition}
+use Rattle.table.specs.Edition.{f16c, xopAndFma4, knownEdition, joinedFrom, bitsBetween}
 use Rattle.table.specs.Table.{rowIn, rowsOfTable}
 use Rattle.checks.specs.ExtendedState.{xfem}
-use Rattle.finish.specs.Finish.{f16c, xopAndFma4}
 use Rattle.build.specs.Build.{answer}
 use Rattle.guest_state.specs.State.{stateVerdict}
 use Rattle.guest_state.specs.StateLaws.{save-of-state, compact-of-state, verdict-of-state}
@@ -84,7 +83,8 @@ cleared-row keep m r absent = go (r .present) refl
 module _ (t : CpuidResults) (p : Plain t) (keep : Bool) where
   -- the same bits at the same places
   second-at : (i : ℕ) (r : Row) → (r .present ≡ false → r ≡ vacant)
-      → record { present = r .present; result = carriedAt keep i r } ≡ Second.secondRow keep i r
+      → record { present = r .present; result = carriedAt (bitsBetween 1 2) keep i r } ≡ Second.secondRow keep i r
+  unfolding bitsBetween joinedFrom
   second-at i r absent = go (eqb i Place.versionAndFeatures) (eqb i Place.extendedVersionAndFeatures)
     where
       second : Bool → CpuidResult
@@ -97,9 +97,9 @@ module _ (t : CpuidResults) (p : Plain t) (keep : Bool) where
       go false true = cleared-row keep xopAndFma4 r absent
       go false false = refl
 
-  carried-row : (i : ℕ) → i < places → rowIn (carriedTable keep t) i ≡ Second.secondRow keep i (rowIn t i)
+  carried-row : (i : ℕ) → i < places → rowIn (carriedTable (bitsBetween 1 2) keep t) i ≡ Second.secondRow keep i (rowIn t i)
   carried-row i h =
-      (λ k. record { present = rowIn t i .present; result = getD-tabulate places (λ j. carriedAt keep j (rowIn t j)) i (result 0 0 0 0) h k })
+      (λ k. record { present = rowIn t i .present; result = getD-tabulate places (λ j. carriedAt (bitsBetween 1 2) keep j (rowIn t j)) i (result 0 0 0 0) h k })
       ∙ second-at i (rowIn t i) (p .absent i h)
 
 -- ---- tables by their rows
@@ -137,9 +137,9 @@ module _ (chosen : Choices) (s : List ℕ) (e : answer (withEdition chosen 1) s 
   accepted : answer (withEdition chosen 2) s .verdict ≡ Accepted
   accepted = second-edition chosen s .verdict ∙ e
 
-  carried-second : carriedTable (Second.hasYmmState a) a ≡ b
+  carried-second : carriedTable (bitsBetween 1 2) (Second.hasYmmState a) a ≡ b
   carried-second =
-      same-table (carriedTable (Second.hasYmmState a) a) b
+      same-table (carriedTable (bitsBetween 1 2) (Second.hasYmmState a) a) b
       (present-places 1 e ∙ sym (present-places 2 accepted))
       (length-tabulate places _ ∙ sym (results-places 2 accepted))
       (present-places 1 e)
@@ -164,8 +164,8 @@ module _ (chosen : Choices) (s : List ℕ) (e : answer (withEdition chosen 1) s 
     moved-table : carry a 1 2 xcr0 xss .verdict ≡ Accepted → carry a 1 2 xcr0 xss .table ≡ b
     unfolding carry
     moved-table f =
-        ap (λ (v : Verdict). carriedGiven v (carriedTable (keeps a 1 2) a)) f
-        ∙ ap (λ (keep : Bool). carriedTable keep a) (keeps-ymm a plain)
+        ap (λ (v : Verdict). carriedGiven v (carriedTable (bitsBetween 1 2) (keeps a 1 2) a)) f
+        ∙ ap (λ (keep : Bool). carriedTable (bitsBetween 1 2) keep a) (keeps-ymm a plain)
         ∙ carried-second
 
     moved-answer : carryImage (image a) 1 2 xcr0 xss .answer ≡ Image (carry a 1 2 xcr0 xss .verdict)

@@ -41,9 +41,9 @@ unfolding image imageIn tabulate slot keptLeaves
 image-told t = ap (λ (o : List ℕ). imageIn o t) row-order
 
 -- the paper's rows have the leaves and subleaves of the places
-lines-told : (second avic : Bool) (e : ℕ → Subleaf → CpuidResult) (x : ℕ) → told (rowIn (tableWith x (lines second avic e))) ≡ lines second avic e
+lines-told : (n : ℕ) (avic : Bool) (e : ℕ → Subleaf → CpuidResult) (x : ℕ) → told (rowIn (tableWith x (lines n avic e))) ≡ lines n avic e
 unfolding tabulate slot keptLeaves
-lines-told second avic e x = refl
+lines-told n avic e x = refl
 
 -- the number of each refusal and what it names
 pub carried-same : (r : Refusal) → details r ≡ carried r
@@ -83,7 +83,7 @@ refusal-bytes r bytes =
 
 module _ (chosen : Choices) (s : List ℕ) where
   pub rows-by-figures : answer chosen s .verdict ≡ Accepted → told (rowIn (answer chosen s .table)) ≡ linesOf chosen s
-  rows-by-figures e = ap (λ (t : CpuidResults). told (rowIn t)) (table-by-figures chosen s e) ∙ lines-told (eqb (chosen .edition) 2) (chosen .«secure_avic») (entryOf s) (combinedOf chosen s)
+  rows-by-figures e = ap (λ (t : CpuidResults). told (rowIn t)) (table-by-figures chosen s e) ∙ lines-told (chosen .edition) (chosen .«secure_avic») (entryOf s) (combinedOf chosen s)
 
   pub image-by-figures : answer chosen s .verdict ≡ Accepted → image (answer chosen s .table) ≡ written (linesOf chosen s)
   image-by-figures e = image-told (answer chosen s .table) ∙ ap written (rows-by-figures e)

@@ -166,6 +166,14 @@ madeHere maximum = result maximum 0x68747541 0x444D4163 0x69746E65
 abbrev unless : Bool → ℕ → ℕ → ℕ
 unless keep c x = pick keep x (bitAnd x (0xFFFFFFFF - c))
 
+-- Document 02, P7: "Edition 2 also clears 1.ECX bit 29 and 80000001h.ECX bits 11 (XOP) and 16 (FMA4) when XFEM lacks bit 2." What edition n clears then
+-- of 1.ECX and of 80000001h.ECX:
+abbrev pub versionClears : ℕ → ℕ
+versionClears n = pick (eqb n 2) (0x10001000 + 2 ^ 29) 0x10001000
+
+abbrev pub extendedClears : ℕ → ℕ
+extendedClears n = pick (eqb n 2) (2 ^ 11 + 2 ^ 16) 0
+
 -- m has the first entries as masked, by leaf and subleaf
 module _ (m : ℕ → Subleaf → CpuidResult) where
   -- "D.0.EAX gets bits 0 and 1 set after masking. XFEM is then D.0.EAX."
@@ -217,12 +225,11 @@ module _ (m : ℕ → Subleaf → CpuidResult) where
   abbrev tscAux : Bool
   tscAux = has 9 (m 0x8000001F None .eax)
 
-  -- "1.ECX bit 31 is set." Document 02, P7, where `second` says that the edition is 2: "Edition 2 also clears 1.ECX bit 29 and 80000001h.ECX bits 11
-  -- (XOP) and 16 (FMA4) when XFEM lacks bit 2."
-  abbrev row1 : Bool → CpuidResult
-  row1 second =
+  -- "1.ECX bit 31 is set." Here and in row 80000001h, n is the edition.
+  abbrev row1 : ℕ → CpuidResult
+  row1 n =
       result (m 0x1 None .eax) (m 0x1 None .ebx)
-      (bitOr (unless ymm (pick second (0x10001000 + 2 ^ 29) 0x10001000) (m 0x1 None .ecx)) (2 ^ 31))
+      (bitOr (unless ymm (versionClears n) (m 0x1 None .ecx)) (2 ^ 31))
       (m 0x1 None .edx)
 
   abbrev row7 : CpuidResult
@@ -232,10 +239,10 @@ module _ (m : ℕ → Subleaf → CpuidResult) where
       (unless tscAux (2 ^ 22) (unless avx512 0x5842 (unless ymm 0x700 (unless cet (2 ^ 7) (m 0x7 (Some 0) .ecx)))))
       (unless avx512 0x800100 (m 0x7 (Some 0) .edx))
 
-  abbrev row80000001 : Bool → CpuidResult
-  row80000001 second =
+  abbrev row80000001 : ℕ → CpuidResult
+  row80000001 n =
       result (m 0x80000001 None .eax) (m 0x80000001 None .ebx)
-      (unless ymm (pick second (2 ^ 11 + 2 ^ 16) 0) (m 0x80000001 None .ecx))
+      (unless ymm (extendedClears n) (m 0x80000001 None .ecx))
       (unless tscAux (2 ^ 27) (m 0x80000001 None .edx))
 
   -- "80000008h.EBX: bit 29 (BTC_NO) is set; without bit 12 (IBPB), bits 14 and 15 are cleared."
@@ -339,11 +346,11 @@ abbrev line : ℕ → Subleaf → CpuidResult → Line
 line l k r = record { leaf = l; subleaf = k; row = row r }
 
 -- the rows by rising leaf and subleaf, as document 02's P1 wants them; v is the number of processors, `there` says which of D.2 to D.63 stay
-module _ (second : Bool) (m : ℕ → Subleaf → CpuidResult) where
+module _ (n : ℕ) (m : ℕ → Subleaf → CpuidResult) where
   abbrev pub linesWith : ℕ → (ℕ → Bool) → List Line
   linesWith v there =
       line 0x0 None (madeHere 0xD)
-      ∷ line 0x1 None (row1 m second)
+      ∷ line 0x1 None (row1 m n)
       ∷ line 0x5 None (m 0x5 None)
       ∷ line 0x7 (Some 0) (row7 m)
       ∷ line 0xB (Some 0) (levelB0 (given m))
@@ -352,7 +359,7 @@ module _ (second : Bool) (m : ℕ → Subleaf → CpuidResult) where
       ∷ line 0xD (Some 1) (rowD1 m)
       ∷ tabulate 62 (λ j. record { leaf = 0xD; subleaf = Some (2 + j); row = pick (there (2 + j)) (row (m 0xD (Some (2 + j)))) vacant })
       ++ line 0x80000000 None (madeHere 0x8000001F)
-      ∷ line 0x80000001 None (row80000001 m second)
+      ∷ line 0x80000001 None (row80000001 m n)
       ∷ line 0x80000002 None (m 0x80000002 None)
       ∷ line 0x80000003 None (m 0x80000003 None)
       ∷ line 0x80000004 None (m 0x80000004 None)
@@ -372,15 +379,15 @@ module _ (second : Bool) (m : ℕ → Subleaf → CpuidResult) where
       ∷ []
 
 -- of the first counted entries e
-abbrev pub lines : Bool → Bool → (ℕ → Subleaf → CpuidResult) → List Line
-lines second avic e = linesWith second (masked avic e) (processors (given (masked avic e))) (stays (masked avic e))
+abbrev pub lines : ℕ → Bool → (ℕ → Subleaf → CpuidResult) → List Line
+lines n avic e = linesWith n (masked avic e) (processors (given (masked avic e))) (stays (masked avic e))
 
 -- of page bytes, under what the caller chooses: the first entries, the rows and the combined mask
 abbrev pub entryOf : List ℕ → ℕ → Subleaf → CpuidResult
 entryOf s l k = first (counted s) l k .result
 
 abbrev pub linesOf : Choices → List ℕ → List Line
-linesOf chosen s = lines (eqb (chosen .edition) 2) (chosen .«secure_avic») (entryOf s)
+linesOf chosen s = lines (chosen .edition) (chosen .«secure_avic») (entryOf s)
 
 abbrev pub combinedOf : Choices → List ℕ → ℕ
 combinedOf chosen s = combined (masked (chosen .«secure_avic») (entryOf s))
@@ -504,7 +511,7 @@ firstUnclean s (e ∷ es) = pick (clean s e) (firstUnclean s es) (Refused (Reser
 -- above 64"; 17; 3 to 8
 abbrev pub verdict : Choices → List ℕ → Verdict
 verdict chosen s =
-    givenUnless (eqb (chosen .edition) 1 || eqb (chosen .edition) 2) UnknownEdition
+    givenUnless (leb 1 (chosen .edition) && leb (chosen .edition) 2) UnknownEdition
     then (givenUnless (lengthLawful s) PagesLength
     then (givenUnless (countsLawful s) PageCount
     then (firstUnclean s (readEntries s)

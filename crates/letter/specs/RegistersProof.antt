@@ -34,20 +34,20 @@ unfolding tabulate slot keptLeaves Masks.versionAndFeatures Masks.extendedFeatur
 masks-same true = refl
 masks-same false = refl
 
-pub rows-with-and-without : (second avic : Bool) (e : ℕ → Subleaf → CpuidResult)
-    → countFrom 0 (λ l. without (l .subleaf) && l .row .present) (lines second avic e)
-    ∷ countFrom 0 (λ l. not (without (l .subleaf) || fromD2 (l .leaf) (l .subleaf)) && l .row .present) (lines second avic e)
-    ∷ countFrom 0 (λ l. fromD2 (l .leaf) (l .subleaf)) (lines second avic e)
+pub rows-with-and-without : (n : ℕ) (avic : Bool) (e : ℕ → Subleaf → CpuidResult)
+    → countFrom 0 (λ l. without (l .subleaf) && l .row .present) (lines n avic e)
+    ∷ countFrom 0 (λ l. not (without (l .subleaf) || fromD2 (l .leaf) (l .subleaf)) && l .row .present) (lines n avic e)
+    ∷ countFrom 0 (λ l. fromD2 (l .leaf) (l .subleaf)) (lines n avic e)
     ∷ []
     ≡ 17 ∷ 9 ∷ 62 ∷ []
 unfolding tabulate
-rows-with-and-without second avic e = refl
+rows-with-and-without n avic e = refl
 
 -- "All others are filtered."
-pub rows-filtered : (second avic : Bool) (e : ℕ → Subleaf → CpuidResult)
-    → lines second avic (λ l k. pick (isKept l k) (e l k) (result 0 0 0 0)) ≡ lines second avic e
+pub rows-filtered : (n : ℕ) (avic : Bool) (e : ℕ → Subleaf → CpuidResult)
+    → lines n avic (λ l k. pick (isKept l k) (e l k) (result 0 0 0 0)) ≡ lines n avic e
 unfolding tabulate area
-rows-filtered second avic e = refl
+rows-filtered n avic e = refl
 
 pub verdict-filtered : (avic : Bool) (f : ℕ → Subleaf → Row) → rowsVerdict avic (λ l k. pick (isKept l k) (f l k) vacant) ≡ rowsVerdict avic f
 unfolding components area

@@ -22,6 +22,8 @@ use Rattle.table.specs.declared.Subleaf.{Subleaf}
 use Rattle.table.specs.declared.Choices.{Choices}
 use Rattle.table.specs.declared.Verdict.{Verdict}
 use Rattle.table.specs.declared.Verdict.the-variants.{Accepted}
+use Rattle.table.specs.declared.Refusal.the-variants.{UnknownEdition}
+use Rattle.table.specs.Edition.{knownEdition}
 use Rattle.table.specs.Rows.{Row, Rows, row, vacant}
 use Rattle.table.specs.Table.{tableOf, countRows}
 use Rattle.table.specs.TableLaws.{table-ext}
@@ -31,17 +33,17 @@ use Rattle.topology.specs.Topology.{Inputs, topologyOf, processors}
 use Rattle.checks.specs.ExtendedState as State
 use Rattle.checks.specs.TopologyInputs.{inputsOf}
 use Rattle.checks.specs.Checks.{topologyRefusal, topologyVerdict, rowsVerdict}
-use Rattle.checks.specs.ChecksLaws.{all-pass}
+use Rattle.checks.specs.ChecksLaws.{demanded, all-pass}
 use Rattle.collect.specs.FirstEntries.{firstAt, legacyFeatures, maskedAt, rowsOf}
 use Rattle.collect.specs.FirstEntriesLaws.{row-beyond}
 use Rattle.finish.specs.Finish.{finished}
 use Rattle.finish.specs.RowsBuilt.{tableFor, builtFrom}
 use Rattle.finish.specs.declared.RowsBuilt.{RowsBuilt}
-use Rattle.build.specs.Build.{rowsFor, answer}
+use Rattle.build.specs.Build.{editionVerdict, rowsFor, answer}
 use Rattle.rise.specs.Added.{Covered}
 use Rattle.rise.specs.KeepsLaws.{Keeps}
 use Rattle.rise.specs.KeptRowsLaws.{verdict-same, built-same}
-use Rattle.rise.specs.RiseProof.{answer-table, accepted-rows}
+use Rattle.rise.specs.RiseProof.{answer-table, accepted-rows, accepted-edition}
 use Rattle.rise.specs.Levels.{CountOf}
 use Rattle.rise.specs.LevelsProof.{topology-gives}
 use Rattle.rise.specs.Levels.CountOf.{one, legacy, power}
@@ -75,17 +77,17 @@ module _ (es : List Entry) where
   abbrev at : (ℕ → CpuidResult) → ℕ → Subleaf → CpuidResult
   at g l k = g (placeFor l k)
 
-  module _ (second avic : Bool) where
-    lines-kept : lines second avic (at byPlace) ≡ lines second avic (at (λ i. keptFirst es i .result))
+  module _ (n : ℕ) (avic : Bool) where
+    lines-kept : lines n avic (at byPlace) ≡ lines n avic (at (λ i. keptFirst es i .result))
     unfolding placeOf keptLeaves tabulate area
     lines-kept = refl
 
-    lines-told : lines second avic (at (λ i. toldFirst es i .result)) ≡ lines second avic byLeaf
+    lines-told : lines n avic (at (λ i. toldFirst es i .result)) ≡ lines n avic byLeaf
     unfolding placeOf keptLeaves slot tabulate area
     lines-told = refl
 
-    pub lines-same : lines second avic (at byPlace) ≡ lines second avic byLeaf
-    lines-same = lines-kept ∙ ap (λ (g : ℕ → Row). lines second avic (at (λ i. g i .result))) (kept-told es) ∙ lines-told
+    pub lines-same : lines n avic (at byPlace) ≡ lines n avic byLeaf
+    lines-same = lines-kept ∙ ap (λ (g : ℕ → Row). lines n avic (at (λ i. g i .result))) (kept-told es) ∙ lines-told
 
     -- the combined mask
     abbrev mask : (ℕ → Subleaf → CpuidResult) → ℕ
@@ -104,10 +106,10 @@ module _ (es : List Entry) where
 
 -- ---- a table of rows at the 88 places, written out
 
-places-whole : (second avic : Bool) (e : ℕ → Subleaf → CpuidResult) (x : ℕ)
-    → tableOf (λ i. getD (map (λ (l : Line). l .row) (lines second avic e)) i vacant) x ≡ tableWith x (lines second avic e)
+places-whole : (n : ℕ) (avic : Bool) (e : ℕ → Subleaf → CpuidResult) (x : ℕ)
+    → tableOf (λ i. getD (map (λ (l : Line). l .row) (lines n avic e)) i vacant) x ≡ tableWith x (lines n avic e)
 unfolding tabulate countRows sumTo
-places-whole second avic e x = refl
+places-whole n avic e x = refl
 
 -- ---- an accepted page set
 
@@ -115,8 +117,8 @@ module _ (chosen : Choices) (s : List ℕ) (accepted : answer chosen s .verdict 
   abbrev avic : Bool
   avic = chosen .«secure_avic»
 
-  abbrev second : Bool
-  second = eqb (chosen .edition) 2
+  abbrev n : ℕ
+  n = chosen .edition
 
   abbrev g : ℕ → CpuidResult
   g = byPlace (counted s)
@@ -145,6 +147,10 @@ module _ (chosen : Choices) (s : List ℕ) (accepted : answer chosen s .verdict 
 
   rows-accepted : rowsVerdict (rowsFor chosen s) ≡ Accepted
   rows-accepted = accepted-rows chosen s accepted
+
+  known : knownEdition (chosen .edition) ≡ true
+  unfolding editionVerdict
+  known = demanded (knownEdition (chosen .edition)) UnknownEdition (accepted-edition chosen s accepted)
 
   covered : Covered (rowsVerdict (rowsFor chosen s))
   covered = rw rows-accepted tt
@@ -177,23 +183,23 @@ module _ (chosen : Choices) (s : List ℕ) (accepted : answer chosen s .verdict 
   unfolding State.combinedMask State.xfem State.xss placeOf keptLeaves slot Masks.extendedState0 Masks.extendedState1 maskOf legacyFeatures
   mask-full = refl
 
-  rows-full : tabulate 88 (finished (chosen .edition) full) ≡ map (λ (l : Line). l .row) (lines second avic (byLeaf (counted s)))
+  rows-full : tabulate 88 (finished (chosen .edition) full) ≡ map (λ (l : Line). l .row) (lines n avic (byLeaf (counted s)))
   rows-full =
-      Figures.table-same g (chosen .edition) second avic refl
-      ∙ ap₂ (λ (v : ℕ) (f : ℕ → Bool). map (λ (l : Line). l .row) (linesWith second masked v f)) v-said
+      Figures.table-same g n avic (Figures.clears-same n known)
+      ∙ ap₂ (λ (v : ℕ) (f : ℕ → Bool). map (λ (l : Line). l .row) (linesWith n masked v f)) v-said
       (fun-ext (λ k. and-implied (has k (Paper.combined masked)) true (λ h. refl)))
-      ∙ ap (map (λ (l : Line). l .row)) (lines-same (counted s) second avic)
+      ∙ ap (map (λ (l : Line). l .row)) (lines-same (counted s) n avic)
 
   by-entries : answer chosen s .table
-      ≡ tableWith (Paper.combined (Paper.masked avic (byLeaf (counted s)))) (lines second avic (byLeaf (counted s)))
+      ≡ tableWith (Paper.combined (Paper.masked avic (byLeaf (counted s)))) (lines n avic (byLeaf (counted s)))
   by-entries =
       table-full
       ∙ table-ext
       (λ i l. sym (getD-tabulate 88 (finished (chosen .edition) full) i vacant l) ∙ ap (λ (x : List Row). getD x i vacant) rows-full)
-      (mask-full ∙ mask-same (counted s) second avic)
-      ∙ places-whole second avic (byLeaf (counted s)) _
+      (mask-full ∙ mask-same (counted s) n avic)
+      ∙ places-whole n avic (byLeaf (counted s)) _
 
   pub table-by-figures : answer chosen s .table ≡ tableWith (Paper.combinedOf chosen s) (Paper.linesOf chosen s)
   table-by-figures =
       by-entries
-      ∙ ap (λ (x : List Entry). tableWith (Paper.combined (Paper.masked avic (byLeaf x))) (lines second avic (byLeaf x))) (counted-same s)
+      ∙ ap (λ (x : List Entry). tableWith (Paper.combined (Paper.masked avic (byLeaf x))) (lines n avic (byLeaf x))) (counted-same s)

@@ -17,11 +17,11 @@ use Rattle.checks.specs.Required.{commonRequiredLeaves, snpRequiredLeaves, requ
 use Rattle.checks.specs.ExtendedState.{xfem, xss, combinedMask, areaBelow, sizeOf}
 use Rattle.checks.specs.TopologyInputs.{inputsOf}
 use Rattle.finish.specs.Kinds.{registerKinds, kindsAt}
-use Rattle.finish.specs.Finish.{finished, settings, enabledBy, ymmClears, edition1, edition2, xopAndFma4, versionEcx, featuresEbx, featuresEcx, featuresEdx, extendedVersionEcx, extendedVersionEdx, addressSizesEbx, unlessNoXss, avx512FeaturesEbx, avx512FeaturesEcx, avx512FeaturesEdx, cetSs, rdPid, rdtscp, ibrsAndStibp, btcNo, hypervisorPresent}
+use Rattle.finish.specs.Finish.{finished, settings, enabledBy, ymmClears, edition1, versionEcx, featuresEbx, featuresEcx, featuresEdx, extendedVersionEcx, extendedVersionEdx, addressSizesEbx, unlessNoXss, avx512FeaturesEbx, avx512FeaturesEcx, avx512FeaturesEdx, cetSs, rdPid, rdtscp, ibrsAndStibp, btcNo, hypervisorPresent}
 use Rattle.checks.specs.Checks.{requiredVerdict, invlpgbVerdict, componentsOf, componentsVerdict, areaVerdict, topologyVerdict, rowsVerdict}
 use Rattle.table.specs.declared.Choices.{Choices}
 use Rattle.table.specs.declared.Verdict.{Verdict}
-use Rattle.table.specs.Edition.{knownEdition}
+use Rattle.table.specs.Edition.{knownEdition, joinedFrom, bitsBetween}
 use Rattle.table.specs.Rows.{Rows}
 use Rattle.table.specs.Table.{countRows}
 use Rattle.build.specs.declared.Built.{Built}
@@ -42,7 +42,7 @@ unfolding rowsVerdict requiredVerdict invlpgbVerdict componentsOf componentsVerd
     commonRequiredLeaves snpRequiredLeaves counts placeOf keptLeaves slot versionAndFeatures extendedFeatures extendedState0 extendedState1
     extendedVersionAndFeatures extendedAddressSpaceSizes extendedSvm extendedOptimization extendedSev secureAvicMask fieldsMask fieldMask maskOf
     legacyFeatures xfem xss combinedMask areaBelow sizeOf has bit field inputsOf topologyOf threadsIn tabulate sumTo countRows finished settings
-    enabledBy ymmClears edition1 edition2 xopAndFma4 leastPower shiftOf clear clearUnless versionEcx featuresEbx featuresEcx featuresEdx extendedVersionEcx
+    enabledBy ymmClears bitsBetween joinedFrom edition1 leastPower shiftOf clear clearUnless versionEcx featuresEbx featuresEcx featuresEdx extendedVersionEcx
     extendedVersionEdx addressSizesEbx unlessNoXss avx512FeaturesEbx avx512FeaturesEcx avx512FeaturesEdx cetSs rdPid rdtscp ibrsAndStibp btcNo
     hypervisorPresent AmdMaximum ExtendedAmdMaximum registerKinds kindsAt
 opened m = rowsVerdict m

@@ -17,15 +17,16 @@ use Rattle.table.specs.declared.Choices.{Choices}
 use Rattle.table.specs.declared.Subleaf.the-variants.{Some}
 use Rattle.table.specs.declared.Refusal.{Refusal}
 use Rattle.table.specs.declared.Refusal.the-variants.{PagesLength, PageCount, MissingRequiredResult, InvlpgbUnavailable, SaveAreaOverflow, TopologyInconsistent, UnknownEdition, ReservedBytes}
+use Rattle.table.specs.Edition.{editions}
 use Rattle.table.specs.Rows.{Rows}
 use Rattle.checks.specs.Required.{requiredAt, requiredCount, placeRequired}
 use Rattle.checks.specs.ExtendedState.{xfem, combinedMask}
 use Rattle.checks.specs.TopologyInputs.{inputsOf}
 use Rattle.build.specs.Build.{rowsFor}
 
--- 15. document 02, P7: "an edition other than 1 or 2", before all others
+-- 15. document 02, P7: "an edition other than 1 or 2", before all others: below 1, or above the last (crates/table/specs/Edition.antt)
 abbrev pub EditionFault : ℕ → Type 0
-EditionFault n = (n ≢ 1) × (n ≢ 2)
+EditionFault n = (n < 1) ⊎ (editions < n)
 
 -- 1. length: "0, or not a multiple of 4,096"
 abbrev pub LengthFault : List ℕ → Type 0

@@ -1,6 +1,6 @@
 -- Checks 15, 1 and 2: the verdicts on the edition, on a page set's length and on its counts decide their conditions.
 use mathlib.Core.Path.{_≡_, refl}
-use mathlib.Core.Bool.{Bool, true, false, not, _||_}
+use mathlib.Core.Bool.{Bool, true, false, not, _&&_, _||_}
 use mathlib.Core.List.{List}
 use mathlib.Core.Logic.{inl, inr}
 use Prim.Native.Nat.{ℕ, _%_}
@@ -12,7 +12,7 @@ use Rattle.bits.specs.Search.{every}
 use Rattle.bits.specs.SearchLaws.{every-at, every-fails}
 use Rattle.pages.specs.Layout.{pageSize, mostEntries, pagesIn, countOf, badLength, countsFit}
 use Rattle.table.specs.declared.Refusal.the-variants.{PagesLength, PageCount, UnknownEdition}
-use Rattle.table.specs.Edition.{knownEdition}
+use Rattle.table.specs.Edition.{editions, knownEdition}
 use Rattle.checks.specs.Checks.{refuseUnless}
 use Rattle.build.specs.Build.{editionVerdict}
 use Rattle.collect.specs.Lawful.{lengthVerdict, countsVerdict}
@@ -21,13 +21,14 @@ use Rattle.refusals.specs.Settles.{Settles, never, holds}
 
 pub edition-decides : (n : ℕ) → Settles (λ q. EditionFault n × (q ≡ UnknownEdition)) (editionVerdict n)
 unfolding editionVerdict knownEdition
-edition-decides n = go (eqb n 1) (eqb n 2) refl refl
+edition-decides n = go (leb 1 n) (leb n editions) refl refl
   where
-    go : (one two : Bool) → eqb n 1 ≡ one → eqb n 2 ≡ two
-        → Settles (λ q. EditionFault n × (q ≡ UnknownEdition)) (refuseUnless (one || two) UnknownEdition)
-    go true two p q = never (λ f. f .0 (eqb-true _ _ p))
-    go false true p q = never (λ f. f .1 (eqb-true _ _ q))
-    go false false p q = holds (eqb-false _ _ p, eqb-false _ _ q)
+    go : (low high : Bool) → leb 1 n ≡ low → leb n editions ≡ high
+        → Settles (λ q. EditionFault n × (q ≡ UnknownEdition)) (refuseUnless (low && high) UnknownEdition)
+    go false high p q = holds (inl (leb-false _ _ p))
+    go true false p q = holds (inr (leb-false _ _ q))
+    go true true p q =
+        never (elim [ inl f ↦ omega (arith, f, leb-true 1 n p) | inr f ↦ omega (arith, f, leb-true n editions q) ])
 
 pub length-decides : (s : List ℕ) → Settles (λ q. LengthFault s × (q ≡ PagesLength)) (lengthVerdict s)
 unfolding lengthVerdict badLength

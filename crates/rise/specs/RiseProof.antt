@@ -183,7 +183,7 @@ pub demand-3 : Demand3
 demand-3 chosen a b rises = risen chosen (chosen .edition) (accepted-edition chosen a (rises .accepted)) (clears-same refl) a b rises
 
 pub second-to-first-rises : SecondToFirst
-unfolding editionVerdict knownEdition ymmClears
+unfolding editionVerdict knownEdition
 second-to-first-rises chosen a b e rises = risen chosen 1 refl (rw e second-to-first) a b rises
 
 -- ---- by the letter: entries compared as masked compare with D.0.EAX's bits 0 and 1 set, too

@@ -13,9 +13,9 @@ use Rattle.masking.specs.Place
 use Rattle.table.specs.declared.Choices.{Choices}
 use Rattle.table.specs.declared.CpuidResults.{CpuidResults}
 use Rattle.table.specs.declared.Verdict.the-variants.{Accepted}
+use Rattle.table.specs.Edition.{f16c, xopAndFma4}
 use Rattle.table.specs.Rows.{Row}
 use Rattle.table.specs.Table.{rowIn}
-use Rattle.finish.specs.Finish.{f16c, xopAndFma4}
 use Rattle.build.specs.Build.{rowsFor, answer}
 use Rattle.rise.specs.Rise.{withEdition}
 

@@ -17,9 +17,10 @@ use Rattle.x86defs.specs.declared.CpuidResult.{CpuidResult}
 use Rattle.x86defs.specs.Functions.{result}
 use Rattle.masking.specs.Kept.{places}
 use Rattle.masking.specs.Place
+use Rattle.table.specs.Edition.{f16c, xopAndFma4, joinedFrom, bitsBetween}
 use Rattle.table.specs.Rows.{Row, Rows, row, vacant}
 use Rattle.checks.specs.ExtendedState.{xfem}
-use Rattle.finish.specs.Finish.{Enabled, Rule, edition1, edition2, f16c, xopAndFma4, ymmClears, ruleAt, enabledBy, settings, versionEcx, featuresEbx, featuresEcx, extendedVersionEcx, hasYmm, finish, remains, finished, hypervisorPresent}
+use Rattle.finish.specs.Finish.{Enabled, Rule, edition1, ymmClears, ruleAt, enabledBy, settings, versionEcx, featuresEbx, featuresEcx, extendedVersionEcx, hasYmm, finish, remains, finished, hypervisorPresent}
 use Rattle.finish.specs.Finish.Rule.{made, needed, component}
 use Rattle.rise.specs.Second.{clearEcx, secondRow}
 
@@ -35,8 +36,8 @@ clears-in-turn x h p q {r} e w =
 clears-within : (x p q : ℕ) → Within q p → bitAnd x q ≡ bitAnd (bitAnd x p) q
 clears-within x p q w = bits-ext _ _ (λ k. omega (arith, bit-and k x q, bit-and k (bitAnd x p) q, bit-and k x p, w .at k))
 
-pub version-second : (c : Enabled) (x : ℕ) → versionEcx edition2 c x ≡ clearUnless (hasYmm c) f16c (versionEcx edition1 c x)
-unfolding versionEcx clearUnless clear edition1 edition2 f16c hypervisorPresent maskOf
+pub version-second : (c : Enabled) (x : ℕ) → versionEcx (ymmClears 2) c x ≡ clearUnless (hasYmm c) f16c (versionEcx (ymmClears 1) c x)
+unfolding versionEcx clearUnless clear ymmClears bitsBetween joinedFrom edition1 hypervisorPresent maskOf
 version-second c x = go (has 2 (c .xfem))
   where
     go : (b : Bool)
@@ -46,8 +47,8 @@ version-second c x = go (has 2 (c .xfem))
     go true = refl
     go false = clears-in-turn x 0x80000000 (2 ^ 32 - 1 - 0x10001000) (2 ^ 32 - 1 - 0x20000000) refl (within-of-and refl)
 
-pub extended-second : (c : Enabled) (x : ℕ) → extendedVersionEcx edition2 c x ≡ clearUnless (hasYmm c) xopAndFma4 (extendedVersionEcx edition1 c x)
-unfolding extendedVersionEcx clearUnless clear edition1 edition2 xopAndFma4 maskOf
+pub extended-second : (c : Enabled) (x : ℕ) → extendedVersionEcx (ymmClears 2) c x ≡ clearUnless (hasYmm c) xopAndFma4 (extendedVersionEcx (ymmClears 1) c x)
+unfolding extendedVersionEcx clearUnless clear ymmClears bitsBetween joinedFrom maskOf
 extended-second c x = go (has 2 (c .xfem))
   where
     go : (b : Bool)
@@ -57,8 +58,8 @@ extended-second c x = go (has 2 (c .xfem))
     go false = clears-within x (2 ^ 32 - 1) (2 ^ 32 - 1 - 0x10800) (within-of-and refl)
 
 -- edition 1 clears nothing there
-pub extended-first : (c : Enabled) (x : ℕ) → x < 2 ^ 32 → extendedVersionEcx edition1 c x ≡ x
-unfolding extendedVersionEcx clearUnless clear edition1
+pub extended-first : (c : Enabled) (x : ℕ) → x < 2 ^ 32 → extendedVersionEcx (ymmClears 1) c x ≡ x
+unfolding extendedVersionEcx clearUnless clear ymmClears bitsBetween joinedFrom
 extended-first c x l = go (has 2 (c .xfem))
   where
     go : (b : Bool) → pick b x (bitAnd x (2 ^ 32 - 1 - 0)) ≡ x
@@ -74,7 +75,7 @@ touched i = eqb i Place.versionAndFeatures || eqb i Place.extendedVersionAndFeat
 all-same : (m : Rows) (r : ℕ → CpuidResult)
     → tabulate places (λ i. pick (touched i) (result 0 0 0 0) (finish (settings 2 m) (ruleAt i) (r i)))
     ≡ tabulate places (λ i. pick (touched i) (result 0 0 0 0) (finish (settings 1 m) (ruleAt i) (r i)))
-unfolding tabulate settings ymmClears edition1 edition2 featuresEbx featuresEcx
+unfolding tabulate settings ymmClears edition1 featuresEbx featuresEcx
 all-same m r = refl
 
 same-elsewhere : (m : Rows) (r : ℕ → CpuidResult) (i : ℕ) → i < places → touched i ≡ false
@@ -104,13 +105,13 @@ module _ (m : Rows) where
   keep = has 2 (xfem m)
 
   version-row : finished 2 m Place.versionAndFeatures ≡ clearEcx keep f16c (finished 1 m Place.versionAndFeatures)
-  unfolding finished settings ymmClears enabledBy
+  unfolding finished settings enabledBy
   version-row =
       let r : CpuidResult = m Place.versionAndFeatures .result in
       row-second (m Place.versionAndFeatures .present) keep f16c r _ _ (r .edx) (version-second (enabledBy m) (r .ecx))
 
   extended-row : finished 2 m Place.extendedVersionAndFeatures ≡ clearEcx keep xopAndFma4 (finished 1 m Place.extendedVersionAndFeatures)
-  unfolding finished settings ymmClears enabledBy
+  unfolding finished settings enabledBy
   extended-row =
       let r : CpuidResult = m Place.extendedVersionAndFeatures .result in
       row-second (m Place.extendedVersionAndFeatures .present) keep xopAndFma4 r _ _ _ (extended-second (enabledBy m) (r .ecx))

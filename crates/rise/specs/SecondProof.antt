@@ -18,12 +18,12 @@ use Rattle.table.specs.declared.Verdict.{Verdict}
 use Rattle.table.specs.declared.Verdict.the-variants.{Accepted, Refused}
 use Rattle.table.specs.Rows.{Row, Rows}
 use Rattle.table.specs.Table.{rowIn, countRows}
-use Rattle.table.specs.Edition.{knownEdition}
+use Rattle.table.specs.Edition.{f16c, xopAndFma4, knownEdition}
 use Rattle.checks.specs.ExtendedState.{xfem}
 use Rattle.memory.specs.Origin.{originOf, originNumber}
 use Rattle.collect.specs.FirstEntryOrigin.{standsAt}
 use Rattle.collect.specs.RowsFit.{rows-fit}
-use Rattle.finish.specs.Finish.{f16c, xopAndFma4, ymmClears, enabledBy, settings, finished}
+use Rattle.finish.specs.Finish.{ymmClears, enabledBy, settings, finished}
 use Rattle.build.specs.Build.{editionVerdict, rowsFor, verdictOf, originsIn, answer, originAt}
 use Rattle.rise.specs.Rise.{withEdition}
 use Rattle.rise.specs.RiseProof.{answer-table, answer-row, answer-mask}

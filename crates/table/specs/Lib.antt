@@ -1,6 +1,7 @@
 pub mod Refusal
 pub mod RefusalLaws
 pub mod Edition
+pub mod EditionLaws
 pub mod Rows
 pub mod Table
 pub mod TableLaws

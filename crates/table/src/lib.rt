@@ -4,25 +4,15 @@ use topology::TopologyError;
 use x86defs::CpuidFunction;
 use x86defs::CpuidResult;
 ghost use mathlib.Core.Path.{_≡_};
-ghost use Rattle.table.specs.Edition.{knownEdition};
 ghost use Rattle.table.specs.Numbers.{subleafOf};
 
+pub mod edition;
 pub mod numbers;
 
 // What a caller chooses: whether secure AVIC is kept (document 01, "Corners of masking.rs"), and the edition of the AVX rule (document 02, P7).
 pub struct Choices {
     pub secure_avic: bool,
     pub edition: u32,
-}
-
-// Whether there is such an edition; where there is none, that is refusal 15.
-pub fn known_edition(edition: u32) -> bool
-    ensures { λ r. ⌜ r ≡ knownEdition edition ⌝ }
-{
-    if edition == 1 {
-        return true;
-    }
-    edition == 2
 }
 
 // A subleaf, where a leaf has them.

@@ -88,10 +88,10 @@ pub rows-by-the-letter : (chosen : Choices) (s : List ℕ) → answer chosen s .
 rows-by-the-letter = Images.rows-by-figures
 
 -- "All others are filtered.": what the entries of another leaf or subleaf hold, or that there are some, changes no row and no verdict
-pub others-filtered : (second avic : Bool) (e : ℕ → Subleaf → CpuidResult) (f : ℕ → Subleaf → Row)
-    → (lines second avic (λ l k. pick (isKept l k) (e l k) (result 0 0 0 0)) ≡ lines second avic e)
+pub others-filtered : (n : ℕ) (avic : Bool) (e : ℕ → Subleaf → CpuidResult) (f : ℕ → Subleaf → Row)
+    → (lines n avic (λ l k. pick (isKept l k) (e l k) (result 0 0 0 0)) ≡ lines n avic e)
     × (rowsVerdict avic (λ l k. pick (isKept l k) (f l k) vacant) ≡ rowsVerdict avic f)
-others-filtered second avic e f = (Registers.rows-filtered second avic e, Registers.verdict-filtered avic f)
+others-filtered n avic e f = (Registers.rows-filtered n avic e, Registers.verdict-filtered avic f)
 
 -- "after masking only bits 0, 1, 2, 5, 6, 7, 11, 12 can be set"
 pub combined-bits : (chosen : Choices) (s : List ℕ) → answer chosen s .verdict ≡ Accepted
@@ -100,10 +100,10 @@ combined-bits = Counts.bits-said
 
 -- "An accepted table has 17 rows without subleaf, 9 with, and one for each combined bit from 2 up: 26 to 32.": 17 and 9 are always there, 62 more are
 -- D.2 to D.63; `furtherBits` counts the combined bits from 2 up
-pub rows-17-and-9 : (second avic : Bool) (e : ℕ → Subleaf → CpuidResult)
-    → countFrom 0 (λ l. without (l .subleaf) && l .row .present) (lines second avic e)
-    ∷ countFrom 0 (λ l. not (without (l .subleaf) || fromD2 (l .leaf) (l .subleaf)) && l .row .present) (lines second avic e)
-    ∷ countFrom 0 (λ l. fromD2 (l .leaf) (l .subleaf)) (lines second avic e)
+pub rows-17-and-9 : (n : ℕ) (avic : Bool) (e : ℕ → Subleaf → CpuidResult)
+    → countFrom 0 (λ l. without (l .subleaf) && l .row .present) (lines n avic e)
+    ∷ countFrom 0 (λ l. not (without (l .subleaf) || fromD2 (l .leaf) (l .subleaf)) && l .row .present) (lines n avic e)
+    ∷ countFrom 0 (λ l. fromD2 (l .leaf) (l .subleaf)) (lines n avic e)
     ∷ []
     ≡ 17 ∷ 9 ∷ 62 ∷ []
 rows-17-and-9 = Registers.rows-with-and-without

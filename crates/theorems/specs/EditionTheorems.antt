@@ -12,7 +12,7 @@ use Rattle.build.specs.Build.{answer, underEdition}
 use Rattle.rise.specs.Rise.{RiseTo, TableRises, SecondToFirst}
 use Rattle.rise.specs.RiseProof.{second-to-first-rises}
 use Rattle.examples.specs.SeenExamples.{figures}
-use Rattle.finish.specs.Finish.{edition1, edition2}
+use Rattle.finish.specs.Finish.{ymmClears}
 use Rattle.finish.specs.FinishLaws.{figures as clears, ymm-figures, ymm-figures-2}
 use Rattle.rise.specs.Second.{SecondEdition, FirstEdition}
 use Rattle.rise.specs.SecondProof as Editions
@@ -36,10 +36,10 @@ use Rattle.page_sets.specs.Evaluation.{firstEdition}
 -- statements. All that is said above and below of `chosen` is said for any edition, the same for A and B, in one argument.
 
 -- the bits cleared where XFEM lacks bit 2, of 1.ECX, 7.0.EBX, 7.0.ECX and 80000001h.ECX, in edition 1 and in edition 2
-pub edition-1-clears : clears edition1 ≡ 0x10001000 ∷ 0x20 ∷ 0x700 ∷ 0 ∷ []
+pub edition-1-clears : clears (ymmClears 1) ≡ 0x10001000 ∷ 0x20 ∷ 0x700 ∷ 0 ∷ []
 edition-1-clears = ymm-figures
 
-pub edition-2-clears : clears edition2 ≡ (0x10001000 + 2 ^ 29) ∷ 0x20 ∷ 0x700 ∷ (2 ^ 11 + 2 ^ 16) ∷ []
+pub edition-2-clears : clears (ymmClears 2) ≡ (0x10001000 + 2 ^ 29) ∷ 0x20 ∷ 0x700 ∷ (2 ^ 11 + 2 ^ 16) ∷ []
 edition-2-clears = ymm-figures-2
 
 -- edition 1 is document 01's rule: 80000001h.ECX stays as masked
@@ -71,8 +71,8 @@ without-ymm-2-to-1 = WithoutYmm.from-second
 pub no-rise-from-1-to-2 : TableRises (answer firstEdition WithoutYmm.withoutYmm .table) (answer (underEdition 2) WithoutYmm.withoutYmm .table) → ⊥
 no-rise-from-1-to-2 = WithoutYmm.not-from-first
 
-pub no-third-edition : answer (underEdition 3) [] .verdict ≡ Refused UnknownEdition
-no-third-edition = WithoutYmm.third-refused
+pub no-such-edition : answer (underEdition 3) [] .verdict ≡ Refused UnknownEdition
+no-such-edition = WithoutYmm.unknown-refused
 
 -- ---- P8, moving a live guest to edition 2. crates/carry/specs/Carry.antt has the table that is carried and the answers,
 -- crates/carry/specs/CarryImage.antt the same of a table handed over as its image, in place.
@@ -129,8 +129,8 @@ without-ymm-beyond = Moved.beyond
 pub no-way-back : carry emptyTable 2 1 0 0 .verdict ≡ Refused EditionBack
 no-way-back = Moved.goes-back
 
-pub no-third-edition-to-carry : carry emptyTable 3 1 0 0 .verdict ≡ Refused UnknownEdition
-no-third-edition-to-carry = Moved.no-third
+pub no-such-edition-to-carry : carry emptyTable 3 1 0 0 .verdict ≡ Refused UnknownEdition
+no-such-edition-to-carry = Moved.no-such
 
 -- absent rows read as zeros: a table without a row and one with D.0 alone, whose other registers are all ones. 13; 13 for a bit of XSS; given.
 -- crates/carry/specs/AbsentRows.antt

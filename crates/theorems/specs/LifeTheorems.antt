@@ -14,7 +14,7 @@ use Rattle.page_sets.specs.Evaluation.{firstEdition}
 use Rattle.images.specs.CarriedRows.{ownYmm}
 use Rattle.guest_life.specs.ViewsTell.{TablesAgree, SameView, ViewsTell, AgreeGives}
 use Rattle.guest_life.specs.ViewsTellProof as Views
-use Rattle.guest_life.specs.CarriedOrder.{second}
+use Rattle.guest_life.specs.CarriedOrder.{latest}
 use Rattle.guest_life.specs.SaveAreas.{StandardForm, CompactedForm, SaveAreas, AreasStay}
 use Rattle.guest_life.specs.SaveAreasProof as Areas
 use Rattle.guest_life.specs.Life.{Life, LifeOutcome, lostBit, LifeShows, KeptLifeShows, LifeComesBack, EndsSeeTheSame, LivesSeeTheSame}
@@ -48,7 +48,7 @@ save-areas-stay = Areas.areas-stay
 -- ---- moves and carries. crates/guest_life/specs/Life.antt
 
 -- along any life a table rises from what carrying the first one gives
-pub life-rises : {t w : CpuidResults} → Life t w → TableRises (second t) w
+pub life-rises : {t w : CpuidResults} → Life t w → TableRises (latest t) w
 life-rises = Lives.life-rises
 
 -- whatever was found at an exit is found, feature bits still shown but for carry's three, both sizes and every other register equal, as demand 3

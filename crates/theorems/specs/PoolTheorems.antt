@@ -88,8 +88,8 @@ one-alone-is-no-pool = Pools.one-alone
 pub lengths-do-not-wrap : pooled firstEdition (serverA ++ serverW) (0xFFFFFFFFFFFFFFFF ∷ 16385 ∷ []) .verdict ≡ Refused PoolSets
 lengths-do-not-wrap = Pools.wraps
 
-pub no-third-edition-in-a-pool : pooled (underEdition 3) serverA (8192 ∷ 0 ∷ []) .verdict ≡ Refused UnknownEdition
-no-third-edition-in-a-pool = Pools.unknown
+pub no-such-edition-in-a-pool : pooled (underEdition 3) serverA (8192 ∷ 0 ∷ []) .verdict ≡ Refused UnknownEdition
+no-such-edition-in-a-pool = Pools.unknown
 
 pub the-second-by-itself : ServerFault firstEdition serverA (8192 ∷ 0 ∷ []) 1 PagesLength
 the-second-by-itself = PoolInstances.of-own

@@ -25,11 +25,11 @@ returns-3 c =
 
 returns-4 : tie.Need-returns-4
 returns-4 c =
-    let b = c .before in let r = b .before .before in let told = r .before .before in let u = told .before .before in
+    let b = c .before in let e = b .before .before in let r = e .before in let told = r .before .before in let u = told .before .before in
     let k = u .before .before .before .before in let a = k .before .before .args in
     in-done (a .registers .now) (a .origins .now) (a .from) (a .to) (a .xcr0) (a .xss) (k .before .known-edition .ensures)
     (k .known-edition2 .ensures) (u .before .before .before .if1 .taken) (omega arith) (u .state-in-use .ensures) (told .enum-told .given .1)
-    (r .read-row .ensures) (b .has-bit .ensures) (c .clear-bits .ensures)
+    (r .read-row .ensures) (b .has-bit .ensures) (e .between .ensures) (c .clear-bits .ensures)
 
 pub carry-spec : {M : Type 1} → statement M
 carry-spec =
@@ -43,6 +43,7 @@ carry-spec =
     (λ c. search needs)
     returns-3
     (λ c. search needs)
+    (λ c κs. search needs)
     (λ c κs. search needs)
     (λ c κs. search needs)
     (λ c κs. search needs)

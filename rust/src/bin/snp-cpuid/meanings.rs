@@ -55,8 +55,8 @@ const MEANINGS: [&str; 20] = [
     // 15
     "The AVX rule has editions 1 and 2, of which 1 is OpenHCL's. Another number was given. It comes before all other refusals.",
     // 16
-    "A table was to go from edition 2 of the AVX rule back to edition 1, which would give a running guest features that it never had. Tables \
-     go from 1 to 2, or stay.",
+    "A table was to go from an edition of the AVX rule back to an earlier one, which would give a running guest features that it never had. \
+     Tables go to a later edition, or stay.",
     // 17
     "The last eight bytes of an entry are reserved and must be zero in every entry below its page's count, whether or not a table reads it. \
      The leaf is that of the first entry where one is not. Whoever wrote the pages left old data in them.",

@@ -24,16 +24,17 @@ pub const COMMAND: Command = Command {
     summary: "take a running table from one edition of the AVX rule to another",
     about: "\
 Builds the table of the pages under the edition that it runs under, takes it to another for a
-processor with this XCR0 and XSS, and writes the result as bytes, in the form of 'image'. From 1 to
-2, F16C, XOP and FMA4 go where the table has no YMM state, bit 2 of D.0.EAX, which gives the table
-that edition 2 makes of the pages; nothing else changes, so the save sizes of a guest that runs stay
-what they were. Within one edition nothing changes. A note on standard error says which bits went.
+processor with this XCR0 and XSS, and writes the result as bytes, in the form of 'image'. The bits
+that the later edition hides go where the table has no YMM state, bit 2 of D.0.EAX: from 1 to 2 that
+gives the table that edition 2 makes of the pages. Nothing else changes, so the save sizes of a guest
+that runs stay what they were. Within one edition nothing changes. A note on standard error says
+which bits went.
 An edition E is decimal, X hexadecimal, with or without 0x. PAGES may be the running table's image:
 then --from says which edition made it.
 ",
     status: "\
 Exit status: 0 carried and written, 1 refused (building's refusals first, then 15 no such edition,
-16 from edition 2 back to 1, 13 and 14 as 'guest' has them), 2 bad usage or a file that cannot be
+16 back to an earlier one, 13 and 14 as 'guest' has them), 2 bad usage or a file that cannot be
 read or written.
 ",
     run,
@@ -49,7 +50,7 @@ fn run(arguments: &Arguments) -> Result<(), Failure> {
     let carried = running.carry(from, to, xcr0, xss).map_err(|refusal| {
         let reason = match refusal {
             Refusal::UnknownEdition => reasons::of_edition(to),
-            Refusal::EditionBack => reasons::of_edition_back(),
+            Refusal::EditionBack => reasons::of_edition_back(from),
             _ => reasons::of_guest(refusal, &running, xcr0, xss),
         };
         building.refused(shown(file), refusal, &reason)

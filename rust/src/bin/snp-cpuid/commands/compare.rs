@@ -89,7 +89,7 @@ tables are compared as processor 0 sees them, with all states on that A's table 
 The last lines compare the entries, in both directions. There 'yes' says more: for every row of A's
 table but 0 and 80000000 B has a first entry with at least the bits of A's in feature registers, and
 equal in all others but D.0.ECX and the rows of leaf B. It can be said before B's table is built,
-and it promises that B's table is at least A's under either edition of the AVX rule. Entries may
+and it promises that B's table is at least A's under any edition of the AVX rule. Entries may
 differ where a rule makes the tables agree. The library decides both by a proved function.
 
 A or B may be an image: then its table is compared, and of entries nothing is said. Give the pages

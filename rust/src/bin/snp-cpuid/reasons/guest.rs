@@ -41,9 +41,9 @@ fn compacted(table: &Table, states: u64) -> Reason {
     Reason::new(format!("after the 240 bytes of x87 and SSE state stand {}, over FFFFFFFF", told.join(", ")), "fewer states on, or smaller ones")
 }
 
-/// Why a table is not taken back to edition 1.
-pub fn of_edition_back() -> Reason {
-    Reason::new(String::new(), "--to 2, which changes nothing")
+/// Why a table is not taken back to an edition before the one that it runs under.
+pub fn of_edition_back(from: u32) -> Reason {
+    Reason::new(String::new(), format!("--to {from}, which changes nothing"))
 }
 
 /// Bits by number and, where they are states, by name.
