@@ -511,7 +511,7 @@ firstUnclean s (e ∷ es) = pick (clean s e) (firstUnclean s es) (Refused (Reser
 -- above 64"; 17; 3 to 8
 abbrev pub verdict : Choices → List ℕ → Verdict
 verdict chosen s =
-    givenUnless (leb 1 (chosen .edition) && leb (chosen .edition) 2) UnknownEdition
+    givenUnless (eqb (chosen .edition) 1 || eqb (chosen .edition) 2) UnknownEdition
     then (givenUnless (lengthLawful s) PagesLength
     then (givenUnless (countsLawful s) PageCount
     then (firstUnclean s (readEntries s)

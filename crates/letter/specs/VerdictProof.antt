@@ -4,7 +4,9 @@ use mathlib.Core.Bool.{Bool, true, false, _&&_, _||_}
 use mathlib.Core.List.{List, [], _∷_}
 use Prim.Native.Nat.{ℕ, zero, suc, _+_, _*_, _^_, _<_, _≤_}
 use native.Mathlib.Nat.{le-antisymm}
+use native.Mathlib.Omega.{arith}
 use lib.Dec.{eqb, ltb, leb, lit<}
+use borrow.Author.Tests.{eqb-true, eqb-false, leb-true}
 use lib.Bits.{bitOr}
 use Rattle.bits.specs.Choice.{pick}
 use Rattle.bits.specs.ChoiceLaws.{never-both}
@@ -25,7 +27,7 @@ use Rattle.table.specs.declared.Subleaf.{Subleaf}
 use Rattle.table.specs.declared.Subleaf.the-variants.{None}
 use Rattle.table.specs.declared.Choices.{Choices}
 use Rattle.table.specs.declared.Refusal.{Refusal}
-use Rattle.table.specs.declared.Refusal.the-variants.{TopologyInconsistent, InvlpgbUnavailable, SaveAreaOverflow, ReservedBytes}
+use Rattle.table.specs.declared.Refusal.the-variants.{UnknownEdition, TopologyInconsistent, InvlpgbUnavailable, SaveAreaOverflow, ReservedBytes}
 use Rattle.table.specs.declared.Verdict.{Verdict}
 use Rattle.table.specs.declared.Verdict.the-variants.{Accepted, Refused}
 use Rattle.table.specs.Edition.{knownEdition}
@@ -39,7 +41,7 @@ use Rattle.checks.specs.declared.Size.the-variants.{Bytes, TooLarge}
 use Rattle.checks.specs.ExtendedState as State
 use Rattle.checks.specs.ExtendedStateLaws.{area-mono, in-combined}
 use Rattle.checks.specs.TopologyInputs.{inputsOf}
-use Rattle.checks.specs.Checks.{refuseAt, missingRequired, missingComponent, requiredVerdict, invlpgbVerdict, componentsOf, componentsVerdict, sizeVerdict, areaVerdict, topologyRefusal, topologyVerdict, rowsVerdict}
+use Rattle.checks.specs.Checks.{refuseUnless, refuseAt, missingRequired, missingComponent, requiredVerdict, invlpgbVerdict, componentsOf, componentsVerdict, sizeVerdict, areaVerdict, topologyRefusal, topologyVerdict, rowsVerdict}
 use Rattle.checks.specs.ChecksLaws.{required-present, component-present}
 use Rattle.collect.specs.FirstEntries.{firstAt, legacyFeatures, maskedAt, rowsOf}
 use Rattle.collect.specs.Lawful.{lengthVerdict, countsVerdict, cleanVerdict, reservedVerdict, lawfulVerdict}
@@ -334,11 +336,27 @@ lawful-same s =
     then-three (lengthVerdict s) (countsVerdict s) (reservedVerdict s)
     ∙ ap (λ (w : Verdict). lengthVerdict s then (countsVerdict s then w)) (reserved-same s)
 
+-- the editions by name
+edition-named : (n : ℕ) → editionVerdict n ≡ refuseUnless (eqb n 1 || eqb n 2) UnknownEdition
+unfolding editionVerdict knownEdition
+edition-named n = ap (λ (b : Bool). refuseUnless b UnknownEdition) (go (eqb n 1) refl (eqb n 2) refl)
+  where
+    go : (a : Bool) → eqb n 1 ≡ a → (b : Bool) → eqb n 2 ≡ b → (leb 1 n && leb n 2) ≡ (a || b)
+    go true e b f = let q : n ≡ 1 = eqb-true n 1 e in rw q
+    go false e true f = let q : n ≡ 2 = eqb-true n 2 f in rw q
+    go false e false f = outside (leb 1 n) refl (leb n 2) refl
+      where
+        outside : (c : Bool) → leb 1 n ≡ c → (d : Bool) → leb n 2 ≡ d → (c && d) ≡ false
+        outside true g true h =
+            absurd (omega (arith, leb-true 1 n g, leb-true n 2 h, eqb-false n 1 e, eqb-false n 2 f))
+        outside true g false h = refl
+        outside false g d h = refl
+
 pub verdict-by-figures : (chosen : Choices) (s : List ℕ) → answer chosen s .verdict ≡ Paper.verdict chosen s
-unfolding answer verdictOf editionVerdict knownEdition lawfulVerdict lengthVerdict badLength countsVerdict countsFit
+unfolding answer verdictOf lawfulVerdict lengthVerdict badLength countsVerdict countsFit
 verdict-by-figures chosen s =
     then-is (editionVerdict (chosen .edition)) (andThen (lawfulVerdict s) (rowsVerdict (rowsFor chosen s)))
-    ∙ ap (λ (v : Verdict). editionVerdict (chosen .edition) then v)
+    ∙ ap₂ (λ (u v : Verdict). u then v) (edition-named (chosen .edition))
     (then-assoc (lengthVerdict s) (countsVerdict s) (reservedVerdict s) (rowsVerdict (rowsFor chosen s))
     ∙ ap₂ (λ (v w : Verdict). lengthVerdict s then (countsVerdict s then (v then w))) (reserved-same s)
     (rows-verdict-same (chosen .«secure_avic») s
