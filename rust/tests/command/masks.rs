@@ -68,8 +68,9 @@ fn kept_are_those_that_the_library_finds() {
             found += usize::from(first.is_some());
         }
     }
-    // 15 leaves without subleaves, by 72 numbers; 7.0, B.0, B.1, 64 of Dh, four of 8000001Dh
-    assert_eq!(found, 15 * 72 + 1 + 2 + 64 + 4);
+    // the leaves without subleaves, by 72 numbers; 7.0, B.0, B.1, 64 of Dh, of which two are required, four of 8000001Dh
+    let whole = REQUIRED.len() - (1 + 2 + 2 + 4);
+    assert_eq!(found, whole * 72 + 1 + 2 + 64 + 4);
 }
 
 /// Without any one of them, and with all others, the library refuses by 3 and names it.

@@ -82,5 +82,5 @@ fn after_a_list() {
         }
         *count += 1;
     }
-    assert_eq!((others, states), (24, 5));
+    assert_eq!((others, states), (EPYC_ROWS - 5, 5));
 }
