@@ -55,14 +55,14 @@ class TheRust(unittest.TestCase):
                 continue
             given = line.split()[-1]
             room = len(given) // 2
-            images = [model.image(table) for table in (answer, model.rust_answer(answer))]
-            if len(images[0]) > room:
+            by_rust = model.rust_answer(answer)
+            image = model.image(by_rust)
+            if len(image) > room:
                 continue
-            new, old = [(image + FILL * (room - len(image))).hex() for image in images]
-            self.assertEqual(old, given)
+            self.assertEqual((image + FILL * (room - len(image))).hex(), given)
             v = answer[1][0xB, 1][model.EBX]
-            self.assertEqual(new != given, v & (v - 1) != 0)
-            if new != given:
+            self.assertEqual(by_rust[1][0xB, 1] != answer[1][0xB, 1], v & (v - 1) != 0)
+            if by_rust[1][0xB, 1] != answer[1][0xB, 1]:
                 lower.add(v)
         self.assertGreater(len(lower), 10)
 

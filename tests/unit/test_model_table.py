@@ -132,7 +132,7 @@ class Questions(unittest.TestCase):
                 self.assertEqual(kept.guest_find_kept(built, 5, 7, True, size + 1, *key, True), same)
         self.assertEqual(kept.guest_find_kept(built, 5, 7, True, 99, STATE, 1, True)[0][1], 99)
 
-    def test_any_88_rows(self):
+    def test_a_table_with_every_row(self):
         every = memory({key: (1, 2, 3, 4) for key in PLACES})
         self.assertEqual((len(kept.image(every)), len(kept.kvm(every))), (2132, 3528))
         self.assertEqual(model_carry.read_image(kept.image(every)), kept.rows(every))
