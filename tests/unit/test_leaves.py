@@ -70,7 +70,7 @@ class Leaves(unittest.TestCase):
         self.assertIn('leaf: CpuidFunction(leaf::ADDED_LEAF), eax: ONES, ebx: ONES, ecx: ONES, edx: ONES, subleaf: false, }, KeptLeaf { '
                       'leaf: CpuidFunction(leaf::CACHE_TOPOLOGY_DEFINITION)', self.text('crates/masking/src/masks.rt'))
         self.assertIn(f'[u8; {NEEDED + 1}] = [', self.text(CHECKED))
-        self.assertIn('place::ADDED_LEAF as u8, place::PROCESSOR_TOPOLOGY_DEFINITION as u8, ];', self.text(CHECKED))
+        self.assertIn('place::ADDED_LEAF as u8, place::PROCESSOR_TOPOLOGY_DEFINITION as u8,', self.text(CHECKED))
         bits = leaf_code.not_kept([*KEPT, kept_leaves.Place(LEAF, None)])
         self.assertEqual(int(leaf_code.not_kept(KEPT)[0].split()[-1][:-1], 16) - int(bits[0].split()[-1][:-1], 16), 1 << 2 * (LEAF & 0x1F) + 1)
         self.assertIn(bits[0], (self.root / 'crates/collect/src/full.rt').read_text())
