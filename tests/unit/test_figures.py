@@ -2,6 +2,7 @@
 from contextlib import redirect_stdout
 from io import StringIO
 from pathlib import Path
+import re
 import shutil
 import tempfile
 import unittest
@@ -66,7 +67,8 @@ class Figures(unittest.TestCase):
             self.assertIn(line, header)
 
     def test_a_third_edition(self):
-        self.edit(EDITION, 'bits f16c xopAndFma4 ∷ []', 'bits f16c xopAndFma4 ∷ bits popCnt 0 ∷ []')
+        text = self.text(EDITION)
+        (self.root / EDITION).write_text(re.sub('^furtherEditions = .*', 'furtherEditions = bits f16c xopAndFma4 ∷ bits popCnt 0 ∷ []', text, flags=re.M))
         self.edit(EDITION, 'abbrev bits : ', 'popCnt = maskOf Version.position (Version.VersionAndFeaturesEcx.pop-cnt ∷ [])\n\nabbrev bits : ')
         self.assertEqual(self.asked('--write')[0], 0)
         self.assertEqual(self.asked('--check')[0], 0)

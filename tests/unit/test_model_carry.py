@@ -129,7 +129,7 @@ class Built(unittest.TestCase):
         table = model.build(b'', False)
         for old, new in product(EDITIONS, repeat=2):
             for xcr0 in 0, 1, ALL:
-                known = {old, new} <= {1, 2}
+                known = {old, new} <= {*model.EDITIONS}
                 self.assertEqual(carry(table, old, new, xcr0, 0), refusal(15 if not known else 16 if old > new else 13))
 
 
@@ -182,8 +182,8 @@ class Refusals(unittest.TestCase):
     def test_order(self):
         """ "16 from edition 2 back to 1, after 15 for either edition and before 13 and 14" """
         for old, new, (xcr0, number) in product(EDITIONS, EDITIONS, ((1, None), (0, 13), (8, 13), (5, 14), (13, 13))):
-            known = old in (1, 2) and new in (1, 2)
-            number = 15 if not known else 16 if (old, new) == (2, 1) else number
+            known = old in model.EDITIONS and new in model.EDITIONS
+            number = 15 if not known else 16 if new in range(1, old) else number
             answer = carry(('table', self.ROWS, 0), old, new, xcr0, 0)
             self.assertEqual(answer, ('table', self.ROWS, 0) if number is None else refusal(number))
             wanted = ('carried',) if number is None else refusal(number)

@@ -39,7 +39,7 @@ class Flips(unittest.TestCase):
 class Answers(unittest.TestCase):
     def test_not_lawful(self):
         unclean = with_byte(page([FILTERED]), 0, 0, 40, 1)
-        self.assertEqual(nearest(b'', False, 3), refusal(15))
+        self.assertEqual(nearest(b'', False, model.NO_EDITION), refusal(15))
         self.assertEqual(nearest(b'', False), refusal(1))
         self.assertEqual(nearest(page([], 65) + unclean, False), refusal(2))
         self.assertEqual(nearest(unclean, False), refusal(17, 0x40000000))

@@ -73,7 +73,7 @@ class EveryRow(unittest.TestCase):
         self.assertEqual(first_entry(data, STATE, 2), ('found', (1, 2)))
         for refused in b'', page([], 65), spread(without(rich(), 1)), with_byte(MILAN, 0, 0, 40, 1), spread(changed(rich(), 0x80000008, ebx=0)):
             self.assertEqual(of(refused), {})
-        self.assertEqual(of(MILAN, edition=3), {})
+        self.assertEqual(of(MILAN, edition=model.NO_EDITION), {})
 
 
 class WhichEntry(unittest.TestCase):

@@ -96,8 +96,8 @@ class Order(unittest.TestCase):
 
     def test_18_and_15_first(self):
         wrong = b'\x41' + MILAN[1:]
-        self.assertEqual(of_sets(wrong, edition=3), refusal(18))
-        self.assertEqual(of_sets(wrong, wrong, edition=3), refusal(15))
+        self.assertEqual(of_sets(wrong, edition=model.NO_EDITION), refusal(18))
+        self.assertEqual(of_sets(wrong, wrong, edition=model.NO_EDITION), refusal(15))
         self.assertEqual(of_sets(MILAN, b'', edition=0), refusal(15))
         self.assertEqual(of_rows(rich(), changed(rich(), 5, eax=0), edition=ALL), refusal(15))
 

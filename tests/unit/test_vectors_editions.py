@@ -27,7 +27,7 @@ def kept(leaf, bit):
 def gated(state):
     """Edition 2 with its three bits by another state than bit 2."""
     def clears(rows, xfem, xss, edition):
-        RIGHT_CLEARS(rows, xfem, xss, 1)
+        RIGHT_CLEARS(rows, xfem, xss, 1 if edition == 2 else edition)
         if edition == 2 and xfem & state != state:
             rows[1, None][model.ECX] &= ~model.F16C
             rows[0x80000001, None][model.ECX] &= ~(model.XOP | model.FMA4)
@@ -62,10 +62,10 @@ class WrongReadings(unittest.TestCase):
             self.assertGreater(self.differ(clear_by_state=clears), 0, number)
 
     def test_numbers(self):
-        """An edition cut to its low byte or half, 0 taken for 1, everything above 1 taken for 2."""
+        """An edition cut to its low byte or half, 0 taken for 1, everything above the last taken for it."""
         def taken(edition):
             return lambda given: RIGHT_CHECK(edition(given))
-        for number, edition in enumerate((lambda e: e & 0xFF, lambda e: e & 0xFFFF, lambda e: e or 1, lambda e: min(e, 2), lambda e: e & ~(1 << 31))):
+        for number, edition in enumerate((lambda e: e & 0xFF, lambda e: e & 0xFFFF, lambda e: e or 1, lambda e: min(e, max(model.EDITIONS)), lambda e: e & ~(1 << 31))):
             self.assertGreater(self.differ(check_edition=taken(edition)), 0, number)
 
     def test_order(self):

@@ -53,7 +53,7 @@ pub struct Seen {
     pub lookups: u64,
     pub writes: u64,
     pub short_buffers: u64,
-    /// Whether edition 2 hides a feature that edition 1 shows.
+    /// Whether the last edition hides a feature that edition 1 shows.
     pub hidden: bool,
 }
 
@@ -80,10 +80,14 @@ pub fn check(port: &Port, case: &Case) -> Result<Seen, String> {
         ..Seen::default()
     };
     same("the edited cvm_cpuid", &answer, &(port.replaced)(&case.pages, case.secure_avic))?;
-    let second = with_the_clears_of_edition_2(&answer);
-    seen.hidden = second != answer;
-    for (edition, answer) in [(1, &answer), (2, &second)] {
-        let options = Options::new().secure_avic(case.secure_avic).edition(edition);
+    let mut answers = vec![(1, answer)];
+    for (edition, cleared) in LATER_EDITIONS {
+        let answer = with_the_clears(&answers[answers.len() - 1].1, cleared);
+        answers.push((edition, answer));
+    }
+    seen.hidden = answers[0].1 != answers[answers.len() - 1].1;
+    for (edition, answer) in &answers {
+        let options = Options::new().secure_avic(case.secure_avic).edition(*edition);
         let one = One { port, case, options, answer };
         one.check(&mut seen).map_err(|what| format!("edition {edition}: {what}"))?;
     }
@@ -122,23 +126,22 @@ fn with_the_least_shift(answer: Answer) -> Answer {
     }
 }
 
-/// What the port must answer under edition 2 where it answers so under edition 1, which is the Rust's: the same, but for F16C, XOP and FMA4 where
-/// XFEM, the Rust's own D.0.EAX, lacks bit 2 (document 02, P7).
-fn with_the_clears_of_edition_2(answer: &Answer) -> Answer {
-    let mut second = answer.clone();
-    if let Answer::Table { rows, .. } = &mut second {
+/// Document 02, P7: the editions after the first, which is the Rust's; of each, the leaves of which it clears bits of ECX that the one before it leaves.
+const LATER_EDITIONS: [(u32, &[(u32, u32)]); 1] = [(2, &[(1, 1 << 29), (0x80000001, 1 << 11 | 1 << 16)])];
+
+/// What the port must answer under an edition where it answers so under the one before it: the same, but for its bits where XFEM, the Rust's own
+/// D.0.EAX, lacks bit 2.
+fn with_the_clears(answer: &Answer, cleared: &[(u32, u32)]) -> Answer {
+    let mut later = answer.clone();
+    if let Answer::Table { rows, .. } = &mut later {
         let xfem = rows.iter().find(|row| (row.leaf, row.subleaf) == (0xd, Some(0))).map_or(0, |row| row.registers[0]);
         if xfem & 1 << 2 == 0 {
             for row in rows {
-                row.registers[2] &= match row.leaf {
-                    1 => !(1 << 29),
-                    0x80000001 => !(1 << 11 | 1 << 16),
-                    _ => !0,
-                };
+                row.registers[2] &= !cleared.iter().filter(|(leaf, _)| *leaf == row.leaf).fold(0, |all, (_, bits)| all | bits);
             }
         }
     }
-    second
+    later
 }
 
 fn same<T: PartialEq + std::fmt::Debug>(what: &str, rust: &T, port: &T) -> Result<(), String> {

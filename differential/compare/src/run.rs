@@ -37,7 +37,7 @@ pub struct Counts {
     lookups: u64,
     writes: u64,
     short_buffers: u64,
-    /// The sets of which edition 2 hides a feature.
+    /// The sets of which the last edition hides a feature.
     hidden: u64,
 }
 
@@ -99,7 +99,7 @@ impl fmt::Display for Summary {
             all.missing.len(),
             all.unclean.len()
         )?;
-        writeln!(f, "each set under editions 1 and 2, which hides F16C, XOP or FMA4 in {} of them", all.hidden)?;
+        writeln!(f, "each set under editions 1 and 2, of which the last hides a feature in {} of them", all.hidden)?;
         writeln!(f, "no difference")
     }
 }

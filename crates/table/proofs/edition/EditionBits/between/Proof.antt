@@ -7,7 +7,7 @@ use Rattle.table.proofs.edition.EditionBits.between.Tie as tie
 
 returns : tie.Need-returns
 unfolding bitsBetween joinedFrom maskOf
-returns c = search needs
+returns c = rw (c .with .ensures)
 
 pub between-spec : {M : Type 1} → statement M
 between-spec = tie.close (tie.spec (λ c κs. search needs) returns)
