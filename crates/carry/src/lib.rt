@@ -82,7 +82,12 @@ fn clear_bits(
     let extended = row_at(registers, place::EXTENDED_VERSION_AND_FEATURES);
     let cleared = clear_ecx(is_there(has_version), keep, bits.version_ecx, version);
     put_row(registers, place::VERSION_AND_FEATURES, cleared);
-    let cleared = clear_ecx(is_there(has_extended), keep, bits.extended_version_ecx, extended);
+    let cleared = clear_ecx(
+        is_there(has_extended),
+        keep,
+        bits.extended_version_ecx,
+        extended,
+    );
     put_row(registers, place::EXTENDED_VERSION_AND_FEATURES, cleared);
 }
 
