@@ -5,6 +5,7 @@ import shutil
 import subprocess
 import unittest
 
+import make_server_a
 import model
 import model_table
 from pagesets import MILAN
@@ -28,6 +29,9 @@ class Fingerprint(unittest.TestCase):
         is_image, memory = model_table.read(literal('imageA'))
         self.assertTrue(is_image)
         self.assertEqual(model_table.fingerprint(memory), literal('digestA'))
+
+    def test_server_a_is_as_made(self):
+        self.assertEqual(SERVER_A.read_text(encoding='utf-8'), make_server_a.made()[0])
 
     @unittest.skipUnless(shutil.which('sha256sum'), 'sha256sum is missing (coreutils)')
     def test_sha256sum_gives_the_same(self):
