@@ -55,7 +55,7 @@ def figures(root):
         'places': places, 'last': places - 1, 'registers': 4 * places, 'table_bytes': 24 * places,
         'rows': rows, 'most_rows': most, 'image': image, 'most_image': image + 25 * (most - rows), 'most_kvm': 8 + 40 * most,
         'any_image': longest, 'any_but_one': longest - 1, 'any_kvm': 8 + 40 * places, 'kept_rows': len(table),
-        'entries': entries, 'one_more': entries + 1, 'two_more': entries + 2, 'entry_bytes': 48 * entries,
+        'entries': entries, 'one_more': entries + 1, 'two_more': entries + 2, 'three_more': entries + 3, 'entry_bytes': 48 * entries,
         'whole_rows': rows - subleaf_rows, 'subleaf_rows': subleaf_rows, 'required': len(needed), 'not_state': sum(p.leaf != STATE for p in kept),
         **{f'rows:{n}': rows + n for n in range(most - rows + 1)}, **{f'image:{n}': image + 25 * n for n in range(most - rows + 1)},
         **{f'kvm:{n}': 8 + 40 * (rows + n) for n in range(most - rows + 1)},
