@@ -34,7 +34,7 @@ use Rattle.guest_state.specs.State.{stateVerdict}
 use Rattle.guest_state.specs.StateLaws.{verdict-of-state}
 use Rattle.carry.specs.declared.Carried.{Carried}
 use Rattle.carry.specs.Carry.{ownRows, withoutBits, carriedAt, carriedTable, keeps, carryVerdict, refusedCarry, carriedFor, carry}
-use Rattle.carry.specs.CarryLaws.{cleared}
+use Rattle.carry.specs.CarryLaws.{at1, at80000001, cleared}
 use Rattle.guest_state.specs.declared.InUse.{InUse}
 use Rattle.guest_state.specs.declared.InUse.the-variants.{Refused as NotInUse, Compacted}
 use Rattle.guest_state.specs.InUse.{readRows, inUse}
@@ -68,24 +68,24 @@ module _ (w o : List ℕ) where
   -- ---- the two stores
 
   module _ (n : length w ≡ 4 * places) (bits : EditionBits) (keep : Bool) {w₁ w₂ : List ℕ} {version extended : CpuidResult} {a b : Bool} where
-    pub stored : a ≡ isThere (getD o 1 0) → b ≡ isThere (getD o 71 0)
-        → version ≡ pick a (withoutBits keep (bits .«version_ecx») (rowOf w 1)) (rowOf w 1)
-        → extended ≡ pick b (withoutBits keep (bits .«extended_version_ecx») (rowOf w 71)) (rowOf w 71)
-        → w₁ ≡ putRow w 1 version → w₂ ≡ putRow w₁ 71 extended
+    pub stored : a ≡ isThere (getD o at1 0) → b ≡ isThere (getD o at80000001 0)
+        → version ≡ pick a (withoutBits keep (bits .«version_ecx») (rowOf w at1)) (rowOf w at1)
+        → extended ≡ pick b (withoutBits keep (bits .«extended_version_ecx») (rowOf w at80000001)) (rowOf w at80000001)
+        → w₁ ≡ putRow w at1 version → w₂ ≡ putRow w₁ at80000001 extended
         → w₂ ≡ layout (λ i. rowIn (carriedTable bits keep t) i .result)
     stored p q e f g h =
-        let n₁ : length w₁ ≡ 4 * places = ap length g ∙ put-length w 1 version n (lit< tt) in
-        let n₂ : length w₂ ≡ 4 * places = ap length h ∙ put-length w₁ 71 extended n₁ (lit< tt) in
-        let l₁ : rowList w₁ ≡ set (rowList w) 1 version = ap rowList g ∙ put-is-set w 1 version n (lit< tt) in
-        let l₂ : rowList w₂ ≡ set (set (rowList w) 1 version) 71 extended =
-        ap rowList h ∙ put-is-set w₁ 71 extended n₁ (lit< tt) ∙ ap (λ (l : List CpuidResult). set l 71 extended) l₁ in
-        let e₁ : version ≡ pick (rowIn t 1 .present) (withoutBits keep (bits .«version_ecx») (rowIn t 1 .result)) (rowIn t 1 .result) =
-        e ∙ ap (λ (c : Bool). pick c (withoutBits keep (bits .«version_ecx») (rowOf w 1)) (rowOf w 1)) p
-        ∙ ap (λ (r : Row). pick (r .present) (withoutBits keep (bits .«version_ecx») (r .result)) (r .result)) (sym (whole-row (rowsIn w o) 1 (lit< tt))) in
-        let f₁ : extended ≡ pick (rowIn t 71 .present) (withoutBits keep (bits .«extended_version_ecx») (rowIn t 71 .result)) (rowIn t 71 .result) =
-        f ∙ ap (λ (c : Bool). pick c (withoutBits keep (bits .«extended_version_ecx») (rowOf w 71)) (rowOf w 71)) q
-        ∙ ap (λ (r : Row). pick (r .present) (withoutBits keep (bits .«extended_version_ecx») (r .result)) (r .result)) (sym (whole-row (rowsIn w o) 71 (lit< tt))) in
-        let l₃ : set (set (rowList w) 1 version) 71 extended ≡ tabulate places (λ i. carriedAt bits keep i (rowIn t i)) =
+        let n₁ : length w₁ ≡ 4 * places = ap length g ∙ put-length w at1 version n (lit< tt) in
+        let n₂ : length w₂ ≡ 4 * places = ap length h ∙ put-length w₁ at80000001 extended n₁ (lit< tt) in
+        let l₁ : rowList w₁ ≡ set (rowList w) at1 version = ap rowList g ∙ put-is-set w at1 version n (lit< tt) in
+        let l₂ : rowList w₂ ≡ set (set (rowList w) at1 version) at80000001 extended =
+        ap rowList h ∙ put-is-set w₁ at80000001 extended n₁ (lit< tt) ∙ ap (λ (l : List CpuidResult). set l at80000001 extended) l₁ in
+        let e₁ : version ≡ pick (rowIn t at1 .present) (withoutBits keep (bits .«version_ecx») (rowIn t at1 .result)) (rowIn t at1 .result) =
+        e ∙ ap (λ (c : Bool). pick c (withoutBits keep (bits .«version_ecx») (rowOf w at1)) (rowOf w at1)) p
+        ∙ ap (λ (r : Row). pick (r .present) (withoutBits keep (bits .«version_ecx») (r .result)) (r .result)) (sym (whole-row (rowsIn w o) at1 (lit< tt))) in
+        let f₁ : extended ≡ pick (rowIn t at80000001 .present) (withoutBits keep (bits .«extended_version_ecx») (rowIn t at80000001 .result)) (rowIn t at80000001 .result) =
+        f ∙ ap (λ (c : Bool). pick c (withoutBits keep (bits .«extended_version_ecx») (rowOf w at80000001)) (rowOf w at80000001)) q
+        ∙ ap (λ (r : Row). pick (r .present) (withoutBits keep (bits .«extended_version_ecx») (r .result)) (r .result)) (sym (whole-row (rowsIn w o) at80000001 (lit< tt))) in
+        let l₃ : set (set (rowList w) at1 version) at80000001 extended ≡ tabulate places (λ i. carriedAt bits keep i (rowIn t i)) =
         ap (λ (c : CpuidResults). c .results) (cleared bits t keep (length-tabulate places (rowOf w)) e₁ f₁) in
         known-by-rows w₂ (λ i. rowIn (carriedTable bits keep t) i .result) n₂ (l₂ ∙ l₃
         ∙ tabulate-ext places _ _ (λ i l. sym (getD-tabulate places (λ j. carriedAt bits keep j (rowIn t j)) i (result 0 0 0 0) l)))
