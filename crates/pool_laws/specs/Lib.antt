@@ -7,5 +7,6 @@ pub mod PoolExactlyProof
 pub mod PoolWrites
 pub mod ByTheLetter
 pub mod ByTheLetterProof
+pub mod LetterTest
 pub mod PoolMoves
 pub mod PoolMovesProof
