@@ -2,10 +2,13 @@
 use borrow.Author.Needs.{needs}
 use mathlib.Core.Path.{_≡_, sym, _∙_}
 use Rattle.table.specs.declared.Verdict.the-variants.{Accepted}
-use Rattle.build.specs.Build.{answer}
+use Rattle.memory.specs.Memory.{rowsIn}
+use Rattle.build.specs.Build.{rowsFor, answer}
 use Rattle.build.specs.BuildLaws.{front-refused}
 use Rattle.build.specs.InMemoryLaws.{rows-held, finished-verdict, answer-in-memory}
-use Rattle.compare.specs.CompareLaws.{refused-a, lawful-b, unlawful-b, rows-compared}
+use Rattle.compare.specs.declared.search.Asked.the-variants.{Entries}
+use Rattle.compare.specs.RowsCompared.{wantedBy, rowsCompared}
+use Rattle.compare.specs.CompareLaws.{asked, refused-a, lawful-b, unlawful-b, rows-compared}
 use Rattle.compare.specs.DecidesProof.{decided}
 use Rattle.compare.proofs.compare.Statement.{statement}
 use Rattle.compare.proofs.compare.Tie as tie
@@ -45,17 +48,35 @@ returns-3 c =
     decided _ _ _
     (unlawful-b _ _ _ (accepted d) (lawful-b _ _ _ (accepted d) (w .rows-into2 .ensures .verdict) ∙ l .lawful .given .1))
 
+-- B's rows, where B is lawful: e is when that is known
+abbrev second : tie.After-enum-told3 → tie.After-rows-into2
+second e = e .before .before
+
+abbrev made : tie.After-enum-told3 → tie.After-finish-rows
+made e = second e .before .before .before .before .before
+
+rows-of-b : (e : tie.After-enum-told3) → rowsIn (second e .rows-into2 .last .1 .1 .0) (second e .rows-into2 .last .1 .1 .1 .0)
+    ≡ rowsFor (start (made e) .args .choices) (start (made e) .args .b .now)
+rows-of-b e = rows-held _ _ _ _ (second e .rows-into2 .ensures) (e .enum-told3 .given .1)
+
+-- the rows of A's table are asked, in A's entries and in B's
+rows-searched : (s : tie.After-compare-rows) →
+    let e = s .before .before .before .before .before in
+    s .compare-rows .result
+    ≡ rowsCompared (wantedBy Entries) (rowsIn (rows (made e) .rows-into .last .1 .1 .0) (asked (made e .finish-rows .last .1 .0)))
+    (rowsIn (second e .rows-into2 .last .1 .1 .0) (second e .rows-into2 .last .1 .1 .1 .0))
+rows-searched s = s .compare-rows .ensures
+
 returns-4 : tie.Need-returns-4
 returns-4 c =
-    let s = c .before in let e = s .before .before .before .before .before in let w = e .before .before in
-    let d = w .before .before .before in let f = d .before .before in
+    let s = c .before in let e = s .before .before .before .before .before in let w = second e in
+    let d = w .before .before .before in let f = made e in
     decided _ _ _
     (rows-compared _ _ _ (accepted d) (lawful-b _ _ _ (accepted d) (w .rows-into2 .ensures .verdict) ∙ e .enum-told3 .given .1)
     (f .finish-rows .last .0) (f .finish-rows .last .1 .0) (rows f .rows-into .last .1 .1 .0) (rows f .rows-into .last .1 .1 .1 .0)
     (w .rows-into2 .last .1 .1 .0) (w .rows-into2 .last .1 .1 .1 .0)
     (answer-in-memory _ _ _ _ (rows f .rows-into .ensures) (told f .enum-told .given .1) (f .finish-rows .ensures) (d .enum-told2 .given .1) .table)
-    (rows-held _ _ _ _ (rows f .rows-into .ensures) (told f .enum-told .given .1))
-    (rows-held _ _ _ _ (w .rows-into2 .ensures) (e .enum-told3 .given .1)) (s .compare-rows .ensures) (c .entries-named .ensures))
+    (rows-held _ _ _ _ (rows f .rows-into .ensures) (told f .enum-told .given .1)) (rows-of-b e) (rows-searched s) (c .entries-named .ensures))
 
 pub compare-spec : {M : Type 1} → statement M
 compare-spec =
