@@ -41,8 +41,8 @@ pub enum Refusal {
         /// the leaf of the first such entry, EAX_IN, whether or not a table keeps it
         leaf: u32,
     },
-    /// 18: a pool has fewer than 2 or more than [`MOST_SERVERS`](crate::MOST_SERVERS) page sets, or their lengths do not sum to the
-    /// bytes handed over.
+    /// 18: a pool has fewer than 2 or more than [`MOST_SERVERS`](crate::MOST_SERVERS) page sets, or their lengths do not sum to the bytes handed
+    /// over.
     PoolSets,
     /// 19: the servers of a pool differ, in a row that all their tables have, elsewhere than in feature bits or the save area's size.
     PoolDiffers,

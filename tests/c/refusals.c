@@ -66,8 +66,8 @@ static void says(struct snp_cpuid_refusal refusal, const char *message) {
     }
 }
 
-/* A refusal's line and its message. */
-static void line_says(const char *line, size_t length, const char *message) {
+/* A refusal's line and its message; gives its number. */
+static uint32_t line_says(const char *line, size_t length, const char *message) {
     struct snp_cpuid_line_read read = snp_cpuid_read_line((const uint8_t *)line, length);
     struct snp_cpuid_refusal refusal = {read.number, read.leaf, read.has_subleaf, read.subleaf, read.s};
     same(read.is_line == 1, line);
@@ -75,6 +75,7 @@ static void line_says(const char *line, size_t length, const char *message) {
     same(memcmp(&read.refusal, &refusal, sizeof refusal) == 0, line);
 #endif
     says(refusal, message);
+    return refusal.number;
 }
 
 int main(int count, char **words) {
@@ -84,17 +85,19 @@ int main(int count, char **words) {
         return 1;
     }
     char text[ROOM];
+    uint32_t most = 0;
     while (fgets(text, sizeof text, in)) {
         char *colon = strstr(text, ": "), *end = strchr(text, '\n');
         same(colon && end, "a line of the file");
         if (!colon || !end) continue;
         *colon = '\n';
         *end = 0;
-        line_says(text, (size_t)(colon - text) + 1, colon + 2);
+        uint32_t number = line_says(text, (size_t)(colon - text) + 1, colon + 2);
+        most = number > most ? number : most;
     }
     fclose(in);
 
-    struct snp_cpuid_refusal none = {0, 0, 0, 0, 0}, next = {21, 0, 0, 0, 0}, last = {UINT32_MAX, 0, 0, 0, 0};
+    struct snp_cpuid_refusal none = {0, 0, 0, 0, 0}, next = {most + 1, 0, 0, 0, 0}, last = {UINT32_MAX, 0, 0, 0, 0};
     says(none, "accepted");
     says(next, "no such number");
     says(last, "no such number");

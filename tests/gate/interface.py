@@ -6,6 +6,9 @@
                             "made" and "end": the words of the refusals, the raw functions, and structs that stand nowhere else
   rust/src/exports.rs       structs and functions, the whole file
   rust/src/refusal_list.rs  the refusals, the whole file
+  rust/src/refusal.rs       their variants, what each names, and the rows of the test of numbers and details
+  rust/src/bin/snp-cpuid/meanings.rs    what `explain` says of each number
+  tests/data/messages.txt   their messages, with the details of the list, the whole file
   tests/c/layout.h          the size of each struct and the place of each field, for a C compiler to hold
   docs/EMBEDDING.md         the refusals, between marks
 A new function or struct of the source needs no more than --write.
@@ -17,9 +20,11 @@ import sys
 
 import made_files
 import refusal_list
+import refusal_rust
 from proved_source import PLAIN, Unlisted, constant, functions, structs
 
 ROOT = Path(__file__).resolve().parents[2]
+RUST, MEANINGS = 'rust/src/refusal.rs', 'rust/src/bin/snp-cpuid/meanings.rs'
 WIDTH = 150
 FIVE = [('number', 'u32'), ('leaf', 'u32'), ('has_subleaf', 'u32'), ('subleaf', 'u32'), ('s', 'u32')]
 C_TYPES = {'u32': 'uint32_t ', 'u64': 'uint64_t ', 'usize': 'size_t ', 'bool': 'bool ', 'u8': 'uint8_t '}
@@ -168,11 +173,14 @@ def header(interface, text):
 def made(root):
     """{path: its text as it should be}, and how many parts the interface has."""
     interface = Interface(root)
-    read = {path: (root / path).read_text(encoding='utf-8') for path in ('include/snp_cpuid.h', 'docs/EMBEDDING.md')}
+    read = {path: (root / path).read_text(encoding='utf-8') for path in ('include/snp_cpuid.h', RUST, MEANINGS, 'docs/EMBEDDING.md')}
     texts = {
         'include/snp_cpuid.h': header(interface, read['include/snp_cpuid.h']),
         'rust/src/exports.rs': interface.rust(),
         'rust/src/refusal_list.rs': refusal_list.rust_list(root, interface.refusals),
+        RUST: refusal_rust.rust(root, interface.refusals, read[RUST]),
+        MEANINGS: refusal_rust.meanings(interface.refusals, read[MEANINGS]),
+        'tests/data/messages.txt': refusal_list.messages(interface.refusals),
         'tests/c/layout.h': interface.layout(),
         'docs/EMBEDDING.md': between(read['docs/EMBEDDING.md'], 'refusals', '\n' + refusal_list.markdown(interface.refusals) + '\n'),
     }

@@ -13,10 +13,10 @@
   include/snp_cpuid.h                       the places of a table, in words
   rust/src/places.rs                        the runs of places
   rust/tests/memory.rs, command/page_sets.rs    the places, and the rows that every table needs, for tests
-  rust/src/bin/snp-cpuid                    in the help of from-dump and from-kvm, and in what refusal 3 means, the rows that are read or needed;
-                                            a line of masks.rs for a leaf that is kept whole
+  rust/src/bin/snp-cpuid                    in the help of from-dump and from-kvm, the rows that are read; a line of masks.rs for a leaf that is
+                                            kept whole
   differential/compare/src/pages.rs         the required leaves in the order of their lists
-  docs/COMMAND.md                           what `explain` prints of refusal 3
+  include/refusals.txt, docs/COMMAND.md     what `explain` prints of refusal 3
 A new run of the code is written by hand, with any numbers; figures.py --write comes before this. Every place is needed but the two made here and Dh's
 subleaves from 2 up: `all-found` of crates/finish/specs/PlaceLaws.antt holds that.
 """
@@ -153,17 +153,6 @@ def in_paragraph(path, text, opens, closes, listed, prefix, width):
     raise Unlisted(f'{path} has no paragraph with "{opens} .. {closes}"')
 
 
-def in_string(path, text, opens, closes, made):
-    """The string of a Rust source that has this text, written anew in lines of 150."""
-    found = re.search(rf'^    "(?:[^"]*\s)?{opens}[^"]*",$', text, re.MULTILINE)
-    if not found:
-        raise Unlisted(f'{path} has no string with {opens}')
-    whole = re.sub(r' \\\n\s*', ' ', found[0].strip())
-    whole = re.sub(rf'{opens}.*?{re.escape(closes)}', made + closes, whole)
-    lines = textwrap.wrap(whole, 143, break_long_words=False, break_on_hyphens=False)
-    return text[:found.start()] + '    ' + ' \\\n     '.join(lines) + text[found.end():]
-
-
 def named(root):
     """{path: its text as it should be} of the names, which the other lists are made with."""
     leaves = leaf_code.named_leaves((root / LEAVES).read_text(encoding='utf-8'), root)
@@ -210,11 +199,11 @@ def made(root):
     of(f'{COMMAND}/commands/from_dump.rs', in_paragraph, 'reads go in: leaves ', '. The others', words(read, base='x'), '', 100)
     of(f'{COMMAND}/commands/from_kvm.rs', in_paragraph, 'the table reads: leaves ', '. A page', words(read, base='x'), '', 100)
     of(f'{COMMAND}/masks.rs', leaf_code.command_masks, root)
-    of(f'{COMMAND}/meanings.rs', in_string, r'\d+ rows need an entry', '. Besides', f'{len(needed)} rows need an entry: leaves {words(needed)}')
     asked = [('STATE' if leaf == STATE else str(leaf) if leaf < 0xA else f'0x{leaf:x}', subleaf or 0) for leaf, subleaf in required(root)]
     of('differential/compare/src/pages.rs', array, 'REQUIRED', len(asked), ''.join(f'    ({leaf}, {subleaf}),\n' for leaf, subleaf in asked))
-    of('docs/COMMAND.md', in_paragraph, ' rows need an entry: leaves ', '. Besides', words(needed), '    ', 104)
-    texts['docs/COMMAND.md'] = re.sub(r'\d+ (?=rows need an entry)', f'{len(needed)} ', texts['docs/COMMAND.md'])
+    for path, prefix, width in ('include/refusals.txt', ' ' * 8, 150), ('docs/COMMAND.md', '    ', 104):
+        of(path, in_paragraph, ' rows need an entry: leaves ', '. Besides', words(needed), prefix, width)
+        texts[path] = re.sub(r'\d+ (?=rows need an entry)', f'{len(needed)} ', texts[path])
     return texts, f'{len(kept)} places in lists of {len(texts)} files'
 
 

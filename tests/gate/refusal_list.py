@@ -1,4 +1,4 @@
-"""refusal_list.py: include/refusals.txt, read and held against the proved numbers, and its forms for C, Rust and documents."""
+"""refusal_list.py: include/refusals.txt, read and held against the proved numbers, and its forms for C, Rust, tests and documents."""
 import re
 from typing import NamedTuple
 
@@ -16,9 +16,24 @@ class Refusal(NamedTuple):
     details: list  # of leaf, subleaf and s
     means: str
     says: list  # [(when or '', message)]
+    rust: str = ''  # its words in Rust, where they are others than what it means
+    rust_leaf: str = ''  # those of its leaf
+    tried: tuple = ()  # of {detail: number}
+    explains: str = ''
 
     def constant(self):
         return 'SNP_CPUID_' + re.sub(r'(?<=[a-z])(?=[A-Z])', '_', self.name).upper()
+
+
+def tried(refusal, words):
+    """The details of its lines in tests/data/messages.txt: a leaf in hexadecimal, others in decimal."""
+    found = []
+    for row in words.split(', '):
+        given = dict(zip(refusal.details, row.split()))
+        if len(given) != len(row.split()) or {**given, 'subleaf': ''}.keys() != {*refusal.details, 'subleaf'}:
+            raise Unlisted(f'include/refusals.txt: {refusal.number} has {row}, which is not what it names')
+        found.append({detail: int(word, 16 if detail == 'leaf' else 10) for detail, word in given.items()})
+    return tuple(found)
 
 
 def listed(root):
@@ -30,6 +45,14 @@ def listed(root):
             found.append(Refusal(int(head[1]), head[2], head[3].split(), '', []))
         elif found and word == 'means' and not found[-1].means:
             found[-1] = found[-1]._replace(means=rest)
+        elif found and line.strip().startswith('rust leaf: ') and not found[-1].rust_leaf:
+            found[-1] = found[-1]._replace(rust_leaf=rest.removeprefix('leaf: '))
+        elif found and word == 'rust' and not found[-1].rust:
+            found[-1] = found[-1]._replace(rust=rest)
+        elif found and word == 'with' and not found[-1].tried:
+            found[-1] = found[-1]._replace(tried=tried(found[-1], rest))
+        elif found and (line.strip() == 'explains' or line.startswith(' ' * 8)):
+            found[-1] = found[-1]._replace(explains=f'{found[-1].explains} {line.strip().removeprefix("explains")}'.strip())
         elif found and says:
             found[-1].says.append((says[1] or '', says[2]))
         elif line.strip() and not line.startswith('#'):
@@ -37,6 +60,10 @@ def listed(root):
     for refusal in found:
         if not refusal.means or not refusal.says or refusal.says[-1][0] or any(not when for when, _ in refusal.says[:-1]):
             raise Unlisted(f'include/refusals.txt: {refusal.number} wants what it means, and last what it says without a condition')
+        if not refusal.explains:
+            raise Unlisted(f'include/refusals.txt: {refusal.number} wants what `explain` says of it')
+        if bool(refusal.details) != bool(refusal.tried):
+            raise Unlisted(f'include/refusals.txt: {refusal.number} wants details to be tried with where it names some, and there alone')
     return found
 
 
@@ -132,6 +159,29 @@ def rust_list(root, listed):
     return ('//! The refusals, made of include/refusals.txt by `tests/gate/interface.py --write`.\n\n'
             'use crate::refusal::{Line, Refusal, TopologyError, When};\n\n'
             f'#[rustfmt::skip]\npub(crate) const LIST: &[Line] = &[\n{rows}];\n')
+
+
+def holds(when, given):
+    """Whether a message's condition holds of these details."""
+    word, number = when.split(' ')[0], when.split(' ')[-1]
+    if when == 'no subleaf':
+        return 'subleaf' not in given
+    if word == 'leaf':
+        return given['leaf'] == int(number, 16)
+    return not when or (given['s'] < int(number) if 'below' in when else given['s'] == int(number))
+
+
+def messages(listed):
+    """tests/data/messages.txt: lines of each refusal with their messages, by a formatter of this tool's own."""
+    rows = ''
+    for refusal in listed:
+        for given in refusal.tried or ({},):
+            text = next(message for when, message in refusal.says if holds(when, given))
+            marks = {'%l': f'{given.get("leaf", 0):X}', '%c': f'{given.get("subleaf", 0):X}', '%s': f'{given.get("s", 0)}',
+                     '%p': f'{2 ** given.get("s", 0)}'}
+            line = ''.join(f' {number:08X}' if detail == 'leaf' else f' {number}' for detail, number in given.items())
+            rows += f'{refusal.number}{line}: {re.sub("%[lcsp]", lambda mark: marks[mark[0]], text)}\n'
+    return rows
 
 
 def markdown(listed):

@@ -74,12 +74,12 @@ class Figures(unittest.TestCase):
         self.assertEqual(self.asked('--check')[0], 0)
         self.assertIn('it has editions 1, 2 and 3\n', self.text('include/refusals.txt'))
         self.assertIn('is neither 1, 2 nor 3\n', self.text('include/refusals.txt'))
-        self.assertIn('editions 1, 2 and 3, of which 1 is', self.text('rust/src/bin/snp-cpuid/meanings.rs'))
+        self.assertIn('editions 1, 2 and 3, of which 1 is', self.text('include/refusals.txt'))
         self.assertIn('const EDITIONS: u32 = 3;', self.text('crates/table/src/edition.rt'))
         self.assertIn('XOP and FMA4 (80000001h.ECX bits 11 and 16); 3: POPCNT (1.ECX bit 23)\n', self.text('include/snp_cpuid.h'))
         self.assertIn('usually 1; 2 hides F16C, XOP, FMA4; 3 also POPCNT without YMM state', self.text('rust/src/bin/snp-cpuid/building.rs'))
         self.assertIn('needs --edition 1, --edition 2 or --edition 3\n', self.text('docs/COMMAND.md'))
-        self.assertIn('from a later edition of the AVX rule back to an earlier one\n', self.text('tests/data/messages.txt'))
+        self.assertIn('from a later edition of the AVX rule back to an earlier one\n', self.text('include/refusals.txt'))
         self.assertIn('answer (underEdition 4) []', self.text('crates/theorems/specs/EditionTheorems.antt'))
 
     def test_a_lost_place_is_told(self):

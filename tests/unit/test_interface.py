@@ -8,7 +8,8 @@ import unittest
 
 import interface
 
-MADE = 'include/snp_cpuid.h', 'rust/src/exports.rs', 'rust/src/refusal_list.rs', 'tests/c/layout.h', 'docs/EMBEDDING.md'
+MADE = ('include/snp_cpuid.h', 'rust/src/exports.rs', 'rust/src/refusal_list.rs', 'tests/c/layout.h', 'docs/EMBEDDING.md', 'rust/src/refusal.rs',
+        'rust/src/bin/snp-cpuid/meanings.rs', 'tests/data/messages.txt')
 SOURCES = 'crates/snp_cpuid/src', 'crates/answers/src', 'crates/table/src', 'crates/memory/src', 'crates/masking/src'
 NEW = '''
 // What a digest gives.
@@ -95,7 +96,8 @@ class Made(unittest.TestCase):
 
     def test_what_was_edited_by_hand_is_seen(self):
         for path, old in ((MADE[0], 'uint64_t page;'), (MADE[0], 'SNP_CPUID_PAGE_COUNT = 2'), (MADE[1], 'pub leaf: u32'), (MADE[2], 'number: 7,'),
-                          (MADE[3], 'AT(built'), (MADE[4], '`SNP_CPUID_LIST_FIELDS`')):
+                          (MADE[3], 'AT(built'), (MADE[4], '`SNP_CPUID_LIST_FIELDS`'), (MADE[5], '/// 12: a flag'), (MADE[5], '(12, none'),
+                          (MADE[6], '// 12'), (MADE[7], 'the list for KVM has')):
             whole = self.text(path)
             self.edit(path, old, old[:-1])
             self.assertEqual(self.asked('--check')[0], 1, path)
@@ -104,13 +106,52 @@ class Made(unittest.TestCase):
     def test_refusals_are_those_of_the_proved_numbers(self):
         for old, new in (('12 ListFields', '12 ListWords'), ('12 ListFields', '21 ListFields'), ('    means INVLPGB is unavailable\n', ''),
                          ('    says the AVX rule has', '    tells the AVX rule has'),
-                         ('says no entry for leaf %lh subleaf', 'says if s 3: no entry for leaf')):
+                         ('says no entry for leaf %lh subleaf', 'says if s 3: no entry for leaf'), ('    with 0, D, 4', '    with 0 1, D, 4'),
+                         ('    with 0, 1, 7, 10, 15, 255\n', ''), ('    explains\n        A pool is of 2 to 16 servers, one page set each.\n', '')):
             whole = self.text('include/refusals.txt')
             self.edit('include/refusals.txt', old, new)
             status, said = self.asked('--write')
             self.assertEqual(status, 1, new)
             self.assertIn('include/refusals.txt', said)
             (self.root / 'include/refusals.txt').write_text(whole)
+
+    def further(self, details, words):
+        """A refusal 21 in the list and in the arms of the proved source; what was made then."""
+        self.setUp()
+        with (self.root / 'include/refusals.txt').open('a') as file:
+            file.write(f'21 GuestGone{details}\n    means the guest is gone\n{words}    explains\n        No guest.\n        None.\n')
+        self.edit('crates/table/src/numbers.rt', '        Refusal::NothingDecides =>', '        Refusal::GuestGone => with_s(21, 0),\n'
+                  '        Refusal::NothingDecides =>')
+        self.assertEqual((self.asked('--write')[0], self.asked('--check')[0]), (0, 0))
+        return self.text('rust/src/refusal.rs'), self.text('tests/data/messages.txt')
+
+    def test_a_further_refusal_needs_no_hand(self):
+        rust, messages = self.further('', '    says no guest asks\n')
+        for line in ('    /// 21: the guest is gone.\n    GuestGone,\n}\n', '            | Refusal::GuestGone => Details::default(),\n',
+                     '            (21, none, Refusal::GuestGone),\n        ] {\n'):
+            self.assertIn(line, rust)
+        self.assertTrue(messages.endswith('\n21: no guest asks\n'))
+        meanings = self.text('rust/src/bin/snp-cpuid/meanings.rs')
+        self.assertIn('const MEANINGS: [&str; 21] = [\n', meanings)
+        self.assertIn('    // 21\n    "No guest. None.",\n];\n', meanings)
+
+    def test_what_a_further_refusal_names(self):
+        rust, messages = self.further(' leaf', '    rust a guest went\n    says no guest asks for %lh\n    with 1, 8000001E\n')
+        for line in ('    /// 21: a guest went.\n    GuestGone {\n        /// the leaf\n        leaf: u32,\n    },\n}\n',
+                     '            Refusal::ReservedBytes { leaf } | Refusal::GuestGone { leaf } => Details { leaf, ..Details::default() },\n',
+                     '            (21, Details { leaf: 0x4000_0000, ..none }, Refusal::GuestGone { leaf: 0x4000_0000 }),\n'):
+            self.assertIn(line, rust)
+        self.assertTrue(messages.endswith('\n21 00000001: no guest asks for 1h\n21 8000001E: no guest asks for 8000001Eh\n'))
+        rust, messages = self.further(' leaf subleaf', '    says if no subleaf: no %lh\n    says no %lh.%c\n    with D, D 12\n')
+        for line in ('    GuestGone(u32, Option<u32>),\n}\n', ' | Refusal::GuestGone(leaf, subleaf) => Details { leaf, subleaf, ',
+                     '            (21, leaf, Refusal::GuestGone(0x8000_001D, Some(3))),\n',
+                     '            (21, Details { leaf: 5, ..none }, Refusal::GuestGone(5, None)),\n'):
+            self.assertIn(line, rust)
+        self.assertTrue(messages.endswith('\n21 0000000D: no Dh\n21 0000000D 12: no Dh.C\n'))
+        rust, messages = self.further(' s', '    says if s 0: none\n    says if s below 3: %p of %s\n    says %s\n    with 0, 2, 255\n')
+        self.assertIn('    GuestGone(u8),\n}\n', rust)
+        self.assertIn('            (21, s, Refusal::GuestGone(7)),\n', rust)
+        self.assertTrue(messages.endswith('\n21 0: none\n21 2: 4 of 2\n21 255: 255\n'))
 
     def test_what_has_no_form_for_c_is_told(self):
         self.edit('crates/snp_cpuid/src/nearest_exports.rt', '    edition: u32,\n', '    edition: Choices,\n')

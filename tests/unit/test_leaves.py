@@ -87,7 +87,7 @@ class Leaves(unittest.TestCase):
         self.assertIn(f'80000019h to {LEAF:X}h, 8000001Dh.0 to .3', self.text('include/snp_cpuid.h').replace(' * ', ' '))
         self.assertIn(f'({leaf_code.number(LEAF)}, 0), (0x8000_001D, 0),', self.text('rust/tests/command/page_sets.rs'))
         self.assertIn(f'; {NEEDED + 1}] = [', self.text('rust/tests/command/page_sets.rs'))
-        for path in 'docs/COMMAND.md', 'rust/src/bin/snp-cpuid/meanings.rs':
+        for path in 'docs/COMMAND.md', 'include/refusals.txt':
             self.assertIn(f'{NEEDED + 1} rows need an entry: leaves 1, 5,', self.text(path))
         for path in 'from_dump', 'from_kvm':
             self.assertIn(f'8000000A, 80000019 to {LEAF:X}, 8000001D.0 to .3', self.text(f'rust/src/bin/snp-cpuid/commands/{path}.rs'))

@@ -8,7 +8,8 @@ import unittest
 
 import refusal_cases
 
-FURTHER = '\n21 GuestGone{}\n    means the guest is gone\n    says no guest asks any more\n'
+FURTHER = '\n21 GuestGone{}\n    means the guest is gone\n    says no guest asks any more\n{}    explains\n        No guest.\n'
+WITH = {'': '', ' leaf': '    with D\n', ' leaf subleaf': '    with D, D 1\n', ' s': '    with 7\n', ' subleaf': '    with 1\n'}
 NUMBERS, REFUSAL = 'crates/table/src/numbers.rt', 'crates/table/specs/Refusal.antt'
 
 
@@ -27,7 +28,7 @@ class Cases(unittest.TestCase):
 
     def add(self, details=''):
         with (self.root / 'include/refusals.txt').open('a') as file:
-            file.write(FURTHER.format(details))
+            file.write(FURTHER.format(details, WITH[details]))
 
     def has(self, path, *lines):
         text = (self.root / path).read_text()
