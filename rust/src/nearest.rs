@@ -46,8 +46,8 @@ impl Bit {
 ///
 /// # Errors
 ///
-/// [`Refusal::UnknownEdition`], [`Refusal::PagesLength`], [`Refusal::PageCount`], [`Refusal::ReservedBytes`] and [`Refusal::NothingDecides`],
-/// in this order.
+/// [`Refusal::UnknownEdition`], [`Refusal::PagesLength`], [`Refusal::PageCount`], [`Refusal::ReservedBytes`] and [`Refusal::NothingDecides`], in this
+/// order.
 ///
 /// ```
 /// use snp_cpuid::{Bit, Options, Refusal, Register, build, nearest};

@@ -7,6 +7,7 @@
   rust/src/exports.rs       structs and functions, the whole file
   rust/src/refusal_list.rs  the refusals, the whole file
   rust/src/refusal.rs       their variants, what each names, and the rows of the test of numbers and details
+  rust/src/kvm.rs, carry.rs, nearest.rs    which of them a function gives, in their order
   rust/src/bin/snp-cpuid/meanings.rs    what `explain` says of each number
   tests/data/messages.txt   their messages, with the details of the list, the whole file
   tests/c/layout.h          the size of each struct and the place of each field, for a C compiler to hold
@@ -184,6 +185,8 @@ def made(root):
         'tests/c/layout.h': interface.layout(),
         'docs/EMBEDDING.md': between(read['docs/EMBEDDING.md'], 'refusals', '\n' + refusal_list.markdown(interface.refusals) + '\n'),
     }
+    for path, order in refusal_list.orders(root).items():
+        texts[path] = refusal_rust.errors(path, order, (root / path).read_text(encoding='utf-8'))
     parts = len(interface.structs), len(interface.functions), len(interface.refusals)
     return texts, f'{sum(parts)} parts: {parts[0]} structs, {parts[1]} functions and {parts[2]} refusals in {len(texts)} files'
 

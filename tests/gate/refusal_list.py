@@ -6,6 +6,7 @@ from proved_source import Unlisted, refused
 
 HEAD = re.compile(r'^(\d+) (\w+)((?: (?:leaf|subleaf|s))*)$')
 SAYS = re.compile(r'^says (?:if (no subleaf|leaf [0-9A-F]+|s \d+|s below \d+): )?(.+)$')
+ORDER = re.compile(r'^order (\S+) (\d+(?: \d+)+)$')
 # the longest piece of a C string in one line
 PIECE = 110
 
@@ -36,10 +37,24 @@ def tried(refusal, words):
     return tuple(found)
 
 
+def lines(root):
+    return (root / 'include' / 'refusals.txt').read_text(encoding='utf-8').splitlines()
+
+
+def orders(root):
+    """{file: the refusals that its function gives, in their order}."""
+    by_number = {refusal.number: refusal for refusal in listed(root)}
+    found = {match[1]: [int(word) for word in match[2].split()] for match in map(ORDER.match, lines(root)) if match}
+    for path, numbers in found.items():
+        if not set(numbers) <= set(by_number):
+            raise Unlisted(f'include/refusals.txt: the order of {path} has a number that no refusal has')
+    return {path: [by_number[number] for number in numbers] for path, numbers in found.items()}
+
+
 def listed(root):
     """The refusals of the list as it stands."""
     found = []
-    for number, line in enumerate((root / 'include' / 'refusals.txt').read_text(encoding='utf-8').splitlines(), 1):
+    for number, line in enumerate(lines(root), 1):
         head, says, (word, _, rest) = HEAD.match(line), SAYS.match(line.strip()), line.strip().partition(' ')
         if head:
             found.append(Refusal(int(head[1]), head[2], head[3].split(), '', []))
@@ -55,7 +70,7 @@ def listed(root):
             found[-1] = found[-1]._replace(explains=f'{found[-1].explains} {line.strip().removeprefix("explains")}'.strip())
         elif found and says:
             found[-1].says.append((says[1] or '', says[2]))
-        elif line.strip() and not line.startswith('#'):
+        elif line.strip() and not line.startswith('#') and not ORDER.match(line):
             raise Unlisted(f'include/refusals.txt:{number}: {line.strip()}')
     for refusal in found:
         if not refusal.means or not refusal.says or refusal.says[-1][0] or any(not when for when, _ in refusal.says[:-1]):

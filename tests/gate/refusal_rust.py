@@ -98,6 +98,17 @@ def rust(root, listed, text):
     return text
 
 
+def errors(path, listed, text):
+    """A file with the refusals of its function in their order, where its documentation has them."""
+    names = [f'[`Refusal::{refusal.name}`]' for refusal in listed]
+    found = re.findall(r'^( *)/// # Errors\n *///\n((?: */// .*\n)+)', text, re.MULTILINE)
+    found = [(indent, lines) for indent, lines in found if re.sub(r'\s+///', '', lines).endswith(' in this order.\n')]
+    if len(found) != 1:
+        raise Unlisted(f'{path} has {len(found)} places for the refusals in their order')
+    indent, lines = found[0]
+    return text.replace(lines, doc(f'{", ".join(names[:-1])} and {names[-1]}, in this order.', indent))
+
+
 def meanings(listed, text):
     """rust/src/bin/snp-cpuid/meanings.rs with what is explained."""
     strings = ''

@@ -9,7 +9,7 @@ import unittest
 import interface
 
 MADE = ('include/snp_cpuid.h', 'rust/src/exports.rs', 'rust/src/refusal_list.rs', 'tests/c/layout.h', 'docs/EMBEDDING.md', 'rust/src/refusal.rs',
-        'rust/src/bin/snp-cpuid/meanings.rs', 'tests/data/messages.txt')
+        'rust/src/bin/snp-cpuid/meanings.rs', 'tests/data/messages.txt', 'rust/src/kvm.rs', 'rust/src/carry.rs', 'rust/src/nearest.rs')
 SOURCES = 'crates/snp_cpuid/src', 'crates/answers/src', 'crates/table/src', 'crates/memory/src', 'crates/masking/src'
 NEW = '''
 // What a digest gives.
@@ -36,7 +36,7 @@ class Made(unittest.TestCase):
         self.root = Path(folder.name)
         for path in SOURCES:
             shutil.copytree(interface.ROOT / path, self.root / path)
-        for path in *MADE, 'include/refusals.txt':
+        for path in *MADE, 'include/refusals.txt', 'rust/src/pool.rs':
             (self.root / path).parent.mkdir(parents=True, exist_ok=True)
             shutil.copy(interface.ROOT / path, self.root / path)
 
@@ -97,7 +97,7 @@ class Made(unittest.TestCase):
     def test_what_was_edited_by_hand_is_seen(self):
         for path, old in ((MADE[0], 'uint64_t page;'), (MADE[0], 'SNP_CPUID_PAGE_COUNT = 2'), (MADE[1], 'pub leaf: u32'), (MADE[2], 'number: 7,'),
                           (MADE[3], 'AT(built'), (MADE[4], '`SNP_CPUID_LIST_FIELDS`'), (MADE[5], '/// 12: a flag'), (MADE[5], '(12, none'),
-                          (MADE[6], '// 12'), (MADE[7], 'the list for KVM has')):
+                          (MADE[6], '// 12'), (MADE[7], 'the list for KVM has'), (MADE[8], '[`Refusal::ListFields`], ')):
             whole = self.text(path)
             self.edit(path, old, old[:-1])
             self.assertEqual(self.asked('--check')[0], 1, path)
@@ -107,13 +107,20 @@ class Made(unittest.TestCase):
         for old, new in (('12 ListFields', '12 ListWords'), ('12 ListFields', '21 ListFields'), ('    means INVLPGB is unavailable\n', ''),
                          ('    says the AVX rule has', '    tells the AVX rule has'),
                          ('says no entry for leaf %lh subleaf', 'says if s 3: no entry for leaf'), ('    with 0, D, 4', '    with 0 1, D, 4'),
-                         ('    with 0, 1, 7, 10, 15, 255\n', ''), ('    explains\n        A pool is of 2 to 16 servers, one page set each.\n', '')):
+                         ('    with 0, 1, 7, 10, 15, 255\n', ''), ('    explains\n        A pool is of 2 to 16 servers, one page set each.\n', ''),
+                         ('order rust/src/kvm.rs 10', 'order rust/src/kvm.rs 100'), ('order rust/src/kvm.rs 10', 'order rust/src/pool.rs 10')):
             whole = self.text('include/refusals.txt')
             self.edit('include/refusals.txt', old, new)
             status, said = self.asked('--write')
             self.assertEqual(status, 1, new)
-            self.assertIn('include/refusals.txt', said)
+            self.assertRegex(said, 'include/refusals.txt|rust/src/pool.rs')
             (self.root / 'include/refusals.txt').write_text(whole)
+
+    def test_an_order_is_that_of_the_list(self):
+        self.edit('include/refusals.txt', 'order rust/src/kvm.rs 10 12 11 9', 'order rust/src/kvm.rs 10 11 20 12 9')
+        self.assertEqual((self.asked('--write')[0], self.asked('--check')[0]), (0, 0))
+        self.assertIn('/// [`Refusal::ListLength`], [`Refusal::ListRows`], [`Refusal::NothingDecides`], [`Refusal::ListFields`] and '
+                      '[`Refusal::BufferTooShort`], in this\n/// order.\n', self.text('rust/src/kvm.rs'))
 
     def further(self, details, words):
         """A refusal 21 in the list and in the arms of the proved source; what was made then."""
