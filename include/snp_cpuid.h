@@ -46,7 +46,7 @@ typedef char snp_cpuid_calls_by_system_v[__builtin_types_compatible_p(void (*)(i
 /* The version of the library that this header belongs to. */
 #define SNP_CPUID_VERSION_MAJOR 0
 #define SNP_CPUID_VERSION_MINOR 3
-#define SNP_CPUID_VERSION_PATCH 1
+#define SNP_CPUID_VERSION_PATCH 2
 
 /* A symbol of the library that has the declarations of this header. The functions of parts 1 and 2 refer to it, those over a table that is there
  * already excepted, by an instruction that does nothing: so a program does not link with a library of other declarations. Who calls raw functions
