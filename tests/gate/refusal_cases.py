@@ -194,7 +194,9 @@ def made(root):
     of('crates/letter/specs/ImageProof.antt', lambda path, text: clauses(path, text, 'carried-same', ' = refl', expanded))
     rows, given, back = told(every)
     of(f'{TOLD}.antt', lambda path, text: replaced(path, text, r'(?:^  told-\d+.*\n)+', rows))
+    constructors = ', '.join(re.findall(r'^  (told-\S+)', rows, re.MULTILINE))
     of(f'{TOLD}Proof.antt',
+       lambda path, text: replaced(path, text, r'(^use \S+\.RefusalTold\.)\{.*\}\n', lambda found: f'{found[1]}{{{constructors}}}\n'),
        lambda path, text: replaced(path, text, r'(?:^refusal-in .* = .*\n)+', given),
        lambda path, text: replaced(path, text, r'(?:^refusal-back .* = .*\n)+', back))
     of(f'{NEAREST}.antt', lambda path, text: others(path, text, 'GivenFor c s', ' = ⊥', every, names))

@@ -54,6 +54,7 @@ class Cases(unittest.TestCase):
         self.has('crates/lines/specs/NumbersInUse.antt', '    nothing ∷  -- 21')
         self.has('crates/answers/specs/Told.antt', '  told-21 : RefusalTold GuestGone 21 0 0 0 0')
         self.has('crates/answers/specs/ToldProof.antt', 'refusal-in GuestGone = told-21', 'refusal-back told-21 = refl')
+        self.assertIn('told-20, told-21}\n', (self.root / 'crates/answers/specs/ToldProof.antt').read_text())
         self.has('crates/nearest_exactly/specs/NearestExactly.antt', 'GivenFor c s GuestGone = ⊥')
         self.has('crates/nearest_exactly/specs/NearestExactlyProof.antt', '  refusal-given GuestGone f = absurd f')
         # what has a line of its own is left alone
