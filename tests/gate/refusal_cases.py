@@ -7,6 +7,7 @@
   crates/lines/src, specs                  what each number names; `only-named`
   crates/answers/specs/Told.antt, ToldProof.antt    `RefusalTold`, and the two laws on it
   crates/letter, crates/nearest_exactly    one line for each case that has none of its own
+  crates/refusals/specs                    the rank of each check of `Check`, and its lines in proofs by cases on them; the number that it gives
 What the definitions say is proved against `carried` of crates/letter/specs/Paper.antt, which is written by hand, as are the models. The cases of
 `TopologyError`, crates/topology, stand under one case of `Refusal`. interface.py --write comes after this.
 """
@@ -14,6 +15,7 @@ from pathlib import Path
 import re
 import sys
 
+import check_cases
 import made_files
 from proved_source import Unlisted
 from refusal_list import listed
@@ -201,6 +203,7 @@ def made(root):
        lambda path, text: replaced(path, text, r'(?:^refusal-back .* = .*\n)+', back))
     of(f'{NEAREST}.antt', lambda path, text: others(path, text, 'GivenFor c s', ' = ⊥', every, names))
     of(f'{NEAREST}Proof.antt', lambda path, text: others(path, text, '  refusal-given', ' f = absurd f', every, names))
+    read.update(check_cases.made(root, every, replaced, names))
     return read, f'{len(every)} refusals in {len(read)} files of the proved source'
 
 

@@ -10,6 +10,7 @@ import refusal_cases
 
 FURTHER = '\n21 GuestGone{}\n    means the guest is gone\n    says no guest asks any more\n{}    explains\n        No guest.\n'
 WITH = {'': '', ' leaf': '    with D\n', ' leaf subleaf': '    with D, D 1\n', ' s': '    with 7\n', ' subleaf': '    with 1\n'}
+CONDITIONS = 'crates/refusals/specs/Conditions.antt'
 NUMBERS, REFUSAL = 'crates/table/src/numbers.rt', 'crates/table/specs/Refusal.antt'
 
 
@@ -76,6 +77,38 @@ class Cases(unittest.TestCase):
                 self.has(NUMBERS, f'        {arm},')
                 self.has('crates/answers/specs/Told.antt', f'  told-21 : {told}')
                 self.has(REFUSAL, f'    ∷ {row}')
+
+    def further_check(self, fault, details=''):
+        """A check of building after that of the length, which gives the further refusal."""
+        self.add(details)
+        path = self.root / CONDITIONS
+        text = path.read_text().replace('  edition pagesLength pageCounts ', '  edition pagesLength guest pageCounts ')
+        path.write_text(text.replace('Fault chosen s pageCounts r', f'Fault chosen s guest r = {fault}\nFault chosen s pageCounts r'))
+
+    def test_a_further_check_of_building(self):
+        self.further_check('GuestFault (f s) × (r ≡ GuestGone)')
+        self.assertEqual((self.asked('--write')[0], self.asked('--check')[0]), (0, 0))
+        self.has(CONDITIONS, 'rank pagesLength = 1\nrank guest = 2\nrank pageCounts = 3', 'rank threadsPerUnit = 11')
+        settled, exactly, lined = (f'crates/refusals/specs/{name}.antt' for name in ('StagesSettled', 'ExactlyProof', 'LinedProof'))
+        self.has(settled, '    ∷ pagesLength\n    ∷ guest\n    ∷ pageCounts', 'checkCount = 12', 'check-rank guest = (lit< tt, refl)')
+        self.has(exactly, 'buildingNumber n = ltb n 9 || (eqb n 15 || (eqb n 17 || eqb n 21))', 'fault-number chosen s guest r f = rw (f .1)')
+        self.has(lined, 'fault-small chosen s h guest r f = rw (f .1) (alone-small GuestGone refl refl (omega arith))')
+        for path in settled, exactly, lined:
+            self.assertIn('{edition, pagesLength, guest, pageCounts, ', (self.root / path).read_text())
+        self.assertIn('UnknownEdition, GuestGone}\n', (self.root / lined).read_text())
+
+    def test_a_check_whose_refusal_names_something_has_a_clause_by_hand(self):
+        self.further_check('(p : ℕ) × GuestFault s p × (r ≡ GuestGone (leafAt s p))', ' leaf')
+        self.assertEqual(self.asked('--check'), (1, 'crates/refusals/specs/LinedProof.antt wants a clause of fault-small for guest\n'))
+        path = self.root / 'crates/refusals/specs/LinedProof.antt'
+        own = 'fault-small chosen s h guest r f =\n    guest-small s h f\n'
+        path.write_text(path.read_text().replace('fault-small chosen s h pageCounts', f'{own}fault-small chosen s h pageCounts'))
+        self.assertEqual((self.asked('--write')[0], path.read_text().count(own)), (0, 1))
+        self.has('crates/refusals/specs/ExactlyProof.antt', 'fault-number chosen s guest r f = rw (f .2)')
+
+    def test_a_check_without_a_refusal_is_told(self):
+        self.further_check('GuestFault s')
+        self.assertEqual(self.asked('--check'), (1, 'crates/refusals/specs/Conditions.antt: Fault names no refusal for guest\n'))
 
     def test_what_has_no_case_is_told(self):
         self.add(' subleaf')
