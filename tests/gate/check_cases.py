@@ -1,5 +1,5 @@
-"""check_cases.py: the checks of building, in order, where proofs go by cases on them, made of `Check` and `Fault` of Conditions.antt. No tool by itself:
-refusal_cases.py writes them."""
+"""check_cases.py: the checks of building, in order, where proofs go by cases on them, made of `Check` and `Fault` of Conditions.antt. No tool by
+itself: refusal_cases.py writes them."""
 import re
 from typing import NamedTuple
 

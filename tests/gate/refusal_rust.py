@@ -86,7 +86,8 @@ def rust(root, listed, text):
         if refusal not in nested:
             refusals += variant(refusal)
         elif refusal is nested[0]:
-            refusals += doc(f'{either([each.number for each in nested])}: the topology leaves disagree.') + '    TopologyInconsistent(TopologyError),\n'
+            refusals += doc(f'{either([each.number for each in nested])}: the topology leaves disagree.')
+            refusals += '    TopologyInconsistent(TopologyError),\n'
     for head, made, tail in (('pub enum Refusal {\n', refusals, '}\n'), ('pub enum TopologyError {\n', ''.join(map(variant, nested)), '}\n'),
                              ('        match *self {\n            Refusal::', arms(listed, nested), '        }\n'),
                              ('        for (number, named, refusal) in [\n', rows(listed, nested), '        ] {\n')):
