@@ -7,6 +7,7 @@ from proved_source import Unlisted
 
 SPECS = 'crates/refusals/specs'
 CONDITIONS = f'{SPECS}/Conditions.antt'
+POOL = 'crates/pool_laws/specs/PoolExactlyProof.antt'
 
 
 class Check(NamedTuple):
@@ -67,7 +68,7 @@ def smalls(path, listed, alone, text):
 def made(root, every, replaced, names):
     """{path: its text as it should be}."""
     read = {path: (root / path).read_text(encoding='utf-8') for path in
-            (CONDITIONS, *(f'{SPECS}/{name}.antt' for name in ('StagesSettled', 'ExactlyProof', 'LinedProof')))}
+            (CONDITIONS, POOL, *(f'{SPECS}/{name}.antt' for name in ('StagesSettled', 'ExactlyProof', 'LinedProof')))}
     listed = checks(read[CONDITIONS])
     numbers = {case.name: case.number for case in every}
     alone = {case.name for case in every if not case.details and not case.nested}
@@ -88,6 +89,9 @@ def made(root, every, replaced, names):
         for pattern, text in parts:
             read[path] = replaced(path, read[path], pattern, text)
         read[path] = re.sub(r'(?<=Conditions\.Check\.)\{.*\}', f'{{{cases}}}', read[path])
+    read[POOL] = replaced(POOL, read[POOL], r'(?:^      by-check \w+ g = let .*\n)+', ''.join(
+        f'      by-check {check.name} g = let e = g .{check.fields} in impossible (cc)\n' for check in listed if check.name != 'edition'))
+    read[POOL] = re.sub(r'(?<=Conditions\.Check\.)\{.*\}', f'{{{cases}}}', read[POOL])
     path = f'{SPECS}/LinedProof.antt'
     read[path] = smalls(path, listed, alone, read[path])
     used = {check.refusal for check in listed} & alone

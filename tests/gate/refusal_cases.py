@@ -7,7 +7,7 @@
   crates/lines/src, specs                  what each number names; `only-named`
   crates/answers/specs/Told.antt, ToldProof.antt    `RefusalTold`, and the two laws on it
   crates/letter, crates/nearest_exactly    one line for each case that has none of its own
-  crates/refusals/specs                    the rank of each check of `Check`, and its lines in proofs by cases on them; the number that it gives
+  crates/refusals/specs, pool_laws/specs   the rank of each check of `Check`, and its lines in proofs by cases on them; the number that it gives
 What the definitions say is proved against `carried` of crates/letter/specs/Paper.antt, which is written by hand, as are the models. The cases of
 `TopologyError`, crates/topology, stand under one case of `Refusal`. interface.py --write comes after this.
 """

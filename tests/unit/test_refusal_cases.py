@@ -93,7 +93,9 @@ class Cases(unittest.TestCase):
         self.has(settled, '    ∷ pagesLength\n    ∷ guest\n    ∷ pageCounts', 'checkCount = 12', 'check-rank guest = (lit< tt, refl)')
         self.has(exactly, 'buildingNumber n = ltb n 9 || (eqb n 15 || (eqb n 17 || eqb n 21))', 'fault-number chosen s guest r f = rw (f .1)')
         self.has(lined, 'fault-small chosen s h guest r f = rw (f .1) (alone-small GuestGone refl refl (omega arith))')
-        for path in settled, exactly, lined:
+        pool = 'crates/pool_laws/specs/PoolExactlyProof.antt'
+        self.has(pool, '      by-check guest g = let e = g .1 in impossible (cc)')
+        for path in settled, exactly, lined, pool:
             self.assertIn('{edition, pagesLength, guest, pageCounts, ', (self.root / path).read_text())
         self.assertIn('UnknownEdition, GuestGone}\n', (self.root / lined).read_text())
 
