@@ -3,6 +3,7 @@ itself: refusal_cases.py writes them."""
 import re
 from typing import NamedTuple
 
+from made_files import replaced
 from proved_source import Unlisted
 
 SPECS = 'crates/refusals/specs'
@@ -65,7 +66,7 @@ def smalls(path, listed, alone, text):
     return text[:block.start()] + made + text[block.end():]
 
 
-def made(root, every, replaced, names):
+def made(root, every, names):
     """{path: its text as it should be}."""
     read = {path: (root / path).read_text(encoding='utf-8') for path in
             (CONDITIONS, POOL, *(f'{SPECS}/{name}.antt' for name in ('StagesSettled', 'ExactlyProof', 'LinedProof')))}

@@ -14,6 +14,7 @@ import textwrap
 
 import made_files
 from kept_leaves import REGISTERS, kinds, names, places
+from made_files import replaced
 from proved_source import Unlisted
 
 ROOT = Path(__file__).resolve().parents[2]
@@ -40,21 +41,21 @@ def arms(root):
 def code(text, rows):
     """The source with its arms."""
     made = ''.join(f'        place::{name} => masks({", ".join(eight)}),\n' for _, name, eight in rows)
-    return replaced(text, r'(    match place \{\n)(?:        place::.*\n)+', lambda found: found[1] + made, CODE)
+    return replaced(CODE, text, r'(    match place \{\n)(?:        place::.*\n)+', lambda found: found[1] + made)
 
 
 def proof(text, rows):
     """The proof with its places: the code names so many, and the last arm is for all others."""
     many = len(rows)
     listed = textwrap.fill(' ∷ '.join(str(number) for number, _, _ in rows) + ' ∷ []', WIDTH - 20)
-    text = replaced(text, r'^named = isOne \(.*\)\n', lambda _: f'named = isOne ({listed})\n', PROOF)
+    text = replaced(PROOF, text, r'^named = isOne \(.*\)\n', lambda _: f'named = isOne ({listed})\n')
     tests = ''.join(f'      ne-eqb _ {number} (r{" .0" * (many - 1 - at)} .1),\n' for at, (number, _, _) in enumerate(rows))
-    text = replaced(text, r'(    rw \(\n)(?:      ne-eqb .*\n)+', lambda found: found[1] + tests, PROOF)
+    text = replaced(PROOF, text, r'(    rw \(\n)(?:      ne-eqb .*\n)+', lambda found: found[1] + tests)
     text = re.sub(r'returns-\d+', f'returns-{many + 1}', text)
     text = re.sub(r'masks\d+ \.ensures ∙', f'masks{many + 1} .ensures ∙', text)
     needs = '    (λ c κs. search needs)\n' * (many + 1)
     own = ''.join(f'    (λ c. rw (c .masks{at if at > 1 else ""} .ensures, c .before .match .keys{at}))\n' for at in range(1, many + 1))
-    return replaced(text, r'(    \(tie\.spec\n)(?:    \(λ .*\n)+', lambda found: found[1] + needs + own, PROOF)
+    return replaced(PROOF, text, r'(    \(tie\.spec\n)(?:    \(λ .*\n)+', lambda found: found[1] + needs + own)
 
 
 def header(text, root):
@@ -67,14 +68,7 @@ def header(text, root):
     words = f'Feature registers are {"; ".join(found)}.'
     lines = textwrap.wrap(words, WIDTH - 3)
     made = '\n'.join(f' * {line}' for line in lines) + ' */\n'
-    return replaced(text, r'^ \* Feature registers are (?:[^.]|\.(?=[0-9A-Z]))*\. \*/\n', lambda _: made, HEADER)
-
-
-def replaced(text, pattern, made, path):
-    new, many = re.subn(pattern, made, text, flags=re.MULTILINE)
-    if many != 1:
-        raise Unlisted(f'{path} has {many} places like {pattern}')
-    return new
+    return replaced(HEADER, text, r'^ \* Feature registers are (?:[^.]|\.(?=[0-9A-Z]))*\. \*/\n', lambda _: made)
 
 
 def made(root):

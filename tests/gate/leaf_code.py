@@ -7,18 +7,12 @@ from itertools import groupby
 import re
 
 from kept_leaves import KEPT, PLACES, constants, defined, leaf_names, masks, names, required, rows
+from made_files import replaced
 from proved_source import Unlisted
 
 FIRST_STATE = 2
 MADE = 0x0, 0x80000000
 NUMBERS = 64
-
-
-def replaced(path, text, pattern, made):
-    new, many = re.subn(pattern, made, text, flags=re.MULTILINE)
-    if many != 1:
-        raise Unlisted(f'{path} has {many} places like {pattern}')
-    return new
 
 
 def number(leaf):

@@ -27,9 +27,10 @@ import sys
 import textwrap
 
 import leaf_code
-from leaf_code import FIRST_STATE, MADE, number, replaced
+from leaf_code import FIRST_STATE, MADE, number
 import made_files
 from kept_leaves import LEAVES, PLACES, leaf_names, names, places, required, rows as kept_rows
+from made_files import replaced
 from proved_source import Unlisted
 
 ROOT = Path(__file__).resolve().parents[2]

@@ -1,5 +1,15 @@
 """made_files.py: what the tools have in common that make files of the proved source: --write writes them, and --check holds them. No tool by itself."""
+import re
+
 from proved_source import Unlisted
+
+
+def replaced(path, text, pattern, made):
+    """A file's text with the one place that is like a pattern made anew: `made` is the text, or gives it from the match."""
+    new, many = re.subn(pattern, lambda found: made(found) if callable(made) else made, text, flags=re.MULTILINE)
+    if many != 1:
+        raise Unlisted(f'{path} has {many} places like {pattern}')
+    return new
 
 
 def run(words, root, tool, doc, made):

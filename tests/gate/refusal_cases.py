@@ -17,6 +17,7 @@ import sys
 
 import check_cases
 import made_files
+from made_files import replaced
 from proved_source import Unlisted
 from refusal_list import listed
 
@@ -55,13 +56,6 @@ def plain(every):
     """The cases of `Refusal` itself: those of the topology are one, at the first of them."""
     first = next((case for case in every if case.nested), None)
     return [case for case in every if not case.nested or case is first]
-
-
-def replaced(path, text, pattern, made):
-    new, many = re.subn(pattern, lambda found: made(found) if callable(made) else made, text, flags=re.MULTILINE)
-    if many != 1:
-        raise Unlisted(f'{path} has {many} places like {pattern}')
-    return new
 
 
 def clauses(path, text, head, tail, patterns):
@@ -203,7 +197,7 @@ def made(root):
        lambda path, text: replaced(path, text, r'(?:^refusal-back .* = .*\n)+', back))
     of(f'{NEAREST}.antt', lambda path, text: others(path, text, 'GivenFor c s', ' = ⊥', every, names))
     of(f'{NEAREST}Proof.antt', lambda path, text: others(path, text, '  refusal-given', ' f = absurd f', every, names))
-    read.update(check_cases.made(root, every, replaced, names))
+    read.update(check_cases.made(root, every, names))
     return read, f'{len(every)} refusals in {len(read)} files of the proved source'
 
 

@@ -7,6 +7,7 @@ pub mod PoolExactlyProof
 pub mod PoolWrites
 pub mod ByTheLetter
 pub mod ByTheLetterProof
+pub mod TableTest
 pub mod LetterTest
 pub mod PoolMoves
 pub mod PoolMovesProof
