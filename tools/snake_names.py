@@ -141,6 +141,9 @@ def main():
             if before.endswith('.') and not before.endswith('..'):
                 if own_path.search(before) and not before.endswith('tie.'):
                     return new
+                # a module by a short name
+                if re.search(r"(?<![\w.])[A-Z]\w*(?:\.[A-Z]\w*)*\.$", before):
+                    return new
                 if word in fields and not walked:
                     return new
                 return word
