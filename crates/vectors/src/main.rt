@@ -9,8 +9,13 @@
 //   f  find the first entry of leaf a, with subleaf b
 //   w  write the image into a bytes that hold A5h
 // tests/lists/make_vectors.py makes the commands, and the lines that are to come out.
+#![tactic(auto)]
+
+ghost use Rattle.std.specs.Prelude.{◌≤◌, length, IfOk};
+
 use answers::{SnpCpuidBuilt, SnpCpuidFirst, SnpCpuidFound, SnpCpuidWritten};
-use libc::{STDIN_FILENO, STDOUT_FILENO};
+use std::io;
+use std::io::{Read, Write};
 
 const LONGEST_SET: usize = 65537;
 
@@ -18,7 +23,7 @@ const LONGEST_LENT: usize = 1024;
 
 const COMMAND_SIZE: usize = 16;
 
-#[derive(Drop)]
+#[derive(Clone, Copy)]
 struct Command {
     kind: u8,
     secure_avic: bool,
@@ -30,41 +35,61 @@ struct Command {
 }
 
 // What follows a command: the next, on a page set of so many bytes, or the end.
-#[derive(Drop)]
+#[derive(Clone, Copy)]
 enum Step {
     Next(usize),
     End,
 }
 
-fn main() {
+// A read or a write that fails ends the run with its error.
+fn main(rt: HostRuntime) -> io::Result<()> {
     let mut set = [0u8; LONGEST_SET];
-    run(&mut set);
+    run(&mut rt.stdin(), &mut rt.stdout(), &mut set)
 }
 
-// A proved loop has to end, and nothing says that the input does: the loop counts its turns down, from a number that no run uses up.
-fn run(set: &mut [u8]) {
+// A proved loop has to end, and nothing says that the input does. So the loop counts its turns, up to a number that no run reaches.
+fn run<R: Read, W: Write>(input: &mut R, output: &mut W, set: &mut [u8]) -> io::Result<()> {
     let mut length: usize = 0;
-    let mut turns = u32::MAX;
-    while turns > 0 {
-        let Step::Next(n) = next_command(set, length) else {
-            return;
+    for _ in 0..u32::MAX {
+        let Step::Next(n) = next_command(input, output, set, length)? else {
+            return Ok(());
         };
         length = n;
-        turns -= 1;
     }
+    Ok(())
 }
 
 // Reads a command and does it. The input ends between two commands, else it is malformed.
-fn next_command(set: &mut [u8], length: usize) -> Step {
+fn next_command<R: Read, W: Write>(
+    input: &mut R,
+    output: &mut W,
+    set: &mut [u8],
+    length: usize,
+) -> io::Result<Step> {
     let mut head = [0u8; COMMAND_SIZE];
-    let got = io::read_full(STDIN_FILENO, &mut head);
+    let got = read_full(input, &mut head)?;
     if got == COMMAND_SIZE {
-        return execute(parse(&head), set, length);
+        return execute(input, output, parse(&head), set, length);
     }
     if got == 0 {
-        return Step::End;
+        return Ok(Step::End);
     }
-    bad_vector()
+    bad_vector(output)
+}
+
+// Reads until `buf` is full or the input ends, and tells how many bytes it put at the start of `buf`.
+fn read_full<R: Read>(input: &mut R, buf: &mut [u8]) -> io::Result<usize>
+    ensures { IfOk result (λ n. n ≤ length buf.new) }
+{
+    let mut done = 0;
+    while done < buf.len() {
+        let n = input.read(&mut buf[done..])?;
+        if n == 0 {
+            break;
+        }
+        done += n;
+    }
+    Ok(done)
 }
 
 // The command of 16 bytes.
@@ -81,56 +106,74 @@ fn parse(head: &[u8; COMMAND_SIZE]) -> Command {
 }
 
 // Changes the page set, or asks the library. The length is looked at where it is used.
-fn execute(command: Command, set: &mut [u8], length: usize) -> Step {
+fn execute<R: Read, W: Write>(
+    input: &mut R,
+    output: &mut W,
+    command: Command,
+    set: &mut [u8],
+    length: usize,
+) -> io::Result<Step> {
     let kind = command.kind;
     if kind == b'n' {
-        return Step::Next(command.a as usize);
+        return Ok(Step::Next(command.a as usize));
     }
     if kind == b'd' {
-        return patch(set, command.a as usize, command.b as usize, length);
+        let from = command.a as usize;
+        return patch(input, output, set, from, command.b as usize, length);
     }
     if length > set.len() {
-        return bad_vector();
+        return bad_vector(output);
     }
-    if answer(command, front(set, length)) {
-        return Step::Next(length);
+    if answer(output, command, front(set, length))? {
+        return Ok(Step::Next(length));
     }
-    bad_vector()
+    bad_vector(output)
 }
 
 // Says that a command is malformed, and ends the run.
-fn bad_vector() -> Step {
-    io::write_all(STDOUT_FILENO, b"bad vector\n");
-    Step::End
+fn bad_vector<W: Write>(output: &mut W) -> io::Result<Step> {
+    output.write_all(b"bad vector\n")?;
+    Ok(Step::End)
 }
 
 // Reads `count` bytes into the page set.
-fn patch(set: &mut [u8], from: usize, count: usize, length: usize) -> Step {
+fn patch<R: Read, W: Write>(
+    input: &mut R,
+    output: &mut W,
+    set: &mut [u8],
+    from: usize,
+    count: usize,
+    length: usize,
+) -> io::Result<Step> {
     if from > set.len() {
-        return bad_vector();
+        return bad_vector(output);
     }
     if count > set.len() - from {
-        return bad_vector();
+        return bad_vector(output);
     }
     let end = from + count;
-    if io::read_full(STDIN_FILENO, &mut set[from..end]) != count {
-        return bad_vector();
+    if read_full(input, &mut set[from..end])? != count {
+        return bad_vector(output);
     }
-    Step::Next(length)
+    Ok(Step::Next(length))
 }
 
 // Calls the library and prints its answer; false where the command makes no sense.
-fn answer(command: Command, set: &[u8]) -> bool {
+fn answer<W: Write>(output: &mut W, command: Command, set: &[u8]) -> io::Result<bool> {
     let kind = command.kind;
     let avic = command.secure_avic;
     let edition = command.edition;
     match kind {
-        b'b' => print_built(snp_cpuid::snp_cpuid_build(set, avic, edition)),
-        b'l' => print_found(look_up(command, set)),
-        b'f' => print_first(snp_cpuid::snp_cpuid_first_entry(set, command.a, command.b)),
-        b'w' => write(set, avic, edition, command.a as usize),
-        _ => false,
+        b'b' => print_built(output, snp_cpuid::snp_cpuid_build(set, avic, edition))?,
+        b'l' => print_found(output, look_up(command, set))?,
+        b'f' => print_first(
+            output,
+            snp_cpuid::snp_cpuid_first_entry(set, command.a, command.b),
+        )?,
+        b'w' => return write(output, set, avic, edition, command.a as usize),
+        _ => return Ok(false),
     }
+    Ok(true)
 }
 
 // The row that the command names.
@@ -146,93 +189,120 @@ fn look_up(command: Command, set: &[u8]) -> SnpCpuidFound {
     )
 }
 
-// Lends `room` bytes, all A5h, to the writer.
-fn write(set: &[u8], avic: bool, edition: u32, room: usize) -> bool {
+// Lends `room` bytes, all A5h, to the writer; false where there are not as many.
+fn write<W: Write>(
+    output: &mut W,
+    set: &[u8],
+    avic: bool,
+    edition: u32,
+    room: usize,
+) -> io::Result<bool> {
     let mut lent = [0xA5u8; LONGEST_LENT];
     if room > LONGEST_LENT {
-        return false;
+        return Ok(false);
     }
-    write_into(set, avic, edition, &mut lent[..room])
+    write_into(output, set, avic, edition, &mut lent[..room])?;
+    Ok(true)
 }
 
 // Writes, and prints what the lent bytes are afterwards.
-fn write_into(set: &[u8], avic: bool, edition: u32, lent: &mut [u8]) -> bool {
+fn write_into<W: Write>(
+    output: &mut W,
+    set: &[u8],
+    avic: bool,
+    edition: u32,
+    lent: &mut [u8],
+) -> io::Result<()> {
     let written = snp_cpuid::snp_cpuid_write_image(set, avic, edition, lent);
-    print_written(written, lent)
+    print_written(output, written, lent)
 }
 
 // b number leaf has_subleaf subleaf s rows mask
-fn print_built(built: SnpCpuidBuilt) -> bool {
-    print(b'b')
-        & print_refusal(
-            built.number,
-            built.leaf,
-            built.has_subleaf,
-            built.subleaf,
-            built.s,
-        )
-        & print_number(built.row_count)
-        & print_number(built.max_extended_state)
-        & print(b'\n')
+fn print_built<W: Write>(output: &mut W, built: SnpCpuidBuilt) -> io::Result<()> {
+    print(output, b'b')?;
+    print_refusal(
+        output,
+        built.number,
+        built.leaf,
+        built.has_subleaf,
+        built.subleaf,
+        built.s,
+    )?;
+    print_number(output, built.row_count)?;
+    print_number(output, built.max_extended_state)?;
+    print(output, b'\n')
 }
 
 // l found EAX EBX ECX EDX origin page entry
-fn print_found(found: SnpCpuidFound) -> bool {
-    print(b'l')
-        & print_number(found.found as u64)
-        & print_number(found.eax as u64)
-        & print_number(found.ebx as u64)
-        & print_number(found.ecx as u64)
-        & print_number(found.edx as u64)
-        & print_number(found.origin as u64)
-        & print_number(found.page)
-        & print_number(found.entry as u64)
-        & print(b'\n')
+fn print_found<W: Write>(output: &mut W, found: SnpCpuidFound) -> io::Result<()> {
+    print(output, b'l')?;
+    print_number(output, found.found as u64)?;
+    print_number(output, found.eax as u64)?;
+    print_number(output, found.ebx as u64)?;
+    print_number(output, found.ecx as u64)?;
+    print_number(output, found.edx as u64)?;
+    print_number(output, found.origin as u64)?;
+    print_number(output, found.page)?;
+    print_number(output, found.entry as u64)?;
+    print(output, b'\n')
 }
 
 // f number leaf has_subleaf subleaf s found page entry
-fn print_first(first: SnpCpuidFirst) -> bool {
-    print(b'f')
-        & print_refusal(
-            first.number,
-            first.leaf,
-            first.has_subleaf,
-            first.subleaf,
-            first.s,
-        )
-        & print_number(first.found as u64)
-        & print_number(first.page)
-        & print_number(first.entry as u64)
-        & print(b'\n')
+fn print_first<W: Write>(output: &mut W, first: SnpCpuidFirst) -> io::Result<()> {
+    print(output, b'f')?;
+    print_refusal(
+        output,
+        first.number,
+        first.leaf,
+        first.has_subleaf,
+        first.subleaf,
+        first.s,
+    )?;
+    print_number(output, first.found as u64)?;
+    print_number(output, first.page)?;
+    print_number(output, first.entry as u64)?;
+    print(output, b'\n')
 }
 
 // w number leaf has_subleaf subleaf s length, and every byte of the lent buffer
-fn print_written(written: SnpCpuidWritten, lent: &[u8]) -> bool {
-    print(b'w')
-        & print_refusal(
-            written.number,
-            written.leaf,
-            written.has_subleaf,
-            written.subleaf,
-            written.s,
-        )
-        & print_number(written.length)
-        & print(b' ')
-        & print_bytes(lent)
-        & print(b'\n')
+fn print_written<W: Write>(
+    output: &mut W,
+    written: SnpCpuidWritten,
+    lent: &[u8],
+) -> io::Result<()> {
+    print(output, b'w')?;
+    print_refusal(
+        output,
+        written.number,
+        written.leaf,
+        written.has_subleaf,
+        written.subleaf,
+        written.s,
+    )?;
+    print_number(output, written.length)?;
+    print(output, b' ')?;
+    print_bytes(output, lent)?;
+    print(output, b'\n')
 }
 
 // What a refusal names.
-fn print_refusal(number: u32, leaf: u32, has_subleaf: u32, subleaf: u32, s: u32) -> bool {
-    print_number(number as u64)
-        & print_number(leaf as u64)
-        & print_number(has_subleaf as u64)
-        & print_number(subleaf as u64)
-        & print_number(s as u64)
+fn print_refusal<W: Write>(
+    output: &mut W,
+    number: u32,
+    leaf: u32,
+    has_subleaf: u32,
+    subleaf: u32,
+    s: u32,
+) -> io::Result<()> {
+    print_number(output, number as u64)?;
+    print_number(output, leaf as u64)?;
+    print_number(output, has_subleaf as u64)?;
+    print_number(output, subleaf as u64)?;
+    print_number(output, s as u64)
 }
 
 // A space and 16 hexadecimal digits, of which the lowest is found first.
-fn print_number(x: u64) -> bool {
+fn print_number<W: Write>(output: &mut W, x: u64) -> io::Result<()> {
     let mut text = [b' '; 17];
     let mut rest = x;
     let mut i: usize = 16;
@@ -241,22 +311,21 @@ fn print_number(x: u64) -> bool {
         rest /= 16;
         i -= 1;
     }
-    io::write_all(STDOUT_FILENO, &text)
+    output.write_all(&text)
 }
 
-// Two digits for each byte; false where one could not be written.
-fn print_bytes(bytes: &[u8]) -> bool {
-    let mut written = true;
-    for i in 0..bytes.len() {
-        written = print(hex_digit(bytes[i] / 16)) & print(hex_digit(bytes[i] % 16)) & written;
+// Two digits for each byte.
+fn print_bytes<W: Write>(output: &mut W, bytes: &[u8]) -> io::Result<()> {
+    for byte in bytes {
+        print(output, hex_digit(*byte / 16))?;
+        print(output, hex_digit(*byte % 16))?;
     }
-    written
+    Ok(())
 }
 
 // One character.
-fn print(text: u8) -> bool {
-    let one = [text];
-    io::write_all(STDOUT_FILENO, &one)
+fn print<W: Write>(output: &mut W, text: u8) -> io::Result<()> {
+    output.write_all(&[text])
 }
 
 // The first `n` bytes, or all where there are fewer.
