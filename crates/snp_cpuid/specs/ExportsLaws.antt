@@ -5,10 +5,11 @@ use Rattle.table.specs.declared.Choices.{Choices}
 use Rattle.table.specs.declared.Verdict.{Verdict}
 use Rattle.memory.specs.Held.{mask_held}
 use Rattle.build.specs.Build.{answer, InMemory}
-use Rattle.counts.specs.BuiltRows.{built_rows, mask_in, rows_held}
-use Rattle.answers.specs.Answers.{builtGiven, builtNumbers}
+use Rattle.counts.specs.BuiltRows.{built_rows, mask_in}
+use Rattle.counts.proofs.BuiltRows.{rows_held}
+use Rattle.answers.specs.Answers.{built_given, built_numbers}
 
 pub built_told : (c : Choices) (s : List ℕ) {w o : List ℕ} {v : Verdict} → InMemory (answer c s) v w o
-    → builtGiven v (built_rows v (mask_held w)) (mask_held w) ≡ builtNumbers (answer c s)
+    → built_given v (built_rows v (mask_held w)) (mask_held w) ≡ built_numbers (answer c s)
 built_told c s {w} {v = v} k =
-    ap (λ x. builtGiven x (built_rows v (mask_held w)) (mask_held w)) k.verdict ∙ ap₂ (builtGiven (answer c s).verdict) (rows_held c s k) (mask_in k)
+    ap (λ x. built_given x (built_rows v (mask_held w)) (mask_held w)) k.verdict ∙ ap₂ (built_given (answer c s).verdict) (rows_held c s k) (mask_in k)

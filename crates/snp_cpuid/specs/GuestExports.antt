@@ -10,7 +10,7 @@ use Rattle.table.specs.Refusal.{and_then}
 use Rattle.table.specs.Table.{rows_of_table}
 use Rattle.lookup.specs.declared.LeafResult.{LeafResult}
 use Rattle.lookup.specs.Lookup.{lookup_origin}
-use Rattle.lookup.specs.LookupLaws.{empty_finds_nothing}
+use Rattle.lookup.proofs.LookupLaws.{empty_finds_nothing}
 use Rattle.guest_state.specs.State.{state_verdict}
 use Rattle.guest.specs.Guest.{answer_for}
 use Rattle.build.specs.Build.{answer}
@@ -20,14 +20,14 @@ use Rattle.guest.specs.Seen.{SeenIn}
 use Rattle.guest.specs.GuestPages.{guest_pages}
 use Rattle.answers.specs.declared.SnpCpuidBuilt.{SnpCpuidBuilt}
 use Rattle.answers.specs.declared.SnpCpuidFound.{SnpCpuidFound}
-use Rattle.answers.specs.Answers.{heldNumbers, foundGiven, foundAt}
+use Rattle.answers.specs.Answers.{held_numbers, found_given, found_at}
 
 abbrev pub guest_numbers : GuestAnswer → SnpCpuidBuilt
-guest_numbers g = heldNumbers g.verdict g.table
+guest_numbers g = held_numbers g.verdict g.table
 
 -- the lookup in the guest's table, with the origin of the paravisor's row
 abbrev pub guest_found : Choices → List ℕ → Processor → ℕ → Subleaf → Bool → SnpCpuidFound
-guest_found chosen s v leaf subleaf enforce = foundAt (guest_pages chosen s v).table (answer chosen s).origins leaf subleaf enforce
+guest_found chosen s v leaf subleaf enforce = found_at (guest_pages chosen s v).table (answer chosen s).origins leaf subleaf enforce
 
 -- the memory w, o is the guest's table, whose rows came from where `found` says
 abbrev pub GuestIn : GuestAnswer → List ℕ → List ℕ → List ℕ → Type 0
@@ -37,16 +37,16 @@ GuestIn g found w o = SeenIn g found g.verdict w o
 -- one nothing is found
 pub found_seen : (chosen : Choices) (s : List ℕ) (v : Processor) (o q : List ℕ) (leaf : ℕ) (subleaf : Subleaf) (enforce : Bool)
     → ((guest_pages chosen s v).verdict ≡ Accepted → o ≡ q)
-    → foundAt (guest_pages chosen s v).table o leaf subleaf enforce ≡ foundAt (guest_pages chosen s v).table q leaf subleaf enforce
+    → found_at (guest_pages chosen s v).table o leaf subleaf enforce ≡ found_at (guest_pages chosen s v).table q leaf subleaf enforce
 unfolding guest_pages
 found_seen chosen s v o q leaf subleaf enforce =
     go (and_then (answer chosen s).verdict (state_verdict (rows_of_table (answer chosen s).table) v.xcr0 v.xss))
   where
     go : (w : Verdict) → ((answer_for w (answer chosen s).table v).verdict ≡ Accepted → o ≡ q)
-        → foundAt (answer_for w (answer chosen s).table v).table o leaf subleaf enforce
-        ≡ foundAt (answer_for w (answer chosen s).table v).table q leaf subleaf enforce
-    go Accepted h = ap (λ (k : List ℕ). foundAt (answer_for Accepted (answer chosen s).table v).table k leaf subleaf enforce) (h refl)
+        → found_at (answer_for w (answer chosen s).table v).table o leaf subleaf enforce
+        ≡ found_at (answer_for w (answer chosen s).table v).table q leaf subleaf enforce
+    go Accepted h = ap (λ (k : List ℕ). found_at (answer_for Accepted (answer chosen s).table v).table k leaf subleaf enforce) (h refl)
     go (Refused r) h =
         let none = empty_finds_nothing (function leaf) subleaf enforce in
-        ap (λ (x : LeafResult). foundGiven x (lookup_origin o (function leaf) subleaf enforce)) none
-        ∙ sym (ap (λ (x : LeafResult). foundGiven x (lookup_origin q (function leaf) subleaf enforce)) none)
+        ap (λ (x : LeafResult). found_given x (lookup_origin o (function leaf) subleaf enforce)) none
+        ∙ sym (ap (λ (x : LeafResult). found_given x (lookup_origin q (function leaf) subleaf enforce)) none)

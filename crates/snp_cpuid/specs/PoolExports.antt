@@ -9,11 +9,11 @@ use Rattle.pool.specs.declared.PoolVerdict.{PoolVerdict}
 use Rattle.pool.specs.PoolIn.{PoolIn}
 use Rattle.answers.specs.PoolAnswers.{pooled_given, pooled_numbers}
 use Rattle.answers.specs.declared.SnpCpuidFound.{SnpCpuidFound}
-use Rattle.answers.specs.Answers.{foundAt}
+use Rattle.answers.specs.Answers.{found_at}
 
 -- the row of the pool's table, with its origin
 abbrev pub pooled_found : Pooled → ℕ → Subleaf → Bool → SnpCpuidFound
-pooled_found p leaf subleaf enforce = foundAt p.table p.origins leaf subleaf enforce
+pooled_found p leaf subleaf enforce = found_at p.table p.origins leaf subleaf enforce
 
 -- the memory w, o holds the pool's table, and where its rows came from
 abbrev pub PooledIn : Pooled → List ℕ → List ℕ → Type 0

@@ -3,7 +3,7 @@ ghost use Rattle.std.specs.Prelude.{◌≡◌};
 ghost use Rattle.memory.specs.Held.{held_in};
 ghost use Rattle.build.specs.Build.{answer};
 ghost use Rattle.fingerprint.specs.Fingerprint.{fingerprint};
-ghost use Rattle.answers.specs.Answers.{choicesOf, countsOf, builtNumbers};
+ghost use Rattle.answers.specs.Answers.{choices_of, counts_of, built_numbers};
 
 use answers::{SnpCpuidBuilt, SnpCpuidCounts, table_counts, table_numbers};
 use build::build_into;
@@ -13,15 +13,14 @@ use memory::REGISTERS;
 use table::Choices;
 
 // Builds, and gives the table's fingerprint; a refusal has the table without rows, whose image is no bytes.
-#[unsafe(no_mangle)]
-pub extern "C" fn snp_cpuid_fingerprint(
+pub fn snp_cpuid_fingerprint(
     pages: &[u8],
     secure_avic: bool,
     edition: u32,
     digest: &mut [u8; 32],
 ) -> SnpCpuidBuilt
-    ensures value { result ≡ builtNumbers (answer (choicesOf secure_avic edition) pages.now) }
-    ensures digest_after { digest.new ≡ fingerprint (answer (choicesOf secure_avic edition) pages.now).table }
+    ensures value { result ≡ built_numbers (answer (choices_of secure_avic edition) pages.now) }
+    ensures digest_after { digest.new ≡ fingerprint (answer (choices_of secure_avic edition) pages.now).table }
 {
     let choices = Choices {
         secure_avic,
@@ -35,13 +34,12 @@ pub extern "C" fn snp_cpuid_fingerprint(
 }
 
 // The fingerprint of a table of any content, and its counts: a table without rows has the fingerprint of no bytes.
-#[unsafe(no_mangle)]
-pub extern "C" fn snp_cpuid_table_fingerprint(
+pub fn snp_cpuid_table_fingerprint(
     registers: &[u32; REGISTERS],
     origins: &[u64; PLACES],
     digest: &mut [u8; 32],
 ) -> SnpCpuidCounts
-    ensures value { result ≡ countsOf (held_in registers.now origins.now) }
+    ensures value { result ≡ counts_of (held_in registers.now origins.now) }
     ensures digest_after { digest.new ≡ fingerprint (held_in registers.now origins.now) }
 {
     fingerprint(registers, origins, digest);

@@ -2,7 +2,7 @@
 ghost use Rattle.std.specs.Prelude.{◌≡◌};
 ghost use Rattle.guest.specs.GuestPages.{guest_pages, write_guest};
 ghost use Rattle.table.specs.Numbers.{subleaf_of};
-ghost use Rattle.answers.specs.Answers.{choicesOf, processorOf, writtenNumbers};
+ghost use Rattle.answers.specs.Answers.{choices_of, processor_of, written_numbers};
 ghost use Rattle.snp_cpuid.specs.GuestExports.{guest_numbers, guest_found};
 
 use answers::{
@@ -14,8 +14,7 @@ use memory::REGISTERS;
 use table::{Choices, subleaf_of};
 
 // Builds the table of the given pages, and tells whether the table allows the processor's state.
-#[unsafe(no_mangle)]
-pub extern "C" fn snp_cpuid_guest_build(
+pub fn snp_cpuid_guest_build(
     pages: &[u8],
     secure_avic: bool,
     edition: u32,
@@ -24,7 +23,7 @@ pub extern "C" fn snp_cpuid_guest_build(
     xss: u64,
     osxsave: bool,
 ) -> SnpCpuidBuilt
-    ensures { result ≡ guest_numbers (guest_pages (choicesOf secure_avic edition) pages.now (processorOf x2apic xcr0 xss osxsave)) }
+    ensures { result ≡ guest_numbers (guest_pages (choices_of secure_avic edition) pages.now (processor_of x2apic xcr0 xss osxsave)) }
 {
     let v = processor(x2apic, xcr0, xss, osxsave);
     let choices = Choices {
@@ -38,8 +37,7 @@ pub extern "C" fn snp_cpuid_guest_build(
 }
 
 // Builds, and looks a row up in the guest's table as leaf_result_ref does in the paravisor's, whose row's origin it has.
-#[unsafe(no_mangle)]
-pub extern "C" fn snp_cpuid_guest_lookup(
+pub fn snp_cpuid_guest_lookup(
     pages: &[u8],
     secure_avic: bool,
     edition: u32,
@@ -52,7 +50,7 @@ pub extern "C" fn snp_cpuid_guest_lookup(
     subleaf: u32,
     enforce_subleaf: bool,
 ) -> SnpCpuidFound
-    ensures { result ≡ guest_found (choicesOf secure_avic edition) pages.now (processorOf x2apic xcr0 xss osxsave) leaf (subleaf_of has_subleaf subleaf) enforce_subleaf }
+    ensures { result ≡ guest_found (choices_of secure_avic edition) pages.now (processor_of x2apic xcr0 xss osxsave) leaf (subleaf_of has_subleaf subleaf) enforce_subleaf }
 {
     let v = processor(x2apic, xcr0, xss, osxsave);
     let choices = Choices {
@@ -67,8 +65,7 @@ pub extern "C" fn snp_cpuid_guest_lookup(
 }
 
 // Builds, and writes the image of the guest's table at the front of `out`.
-#[unsafe(no_mangle)]
-pub extern "C" fn snp_cpuid_write_guest_image(
+pub fn snp_cpuid_write_guest_image(
     pages: &[u8],
     secure_avic: bool,
     edition: u32,
@@ -78,8 +75,8 @@ pub extern "C" fn snp_cpuid_write_guest_image(
     osxsave: bool,
     out: &mut [u8],
 ) -> SnpCpuidWritten
-    ensures value { result ≡ writtenNumbers (write_guest (choicesOf secure_avic edition) pages.now (processorOf x2apic xcr0 xss osxsave) out.old).answer }
-    ensures out_after { out.new ≡ (write_guest (choicesOf secure_avic edition) pages.now (processorOf x2apic xcr0 xss osxsave) out.old).buffer }
+    ensures value { result ≡ written_numbers (write_guest (choices_of secure_avic edition) pages.now (processor_of x2apic xcr0 xss osxsave) out.old).answer }
+    ensures out_after { out.new ≡ (write_guest (choices_of secure_avic edition) pages.now (processor_of x2apic xcr0 xss osxsave) out.old).buffer }
 {
     let v = processor(x2apic, xcr0, xss, osxsave);
     let choices = Choices {

@@ -1,11 +1,13 @@
 // The library's functions for C and Rust, over numbers and slices. include/snp_cpuid.h documents each call.
+#![tactic(auto)]
+
 ghost use Rattle.std.specs.Prelude.{◌≡◌};
 ghost use Rattle.build.specs.Build.{answer};
 ghost use Rattle.image.specs.Write.{write};
 ghost use Rattle.collect.specs.FirstEntry.{first_entry_of};
 ghost use Rattle.compare.specs.Compare.{compared};
 ghost use Rattle.table.specs.Numbers.{subleaf_of};
-ghost use Rattle.answers.specs.Answers.{choicesOf, builtNumbers, writtenNumbers};
+ghost use Rattle.answers.specs.Answers.{choices_of, built_numbers, written_numbers};
 ghost use Rattle.answers.specs.ComparedAnswers.{compared_numbers};
 ghost use Rattle.snp_cpuid.specs.Exports.{found_in, first_numbers};
 
@@ -20,20 +22,19 @@ use memory::REGISTERS;
 use table::{Choices, subleaf_of};
 use x86defs::CpuidFunction;
 
-mod carry_exports;
-mod fingerprint_exports;
-mod guest_exports;
-mod kvm;
-mod line_exports;
-mod nearest_exports;
-mod pool_exports;
-mod table_exports;
-mod topology_exports;
+pub mod carry_exports;
+pub mod fingerprint_exports;
+pub mod guest_exports;
+pub mod kvm;
+pub mod line_exports;
+pub mod nearest_exports;
+pub mod pool_exports;
+pub mod table_exports;
+pub mod topology_exports;
 
 // Builds the table of the given pages.
-#[unsafe(no_mangle)]
-pub extern "C" fn snp_cpuid_build(pages: &[u8], secure_avic: bool, edition: u32) -> SnpCpuidBuilt
-    ensures { result ≡ builtNumbers (answer (choicesOf secure_avic edition) pages.now) }
+pub fn snp_cpuid_build(pages: &[u8], secure_avic: bool, edition: u32) -> SnpCpuidBuilt
+    ensures { result ≡ built_numbers (answer (choices_of secure_avic edition) pages.now) }
 {
     let choices = Choices {
         secure_avic,
@@ -46,8 +47,7 @@ pub extern "C" fn snp_cpuid_build(pages: &[u8], secure_avic: bool, edition: u32)
 }
 
 // Builds, and looks a row up as leaf_result_ref does; with the row it tells where it came from.
-#[unsafe(no_mangle)]
-pub extern "C" fn snp_cpuid_lookup(
+pub fn snp_cpuid_lookup(
     pages: &[u8],
     secure_avic: bool,
     edition: u32,
@@ -56,7 +56,7 @@ pub extern "C" fn snp_cpuid_lookup(
     subleaf: u32,
     enforce_subleaf: bool,
 ) -> SnpCpuidFound
-    ensures { result ≡ found_in (answer (choicesOf secure_avic edition) pages.now) leaf (subleaf_of has_subleaf subleaf) enforce_subleaf }
+    ensures { result ≡ found_in (answer (choices_of secure_avic edition) pages.now) leaf (subleaf_of has_subleaf subleaf) enforce_subleaf }
 {
     let choices = Choices {
         secure_avic,
@@ -70,8 +70,7 @@ pub extern "C" fn snp_cpuid_lookup(
 }
 
 // Where the first counted entry of a leaf and subleaf stands, whether or not the pages give a table.
-#[unsafe(no_mangle)]
-pub extern "C" fn snp_cpuid_first_entry(pages: &[u8], leaf: u32, subleaf: u32) -> SnpCpuidFirst
+pub fn snp_cpuid_first_entry(pages: &[u8], leaf: u32, subleaf: u32) -> SnpCpuidFirst
     ensures { result ≡ first_numbers (first_entry_of pages.now (record { 0 = leaf }) subleaf) }
 {
     let first = collect::first_entry(pages, CpuidFunction(leaf), subleaf);
@@ -80,15 +79,14 @@ pub extern "C" fn snp_cpuid_first_entry(pages: &[u8], leaf: u32, subleaf: u32) -
 }
 
 // Builds, and writes the image at the front of `out`.
-#[unsafe(no_mangle)]
-pub extern "C" fn snp_cpuid_write_image(
+pub fn snp_cpuid_write_image(
     pages: &[u8],
     secure_avic: bool,
     edition: u32,
     out: &mut [u8],
 ) -> SnpCpuidWritten
-    ensures value { result ≡ writtenNumbers (write (choicesOf secure_avic edition) pages.now out.old).answer }
-    ensures out_after { out.new ≡ (write (choicesOf secure_avic edition) pages.now out.old).buffer }
+    ensures value { result ≡ written_numbers (write (choices_of secure_avic edition) pages.now out.old).answer }
+    ensures out_after { out.new ≡ (write (choices_of secure_avic edition) pages.now out.old).buffer }
 {
     let choices = Choices {
         secure_avic,
@@ -98,14 +96,8 @@ pub extern "C" fn snp_cpuid_write_image(
 }
 
 // Whether a guest of the server with pages `a` may move to the one with pages `b`, or the first thing in the way.
-#[unsafe(no_mangle)]
-pub extern "C" fn snp_cpuid_compare(
-    a: &[u8],
-    b: &[u8],
-    secure_avic: bool,
-    edition: u32,
-) -> SnpCpuidCompared
-    ensures { result ≡ compared_numbers (compared (choicesOf secure_avic edition) a.now b.now) }
+pub fn snp_cpuid_compare(a: &[u8], b: &[u8], secure_avic: bool, edition: u32) -> SnpCpuidCompared
+    ensures { result ≡ compared_numbers (compared (choices_of secure_avic edition) a.now b.now) }
 {
     let choices = Choices {
         secure_avic,

@@ -11,8 +11,7 @@ use lines::bytes::LineDetails;
 use table::subleaf_of;
 
 // Writes the line of a refusal at the front of `out`.
-#[unsafe(no_mangle)]
-pub extern "C" fn snp_cpuid_write_line(
+pub fn snp_cpuid_write_line(
     number: u32,
     leaf: u32,
     has_subleaf: bool,
@@ -34,8 +33,7 @@ pub extern "C" fn snp_cpuid_write_line(
 }
 
 // The refusal whose line the bytes are, the whole of them.
-#[unsafe(no_mangle)]
-pub extern "C" fn snp_cpuid_read_line(line: &[u8]) -> SnpCpuidLineRead
+pub fn snp_cpuid_read_line(line: &[u8]) -> SnpCpuidLineRead
     ensures { result ≡ line_read_numbers (read_line line.now) }
 {
     line_read_numbers(lines::read_line(line))

@@ -3,7 +3,7 @@ ghost use Rattle.std.specs.Prelude.{◌≡◌};
 ghost use Rattle.pool.specs.Pool.{pooled};
 ghost use Rattle.pool.specs.WritePool.{write_pool};
 ghost use Rattle.table.specs.Numbers.{subleaf_of};
-ghost use Rattle.answers.specs.Answers.{choicesOf, writtenNumbers};
+ghost use Rattle.answers.specs.Answers.{choices_of, written_numbers};
 ghost use Rattle.answers.specs.PoolAnswers.{pooled_numbers};
 ghost use Rattle.snp_cpuid.specs.PoolExports.{pooled_found, PooledIn};
 
@@ -16,14 +16,13 @@ use pool::write::write_pool_image;
 use table::{Choices, subleaf_of};
 
 // Builds one table for servers whose page sets stand end to end.
-#[unsafe(no_mangle)]
-pub extern "C" fn snp_cpuid_pool(
+pub fn snp_cpuid_pool(
     pages: &[u8],
     lengths: &[u64],
     secure_avic: bool,
     edition: u32,
 ) -> SnpCpuidPooled
-    ensures { result ≡ pooled_numbers (pooled (choicesOf secure_avic edition) pages.now lengths.now) }
+    ensures { result ≡ pooled_numbers (pooled (choices_of secure_avic edition) pages.now lengths.now) }
 {
     let choices = Choices {
         secure_avic,
@@ -42,8 +41,7 @@ pub extern "C" fn snp_cpuid_pool(
 }
 
 // Builds one table for servers whose page sets stand end to end into the caller's memory; a refusal leaves a table without rows.
-#[unsafe(no_mangle)]
-pub extern "C" fn snp_cpuid_table_pool(
+pub fn snp_cpuid_table_pool(
     pages: &[u8],
     lengths: &[u64],
     secure_avic: bool,
@@ -51,8 +49,8 @@ pub extern "C" fn snp_cpuid_table_pool(
     registers: &mut [u32; REGISTERS],
     origins: &mut [u64; PLACES],
 ) -> SnpCpuidPooled
-    ensures value { result ≡ pooled_numbers (pooled (choicesOf secure_avic edition) pages.now lengths.now) }
-    ensures pooled_in { PooledIn (pooled (choicesOf secure_avic edition) pages.now lengths.now) registers.new origins.new }
+    ensures value { result ≡ pooled_numbers (pooled (choices_of secure_avic edition) pages.now lengths.now) }
+    ensures pooled_in { PooledIn (pooled (choices_of secure_avic edition) pages.now lengths.now) registers.new origins.new }
 {
     let choices = Choices {
         secure_avic,
@@ -69,8 +67,7 @@ pub extern "C" fn snp_cpuid_table_pool(
 }
 
 // Builds, and looks a row up as leaf_result_ref does; with the row it tells where it stood in the first server's pages.
-#[unsafe(no_mangle)]
-pub extern "C" fn snp_cpuid_pool_lookup(
+pub fn snp_cpuid_pool_lookup(
     pages: &[u8],
     lengths: &[u64],
     secure_avic: bool,
@@ -80,7 +77,7 @@ pub extern "C" fn snp_cpuid_pool_lookup(
     subleaf: u32,
     enforce_subleaf: bool,
 ) -> SnpCpuidFound
-    ensures { result ≡ pooled_found (pooled (choicesOf secure_avic edition) pages.now lengths.now) leaf (subleaf_of has_subleaf subleaf) enforce_subleaf }
+    ensures { result ≡ pooled_found (pooled (choices_of secure_avic edition) pages.now lengths.now) leaf (subleaf_of has_subleaf subleaf) enforce_subleaf }
 {
     let choices = Choices {
         secure_avic,
@@ -94,16 +91,15 @@ pub extern "C" fn snp_cpuid_pool_lookup(
 }
 
 // Builds, and writes the image of the pool's table at the front of `out`.
-#[unsafe(no_mangle)]
-pub extern "C" fn snp_cpuid_write_pool_image(
+pub fn snp_cpuid_write_pool_image(
     pages: &[u8],
     lengths: &[u64],
     secure_avic: bool,
     edition: u32,
     out: &mut [u8],
 ) -> SnpCpuidWritten
-    ensures value { result ≡ writtenNumbers (write_pool (choicesOf secure_avic edition) pages.now lengths.now out.old).answer }
-    ensures out_after { out.new ≡ (write_pool (choicesOf secure_avic edition) pages.now lengths.now out.old).buffer }
+    ensures value { result ≡ written_numbers (write_pool (choices_of secure_avic edition) pages.now lengths.now out.old).answer }
+    ensures out_after { out.new ≡ (write_pool (choices_of secure_avic edition) pages.now lengths.now out.old).buffer }
 {
     let choices = Choices {
         secure_avic,

@@ -17,7 +17,7 @@ ghost use Rattle.carry.specs.Carry.{carry};
 ghost use Rattle.carry.specs.CarriedInPlace.{CarriedIn};
 ghost use Rattle.compare.specs.RowsCompared.{compared_tables};
 ghost use Rattle.table.specs.Numbers.{numbers_of, subleaf_of};
-ghost use Rattle.answers.specs.Answers.{choicesOf, processorOf, countsOf, readWith, builtNumbers, foundNumbers, foundAt, guestFoundNumbers, stateNumbers, writtenNumbers};
+ghost use Rattle.answers.specs.Answers.{choices_of, processor_of, counts_of, read_with, built_numbers, found_numbers, found_at, guest_found_numbers, state_numbers, written_numbers};
 ghost use Rattle.answers.specs.ComparedAnswers.{tables_compared_numbers};
 ghost use Rattle.snp_cpuid.specs.GuestExports.{guest_numbers, GuestIn};
 
@@ -37,16 +37,15 @@ use table::{Choices, subleaf_of};
 use x86defs::CpuidFunction;
 
 // Builds the table of the given pages into the caller's memory; a refusal leaves a table without rows.
-#[unsafe(no_mangle)]
-pub extern "C" fn snp_cpuid_table_build(
+pub fn snp_cpuid_table_build(
     pages: &[u8],
     secure_avic: bool,
     edition: u32,
     registers: &mut [u32; REGISTERS],
     origins: &mut [u64; PLACES],
 ) -> SnpCpuidBuilt
-    ensures value { result ≡ builtNumbers (answer (choicesOf secure_avic edition) pages.now) }
-    ensures table_in { TableIn (answer (choicesOf secure_avic edition) pages.now) registers.new origins.new }
+    ensures value { result ≡ built_numbers (answer (choices_of secure_avic edition) pages.now) }
+    ensures table_in { TableIn (answer (choices_of secure_avic edition) pages.now) registers.new origins.new }
 {
     let choices = Choices {
         secure_avic,
@@ -58,13 +57,12 @@ pub extern "C" fn snp_cpuid_table_build(
 }
 
 // Reads a table's image into the caller's memory; bytes that are no image leave a table without rows.
-#[unsafe(no_mangle)]
-pub extern "C" fn snp_cpuid_table_read_image(
+pub fn snp_cpuid_table_read_image(
     image: &[u8],
     registers: &mut [u32; REGISTERS],
     origins: &mut [u64; PLACES],
 ) -> SnpCpuidRead
-    ensures value { result ≡ readWith (read_image image.now).is_image (read_image image.now).table }
+    ensures value { result ≡ read_with (read_image image.now).is_image (read_image image.now).table }
     ensures read_in { ReadIn image.now (read_image image.now).is_image registers.new origins.new }
 {
     let is_image = image_read::read_image(image, registers, origins);
@@ -72,8 +70,7 @@ pub extern "C" fn snp_cpuid_table_read_image(
 }
 
 // Looks a row up as leaf_result_ref does, in a table of any content.
-#[unsafe(no_mangle)]
-pub extern "C" fn snp_cpuid_table_find(
+pub fn snp_cpuid_table_find(
     registers: &[u32; REGISTERS],
     origins: &[u64; PLACES],
     leaf: u32,
@@ -81,15 +78,14 @@ pub extern "C" fn snp_cpuid_table_find(
     subleaf: u32,
     enforce_subleaf: bool,
 ) -> SnpCpuidFound
-    ensures { result ≡ foundAt (held_in registers.now origins.now) origins.now leaf (subleaf_of has_subleaf subleaf) enforce_subleaf }
+    ensures { result ≡ found_at (held_in registers.now origins.now) origins.now leaf (subleaf_of has_subleaf subleaf) enforce_subleaf }
 {
     let named = subleaf_of(has_subleaf, subleaf);
     found_at(registers, origins, leaf, named, enforce_subleaf)
 }
 
 // What the guest of a processor reads at a CPUID exit: the verdict on its state, then one row as it sees it.
-#[unsafe(no_mangle)]
-pub extern "C" fn snp_cpuid_table_guest_find(
+pub fn snp_cpuid_table_guest_find(
     registers: &[u32; REGISTERS],
     origins: &[u64; PLACES],
     x2apic: u32,
@@ -101,7 +97,7 @@ pub extern "C" fn snp_cpuid_table_guest_find(
     subleaf: u32,
     enforce_subleaf: bool,
 ) -> SnpCpuidGuestFound
-    ensures { result ≡ guestFoundNumbers (guest_found_in (guest_answer (held_in registers.now origins.now) (processorOf x2apic xcr0 xss osxsave)) origins.now (function leaf) (subleaf_of has_subleaf subleaf) enforce_subleaf) }
+    ensures { result ≡ guest_found_numbers (guest_found_in (guest_answer (held_in registers.now origins.now) (processor_of x2apic xcr0 xss osxsave)) origins.now (function leaf) (subleaf_of has_subleaf subleaf) enforce_subleaf) }
 {
     let v = processor(x2apic, xcr0, xss, osxsave);
     let named = subleaf_of(has_subleaf, subleaf);
@@ -116,21 +112,19 @@ pub extern "C" fn snp_cpuid_table_guest_find(
 }
 
 // Whether a table gives XCR0 and XSS, and the compacted size of the save area over them: what a caller keeps until either changes.
-#[unsafe(no_mangle)]
-pub extern "C" fn snp_cpuid_table_state(
+pub fn snp_cpuid_table_state(
     registers: &[u32; REGISTERS],
     origins: &[u64; PLACES],
     xcr0: u64,
     xss: u64,
 ) -> SnpCpuidState
-    ensures { result ≡ stateNumbers (in_use (read_rows false registers.now origins.now) xcr0 xss) }
+    ensures { result ≡ state_numbers (in_use (read_rows false registers.now origins.now) xcr0 xss) }
 {
     state_numbers(state_in_use(registers, origins, false, xcr0, xss))
 }
 
 // What the guest of a processor reads where its state was accepted before: one row, with the compacted size that the caller kept.
-#[unsafe(no_mangle)]
-pub extern "C" fn snp_cpuid_table_guest_find_kept(
+pub fn snp_cpuid_table_guest_find_kept(
     registers: &[u32; REGISTERS],
     origins: &[u64; PLACES],
     x2apic: u32,
@@ -143,7 +137,7 @@ pub extern "C" fn snp_cpuid_table_guest_find_kept(
     subleaf: u32,
     enforce_subleaf: bool,
 ) -> SnpCpuidFound
-    ensures { result ≡ foundNumbers (found (table_with (held_in registers.now origins.now) (processorOf x2apic xcr0 xss osxsave) size) origins.now (function leaf) (subleaf_of has_subleaf subleaf) enforce_subleaf) }
+    ensures { result ≡ found_numbers (found (table_with (held_in registers.now origins.now) (processor_of x2apic xcr0 xss osxsave) size) origins.now (function leaf) (subleaf_of has_subleaf subleaf) enforce_subleaf) }
 {
     let v = processor(x2apic, xcr0, xss, osxsave);
     let named = subleaf_of(has_subleaf, subleaf);
@@ -159,8 +153,7 @@ pub extern "C" fn snp_cpuid_table_guest_find_kept(
 }
 
 // Makes a table what the guest of a processor sees; a refusal by 13 or 14 leaves a table without rows.
-#[unsafe(no_mangle)]
-pub extern "C" fn snp_cpuid_table_guest(
+pub fn snp_cpuid_table_guest(
     registers: &mut [u32; REGISTERS],
     origins: &mut [u64; PLACES],
     x2apic: u32,
@@ -168,8 +161,8 @@ pub extern "C" fn snp_cpuid_table_guest(
     xss: u64,
     osxsave: bool,
 ) -> SnpCpuidBuilt
-    ensures value { result ≡ guest_numbers (guest_answer (held_in registers.old origins.old) (processorOf x2apic xcr0 xss osxsave)) }
-    ensures guest_in { GuestIn (guest_answer (held_in registers.old origins.old) (processorOf x2apic xcr0 xss osxsave)) origins.old registers.new origins.new }
+    ensures value { result ≡ guest_numbers (guest_answer (held_in registers.old origins.old) (processor_of x2apic xcr0 xss osxsave)) }
+    ensures guest_in { GuestIn (guest_answer (held_in registers.old origins.old) (processor_of x2apic xcr0 xss osxsave)) origins.old registers.new origins.new }
 {
     let v = processor(x2apic, xcr0, xss, osxsave);
     let verdict = guest_table(registers, origins, v);
@@ -177,34 +170,31 @@ pub extern "C" fn snp_cpuid_table_guest(
 }
 
 // Writes a table's image at the front of `out`.
-#[unsafe(no_mangle)]
-pub extern "C" fn snp_cpuid_table_write_image(
+pub fn snp_cpuid_table_write_image(
     registers: &[u32; REGISTERS],
     origins: &[u64; PLACES],
     out: &mut [u8],
 ) -> SnpCpuidWritten
-    ensures value { result ≡ writtenNumbers (write_front (image (held_in registers.now origins.now)) out.old).answer }
+    ensures value { result ≡ written_numbers (write_front (image (held_in registers.now origins.now)) out.old).answer }
     ensures out_after { out.new ≡ (write_front (image (held_in registers.now origins.now)) out.old).buffer }
 {
     written_numbers(image::write::write_table(registers, origins, out))
 }
 
 // Writes a table's struct kvm_cpuid2 at the front of `out`.
-#[unsafe(no_mangle)]
-pub extern "C" fn snp_cpuid_table_write_kvm(
+pub fn snp_cpuid_table_write_kvm(
     registers: &[u32; REGISTERS],
     origins: &[u64; PLACES],
     out: &mut [u8],
 ) -> SnpCpuidWritten
-    ensures value { result ≡ writtenNumbers (write_front (list_of (held_in registers.now origins.now)) out.old).answer }
+    ensures value { result ≡ written_numbers (write_front (list_of (held_in registers.now origins.now)) out.old).answer }
     ensures out_after { out.new ≡ (write_front (list_of (held_in registers.now origins.now)) out.old).buffer }
 {
     written_numbers(kvm_export::write_table(registers, origins, out))
 }
 
 // Takes a table from one edition of the AVX rule to another, in place: 0, or 13 to 16 and the table as it was. Origins are only read.
-#[unsafe(no_mangle)]
-pub extern "C" fn snp_cpuid_table_carry(
+pub fn snp_cpuid_table_carry(
     registers: &mut [u32; REGISTERS],
     origins: &[u64; PLACES],
     from: u32,
@@ -221,8 +211,7 @@ pub extern "C" fn snp_cpuid_table_carry(
 }
 
 // Whether the second table has at least the first: every row, its features, its save area, all else equal; or the first thing in the way.
-#[unsafe(no_mangle)]
-pub extern "C" fn snp_cpuid_table_compare(
+pub fn snp_cpuid_table_compare(
     a_registers: &[u32; REGISTERS],
     a_origins: &[u64; PLACES],
     b_registers: &[u32; REGISTERS],
@@ -234,12 +223,11 @@ pub extern "C" fn snp_cpuid_table_compare(
 }
 
 // How many rows a table has, and its combined mask.
-#[unsafe(no_mangle)]
-pub extern "C" fn snp_cpuid_table_counts(
+pub fn snp_cpuid_table_counts(
     registers: &[u32; REGISTERS],
     origins: &[u64; PLACES],
 ) -> SnpCpuidCounts
-    ensures { result ≡ countsOf (held_in registers.now origins.now) }
+    ensures { result ≡ counts_of (held_in registers.now origins.now) }
 {
     table_counts(registers, origins)
 }

@@ -1,14 +1,13 @@
 // Every topology that building accepts up to size seven, for C and Rust: document 02, P14.
 ghost use Rattle.std.specs.Prelude.{◌≡◌};
 ghost use Rattle.topologies.specs.Topologies.{write_topologies};
-ghost use Rattle.answers.specs.Answers.{writtenNumbers};
+ghost use Rattle.answers.specs.Answers.{written_numbers};
 
 use answers::{SnpCpuidWritten, written_numbers};
 
 // Writes all accepted inputs at the front of `out`, five bytes each.
-#[unsafe(no_mangle)]
-pub extern "C" fn snp_cpuid_write_topologies(out: &mut [u8]) -> SnpCpuidWritten
-    ensures value { result ≡ writtenNumbers (write_topologies out.old).answer }
+pub fn snp_cpuid_write_topologies(out: &mut [u8]) -> SnpCpuidWritten
+    ensures value { result ≡ written_numbers (write_topologies out.old).answer }
     ensures out_after { out.new ≡ (write_topologies out.old).buffer }
 {
     written_numbers(topologies::write_topologies(out))

@@ -1,0 +1,8 @@
+-- `snp_cpuid_read_kvm` meets its contract: the list read, and its answer's numbers.
+use mathlib.Core.Path.{ap, ◌∙◌}
+use Rattle.answers.specs.Answers.{written_numbers}
+use borrow.Author.Rules.{rules}
+use Rattle.snp_cpuid.proofs.kvm.snp_cpuid_read_kvm.Goals as goal
+
+pub returns : goal.returns
+returns c = record { value = c.written_numbers.ensures ∙ ap written_numbers c.read_list.ensures.value; out_after = c.read_list.ensures.out_after }

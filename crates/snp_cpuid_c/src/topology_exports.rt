@@ -1,0 +1,15 @@
+// Every topology that building accepts up to size seven, for C and Rust.
+ghost use Rattle.std.specs.Prelude.{◌≡◌};
+ghost use Rattle.topologies.specs.Topologies.{write_topologies};
+ghost use Rattle.answers.specs.Answers.{written_numbers};
+
+use answers::SnpCpuidWritten;
+
+// Writes all accepted inputs at the front of `out`, five bytes each.
+#[unsafe(no_mangle)]
+pub extern "C" fn snp_cpuid_write_topologies(out: &mut [u8]) -> SnpCpuidWritten
+    ensures value { result ≡ written_numbers (write_topologies out.old).answer }
+    ensures out_after { out.new ≡ (write_topologies out.old).buffer }
+{
+    snp_cpuid::topology_exports::snp_cpuid_write_topologies(out)
+}
