@@ -33,15 +33,15 @@ use Rattle.answers.specs.declared.SnpCpuidFirst.{SnpCpuidFirst}
 use Rattle.answers.specs.declared.SnpCpuidWritten.{SnpCpuidWritten}
 
 -- what a caller chooses
-abbrev pub choicesOf : Bool → ℕ → Choices
-choicesOf avic edition = record { secure_avic = avic; edition = edition }
+abbrev pub choices_of : Bool → ℕ → Choices
+choices_of avic edition = record { secure_avic = avic; edition = edition }
 
 -- the processor that a caller describes
-abbrev pub processorOf : ℕ → ℕ → ℕ → Bool → Processor
-processorOf n x s on = record { x2apic = n; xcr0 = x; xss = s; osxsave = on }
+abbrev pub processor_of : ℕ → ℕ → ℕ → Bool → Processor
+processor_of n x s on = record { x2apic = n; xcr0 = x; xss = s; osxsave = on }
 
-abbrev pub builtWith : AnswerNumbers → ℕ → ℕ → SnpCpuidBuilt
-builtWith n rows mask = record {
+abbrev pub built_numbers_with : AnswerNumbers → ℕ → ℕ → SnpCpuidBuilt
+built_numbers_with n rows mask = record {
   number = n.number;
   leaf = n.leaf;
   has_subleaf = n.has_subleaf;
@@ -51,19 +51,19 @@ builtWith n rows mask = record {
   max_extended_state = mask;
 }
 
-abbrev pub builtGiven : Verdict → ℕ → ℕ → SnpCpuidBuilt
-builtGiven v rows mask = builtWith (numbers_of v) rows mask
+abbrev pub built_given : Verdict → ℕ → ℕ → SnpCpuidBuilt
+built_given v rows mask = built_numbers_with (numbers_of v) rows mask
 
 -- a verdict, and the count and mask of a table
-abbrev pub heldNumbers : Verdict → CpuidResults → SnpCpuidBuilt
-heldNumbers v t = builtGiven v t.row_count t.max_extended_state
+abbrev pub held_numbers : Verdict → CpuidResults → SnpCpuidBuilt
+held_numbers v t = built_given v t.row_count t.max_extended_state
 
-abbrev pub builtNumbers : Built → SnpCpuidBuilt
-builtNumbers b = heldNumbers b.verdict b.table
+abbrev pub built_numbers : Built → SnpCpuidBuilt
+built_numbers b = held_numbers b.verdict b.table
 
 -- the registers and where the row came from, or all zeros
-abbrev pub foundWith : CpuidResult → OriginRead → SnpCpuidFound
-foundWith r o = record {
+abbrev pub found_with : CpuidResult → OriginRead → SnpCpuidFound
+found_with r o = record {
   found = 1;
   eax = r.eax;
   ebx = r.ebx;
@@ -74,30 +74,30 @@ foundWith r o = record {
   entry = o.position;
 }
 
-abbrev pub nothingFound : SnpCpuidFound
-nothingFound = record { found = 0; eax = 0; ebx = 0; ecx = 0; edx = 0; origin = 0; page = 0; entry = 0 }
+abbrev pub nothing_found : SnpCpuidFound
+nothing_found = record { found = 0; eax = 0; ebx = 0; ecx = 0; edx = 0; origin = 0; page = 0; entry = 0 }
 
-abbrev pub foundGiven : LeafResult → ℕ → SnpCpuidFound
-foundGiven (Found r) n = foundWith r (origin_read n)
-foundGiven Nothing n = nothingFound
+abbrev pub found_given : LeafResult → ℕ → SnpCpuidFound
+found_given (Found r) n = found_with r (origin_read n)
+found_given Nothing n = nothing_found
 
 -- the same of a row that was found with its origin
-abbrev pub foundNumbers : Location → SnpCpuidFound
-foundNumbers (Located r n) = foundWith r (origin_read n)
-foundNumbers NoRow = nothingFound
+abbrev pub found_numbers : Location → SnpCpuidFound
+found_numbers (Located r n) = found_with r (origin_read n)
+found_numbers NoRow = nothing_found
 
-pub given-located : (x : LeafResult) (n : ℕ) → foundNumbers (with_origin x n) ≡ foundGiven x n
-given-located (Found r) n = refl
-given-located Nothing n = refl
+pub given_located : (x : LeafResult) (n : ℕ) → found_numbers (with_origin x n) ≡ found_given x n
+given_located (Found r) n = refl
+given_located Nothing n = refl
 
 -- the row that a lookup finds in a table, with its origin from the column of origins beside the table
-abbrev pub foundAt : CpuidResults → List ℕ → ℕ → Subleaf → Bool → SnpCpuidFound
-foundAt t origins leaf subleaf enforce =
-    foundGiven (lookup t (record { 0 = leaf }) subleaf enforce) (lookup_origin origins (record { 0 = leaf }) subleaf enforce)
+abbrev pub found_at : CpuidResults → List ℕ → ℕ → Subleaf → Bool → SnpCpuidFound
+found_at t origins leaf subleaf enforce =
+    found_given (lookup t (record { 0 = leaf }) subleaf enforce) (lookup_origin origins (record { 0 = leaf }) subleaf enforce)
 
 -- where a first entry stands: found, which is 2 in an origin, is told as 1
-abbrev pub firstWith : AnswerNumbers → OriginRead → SnpCpuidFirst
-firstWith n o = record {
+abbrev pub first_with : AnswerNumbers → OriginRead → SnpCpuidFirst
+first_with n o = record {
   number = n.number;
   leaf = n.leaf;
   has_subleaf = n.has_subleaf;
@@ -108,11 +108,11 @@ firstWith n o = record {
   entry = o.position;
 }
 
-abbrev pub firstGiven : Verdict → ℕ → SnpCpuidFirst
-firstGiven v n = firstWith (numbers_of v) (origin_read n)
+abbrev pub first_given : Verdict → ℕ → SnpCpuidFirst
+first_given v n = first_with (numbers_of v) (origin_read n)
 
-abbrev pub writtenWith : AnswerNumbers → ℕ → SnpCpuidWritten
-writtenWith n length = record {
+abbrev pub written_with : AnswerNumbers → ℕ → SnpCpuidWritten
+written_with n length = record {
   number = n.number;
   leaf = n.leaf;
   has_subleaf = n.has_subleaf;
@@ -121,17 +121,17 @@ writtenWith n length = record {
   length = length;
 }
 
-abbrev pub writtenNumbers : Written → SnpCpuidWritten
-writtenNumbers (Bytes n) = record { number = 0; leaf = 0; has_subleaf = 0; subleaf = 0; s = 0; length = n }
-writtenNumbers (Refused r) = writtenWith (refusal_numbers r) 0
+abbrev pub written_numbers : Written → SnpCpuidWritten
+written_numbers (Bytes n) = record { number = 0; leaf = 0; has_subleaf = 0; subleaf = 0; s = 0; length = n }
+written_numbers (Refused r) = written_with (refusal_numbers r) 0
 
 -- ---- of a table that the caller keeps
 
-abbrev pub countsOf : CpuidResults → SnpCpuidCounts
-countsOf t = record { row_count = t.row_count; max_extended_state = t.max_extended_state }
+abbrev pub counts_of : CpuidResults → SnpCpuidCounts
+counts_of t = record { row_count = t.row_count; max_extended_state = t.max_extended_state }
 
-abbrev pub guestFoundWith : ℕ → SnpCpuidFound → SnpCpuidGuestFound
-guestFoundWith n f = record {
+abbrev pub guest_found_with : ℕ → SnpCpuidFound → SnpCpuidGuestFound
+guest_found_with n f = record {
   number = n;
   found = f.found;
   eax = f.eax;
@@ -144,14 +144,14 @@ guestFoundWith n f = record {
 }
 
 -- 13 or 14 and nothing found, or what was found
-abbrev pub guestFoundNumbers : GuestFound → SnpCpuidGuestFound
-guestFoundNumbers (NotGiven r) = guestFoundWith (refusal_numbers r).number nothingFound
-guestFoundNumbers (Looked f) = guestFoundWith 0 (foundNumbers f)
+abbrev pub guest_found_numbers : GuestFound → SnpCpuidGuestFound
+guest_found_numbers (NotGiven r) = guest_found_with (refusal_numbers r).number nothing_found
+guest_found_numbers (Looked f) = guest_found_with 0 (found_numbers f)
 
-abbrev pub stateNumbers : InUse → SnpCpuidState
-stateNumbers (NotInUse r) = record { number = (refusal_numbers r).number; size = 0 }
-stateNumbers (Compacted n) = record { number = 0; size = n }
+abbrev pub state_numbers : InUse → SnpCpuidState
+state_numbers (NotInUse r) = record { number = (refusal_numbers r).number; size = 0 }
+state_numbers (Compacted n) = record { number = 0; size = n }
 
 -- whether bytes are an image, 1 or 0, with the counts of the table that they gave
-abbrev pub readWith : Bool → CpuidResults → SnpCpuidRead
-readWith b t = record { is_image = one b; row_count = t.row_count; max_extended_state = t.max_extended_state }
+abbrev pub read_with : Bool → CpuidResults → SnpCpuidRead
+read_with b t = record { is_image = one b; row_count = t.row_count; max_extended_state = t.max_extended_state }

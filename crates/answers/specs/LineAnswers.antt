@@ -8,7 +8,7 @@ use Rattle.lines.specs.declared.LineRead.{LineRead}
 use Rattle.lines.specs.declared.LineRead.TheVariants.{Line as Says, NoSuchLine as SaysNothing}
 use Rattle.answers.specs.declared.line.SnpCpuidLineWritten.{SnpCpuidLineWritten}
 use Rattle.answers.specs.declared.line.SnpCpuidLineRead.{SnpCpuidLineRead}
-use Rattle.answers.specs.Answers.{writtenNumbers}
+use Rattle.answers.specs.Answers.{written_numbers}
 
 -- what a caller gives: the subleaf counts only where there is one
 abbrev pub details_given : ℕ → ℕ → Bool → ℕ → ℕ → LineDetails
@@ -16,7 +16,7 @@ details_given number leaf has subleaf s = record { number = number; leaf = leaf;
 
 -- the length, or 9, or no such line
 abbrev pub line_written_numbers : LineWritten → SnpCpuidLineWritten
-line_written_numbers (Line w) = record { is_line = 1; number = (writtenNumbers w).number; length = (writtenNumbers w).length }
+line_written_numbers (Line w) = record { is_line = 1; number = (written_numbers w).number; length = (written_numbers w).length }
 line_written_numbers NoSuchLine = record { is_line = 0; number = 0; length = 0 }
 
 abbrev pub line_read_numbers : LineRead → SnpCpuidLineRead

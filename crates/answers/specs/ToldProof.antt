@@ -41,7 +41,7 @@ use Rattle.lines.specs.declared.LineWritten.{LineWritten}
 use Rattle.lines.specs.declared.LineWritten.TheVariants.{Line, NoSuchLine}
 use Rattle.lines.specs.declared.LineRead.{LineRead}
 use Rattle.lines.specs.declared.LineRead.TheVariants.{Line as Says, NoSuchLine as SaysNothing}
-use Rattle.answers.specs.Answers.{choicesOf, processorOf, heldNumbers, builtNumbers, foundGiven, foundNumbers, guestFoundNumbers, stateNumbers, countsOf, readWith, firstGiven, writtenNumbers}
+use Rattle.answers.specs.Answers.{choices_of, processor_of, held_numbers, built_numbers, found_given, found_numbers, guest_found_numbers, state_numbers, counts_of, read_with, first_given, written_numbers}
 use Rattle.answers.specs.CarriedAnswers.{carried_numbers}
 use Rattle.answers.specs.ComparedAnswers.{compared_numbers, tables_compared_numbers}
 use Rattle.answers.specs.PoolAnswers.{pooled_numbers}
@@ -154,10 +154,10 @@ origin_in n = record {
   entry = λ p q l e. three (ap origin_read e ∙ entry_read p q l);
 }
 
-pub choices_given : (avic : Bool) (edition : ℕ) → ChoicesGiven avic edition (choicesOf avic edition)
+pub choices_given : (avic : Bool) (edition : ℕ) → ChoicesGiven avic edition (choices_of avic edition)
 choices_given avic edition = record { avic = refl; edition = refl }
 
-pub processor_given : (x2apic xcr0 xss : ℕ) (osxsave : Bool) → ProcessorGiven x2apic xcr0 xss osxsave (processorOf x2apic xcr0 xss osxsave)
+pub processor_given : (x2apic xcr0 xss : ℕ) (osxsave : Bool) → ProcessorGiven x2apic xcr0 xss osxsave (processor_of x2apic xcr0 xss osxsave)
 processor_given x2apic xcr0 xss osxsave = record { x2apic = refl; xcr0 = refl; xss = refl; osxsave = refl }
 
 pub subleaf_given : (k : ℕ) → SubleafGiven k
@@ -167,43 +167,43 @@ pub details_given_lem : (number leaf : ℕ) (has : Bool) (subleaf s : ℕ) → D
 details_given_lem number leaf has subleaf s =
     record { number = refl; leaf = refl; named = λ e. ap (λ (b : Bool). subleaf_of b subleaf) e; none = λ e. ap (λ (b : Bool). subleaf_of b subleaf) e; s = refl }
 
-pub held_told : (v : Verdict) (t : CpuidResults) → HeldTold v t (heldNumbers v t)
+pub held_told : (v : Verdict) (t : CpuidResults) → HeldTold v t (held_numbers v t)
 held_told v t = record { verdict = verdict_in_lem v; rows = refl; mask = refl }
 
-pub built_told : (b : Built) → HeldTold b.verdict b.table (builtNumbers b)
+pub built_told : (b : Built) → HeldTold b.verdict b.table (built_numbers b)
 built_told b = record { verdict = verdict_in_lem b.verdict; rows = refl; mask = refl }
 
-pub given_told : (x : LeafResult) (o : ℕ) → GivenTold x o (foundGiven x o)
+pub given_told : (x : LeafResult) (o : ℕ) → GivenTold x o (found_given x o)
 given_told (Given r) o = record { found = refl; eax = refl; ebx = refl; ecx = refl; edx = refl; origin = origin_in o }
 given_told Nothing o = record { found = refl; eax = refl; ebx = refl; ecx = refl; edx = refl; origin = refl; page = refl; position = refl }
 
-pub found_told : (f : Found) → FoundTold f (foundNumbers f)
+pub found_told : (f : Found) → FoundTold f (found_numbers f)
 found_told (Located r o) = record { found = refl; eax = refl; ebx = refl; ecx = refl; edx = refl; origin = origin_in o }
 found_told NotLocated = record { found = refl; eax = refl; ebx = refl; ecx = refl; edx = refl; origin = refl; page = refl; position = refl }
 
-pub guest_told : (f : GuestFound) → GuestTold f (guestFoundNumbers f)
+pub guest_told : (f : GuestFound) → GuestTold f (guest_found_numbers f)
 guest_told (NotGiven r) =
     (number_in r, record { found = refl; eax = refl; ebx = refl; ecx = refl; edx = refl; origin = refl; page = refl; position = refl })
 guest_told (Looked (Located r o)) = (refl, record { found = refl; eax = refl; ebx = refl; ecx = refl; edx = refl; origin = origin_in o })
 guest_told (Looked NotLocated) =
     (refl, record { found = refl; eax = refl; ebx = refl; ecx = refl; edx = refl; origin = refl; page = refl; position = refl })
 
-pub state_told : (s : InUse) → StateTold s (stateNumbers s)
+pub state_told : (s : InUse) → StateTold s (state_numbers s)
 state_told (NotInUse r) = (number_in r, refl)
 state_told (Compacted size) = (refl, refl)
 
-pub counts_told : (t : CpuidResults) → CountsTold t (countsOf t)
+pub counts_told : (t : CpuidResults) → CountsTold t (counts_of t)
 counts_told t = record { rows = refl; mask = refl }
 
-pub read_told : (b : Bool) (t : CpuidResults) → ReadTold b t (readWith b t)
+pub read_told : (b : Bool) (t : CpuidResults) → ReadTold b t (read_with b t)
 read_told b t = record {
-  image = λ e. ap (λ (c : Bool). (readWith c t).is_image) e;
-  none = λ e. ap (λ (c : Bool). (readWith c t).is_image) e;
+  image = λ e. ap (λ (c : Bool). (read_with c t).is_image) e;
+  none = λ e. ap (λ (c : Bool). (read_with c t).is_image) e;
   rows = refl;
   mask = refl;
 }
 
-pub first_told : (v : Verdict) (o : ℕ) → FirstTold v o (firstGiven v o)
+pub first_told : (v : Verdict) (o : ℕ) → FirstTold v o (first_given v o)
 first_told v o =
     let t = origin_in o in
     record {
@@ -212,7 +212,7 @@ first_told v o =
       entry = λ p q l e. (ap (λ (k : ℕ). k / 2) (t.entry p q l e).0, (t.entry p q l e).1, (t.entry p q l e).2);
     }
 
-pub written_told : (w : Written) → WrittenTold w (writtenNumbers w)
+pub written_told : (w : Written) → WrittenTold w (written_numbers w)
 written_told (Bytes k) = (accepted, refl)
 written_told (NotWritten r) = (refused (refusal_in r), refl)
 

@@ -5,7 +5,7 @@ ghost use Rattle.answers.specs.CarriedAnswers.{carried_numbers};
 use carry::in_image::CarriedImage;
 
 #[repr(C)]
-#[derive(Drop)]
+#[derive(Clone, Copy)]
 pub struct SnpCpuidCarried {
     pub is_image: u32,
     pub number: u32,

@@ -10,7 +10,7 @@ use table::Verdict;
 use table::numbers::AnswerNumbers;
 
 #[repr(C)]
-#[derive(Drop)]
+#[derive(Clone, Copy)]
 pub struct SnpCpuidCompared {
     pub answer: u32,
     pub number: u32,
@@ -76,7 +76,7 @@ pub fn compared_numbers(compared: Compared) -> SnpCpuidCompared
 
 // What comparing two tables gives.
 #[repr(C)]
-#[derive(Drop)]
+#[derive(Clone, Copy)]
 pub struct SnpCpuidTablesCompared {
     pub answer: u32,
     pub leaf: u32,

@@ -1,8 +1,10 @@
 // Answers as C and Rust are given them: structs of plain numbers, each documented in include/snp_cpuid.h, from the answers of the crates below.
+#![tactic(auto)]
+
 ghost use Rattle.std.specs.Prelude.{◌≡◌};
 ghost use Rattle.memory.specs.Held.{held_in, mask_held};
 ghost use Rattle.counts.specs.BuiltRows.{built_rows};
-ghost use Rattle.answers.specs.Answers.{processorOf, builtGiven, heldNumbers, countsOf, readWith, stateNumbers, guestFoundWith, guestFoundNumbers, foundNumbers, foundAt, firstGiven, writtenNumbers};
+ghost use Rattle.answers.specs.Answers.{processor_of, built_given, held_numbers, counts_of, read_with, state_numbers, guest_found_with, guest_found_numbers, found_numbers, found_at, first_given, written_numbers};
 
 use buffer::Written;
 use counts::built_rows;
@@ -22,7 +24,7 @@ pub mod nearest_bit;
 pub mod pool_answer;
 
 #[repr(C)]
-#[derive(Drop)]
+#[derive(Clone, Copy)]
 pub struct SnpCpuidBuilt {
     pub number: u32,
     pub leaf: u32,
@@ -34,7 +36,7 @@ pub struct SnpCpuidBuilt {
 }
 
 #[repr(C)]
-#[derive(Drop)]
+#[derive(Clone, Copy)]
 pub struct SnpCpuidFound {
     pub found: u32,
     pub eax: u32,
@@ -47,7 +49,7 @@ pub struct SnpCpuidFound {
 }
 
 #[repr(C)]
-#[derive(Drop)]
+#[derive(Clone, Copy)]
 pub struct SnpCpuidWritten {
     pub number: u32,
     pub leaf: u32,
@@ -58,7 +60,7 @@ pub struct SnpCpuidWritten {
 }
 
 #[repr(C)]
-#[derive(Drop)]
+#[derive(Clone, Copy)]
 pub struct SnpCpuidFirst {
     pub number: u32,
     pub leaf: u32,
@@ -72,7 +74,7 @@ pub struct SnpCpuidFirst {
 
 // What a processor's guest reads: 13 or 14 and zeros, or number 0 with what a lookup gives.
 #[repr(C)]
-#[derive(Drop)]
+#[derive(Clone, Copy)]
 pub struct SnpCpuidGuestFound {
     pub number: u32,
     pub found: u32,
@@ -87,7 +89,7 @@ pub struct SnpCpuidGuestFound {
 
 // Whether a table gives a state: 13 or 14, or number 0 with the compacted size of the save area.
 #[repr(C)]
-#[derive(Drop)]
+#[derive(Clone, Copy)]
 pub struct SnpCpuidState {
     pub number: u32,
     pub size: u32,
@@ -95,7 +97,7 @@ pub struct SnpCpuidState {
 
 // How many rows a table has, and its combined mask.
 #[repr(C)]
-#[derive(Drop)]
+#[derive(Clone, Copy)]
 pub struct SnpCpuidCounts {
     pub row_count: u64,
     pub max_extended_state: u64,
@@ -103,7 +105,7 @@ pub struct SnpCpuidCounts {
 
 // Whether bytes are a table's image, with the table's counts.
 #[repr(C)]
-#[derive(Drop)]
+#[derive(Clone, Copy)]
 pub struct SnpCpuidRead {
     pub is_image: u32,
     pub row_count: u64,
@@ -112,7 +114,7 @@ pub struct SnpCpuidRead {
 
 // The processor that a caller describes.
 pub fn processor(x2apic: u32, xcr0: u64, xss: u64, osxsave: bool) -> Processor
-    ensures { result ≡ processorOf x2apic xcr0 xss osxsave }
+    ensures { result ≡ processor_of x2apic xcr0 xss osxsave }
 {
     Processor {
         x2apic,
@@ -124,7 +126,7 @@ pub fn processor(x2apic: u32, xcr0: u64, xss: u64, osxsave: bool) -> Processor
 
 // What building gives, as numbers: the verdict's, then how many rows there are and the combined mask.
 pub fn built_numbers(verdict: Verdict, row_count: usize, max_extended_state: u64) -> SnpCpuidBuilt
-    ensures { result ≡ builtGiven verdict row_count max_extended_state }
+    ensures { result ≡ built_given verdict row_count max_extended_state }
 {
     let numbers = table::numbers::answer_numbers(verdict);
     SnpCpuidBuilt {
@@ -141,7 +143,7 @@ pub fn built_numbers(verdict: Verdict, row_count: usize, max_extended_state: u64
 // A verdict with the count of rows and the combined mask of the table that building left with it in memory. No row is counted: the mask tells how
 // many there are.
 pub fn built_table_numbers(verdict: Verdict, registers: &[u32; REGISTERS]) -> SnpCpuidBuilt
-    ensures { result ≡ builtGiven verdict (built_rows verdict (mask_held registers.now)) (mask_held registers.now) }
+    ensures { result ≡ built_given verdict (built_rows verdict (mask_held registers.now)) (mask_held registers.now) }
 {
     let mask = combined_mask(registers);
     built_numbers(verdict, built_rows(verdict, mask), mask)
@@ -149,7 +151,7 @@ pub fn built_table_numbers(verdict: Verdict, registers: &[u32; REGISTERS]) -> Sn
 
 // A row that was found as numbers, with its origin; or all zeros.
 pub fn found_numbers(found: Found) -> SnpCpuidFound
-    ensures { result ≡ foundNumbers found }
+    ensures { result ≡ found_numbers found }
 {
     match found {
         Found::Row(q, number) => {
@@ -186,7 +188,7 @@ pub fn found_at(
     subleaf: Subleaf,
     enforce_subleaf: bool,
 ) -> SnpCpuidFound
-    ensures { result ≡ foundAt (held_in registers.now origins.now) origins.now leaf subleaf enforce_subleaf }
+    ensures { result ≡ found_at (held_in registers.now origins.now) origins.now leaf subleaf enforce_subleaf }
 {
     found_numbers(find(
         registers,
@@ -199,7 +201,7 @@ pub fn found_at(
 
 // What a processor's guest reads, as numbers.
 pub fn guest_found_numbers(answer: GuestFound) -> SnpCpuidGuestFound
-    ensures { result ≡ guestFoundNumbers answer }
+    ensures { result ≡ guest_found_numbers answer }
 {
     match answer {
         GuestFound::Refused(refusal) => guest_found_with(
@@ -212,7 +214,7 @@ pub fn guest_found_numbers(answer: GuestFound) -> SnpCpuidGuestFound
 
 // A number, and what a lookup gives.
 fn guest_found_with(number: u32, f: SnpCpuidFound) -> SnpCpuidGuestFound
-    ensures { result ≡ guestFoundWith number f }
+    ensures { result ≡ guest_found_with number f }
 {
     SnpCpuidGuestFound {
         number,
@@ -229,7 +231,7 @@ fn guest_found_with(number: u32, f: SnpCpuidFound) -> SnpCpuidGuestFound
 
 // Whether a table gives a state, as numbers.
 pub fn state_numbers(state: InUse) -> SnpCpuidState
-    ensures { result ≡ stateNumbers state }
+    ensures { result ≡ state_numbers state }
 {
     match state {
         InUse::Refused(refusal) => {
@@ -245,7 +247,7 @@ pub fn state_numbers(state: InUse) -> SnpCpuidState
 
 // How many rows a table has, and its combined mask.
 pub fn table_counts(registers: &[u32; REGISTERS], origins: &[u64; PLACES]) -> SnpCpuidCounts
-    ensures { result ≡ countsOf (held_in registers.now origins.now) }
+    ensures { result ≡ counts_of (held_in registers.now origins.now) }
 {
     SnpCpuidCounts {
         row_count: row_count(origins) as u64,
@@ -259,7 +261,7 @@ pub fn read_numbers(
     registers: &[u32; REGISTERS],
     origins: &[u64; PLACES],
 ) -> SnpCpuidRead
-    ensures { result ≡ readWith is_image (held_in registers.now origins.now) }
+    ensures { result ≡ read_with is_image (held_in registers.now origins.now) }
 {
     let counts = table_counts(registers, origins);
     SnpCpuidRead {
@@ -275,14 +277,14 @@ pub fn table_numbers(
     registers: &[u32; REGISTERS],
     origins: &[u64; PLACES],
 ) -> SnpCpuidBuilt
-    ensures { result ≡ heldNumbers verdict (held_in registers.now origins.now) }
+    ensures { result ≡ held_numbers verdict (held_in registers.now origins.now) }
 {
     built_numbers(verdict, row_count(origins), combined_mask(registers))
 }
 
 // Where a first entry stands, from its number: found where the pages are lawful and have one.
 pub fn first_numbers(verdict: Verdict, number: u64) -> SnpCpuidFirst
-    ensures { result ≡ firstGiven verdict number }
+    ensures { result ≡ first_given verdict number }
 {
     let numbers = table::numbers::answer_numbers(verdict);
     let read = read_origin(number);
@@ -300,7 +302,7 @@ pub fn first_numbers(verdict: Verdict, number: u64) -> SnpCpuidFirst
 
 // A write's answer as numbers.
 pub fn written_numbers(written: Written) -> SnpCpuidWritten
-    ensures { result ≡ writtenNumbers written }
+    ensures { result ≡ written_numbers written }
 {
     match written {
         Written::Bytes(n) => SnpCpuidWritten {

@@ -6,7 +6,7 @@ use crate::written_numbers;
 use lines::{LineRead, LineWritten};
 
 #[repr(C)]
-#[derive(Drop)]
+#[derive(Clone, Copy)]
 pub struct SnpCpuidLineWritten {
     pub is_line: u32,
     pub number: u32,
@@ -14,7 +14,7 @@ pub struct SnpCpuidLineWritten {
 }
 
 #[repr(C)]
-#[derive(Drop)]
+#[derive(Clone, Copy)]
 pub struct SnpCpuidLineRead {
     pub is_line: u32,
     pub number: u32,

@@ -5,7 +5,7 @@ ghost use Rattle.answers.specs.NearestAnswers.{nearest_numbers};
 use nearest::Nearest;
 
 #[repr(C)]
-#[derive(Drop)]
+#[derive(Clone, Copy)]
 pub struct SnpCpuidNearest {
     pub number: u32,
     pub leaf: u32,

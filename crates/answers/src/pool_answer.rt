@@ -5,7 +5,7 @@ ghost use Rattle.answers.specs.PoolAnswers.{pooled_given};
 use table::Verdict;
 
 #[repr(C)]
-#[derive(Drop)]
+#[derive(Clone, Copy)]
 pub struct SnpCpuidPooled {
     pub number: u32,
     pub leaf: u32,

@@ -1,5 +1,5 @@
 -- Laws of bits, of fields and of "at least".
-use Rattle.std.specs.Prelude.{◌≡◌, refl, Bool, true, false, ◌&&◌, ℕ, zero, suc, ◌+◌, ◌-◌, ◌/◌, ◌%◌, ◌^◌, ◌≤◌, ◌<◌, min, max, eqb}
+use Rattle.std.specs.Prelude.{◌≡◌, refl, Bool, true, false, ◌&&◌, ℕ, suc, ◌+◌, ◌-◌, ◌/◌, ◌%◌, ◌^◌, ◌≤◌, ◌<◌, min, max, eqb}
 use Rattle.std.proofs.Common.{sym, ap, ◌∙◌, subst, le_refl, le_trans, le_of_eq, mod-lt, zero-lt-suc, arith, eq-eqb, ne_eqb, eqb-true}
 use Rattle.std.proofs.Math.Nat.{zero-div}
 use Rattle.std.proofs.Math.Arith.{bin_ind}
@@ -73,12 +73,6 @@ pub bit_has_not : (k n : ℕ) → bit k n ≡ 0 → has k n ≡ false
 unfolding has
 bit_has_not k n e = ne_eqb (bit k n) 1 (λ f. omega arith)
 
--- a number shifted to 0 has no bit left
-pub none_from : (x k : ℕ) → x / 2 ^ k ≡ 0 → (j : ℕ) → k ≤ j → has j x ≡ false
-none_from x k e j l =
-    let q : j ≡ k + (j - k) = omega arith in
-    bit_has_not j x (ap (λ (n : ℕ). bit n x) q ∙ sym (bit_shr k (j - k) x) ∙ ap (bit (j - k)) e ∙ zero_bit (j - k))
-
 -- ---- fields, tied to shift and mask
 
 pub field_shift_mask : (k w n : ℕ) → field k w n ≡ bit_and (n / 2 ^ k) (2 ^ w - 1)
@@ -137,9 +131,6 @@ or_least {a} {b} {c} h g = record { at = λ k. omega (arith, bit_or_lem k a b, h
 pub within_le : {a b : ℕ} → Within a b → a ≤ b
 within_le {a} {b} h = le_trans (le_of_eq (sym (and_of_within h))) (and_le_r a b)
 
-pub has_mono : {a b : ℕ} (k : ℕ) → Within a b → has k a ≡ true → has k b ≡ true
-has_mono {a} {b} k h e = bit_has k b (omega (arith, h.at k, bit_lt k b, has_bit k a e))
-
 -- ---- clearing: "at least" is kept where the test is, and a join by and goes through
 
 pub clear_within : (m x : ℕ) → Within (clear m x) x
@@ -150,16 +141,6 @@ pub clear_unless_within : (keep : Bool) (m x : ℕ) → Within (clear_unless kee
 unfolding clear_unless
 clear_unless_within true m x = within_refl x
 clear_unless_within false m x = clear_within m x
-
--- ---- and, by bits
-
-pub has_and : (k a b : ℕ) → has k (bit_and a b) ≡ (has k a && has k b)
-has_and k a b = go (has k a) (has k b) refl refl
-  where
-    go : (p q : Bool) → has k a ≡ p → has k b ≡ q → has k (bit_and a b) ≡ (p && q)
-    go true true e f = bit_has k _ (omega (arith, bit_and_lem k a b, has_bit k a e, has_bit k b f))
-    go true false e f = bit_has_not k _ (omega (arith, bit_and_lem k a b, has_not k b f))
-    go false q e f = bit_has_not k _ (omega (arith, bit_and_lem k a b, has_not k a e))
 
 pub and_idem : (a : ℕ) → bit_and a a ≡ a
 and_idem a = bits_ext _ _ (λ k. omega (arith, bit_and_lem k a a))

@@ -4,13 +4,13 @@ use Rattle.std.proofs.Common.{sym, ap, ◌∙◌, arith, ltb-true, ltb-false}
 use Rattle.std.proofs.Math.Nat.{div-eq_of_lt}
 use Rattle.std.proofs.Math.Numerals.{unary_clauses}
 use Rattle.bits.specs.Bits.{bit, Within}
-use Rattle.bits.specs.BitsLaws.{bit_zero, bit_suc, within_le, has_not, none_from}
+use Rattle.bits.specs.BitsLaws.{bit_zero, bit_suc, within_le, has_not}
 
 double : (n : ℕ) → 2 ^ suc n ≡ 2 ^ n * 2
 double n = simp unary_clauses refl
 
 -- a bit below n of n ones without those of m
-complement_bit : (n k m : ℕ) → m < 2 ^ n → k < n → bit k (2 ^ n - 1 - m) ≡ 1 - bit k m
+pub complement_bit : (n k m : ℕ) → m < 2 ^ n → k < n → bit k (2 ^ n - 1 - m) ≡ 1 - bit k m
 complement_bit zero k m l h = absurd (omega arith)
 complement_bit (suc n) zero m l h = bit_zero (2 ^ suc n - 1 - m) ∙ even (2 ^ n) (2 ^ suc n) m (double n) l ∙ ap (λ (x : ℕ). 1 - x) (sym (bit_zero m))
   where
@@ -27,16 +27,3 @@ complement_bit (suc n) (suc k) m l h =
 
     below : (p q m : ℕ) → q ≡ p * 2 → m < q → m / 2 < p
     below p q m e l = omega arith
-
--- none from 32 on
-none_above : (k m : ℕ) → 32 ≤ k → bit k (2 ^ 32 - 1 - m) ≡ 0
-none_above k m l = has_not k (2 ^ 32 - 1 - m) (none_from (2 ^ 32 - 1 - m) 32 (div-eq_of_lt (omega arith)) k l)
-
-pub within_left : {m n : ℕ} → n < 2 ^ 32 → Within m n → Within (2 ^ 32 - 1 - n) (2 ^ 32 - 1 - m)
-within_left {m} {n} l h = record { at = λ k. go k (ltb k 32) refl }
-  where
-    go : (k : ℕ) (b : Bool) → ltb k 32 ≡ b → bit k (2 ^ 32 - 1 - n) ≤ bit k (2 ^ 32 - 1 - m)
-    go k true e =
-        let u : k < 32 = ltb-true k 32 e in
-        omega (arith, complement_bit 32 k n l u, complement_bit 32 k m (omega (arith, within_le h)) u, h.at k)
-    go k false e = omega (arith, none_above k n (ltb-false k 32 e))

@@ -1,4 +1,6 @@
 // Bits of registers: tests a bit of a number, and clears bits of a number.
+#![tactic(auto)]
+
 ghost use Rattle.std.specs.Prelude.{◌≡◌, ◌<◌};
 ghost use Rattle.bits.specs.Bits.{has, clear_unless};
 

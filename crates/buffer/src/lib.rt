@@ -1,4 +1,6 @@
 // Lent buffers: stores numbers and registers at an index, the lowest byte first. What a write answers is said here too.
+#![tactic(auto)]
+
 ghost use Rattle.std.specs.Prelude.{◌≡◌, ◌+◌, ◌≤◌, length};
 ghost use Rattle.std.proofs.lemmas.List.Edits.{sets};
 ghost use Rattle.buffer.specs.Front.{word_bytes, register_bytes};
@@ -7,7 +9,7 @@ use table::Refusal;
 use x86defs::CpuidResult;
 
 // How many bytes were written, or why none was.
-#[derive(Drop)]
+#[derive(Clone, Copy)]
 pub enum Written {
     Bytes(usize),
     Refused(Refusal),

@@ -10,7 +10,7 @@ use Rattle.table.specs.declared.Verdict.TheVariants.{Accepted, Refused}
 use Rattle.table.specs.Edition.{known_edition}
 use Rattle.memory.specs.Origin.{finished_origins}
 use Rattle.memory.specs.Memory.{rows_in, Cleared}
-use Rattle.collect.specs.FirstEntryOriginLaws.{found_rows}
+use Rattle.collect.proofs.FirstEntryOriginLaws.{found_rows}
 use Rattle.collect.specs.WalkedPages.{WalkedPages}
 use Rattle.finish.specs.declared.RowsBuilt.{RowsBuilt}
 use Rattle.finish.specs.RowsBuilt.{built_from}
@@ -19,7 +19,7 @@ use Rattle.rows.specs.AnsweredLaws.{cleared, cleared_whole}
 use Rattle.build.specs.declared.Built.{Built}
 use Rattle.build.specs.Built.{without_origins, not_built}
 use Rattle.build.specs.Build.{edition_verdict, rows_for, answer, EntriesIn, FrontIn, InMemory}
-use Rattle.build.specs.BuildLaws.{located_origins, front_rows}
+use Rattle.build.specs.BuildLaws.{located_origins}
 
 -- a refusal is in memory without rows
 pub refused_in_memory : {r : Refusal} {b : Built} {w o : List ℕ} → not_built r ≡ b → Cleared w o → InMemory b (Refused r) w o
@@ -45,26 +45,3 @@ module _ (c : Choices) (s w o : List ℕ) where
 -- the masked first entries in memory are rows of the definition
 pub rows_held : {u : Verdict} (c : Choices) (s w o : List ℕ) {v : Verdict} → EntriesIn u c s v w o → v ≡ Accepted → rows_in w o ≡ rows_for c s
 rows_held c s w o k z = ap₂ rows_in (k.registers z) (k.stands z) ∙ found_rows c.secure_avic s
-
--- what finishing makes of them
-module _ (c : Choices) (s w o : List ℕ) {v : Verdict} (k : FrontIn c s v w o) (z : v ≡ Accepted) {x : Verdict} {w₁ o₁ : List ℕ}
-    (t : Tried (built_from c.edition (rows_in w o)) w o x w₁ o₁) where
-  rows_answered : built_from c.edition (rows_in w o) ≡ without_origins (answer c s)
-  rows_answered = ap (built_from c.edition) (rows_held c s w o k z) ∙ sym (front_rows c s (sym k.verdict ∙ z))
-
-  pub finished_verdict : (answer c s).verdict ≡ x
-  finished_verdict = sym (t.verdict ∙ ap (λ (b : RowsBuilt). b.verdict) rows_answered)
-
-  pub answer_in_memory : x ≡ Accepted → InMemory (answer c s) Accepted w₁ o₁
-  unfolding answer
-  answer_in_memory e =
-      let d : Answered (without_origins (answer c s)) o x w₁ o₁ = subst (λ (b : RowsBuilt). Answered b o x w₁ o₁) rows_answered (t.accepted e) in
-      record {
-        verdict = sym e ∙ d.verdict;
-        registers = d.table.registers;
-        table = d.whole;
-        origins =
-            d.table.origins
-            ∙ ap (finished_origins (answer c s).table.present) (k.stands z)
-            ∙ located_origins (answer c s).table s;
-      }

@@ -1,5 +1,7 @@
 // Building: from pages and the caller's choices one table with its origins, in lent memory, or one refusal. `rows_into` is the first half of it, from
 // pages to rows.
+#![tactic(auto)]
+
 ghost use Rattle.memory.specs.Memory.{Cleared};
 ghost use Rattle.build.specs.Build.{answer, FrontIn, InMemory};
 
@@ -12,7 +14,7 @@ use table::{Choices, CpuidResults, Refusal, Verdict};
 
 // The answer of the definition, specs/Build.antt: the verdict, the table, and where each row came from (document 02, P11), by the numbers of
 // `memory::origins`.
-#[derive(Drop)]
+#[derive(Clone, Copy)]
 pub struct Built {
     pub verdict: Verdict,
     pub table: CpuidResults,

@@ -27,8 +27,8 @@ ones_without_rows = record { present = replicate places false; results = replica
 -- D.0 alone is there
 abbrev pub only_d0 : CpuidResults
 only_d0 = record {
-  present = tabulate places (λ i. eqb i (Place.extendedState 0));
-  results = tabulate places (λ i. pick (eqb i (Place.extendedState 0)) (cpuid_result 0x7 0 0 0) ones);
+  present = tabulate places (λ i. eqb i (Place.extended_state 0));
+  results = tabulate places (λ i. pick (eqb i (Place.extended_state 0)) (cpuid_result 0x7 0 0 0) ones);
   row_count = 1;
   max_extended_state = 0x7;
 }

@@ -36,8 +36,8 @@ without_bits keep m r = cpuid_result r.eax r.ebx (clear_unless keep m r.ecx) r.e
 -- the registers at a place: two rows lose the bits, where they are there
 abbrev pub carried_at : EditionBits → Bool → ℕ → Row → CpuidResult
 carried_at b keep i r =
-    pick (eqb i Place.versionAndFeatures && r.present) (without_bits keep b.version_ecx r.result)
-    (pick (eqb i Place.extendedVersionAndFeatures && r.present) (without_bits keep b.extended_version_ecx r.result) r.result)
+    pick (eqb i Place.version_and_features && r.present) (without_bits keep b.version_ecx r.result)
+    (pick (eqb i Place.extended_version_and_features && r.present) (without_bits keep b.extended_version_ecx r.result) r.result)
 
 abbrev pub carried_table : EditionBits → Bool → CpuidResults → CpuidResults
 carried_table b keep t = record {

@@ -26,10 +26,10 @@ kept_within t from to e = ap (λ (b : Bool). b || has 2 (xfem (own_rows t))) (eq
 
 -- the places of leaves 1 and 80000001h
 abbrev pub at1 : ℕ
-at1 = Place.versionAndFeatures
+at1 = Place.version_and_features
 
 abbrev pub at80000001 : ℕ
-at80000001 = Place.extendedVersionAndFeatures
+at80000001 = Place.extended_version_and_features
 
 -- a row that is there without bits; else as it is
 abbrev if_there : Bool → ℕ → Row → CpuidResult

@@ -11,7 +11,7 @@ use memory::REGISTERS;
 use table::Verdict;
 
 // Whether lent bytes are a table's image, and if so, whether the table is carried.
-#[derive(Drop)]
+#[derive(Clone, Copy)]
 pub enum CarriedImage {
     NotAnImage,
     Image(Verdict),

@@ -1,5 +1,7 @@
 // Carries a running table, in lent memory or as its image, from one edition of the AVX rule to another, under one processor's state. A refusal leaves
 // it as it was.
+#![tactic(auto)]
+
 ghost use Rattle.std.specs.Prelude.{◌≡◌};
 ghost use Rattle.bits.specs.Choice.{pick};
 ghost use Rattle.table.specs.Table.{row_in};
@@ -18,7 +20,7 @@ use x86defs::CpuidResult;
 pub mod in_image;
 
 // Accepted with the table under the edition wanted, or refused with an empty one: the answer of the definition, specs/Carry.antt.
-#[derive(Drop)]
+#[derive(Clone, Copy)]
 pub struct Carried {
     pub verdict: Verdict,
     pub table: CpuidResults,

@@ -45,7 +45,7 @@ abbrev pub invlpgb_of : CpuidResult → Verdict
 invlpgb_of r = refuse_unless (has (Sizes.position Sizes.ExtendedAddressSpaceSizesEbx.invlpgb) r.ebx) InvlpgbUnavailable
 
 unfoldable pub invlpgb_verdict : Rows → Verdict
-invlpgb_verdict m = invlpgb_of (m Place.extendedAddressSpaceSizes).result
+invlpgb_verdict m = invlpgb_of (m Place.extended_address_space_sizes).result
 
 abbrev pub missing_component : ℕ → Refusal
 missing_component k = MissingRequiredResult ExtendedStateEnumeration (Some k)

@@ -50,7 +50,7 @@ present_required m f =
     ap (λ (x : Failing). refuse_at x missing_required) (lowest_all (λ j. (m (place_required j)).present) 0 required_count (λ j l h. f j (omega arith)))
 
 pub component_present : (m : Rows) → components_verdict m ≡ Accepted → (k : ℕ) → 2 ≤ k → k < 64 → has k (combined_mask m) ≡ true
-    → (m (Place.extendedState k)).present ≡ true
+    → (m (Place.extended_state k)).present ≡ true
 unfolding components_verdict components_of
 component_present m e k l u h =
     if_holds (has k (combined_mask m)) _ (lowest_none (supplied m (combined_mask m)) 2 62 (found_none _ missing_component e) k l (omega arith)) h

@@ -12,29 +12,29 @@ use Rattle.checks.specs.declared.Size.{Size}
 use Rattle.checks.specs.declared.Size.TheVariants.{Bytes, TooLarge}
 
 unfoldable pub xfem : Rows → ℕ
-xfem m = (m (Place.extendedState 0)).result.eax
+xfem m = (m (Place.extended_state 0)).result.eax
 
 -- XSS of the row of D.1
 abbrev pub xss_of : CpuidResult → ℕ
 xss_of d =
-    pick (has (Subleaf1Eax.position Subleaf1Eax.ExtendedStateEnumerationSubleaf1Eax.xsave-c) d.eax
-    && has (Subleaf1Eax.position Subleaf1Eax.ExtendedStateEnumerationSubleaf1Eax.xsave-s) d.eax)
+    pick (has (Subleaf1Eax.position Subleaf1Eax.ExtendedStateEnumerationSubleaf1Eax.xsave_c) d.eax
+    && has (Subleaf1Eax.position Subleaf1Eax.ExtendedStateEnumerationSubleaf1Eax.xsave_s) d.eax)
     d.ecx
     0
 
 unfoldable pub xss : Rows → ℕ
-xss m = xss_of (m (Place.extendedState 1)).result
+xss m = xss_of (m (Place.extended_state 1)).result
 
 unfoldable pub combined_mask : Rows → ℕ
 combined_mask m = bit_or (xfem m) (xss m)
 
 -- "Each combined bit from 2 up needs its subleaf": whether subleaf k is there if the mask x needs it
 abbrev pub supplied : Rows → ℕ → ℕ → Bool
-supplied m x k = pick (has k x) (m (Place.extendedState k)).present true
+supplied m x k = pick (has k x) (m (Place.extended_state k)).present true
 
 -- what a subleaf of the mask adds to the area
 abbrev pub sum_at : Rows → ℕ → ℕ
-sum_at m k = (m (Place.extendedState k)).result.eax + (m (Place.extendedState k)).result.ebx
+sum_at m k = (m (Place.extended_state k)).result.eax + (m (Place.extended_state k)).result.ebx
 
 -- an area of n bytes with a subleaf that ends at `sum`, if it is used
 abbrev pub grown : ℕ → Bool → ℕ → ℕ

@@ -4,7 +4,8 @@ use Rattle.std.proofs.Common.{sym, ap, ap₂, le_refl, arith, leb-true, eqb-true
 use Rattle.bits.specs.Choice.{pick}
 use Rattle.bits.specs.ChoiceLaws.{never_both, and_left, and_right, and_mono}
 use Rattle.bits.specs.Bits.{has, Within}
-use Rattle.bits.specs.BitsLaws.{has_mono, within_zero, or_within_left}
+use Rattle.bits.specs.BitsLaws.{within_zero, or_within_left}
+use Rattle.bits.proofs.BitsLaws.{has_mono}
 use Rattle.masking.specs.Place
 use Rattle.table.specs.Rows.{Rows}
 use Rattle.checks.specs.ExtendedState.{xfem, xss, combined_mask, sum_at, grown, area_below}
@@ -38,13 +39,13 @@ pick_within true false f h = absurd (never_both (f refl) refl)
 pick_within false q {a} {b} f h = within_zero (pick q b 0)
 
 pub xss_mono : (A B : Rows)
-    → Within (A (Place.extendedState 1)).result.eax (B (Place.extendedState 1)).result.eax
-    → Within (A (Place.extendedState 1)).result.ecx (B (Place.extendedState 1)).result.ecx
+    → Within (A (Place.extended_state 1)).result.eax (B (Place.extended_state 1)).result.eax
+    → Within (A (Place.extended_state 1)).result.ecx (B (Place.extended_state 1)).result.ecx
     → Within (xss A) (xss B)
 unfolding xss
 xss_mono A B h g =
     pick_within _ _
-    (and_mono (has 1 (A (Place.extendedState 1)).result.eax) (has 3 (A (Place.extendedState 1)).result.eax) (has_mono 1 h) (has_mono 3 h)) g
+    (and_mono (has 1 (A (Place.extended_state 1)).result.eax) (has 3 (A (Place.extended_state 1)).result.eax) (has_mono 1 h) (has_mono 3 h)) g
 
 unless_zero : (p : Bool) (x : ℕ) → pick (eqb (pick p x 0) 0) 0 x ≡ pick p x 0
 unless_zero false x = refl
@@ -55,11 +56,11 @@ unless_zero true x = go (eqb x 0) refl
     go false e = refl
 
 -- "If XSS is 0, D.1.ECX becomes 0": so it is XSS
-pub xsaves_ecx : (m : Rows) → pick (eqb (xss m) 0) 0 (m (Place.extendedState 1)).result.ecx ≡ xss m
+pub xsaves_ecx : (m : Rows) → pick (eqb (xss m) 0) 0 (m (Place.extended_state 1)).result.ecx ≡ xss m
 unfolding xss
 xsaves_ecx m =
-    unless_zero (has 1 (m (Place.extendedState 1)).result.eax && has 3 (m (Place.extendedState 1)).result.eax)
-    (m (Place.extendedState 1)).result.ecx
+    unless_zero (has 1 (m (Place.extended_state 1)).result.eax && has 3 (m (Place.extended_state 1)).result.eax)
+    (m (Place.extended_state 1)).result.ecx
 
 pub in_combined : (m : Rows) (k : ℕ) → has k (xfem m) ≡ true → has k (combined_mask m) ≡ true
 unfolding combined_mask

@@ -78,12 +78,12 @@ not_missing true false e = sym e
 not_missing false p e = refl
 
 module _ (m : Rows) (x k : ℕ) {used : Bool} (h : k < 64) (e : used ≡ has k x) where
-  pub component_passes : (used && not (m (Place.extendedState k)).present) ≡ false → components_from m x k ≡ components_from m x (k + 1)
-  component_passes t = scan_passes (supplied m x) missing_component 64 k h (not_missing (has k x) (m (Place.extendedState k)).present (rw e at t))
+  pub component_passes : (used && not (m (Place.extended_state k)).present) ≡ false → components_from m x k ≡ components_from m x (k + 1)
+  component_passes t = scan_passes (supplied m x) missing_component 64 k h (not_missing (has k x) (m (Place.extended_state k)).present (rw e at t))
 
-  pub component_stops : (used && not (m (Place.extendedState k)).present) ≡ true → Refused (missing_component k) ≡ components_from m x k
+  pub component_stops : (used && not (m (Place.extended_state k)).present) ≡ true → Refused (missing_component k) ≡ components_from m x k
   component_stops t =
-      sym (scan_stops (supplied m x) missing_component 64 k h (needed_missing (has k x) (m (Place.extendedState k)).present (rw e at t)))
+      sym (scan_stops (supplied m x) missing_component 64 k h (needed_missing (has k x) (m (Place.extended_state k)).present (rw e at t)))
 
 -- n subleaves from k on that the mask does not have
 components_skip : (m : Rows) (x n k : ℕ) → k + n ≤ 64 → ((j : ℕ) → k ≤ j → j < k + n → has j x ≡ false) → components_from m x k ≡ components_from m x (k + n)
@@ -121,7 +121,7 @@ module _ (m : Rows) (x : ℕ) where
           ∙ components_skip m x (z - d.k) d.k (omega (arith, t.from, t.inside)) (λ j a b. t.between j a (omega (arith, t.from)))
           ∙ ap (components_from m x) e
 
-      module _ {there : Bool} (f : there ≡ (m (Place.extendedState z)).present) where
+      module _ {there : Bool} (f : there ≡ (m (Place.extended_state z)).present) where
         pub scanning_next : there ≡ true → Scanning m x (bit_and rest (rest - 1))
         scanning_next t = record {
           k = z + 1;

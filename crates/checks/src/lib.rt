@@ -1,4 +1,6 @@
 // The checks of document 01, each with its verdict, in specs/. In code those of one row: the masks of the extended state, and the verdict on INVLPGB.
+#![tactic(auto)]
+
 ghost use Rattle.std.specs.Prelude.{◌≡◌};
 ghost use Rattle.checks.specs.Checks.{invlpgb_of};
 
@@ -10,7 +12,7 @@ mod extended_state;
 pub use extended_state::{FROM_2, max_extended_state, max_xss};
 
 // A size in bytes, or one that no 32-bit number holds.
-#[derive(Drop)]
+#[derive(Clone, Copy)]
 pub enum Size {
     Bytes(u32),
     TooLarge,

@@ -61,11 +61,11 @@ first_cons i l e es = go (counts e)
     go true = refl
     go false = sym (pick_false _ _ (ne_eqb places i (λ q. omega arith)))
 
-stands_none : (i : ℕ) → stands_among i [] ≡ 0
+pub stands_none : (i : ℕ) → stands_among i [] ≡ 0
 unfolding stands_among keep_if stands_at
 stands_none i = refl
 
-stands_cons : (i : ℕ) → i < places → (e : Entry) (es : List Entry)
+pub stands_cons : (i : ℕ) → i < places → (e : Entry) (es : List Entry)
     → stands_among i (e ∷ es) ≡ pick (eqb (stored_at e) i) (origin_number (entry e.page e.position)) (stands_among i es)
 unfolding stands_among keep_if stands_at stored_at
 stands_cons i l e es = go (counts e)
@@ -77,27 +77,6 @@ stands_cons i l e es = go (counts e)
 
 abbrev pub stored : CpuidResult → ℕ → Stored
 stored r n = record { result = r; origin = n }
-
-pub store_none : (i : ℕ) → to_store i [] ≡ stored (cpuid_result 0 0 0 0) 0
-store_none i = ap₂ (λ (x : Row) (n : ℕ). stored (word_row x).result n) (first_none i) (stands_none i)
-
-pub store_cons : (i : ℕ) → i < places → (e : Entry) (es : List Entry)
-    → to_store i (e ∷ es) ≡ pick (eqb (stored_at e) i) (stored (words e.registers) (origin_number (entry e.page e.position))) (to_store i es)
-store_cons i l e es =
-    ap₂ (λ (x : Row) (n : ℕ). stored (word_row x).result n) (first_cons i l e es) (stands_cons i l e es) ∙ go (eqb (stored_at e) i)
-  where
-    number : ℕ
-    number = origin_number (entry e.page e.position)
-
-    go : (b : Bool) → stored (word_row (pick b (row e.registers) (first_among i es))).result (pick b number (stands_among i es))
-        ≡ pick b (stored (words e.registers) number) (to_store i es)
-    go true = refl
-    go false = refl
-
--- of all entries of a page set, its first entry
-pub store_all : (s : List ℕ) (i : ℕ) → i < places → word_row (first_among i (entries s)) ≡ firsts_of s i
-unfolding first_among counted
-store_all s i l = sym (first_of_place s i l)
 
 -- ---- a row of the code's table of kept leaves masks as its place does
 

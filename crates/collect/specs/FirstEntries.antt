@@ -39,7 +39,7 @@ unfoldable pub legacy_features : ℕ
 legacy_features = mask_of Subleaf0Eax.position (Subleaf0Eax.ExtendedStateEnumerationSubleaf0Eax.x87 ∷ Subleaf0Eax.ExtendedStateEnumerationSubleaf0Eax.sse ∷ [])
 
 abbrev pub set_legacy : ℕ → CpuidResult → CpuidResult
-set_legacy i r = cpuid_result (pick (eqb i (Place.extendedState 0)) (bit_or r.eax legacy_features) r.eax) r.ebx r.ecx r.edx
+set_legacy i r = cpuid_result (pick (eqb i (Place.extended_state 0)) (bit_or r.eax legacy_features) r.eax) r.ebx r.ecx r.edx
 
 -- an entry's registers at its place: masked, then the two bits of D.0.EAX set
 abbrev pub masked_at : Bool → ℕ → CpuidResult → CpuidResult

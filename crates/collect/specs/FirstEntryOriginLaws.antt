@@ -11,7 +11,7 @@ use Rattle.masking.specs.Kept.{places}
 use Rattle.memory.specs.Origin.{origin_number}
 use Rattle.memory.specs.Origin.Origin.{entry}
 use Rattle.memory.specs.Memory.{is_there, rows_in, layout}
-use Rattle.memory.specs.MemoryLaws.{rows_laid}
+use Rattle.memory.proofs.MemoryLaws.{rows_laid}
 use Rattle.table.specs.Rows.{Row, row, vacant}
 use Rattle.collect.specs.FirstEntries.{place_of_entry, first_at, masked_at, mask_row, rows_of}
 use Rattle.collect.specs.FirstEntriesLaws.{row_of_place_lem, row_beyond}
@@ -21,7 +21,7 @@ use Rattle.collect.specs.FirstEntryOrigin.{stands_at, found_origins}
 pub number_fits : (s : List ℕ) → counts_fit s ≡ true → length s < 2 ^ 64 → (p q : ℕ) → p < pages_in s → q < count_of s p → 4 + 64 * p + q < 2 ^ 64
 number_fits s fit short p q h l = omega (arith, counts_fit_at s fit p h)
 
-stands_present : (i : ℕ) (es : List Entry) → not (eqb (origin_number (stands_at i es)) 0) ≡ (first_at i es).present
+pub stands_present : (i : ℕ) (es : List Entry) → not (eqb (origin_number (stands_at i es)) 0) ≡ (first_at i es).present
 unfolding stands_at first_at
 stands_present i [] = refl
 stands_present i (e ∷ es) = go (eqb (place_of_entry e) i) (stands_present i es)
@@ -32,27 +32,13 @@ stands_present i (e ∷ es) = go (eqb (place_of_entry e) i) (stands_present i es
     go true h = ap not (ne_eqb (4 + 64 * e.page + e.position) 0 (λ z. omega arith))
     go false h = h
 
-mask_present : (avic : Bool) (i : ℕ) (r : Row) → (mask_row avic i r).present ≡ r.present
+pub mask_present : (avic : Bool) (i : ℕ) (r : Row) → (mask_row avic i r).present ≡ r.present
 mask_present avic i r = go r.present
   where
     go : (b : Bool) → (pick b (row (masked_at avic i r.result)) vacant).present ≡ b
     go true = refl
     go false = refl
 
-pub stands_there : (s : List ℕ) (i : ℕ) → i < places → is_there (get_or (found_origins s) i 0) ≡ (first_at i (counted s)).present
-unfolding found_origins
-stands_there s i h =
-    ap (λ (n : ℕ). not (eqb n 0)) (get_d_tabulate places (λ j. origin_number (stands_at j (counted s))) i 0 h) ∙ stands_present i (counted s)
-
-has_row_lem : (avic : Bool) (s : List ℕ) (i : ℕ) → i < places → is_there (get_or (found_origins s) i 0) ≡ (rows_of avic s i).present
-has_row_lem avic s i h =
-    stands_there s i h
-    ∙ sym (ap (λ (x : Row). x.present) (row_of_place_lem avic s i h) ∙ mask_present avic i (first_at i (counted s)))
-
 pub found_length : (s : List ℕ) → length (found_origins s) ≡ places
 unfolding found_origins
 found_length s = length_tabulate places (λ i. origin_number (stands_at i (counted s)))
-
--- what the walk leaves in its two arrays is the masked first entries, at every number
-pub found_rows : (avic : Bool) (s : List ℕ) → rows_in (layout (λ i. (rows_of avic s i).result)) (found_origins s) ≡ rows_of avic s
-found_rows avic s = rows_laid (rows_of avic s) (found_origins s) (found_length s) (has_row_lem avic s) (row_beyond avic s)

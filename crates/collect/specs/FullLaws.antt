@@ -37,12 +37,6 @@ pub number_64 : (l : CpuidFunction) → bit_and (2 * l.0 + l.0 / 2 ^ 31) 63 ≡ 
 unfolding leaf_number
 number_64 l = and_mask (2 * l.0 + l.0 / 2 ^ 31) 6
 
--- the bit with that number
-pub number_bit : (l : CpuidFunction) → 1 * 2 ^ bit_and (2 * l.0 + l.0 / 2 ^ 31) 63 % 2 ^ 64 ≡ 2 ^ leaf_number l
-number_bit l =
-    let small : 2 ^ leaf_number l ≤ 2 ^ 63 = pow_mono {i = leaf_number l} {j = 63} (omega (arith, number_lt l)) in
-    ap (λ (n : ℕ). 1 * 2 ^ n % 2 ^ 64) (number_64 l) ∙ omega (arith, small)
-
 -- ---- places
 
 -- the place of a kept entry has the entry's leaf
@@ -97,7 +91,7 @@ leaves_stay o n p v h z f = record { at = λ l e. full_stays o p v h z l (f.at l
 
 -- ---- a leaf more
 
-bit_pow : (k n : ℕ) → bit k (2 ^ n) ≡ 1 → k ≡ n
+pub bit_pow : (k n : ℕ) → bit k (2 ^ n) ≡ 1 → k ≡ n
 bit_pow zero zero e = refl
 bit_pow zero (suc n) e = absurd (omega (arith, bit_zero (2 ^ suc n), e))
 bit_pow (suc k) zero e = absurd (omega (arith, bit_suc k 1, zero_bit k, e))
@@ -106,25 +100,12 @@ bit_pow (suc k) (suc n) e =
     ap suc (bit_pow k n (sym (ap (bit k) h) ∙ sym (bit_suc k (2 ^ suc n)) ∙ e))
 
 -- no two kept leaves have the same number, because it gives the leaf back
-abbrev back_from : ℕ → ℕ
+abbrev pub back_from : ℕ → ℕ
 back_from m = m / 2 + m % 2 * 2 ^ 31
 
-number_back : (l : CpuidFunction) (k : ℕ) → place_of l k < places → back_from (leaf_number l) ≡ l.0
+pub number_back : (l : CpuidFunction) (k : ℕ) → place_of l k < places → back_from (leaf_number l) ≡ l.0
 unfolding slot kept_leaves leaf_number
 number_back l k h = eqb-true _ _ (at_place (λ x i. eqb (back_from (leaf_number x)) x.0) refl l k h)
-
-pub leaves_with : (o : List ℕ) (n : ℕ) (l : CpuidFunction) (k : ℕ) → HasRow o l k → Full o l → FullLeaves o n
-    → FullLeaves o (bit_or n (2 ^ leaf_number l))
-leaves_with o n l k r f g = record { at = λ x e. record { at = λ j h. go x j h (has_bit _ _ e) (bit (leaf_number x) n) refl } }
-  where
-    go : (x : CpuidFunction) (j : ℕ) → place_of x j < places → bit (leaf_number x) (bit_or n (2 ^ leaf_number l)) ≡ 1
-        → (b : ℕ) → bit (leaf_number x) n ≡ b → get_or o (place_of x j) 0 ≢ 0
-    go x j h e (suc b) q = (g.at x (bit_has _ _ (omega (arith, q, bit_lt (leaf_number x) n)))).at j h
-    go x j h e zero q =
-        let m : leaf_number x ≡ leaf_number l =
-        bit_pow _ _ (omega (arith, e, q, bit_or_lem (leaf_number x) n (2 ^ leaf_number l), bit_lt (leaf_number x) (2 ^ leaf_number l))) in
-        let s : x ≡ l = ap function (sym (number_back x j h) ∙ ap back_from m ∙ number_back l k r.kept) in
-        subst (λ (y : CpuidFunction). place_of y j < places → get_or o (place_of y j) 0 ≢ 0) (sym s) (f.at j) h
 
 -- ---- where all places of a leaf have rows
 

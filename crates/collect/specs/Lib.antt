@@ -12,7 +12,6 @@ pub mod WalkingLaws
 pub mod Mask
 pub mod MaskLaws
 pub mod Lawful
-pub mod LawfulLaws
 pub mod WalkedPages
 pub mod FirstEntry
 pub mod FirstEntryLaws

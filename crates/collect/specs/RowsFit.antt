@@ -19,7 +19,7 @@ unfolding legacy_features mask_of
 masked_fits avic i h r =
     let m : MasksFit (masks_at avic i) = masks_fit avic i h in
     record {
-      eax = legacy (eqb i (Place.extendedState 0)) (and_fits r.eax m.eax);
+      eax = legacy (eqb i (Place.extended_state 0)) (and_fits r.eax m.eax);
       ebx = and_fits r.ebx m.ebx;
       ecx = and_fits r.ecx m.ecx;
       edx = and_fits r.edx m.edx;

@@ -11,9 +11,7 @@ use Rattle.memory.specs.Memory.{rows_in, layout, Cleared}
 use Rattle.collect.specs.Walked.{Walked}
 use Rattle.pages.specs.Reserved.{all_clean}
 use Rattle.collect.specs.Mask.{Unmasked}
-use Rattle.collect.specs.MaskLaws.{firsts_unmasked, firsts_masked}
 use Rattle.collect.specs.Lawful.{lawful_verdict}
-use Rattle.collect.specs.LawfulLaws.{lawful_clean}
 
 pub record WalkedPages (avic : Bool) (s : List ℕ) (r : Verdict) (w o : List ℕ) : Type 0 where
   pub verdict : r ≡ lawful_verdict s
@@ -23,19 +21,3 @@ pub record WalkedPages (avic : Bool) (s : List ℕ) (r : Verdict) (w o : List �
 
 pub refused_walk : (avic : Bool) (s : List ℕ) {w o : List ℕ} {x : Refusal} → Refused x ≡ lawful_verdict s → Cleared w o → WalkedPages avic s (Refused x) w o
 refused_walk avic s e z = record { verdict = e; rows = λ a. cc; stands = λ a. cc; refused = λ _ _. z }
-
--- what the walk collects of lawful pages is ready to be masked, and is then the masked first entries
-module _ (s w o : List ℕ) {b : Reserved} (e : Accepted ≡ lawful_verdict s) (k : Walked s b w o) where
-  clean : all_clean s ≡ true
-  clean = lawful_clean s (sym e)
-
-  pub walk_unmasked : Unmasked w o
-  walk_unmasked = rw (k.rows clean, k.stands clean) (firsts_unmasked s)
-
-  pub accepted_walk : (avic : Bool) (v : List ℕ) → v ≡ layout (λ i. (mask_row avic i (rows_in w o i)).result) → WalkedPages avic s Accepted v o
-  accepted_walk avic v m = record {
-    verdict = e;
-    rows = λ _. m ∙ rw (k.rows clean, k.stands clean) (firsts_masked s avic);
-    stands = λ _. k.stands clean;
-    refused = λ x f. absurd (let z : ◌≡◌ {A = ℕ} 0 1 = cc in omega arith);
-  }

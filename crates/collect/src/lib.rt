@@ -1,5 +1,7 @@
 // From pages to the 88 rows in lent memory: one walk collects the first entry of each place and where it stands, and `mask` masks the rows there.
 // Pages that are not lawful are refused by 1, 2 or 17.
+#![tactic(auto)]
+
 mod full;
 pub mod mask;
 
@@ -184,7 +186,7 @@ pub fn masked_at(kept: KeptLeaf, place: usize, r: CpuidResult) -> CpuidResult
 }
 
 // Whether the pages are lawful, and the origin's number of the entry: 0 where there is none.
-#[derive(Drop)]
+#[derive(Clone, Copy)]
 pub struct FirstEntry {
     pub verdict: Verdict,
     pub origin: u64,

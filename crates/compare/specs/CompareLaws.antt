@@ -38,7 +38,7 @@ has_row t i = (row_in t i).present
 
 -- the origins of a table's rows, without those of leaves 0 and 80000000h
 abbrev pub asked : List ℕ → List ℕ
-asked o = set (set o Place.vendorAndMaxFunction 0) Place.extendedMaxFunction 0
+asked o = set (set o Place.vendor_and_max_function 0) Place.extended_max_function 0
 
 cleared : (l : List ℕ) (i : ℕ) → get_or (set l i 0) i 0 ≡ 0
 cleared [] i = refl
@@ -60,9 +60,9 @@ from_entries = tabulate_at places (λ i. from_entry (rule_at i)) (λ i. not (mad
 module _ (o : List ℕ) (i : ℕ) (l : i < places) where
   asked_there : is_there (get_or (asked o) i 0) ≡ (from_entry (rule_at i) && get_or (flags o) i false)
   asked_there =
-      let first = set o Place.vendorAndMaxFunction 0 in
-      rw (set_zero first Place.extendedMaxFunction i, set_zero o Place.vendorAndMaxFunction i, from_entries i l, flag_at o i l)
-      (go (eqb i Place.vendorAndMaxFunction) (eqb i Place.extendedMaxFunction))
+      let first = set o Place.vendor_and_max_function 0 in
+      rw (set_zero first Place.extended_max_function i, set_zero o Place.vendor_and_max_function i, from_entries i l, flag_at o i l)
+      (go (eqb i Place.vendor_and_max_function) (eqb i Place.extended_max_function))
     where
       go : (p q : Bool) → is_there (pick q 0 (pick p 0 (get_or o i 0))) ≡ (not (p || q) && is_there (get_or o i 0))
       go p true = sym (ap (λ (r : Bool). not r && is_there (get_or o i 0)) (or-true p))
@@ -72,36 +72,3 @@ module _ (o : List ℕ) (i : ℕ) (l : i < places) where
 -- of a table in memory w, o and entries in memory v, q
 pub asked_rows_lem : (w o v q : List ℕ) (i : ℕ) → i < places → rows_in v (asked o) i ≡ asked_rows (has_row (held_in w o)) (rows_in v q) i
 asked_rows_lem w o v q i l t = record { present = asked_there o i l t; result = (rows_in v q i).result }
-
--- ---- the returns
-
-module _ (chosen : Choices) (a b : List ℕ) where
-  -- with a verdict on A, and one on B's pages
-  pub with_verdicts : {v w : Verdict} → (answer chosen a).verdict ≡ v → lawful_verdict b ≡ w
-      → compared chosen a b ≡ after_a v (after_b w (compared_rows (has_row (answer chosen a).table) (rows_for chosen a) (rows_for chosen b)))
-  unfolding compared
-  with_verdicts e f = rw (e, f)
-
-  pub refused_a : {r : Refusal} → (answer chosen a).verdict ≡ Refused r → RefusedA r ≡ compared chosen a b
-  refused_a e = sym (with_verdicts e refl)
-
-  module _ (accepted : (answer chosen a).verdict ≡ Accepted) where
-    -- the edition is known, so the way in refuses B's pages only for themselves
-    pub lawful_b : {v : Verdict} → v ≡ front_verdict chosen b → lawful_verdict b ≡ v
-    unfolding answer verdict_of
-    lawful_b e = sym (e ∙ then_skips (then_left (edition_verdict chosen.edition) _ accepted))
-
-    pub unlawful_b : {r : Refusal} → lawful_verdict b ≡ Refused r → UnlawfulB r ≡ compared chosen a b
-    unlawful_b e = sym (with_verdicts accepted e)
-
-    -- the table of A is in memory w, o; v and u are the rows of A's entries and of B's
-    pub rows_compared_lem : lawful_verdict b ≡ Accepted → (w o v q u p : List ℕ)
-        → held_in w o ≡ (answer chosen a).table → rows_in v q ≡ rows_for chosen a → rows_in u p ≡ rows_for chosen b
-        → {f : RowsCompared} → f ≡ rows_compared (wanted_by Entries) (rows_in v (asked o)) (rows_in u p)
-        → {r : Compared} → r ≡ entries_named f → r ≡ compared chosen a b
-    unfolding compared_rows
-    rows_compared_lem e w o v q u p t f g c n =
-        n
-        ∙ ap entries_named (c ∙ rows_same _ _ _ _ _ (asked_rows_lem w o v q) (λ i l. refl))
-        ∙ (λ k. compared_rows (has_row (t k)) (f k) (g k))
-        ∙ sym (with_verdicts accepted e)

@@ -10,4 +10,3 @@ pub mod TablesDecideProof
 pub mod Compare
 pub mod Means
 pub mod CompareLaws
-pub mod DecidesProof

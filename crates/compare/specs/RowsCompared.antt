@@ -11,7 +11,7 @@ use Rattle.masking.specs.Kept.{places, leaf_at}
 use Rattle.masking.specs.Place
 use Rattle.table.specs.Rows.{Row, Rows}
 use Rattle.finish.specs.Kinds.{Kind, all_registers, kinds_at}
-use Rattle.finish.specs.Kinds.Kind.{feature, featureBut28, area, freed, other}
+use Rattle.finish.specs.Kinds.Kind.{feature, feature_but28, area, freed, other}
 use Rattle.rise.specs.Decide.{rises_test}
 use Rattle.compare.specs.declared.search.Asked.{Asked}
 use Rattle.compare.specs.declared.search.Asked.TheVariants.{Entries, Tables}
@@ -24,7 +24,7 @@ use Rattle.table.specs.Table.{row_in}
 -- whether a register of B's table is as the conclusion has it: as for entries, but for the save area and for what is freed there
 abbrev pub table_test : Kind → ℕ → ℕ → Bool
 table_test feature a b = rises_test feature a b
-table_test featureBut28 a b = rises_test featureBut28 a b
+table_test feature_but28 a b = rises_test feature_but28 a b
 table_test area a b = leb a b
 table_test freed a b = eqb a b
 table_test other a b = eqb a b
@@ -32,8 +32,8 @@ table_test other a b = eqb a b
 -- whether place i is that of a subleaf of Dh, from 2 up, that the mask y has and x has not
 unfoldable pub further_test : ℕ → ℕ → ℕ → Bool
 further_test x y i =
-    leb (Place.extendedState 2) i
-    && (ltb i (Place.extendedState 64) && (has (i - Place.extendedState 0) y && not (has (i - Place.extendedState 0) x)))
+    leb (Place.extended_state 2) i
+    && (ltb i (Place.extended_state 64) && (has (i - Place.extended_state 0) y && not (has (i - Place.extended_state 0) x)))
 
 -- the test of a register by its kind, where B may have a row that A has not, and what the combined masks come to
 pub record Wanted : Type 0 where

@@ -32,18 +32,18 @@ row_with p r = record { present = p; result = r }
 
 -- a place before D.2, one of D.2 to D.63, and one after
 module _ (x y i : ℕ) where
-  pub further_low : i < Place.extendedState 2 → further_test x y i ≡ false
+  pub further_low : i < Place.extended_state 2 → further_test x y i ≡ false
   unfolding further_test
-  further_low h = rw (lt-leb (Place.extendedState 2) i h)
+  further_low h = rw (lt-leb (Place.extended_state 2) i h)
 
-  pub further_state : Place.extendedState 2 ≤ i → i < Place.extendedState 64
-      → further_test x y i ≡ (has (i - Place.extendedState 0) y && not (has (i - Place.extendedState 0) x))
+  pub further_state : Place.extended_state 2 ≤ i → i < Place.extended_state 64
+      → further_test x y i ≡ (has (i - Place.extended_state 0) y && not (has (i - Place.extended_state 0) x))
   unfolding further_test
-  further_state h l = rw (le-leb (Place.extendedState 2) i h, lt-ltb i (Place.extendedState 64) l)
+  further_state h l = rw (le-leb (Place.extended_state 2) i h, lt-ltb i (Place.extended_state 64) l)
 
-  pub further_high : Place.extendedState 64 ≤ i → further_test x y i ≡ false
+  pub further_high : Place.extended_state 64 ≤ i → further_test x y i ≡ false
   unfolding further_test
-  further_high h = rw (le-leb (Place.extendedState 2) i (omega arith), le-ltb i (Place.extendedState 64) h)
+  further_high h = rw (le-leb (Place.extended_state 2) i (omega arith), le-ltb i (Place.extended_state 64) h)
 
 -- the comparison from place k on
 unfoldable pub compared_from : Wanted → Rows → Rows → ℕ → RowsCompared
@@ -115,12 +115,3 @@ module _ (w : Wanted) (A B C D : Rows) (p : (i : ℕ) → i < places → A i ≡
       same_found (lowest (place_test w A B) 0 places) refl
       ∙ ap (λ (f : Failing). first_failing f (place_compared w C D) last)
       (lowest_same (place_test w A B) (place_test w C D) 0 places (λ j _ l. ap rises (same_place j l)))
-
--- two tables in lent memory, by what the code has at hand: their rows and their combined masks
-pub held_compared : (v o w q : List ℕ) {x y : ℕ} → x ≡ mask_held v → y ≡ mask_held w
-    → {r : RowsCompared} → r ≡ rows_compared (wanted_by (Tables x y)) (rows_in v o) (rows_in w q) → r ≡ compared_tables (held_in v o) (held_in w q)
-unfolding compared_tables
-held_compared v o w q e f h =
-    h
-    ∙ (λ t. rows_compared (wanted_by (Tables ((e ∙ sym (mask_held_lem v o)) t) ((f ∙ sym (mask_held_lem w q)) t))) (rows_in v o) (rows_in w q))
-    ∙ rows_same _ _ _ _ _ (λ i l. sym (whole_row_lem (rows_in v o) i l)) (λ i l. sym (whole_row_lem (rows_in w q) i l))

@@ -1,5 +1,7 @@
 // Compares two servers by their pages, and two tables (`tables`): whether a guest of A may move to B, or the first thing in the way. One search over
 // the rows serves both (`search`).
+#![tactic(auto)]
+
 pub mod registers;
 pub mod search;
 pub mod tables;
@@ -19,7 +21,7 @@ use x86defs::CpuidFunction;
 
 // What a comparison gives: B meets the hypothesis of demand 3; A is refused; B's length or counts are not lawful or its reserved bytes not zero;
 // B has no counted entry for a row of A's table; or B's entry fails in a register.
-#[derive(Drop)]
+#[derive(Clone, Copy)]
 pub enum Compared {
     Rises,
     RefusedA(Refusal),

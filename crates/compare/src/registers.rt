@@ -5,7 +5,7 @@ ghost use Rattle.compare.specs.ByMasks.{passes, passes_by};
 
 use x86defs::CpuidResult;
 
-#[derive(Drop)]
+#[derive(Clone, Copy)]
 pub enum Register {
     Eax,
     Ebx,
@@ -14,7 +14,7 @@ pub enum Register {
 }
 
 // Which registers of B's row may replace A's.
-#[derive(Drop)]
+#[derive(Clone, Copy)]
 pub struct RegistersRise {
     pub eax: bool,
     pub ebx: bool,

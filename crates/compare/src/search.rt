@@ -17,7 +17,7 @@ use table::{Subleaf, subleaf_of};
 use x86defs::{CpuidFunction, CpuidResult};
 
 // What is asked of two rows: what the hypothesis asks of entries, or what the conclusion has of tables with these combined masks of A and B.
-#[derive(Drop)]
+#[derive(Clone, Copy)]
 pub enum Asked {
     Entries,
     Tables(u64, u64),
@@ -25,7 +25,7 @@ pub enum Asked {
 
 // What a comparison gives: B's rows rise from A's; B lacks a row of A's; a register of its row may not replace A's; it has a row that A has not,
 // where it may not; or its combined mask lacks a bit of A's.
-#[derive(Drop)]
+#[derive(Clone, Copy)]
 pub enum RowsCompared {
     Rises,
     NoRow(CpuidFunction, Subleaf),

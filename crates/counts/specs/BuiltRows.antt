@@ -9,7 +9,7 @@ use Rattle.table.specs.declared.Verdict.TheVariants.{Accepted, Refused}
 use Rattle.memory.specs.Held.{mask_held, mask_held_lem}
 use Rattle.build.specs.declared.Built.{Built}
 use Rattle.build.specs.Build.{answer, InMemory}
-use Rattle.build.specs.BuildLaws.{answer_refused}
+use Rattle.build.proofs.BuildLaws.{answer_refused}
 use Rattle.image.specs.ComponentsLaws.{ones_sum}
 use Rattle.counts.specs.Counts.{components_in}
 use Rattle.counts.specs.CountsProof.{rows_counted}
@@ -18,21 +18,9 @@ unfoldable pub built_rows : Verdict → ℕ → ℕ
 built_rows Accepted x = 26 + components_in x
 built_rows (Refused r) x = 0
 
-pub answer_rows : (c : Choices) (s : List ℕ) → (answer c s).table.row_count ≡ built_rows (answer c s).verdict (answer c s).table.max_extended_state
-unfolding built_rows
-answer_rows c s = go (answer c s).verdict refl
-  where
-    go : (v : Verdict) → (answer c s).verdict ≡ v → (answer c s).table.row_count ≡ built_rows v (answer c s).table.max_extended_state
-    go Accepted e = (rows_counted c s e).rows
-    go (Refused r) e = ap (λ b. b.table.row_count) (sym (answer_refused c s e))
-
 -- the combined mask is read from the memory that building filled
 pub mask_in : {b : Built} {v : Verdict} {w o : List ℕ} → InMemory b v w o → mask_held w ≡ b.table.max_extended_state
 mask_in {b} {v} {w} {o} k = sym (mask_held_lem w o) ∙ ap (λ t. t.max_extended_state) k.table
-
-pub rows_held : (c : Choices) (s : List ℕ) {w o : List ℕ} {v : Verdict} → InMemory (answer c s) v w o
-    → built_rows v (mask_held w) ≡ (answer c s).table.row_count
-rows_held c s k = ap₂ built_rows k.verdict (mask_in k) ∙ sym (answer_rows c s)
 
 -- ---- the ones of the mask
 

@@ -35,14 +35,5 @@ rows_counted chosen s e = record {
     standing : (i : ℕ) → i < places → (finished chosen.edition m i).present ≡ stands (combined_mask m) i
     standing = row_stands chosen.edition m (rows_pass chosen s e)
 
--- the two bounds in plain words, so that neither can be weakened unseen
-pub rows_at_most : (chosen : Choices) (s : List ℕ) → (answer chosen s).verdict ≡ Accepted → (answer chosen s).table.row_count ≤ 32
-rows_at_most chosen s e = (rows_counted chosen s e).most
-
-pub bytes_at_most : (chosen : Choices) (s : List ℕ) → (answer chosen s).verdict ≡ Accepted → length (image (answer chosen s).table) ≤ 732
-bytes_at_most chosen s e =
-    let c : Counted chosen s = rows_counted chosen s e in
-    omega (arith, c.bytes, components_most c.mask)
-
 pub single_page_refused : SinglePageRefused
 single_page_refused chosen s n e = single_refused chosen.secure_avic s n (rows_pass chosen s e)

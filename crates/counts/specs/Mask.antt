@@ -4,7 +4,8 @@ use Rattle.std.proofs.Common.{le_refl, arith}
 use Rattle.bits.specs.Choice.{pick}
 use Rattle.bits.specs.Lists.{sum_to, one}
 use Rattle.bits.specs.Bits.{bit, has, mask_of, Within}
-use Rattle.bits.specs.BitsLaws.{within_refl, within_trans, within_of_and, within_zero, and_within_right, or_least, has_mono}
+use Rattle.bits.specs.BitsLaws.{within_refl, within_trans, within_of_and, within_zero, and_within_right, or_least}
+use Rattle.bits.proofs.BitsLaws.{has_mono}
 use Rattle.x86defs.specs.declared.CpuidResult.{CpuidResult}
 use Rattle.pages.specs.Entries.{counted}
 use Rattle.masking.specs.Masks.{extended_state0, extended_state1}
@@ -37,23 +38,23 @@ register_within register avic s i {x} masked absent = go (ltb i places) first.pr
 pub xfem_within : (avic : Bool) (s : List ℕ) → Within (xfem (rows_of avic s)) extended_state0.eax
 unfolding xfem slot kept_leaves legacy_features extended_state0 mask_of
 xfem_within avic s =
-    register_within (λ r. r.eax) avic s (Place.extendedState 0)
+    register_within (λ r. r.eax) avic s (Place.extended_state 0)
     (λ r. or_least (and_within_right r.eax extended_state0.eax) (within_of_and refl))
     (within_zero extended_state0.eax)
 
-subleaf_1_within : (avic : Bool) (s : List ℕ) → Within (rows_of avic s (Place.extendedState 1)).result.ecx extended_state1.ecx
+subleaf_1_within : (avic : Bool) (s : List ℕ) → Within (rows_of avic s (Place.extended_state 1)).result.ecx extended_state1.ecx
 unfolding slot kept_leaves
 subleaf_1_within avic s =
-    register_within (λ r. r.ecx) avic s (Place.extendedState 1) (λ r. and_within_right r.ecx extended_state1.ecx)
+    register_within (λ r. r.ecx) avic s (Place.extended_state 1) (λ r. and_within_right r.ecx extended_state1.ecx)
     (within_zero extended_state1.ecx)
 
 pick_within : (b : Bool) (a : ℕ) → Within (pick b a 0) a
 pick_within true a = within_refl a
 pick_within false a = within_zero a
 
-pub xss_within : (m : Rows) → Within (xss m) (m (Place.extendedState 1)).result.ecx
+pub xss_within : (m : Rows) → Within (xss m) (m (Place.extended_state 1)).result.ecx
 unfolding xss
-xss_within m = let eax : ℕ = (m (Place.extendedState 1)).result.eax in pick_within (has 1 eax && has 3 eax) _
+xss_within m = let eax : ℕ = (m (Place.extended_state 1)).result.eax in pick_within (has 1 eax && has 3 eax) _
 
 pub mask_within : (avic : Bool) (s : List ℕ) → Within (combined_mask (rows_of avic s)) 0x18E7
 unfolding combined_mask extended_state0 extended_state1 mask_of

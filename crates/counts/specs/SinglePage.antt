@@ -52,4 +52,4 @@ module _ (avic : Bool) (s : List ℕ) (single : length s ≡ page_size) where
   pub single_refused : AllPass (rows_of avic s) → ⊥
   unfolding place_required required_at place_of slot kept_leaves
   single_refused pass =
-      never_both (required_present (rows_of avic s) pass.required 13 (lit< tt)) (row_absent (Place.extendedState 0) (lit< tt) refl)
+      never_both (required_present (rows_of avic s) pass.required 13 (lit< tt)) (row_absent (Place.extended_state 0) (lit< tt) refl)

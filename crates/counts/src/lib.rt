@@ -1,5 +1,7 @@
 // How many rows an accepted table has, 26 to 32, and how many bytes its image, 582 to 732. The row count of a table follows from its verdict and
 // mask.
+#![tactic(auto)]
+
 ghost use Rattle.std.specs.Prelude.{◌≡◌};
 ghost use Rattle.counts.specs.BuiltRows.{built_rows};
 

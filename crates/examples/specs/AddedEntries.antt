@@ -9,8 +9,9 @@ use Rattle.table.specs.declared.Verdict.{Verdict}
 use Rattle.table.specs.declared.Verdict.TheVariants.{Refused}
 use Rattle.build.specs.Build.{answer}
 use Rattle.rise.specs.Added.{Added}
-use Rattle.rise.specs.AddedProof.{added_same}
-use Rattle.rise.specs.AddedDecide.{figures_of, figures_wanted, added_by_figures}
+use Rattle.rise.proofs.AddedProof.{added_same}
+use Rattle.rise.specs.AddedDecide.{figures_of, figures_wanted}
+use Rattle.rise.proofs.AddedDecide.{added_by_figures}
 use Rattle.page_sets.specs.PageSets.{entry, page, first_page, server_a}
 use Rattle.page_sets.specs.Pass.{passed_lawful}
 use Rattle.page_sets.specs.PassLaws.{lawful_passed, verdict_passed}

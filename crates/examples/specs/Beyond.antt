@@ -5,21 +5,21 @@ use Rattle.std.proofs.Common.{eqb-true}
 use Rattle.bits.specs.BitsLaws.{within_of_and}
 use Rattle.table.specs.declared.CpuidResults.{CpuidResults}
 use Rattle.finish.specs.Kinds.{Kind}
-use Rattle.finish.specs.Kinds.Kind.{feature, featureBut28, area, freed, other}
+use Rattle.finish.specs.Kinds.Kind.{feature, feature_but28, area, freed, other}
 use Rattle.register_masks.specs.Features.{FeatureWithin}
 use Rattle.pool_laws.specs.PoolRight.{NoneBeyond}
 use Rattle.pool_laws.specs.TableTest.{table_test, tested_mask, tested_rows}
 
 abbrev feature_test : Kind → ℕ → ℕ → Bool
 feature_test feature a b = eqb (bit_and a b) a
-feature_test featureBut28 a b = eqb (bit_and a b) a
+feature_test feature_but28 a b = eqb (bit_and a b) a
 feature_test area a b = true
 feature_test freed a b = true
 feature_test other a b = true
 
 feature_within : (k : Kind) (a b : ℕ) → feature_test k a b ≡ true → FeatureWithin k a b
 feature_within feature a b e = within_of_and (eqb-true _ _ e)
-feature_within featureBut28 a b e = within_of_and (eqb-true _ _ e)
+feature_within feature_but28 a b e = within_of_and (eqb-true _ _ e)
 feature_within area a b e = tt
 feature_within freed a b e = tt
 feature_within other a b e = tt

@@ -11,9 +11,9 @@ use Rattle.table.specs.Table.{row_in}
 use Rattle.build.specs.Build.{rows_for, answer}
 use Rattle.checks.specs.TopologyInputs.{inputs_of}
 use Rattle.rise.specs.Rise.{RiseHypothesis}
-use Rattle.rise.specs.PreorderProof.{rises_compose}
+use Rattle.rise.proofs.PreorderProof.{rises_compose}
 use Rattle.rise.specs.Levels.{AcceptedLevels}
-use Rattle.rise.specs.LevelsProof.{accepted_levels}
+use Rattle.rise.proofs.LevelsProof.{accepted_levels}
 use Rattle.page_sets.specs.PageSets.{entry, with_first, server_a, server_b, server_w}
 use Rattle.page_sets.specs.PassLaws.{lawful_passed, verdict_passed, table_passed}
 use Rattle.page_sets.specs.Evaluation.{first_edition, passed}
@@ -51,7 +51,7 @@ pub eight_levels : AcceptedLevels (inputs_of (rows_for first_edition eight)) (an
 eight_levels = accepted_levels first_edition eight eight_accepted
 
 abbrev pub levels_of : CpuidResults → List CpuidResult
-levels_of t = (row_in t Place.threadLevel).result ∷ (row_in t Place.coreLevel).result ∷ []
+levels_of t = (row_in t Place.thread_level).result ∷ (row_in t Place.core_level).result ∷ []
 
 pub eight_figures : levels_of (answer first_edition eight).table ≡ cpuid_result 0 1 0x100 0 ∷ cpuid_result 8 256 0x201 0 ∷ []
 unfolding passed eight

@@ -10,11 +10,11 @@ use Rattle.guest_state.specs.Compact.{component_start, placed, compact_below, co
 -- D.2 of 256 bytes, D.9 of 8 bytes, D.11 of 16 bytes, D.12 of 24 bytes aligned to 64, D.62 of 2^32 - 577 bytes, D.63 of no bytes aligned to 64
 unfoldable pub rows : Rows
 rows i =
-    pick (eqb i (Place.extendedState 2)) (row (cpuid_result 256 576 0 0))
-    (pick (eqb i (Place.extendedState 9)) (row (cpuid_result 8 2432 0 0))
-    (pick (eqb i (Place.extendedState 11)) (row (cpuid_result 16 0 1 0))
-    (pick (eqb i (Place.extendedState 12)) (row (cpuid_result 24 0 3 0))
-    (pick (eqb i (Place.extendedState 62)) (row (cpuid_result 0xFFFFFDBF 0 0 0)) (pick (eqb i (Place.extendedState 63)) (row (cpuid_result 0 0 2 0)) vacant)))))
+    pick (eqb i (Place.extended_state 2)) (row (cpuid_result 256 576 0 0))
+    (pick (eqb i (Place.extended_state 9)) (row (cpuid_result 8 2432 0 0))
+    (pick (eqb i (Place.extended_state 11)) (row (cpuid_result 16 0 1 0))
+    (pick (eqb i (Place.extended_state 12)) (row (cpuid_result 24 0 3 0))
+    (pick (eqb i (Place.extended_state 62)) (row (cpuid_result 0xFFFFFDBF 0 0 0)) (pick (eqb i (Place.extended_state 63)) (row (cpuid_result 0 0 2 0)) vacant)))))
 
 unfoldable pub sizes : List ℕ
 sizes =

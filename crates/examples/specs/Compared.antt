@@ -5,12 +5,12 @@ use Rattle.x86defs.specs.Functions.{VersionAndFeatures, ExtendedStateEnumeration
 use Rattle.pages.specs.Layout.{bad_length}
 use Rattle.table.specs.declared.Subleaf.TheVariants.{None, Some}
 use Rattle.table.specs.declared.Refusal.TheVariants.{PagesLength, SaveAreaOverflow}
-use Rattle.collect.specs.LawfulLaws.{lawful_bad_length}
+use Rattle.collect.proofs.LawfulLaws.{lawful_bad_length}
 use Rattle.compare.specs.declared.registers.Register.TheVariants.{Ecx}
 use Rattle.compare.specs.declared.Compared.TheVariants.{Rises, RefusedA, UnlawfulB, NoEntry, Differs}
 use Rattle.compare.specs.Compare.{compared}
-use Rattle.compare.specs.CompareLaws.{refused_a, unlawful_b}
-use Rattle.compare.specs.DecidesProof.{decides}
+use Rattle.compare.proofs.CompareLaws.{refused_a, unlawful_b}
+use Rattle.compare.proofs.DecidesProof.{decides}
 use Rattle.page_sets.specs.PageSets.{server_a, server_b, server_without_d12, server_with_large_d6}
 use Rattle.page_sets.specs.PassLaws.{lawful_passed}
 use Rattle.page_sets.specs.Evaluation.{first_edition, passed}

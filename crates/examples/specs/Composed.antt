@@ -13,11 +13,11 @@ use Rattle.guest.specs.declared.Processor.{Processor}
 use Rattle.guest.specs.declared.GuestAnswer.{GuestAnswer}
 use Rattle.guest.specs.Guest.{guest_table}
 use Rattle.guest.specs.GuestPages.{guest_pages}
-use Rattle.guest.specs.GuestPagesLaws.{given_guest}
+use Rattle.guest.proofs.GuestPagesLaws.{given_guest}
 use Rattle.rise.specs.RiseProof.{answer_table}
 use Rattle.guest_rise.specs.GuestRise.{compacts_in, GuestTableRises, GuestOutcome}
 use Rattle.guest_rise.specs.GuestRise.GuestOutcome.{given, too_large}
-use Rattle.guest_rise.specs.GuestRiseProof.{guest_rise}
+use Rattle.guest_rise.proofs.GuestRiseProof.{guest_rise}
 use Rattle.guest_rise.specs.GuestPreorder.{guest_rises_compose}
 use Rattle.examples.specs.Computed.{server_a_accepted, server_b_rises, server_b_accepted}
 use Rattle.examples.specs.Chain.{w_accepted, w_to_a}

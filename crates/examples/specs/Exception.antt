@@ -13,7 +13,7 @@ use Rattle.guest_state.specs.State.{state_verdict}
 use Rattle.guest.specs.Guest.{guest_table}
 use Rattle.guest.specs.GuestPages.{guest_pages}
 use Rattle.guest_rise.specs.GuestRise.{GuestOutcome}
-use Rattle.guest_rise.specs.GuestRiseProof.{guest_rise}
+use Rattle.guest_rise.proofs.GuestRiseProof.{guest_rise}
 use Rattle.page_sets.specs.Evaluation.{first_edition}
 use Rattle.examples.specs.SeenExamples.{viewed, processor, built, figures, state_passed, figures_passed, seen_verdict, seen_figures}
 use Rattle.examples.specs.Views.{view_a}

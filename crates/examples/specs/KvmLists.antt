@@ -14,7 +14,7 @@ use Rattle.kvm_list.specs.FormatLaws.{list_rows_lem}
 use Rattle.kvm_import.specs.ListChecks.{bad_list_length, all_lawful, fields_lawful, rows_on0, rows_on1, rows_fit}
 use Rattle.kvm_import.specs.ListPages.{entries_words, page_words, pages_of}
 use Rattle.kvm_import.specs.Import.{list_verdict, read_list}
-use Rattle.kvm_import.specs.ImportLaws.{read_11_0}
+use Rattle.kvm_import.proofs.ImportLaws.{read_11_0}
 use Rattle.kvm_export.specs.Export.{plain_row, rows_from, list_rows, list_of}
 use Rattle.page_sets.specs.PageSets.{server_a}
 use Rattle.page_sets.specs.PassLaws.{verdict_passed, table_passed}

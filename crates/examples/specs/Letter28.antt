@@ -20,8 +20,9 @@ use Rattle.pool.specs.Pool.{pooled}
 use Rattle.pool_laws.specs.PoolRight.{server_table, pool_table, NoneBeyond}
 use Rattle.pool_laws.specs.PoolProof.{pool_right}
 use Rattle.pool_laws.specs.ByTheLetter.{NoFeatureBeyond}
-use Rattle.pool_laws.specs.ByTheLetterProof.{greatest_by_the_letter}
-use Rattle.pool_laws.specs.LetterTest.{letter_test, no_feature_beyond}
+use Rattle.pool_laws.proofs.ByTheLetterProof.{greatest_by_the_letter}
+use Rattle.pool_laws.specs.LetterTest.{letter_test}
+use Rattle.pool_laws.proofs.LetterTest.{no_feature_beyond}
 use Rattle.examples.specs.PoolPassed.{pool_opened, pool_passed}
 use Rattle.examples.specs.Pools.{two}
 use Rattle.examples.specs.Bit28.{server_m}
@@ -52,18 +53,18 @@ pub a_has_none_beyond : NoFeatureBeyond (answer first_edition server_a).table (p
 a_has_none_beyond = greatest_by_the_letter first_edition (server_m ++ server_m) two m_and_m (answer first_edition server_a).table a_within_each
 
 -- bit 28 of 1.EDX: A has it, server M has not
-a_has_28 : bit 28 (row_in (passed_table first_edition server_a) Place.versionAndFeatures).result.edx ≡ 1
+a_has_28 : bit 28 (row_in (passed_table first_edition server_a) Place.version_and_features).result.edx ≡ 1
 unfolding pool_opened server_a
 a_has_28 = refl
 
-m_has_no_28 : bit 28 (row_in (passed_table first_edition (set_at (server_m ++ server_m) two 0)) Place.versionAndFeatures).result.edx ≡ 0
+m_has_no_28 : bit 28 (row_in (passed_table first_edition (set_at (server_m ++ server_m) two 0)) Place.version_and_features).result.edx ≡ 0
 unfolding pool_opened server_m
 m_has_no_28 = refl
 
 edx_within : (t u : CpuidResults) → NoneBeyond t u
-    → Within (row_in t Place.versionAndFeatures).result.edx (row_in u Place.versionAndFeatures).result.edx
+    → Within (row_in t Place.version_and_features).result.edx (row_in u Place.version_and_features).result.edx
 unfolding kinds_at register_kinds slot kept_leaves
-edx_within t u h = (h.features Place.versionAndFeatures (lit< tt)).edx
+edx_within t u h = (h.features Place.version_and_features (lit< tt)).edx
 
 -- so that with bit 28 A's table would not lie within
 pub not_with_28 : NoneBeyond (answer first_edition server_a).table (server_table first_edition (server_m ++ server_m) two 0) → ⊥

@@ -15,28 +15,29 @@ use Rattle.page_sets.specs.PageSets.{entry, with_first, server_a, server_b, serv
 use Rattle.page_sets.specs.PassLaws.{verdict_passed, table_passed}
 use Rattle.page_sets.specs.Evaluation.{first_edition, passed}
 use Rattle.rise.specs.Rise.{RiseHypothesis}
-use Rattle.rise.specs.RiseProof.{demand_3, answer_table}
+use Rattle.rise.specs.RiseProof.{answer_table}
+use Rattle.rise.proofs.RiseProof.{demand_3}
 use Rattle.compare.specs.declared.search.RowsCompared.TheVariants.{Rises}
 use Rattle.compare.specs.RowsCompared.{compared_tables}
-use Rattle.compare.specs.TablesDecideProof.{decides}
+use Rattle.compare.proofs.TablesDecideProof.{decides}
 use Rattle.carry.specs.Carry.{carry}
 use Rattle.guest_state.specs.State.{state_verdict}
 use Rattle.guest.specs.declared.Processor.{Processor}
 use Rattle.guest.specs.Guest.{guest_table, guest_answer}
 use Rattle.guest.specs.GuestPages.{guest_pages}
-use Rattle.guest.specs.GuestPagesLaws.{given_guest}
+use Rattle.guest.proofs.GuestPagesLaws.{given_guest}
 use Rattle.guest_rise.specs.GuestRise.{compacts_in}
 use Rattle.images.specs.CarriedLaws as CarriedLaws
 use Rattle.images.specs.CarriedRows.{own_ymm}
-use Rattle.images.specs.MovesProof.{moves_to_second}
+use Rattle.images.proofs.MovesProof.{moves_to_second}
 use Rattle.guest_life.specs.Sound.{built_sound}
 use Rattle.guest_life.specs.ViewsTell.{TablesAgree, SameView}
-use Rattle.guest_life.specs.ViewsTellProof.{views_tell_tables}
+use Rattle.guest_life.proofs.ViewsTellProof.{views_tell_tables}
 use Rattle.guest_life.specs.SaveAreas.{StandardForm, CompactedForm}
-use Rattle.guest_life.specs.SaveAreasProof.{save_areas}
+use Rattle.guest_life.proofs.SaveAreasProof.{save_areas}
 use Rattle.guest_life.specs.Life.{Life, LifeOutcome, lost_bit}
 use Rattle.guest_life.specs.Life.Life.{starts, moves, carries}
-use Rattle.guest_life.specs.LifeProof.{life_shows}
+use Rattle.guest_life.proofs.LifeProof.{life_shows}
 use Rattle.examples.specs.Computed.{server_a_accepted, server_b_rises, server_b_accepted}
 use Rattle.examples.specs.Chain.{w_accepted, w_to_a}
 use Rattle.examples.specs.WithoutYmm.{without_ymm, first_accepted}
@@ -62,7 +63,7 @@ elsewhere_given = seen_verdict first_edition server_a_elsewhere view_a elsewhere
 
 -- 1.EBX and 1.ECX of the two tables
 abbrev pub numbers : CpuidResults → List ℕ
-numbers t = (row_in t Place.versionAndFeatures).result.ebx ∷ (row_in t Place.versionAndFeatures).result.ecx ∷ []
+numbers t = (row_in t Place.version_and_features).result.ebx ∷ (row_in t Place.version_and_features).result.ecx ∷ []
 
 pub elsewhere_numbers : numbers (answer first_edition server_a_elsewhere).table ≡ 0x7F010000 ∷ 0xB6D83203 ∷ []
 unfolding passed server_a_elsewhere

@@ -37,12 +37,12 @@ T s nc lps mt t = shown_topology (topology_of (inputs s nc lps mt t))
 -- rows that hold D.0 with its EAX, D.1 with its EAX and ECX, D.2 with its EAX and EBX, and D.11
 state_rows : ℕ → ℕ → ℕ → ℕ → ℕ → Rows
 state_rows xfem xsaves xss eax ebx i =
-    pick (eqb i (Place.extendedState 0)) (row (cpuid_result xfem 0 0 0))
-    (pick (eqb i (Place.extendedState 1)) (row (cpuid_result xsaves 0 xss 0))
-    (pick (eqb i (Place.extendedState 2)) (row (cpuid_result eax ebx 0 0)) (pick (eqb i (Place.extendedState 11)) (row (cpuid_result 16 0 1 0)) vacant)))
+    pick (eqb i (Place.extended_state 0)) (row (cpuid_result xfem 0 0 0))
+    (pick (eqb i (Place.extended_state 1)) (row (cpuid_result xsaves 0 xss 0))
+    (pick (eqb i (Place.extended_state 2)) (row (cpuid_result eax ebx 0 0)) (pick (eqb i (Place.extended_state 11)) (row (cpuid_result 16 0 1 0)) vacant)))
 
 shown_area : Verdict → Rows → Shown
-shown_area Accepted m = area (finished 1 m (Place.extendedState 0)).result.ecx
+shown_area Accepted m = area (finished 1 m (Place.extended_state 0)).result.ecx
 shown_area (Refused r) m = refusal (details r).number
 
 -- X: XFEM, and D.2's EAX and EBX
@@ -55,7 +55,7 @@ C : ℕ → ℕ → Shown
 unfolding state_rows
 C xsaves xss =
     let m : Rows = state_rows 7 xsaves xss 256 576 in
-    supervisor (finished 1 m (Place.extendedState 1)).result.ecx (finished 1 m (Place.extendedState 11)).present
+    supervisor (finished 1 m (Place.extended_state 1)).result.ecx (finished 1 m (Place.extended_state 11)).present
 
 pub marked : List Shown
 unfolding T X C

@@ -25,9 +25,10 @@ use Rattle.nearest.specs.Changes.{changes}
 use Rattle.nearest.specs.declared.Nearest.TheVariants.{Bit, NoBit}
 use Rattle.nearest.specs.Nearest.{first_that, unless_refused, nearest}
 use Rattle.nearest_exactly.specs.NearestExactly.{MissesRequired}
-use Rattle.nearest_exactly.specs.TwentyExactly.{twenty_exactly}
+use Rattle.nearest_exactly.proofs.TwentyExactly.{twenty_exactly}
 use Rattle.nearest_exactly.specs.NoDecisiveBit.{some_decides}
-use Rattle.nearest_exactly.specs.WithoutInvlpgb.{InvlpgbNearest, refused_by_4}
+use Rattle.nearest_exactly.specs.WithoutInvlpgb.{InvlpgbNearest}
+use Rattle.nearest_exactly.proofs.WithoutInvlpgb.{refused_by_4}
 use Rattle.nearest_exactly.specs.OutsideLaws.{Among, FirstAt}
 use Rattle.page_sets.specs.PageSets.{word, entry, page, required_entries, first_page, state_entries, server_a}
 use Rattle.page_sets.specs.Pass.{entry_in, on_pages_in}
@@ -191,10 +192,10 @@ second_not_first r k l u i f =
 pub first_among_lem : Among first_edition leaf1_twice 0 0 2 2
 first_among_lem = among 0 2 2 (lit< tt) (lit< tt) (lit< tt) [] (entry_at leaf1_twice 0 1 ∷ []) leaf1_twice_entries
 
-pub first_is_first : FirstAt first_among_lem.before (entry_at leaf1_twice 0 0) Place.versionAndFeatures
+pub first_is_first : FirstAt first_among_lem.before (entry_at leaf1_twice 0 0) Place.version_and_features
 unfolding evaluated first_among_lem among stored_at first_among leaf1_twice
 first_is_first = record { place = lit< tt; here = refl; new = refl }
 
-pub bit_outside : apply_mask (masks_at false Place.versionAndFeatures) (one_bit 2 2) ≡ cpuid_result 0 0 0 0
+pub bit_outside : apply_mask (masks_at false Place.version_and_features) (one_bit 2 2) ≡ cpuid_result 0 0 0 0
 unfolding evaluated bit_in
 bit_outside = refl

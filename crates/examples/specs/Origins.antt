@@ -17,7 +17,7 @@ use Rattle.finish.specs.PlaceLaws.{always}
 use Rattle.build.specs.Build.{answer, origin_at}
 use Rattle.rise.specs.RiseProof.{answer_row}
 use Rattle.rise.specs.BuiltLaws.{always_finished}
-use Rattle.rise.specs.LocatedProof.{rows_have_origins}
+use Rattle.rise.proofs.LocatedProof.{rows_have_origins}
 use Rattle.page_sets.specs.PageSets.{entry as entry_bytes, page, required_entries, state_entries}
 use Rattle.page_sets.specs.PassLaws.{counted_passed, verdict_passed}
 use Rattle.page_sets.specs.Evaluation.{first_edition, passed}
@@ -41,28 +41,28 @@ required_origin i l a h e =
     ∙ pick_false _ _ h
     ∙ e
 
-stands_1 : stands_at Place.versionAndFeatures (counted repeated) ≡ entry 0 1
+stands_1 : stands_at Place.version_and_features (counted repeated) ≡ entry 0 1
 unfolding passed stands_at keep_if repeated
-stands_1 = ap (stands_at Place.versionAndFeatures) (counted_passed repeated)
+stands_1 = ap (stands_at Place.version_and_features) (counted_passed repeated)
 
 -- leaf 1 is of the first of two entries: not of the last, at position 23
-pub first_leaf_1 : origin_at first_edition repeated Place.versionAndFeatures ≡ entry 0 1
+pub first_leaf_1 : origin_at first_edition repeated Place.version_and_features ≡ entry 0 1
 unfolding is_made_here
-first_leaf_1 = required_origin Place.versionAndFeatures (lit< tt) refl refl stands_1
+first_leaf_1 = required_origin Place.version_and_features (lit< tt) refl refl stands_1
 
-stands_d0 : stands_at (Place.extendedState 0) (counted repeated) ≡ entry 1 0
+stands_d0 : stands_at (Place.extended_state 0) (counted repeated) ≡ entry 1 0
 unfolding passed stands_at keep_if repeated
-stands_d0 = ap (stands_at (Place.extendedState 0)) (counted_passed repeated)
+stands_d0 = ap (stands_at (Place.extended_state 0)) (counted_passed repeated)
 
 -- D.0 is of the first entry of page 1, counted from that page's beginning: not of page 0's first
-pub d0_on_page_1 : origin_at first_edition repeated (Place.extendedState 0) ≡ entry 1 0
+pub d0_on_page_1 : origin_at first_edition repeated (Place.extended_state 0) ≡ entry 1 0
 unfolding is_made_here
-d0_on_page_1 = required_origin (Place.extendedState 0) (lit< tt) refl refl stands_d0
+d0_on_page_1 = required_origin (Place.extended_state 0) (lit< tt) refl refl stands_d0
 
 -- B.0 is made here, although the page set has an entry for it
-pub b0_made_here : (stands_at Place.threadLevel (counted repeated) ≡ entry 0 4) × (origin_at first_edition repeated Place.threadLevel ≡ made_here)
+pub b0_made_here : (stands_at Place.thread_level (counted repeated) ≡ entry 0 4) × (origin_at first_edition repeated Place.thread_level ≡ made_here)
 unfolding passed stands_at keep_if repeated is_made_here
 b0_made_here = (
-  ap (stands_at Place.threadLevel) (counted_passed repeated),
-  (rows_have_origins first_edition repeated repeated_accepted Place.threadLevel (lit< tt)).made.1 refl,
+  ap (stands_at Place.thread_level) (counted_passed repeated),
+  (rows_have_origins first_edition repeated repeated_accepted Place.thread_level (lit< tt)).made.1 refl,
 )

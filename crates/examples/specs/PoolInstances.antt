@@ -15,9 +15,10 @@ use Rattle.examples.specs.Computed.{server_b_rises, server_b_accepted}
 use Rattle.pool.specs.Sets.{set_at, lawful_sets}
 use Rattle.pool.specs.Pool.{pooled}
 use Rattle.pool_laws.specs.PoolRight.{server_table, pool_table, PoolRight, NoneBeyond, SetsAmong, NothingMore}
-use Rattle.pool_laws.specs.PoolProof.{pool_right, greatest, one_more}
+use Rattle.pool_laws.specs.PoolProof.{pool_right, greatest}
+use Rattle.pool_laws.proofs.PoolProof.{one_more}
 use Rattle.pool_laws.specs.PoolOrderProof.{order_free}
-use Rattle.pool_laws.specs.PoolMovesProof.{pool_moves}
+use Rattle.pool_laws.proofs.PoolMovesProof.{pool_moves}
 use Rattle.pool_laws.specs.PoolExactly.{DifferFault, ServerFault}
 use Rattle.pool_laws.specs.PoolExactlyProof.{pool_exactly}
 use Rattle.examples.specs.PoolPassed.{pool_opened}

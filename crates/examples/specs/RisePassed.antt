@@ -13,9 +13,10 @@ use Rattle.compare.specs.RowsCompared.{rows_compared}
 use Rattle.compare.specs.declared.Compared.{Compared}
 use Rattle.compare.specs.declared.Compared.TheVariants.{Rises}
 use Rattle.compare.specs.Compare.{compared_rows, compared}
-use Rattle.compare.specs.CompareLaws.{has_row, with_verdicts}
+use Rattle.compare.specs.CompareLaws.{has_row}
+use Rattle.compare.proofs.CompareLaws.{with_verdicts}
 use Rattle.compare.specs.Means.{AnswerMeans}
-use Rattle.compare.specs.DecidesProof.{decides}
+use Rattle.compare.proofs.DecidesProof.{decides}
 use Rattle.page_sets.specs.Pass.{passed_for, passed_table}
 use Rattle.page_sets.specs.PassLaws.{rows_passed, table_passed}
 

@@ -16,8 +16,8 @@ use Rattle.page_sets.specs.PageSets.{server_a, server_without_d12}
 use Rattle.page_sets.specs.PassLaws.{table_passed}
 use Rattle.page_sets.specs.Evaluation.{first_edition, passed}
 use Rattle.letter.specs.Paper.{lines_of, find, find_after, written, answer_bytes, program}
-use Rattle.letter.specs.VerdictProof.{verdict_by_figures}
-use Rattle.letter.specs.LookupProof.{lookup_by_the_letter}
+use Rattle.letter.proofs.VerdictProof.{verdict_by_figures}
+use Rattle.letter.proofs.LookupProof.{lookup_by_the_letter}
 use Rattle.examples.specs.Computed.{server_a_accepted, without_refused}
 
 -- what a lookup finds for rows 0, 1, 7.0, D.0 and 80000008h, and for 80000000h under a subleaf that is enforced

@@ -21,7 +21,7 @@ use Rattle.guest_state.specs.State.{save_register, compacts, compact_register, a
 use Rattle.guest.specs.declared.Processor.{Processor}
 use Rattle.guest.specs.Guest.{number_seen, osxsave_seen, guest_table}
 use Rattle.guest.specs.GuestPages.{guest_pages}
-use Rattle.guest.specs.GuestPagesLaws.{guest_verdict, given_guest}
+use Rattle.guest.proofs.GuestPagesLaws.{guest_verdict, given_guest}
 
 -- with every definition open
 unfoldable pub viewed : Choices → List ℕ → Verdict
@@ -39,12 +39,12 @@ built chosen s = table_of (finished chosen.edition (rows_for chosen s)) (combine
 -- 1.EBX, 1.ECX, B.0.EDX, B.1.EDX, D.0.EBX, D.1.EBX
 abbrev pub figures : CpuidResults → List ℕ
 figures t =
-    (row_in t Place.versionAndFeatures).result.ebx
-    ∷ (row_in t Place.versionAndFeatures).result.ecx
-    ∷ (row_in t Place.threadLevel).result.edx
-    ∷ (row_in t Place.coreLevel).result.edx
-    ∷ (row_in t (Place.extendedState 0)).result.ebx
-    ∷ (row_in t (Place.extendedState 1)).result.ebx
+    (row_in t Place.version_and_features).result.ebx
+    ∷ (row_in t Place.version_and_features).result.ecx
+    ∷ (row_in t Place.thread_level).result.edx
+    ∷ (row_in t Place.core_level).result.edx
+    ∷ (row_in t (Place.extended_state 0)).result.ebx
+    ∷ (row_in t (Place.extended_state 1)).result.ebx
     ∷ []
 
 -- the same of entries that are read in one pass

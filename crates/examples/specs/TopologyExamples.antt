@@ -15,9 +15,9 @@ use Rattle.checks.specs.TopologyInputs.{inputs_of}
 use Rattle.build.specs.Build.{answer}
 use Rattle.topologies.specs.Topologies.{accepts, accepted_inputs}
 use Rattle.topology_list.specs.Listed.{In}
-use Rattle.topology_list.specs.ListedProof.{determined}
+use Rattle.topology_list.proofs.ListedProof.{determined}
 use Rattle.topology_list.specs.Builds.{inputs_for}
-use Rattle.topology_list.specs.BuildsProof.{builds_listed}
+use Rattle.topology_list.proofs.BuildsProof.{builds_listed}
 use Rattle.page_sets.specs.PageSets.{entry, page, required_entries, state_entries}
 use Rattle.page_sets.specs.Pass.{passed_for}
 use Rattle.page_sets.specs.PassLaws.{rows_passed, verdict_passed}
@@ -40,7 +40,7 @@ inputs_passed s = ap inputs_of (rows_passed false s)
 
 -- B.0 and B.1
 abbrev pub levels_of : List ℕ → List CpuidResult
-levels_of s = Chain.levelsOf (answer first_edition s).table
+levels_of s = Chain.levels_of (answer first_edition s).table
 
 -- an accepted set with s up to 7: its inputs are listed, and its B.0 and B.1 are those of its inputs
 module _ (s : List ℕ) (i : Inputs) (e : inputs_for first_edition s ≡ i) where

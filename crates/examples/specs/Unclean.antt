@@ -8,12 +8,12 @@ use Rattle.table.specs.declared.Verdict.TheVariants.{Accepted, Refused}
 use Rattle.table.specs.Edition.{known_edition}
 use Rattle.collect.specs.Lawful.{lawful_verdict}
 use Rattle.build.specs.Build.{edition_verdict, answer}
-use Rattle.build.specs.BuildLaws.{front_refused}
-use Rattle.collect.specs.LawfulLaws.{lawful_clean}
+use Rattle.build.proofs.BuildLaws.{front_refused}
+use Rattle.collect.proofs.LawfulLaws.{lawful_clean}
 use Rattle.rise.specs.RiseProof.{accepted_lawful}
 use Rattle.compare.specs.declared.Compared.TheVariants.{UnlawfulB}
 use Rattle.compare.specs.Compare.{compared}
-use Rattle.compare.specs.CompareLaws.{unlawful_b}
+use Rattle.compare.proofs.CompareLaws.{unlawful_b}
 use Rattle.page_sets.specs.PassLaws.{lawful_passed, verdict_passed}
 use Rattle.page_sets.specs.Evaluation.{first_edition, passed}
 use Rattle.page_sets.specs.PageSets.{word, page, required_entries, state_entries, server_a}

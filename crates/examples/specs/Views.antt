@@ -15,9 +15,9 @@ use Rattle.guest_state.specs.State.{state_verdict}
 use Rattle.guest.specs.declared.Processor.{Processor}
 use Rattle.guest.specs.Guest.{guest_table, refused_answer}
 use Rattle.guest.specs.GuestPages.{guest_pages}
-use Rattle.guest.specs.GuestPagesLaws.{given_guest, building_first}
+use Rattle.guest.proofs.GuestPagesLaws.{given_guest, building_first}
 use Rattle.guest_rise.specs.GuestRise.{GuestOutcome}
-use Rattle.guest_rise.specs.GuestRiseProof.{guest_rise}
+use Rattle.guest_rise.proofs.GuestRiseProof.{guest_rise}
 use Rattle.page_sets.specs.Evaluation.{first_edition}
 use Rattle.examples.specs.SeenExamples.{viewed, processor, built, figures, built_passed, state_passed, figures_passed, seen_verdict, seen_figures}
 
@@ -42,13 +42,13 @@ a_figures = seen_figures first_edition server_a view_a server_a_accepted state_a
 
 -- row 1 whole: EAX and EDX are the table's, and of EBX and ECX all but the number and bit 27
 abbrev version_row : CpuidResults → CpuidResult
-version_row t = (row_in t Place.versionAndFeatures).result
+version_row t = (row_in t Place.version_and_features).result
 
 version_passed : version_row (guest_table (built first_edition server_a) view_a) ≡ cpuid_result 0xA00F11 0x45010000 0xBED83203 0x178BFBFF
 unfolding viewed server_a
 version_passed = ap (λ (t : CpuidResults). version_row (guest_table t view_a)) (built_passed first_edition server_a)
 
-pub a_version : (row_in (guest_pages first_edition server_a view_a).table Place.versionAndFeatures).result ≡ cpuid_result 0xA00F11 0x45010000 0xBED83203 0x178BFBFF
+pub a_version : (row_in (guest_pages first_edition server_a view_a).table Place.version_and_features).result ≡ cpuid_result 0xA00F11 0x45010000 0xBED83203 0x178BFBFF
 a_version =
     ap version_row
     (given_guest first_edition server_a view_a server_a_accepted a_given

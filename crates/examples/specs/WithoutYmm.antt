@@ -11,7 +11,7 @@ use Rattle.table.specs.Edition.{known_edition}
 use Rattle.table.specs.Table.{row_in}
 use Rattle.build.specs.Build.{edition_verdict, under_edition, verdict_of, answer}
 use Rattle.rise.specs.Rise.{RiseTo, TableRises}
-use Rattle.rise.specs.RiseProof.{second_to_first_rises}
+use Rattle.rise.proofs.RiseProof.{second_to_first_rises}
 use Rattle.rise.specs.SameProof.{rises_itself}
 use Rattle.page_sets.specs.PassLaws.{verdict_passed, table_passed}
 use Rattle.page_sets.specs.Evaluation.{first_edition, passed}
@@ -36,7 +36,7 @@ second_accepted = verdict_passed second without_ymm
 
 -- 1.ECX and 80000001h.ECX
 abbrev ecx_of : CpuidResults → List ℕ
-ecx_of t = (row_in t Place.versionAndFeatures).result.ecx ∷ (row_in t Place.extendedVersionAndFeatures).result.ecx ∷ []
+ecx_of t = (row_in t Place.version_and_features).result.ecx ∷ (row_in t Place.extended_version_and_features).result.ecx ∷ []
 
 abbrev pub figures : Choices → List ℕ
 figures chosen = ecx_of (answer chosen without_ymm).table
@@ -62,7 +62,7 @@ pub not_from_first : TableRises (answer first_edition without_ymm).table (answer
 unfolding passed without_ymm
 not_from_first t =
     let u = subst₂ TableRises (table_passed first_edition without_ymm first_accepted) (table_passed second without_ymm second_accepted) t in
-    f16c_gone (u.registers Place.versionAndFeatures (lit< tt) refl).ecx
+    f16c_gone (u.registers Place.version_and_features (lit< tt) refl).ecx
 
 -- there is no edition 3, also of no pages at all
 pub unknown_refused : (answer (under_edition 3) []).verdict ≡ Refused UnknownEdition

@@ -17,7 +17,7 @@ use Rattle.examples.specs.SeenExamples.{viewed, built, state_passed}
 use Rattle.table.specs.declared.Refusal.TheVariants.{UnknownEdition, EditionBack}
 use Rattle.table.specs.declared.Verdict.TheVariants.{Accepted, Refused}
 use Rattle.carry.specs.Carry.{carry_verdict, carry}
-use Rattle.images.specs.MovesProof.{moves_to_second}
+use Rattle.images.proofs.MovesProof.{moves_to_second}
 
 abbrev pub running : CpuidResults
 running = (answer first_edition without_ymm).table
@@ -43,7 +43,7 @@ moved = state 3 0 in_use_lem
 
 -- 1.ECX and 80000001h.ECX are then edition 2's: 8ED82203h and 4001F3h
 abbrev pub figures : CpuidResults → List ℕ
-figures t = (row_in t Place.versionAndFeatures).result.ecx ∷ (row_in t Place.extendedVersionAndFeatures).result.ecx ∷ []
+figures t = (row_in t Place.version_and_features).result.ecx ∷ (row_in t Place.extended_version_and_features).result.ecx ∷ []
 
 pub moved_figures : figures (carry running 1 2 3 0).table ≡ 0x8ED82203 ∷ 0x4001F3 ∷ []
 moved_figures = ap figures ((moves_to_second first_edition without_ymm 3 0 first_accepted).table moved) ∙ second_figures

@@ -40,11 +40,11 @@ image_fits t =
     omega (
       arith,
       image_length t,
-      among_at_most p 0 Place.extendedFeatures,
-      among_at_most p Place.extendedMaxFunction (Place.cacheTopology 0),
-      among_at_most p Place.processorTopologyDefinition places,
-      among_at_most p Place.extendedFeatures Place.extendedMaxFunction,
-      among_at_most p (Place.cacheTopology 0) Place.processorTopologyDefinition,
+      among_at_most p 0 Place.extended_features,
+      among_at_most p Place.extended_max_function (Place.cache_topology 0),
+      among_at_most p Place.processor_topology_definition places,
+      among_at_most p Place.extended_features Place.extended_max_function,
+      among_at_most p (Place.cache_topology 0) Place.processor_topology_definition,
     )
 
 -- what stands in the array after the write

@@ -1,4 +1,6 @@
 // The fingerprint of a table in lent memory: the SHA-256 of its image, 32 bytes.
+#![tactic(auto)]
+
 ghost use Rattle.std.specs.Prelude.{◌≡◌};
 ghost use Rattle.memory.specs.Held.{held_in};
 ghost use Rattle.fingerprint.specs.Fingerprint.{fingerprint};

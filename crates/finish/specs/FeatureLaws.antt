@@ -6,7 +6,8 @@ use Rattle.std.proofs.Common.{sym, ap₂, ◌∙◌}
 use Rattle.std.specs.Int.Bits.{bit_and, bit_or}
 use Rattle.bits.specs.ChoiceLaws.{and_implied, and_swap}
 use Rattle.bits.specs.Bits.{has, mask_of, clear, clear_unless, Within}
-use Rattle.bits.specs.BitsLaws.{has_and, or_and, and_of_within, within_of_and, within_refl, within_eq, within_and, within_or, clear_unless_and}
+use Rattle.bits.specs.BitsLaws.{or_and, and_of_within, within_of_and, within_refl, within_eq, within_and, within_or, clear_unless_and}
+use Rattle.bits.proofs.BitsLaws.{has_and}
 use Rattle.table.specs.Edition.{joined_from, bits_between}
 use Rattle.finish.specs.Finish.{Enabled, YmmClears, edition1, ymm_clears, has_ymm, has_avx512, has_cet, version_ecx, features_ebx, features_ecx, features_edx, extended_version_ecx, extended_version_edx, address_sizes_ebx, hypervisor_present, ibrs_and_stibp, btc_no}
 
@@ -15,8 +16,8 @@ abbrev pub both_enable : Enabled → Enabled → Enabled
 both_enable c d = record { xfem = bit_and c.xfem d.xfem; xss = bit_and c.xss d.xss; tsc_aux = c.tsc_aux && d.tsc_aux }
 
 -- a test of what is enabled holds of both exactly where it holds of each
-record Splits (test : Enabled → Bool) : Type 0 where
-  law : (c d : Enabled) → test (both_enable c d) ≡ (test c && test d)
+pub record Splits (test : Enabled → Bool) : Type 0 where
+  pub law : (c d : Enabled) → test (both_enable c d) ≡ (test c && test d)
 
 splits_and : {f g : Enabled → Bool} → Splits f → Splits g → Splits (λ c. f c && g c)
 splits_and {f} {g} p q = record { law = λ c d. ap₂ ◌&&◌ (p.law c d) (q.law c d) ∙ and_swap (f c) (f d) (g c) (g d) }
@@ -27,49 +28,22 @@ in_xfem k = record { law = λ c d. has_and k c.xfem d.xfem }
 in_xss : (k : ℕ) → Splits (λ c. has k c.xss)
 in_xss k = record { law = λ c d. has_and k c.xss d.xss }
 
-ymm_splits : Splits has_ymm
+pub ymm_splits : Splits has_ymm
 ymm_splits = in_xfem 2
 
-avx512_splits : Splits has_avx512
+pub avx512_splits : Splits has_avx512
 avx512_splits = splits_and (in_xfem 2) (splits_and (in_xfem 5) (splits_and (in_xfem 6) (in_xfem 7)))
 
-cet_splits : Splits has_cet
+pub cet_splits : Splits has_cet
 cet_splits = splits_and (in_xss 11) (in_xss 12)
 
-tsc_aux_splits : Splits (λ c. c.tsc_aux)
+pub tsc_aux_splits : Splits (λ c. c.tsc_aux)
 tsc_aux_splits = record { law = λ c d. refl }
 
 -- a clear under such a test
-clear_and : {test : Enabled → Bool} → Splits test → (m : ℕ) (c d : Enabled) (x y z : ℕ) → z ≡ bit_and x y
+pub clear_and : {test : Enabled → Bool} → Splits test → (m : ℕ) (c d : Enabled) (x y z : ℕ) → z ≡ bit_and x y
     → clear_unless (test (both_enable c d)) m z ≡ bit_and (clear_unless (test c) m x) (clear_unless (test d) m y)
 clear_and {test} p m c d x y z e = ap₂ (λ (b : Bool) (n : ℕ). clear_unless b m n) (p.law c d) e ∙ clear_unless_and (test c) (test d) m x y
-
--- ---- each register
-
-module _ (clears : YmmClears) where
-  pub version_ecx_and : (c d : Enabled) (x y : ℕ)
-      → version_ecx clears (both_enable c d) (bit_and x y) ≡ bit_and (version_ecx clears c x) (version_ecx clears d y)
-  unfolding version_ecx
-  version_ecx_and c d x y =
-      ap (λ (n : ℕ). bit_or n hypervisor_present) (clear_and ymm_splits clears.version_ecx c d x y _ refl)
-      ∙ or_and (clear_unless (has_ymm c) clears.version_ecx x) (clear_unless (has_ymm d) clears.version_ecx y) hypervisor_present
-
-  pub features_ebx_and : (c d : Enabled) (x y : ℕ)
-      → features_ebx clears (both_enable c d) (bit_and x y) ≡ bit_and (features_ebx clears c x) (features_ebx clears d y)
-  unfolding features_ebx
-  features_ebx_and c d x y = clear_and avx512_splits _ c d _ _ _ (clear_and ymm_splits _ c d x y _ refl)
-
-  pub features_ecx_and : (c d : Enabled) (x y : ℕ)
-      → features_ecx clears (both_enable c d) (bit_and x y) ≡ bit_and (features_ecx clears c x) (features_ecx clears d y)
-  unfolding features_ecx
-  features_ecx_and c d x y =
-      clear_and tsc_aux_splits _ c d _ _ _
-      (clear_and avx512_splits _ c d _ _ _ (clear_and ymm_splits _ c d _ _ _ (clear_and cet_splits _ c d x y _ refl)))
-
-  pub extended_version_ecx_and : (c d : Enabled) (x y : ℕ)
-      → extended_version_ecx clears (both_enable c d) (bit_and x y) ≡ bit_and (extended_version_ecx clears c x) (extended_version_ecx clears d y)
-  unfolding extended_version_ecx
-  extended_version_ecx_and c d x y = clear_and ymm_splits _ c d x y _ refl
 
 pub features_edx_and : (c d : Enabled) (x y : ℕ) → features_edx (both_enable c d) (bit_and x y) ≡ bit_and (features_edx c x) (features_edx d y)
 unfolding features_edx
@@ -109,7 +83,7 @@ at_least_of_and f law {c} {d} {x} {y} h g = within_of_and (sym (law c d x y) ∙
 -- ---- fewer clears
 
 -- z clears no bit that y leaves: what remains of a register is at least as much
-abbrev leaves : ℕ → ℕ
+abbrev pub leaves : ℕ → ℕ
 leaves m = 2 ^ 32 - 1 - m
 
 pub record ClearsFewer (y z : YmmClears) : Type 0 where

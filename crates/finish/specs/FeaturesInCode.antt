@@ -23,5 +23,5 @@ abbrev pub enabled_from : CpuidResult → CpuidResult → CpuidResult → Enable
 enabled_from d0 d1 sev = record {
   xfem = d0.eax;
   xss = xss_of d1;
-  tsc_aux = has (Sev.position Sev.ExtendedSevFeaturesEax.tsc-aux-virtualization) sev.eax;
+  tsc_aux = has (Sev.position Sev.ExtendedSevFeaturesEax.tsc_aux_virtualization) sev.eax;
 }

@@ -26,7 +26,7 @@ pub data Made : Type 0 where
 
 -- the rows of required leaves, by what becomes of their entries
 pub data Needed : Type 0 where
-  version_and_features extended_features threadLevelRow coreLevelRow extended_state0 extended_state1 : Needed
+  version_and_features extended_features thread_level_row core_level_row extended_state0 extended_state1 : Needed
   extended_version_and_features extended_address_space_sizes untouched : Needed
 
 -- which rule a place falls under; D.k is a component, k from 2 up
@@ -37,20 +37,20 @@ pub data Rule : Type 0 where
 
 abbrev needed_at : ℕ → Needed
 needed_at i =
-    pick (eqb i Place.versionAndFeatures) version_and_features
-    (pick (eqb i Place.extendedFeatures) extended_features
-    (pick (eqb i Place.threadLevel) threadLevelRow
-    (pick (eqb i Place.coreLevel) coreLevelRow
-    (pick (eqb i (Place.extendedState 0)) extended_state0
-    (pick (eqb i (Place.extendedState 1)) extended_state1
-    (pick (eqb i Place.extendedVersionAndFeatures) extended_version_and_features
-    (pick (eqb i Place.extendedAddressSpaceSizes) extended_address_space_sizes untouched)))))))
+    pick (eqb i Place.version_and_features) version_and_features
+    (pick (eqb i Place.extended_features) extended_features
+    (pick (eqb i Place.thread_level) thread_level_row
+    (pick (eqb i Place.core_level) core_level_row
+    (pick (eqb i (Place.extended_state 0)) extended_state0
+    (pick (eqb i (Place.extended_state 1)) extended_state1
+    (pick (eqb i Place.extended_version_and_features) extended_version_and_features
+    (pick (eqb i Place.extended_address_space_sizes) extended_address_space_sizes untouched)))))))
 
 abbrev pub rule_at : ℕ → Rule
 rule_at i =
-    pick (leb (Place.extendedState 2) i && ltb i (Place.extendedState 64)) (component (i - Place.extendedState 0))
-    (pick (eqb i Place.vendorAndMaxFunction) (made vendor_and_max_function)
-    (pick (eqb i Place.extendedMaxFunction) (made extended_max_function) (needed (needed_at i))))
+    pick (leb (Place.extended_state 2) i && ltb i (Place.extended_state 64)) (component (i - Place.extended_state 0))
+    (pick (eqb i Place.vendor_and_max_function) (made vendor_and_max_function)
+    (pick (eqb i Place.extended_max_function) (made extended_max_function) (needed (needed_at i))))
 
 -- the facts that switch feature bits of other rows on or off: the two state masks, and whether TSC_AUX is virtualised
 pub record Enabled : Type 0 where
@@ -77,7 +77,7 @@ unfoldable pub enabled_by : Rows → Enabled
 enabled_by m = record {
   xfem = xfem m;
   xss = xss m;
-  tsc_aux = has (Sev.position Sev.ExtendedSevFeaturesEax.tsc-aux-virtualization) (m Place.extendedSevFeatures).result.eax;
+  tsc_aux = has (Sev.position Sev.ExtendedSevFeaturesEax.tsc_aux_virtualization) (m Place.extended_sev_features).result.eax;
 }
 
 -- Document 01: "Without XFEM bit 2: clear 1.ECX 10001000h, 7.0.EBX 20h, 7.0.ECX 700h", which is edition 1 of the rule
@@ -127,7 +127,7 @@ avx512_features_ebx =
     mask_of Ebx7.position
     (Ebx7.ExtendedFeatureSubleaf0Ebx.avx512f
     ∷ Ebx7.ExtendedFeatureSubleaf0Ebx.avx512dq
-    ∷ Ebx7.ExtendedFeatureSubleaf0Ebx.avx512-ifma
+    ∷ Ebx7.ExtendedFeatureSubleaf0Ebx.avx512_ifma
     ∷ Ebx7.ExtendedFeatureSubleaf0Ebx.avx512cd
     ∷ Ebx7.ExtendedFeatureSubleaf0Ebx.avx512bw
     ∷ Ebx7.ExtendedFeatureSubleaf0Ebx.avx512vl
@@ -136,22 +136,22 @@ avx512_features_ebx =
 unfoldable pub avx512_features_ecx : ℕ
 avx512_features_ecx =
     mask_of Ecx7.position
-    (Ecx7.ExtendedFeatureSubleaf0Ecx.avx512-vbmi
-    ∷ Ecx7.ExtendedFeatureSubleaf0Ecx.avx512-vbmi2
-    ∷ Ecx7.ExtendedFeatureSubleaf0Ecx.avx512-vnni
-    ∷ Ecx7.ExtendedFeatureSubleaf0Ecx.avx512-bitalg
-    ∷ Ecx7.ExtendedFeatureSubleaf0Ecx.avx512-vpopcntdq
+    (Ecx7.ExtendedFeatureSubleaf0Ecx.avx512_vbmi
+    ∷ Ecx7.ExtendedFeatureSubleaf0Ecx.avx512_vbmi2
+    ∷ Ecx7.ExtendedFeatureSubleaf0Ecx.avx512_vnni
+    ∷ Ecx7.ExtendedFeatureSubleaf0Ecx.avx512_bitalg
+    ∷ Ecx7.ExtendedFeatureSubleaf0Ecx.avx512_vpopcntdq
     ∷ [])
 
 unfoldable pub avx512_features_edx : ℕ
 avx512_features_edx =
-    mask_of Edx7.position (Edx7.ExtendedFeatureSubleaf0Edx.avx512-vp2-intersect ∷ Edx7.ExtendedFeatureSubleaf0Edx.avx512-fp16 ∷ [])
+    mask_of Edx7.position (Edx7.ExtendedFeatureSubleaf0Edx.avx512_vp2_intersect ∷ Edx7.ExtendedFeatureSubleaf0Edx.avx512_fp16 ∷ [])
 
 unfoldable pub cet_ss : ℕ
-cet_ss = mask_of Ecx7.position (Ecx7.ExtendedFeatureSubleaf0Ecx.cet-ss ∷ [])
+cet_ss = mask_of Ecx7.position (Ecx7.ExtendedFeatureSubleaf0Ecx.cet_ss ∷ [])
 
 unfoldable pub rd_pid : ℕ
-rd_pid = mask_of Ecx7.position (Ecx7.ExtendedFeatureSubleaf0Ecx.rd-pid ∷ [])
+rd_pid = mask_of Ecx7.position (Ecx7.ExtendedFeatureSubleaf0Ecx.rd_pid ∷ [])
 
 unfoldable pub rdtscp : ℕ
 rdtscp = mask_of ExtendedVersion.position (ExtendedVersion.ExtendedVersionAndFeaturesEdx.rdtscp ∷ [])
@@ -160,10 +160,10 @@ unfoldable pub ibrs_and_stibp : ℕ
 ibrs_and_stibp = mask_of Sizes.position (Sizes.ExtendedAddressSpaceSizesEbx.ibrs ∷ Sizes.ExtendedAddressSpaceSizesEbx.stibp ∷ [])
 
 unfoldable pub btc_no : ℕ
-btc_no = mask_of Sizes.position (Sizes.ExtendedAddressSpaceSizesEbx.btc-no ∷ [])
+btc_no = mask_of Sizes.position (Sizes.ExtendedAddressSpaceSizesEbx.btc_no ∷ [])
 
 unfoldable pub hypervisor_present : ℕ
-hypervisor_present = mask_of Version.position (Version.VersionAndFeaturesEcx.hypervisor-present ∷ [])
+hypervisor_present = mask_of Version.position (Version.VersionAndFeaturesEcx.hypervisor_present_lem ∷ [])
 
 -- the registers of each feature leaf, each a function of its masked value
 unfoldable pub version_ecx : YmmClears → Enabled → ℕ → ℕ
@@ -205,8 +205,8 @@ change_row c version_and_features r = cpuid_result r.eax r.ebx (version_ecx c.cl
 change_row c extended_features r =
     cpuid_result r.eax (features_ebx c.clears c.enabled r.ebx) (features_ecx c.clears c.enabled r.ecx)
     (features_edx c.enabled r.edx)
-change_row c threadLevelRow r = c.threads
-change_row c coreLevelRow r = c.cores
+change_row c thread_level_row r = c.threads
+change_row c core_level_row r = c.cores
 change_row c extended_state0 r = cpuid_result r.eax r.ebx c.save_area r.edx
 change_row c extended_state1 r = cpuid_result r.eax r.ebx (unless_no_xss c.enabled r.ecx) (unless_no_xss c.enabled r.edx)
 change_row c extended_version_and_features r =

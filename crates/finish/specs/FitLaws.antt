@@ -10,7 +10,7 @@ use Rattle.table.specs.Rows.{Rows, row, vacant}
 use Rattle.table.specs.Fits.{Fits}
 use Rattle.finish.specs.Finish.{Made, Needed, Rule, Settings, Enabled, rule_at, settings, make_row, change_row, finish, remains, finished, version_ecx, features_ebx, features_ecx, features_edx, extended_version_ecx, extended_version_edx, address_sizes_ebx, unless_no_xss, hypervisor_present, btc_no}
 use Rattle.finish.specs.Finish.Made.{vendor_and_max_function, extended_max_function}
-use Rattle.finish.specs.Finish.Needed.{version_and_features, extended_features, threadLevelRow, coreLevelRow, extended_state0, extended_state1, extended_version_and_features, extended_address_space_sizes, untouched}
+use Rattle.finish.specs.Finish.Needed.{version_and_features, extended_features, thread_level_row, core_level_row, extended_state0, extended_state1, extended_version_and_features, extended_address_space_sizes, untouched}
 use Rattle.finish.specs.Finish.Rule.{made, needed, component}
 
 -- what rows need from each other fits
@@ -27,7 +27,7 @@ unless_fits e {x} h = go (eqb e.xss 0)
     go true = lit< tt
     go false = h
 
-change_fits : (c : Settings) → SettingsFit c → (t : Needed) (r : CpuidResult) → Fits r → Fits (change_row c t r)
+pub change_fits : (c : Settings) → SettingsFit c → (t : Needed) (r : CpuidResult) → Fits r → Fits (change_row c t r)
 unfolding version_ecx features_ebx features_ecx features_edx extended_version_ecx extended_version_edx address_sizes_ebx hypervisor_present btc_no mask_of
 change_fits c s version_and_features r f = record { eax = f.eax; ebx = f.ebx; ecx = or_fits (clear_fits _ _ f.ecx) (lit< tt); edx = f.edx }
 change_fits c s extended_features r f = record {
@@ -36,8 +36,8 @@ change_fits c s extended_features r f = record {
   ecx = clear_fits _ _ (clear_fits _ _ (clear_fits _ _ (clear_fits _ _ f.ecx)));
   edx = clear_fits _ _ f.edx;
 }
-change_fits c s threadLevelRow r f = s.threads
-change_fits c s coreLevelRow r f = s.cores
+change_fits c s thread_level_row r f = s.threads
+change_fits c s core_level_row r f = s.cores
 change_fits c s extended_state0 r f = record { eax = f.eax; ebx = f.ebx; ecx = s.area; edx = f.edx }
 change_fits c s extended_state1 r f = record {
   eax = f.eax;
@@ -49,21 +49,7 @@ change_fits c s extended_version_and_features r f = record { eax = f.eax; ebx = 
 change_fits c s extended_address_space_sizes r f = record { eax = f.eax; ebx = clear_fits _ _ (or_fits f.ebx (lit< tt)); ecx = f.ecx; edx = f.edx }
 change_fits c s untouched r f = f
 
-make_fits : (t : Made) → Fits (make_row t)
+pub make_fits : (t : Made) → Fits (make_row t)
 unfolding AmdMaximum ExtendedAmdMaximum
 make_fits vendor_and_max_function = record { eax = lit< tt; ebx = lit< tt; ecx = lit< tt; edx = lit< tt }
 make_fits extended_max_function = record { eax = lit< tt; ebx = lit< tt; ecx = lit< tt; edx = lit< tt }
-
-finish_fits : (c : Settings) → SettingsFit c → (t : Rule) (r : CpuidResult) → Fits r → Fits (finish c t r)
-finish_fits c s (made t) r f = make_fits t
-finish_fits c s (needed t) r f = change_fits c s t r f
-finish_fits c s (component k) r f = f
-
--- all rows, the absent ones included
-pub finished_fits : (n : ℕ) (m : Rows) → SettingsFit (settings n m) → (i : ℕ) → Fits (m i).result → Fits (finished n m i).result
-unfolding finished
-finished_fits n m s i f = go (remains (settings n m) (rule_at i) (m i).present)
-  where
-    go : (b : Bool) → Fits (pick b (row (finish (settings n m) (rule_at i) (m i).result)) vacant).result
-    go true = finish_fits (settings n m) s (rule_at i) (m i).result f
-    go false = record { eax = lit< tt; ebx = lit< tt; ecx = lit< tt; edx = lit< tt }

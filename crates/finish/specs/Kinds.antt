@@ -12,7 +12,7 @@ use Rattle.finish.specs.Finish.Rule.{made, needed, component}
 
 pub data Kind : Type 0 where
   -- a feature register; 1.EDX, whose bit 28 is none; the save area; freed, so that entries may differ; any other register
-  feature featureBut28 area freed other : Kind
+  feature feature_but28 area freed other : Kind
 
 pub record Kinds : Type 0 where
   pub eax : Kind
@@ -37,7 +37,7 @@ leaf l k a b c d = record { leaf = l; subleaf = k; kinds = kinds a b c d }
 -- entry: nothing is asked of one.
 unfoldable pub register_kinds : List LeafKinds
 register_kinds =
-    leaf (function 0x1) 0 other other feature featureBut28
+    leaf (function 0x1) 0 other other feature feature_but28
     ∷ leaf (function 0x7) 0 other feature feature feature
     ∷ leaf (function 0x80000001) 0 other other feature feature
     ∷ leaf (function 0x80000008) 0 other feature other other
@@ -63,7 +63,7 @@ kinds_at i = kinds_in register_kinds (leaf_at i) (subleaf_at i)
 -- how B's masked entry compares with A's
 abbrev pub EntryAtLeast : Kind → ℕ → ℕ → Type 0
 EntryAtLeast feature a b = Within a b
-EntryAtLeast featureBut28 a b = Within a b × (bit 28 a ≡ bit 28 b)
+EntryAtLeast feature_but28 a b = Within a b × (bit 28 a ≡ bit 28 b)
 EntryAtLeast area a b = Unit {0}
 EntryAtLeast freed a b = Unit {0}
 EntryAtLeast other a b = a ≡ b
@@ -71,7 +71,7 @@ EntryAtLeast other a b = a ≡ b
 -- how B's table then compares with A's
 abbrev pub TableAtLeast : Kind → ℕ → ℕ → Type 0
 TableAtLeast feature a b = Within a b
-TableAtLeast featureBut28 a b = Within a b × (bit 28 a ≡ bit 28 b)
+TableAtLeast feature_but28 a b = Within a b × (bit 28 a ≡ bit 28 b)
 TableAtLeast area a b = a ≤ b
 TableAtLeast freed a b = a ≡ b
 TableAtLeast other a b = a ≡ b

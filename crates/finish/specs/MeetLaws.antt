@@ -7,7 +7,8 @@ use Rattle.std.proofs.lemmas.Bool.{eqb-false}
 use Rattle.bits.specs.Choice.{pick}
 use Rattle.bits.specs.ChoiceLaws.{and_swap}
 use Rattle.bits.specs.Bits.{bit, has, Within}
-use Rattle.bits.specs.BitsLaws.{bit_and_lem, bit_or_lem, bits_ext, has_and, zero_bit}
+use Rattle.bits.specs.BitsLaws.{bit_and_lem, bit_or_lem, bits_ext, zero_bit}
+use Rattle.bits.proofs.BitsLaws.{has_and}
 use Rattle.x86defs.specs.declared.CpuidResult.{CpuidResult}
 use Rattle.x86defs.specs.Functions.{cpuid_result}
 use Rattle.masking.specs.Kept.{places, kept_leaves, slot}
@@ -15,17 +16,17 @@ use Rattle.masking.specs.Place
 use Rattle.table.specs.Rows.{Row, Rows}
 use Rattle.checks.specs.ExtendedState.{xfem, xss, combined_mask}
 use Rattle.finish.specs.Finish.{Made, Needed, Rule, Enabled, Settings, rule_at, enabled_by, finish, unless_no_xss}
-use Rattle.finish.specs.Finish.Needed.{version_and_features, extended_features, threadLevelRow, coreLevelRow, extended_state0, extended_state1, extended_version_and_features, extended_address_space_sizes, untouched}
+use Rattle.finish.specs.Finish.Needed.{version_and_features, extended_features, thread_level_row, core_level_row, extended_state0, extended_state1, extended_version_and_features, extended_address_space_sizes, untouched}
 use Rattle.finish.specs.Finish.Rule.{made, needed, component}
 use Rattle.finish.specs.Kinds.{Kind, Kinds, register_kinds, kinds_at}
-use Rattle.finish.specs.Kinds.Kind.{feature, featureBut28, area, freed, other}
+use Rattle.finish.specs.Kinds.Kind.{feature, feature_but28, area, freed, other}
 use Rattle.finish.specs.RuleKinds.{kept, kinds_of, kinds_at_lem}
-use Rattle.finish.specs.FeatureLaws.{both_enable, version_ecx_and, features_ebx_and, features_ecx_and, features_edx_and, extended_version_ecx_and, extended_version_edx_and, address_sizes_ebx_and}
+use Rattle.finish.specs.FeatureLaws.{both_enable, features_edx_and, extended_version_edx_and, address_sizes_ebx_and}
 
 -- the meet of two registers: by and where the register holds features; else the first's
 abbrev pub meet : Kind → ℕ → ℕ → ℕ
 meet feature a b = bit_and a b
-meet featureBut28 a b = bit_and a b
+meet feature_but28 a b = bit_and a b
 meet area a b = a
 meet freed a b = a
 meet other a b = a
@@ -53,18 +54,18 @@ pick_meet false q x y = sym (and_zero_l (pick q y 0))
 pub xss_meet : (a b : Rows) → xss (meet_rows a b) ≡ bit_and (xss a) (xss b)
 unfolding xss meet_rows kinds_at register_kinds slot kept_leaves
 xss_meet a b =
-    let u : ℕ = (a (Place.extendedState 1)).result.eax in
-    let v : ℕ = (b (Place.extendedState 1)).result.eax in
-    ap (λ (t : Bool). pick t (bit_and (a (Place.extendedState 1)).result.ecx (b (Place.extendedState 1)).result.ecx) 0)
+    let u : ℕ = (a (Place.extended_state 1)).result.eax in
+    let v : ℕ = (b (Place.extended_state 1)).result.eax in
+    ap (λ (t : Bool). pick t (bit_and (a (Place.extended_state 1)).result.ecx (b (Place.extended_state 1)).result.ecx) 0)
     (ap₂ ◌&&◌ (has_and 1 u v) (has_and 3 u v) ∙ and_swap (has 1 u) (has 1 v) (has 3 u) (has 3 v))
-    ∙ pick_meet (has 1 u && has 3 u) (has 1 v && has 3 v) (a (Place.extendedState 1)).result.ecx (b (Place.extendedState 1)).result.ecx
+    ∙ pick_meet (has 1 u && has 3 u) (has 1 v && has 3 v) (a (Place.extended_state 1)).result.ecx (b (Place.extended_state 1)).result.ecx
 
 pub enabled_meet : (a b : Rows) → enabled_by (meet_rows a b) ≡ both_enable (enabled_by a) (enabled_by b)
 unfolding enabled_by meet_rows kinds_at register_kinds slot kept_leaves
 enabled_meet a b i = record {
   xfem = xfem_meet a b i;
   xss = xss_meet a b i;
-  tsc_aux = has_and 9 (a Place.extendedSevFeatures).result.eax (b Place.extendedSevFeatures).result.eax i;
+  tsc_aux = has_and 9 (a Place.extended_sev_features).result.eax (b Place.extended_sev_features).result.eax i;
 }
 
 -- what masking leaves of the two state masks: bits 0, 1, 2, 5, 6, 7 of XFEM and 11, 12 of XSS
@@ -116,7 +117,7 @@ mask_meet a b p q = ap₂ bit_or (xfem_meet a b) (xss_meet a b) ∙ bits_ext _ _
 -- z is the and of x and y where the register holds features
 abbrev pub FeatureMeet : Kind → ℕ → ℕ → ℕ → Type 0
 FeatureMeet feature z x y = z ≡ bit_and x y
-FeatureMeet featureBut28 z x y = z ≡ bit_and x y
+FeatureMeet feature_but28 z x y = z ≡ bit_and x y
 FeatureMeet area z x y = Unit {0}
 FeatureMeet freed z x y = Unit {0}
 FeatureMeet other z x y = Unit {0}
@@ -128,64 +129,13 @@ pub record FeaturesMeet (k : Kinds) (z x y : CpuidResult) : Type 0 where
   pub edx : FeatureMeet k.edx z.edx x.edx y.edx
 
 -- a register that keeps its masked value meets as its kind says
-kept_meet : (k : Kind) (x y : ℕ) → FeatureMeet (kept k) (meet (kept k) x y) x y
+pub kept_meet : (k : Kind) (x y : ℕ) → FeatureMeet (kept k) (meet (kept k) x y) x y
 kept_meet feature x y = refl
-kept_meet featureBut28 x y = refl
+kept_meet feature_but28 x y = refl
 kept_meet area x y = tt
 kept_meet freed x y = tt
 kept_meet other x y = tt
 
 -- D.1.ECX ends as XSS (ExtendedStateLaws)
-abbrev EndsAsXss : Settings → CpuidResult → Type 0
+abbrev pub EndsAsXss : Settings → CpuidResult → Type 0
 EndsAsXss c r = unless_no_xss c.enabled r.ecx ≡ c.enabled.xss
-
-module _ (e c d : Settings) (meets : e.enabled ≡ both_enable c.enabled d.enabled) (clearsC : c.clears ≡ e.clears)
-    (clearsD : d.clears ≡ e.clears) where
-  pub finish_meet : (f : Kinds) (t : Rule) (a b : CpuidResult)
-      → (t ≡ needed extended_state1 → EndsAsXss e (meet_results (kinds_of f t) a b) × EndsAsXss c a × EndsAsXss d b)
-      → FeaturesMeet (kinds_of f t) (finish e t (meet_results (kinds_of f t) a b)) (finish c t a) (finish d t b)
-  finish_meet f (made t) a b h = record { eax = tt; ebx = tt; ecx = tt; edx = tt }
-  finish_meet f (needed version_and_features) a b h =
-      record { eax = kept_meet f.eax _ _; ebx = tt; ecx = rw (meets, clearsC, clearsD) (version_ecx_and _ _ _ _ _); edx = refl }
-  finish_meet f (needed extended_features) a b h = record {
-    eax = kept_meet f.eax _ _;
-    ebx = rw (meets, clearsC, clearsD) (features_ebx_and _ _ _ _ _);
-    ecx = rw (meets, clearsC, clearsD) (features_ecx_and _ _ _ _ _);
-    edx = rw meets (features_edx_and _ _ _ _);
-  }
-  finish_meet f (needed threadLevelRow) a b h = record { eax = tt; ebx = tt; ecx = tt; edx = tt }
-  finish_meet f (needed coreLevelRow) a b h = record { eax = tt; ebx = tt; ecx = tt; edx = tt }
-  finish_meet f (needed extended_state0) a b h = record { eax = refl; ebx = tt; ecx = tt; edx = kept_meet f.edx _ _ }
-  finish_meet f (needed extended_state1) a b h = record {
-    eax = refl;
-    ebx = tt;
-    ecx = (h refl).0 ∙ ap (λ (x : Enabled). x.xss) meets ∙ sym (ap₂ bit_and (h refl).1 (h refl).2);
-    edx = tt;
-  }
-  finish_meet f (needed extended_version_and_features) a b h =
-      record {
-        eax = kept_meet f.eax _ _;
-        ebx = kept_meet f.ebx _ _;
-        ecx = rw (meets, clearsC, clearsD) (extended_version_ecx_and _ _ _ _ _);
-        edx = rw meets (extended_version_edx_and _ _ _ _);
-      }
-  finish_meet f (needed extended_address_space_sizes) a b h =
-      record { eax = kept_meet f.eax _ _; ebx = address_sizes_ebx_and _ _; ecx = tt; edx = kept_meet f.edx _ _ }
-  finish_meet f (needed untouched) a b h =
-      record { eax = kept_meet f.eax _ _; ebx = kept_meet f.ebx _ _; ecx = kept_meet f.ecx _ _; edx = kept_meet f.edx _ _ }
-  finish_meet f (component k) a b h = record { eax = tt; ebx = tt; ecx = tt; edx = tt }
-
-  -- at a place
-  pub finish_meet_at : (a b : Rows) (i : ℕ) → i < places
-      → (rule_at i ≡ needed extended_state1 → EndsAsXss e (meet_rows a b i).result × EndsAsXss c (a i).result × EndsAsXss d (b i).result)
-      → FeaturesMeet (kinds_at i) (finish e (rule_at i) (meet_rows a b i).result) (finish c (rule_at i) (a i).result)
-      (finish d (rule_at i) (b i).result)
-  unfolding meet_rows
-  finish_meet_at a b i l h = at (kinds_at i) (kinds_at_lem i l) h
-    where
-      at : (k : Kinds) → k ≡ kinds_of (kinds_at i) (rule_at i)
-          → (rule_at i ≡ needed extended_state1
-          → EndsAsXss e (meet_results k (a i).result (b i).result) × EndsAsXss c (a i).result × EndsAsXss d (b i).result)
-          → FeaturesMeet k (finish e (rule_at i) (meet_results k (a i).result (b i).result)) (finish c (rule_at i) (a i).result)
-          (finish d (rule_at i) (b i).result)
-      at k q h = rw q (finish_meet (kinds_at i) (rule_at i) (a i).result (b i).result (rw q at h))

@@ -10,7 +10,7 @@ use Rattle.masking.specs.Kept.{kept_leaves, place_of, places}
 use Rattle.masking.specs.Place
 use Rattle.checks.specs.Required.{common_required_leaves, snp_required_leaves, required_at, required_count, place_required}
 use Rattle.finish.specs.Finish.{Needed, Rule, rule_at}
-use Rattle.finish.specs.Finish.Needed.{version_and_features, extended_features, threadLevelRow, coreLevelRow, extended_state0, extended_state1, extended_version_and_features, extended_address_space_sizes, untouched}
+use Rattle.finish.specs.Finish.Needed.{version_and_features, extended_features, thread_level_row, core_level_row, extended_state0, extended_state1, extended_version_and_features, extended_address_space_sizes, untouched}
 use Rattle.finish.specs.Finish.Rule.{made as madeRule, needed, component}
 use Rattle.finish.specs.Kinds.{from_entry}
 
@@ -24,8 +24,8 @@ always (component k) = false
 abbrev needed_number : Needed → ℕ
 needed_number version_and_features = 0
 needed_number extended_features = 1
-needed_number threadLevelRow = 2
-needed_number coreLevelRow = 3
+needed_number thread_level_row = 2
+needed_number core_level_row = 3
 needed_number extended_state0 = 4
 needed_number extended_state1 = 5
 needed_number extended_version_and_features = 6
@@ -79,11 +79,11 @@ always_required i l e =
 
 -- ---- the D subleaves
 
-pub component_rule : (k : ℕ) → 2 ≤ k → k < 64 → rule_at (Place.extendedState k) ≡ component k
+pub component_rule : (k : ℕ) → 2 ≤ k → k < 64 → rule_at (Place.extended_state k) ≡ component k
 component_rule k l u =
     rw (
-      le-leb (Place.extendedState 2) (Place.extendedState k) (omega arith),
-      lt-ltb (Place.extendedState k) (Place.extendedState 64) (omega arith),
+      le-leb (Place.extended_state 2) (Place.extended_state k) (omega arith),
+      lt-ltb (Place.extended_state k) (Place.extended_state 64) (omega arith),
     )
     (ap component (omega arith))
 
@@ -92,10 +92,10 @@ component_rule k l u =
 pub data Sort (i : ℕ) : Type 0 where
   made : from_entry (rule_at i) ≡ false → Sort i
   required : always (rule_at i) ≡ true → Sort i
-  subleaf : (k : ℕ) → i ≡ Place.extendedState k → 2 ≤ k → k < 64 → Sort i
+  subleaf : (k : ℕ) → i ≡ Place.extended_state k → 2 ≤ k → k < 64 → Sort i
 
 abbrev sort_test : ℕ → Bool
-sort_test i = pick (always (rule_at i)) true (pick (from_entry (rule_at i)) (leb (Place.extendedState 2) i && ltb i (Place.extendedState 64)) true)
+sort_test i = pick (always (rule_at i)) true (pick (from_entry (rule_at i)) (leb (Place.extended_state 2) i && ltb i (Place.extended_state 64)) true)
 
 all_sorted : every sort_test places ≡ true
 all_sorted = refl
@@ -104,10 +104,10 @@ pub sort : (i : ℕ) → i < places → Sort i
 sort i l = go (always (rule_at i)) (from_entry (rule_at i)) refl refl (every_at sort_test places all_sorted i l)
   where
     go : (p q : Bool) → always (rule_at i) ≡ p → from_entry (rule_at i) ≡ q
-        → pick p true (pick q (leb (Place.extendedState 2) i && ltb i (Place.extendedState 64)) true) ≡ true → Sort i
+        → pick p true (pick q (leb (Place.extended_state 2) i && ltb i (Place.extended_state 64)) true) ≡ true → Sort i
     go true q e f t = required e
     go false false e f t = made f
     go false true e f t =
-        let a : Place.extendedState 2 ≤ i = leb-true (Place.extendedState 2) i (and_left _ _ t) in
-        let b : i < Place.extendedState 64 = ltb-true i (Place.extendedState 64) (and_right (leb (Place.extendedState 2) i) _ t) in
-        subleaf (i - Place.extendedState 0) (omega arith) (omega arith) (omega arith)
+        let a : Place.extended_state 2 ≤ i = leb-true (Place.extended_state 2) i (and_left _ _ t) in
+        let b : i < Place.extended_state 64 = ltb-true i (Place.extended_state 64) (and_right (leb (Place.extended_state 2) i) _ t) in
+        subleaf (i - Place.extended_state 0) (omega arith) (omega arith) (omega arith)

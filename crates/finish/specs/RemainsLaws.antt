@@ -20,7 +20,7 @@ present_picked : (b : Bool) (r : CpuidResult) → (pick b (row r) vacant).presen
 present_picked true r = refl
 present_picked false r = refl
 
-result_picked : (b : Bool) (r : CpuidResult) → b ≡ true → (pick b (row r) vacant).result ≡ r
+pub result_picked : (b : Bool) (r : CpuidResult) → b ≡ true → (pick b (row r) vacant).result ≡ r
 result_picked true r e = refl
 result_picked false r e = absurd (never_both e refl)
 
@@ -29,43 +29,13 @@ pub finished_present : (n : ℕ) (m : Rows) (i : ℕ) → (finished n m i).prese
 unfolding finished
 finished_present n m i = present_picked _ _
 
--- and then has its rule's registers
-pub finished_result : (n : ℕ) (m : Rows) (i : ℕ) → (finished n m i).present ≡ true → (finished n m i).result ≡ finish (settings n m) (rule_at i) (m i).result
-unfolding finished
-finished_result n m i e = result_picked (remains (settings n m) (rule_at i) (m i).present) _ (sym (finished_present n m i) ∙ e)
-
 -- made here: always. One equation over all places, whatever the settings and the entries
-all_made : (c : Settings) (p : ℕ → Bool)
+pub all_made : (c : Settings) (p : ℕ → Bool)
     → tabulate places (λ i. pick (from_entry (rule_at i)) true (remains c (rule_at i) (p i))) ≡ tabulate places (λ i. true)
 unfolding tabulate
 all_made c p = refl
 
-pub made_remains : (c : Settings) (p : ℕ → Bool) (i : ℕ) → i < places → from_entry (rule_at i) ≡ false → remains c (rule_at i) (p i) ≡ true
-made_remains c p i l e = sym (pick_false _ _ e) ∙ tabulate_at places _ _ (all_made c p) i l
-
 -- a required row: with its entry
-all_always : (c : Settings) (p : ℕ → Bool) → tabulate places (λ i. pick (always (rule_at i)) (remains c (rule_at i) (p i)) (p i)) ≡ tabulate places p
+pub all_always : (c : Settings) (p : ℕ → Bool) → tabulate places (λ i. pick (always (rule_at i)) (remains c (rule_at i) (p i)) (p i)) ≡ tabulate places p
 unfolding tabulate
 all_always c p = refl
-
-pub always_remains : (c : Settings) (p : ℕ → Bool) (i : ℕ) → i < places → always (rule_at i) ≡ true → remains c (rule_at i) (p i) ≡ p i
-always_remains c p i l e = sym (pick_true _ _ e) ∙ tabulate_at places _ _ (all_always c p) i l
-
--- a D subleaf from 2 up: with its bit and its entry
-pub component_finished : (n : ℕ) (m : Rows) (k : ℕ) → 2 ≤ k → k < 64
-    → (finished n m (Place.extendedState k)).present ≡ (has k (combined_mask m) && (m (Place.extendedState k)).present)
-unfolding combined_mask settings enabled_by
-component_finished n m k l u =
-    finished_present n m (Place.extendedState k)
-    ∙ ap (λ (t : Rule). remains (settings n m) t (m (Place.extendedState k)).present) (component_rule k l u)
-
--- a row of the table that comes from an entry had that entry
-pub finished_entry : (n : ℕ) (m : Rows) (i : ℕ) → i < places → from_entry (rule_at i) ≡ true → (finished n m i).present ≡ true → (m i).present ≡ true
-finished_entry n m i l f e = go (sort i l)
-  where
-    go : Sort i → (m i).present ≡ true
-    go (made g) = absurd (never_both f g)
-    go (required g) = sym (finished_present n m i ∙ always_remains (settings n m) (λ j. (m j).present) i l g) ∙ e
-    go (subleaf k p q r) =
-        subst (λ (j : ℕ). (m j).present ≡ true) (sym p)
-        (and_right (has k (combined_mask m)) _ (sym (component_finished n m k q r) ∙ subst (λ (j : ℕ). (finished n m j).present ≡ true) p e))

@@ -7,26 +7,26 @@ use Rattle.bits.specs.ListsLaws.{tabulate_at}
 use Rattle.masking.specs.Kept.{places, kept_leaves, slot}
 use Rattle.masking.specs.Place
 use Rattle.finish.specs.Finish.{Needed, Rule, rule_at}
-use Rattle.finish.specs.Finish.Needed.{version_and_features, extended_features, threadLevelRow, coreLevelRow, extended_state0, extended_state1, extended_version_and_features, extended_address_space_sizes, untouched}
+use Rattle.finish.specs.Finish.Needed.{version_and_features, extended_features, thread_level_row, core_level_row, extended_state0, extended_state1, extended_version_and_features, extended_address_space_sizes, untouched}
 use Rattle.finish.specs.Finish.Rule.{made, needed, component}
 use Rattle.finish.specs.PlaceLaws.{component_rule}
 use Rattle.finish.specs.Kinds.{Kind, Kinds, kinds, register_kinds, kinds_at}
-use Rattle.finish.specs.Kinds.Kind.{feature, featureBut28, area, freed, other}
+use Rattle.finish.specs.Kinds.Kind.{feature, feature_but28, area, freed, other}
 
 -- a register that keeps its masked value: a feature register or any other
 abbrev pub kept : Kind → Kind
 kept feature = feature
-kept featureBut28 = featureBut28
+kept feature_but28 = feature_but28
 kept area = other
 kept freed = other
 kept other = other
 
 -- k has the kinds of the place
 abbrev needed_kinds : Kinds → Needed → Kinds
-needed_kinds k version_and_features = kinds (kept k.eax) other feature featureBut28
+needed_kinds k version_and_features = kinds (kept k.eax) other feature feature_but28
 needed_kinds k extended_features = kinds (kept k.eax) feature feature feature
-needed_kinds k threadLevelRow = kinds freed freed freed freed
-needed_kinds k coreLevelRow = kinds freed freed freed freed
+needed_kinds k thread_level_row = kinds freed freed freed freed
+needed_kinds k core_level_row = kinds freed freed freed freed
 needed_kinds k extended_state0 = kinds feature other area (kept k.edx)
 needed_kinds k extended_state1 = kinds feature other feature other
 needed_kinds k extended_version_and_features = kinds (kept k.eax) (kept k.ebx) feature feature
@@ -46,6 +46,6 @@ pub kinds_at_lem : (i : ℕ) → i < places → kinds_at i ≡ kinds_of (kinds_a
 kinds_at_lem i l = tabulate_at places _ _ all_kinds i l
 
 -- D.k, k from 2 up
-pub component_kinds : (k : ℕ) → 2 ≤ k → k < 64 → kinds_at (Place.extendedState k) ≡ kinds other other other other
+pub component_kinds : (k : ℕ) → 2 ≤ k → k < 64 → kinds_at (Place.extended_state k) ≡ kinds other other other other
 component_kinds k l u =
-    kinds_at_lem (Place.extendedState k) (omega arith) ∙ ap (kinds_of (kinds_at (Place.extendedState k))) (component_rule k l u)
+    kinds_at_lem (Place.extended_state k) (omega arith) ∙ ap (kinds_of (kinds_at (Place.extended_state k))) (component_rule k l u)

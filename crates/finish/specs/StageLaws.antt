@@ -3,7 +3,7 @@ use Rattle.std.specs.Prelude.{◌≡◌, ℕ}
 use Rattle.std.proofs.Common.{ap, ◌∙◌}
 use Rattle.bits.specs.Bits.{bit}
 use Rattle.x86defs.specs.Fields.{cut}
-use Rattle.x86defs.specs.Fields.Field.{nc, apic-core-id-size, lps-per-package, threads_per_compute_unit}
+use Rattle.x86defs.specs.Fields.Field.{nc, apic_core_id_size, lps_per_package, threads_per_compute_unit}
 use Rattle.x86defs.specs.VersionAndFeaturesEdx
 use Rattle.topology.specs.declared.Topology.{Topology}
 use Rattle.topology.specs.declared.Topology.TheVariants.{Processors}
@@ -13,11 +13,11 @@ use Rattle.table.specs.Rows.{Rows}
 use Rattle.checks.specs.TopologyInputs.{inputs_of}
 
 pub topology_inputs : (m : Rows) {s n l h t : ℕ} {p : Topology}
-    → s ≡ cut apic-core-id-size (m Place.extendedAddressSpaceSizes).result.ecx
-    → n ≡ cut nc (m Place.extendedAddressSpaceSizes).result.ecx
-    → l ≡ cut lps-per-package (m Place.versionAndFeatures).result.ebx
-    → h ≡ bit (VersionAndFeaturesEdx.position VersionAndFeaturesEdx.VersionAndFeaturesEdx.mt-per-socket) (m Place.versionAndFeatures).result.edx
-    → t ≡ cut threads_per_compute_unit (m Place.processorTopologyDefinition).result.ebx
+    → s ≡ cut apic_core_id_size (m Place.extended_address_space_sizes).result.ecx
+    → n ≡ cut nc (m Place.extended_address_space_sizes).result.ecx
+    → l ≡ cut lps_per_package (m Place.version_and_features).result.ebx
+    → h ≡ bit (VersionAndFeaturesEdx.position VersionAndFeaturesEdx.VersionAndFeaturesEdx.mt_per_socket) (m Place.version_and_features).result.edx
+    → t ≡ cut threads_per_compute_unit (m Place.processor_topology_definition).result.ebx
     → p ≡ topology_of (inputs s n l h t) → p ≡ topology_of (inputs_of m)
 unfolding inputs_of
 topology_inputs m a b c d e f = f ∙ ap topology_of (rw (a, b, c, d, e))

@@ -13,8 +13,8 @@ use Rattle.checks.specs.Checks.{required_verdict}
 -- the row at place i: a D subleaf from 2 up stays where the mask x has its bit
 unfoldable pub dropped_row : ℕ → ℕ → Row → Row
 dropped_row x i r =
-    pick (leb (Place.extendedState 2) i && ltb i (Place.extendedState 64))
-    (pick (has (i - Place.extendedState 0) x && r.present) (row r.result) vacant)
+    pick (leb (Place.extended_state 2) i && ltb i (Place.extended_state 64))
+    (pick (has (i - Place.extended_state 0) x && r.present) (row r.result) vacant)
     r
 
 abbrev pub dropped : Rows → ℕ → Rows

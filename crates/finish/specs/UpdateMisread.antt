@@ -14,20 +14,20 @@ use Rattle.finish.specs.Finish.{finished, settings, enabled_by, ymm_clears, edit
 -- XFEM and XSS as given, D.11 of 4,096 bytes at 576, and 7.0 with CET_SS
 abbrev state_rows : ℕ → ℕ → Rows
 state_rows x y i =
-    pick (eqb i Place.extendedFeatures) (row (cpuid_result 0 0 0x80 0))
-    (pick (eqb i (Place.extendedState 0)) (row (cpuid_result x 0 0 0))
-    (pick (eqb i (Place.extendedState 1)) (row (cpuid_result 0xB 0 y 0)) (pick (eqb i (Place.extendedState 11)) (row (cpuid_result 4096 576 1 0)) vacant)))
+    pick (eqb i Place.extended_features) (row (cpuid_result 0 0 0x80 0))
+    (pick (eqb i (Place.extended_state 0)) (row (cpuid_result x 0 0 0))
+    (pick (eqb i (Place.extended_state 1)) (row (cpuid_result 0xB 0 y 0)) (pick (eqb i (Place.extended_state 11)) (row (cpuid_result 4096 576 1 0)) vacant)))
 
 -- the area is sized by XFEM: a supervisor component adds nothing
-pub area_by_xfem : (finished 1 (state_rows 3 0x1800) (Place.extendedState 0)).result.ecx ≡ 576
+pub area_by_xfem : (finished 1 (state_rows 3 0x1800) (Place.extended_state 0)).result.ecx ≡ 576
 unfolding finished settings enabled_by xfem xss area_below has bit field inputs_of topology_of threads_in least_power shift_of
 area_by_xfem = refl
 
 -- CET_SS needs both XSS bits
 pub cet_needs_both :
-    (finished 1 (state_rows 3 0x800) Place.extendedFeatures).result.ecx
-    ∷ (finished 1 (state_rows 3 0x1000) Place.extendedFeatures).result.ecx
-    ∷ (finished 1 (state_rows 3 0x1800) Place.extendedFeatures).result.ecx
+    (finished 1 (state_rows 3 0x800) Place.extended_features).result.ecx
+    ∷ (finished 1 (state_rows 3 0x1000) Place.extended_features).result.ecx
+    ∷ (finished 1 (state_rows 3 0x1800) Place.extended_features).result.ecx
     ∷ []
     ≡ 0 ∷ 0 ∷ 0x80 ∷ []
 unfolding finished settings enabled_by ymm_clears bits_between joined_from edition1 features_ecx cet_ss rd_pid avx512_features_ecx mask_of clear clear_unless xfem xss area_below has

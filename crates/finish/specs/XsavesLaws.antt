@@ -23,9 +23,9 @@ pub record XsavesRow (c : Settings) (r : CpuidResult) : Type 0 where
 
 -- D.1.EDX is 0
 abbrev pub XsavesEdx : Rows → Type 0
-XsavesEdx m = (m (Place.extendedState 1)).result.edx ≡ 0
+XsavesEdx m = (m (Place.extended_state 1)).result.edx ≡ 0
 
-xsaves_row : (n : ℕ) (m : Rows) → XsavesEdx m → XsavesRow (settings n m) (m (Place.extendedState 1)).result
+pub xsaves_row : (n : ℕ) (m : Rows) → XsavesEdx m → XsavesRow (settings n m) (m (Place.extended_state 1)).result
 unfolding settings enabled_by unless_no_xss
 xsaves_row n m z = record { ecx = xsaves_ecx m; edx = z }
 
@@ -35,14 +35,11 @@ abbrev is_xsaves : Rule → Bool
 is_xsaves = is_needed extended_state1
 
 abbrev xsaves_test : ℕ → Bool
-xsaves_test i = pick (is_xsaves (rule_at i)) (eqb i (Place.extendedState 1)) true
+xsaves_test i = pick (is_xsaves (rule_at i)) (eqb i (Place.extended_state 1)) true
 
 all_xsaves : every xsaves_test places ≡ true
 all_xsaves = refl
 
-pub only_xsaves : (i : ℕ) → i < places → rule_at i ≡ needed extended_state1 → i ≡ Place.extendedState 1
+pub only_xsaves : (i : ℕ) → i < places → rule_at i ≡ needed extended_state1 → i ≡ Place.extended_state 1
 only_xsaves i l e =
-    eqb-true i (Place.extendedState 1) (if_holds (is_xsaves (rule_at i)) _ (every_at xsaves_test places all_xsaves i l) (ap is_xsaves e))
-
-pub xsaves_at : (n : ℕ) (m : Rows) → XsavesEdx m → (i : ℕ) → i < places → rule_at i ≡ needed extended_state1 → XsavesRow (settings n m) (m i).result
-xsaves_at n m z i l e = subst (λ (j : ℕ). XsavesRow (settings n m) (m j).result) (sym (only_xsaves i l e)) (xsaves_row n m z)
+    eqb-true i (Place.extended_state 1) (if_holds (is_xsaves (rule_at i)) _ (every_at xsaves_test places all_xsaves i l) (ap is_xsaves e))

@@ -1,6 +1,6 @@
 // Feature rows: how finishing changes a masked row, by what other rows enable.
 ghost use Rattle.std.specs.Prelude.{◌≡◌};
-ghost use Rattle.x86defs.specs.Functions.{result};
+ghost use Rattle.x86defs.specs.Functions.{cpuid_result};
 ghost use Rattle.finish.specs.Finish.{has_ymm, has_avx512, has_cet, ymm_clears, version_ecx, features_ebx, features_ecx, features_edx, extended_version_ecx, extended_version_edx, address_sizes_ebx, unless_no_xss};
 ghost use Rattle.finish.specs.FeaturesInCode.{clears_with, enabled_with, enabled_from};
 
@@ -36,7 +36,7 @@ const BTC_NO: u32 = 0x20000000;
 const HYPERVISOR_PRESENT: u32 = 0x80000000;
 
 // The bits cleared when the YMM state is absent, one mask for each register.
-#[derive(Drop)]
+#[derive(Clone, Copy)]
 pub struct YmmClears {
     pub version_ecx: u32,
     pub features_ebx: u32,
@@ -47,7 +47,7 @@ pub struct YmmClears {
 impl YmmClears {
     // By the edition of the rule.
     pub fn of(edition: u32) -> Self
-        ensures* { λ r. ⌜ clears_with r ≡ ymm_clears edition ⌝ }
+        ensures { clears_with result ≡ ymm_clears edition }
     {
         let further = EditionBits::between(1, edition);
         Self {
@@ -60,7 +60,7 @@ impl YmmClears {
 }
 
 // The facts that switch feature bits of other rows on or off.
-#[derive(Drop)]
+#[derive(Clone, Copy)]
 pub struct Enabled {
     pub xfem: u32,
     pub xss: u32,
@@ -70,7 +70,7 @@ pub struct Enabled {
 impl Enabled {
     // From the rows of D.0, D.1 and 8000001Fh.
     pub fn new(subleaf0: CpuidResult, subleaf1: CpuidResult, sev: CpuidResult) -> Self
-        ensures* { λ r. ⌜ enabled_with r ≡ enabled_from subleaf0 subleaf1 sev ⌝ }
+        ensures { enabled_with result ≡ enabled_from subleaf0 subleaf1 sev }
     {
         Self {
             xfem: subleaf0.eax,
@@ -80,14 +80,14 @@ impl Enabled {
     }
 
     fn has_ymm(self) -> bool
-        ensures* { λ r. ⌜ r ≡ has_ymm (enabled_with self) ⌝ }
+        ensures { result ≡ has_ymm (enabled_with self) }
     {
         bits::has_bit(self.xfem, 2)
     }
 
     // AVX-512 needs YMM too.
     fn has_avx512(self) -> bool
-        ensures* { λ r. ⌜ r ≡ has_avx512 (enabled_with self) ⌝ }
+        ensures { result ≡ has_avx512 (enabled_with self) }
     {
         bits::has_bit(self.xfem, 2)
             & (bits::has_bit(self.xfem, 5)
@@ -96,7 +96,7 @@ impl Enabled {
 
     // Both of its XSS bits.
     fn has_cet(self) -> bool
-        ensures* { λ r. ⌜ r ≡ has_cet (enabled_with self) ⌝ }
+        ensures { result ≡ has_cet (enabled_with self) }
     {
         bits::has_bit(self.xss, 11) & bits::has_bit(self.xss, 12)
     }
@@ -104,7 +104,7 @@ impl Enabled {
 
 // Leaf 1.
 pub fn version_and_features(y: YmmClears, e: Enabled, r: CpuidResult) -> CpuidResult
-    ensures* { λ q. ⌜ q ≡ result r.eax r.ebx (version_ecx (clears_with y) (enabled_with e) r.ecx) r.edx ⌝ }
+    ensures { result ≡ cpuid_result r.eax r.ebx (version_ecx (clears_with y) (enabled_with e) r.ecx) r.edx }
 {
     let ecx = bits::clear_unless(e.has_ymm(), y.version_ecx, r.ecx) | HYPERVISOR_PRESENT;
     CpuidResult { ecx, ..r }
@@ -112,8 +112,8 @@ pub fn version_and_features(y: YmmClears, e: Enabled, r: CpuidResult) -> CpuidRe
 
 // Leaf 7.
 pub fn extended_features(y: YmmClears, e: Enabled, r: CpuidResult) -> CpuidResult
-    ensures* { λ q. ⌜ q ≡ result r.eax (features_ebx (clears_with y) (enabled_with e) r.ebx)
-        (features_ecx (clears_with y) (enabled_with e) r.ecx) (features_edx (enabled_with e) r.edx) ⌝ }
+    ensures { result ≡ cpuid_result r.eax (features_ebx (clears_with y) (enabled_with e) r.ebx)
+        (features_ecx (clears_with y) (enabled_with e) r.ecx) (features_edx (enabled_with e) r.edx) }
 {
     let ymm = e.has_ymm();
     let avx512 = e.has_avx512();
@@ -129,7 +129,7 @@ pub fn extended_features(y: YmmClears, e: Enabled, r: CpuidResult) -> CpuidResul
 
 // D.1: nothing of XSS where XSS is 0.
 pub fn extended_state_1(e: Enabled, r: CpuidResult) -> CpuidResult
-    ensures* { λ q. ⌜ q ≡ result r.eax r.ebx (unless_no_xss (enabled_with e) r.ecx) (unless_no_xss (enabled_with e) r.edx) ⌝ }
+    ensures { result ≡ cpuid_result r.eax r.ebx (unless_no_xss (enabled_with e) r.ecx) (unless_no_xss (enabled_with e) r.edx) }
 {
     if e.xss == 0 {
         return CpuidResult {
@@ -143,8 +143,8 @@ pub fn extended_state_1(e: Enabled, r: CpuidResult) -> CpuidResult
 
 // Leaf 80000001h.
 pub fn extended_version_and_features(y: YmmClears, e: Enabled, r: CpuidResult) -> CpuidResult
-    ensures* { λ q. ⌜ q ≡ result r.eax r.ebx (extended_version_ecx (clears_with y) (enabled_with e) r.ecx)
-        (extended_version_edx (enabled_with e) r.edx) ⌝ }
+    ensures { result ≡ cpuid_result r.eax r.ebx (extended_version_ecx (clears_with y) (enabled_with e) r.ecx)
+        (extended_version_edx (enabled_with e) r.edx) }
 {
     let ecx = bits::clear_unless(e.has_ymm(), y.extended_version_ecx, r.ecx);
     let edx = bits::clear_unless(e.tsc_aux, RDTSCP, r.edx);
@@ -153,7 +153,7 @@ pub fn extended_version_and_features(y: YmmClears, e: Enabled, r: CpuidResult) -
 
 // Leaf 80000008h.
 pub fn update_extended_address_space_sizes(r: CpuidResult) -> CpuidResult
-    ensures* { λ q. ⌜ q ≡ result r.eax (address_sizes_ebx r.ebx) r.ecx r.edx ⌝ }
+    ensures { result ≡ cpuid_result r.eax (address_sizes_ebx r.ebx) r.ecx r.edx }
 {
     let ebx = bits::clear_unless(ibpb(r.ebx), IBRS_AND_STIBP, r.ebx | BTC_NO);
     CpuidResult { ebx, ..r }

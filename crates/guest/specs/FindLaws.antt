@@ -22,13 +22,14 @@ use Rattle.lookup.specs.declared.Found.TheVariants.{Row as Located, NoRow}
 use Rattle.lookup.specs.declared.LeafResult.{LeafResult}
 use Rattle.lookup.specs.declared.LeafResult.TheVariants.{Some as Found, None as Nothing}
 use Rattle.lookup.specs.Lookup.{place_asked, row_result, lookup, with_origin, found}
-use Rattle.lookup.specs.LookupLaws.{lookup_at}
+use Rattle.lookup.proofs.LookupLaws.{lookup_at}
 use Rattle.rows.specs.Checked.{registers_in}
 use Rattle.guest_state.specs.declared.InUse.{InUse}
 use Rattle.guest_state.specs.declared.InUse.TheVariants.{Refused as NotInUse, Compacted}
 use Rattle.guest_state.specs.State.{save_register, state_verdict}
 use Rattle.guest_state.specs.InUse.{read_rows, in_use}
-use Rattle.guest_state.specs.InUseLaws.{told_refused, told_given, told_size, held_verdict, held_compact, held_save}
+use Rattle.guest_state.specs.InUseLaws.{told_refused, told_given, told_size}
+use Rattle.guest_state.proofs.InUseLaws.{held_verdict, held_compact, held_save}
 use Rattle.guest.specs.declared.Processor.{Processor}
 use Rattle.guest.specs.declared.GuestFound.TheVariants.{Refused as NotGiven, Looked}
 use Rattle.guest.specs.Guest.{version_seen, level_seen, size_seen, seen_at, guest_table, answer_for, guest_answer}

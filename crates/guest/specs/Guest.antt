@@ -7,7 +7,7 @@ use Rattle.bits.specs.Lists.{tabulate}
 use Rattle.x86defs.specs.declared.CpuidResult.{CpuidResult}
 use Rattle.x86defs.specs.Functions.{cpuid_result}
 use Rattle.x86defs.specs.VersionAndFeaturesEcx as Version
-use Rattle.x86defs.specs.VersionAndFeaturesEcx.VersionAndFeaturesEcx.{xsave, os-xsave}
+use Rattle.x86defs.specs.VersionAndFeaturesEcx.VersionAndFeaturesEcx.{xsave, os_xsave}
 use Rattle.masking.specs.Kept.{places}
 use Rattle.masking.specs.Place
 use Rattle.table.specs.declared.CpuidResults.{CpuidResults}
@@ -28,7 +28,7 @@ number_seen n x = x % 2 ^ 24 + n % 2 ^ 8 * 2 ^ 24
 
 unfoldable pub osxsave_seen : Bool → ℕ → ℕ
 osxsave_seen on x =
-    pick (on && has (Version.position xsave) x) (bit_or x (2 ^ Version.position os-xsave)) (clear (2 ^ Version.position os-xsave) x)
+    pick (on && has (Version.position xsave) x) (bit_or x (2 ^ Version.position os_xsave)) (clear (2 ^ Version.position os_xsave) x)
 
 abbrev pub version_seen : Processor → CpuidResult → CpuidResult
 version_seen v r = cpuid_result r.eax (number_seen v.x2apic r.ebx) (osxsave_seen v.osxsave r.ecx) r.edx
@@ -44,11 +44,11 @@ size_seen size r = cpuid_result r.eax size r.ecx r.edx
 -- the registers of the row at a place: five rows differ, where they are there. area and compact are D.0.EBX and D.1.EBX.
 abbrev pub seen_at : Processor → ℕ → ℕ → ℕ → Row → CpuidResult
 seen_at v area compact i r =
-    pick (eqb i Place.versionAndFeatures && r.present) (version_seen v r.result)
-    (pick (eqb i Place.threadLevel && r.present) (level_seen v r.result)
-    (pick (eqb i Place.coreLevel && r.present) (level_seen v r.result)
-    (pick (eqb i (Place.extendedState 0) && r.present) (size_seen area r.result)
-    (pick (eqb i (Place.extendedState 1) && r.present) (size_seen compact r.result) r.result))))
+    pick (eqb i Place.version_and_features && r.present) (version_seen v r.result)
+    (pick (eqb i Place.thread_level && r.present) (level_seen v r.result)
+    (pick (eqb i Place.core_level && r.present) (level_seen v r.result)
+    (pick (eqb i (Place.extended_state 0) && r.present) (size_seen area r.result)
+    (pick (eqb i (Place.extended_state 1) && r.present) (size_seen compact r.result) r.result))))
 
 -- ---- the answer
 

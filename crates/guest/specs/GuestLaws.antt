@@ -26,13 +26,13 @@ version_ebx x n =
 
 -- ---- the five stores
 
-abbrev storing : CpuidResult → CpuidResult → CpuidResult → CpuidResult → CpuidResult → List CpuidResult → List CpuidResult
+abbrev pub storing : CpuidResult → CpuidResult → CpuidResult → CpuidResult → CpuidResult → List CpuidResult → List CpuidResult
 storing a b c d e l = set (set (set (set (set l 1 a) 4 b) 5 c) 6 d) 7 e
 
-abbrev storing_all : (ℕ → CpuidResult) → List CpuidResult → List CpuidResult
+abbrev pub storing_all : (ℕ → CpuidResult) → List CpuidResult → List CpuidResult
 storing_all g = storing (g 1) (g 4) (g 5) (g 6) (g 7)
 
-stores : (m : Rows) (v : Processor) (a c : ℕ)
+pub stores : (m : Rows) (v : Processor) (a c : ℕ)
     → storing_all (λ i. seen_at v a c i (m i)) (tabulate places (λ i. (m i).result)) ≡ tabulate places (λ i. seen_at v a c i (m i))
 unfolding tabulate
 stores m v a c = refl
@@ -40,14 +40,3 @@ stores m v a c = refl
 -- a row that is there, as seen; else as it is
 abbrev pub if_there : Row → (CpuidResult → CpuidResult) → CpuidResult
 if_there r f = pick r.present (f r.result) r.result
-
-pub given : (t : CpuidResults) (v : Processor) (a c : ℕ) {version threads cores state0 state1 : CpuidResult} → length t.results ≡ places
-    → version ≡ if_there (row_in t 1) (version_seen v) → threads ≡ if_there (row_in t 4) (level_seen v) → cores ≡ if_there (row_in t 5) (level_seen v)
-    → state0 ≡ if_there (row_in t 6) (size_seen a) → state1 ≡ if_there (row_in t 7) (size_seen c)
-    → storing version threads cores state0 state1 t.results ≡ tabulate places (λ i. seen_at v a c i (row_in t i))
-given t v a c {version} {threads} {cores} {state0} {state1} n e₁ e₄ e₅ e₆ e₇ =
-    let whole : t.results ≡ tabulate places (λ i. (row_in t i).result) =
-    tabulated places (λ i. (row_in t i).result) t.results (cpuid_result 0 0 0 0) n (λ i l. refl) in
-    let p : storing version threads cores state0 state1 t.results ≡ storing_all (λ i. seen_at v a c i (row_in t i)) t.results =
-    rw (e₁, e₄, e₅, e₆, e₇) in
-    p ∙ ap (storing_all (λ i. seen_at v a c i (row_in t i))) whole ∙ stores (rows_of_table t) v a c

@@ -8,4 +8,3 @@ pub mod SeenExactly
 pub mod SeenExactlyProof
 pub mod GuestPages
 pub mod GuestPagesLaws
-pub mod FromMemory

@@ -12,7 +12,6 @@ use Rattle.table.specs.Table.{row_in, rows_of_table}
 use Rattle.guest_state.specs.State.{save_register, compact_register}
 use Rattle.guest.specs.declared.Processor.{Processor}
 use Rattle.guest.specs.Guest.{guest_table}
-use Rattle.guest.specs.SeenLaws.{elsewhere}
 
 -- "Leaf 1 EBX bits 24-31 are the number's low eight bits": n is the x2APIC number, x the paravisor's EBX and y the guest's
 pub record NumberBits (n x y : ℕ) : Type 0 where
@@ -50,18 +49,18 @@ pub record SeenExactly (t : CpuidResults) (v : Processor) : Type 0 where
   pub present : (i : ℕ) → (row_in (guest_table t v) i).present ≡ (row_in t i).present
   pub count : (guest_table t v).row_count ≡ t.row_count
   pub mask : (guest_table t v).max_extended_state ≡ t.max_extended_state
-  pub version : is_present t Place.versionAndFeatures
-      → VersionSeen v (row_in t Place.versionAndFeatures).result (row_in (guest_table t v) Place.versionAndFeatures).result
-  pub threads : is_present t Place.threadLevel → LevelSeen v (row_in t Place.threadLevel).result (row_in (guest_table t v) Place.threadLevel).result
-  pub cores : is_present t Place.coreLevel → LevelSeen v (row_in t Place.coreLevel).result (row_in (guest_table t v) Place.coreLevel).result
+  pub version : is_present t Place.version_and_features
+      → VersionSeen v (row_in t Place.version_and_features).result (row_in (guest_table t v) Place.version_and_features).result
+  pub threads : is_present t Place.thread_level → LevelSeen v (row_in t Place.thread_level).result (row_in (guest_table t v) Place.thread_level).result
+  pub cores : is_present t Place.core_level → LevelSeen v (row_in t Place.core_level).result (row_in (guest_table t v) Place.core_level).result
   -- the size over XCR0, held to 32 bits, which a built table's never passes (`guest_size_never_overflows`)
-  pub state0 : is_present t (Place.extendedState 0)
-      → SizeSeen (save_register (rows_of_table t) v.xcr0) (row_in t (Place.extendedState 0)).result (row_in (guest_table t v) (Place.extendedState 0)).result
-  pub state1 : is_present t (Place.extendedState 1)
-      → SizeSeen (compact_register (rows_of_table t) v.xcr0 v.xss) (row_in t (Place.extendedState 1)).result
-      (row_in (guest_table t v) (Place.extendedState 1)).result
+  pub state0 : is_present t (Place.extended_state 0)
+      → SizeSeen (save_register (rows_of_table t) v.xcr0) (row_in t (Place.extended_state 0)).result (row_in (guest_table t v) (Place.extended_state 0)).result
+  pub state1 : is_present t (Place.extended_state 1)
+      → SizeSeen (compact_register (rows_of_table t) v.xcr0 v.xss) (row_in t (Place.extended_state 1)).result
+      (row_in (guest_table t v) (Place.extended_state 1)).result
   pub elsewhere : (i : ℕ) → i < places
-      → i ≢ Place.versionAndFeatures → i ≢ Place.threadLevel → i ≢ Place.coreLevel → i ≢ Place.extendedState 0 → i ≢ Place.extendedState 1
+      → i ≢ Place.version_and_features → i ≢ Place.thread_level → i ≢ Place.core_level → i ≢ Place.extended_state 0 → i ≢ Place.extended_state 1
       → (row_in (guest_table t v) i).result ≡ (row_in t i).result
   -- and a row that is not there stays as it is
   pub absent : (i : ℕ) → i < places → (row_in t i).present ≡ false → (row_in (guest_table t v) i).result ≡ (row_in t i).result

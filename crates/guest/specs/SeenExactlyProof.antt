@@ -15,7 +15,6 @@ use Rattle.table.specs.declared.CpuidResults.{CpuidResults}
 use Rattle.table.specs.Table.{row_in}
 use Rattle.guest.specs.declared.Processor.{Processor}
 use Rattle.guest.specs.Guest.{number_seen, osxsave_seen, version_seen}
-use Rattle.guest.specs.SeenLaws.{seen_there, elsewhere, absent_stays}
 use Rattle.guest.specs.SeenExactly.{NumberBits, OsxsaveBit, SeenExactly}
 
 -- ---- bits
@@ -34,7 +33,7 @@ low_8 : (k x : ℕ) → k < 8 → bit k (x % 2 ^ 8) ≡ bit k x
 unfolding bit
 low_8 = low_bits 8 refl
 
-number_bits : (n x : ℕ) → NumberBits n x (number_seen n x)
+pub number_bits : (n x : ℕ) → NumberBits n x (number_seen n x)
 unfolding number_seen
 number_bits n x =
     let y : ℕ = x % 2 ^ 24 + n % 2 ^ 8 * 2 ^ 24 in
@@ -75,7 +74,7 @@ cleared_27 : bit 27 (2 ^ 32 - 1 - 2 ^ 27) ≡ 0
 unfolding bit
 cleared_27 = refl
 
-osxsave_bit : (on : Bool) (x : ℕ) → OsxsaveBit on x (osxsave_seen on x)
+pub osxsave_bit : (on : Bool) (x : ℕ) → OsxsaveBit on x (osxsave_seen on x)
 unfolding osxsave_seen clear
 osxsave_bit on x = go (on && has 26 x) refl
   where
@@ -91,22 +90,5 @@ osxsave_bit on x = go (on && has 26 x) refl
 
 -- ---- leaf 1, EAX
 
-version_eax : (v : Processor) (r : CpuidResult) → (version_seen v r).eax ≡ r.eax
+pub version_eax : (v : Processor) (r : CpuidResult) → (version_seen v r).eax ≡ r.eax
 version_eax v r = refl
-
--- ---- the statement
-
-pub seen_exactly : (t : CpuidResults) (v : Processor) → SeenExactly t v
-seen_exactly t v = record {
-  present = λ i. refl;
-  count = refl;
-  mask = refl;
-  version = λ p. rw (seen_there t v Place.versionAndFeatures (lit< tt) p)
-      (record { eax = version_eax v (row_in t Place.versionAndFeatures).result; ebx = number_bits v.x2apic _; ecx = osxsave_bit v.osxsave _; edx = refl });
-  threads = λ p. rw (seen_there t v Place.threadLevel (lit< tt) p) (record { eax = refl; ebx = refl; ecx = refl; edx = refl });
-  cores = λ p. rw (seen_there t v Place.coreLevel (lit< tt) p) (record { eax = refl; ebx = refl; ecx = refl; edx = refl });
-  state0 = λ p. rw (seen_there t v (Place.extendedState 0) (lit< tt) p) (record { eax = refl; ebx = refl; ecx = refl; edx = refl });
-  state1 = λ p. rw (seen_there t v (Place.extendedState 1) (lit< tt) p) (record { eax = refl; ebx = refl; ecx = refl; edx = refl });
-  elsewhere = elsewhere t v;
-  absent = absent_stays t v;
-}

@@ -14,30 +14,3 @@ use Rattle.guest.specs.Guest.{seen_at, seen_in, guest_table}
 
 pub seen_row : (t : CpuidResults) (v : Processor) (i : ℕ) → i < places → (row_in (guest_table t v) i).result ≡ seen_in t v i
 seen_row t v i l = get_d_tabulate places (seen_in t v) i (cpuid_result 0 0 0 0) l
-
--- of a row that is there
-pub seen_there : (t : CpuidResults) (v : Processor) (i : ℕ) → i < places → (row_in t i).present ≡ true
-    → (row_in (guest_table t v) i).result
-    ≡ seen_at v (save_register (rows_of_table t) v.xcr0) (compact_register (rows_of_table t) v.xcr0 v.xss) i (row (row_in t i).result)
-seen_there t v i l p =
-    seen_row t v i l
-    ∙ ap (λ (b : Bool). seen_at v (save_register (rows_of_table t) v.xcr0) (compact_register (rows_of_table t) v.xcr0 v.xss) i
-    (record { present = b; result = (row_in t i).result })) p
-
--- "differs in these places": every other row is the table's
-pub elsewhere : (t : CpuidResults) (v : Processor) (i : ℕ) → i < places
-    → (i ≡ Place.versionAndFeatures → ⊥) → (i ≡ Place.threadLevel → ⊥) → (i ≡ Place.coreLevel → ⊥)
-    → (i ≡ Place.extendedState 0 → ⊥) → (i ≡ Place.extendedState 1 → ⊥)
-    → (row_in (guest_table t v) i).result ≡ (row_in t i).result
-elsewhere t v i l a b c d e = seen_row t v i l ∙ rw (ne_eqb i 1 a, ne_eqb i 4 b, ne_eqb i 5 c, ne_eqb i 6 d, ne_eqb i 7 e)
-
--- a row that is not there stays as it is
-pub absent_stays : (t : CpuidResults) (v : Processor) (i : ℕ) → i < places → (row_in t i).present ≡ false
-    → (row_in (guest_table t v) i).result ≡ (row_in t i).result
-absent_stays t v i l p =
-    seen_row t v i l
-    ∙ rw (p, none (eqb i 1), none (eqb i 4), none (eqb i 5), none (eqb i 6), none (eqb i 7))
-  where
-    none : (b : Bool) → (b && false) ≡ false
-    none true = refl
-    none false = refl

@@ -1,4 +1,6 @@
 // What one processor's guest sees, of pages or of a table in lent memory: one row, the guest's table or its image, or a refusal.
+#![tactic(auto)]
+
 ghost use Rattle.std.specs.Prelude.{◌≡◌, Bool, true};
 ghost use Rattle.bits.specs.Choice.{pick};
 ghost use Rattle.table.specs.Rows.{row};
@@ -26,7 +28,7 @@ const XSAVE_BIT: u32 = 26;
 const OSXSAVE: u32 = 0x08000000;
 
 // A processor: its x2APIC number, XCR0, XSS, and whether OSXSAVE is on.
-#[derive(Drop)]
+#[derive(Clone, Copy)]
 pub struct Processor {
     pub x2apic: u32,
     pub xcr0: u64,
@@ -35,14 +37,14 @@ pub struct Processor {
 }
 
 // Accepted with the guest's table, or refused with an empty one.
-#[derive(Drop)]
+#[derive(Clone, Copy)]
 pub struct GuestAnswer {
     pub verdict: Verdict,
     pub table: CpuidResults,
 }
 
 // Refused by 13 or 14, or what the lookup found.
-#[derive(Drop)]
+#[derive(Clone, Copy)]
 pub enum GuestFound {
     Refused(Refusal),
     Looked(Found),

@@ -57,27 +57,27 @@ module _ (m : Rows) (x : ℕ) where
         | inl q ↦ rw q (le_refl _)
         | inr q ↦
             let a = compact_rises j n (omega arith) in
-            let b = placed_after (leb 2 n && has n x) (m (Place.extendedState n)).result (compact_below m x n) in
+            let b = placed_after (leb 2 n && has n x) (m (Place.extended_state n)).result (compact_below m x n) in
             omega (arith, a, b)
       ]
 
   -- where component k starts
   abbrev pub start_of : ℕ → ℕ
-  start_of k = component_start (m (Place.extendedState k)).result (compact_below m x k)
+  start_of k = component_start (m (Place.extended_state k)).result (compact_below m x k)
 
   pub start_after : (k : ℕ) → compact_below m x k ≤ start_of k
   unfolding component_start
-  start_after k = go (has 1 (m (Place.extendedState k)).result.ecx)
+  start_after k = go (has 1 (m (Place.extended_state k)).result.ecx)
     where
       go : (b : Bool) → compact_below m x k ≤ pick b (raised (compact_below m x k)) (compact_below m x k)
       go true = omega arith
       go false = le_refl _
 
-  pub start_aligned : (k : ℕ) → has 1 (m (Place.extendedState k)).result.ecx ≡ true → start_of k % 64 ≡ 0
+  pub start_aligned : (k : ℕ) → has 1 (m (Place.extended_state k)).result.ecx ≡ true → start_of k % 64 ≡ 0
   unfolding component_start
   start_aligned k e = rw e (omega arith)
 
   -- where it ends
-  pub ends : (k : ℕ) → 2 ≤ k → has k x ≡ true → start_of k + (m (Place.extendedState k)).result.eax ≡ compact_below m x (suc k)
+  pub ends : (k : ℕ) → 2 ≤ k → has k x ≡ true → start_of k + (m (Place.extended_state k)).result.eax ≡ compact_below m x (suc k)
   unfolding compact_below placed
   ends k l e = rw (le-leb 2 k l, e)

@@ -7,8 +7,9 @@ use Rattle.std.proofs.Math.Bool.{true, false}
 use Rattle.bits.specs.Choice.{pick}
 use Rattle.bits.specs.ChoiceLaws.{never_both}
 use Rattle.bits.specs.Bits.{bit, has, Within, clear, clear_unless}
-use Rattle.bits.specs.BitsLaws.{bit_and_lem, within_refl, within_trans, within_and, clear_within, has_mono}
-use Rattle.bits.specs.ComplementLaws.{within_left}
+use Rattle.bits.specs.BitsLaws.{bit_and_lem, within_refl, within_trans, within_and, clear_within}
+use Rattle.bits.proofs.BitsLaws.{has_mono}
+use Rattle.bits.proofs.ComplementLaws.{within_left}
 use Rattle.bits.specs.ListsLaws.{get_d_tabulate}
 use Rattle.x86defs.specs.declared.CpuidResult.{CpuidResult}
 use Rattle.x86defs.specs.Functions.{cpuid_result}
@@ -25,7 +26,8 @@ use Rattle.finish.specs.Kinds.Kind.{feature}
 use Rattle.finish.specs.RuleKinds.{kinds_at_lem}
 use Rattle.rise.specs.Rise.{Further, TableRises}
 use Rattle.rise.specs.Preorder.{SameRows}
-use Rattle.rise.specs.PreorderProof.{registers_itself, table_rises_itself, table_rises_compose, same_both_ways}
+use Rattle.rise.specs.PreorderProof.{registers_itself, table_rises_itself, table_rises_compose}
+use Rattle.rise.proofs.AroundProof.{same_both_ways}
 use Rattle.carry.specs.Carry.{without_bits, carried_at, carried_table, keeps}
 use Rattle.guest_rise.specs.SeenRises.{state0_eax}
 use Rattle.images.specs.CarriedRows.{own_ymm}
@@ -84,11 +86,11 @@ module _ (i : ℕ) where
     edx = q.edx;
   }
 
-pub version_feature : (i : ℕ) → i ≡ Place.versionAndFeatures → (kinds_at i).ecx ≡ feature
-version_feature i e = rw e (ap (λ (k : Kinds). k.ecx) (kinds_at_lem Place.versionAndFeatures (lit< tt)))
+pub version_feature : (i : ℕ) → i ≡ Place.version_and_features → (kinds_at i).ecx ≡ feature
+version_feature i e = rw e (ap (λ (k : Kinds). k.ecx) (kinds_at_lem Place.version_and_features (lit< tt)))
 
-pub extended_feature : (i : ℕ) → i ≡ Place.extendedVersionAndFeatures → (kinds_at i).ecx ≡ feature
-extended_feature i e = rw e (ap (λ (k : Kinds). k.ecx) (kinds_at_lem Place.extendedVersionAndFeatures (lit< tt)))
+pub extended_feature : (i : ℕ) → i ≡ Place.extended_version_and_features → (kinds_at i).ecx ≡ feature
+extended_feature i e = rw e (ap (λ (k : Kinds). k.ecx) (kinds_at_lem Place.extended_version_and_features (lit< tt)))
 
 module _ (bits : EditionBits) where
   abbrev v : ℕ
@@ -99,19 +101,19 @@ module _ (bits : EditionBits) where
 
   rises_at : (b c : Bool) (i : ℕ) (r s : CpuidResult) → (b ≡ true → c ≡ true) → RowRises i r s
       → RowRises i (carried_to bits b i r) (carried_to bits c i s)
-  rises_at b c i r s f q = go (eqb i Place.versionAndFeatures) (eqb i Place.extendedVersionAndFeatures) refl refl
+  rises_at b c i r s f q = go (eqb i Place.version_and_features) (eqb i Place.extended_version_and_features) refl refl
     where
-      go : (y z : Bool) → eqb i Place.versionAndFeatures ≡ y → eqb i Place.extendedVersionAndFeatures ≡ z
+      go : (y z : Bool) → eqb i Place.version_and_features ≡ y → eqb i Place.extended_version_and_features ≡ z
           → RowRises i (pick (y && true) (without_bits b v r) (pick (z && true) (without_bits b x r) r))
           (pick (y && true) (without_bits c v s) (pick (z && true) (without_bits c x s) s))
-      go true z d e = ecx_risen i r s _ _ (version_feature i (eqb-true i Place.versionAndFeatures d)) q (within_clear b c v f)
-      go false true d e = ecx_risen i r s _ _ (extended_feature i (eqb-true i Place.extendedVersionAndFeatures e)) q (within_clear b c x f)
+      go true z d e = ecx_risen i r s _ _ (version_feature i (eqb-true i Place.version_and_features d)) q (within_clear b c v f)
+      go false true d e = ecx_risen i r s _ _ (extended_feature i (eqb-true i Place.extended_version_and_features e)) q (within_clear b c x f)
       go false false d e = q
 
   -- cleared of these bits and then of all
   twice_at : Inside bits later_bits → (c : Bool) (i : ℕ) (r : CpuidResult)
       → RowRises i (carried_to later_bits false i r) (carried_to later_bits c i (carried_to bits false i r))
-  twice_at h c i r = go (eqb i Place.versionAndFeatures) (eqb i Place.extendedVersionAndFeatures) refl refl
+  twice_at h c i r = go (eqb i Place.version_and_features) (eqb i Place.extended_version_and_features) refl refl
     where
       all_v : ℕ
       all_v = later_bits.version_ecx
@@ -119,18 +121,18 @@ module _ (bits : EditionBits) where
       all_x : ℕ
       all_x = later_bits.extended_version_ecx
 
-      go : (y z : Bool) → eqb i Place.versionAndFeatures ≡ y → eqb i Place.extendedVersionAndFeatures ≡ z
+      go : (y z : Bool) → eqb i Place.version_and_features ≡ y → eqb i Place.extended_version_and_features ≡ z
           → RowRises i (pick (y && true) (without_bits false all_v r) (pick (z && true) (without_bits false all_x r) r))
           (pick (y && true) (without_bits c all_v (pick (y && true) (without_bits false v r) (pick (z && true) (without_bits false x r) r)))
           (pick (z && true) (without_bits c all_x (pick (y && true) (without_bits false v r) (pick (z && true) (without_bits false x r) r)))
           (pick (y && true) (without_bits false v r) (pick (z && true) (without_bits false x r) r))))
       go true z d e =
           let q = without_bits false all_v r in
-          ecx_risen i q q _ _ (version_feature i (eqb-true i Place.versionAndFeatures d)) (registers_itself (kinds_at i) q)
+          ecx_risen i q q _ _ (version_feature i (eqb-true i Place.version_and_features d)) (registers_itself (kinds_at i) q)
           (λ w. within_twice c v all_v r.ecx later_small.0 h.version)
       go false true d e =
           let q = without_bits false all_x r in
-          ecx_risen i q q _ _ (extended_feature i (eqb-true i Place.extendedVersionAndFeatures e)) (registers_itself (kinds_at i) q)
+          ecx_risen i q q _ _ (extended_feature i (eqb-true i Place.extended_version_and_features e)) (registers_itself (kinds_at i) q)
           (λ w. within_twice c x all_x r.ecx later_small.1 h.extended)
       go false false d e = registers_itself (kinds_at i) r
 
@@ -165,7 +167,7 @@ module _ (bits : EditionBits) where
   -- nothing is lost where the bits are kept
   kept_at : (i : ℕ) (r : CpuidResult) → carried_to bits true i r ≡ r
   unfolding clear_unless
-  kept_at i r = go (eqb i Place.versionAndFeatures) (eqb i Place.extendedVersionAndFeatures)
+  kept_at i r = go (eqb i Place.version_and_features) (eqb i Place.extended_version_and_features)
     where
       go : (y z : Bool) → pick (y && true) (without_bits true v r) (pick (z && true) (without_bits true x r) r) ≡ r
       go true z = refl
@@ -185,29 +187,29 @@ module _ (bits : EditionBits) where
 
 pub ymm_carried : (bits : EditionBits) (b : Bool) (t : CpuidResults) → own_ymm (carried_table bits b t) ≡ own_ymm t
 ymm_carried bits b t =
-    ap (λ (r : CpuidResult). has 2 (pick (row_in t (Place.extendedState 0)).present r.eax 0))
-    (carried_row bits b t (Place.extendedState 0) (lit< tt))
+    ap (λ (r : CpuidResult). has 2 (pick (row_in t (Place.extended_state 0)).present r.eax 0))
+    (carried_row bits b t (Place.extended_state 0) (lit< tt))
 
 none_of_zero : has 2 0 ≡ false
 unfolding has bit
 none_of_zero = refl
 
 pub ymm_mono : (t u : CpuidResults) → TableRises t u → own_ymm t ≡ true → own_ymm u ≡ true
-ymm_mono t u r e = go (row_in t (Place.extendedState 0)).present refl e
+ymm_mono t u r e = go (row_in t (Place.extended_state 0)).present refl e
   where
-    go : (p : Bool) → (row_in t (Place.extendedState 0)).present ≡ p → has 2 (pick p (row_in t (Place.extendedState 0)).result.eax 0) ≡ true
+    go : (p : Bool) → (row_in t (Place.extended_state 0)).present ≡ p → has 2 (pick p (row_in t (Place.extended_state 0)).result.eax 0) ≡ true
         → own_ymm u ≡ true
     go false f h = absurd (never_both h none_of_zero)
     go true f h =
-        rw (r.rows (Place.extendedState 0) (lit< tt) f)
-        (has_mono 2 (state0_eax _ _ (r.registers (Place.extendedState 0) (lit< tt) f)) h)
+        rw (r.rows (Place.extended_state 0) (lit< tt) f)
+        (has_mono 2 (state0_eax _ _ (r.registers (Place.extended_state 0) (lit< tt) f)) h)
 
 pub keeps_ymm : (t : CpuidResults) (from to : ℕ) → own_ymm t ≡ true → keeps t from to ≡ true
 unfolding keeps xfem
-keeps_ymm t from to e = go (eqb from to) (row_in t (Place.extendedState 0)).present e
+keeps_ymm t from to e = go (eqb from to) (row_in t (Place.extended_state 0)).present e
   where
-    go : (b p : Bool) → has 2 (pick p (row_in t (Place.extendedState 0)).result.eax 0) ≡ true
-        → (b || has 2 (pick p (row_in t (Place.extendedState 0)).result (cpuid_result 0 0 0 0)).eax) ≡ true
+    go : (b p : Bool) → has 2 (pick p (row_in t (Place.extended_state 0)).result.eax 0) ≡ true
+        → (b || has 2 (pick p (row_in t (Place.extended_state 0)).result (cpuid_result 0 0 0 0)).eax) ≡ true
     go true p h = refl
     go false true h = h
     go false false h = h

@@ -14,7 +14,7 @@ use Rattle.table.specs.declared.Refusal.TheVariants.{CompactSizeTooLarge}
 use Rattle.table.specs.declared.Verdict.TheVariants.{Accepted, Refused}
 use Rattle.table.specs.Table.{row_in}
 use Rattle.finish.specs.Kinds.{Kind, TableAtLeast, kinds_at}
-use Rattle.finish.specs.Kinds.Kind.{feature, featureBut28, area, freed, other}
+use Rattle.finish.specs.Kinds.Kind.{feature, feature_but28, area, freed, other}
 use Rattle.memory.specs.Held.{held_in}
 use Rattle.build.specs.Build.{answer, TableIn}
 use Rattle.lookup.specs.declared.LeafResult.TheVariants.{Some as Found}
@@ -45,7 +45,7 @@ pub data Life : CpuidResults → CpuidResults → Type 0 where
 
 -- carry's three bits of ECX, by place and bit: 1.ECX bit 29 and 80000001h.ECX bits 11 and 16
 abbrev pub three_bits : ℕ → ℕ → Bool
-three_bits i k = (eqb i Place.versionAndFeatures && eqb k 29) || (eqb i Place.extendedVersionAndFeatures && (eqb k 11 || eqb k 16))
+three_bits i k = (eqb i Place.version_and_features && eqb k 29) || (eqb i Place.extended_version_and_features && (eqb k 11 || eqb k 16))
 
 -- they are lost at most where the first table's own D.0.EAX lacks bit 2
 abbrev pub lost_bit : Bool → ℕ → ℕ → Bool
@@ -54,7 +54,7 @@ lost_bit ymm i k = not ymm && three_bits i k
 -- as demand 3 compares registers, a feature register but for those bits
 abbrev pub StillShown : (ℕ → Bool) → Kind → ℕ → ℕ → Type 0
 StillShown lost feature a b = (k : ℕ) → k < 32 → lost k ≡ false → bit k a ≤ bit k b
-StillShown lost featureBut28 a b = TableAtLeast featureBut28 a b
+StillShown lost feature_but28 a b = TableAtLeast feature_but28 a b
 StillShown lost area a b = a ≤ b
 StillShown lost freed a b = a ≡ b
 StillShown lost other a b = a ≡ b
@@ -69,13 +69,13 @@ pub record RowShown (lost : ℕ → Bool) (i : ℕ) (r s : CpuidResult) : Type 0
 pub record AskedShown (lost : ℕ → ℕ → Bool) (g h : CpuidResults) (leaf : CpuidFunction) (sub : Subleaf) (enforce : Bool) (r : CpuidResult) : Type 0 where
   pub registers : CpuidResult
   pub found : lookup h leaf sub enforce ≡ Found registers
-  pub shown : (place_asked leaf sub enforce ≡ Place.extendedState 1 → compacts_in g ≡ true)
+  pub shown : (place_asked leaf sub enforce ≡ Place.extended_state 1 → compacts_in g ≡ true)
       → RowShown (lost (place_asked leaf sub enforce)) (place_asked leaf sub enforce) r registers
 
 -- g is the first table's view and h the last one's
 pub record ViewLasts (lost : ℕ → ℕ → Bool) (g h : CpuidResults) : Type 0 where
   pub rows : (i : ℕ) → i < places → (row_in g i).present ≡ true → (row_in h i).present ≡ true
-  pub registers : (i : ℕ) → i < places → (row_in g i).present ≡ true → (i ≡ Place.extendedState 1 → compacts_in g ≡ true)
+  pub registers : (i : ℕ) → i < places → (row_in g i).present ≡ true → (i ≡ Place.extended_state 1 → compacts_in g ≡ true)
       → RowShown (lost i) i (row_in g i).result (row_in h i).result
   pub standard : (subleaf g 0).ebx ≡ (subleaf h 0).ebx
   pub compacted : compacts_in g ≡ true → (subleaf g 1).ebx ≡ (subleaf h 1).ebx

@@ -20,19 +20,19 @@ use Rattle.guest_rise.specs.GuestRise.{compacts_in}
 
 -- row D.k of a guest's table
 abbrev pub subleaf : CpuidResults → ℕ → CpuidResult
-subleaf g k = (row_in g (Place.extendedState k)).result
+subleaf g k = (row_in g (Place.extended_state k)).result
 
 -- g is the guest's table
 pub record StandardForm (g : CpuidResults) (xcr0 : ℕ) : Type 0 where
   pub header : 576 ≤ (subleaf g 0).ebx
-  pub there : (k : ℕ) → 2 ≤ k → bit k xcr0 ≡ 1 → (row_in g (Place.extendedState k)).present ≡ true
+  pub there : (k : ℕ) → 2 ≤ k → bit k xcr0 ≡ 1 → (row_in g (Place.extended_state k)).present ≡ true
   pub inside : (k : ℕ) → 2 ≤ k → bit k xcr0 ≡ 1 → (subleaf g k).ebx + (subleaf g k).eax ≤ (subleaf g 0).ebx
   pub most : (subleaf g 0).ebx ≤ (subleaf g 0).ecx
 
 -- the bits of x are XCR0's or XSS's
 pub record CompactedForm (g : CpuidResults) (x : ℕ) : Type 0 where
   pub start : ℕ → ℕ
-  pub there : (k : ℕ) → 2 ≤ k → bit k x ≡ 1 → (row_in g (Place.extendedState k)).present ≡ true
+  pub there : (k : ℕ) → 2 ≤ k → bit k x ≡ 1 → (row_in g (Place.extended_state k)).present ≡ true
   pub header : (k : ℕ) → 2 ≤ k → bit k x ≡ 1 → 576 ≤ start k
   pub aligned : (k : ℕ) → 2 ≤ k → bit k x ≡ 1 → bit 1 (subleaf g k).ecx ≡ 1 → start k % 64 ≡ 0
   pub apart : (j k : ℕ) → 2 ≤ j → j < k → bit j x ≡ 1 → bit k x ≡ 1 → start j + (subleaf g j).eax ≤ start k

@@ -9,7 +9,8 @@ use Rattle.std.specs.Int.Bits.{bit_or}
 use Rattle.bits.specs.Choice.{pick}
 use Rattle.bits.specs.ChoiceLaws.{pick_true, impossible}
 use Rattle.bits.specs.Bits.{bit, has}
-use Rattle.bits.specs.BitsLaws.{bit_has, has_bit, has_mono, within_or, or_within_left}
+use Rattle.bits.specs.BitsLaws.{bit_has, has_bit, within_or, or_within_left}
+use Rattle.bits.proofs.BitsLaws.{has_mono}
 use Rattle.bits.specs.WidthLaws.{or_fits}
 use Rattle.x86defs.specs.declared.CpuidResult.{CpuidResult}
 use Rattle.masking.specs.Place
@@ -30,14 +31,14 @@ use Rattle.guest_state.specs.State.{compacts, save_register, compact_register}
 use Rattle.guest.specs.declared.Processor.{Processor}
 use Rattle.guest.specs.Guest.{guest_table}
 use Rattle.guest.specs.GuestPages.{guest_pages}
-use Rattle.guest.specs.GuestPagesLaws.{guest_verdict, given_guest}
-use Rattle.guest.specs.SeenExactlyProof.{seen_exactly}
+use Rattle.guest.proofs.GuestPagesLaws.{guest_verdict, given_guest}
+use Rattle.guest.proofs.SeenExactlyProof.{seen_exactly}
 use Rattle.guest_rise.specs.GuestRise.{compacts_in, GuestTableRises, GuestOutcome}
 use Rattle.guest_rise.specs.GuestRise.GuestOutcome.{given, too_large}
-use Rattle.guest_rise.specs.GuestExactly.{guest_exactly}
+use Rattle.guest_rise.proofs.GuestExactly.{guest_exactly}
 use Rattle.guest_rise.specs.StateExactly.{Allowed}
-use Rattle.guest_rise.specs.StateExactlyProof.{given_allowed}
-use Rattle.guest_rise.specs.GuestRiseProof.{guest_rise}
+use Rattle.guest_rise.proofs.StateExactlyProof.{given_allowed}
+use Rattle.guest_rise.proofs.GuestRiseProof.{guest_rise}
 use Rattle.guest_life.specs.Bits32.{set_below}
 use Rattle.guest_life.specs.Sound.{Sound, built_sound}
 use Rattle.guest_life.specs.SaveAreas.{subleaf, StandardForm, CompactedForm, SaveAreas, SameAreas, AreasStay}
@@ -52,24 +53,24 @@ module _ (t : CpuidResults) (v : Processor) (p : Sound t) (allows : Allowed (row
   abbrev G : CpuidResults
   G = guest_table t v
 
-  abbrev x : ℕ
+  abbrev pub x : ℕ
   x = bit_or v.xcr0 v.xss
 
-  there0 : (row_in t (Place.extendedState 0)).present ≡ true
-  there0 = p.supplied.required (Place.extendedState 0) (lit< tt) refl
+  there0 : (row_in t (Place.extended_state 0)).present ≡ true
+  there0 = p.supplied.required (Place.extended_state 0) (lit< tt) refl
 
-  there1 : (row_in t (Place.extendedState 1)).present ≡ true
-  there1 = p.supplied.required (Place.extendedState 1) (lit< tt) refl
+  there1 : (row_in t (Place.extended_state 1)).present ≡ true
+  there1 = p.supplied.required (Place.extended_state 1) (lit< tt) refl
 
   -- the mask has no bit from 32 up
   mask_fits : combined_mask T < 2 ^ 32
   unfolding combined_mask xfem xss
   mask_fits =
-      or_fits (p.plain.fits (Place.extendedState 0) (lit< tt)).eax
-      (go (has 1 (T (Place.extendedState 1)).result.eax && has 3 (T (Place.extendedState 1)).result.eax))
+      or_fits (p.plain.fits (Place.extended_state 0) (lit< tt)).eax
+      (go (has 1 (T (Place.extended_state 1)).result.eax && has 3 (T (Place.extended_state 1)).result.eax))
     where
-      go : (b : Bool) → pick b (T (Place.extendedState 1)).result.ecx 0 < 2 ^ 32
-      go true = (p.plain.fits (Place.extendedState 1) (lit< tt)).ecx
+      go : (b : Bool) → pick b (T (Place.extended_state 1)).result.ecx 0 < 2 ^ 32
+      go true = (p.plain.fits (Place.extended_state 1) (lit< tt)).ecx
       go false = lit< tt
 
   pub in_mask_lem : (k : ℕ) → bit k x ≡ 1 → has k (combined_mask T) ≡ true
@@ -83,26 +84,26 @@ module _ (t : CpuidResults) (v : Processor) (p : Sound t) (allows : Allowed (row
   below_32 k e = set_below (combined_mask T) k mask_fits (has_bit k _ (in_mask_lem k e))
 
   -- component k of the view is the table's
-  pub component_seen : (k : ℕ) → 2 ≤ k → k < 64 → subleaf G k ≡ (T (Place.extendedState k)).result
+  pub component_seen : (k : ℕ) → 2 ≤ k → k < 64 → subleaf G k ≡ (T (Place.extended_state k)).result
   component_seen k l h =
-      (seen_exactly t v).elsewhere (Place.extendedState k) (omega arith)
+      (seen_exactly t v).elsewhere (Place.extended_state k) (omega arith)
       (λ e. omega arith) (λ e. omega arith) (λ e. omega arith) (λ e. omega arith) (λ e. omega arith)
 
-  component_there : (k : ℕ) → 2 ≤ k → bit k x ≡ 1 → (row_in G (Place.extendedState k)).present ≡ true
+  component_there : (k : ℕ) → 2 ≤ k → bit k x ≡ 1 → (row_in G (Place.extended_state k)).present ≡ true
   component_there k l e =
       let h = below_32 k e in
       let u : k < 64 = omega arith in
-      (seen_exactly t v).present (Place.extendedState k) ∙ p.supplied.components k l u (in_mask_lem k e)
+      (seen_exactly t v).present (Place.extended_state k) ∙ p.supplied.components k l u (in_mask_lem k e)
 
   -- D.0.EBX is the area over XCR0, which is within that over XFEM
-  area_most : save_area T v.xcr0 ≤ (T (Place.extendedState 0)).result.ecx
+  area_most : save_area T v.xcr0 ≤ (T (Place.extended_state 0)).result.ecx
   area_most = rw p.area (area_mono T T 64 allows.user (λ k l h e. refl))
 
   pub standard_size : (subleaf G 0).ebx ≡ save_area T v.xcr0
   unfolding save_register
   standard_size =
       ((seen_exactly t v).state0 there0).ebx
-      ∙ fits (save_area T v.xcr0) (omega (arith, area_most, (p.plain.fits (Place.extendedState 0) (lit< tt)).ecx))
+      ∙ fits (save_area T v.xcr0) (omega (arith, area_most, (p.plain.fits (Place.extended_state 0) (lit< tt)).ecx))
     where
       fits : (n : ℕ) → n < 2 ^ 32 → min n (2 ^ 32 - 1) ≡ n
       fits n l = omega arith
@@ -150,69 +151,15 @@ module _ (t : CpuidResults) (v : Processor) (p : Sound t) (allows : Allowed (row
         first : compact_below T x 2 ≡ 576
         first = sym (compact_starts T x)
 
--- ---- page sets
-
-module _ (chosen : Choices) (s : List ℕ) (v : Processor) (g : (guest_pages chosen s v).verdict ≡ Accepted) where
-  pub accepted_of_lem : (answer chosen s).verdict ≡ Accepted
-  accepted_of_lem = ((guest_exactly chosen s v).given.0 g).0
-
-  pub allowed_of : Allowed (rows_of_table (answer chosen s).table) v.xcr0 v.xss
-  allowed_of = given_allowed (rows_of_table (answer chosen s).table) v.xcr0 v.xss (sym (guest_verdict chosen s v accepted_of_lem) ∙ g)
-
-  areas_of_lem : StandardForm (guest_pages chosen s v).table v.xcr0
-      × (compacts_in (guest_pages chosen s v).table ≡ true → CompactedForm (guest_pages chosen s v).table (bit_or v.xcr0 v.xss))
-  areas_of_lem =
-      let p = built_sound chosen s accepted_of_lem in
-      rw (given_guest chosen s v accepted_of_lem g)
-      (standard_form (answer chosen s).table v p allowed_of, compacted_form (answer chosen s).table v p allowed_of)
-
-pub save_areas : SaveAreas
-save_areas = areas_of_lem
-
 -- ---- on a server that is at least the first
 
-component_same : (g h : CpuidResults) → GuestTableRises g h → (k : ℕ) → 2 ≤ k → k < 64 → (row_in g (Place.extendedState k)).present ≡ true
+pub component_same : (g h : CpuidResults) → GuestTableRises g h → (k : ℕ) → 2 ≤ k → k < 64 → (row_in g (Place.extended_state k)).present ≡ true
     → subleaf g k ≡ subleaf h k
 component_same g h r k l u e =
     let q : Registers TableAtLeast (kinds other other other other) (subleaf g k) (subleaf h k) =
     subst (λ (w : Kinds). Registers TableAtLeast w (subleaf g k) (subleaf h k)) (component_kinds k l u)
-    (r.registers (Place.extendedState k) (omega arith) e (λ z. absurd (omega arith))) in
+    (r.registers (Place.extended_state k) (omega arith) e (λ z. absurd (omega arith))) in
     λ j. record { eax = q.eax j; ebx = q.ebx j; ecx = q.ecx j; edx = q.edx j }
 
-ebx_same : (i : ℕ) (r s : CpuidResult) → (kinds_at i).ebx ≡ other → Registers TableAtLeast (kinds_at i) r s → r.ebx ≡ s.ebx
+pub ebx_same : (i : ℕ) (r s : CpuidResult) → (kinds_at i).ebx ≡ other → Registers TableAtLeast (kinds_at i) r s → r.ebx ≡ s.ebx
 ebx_same i r s e q = subst (λ (k : Kind). TableAtLeast k r.ebx s.ebx) e q.ebx
-
-pub areas_same : (g h : CpuidResults) (x : ℕ) → GuestTableRises g h
-    → ((k : ℕ) → 2 ≤ k → bit k x ≡ 1 → (k < 64) × ((row_in g (Place.extendedState k)).present ≡ true))
-    → (row_in g (Place.extendedState 0)).present ≡ true → (row_in g (Place.extendedState 1)).present ≡ true → SameAreas g h x
-areas_same g h x r f z o = record {
-  components = λ k l e. component_same g h r k l (f k l e).0 (f k l e).1;
-  standard =
-      ebx_same (Place.extendedState 0) _ _ (ap (λ (k : Kinds). k.ebx) (kinds_at_lem (Place.extendedState 0) (lit< tt)))
-      (r.registers (Place.extendedState 0) (lit< tt) z (λ q. absurd (omega arith)));
-  compacted = λ c.
-      ebx_same (Place.extendedState 1) _ _ (ap (λ (k : Kinds). k.ebx) (kinds_at_lem (Place.extendedState 1) (lit< tt)))
-      (r.registers (Place.extendedState 1) (lit< tt) o (λ q. c));
-}
-
-pub areas_stay : AreasStay
-areas_stay chosen a b v rises e g h = go (guest_rise chosen a b v rises e g)
-  where
-    p : Sound (answer chosen a).table
-    p = built_sound chosen a rises.accepted
-
-    there : (i : ℕ) → (row_in (answer chosen a).table i).present ≡ true → (row_in (guest_pages chosen a v).table i).present ≡ true
-    there i q = ap (λ (w : CpuidResults). (row_in w i).present) (given_guest chosen a v rises.accepted g) ∙ q
-
-    go : GuestOutcome (guest_pages chosen a v).table (guest_pages chosen b v)
-        → SameAreas (guest_pages chosen a v).table (guest_pages chosen b v).table (bit_or v.xcr0 v.xss)
-    go (too_large c f) = impossible (cc)
-    go (given f r) =
-        areas_same _ _ _ r
-        (λ k l d.
-        let w = allowed_of chosen a v g in
-        let n = below_32 (answer chosen a).table v p w k d in
-        let u : k < 64 = omega arith in
-        (u, there (Place.extendedState k) (p.supplied.components k l u (in_mask_lem (answer chosen a).table v p w k d))))
-        (there (Place.extendedState 0) (p.supplied.required (Place.extendedState 0) (lit< tt) refl))
-        (there (Place.extendedState 1) (p.supplied.required (Place.extendedState 1) (lit< tt) refl))

@@ -35,10 +35,10 @@ use Rattle.images.specs.ImagesProof.{accepted_plain}
 pub record Sound (t : CpuidResults) : Type 0 where
   pub whole : length t.present ≤ places
   pub supplied : Supplied t
-  pub threads : (row_in t Place.threadLevel).result.edx ≡ 0
-  pub cores : (row_in t Place.coreLevel).result.edx ≡ 0
+  pub threads : (row_in t Place.thread_level).result.edx ≡ 0
+  pub cores : (row_in t Place.core_level).result.edx ≡ 0
   pub plain : Plain t
-  pub area : (row_in t (Place.extendedState 0)).result.ecx ≡ save_area (rows_of_table t) (xfem (rows_of_table t))
+  pub area : (row_in t (Place.extended_state 0)).result.ecx ≡ save_area (rows_of_table t) (xfem (rows_of_table t))
   pub count : t.row_count ≡ count_rows (rows_of_table t)
   pub mask : t.max_extended_state ≡ combined_mask (rows_of_table t)
 
@@ -49,28 +49,28 @@ module _ (chosen : Choices) (s : List ℕ) (e : (answer chosen s).verdict ≡ Ac
   abbrev t : CpuidResults
   t = (answer chosen s).table
 
-  threads_edx : (row_in t Place.threadLevel).result.edx ≡ 0
+  threads_edx : (row_in t Place.thread_level).result.edx ≡ 0
   unfolding settings
   threads_edx =
-      ap (λ (r : CpuidResult). r.edx) (result_at chosen s e Place.threadLevel (lit< tt) (always_finished chosen s e Place.threadLevel (lit< tt) refl))
+      ap (λ (r : CpuidResult). r.edx) (result_at chosen s e Place.thread_level (lit< tt) (always_finished chosen s e Place.thread_level (lit< tt) refl))
       ∙ go (eqb (inputs_of m).t 1)
     where
       go : (b : Bool) → (pick b (cpuid_result 1 2 0x100 0) (cpuid_result 0 1 0x100 0)).edx ≡ 0
       go true = refl
       go false = refl
 
-  cores_edx : (row_in t Place.coreLevel).result.edx ≡ 0
+  cores_edx : (row_in t Place.core_level).result.edx ≡ 0
   unfolding settings
-  cores_edx = ap (λ (r : CpuidResult). r.edx) (result_at chosen s e Place.coreLevel (lit< tt) (always_finished chosen s e Place.coreLevel (lit< tt) refl))
+  cores_edx = ap (λ (r : CpuidResult). r.edx) (result_at chosen s e Place.core_level (lit< tt) (always_finished chosen s e Place.core_level (lit< tt) refl))
 
-  component : (k : ℕ) → 2 ≤ k → k < 64 → has k (combined_mask (rows_of_table t)) ≡ true → (row_in t (Place.extendedState k)).result ≡ (m (Place.extendedState k)).result
+  component : (k : ℕ) → 2 ≤ k → k < 64 → has k (combined_mask (rows_of_table t)) ≡ true → (row_in t (Place.extended_state k)).result ≡ (m (Place.extended_state k)).result
   component k l u h =
       let there = (built_supplied chosen s e).components k l u h in
-      let i : Place.extendedState k < places = omega arith in
-      result_at chosen s e (Place.extendedState k) i (sym (ap (λ (r : Row). r.present) (answer_row chosen s e (Place.extendedState k) i)) ∙ there)
-      ∙ ap (λ (q : Rule). finish (settings chosen.edition m) q (m (Place.extendedState k)).result) (component_rule k l u)
+      let i : Place.extended_state k < places = omega arith in
+      result_at chosen s e (Place.extended_state k) i (sym (ap (λ (r : Row). r.present) (answer_row chosen s e (Place.extended_state k) i)) ∙ there)
+      ∙ ap (λ (q : Rule). finish (settings chosen.edition m) q (m (Place.extended_state k)).result) (component_rule k l u)
 
-  area_own : (row_in t (Place.extendedState 0)).result.ecx ≡ save_area (rows_of_table t) (xfem (rows_of_table t))
+  area_own : (row_in t (Place.extended_state 0)).result.ecx ≡ save_area (rows_of_table t) (xfem (rows_of_table t))
   unfolding settings
   area_own =
       let same : (k : ℕ) → 2 ≤ k → k < 64 → has k (xfem (rows_of_table t)) ≡ true → sum_at (rows_of_table t) k ≡ sum_at m k =
@@ -82,7 +82,7 @@ module _ (chosen : Choices) (s : List ℕ) (e : (answer chosen s).verdict ≡ Ac
       (λ k l u h. sym (same k l u (ap (has k) (built_xfem chosen s e) ∙ h))) in
       let two : save_area m (xfem m) ≡ save_area (rows_of_table t) (xfem (rows_of_table t)) = omega (arith, up, down) in
       ap (λ (r : CpuidResult). r.ecx)
-      (result_at chosen s e (Place.extendedState 0) (lit< tt) (always_finished chosen s e (Place.extendedState 0) (lit< tt) refl))
+      (result_at chosen s e (Place.extended_state 0) (lit< tt) (always_finished chosen s e (Place.extended_state 0) (lit< tt) refl))
       ∙ two
 
   counted_rows : t.row_count ≡ count_rows (rows_of_table t)

@@ -6,7 +6,8 @@ use Prim.Native.Nat.{ℕ, ◌+◌, ◌-◌, ◌^◌, ◌≤◌, ◌<◌, min}
 use Rattle.std.specs.Int.Bits.{bit_or}
 use Rattle.bits.specs.Choice.{pick}
 use Rattle.bits.specs.Bits.{has}
-use Rattle.bits.specs.BitsLaws.{within_refl, or_within_left, has_mono}
+use Rattle.bits.specs.BitsLaws.{within_refl, or_within_left}
+use Rattle.bits.proofs.BitsLaws.{has_mono}
 use Rattle.x86defs.specs.declared.CpuidResult.{CpuidResult}
 use Rattle.masking.specs.Place
 use Rattle.table.specs.declared.Refusal.TheVariants.{StateBeyondTable, CompactSizeTooLarge}
@@ -17,15 +18,15 @@ use Rattle.table.specs.Table.{row_in, rows_of_table}
 use Rattle.checks.specs.Checks.{refuse_unless}
 use Rattle.checks.specs.ExtendedState.{xfem, xss, combined_mask, save_area, sum_at}
 use Rattle.checks.specs.ExtendedStateLaws.{area_mono}
-use Rattle.guest_state.specs.CompactLaws.{compact_same}
+use Rattle.guest_state.proofs.CompactLaws.{compact_same}
 use Rattle.guest_state.specs.State.{compacts, save_register, compact_register, allowed, allowed_verdict, compact_verdict, state_verdict}
 
 pub record StatesAgree (t u : CpuidResults) (xcr0 s : ℕ) : Type 0 where
-  pub xfem : (row_in t (Place.extendedState 0)).result.eax ≡ (row_in u (Place.extendedState 0)).result.eax
-  pub eax : (row_in t (Place.extendedState 1)).result.eax ≡ (row_in u (Place.extendedState 1)).result.eax
-  pub ecx : (row_in t (Place.extendedState 1)).result.ecx ≡ (row_in u (Place.extendedState 1)).result.ecx
+  pub xfem : (row_in t (Place.extended_state 0)).result.eax ≡ (row_in u (Place.extended_state 0)).result.eax
+  pub eax : (row_in t (Place.extended_state 1)).result.eax ≡ (row_in u (Place.extended_state 1)).result.eax
+  pub ecx : (row_in t (Place.extended_state 1)).result.ecx ≡ (row_in u (Place.extended_state 1)).result.ecx
   pub components : (k : ℕ) → 2 ≤ k → k < 64 → has k (bit_or xcr0 s) ≡ true
-      → (row_in t (Place.extendedState k)).result ≡ (row_in u (Place.extendedState k)).result
+      → (row_in t (Place.extended_state k)).result ≡ (row_in u (Place.extended_state k)).result
 
 module _ (t u : CpuidResults) (xcr0 s : ℕ) (agree : StatesAgree t u xcr0 s) where
   abbrev T : Rows

@@ -29,10 +29,10 @@ pub record AgreesButEbx (r q : CpuidResult) : Type 0 where
 
 pub record TablesAgree (t u : CpuidResults) : Type 0 where
   pub present : (i : ℕ) → i < places → (row_in t i).present ≡ (row_in u i).present
-  pub version : VersionAgrees (row_in t Place.versionAndFeatures).result (row_in u Place.versionAndFeatures).result
-  pub state0 : AgreesButEbx (row_in t (Place.extendedState 0)).result (row_in u (Place.extendedState 0)).result
-  pub state1 : AgreesButEbx (row_in t (Place.extendedState 1)).result (row_in u (Place.extendedState 1)).result
-  pub elsewhere : (i : ℕ) → i < places → i ≢ Place.versionAndFeatures → i ≢ Place.extendedState 0 → i ≢ Place.extendedState 1
+  pub version : VersionAgrees (row_in t Place.version_and_features).result (row_in u Place.version_and_features).result
+  pub state0 : AgreesButEbx (row_in t (Place.extended_state 0)).result (row_in u (Place.extended_state 0)).result
+  pub state1 : AgreesButEbx (row_in t (Place.extended_state 1)).result (row_in u (Place.extended_state 1)).result
+  pub elsewhere : (i : ℕ) → i < places → i ≢ Place.version_and_features → i ≢ Place.extended_state 0 → i ≢ Place.extended_state 1
       → (row_in t i).result ≡ (row_in u i).result
   pub count : t.row_count ≡ u.row_count
   pub mask : t.max_extended_state ≡ u.max_extended_state

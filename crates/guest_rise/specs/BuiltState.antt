@@ -3,7 +3,8 @@ use Rattle.std.specs.Prelude.{◌≡◌, true, List, ℕ, ◌+◌, ◌-◌, ◌^
 use Rattle.std.proofs.Common.{sym, ap, ◌∙◌, arith}
 use Rattle.bits.specs.ChoiceLaws.{and_both}
 use Rattle.bits.specs.Bits.{has, Within}
-use Rattle.bits.specs.BitsLaws.{within_eq, within_trans, has_mono}
+use Rattle.bits.specs.BitsLaws.{within_eq, within_trans}
+use Rattle.bits.proofs.BitsLaws.{has_mono}
 use Rattle.x86defs.specs.declared.CpuidResult.{CpuidResult}
 use Rattle.masking.specs.Kept.{places}
 use Rattle.masking.specs.Place
@@ -16,7 +17,7 @@ use Rattle.checks.specs.ChecksLaws.{component_present}
 use Rattle.table.specs.declared.CpuidResults.{CpuidResults}
 use Rattle.finish.specs.Finish.{Rule, rule_at, settings, finish, finished}
 use Rattle.finish.specs.PlaceLaws.{always, component_rule}
-use Rattle.finish.specs.RemainsLaws.{component_finished}
+use Rattle.finish.proofs.RemainsLaws.{component_finished}
 use Rattle.table.specs.Table.{row_in, rows_of_table}
 use Rattle.build.specs.Build.{rows_for, answer}
 use Rattle.rise.specs.RiseProof.{answer_row}
@@ -25,7 +26,7 @@ use Rattle.rise.specs.BuiltLaws.{accepted_passes, area_fits, always_finished, re
 -- the rows that a guest's sizes read are there
 pub record Supplied (t : CpuidResults) : Type 0 where
   pub required : (i : ℕ) → i < places → always (rule_at i) ≡ true → (row_in t i).present ≡ true
-  pub components : (k : ℕ) → 2 ≤ k → k < 64 → has k (combined_mask (rows_of_table t)) ≡ true → (row_in t (Place.extendedState k)).present ≡ true
+  pub components : (k : ℕ) → 2 ≤ k → k < 64 → has k (combined_mask (rows_of_table t)) ≡ true → (row_in t (Place.extended_state k)).present ≡ true
 
 module _ (chosen : Choices) (s : List ℕ) (e : (answer chosen s).verdict ≡ Accepted) where
   abbrev m : Rows
@@ -34,22 +35,22 @@ module _ (chosen : Choices) (s : List ℕ) (e : (answer chosen s).verdict ≡ Ac
   abbrev t : CpuidResults
   t = (answer chosen s).table
 
-  component_in : (k : ℕ) → 2 ≤ k → k < 64 → has k (combined_mask m) ≡ true → (finished chosen.edition m (Place.extendedState k)).present ≡ true
+  component_in : (k : ℕ) → 2 ≤ k → k < 64 → has k (combined_mask m) ≡ true → (finished chosen.edition m (Place.extended_state k)).present ≡ true
   component_in k l u h = component_finished chosen.edition m k l u ∙ and_both h (component_present m (accepted_passes chosen s e).components k l u h)
 
   pub built_supplied : Supplied t
   built_supplied = record {
     required = λ i l f. ap (λ (r : Row). r.present) (answer_row chosen s e i l) ∙ always_finished chosen s e i l f;
     components = λ k l u h.
-        ap (λ (r : Row). r.present) (answer_row chosen s e (Place.extendedState k) (omega arith)) ∙ component_in k l u (ap (has k) (sym (built_mask chosen s e)) ∙ h);
+        ap (λ (r : Row). r.present) (answer_row chosen s e (Place.extended_state k) (omega arith)) ∙ component_in k l u (ap (has k) (sym (built_mask chosen s e)) ∙ h);
   }
 
   -- D.k of the table is the entry's
   component_kept : (k : ℕ) → 2 ≤ k → k < 64 → has k (combined_mask m) ≡ true
-      → (row_in t (Place.extendedState k)).result ≡ (m (Place.extendedState k)).result
+      → (row_in t (Place.extended_state k)).result ≡ (m (Place.extended_state k)).result
   component_kept k l u h =
-      result_at chosen s e (Place.extendedState k) (omega arith) (component_in k l u h)
-      ∙ ap (λ (q : Rule). finish (settings chosen.edition m) q (m (Place.extendedState k)).result) (component_rule k l u)
+      result_at chosen s e (Place.extended_state k) (omega arith) (component_in k l u h)
+      ∙ ap (λ (q : Rule). finish (settings chosen.edition m) q (m (Place.extended_state k)).result) (component_rule k l u)
 
   -- "D.0.EBX never overflows": over any mask within XFEM the size fits 32 bits
   pub built_fits : (x : ℕ) → Within x (xfem (rows_of_table t)) → save_area (rows_of_table t) x < 2 ^ 32

@@ -20,7 +20,7 @@ use Rattle.guest.specs.GuestPages.{guest_pages}
 
 -- whether D.1.EAX of a table has bit 1 or bit 3
 abbrev pub compacts_in : CpuidResults → Bool
-compacts_in t = compacts (row_in t (Place.extendedState 1)).result.eax
+compacts_in t = compacts (row_in t (Place.extended_state 1)).result.eax
 
 -- how the registers of two rows at a place compare, as tables do
 abbrev pub RowRises : ℕ → CpuidResult → CpuidResult → Type 0
@@ -30,11 +30,11 @@ RowRises i r s = Registers TableAtLeast (kinds_at i) r s
 -- D.1.EAX has neither bit, and then D.1's other registers compare as before
 pub record GuestTableRises (a b : CpuidResults) : Type 0 where
   pub rows : (i : ℕ) → i < places → (row_in a i).present ≡ true → (row_in b i).present ≡ true
-  pub registers : (i : ℕ) → i < places → (row_in a i).present ≡ true → (i ≡ Place.extendedState 1 → compacts_in a ≡ true)
+  pub registers : (i : ℕ) → i < places → (row_in a i).present ≡ true → (i ≡ Place.extended_state 1 → compacts_in a ≡ true)
       → RowRises i (row_in a i).result (row_in b i).result
-  pub xsave_eax : Within (row_in a (Place.extendedState 1)).result.eax (row_in b (Place.extendedState 1)).result.eax
-  pub xsave_ecx : Within (row_in a (Place.extendedState 1)).result.ecx (row_in b (Place.extendedState 1)).result.ecx
-  pub xsave_edx : (row_in a (Place.extendedState 1)).result.edx ≡ (row_in b (Place.extendedState 1)).result.edx
+  pub xsave_eax : Within (row_in a (Place.extended_state 1)).result.eax (row_in b (Place.extended_state 1)).result.eax
+  pub xsave_ecx : Within (row_in a (Place.extended_state 1)).result.ecx (row_in b (Place.extended_state 1)).result.ecx
+  pub xsave_edx : (row_in a (Place.extended_state 1)).result.edx ≡ (row_in b (Place.extended_state 1)).result.edx
   pub others : (i : ℕ) → i < places → (row_in b i).present ≡ true → ((row_in a i).present ≡ true) ⊎ Further a b i
   pub mask : Within a.max_extended_state b.max_extended_state
 

@@ -4,8 +4,5 @@ pub mod GuestExactly
 pub mod GuestRise
 pub mod BuiltState
 pub mod SeenRises
-pub mod GuestTablesRise
-pub mod GuestRiseProof
 pub mod GuestRisen
-pub mod GuestRisenProof
 pub mod GuestPreorder

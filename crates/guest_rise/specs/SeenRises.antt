@@ -6,7 +6,8 @@ use Rattle.std.specs.Int.Bits.{bit_or}
 use Rattle.bits.specs.Choice.{pick}
 use Rattle.bits.specs.ChoiceLaws.{never_both, and_left, and_right, and_both}
 use Rattle.bits.specs.Bits.{has, clear, Within}
-use Rattle.bits.specs.BitsLaws.{has_mono, within_or, within_and, within_refl, within_trans, clear_within, or_within_left}
+use Rattle.bits.specs.BitsLaws.{within_or, within_and, within_refl, within_trans, clear_within, or_within_left}
+use Rattle.bits.proofs.BitsLaws.{has_mono}
 use Rattle.x86defs.specs.declared.CpuidResult.{CpuidResult}
 use Rattle.masking.specs.Kept.{kept_leaves, slot}
 use Rattle.masking.specs.Place
@@ -34,43 +35,43 @@ osxsave_rises on {a} {b} h =
 -- ---- each of the five rows
 
 module _ (v : Processor) (r s : CpuidResult) where
-  version_rises : RowRises Place.versionAndFeatures r s → RowRises Place.versionAndFeatures (version_seen v r) (version_seen v s)
+  version_rises : RowRises Place.version_and_features r s → RowRises Place.version_and_features (version_seen v r) (version_seen v s)
   unfolding kinds_at register_kinds slot kept_leaves
   version_rises h = record { eax = h.eax; ebx = ap (number_seen v.x2apic) h.ebx; ecx = osxsave_rises v.osxsave h.ecx; edx = h.edx }
 
-  threads_rise : RowRises Place.threadLevel r s → RowRises Place.threadLevel (level_seen v r) (level_seen v s)
+  threads_rise : RowRises Place.thread_level r s → RowRises Place.thread_level (level_seen v r) (level_seen v s)
   unfolding kinds_at register_kinds slot kept_leaves
   threads_rise h = record { eax = h.eax; ebx = h.ebx; ecx = h.ecx; edx = refl }
 
-  cores_rise : RowRises Place.coreLevel r s → RowRises Place.coreLevel (level_seen v r) (level_seen v s)
+  cores_rise : RowRises Place.core_level r s → RowRises Place.core_level (level_seen v r) (level_seen v s)
   unfolding kinds_at register_kinds slot kept_leaves
   cores_rise h = record { eax = h.eax; ebx = h.ebx; ecx = h.ecx; edx = refl }
 
 module _ {a b : ℕ} (r s : CpuidResult) (e : a ≡ b) where
-  state0_rises : RowRises (Place.extendedState 0) r s → RowRises (Place.extendedState 0) (size_seen a r) (size_seen b s)
+  state0_rises : RowRises (Place.extended_state 0) r s → RowRises (Place.extended_state 0) (size_seen a r) (size_seen b s)
   unfolding kinds_at register_kinds slot kept_leaves
   state0_rises h = record { eax = h.eax; ebx = e; ecx = h.ecx; edx = h.edx }
 
-  state1_rises : RowRises (Place.extendedState 1) r s → RowRises (Place.extendedState 1) (size_seen a r) (size_seen b s)
+  state1_rises : RowRises (Place.extended_state 1) r s → RowRises (Place.extended_state 1) (size_seen a r) (size_seen b s)
   unfolding kinds_at register_kinds slot kept_leaves
   state1_rises h = record { eax = h.eax; ebx = e; ecx = h.ecx; edx = h.edx }
 
 -- ---- what D.0 and D.1 compare
 
 module _ (r s : CpuidResult) where
-  pub state0_eax : RowRises (Place.extendedState 0) r s → Within r.eax s.eax
+  pub state0_eax : RowRises (Place.extended_state 0) r s → Within r.eax s.eax
   unfolding kinds_at register_kinds slot kept_leaves
   state0_eax h = h.eax
 
-  pub state1_eax : RowRises (Place.extendedState 1) r s → Within r.eax s.eax
+  pub state1_eax : RowRises (Place.extended_state 1) r s → Within r.eax s.eax
   unfolding kinds_at register_kinds slot kept_leaves
   state1_eax h = h.eax
 
-  pub state1_ecx : RowRises (Place.extendedState 1) r s → Within r.ecx s.ecx
+  pub state1_ecx : RowRises (Place.extended_state 1) r s → Within r.ecx s.ecx
   unfolding kinds_at register_kinds slot kept_leaves
   state1_ecx h = h.ecx
 
-  pub state1_edx : RowRises (Place.extendedState 1) r s → r.edx ≡ s.edx
+  pub state1_edx : RowRises (Place.extended_state 1) r s → r.edx ≡ s.edx
   unfolding kinds_at register_kinds slot kept_leaves
   state1_edx h = h.edx
 
@@ -86,11 +87,11 @@ choose i k {r} {s} {f} {g} {h} {l} p q c = go (eqb i k) refl
     go false e = q
 
 -- the two sizes are asked to be equal where they are seen
-pub seen_rises : (v : Processor) {a b c d : ℕ} (i : ℕ) (r s : CpuidResult) → a ≡ b → (i ≡ Place.extendedState 1 → c ≡ d) → RowRises i r s
+pub seen_rises : (v : Processor) {a b c d : ℕ} (i : ℕ) (r s : CpuidResult) → a ≡ b → (i ≡ Place.extended_state 1 → c ≡ d) → RowRises i r s
     → RowRises i (seen_at v a c i (row r)) (seen_at v b d i (row s))
 seen_rises v i r s e f h =
-    choose i Place.versionAndFeatures (λ _. version_rises v r s)
-    (choose i Place.threadLevel (λ _. threads_rise v r s)
-    (choose i Place.coreLevel (λ _. cores_rise v r s)
-    (choose i (Place.extendedState 0) (λ _. state0_rises r s e)
-    (choose i (Place.extendedState 1) (λ q. state1_rises r s (f q)) h h) h) h) h) h
+    choose i Place.version_and_features (λ _. version_rises v r s)
+    (choose i Place.thread_level (λ _. threads_rise v r s)
+    (choose i Place.core_level (λ _. cores_rise v r s)
+    (choose i (Place.extended_state 0) (λ _. state0_rises r s e)
+    (choose i (Place.extended_state 1) (λ q. state1_rises r s (f q)) h h) h) h) h) h

@@ -22,7 +22,7 @@ EitherBit eax = (bit 1 eax ≡ 1) ⊎ (bit 3 eax ≡ 1)
 
 -- 14: "D.1.EAX has bit 1 or 3 and the D.1 size passes 32 bits"
 pub record SizeFault (m : Rows) (x s : ℕ) : Type 0 where
-  pub compacted : EitherBit (m (Place.extendedState 1)).result.eax
+  pub compacted : EitherBit (m (Place.extended_state 1)).result.eax
   pub large : 2 ^ 32 ≤ compact_size m (bit_or x s)
 
 -- each verdict with all that it says; the three exclude each other

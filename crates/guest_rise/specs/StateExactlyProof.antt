@@ -7,7 +7,8 @@ use Rattle.std.specs.Int.Bits.{bit_or}
 use borrow.Author.Tests.{eqb-true, eq-eqb, ltb-true, ltb-false}
 use Rattle.bits.specs.ChoiceLaws.{never_both, and_left, and_right, and_both, pick_true, pick_false}
 use Rattle.bits.specs.Bits.{has, Within}
-use Rattle.bits.specs.BitsLaws.{has_bit, bit_has, has_mono, within_of_and, and_of_within}
+use Rattle.bits.specs.BitsLaws.{has_bit, bit_has, within_of_and, and_of_within}
+use Rattle.bits.proofs.BitsLaws.{has_mono}
 use Rattle.masking.specs.Place
 use Rattle.table.specs.declared.Refusal.TheVariants.{StateBeyondTable, CompactSizeTooLarge}
 use Rattle.table.specs.declared.Verdict.TheVariants.{Accepted}
@@ -24,7 +25,7 @@ use Rattle.guest_rise.specs.StateExactly.StateAnswers.{beyond, large, given}
 
 -- ---- the tests
 
-test_allowed : (m : Rows) (x s : ℕ) → allowed (xfem m) (maxXss m) x s ≡ true → Allowed m x s
+pub test_allowed : (m : Rows) (x s : ℕ) → allowed (xfem m) (maxXss m) x s ≡ true → Allowed m x s
 unfolding allowed
 test_allowed m x s e =
     let f = and_right (has 0 x) _ e in
@@ -34,7 +35,7 @@ test_allowed m x s e =
       supervisor = within_of_and (eqb-true _ _ (and_right (within_test x (xfem m)) _ f));
     }
 
-allowed_test : (m : Rows) (x s : ℕ) → Allowed m x s → allowed (xfem m) (maxXss m) x s ≡ true
+pub allowed_test : (m : Rows) (x s : ℕ) → Allowed m x s → allowed (xfem m) (maxXss m) x s ≡ true
 unfolding allowed
 allowed_test m x s h =
     and_both (bit_has 0 _ h.x87) (and_both (eq-eqb _ _ (and_of_within h.user)) (eq-eqb _ _ (and_of_within h.supervisor)))
@@ -63,45 +64,3 @@ compacts_mono {x} {y} h e = go (test_either x e)
     go : EitherBit x → compacts y ≡ true
     go (inl f) = either_test y (inl (has_bit 1 y (has_mono 1 h (bit_has 1 x f))))
     go (inr f) = either_test y (inr (has_bit 3 y (has_mono 3 h (bit_has 3 x f))))
-
--- ---- the verdict
-
-module _ (m : Rows) (x s : ℕ) where
-  size_answers : Allowed m x s → (b c : Bool) → compacts (m (Place.extendedState 1)).result.eax ≡ b → ltb (compact_register m x s) (2 ^ 32) ≡ c
-      → StateAnswers m x s (refuse_unless c CompactSizeTooLarge)
-  unfolding compact_register
-  size_answers h b true e f =
-      given h
-      (λ q. absurd (let z : compact_register m x s ≡ compact_size m (bit_or x s) = pick_true _ _ (either_test _ q.compacted) in
-      omega (arith, q.large, ltb-true (compact_register m x s) (2 ^ 32) f)))
-      refl
-  size_answers h true false e f =
-      let z : compact_register m x s ≡ compact_size m (bit_or x s) = pick_true _ _ e in
-      large h (record { compacted = test_either _ e; large = omega (arith, ltb-false (compact_register m x s) (2 ^ 32) f) }) refl
-  size_answers h false false e f =
-      absurd (let z : compact_register m x s ≡ 0 = pick_false _ _ e in omega (arith, ltb-false (compact_register m x s) (2 ^ 32) f))
-
-  pub state_answers : StateAnswers m x s (state_verdict m x s)
-  unfolding state_verdict allowed_verdict compact_verdict
-  state_answers = go (allowed (xfem m) (maxXss m) x s) refl
-    where
-      go : (b : Bool) → allowed (xfem m) (maxXss m) x s ≡ b → StateAnswers m x s (and_then (refuse_unless b StateBeyondTable) (compact_verdict m x s))
-      go true e = size_answers (test_allowed m x s e) _ _ refl refl
-      go false e = beyond (λ h. never_both (allowed_test m x s h) e) refl
-
-  -- a given view allows its states, and has no size that is too large
-  pub given_allowed : state_verdict m x s ≡ Accepted → Allowed m x s
-  given_allowed g = go state_answers
-    where
-      go : StateAnswers m x s (state_verdict m x s) → Allowed m x s
-      go (beyond f e) = absurd (let z : ◌≡◌ {A = ℕ} 0 1 = cc in omega arith)
-      go (large h f e) = h
-      go (given h f e) = h
-
-  pub given_fits : state_verdict m x s ≡ Accepted → SizeFault m x s → ⊥
-  given_fits g = go state_answers
-    where
-      go : StateAnswers m x s (state_verdict m x s) → SizeFault m x s → ⊥
-      go (beyond f e) q = absurd (let z : ◌≡◌ {A = ℕ} 0 1 = cc in omega arith)
-      go (large h f e) q = absurd (let z : ◌≡◌ {A = ℕ} 0 1 = cc in omega arith)
-      go (given h f e) q = f q

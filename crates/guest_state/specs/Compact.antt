@@ -23,7 +23,7 @@ placed false r n = n
 -- the area over the subleaves below n that a mask has
 unfoldable pub compact_below : Rows → ℕ → ℕ → ℕ
 compact_below m x zero = 576
-compact_below m x (suc k) = placed (leb 2 k && has k x) (m (Place.extendedState k)).result (compact_below m x k)
+compact_below m x (suc k) = placed (leb 2 k && has k x) (m (Place.extended_state k)).result (compact_below m x k)
 
 abbrev pub compact_size : Rows → ℕ → ℕ
 compact_size m x = compact_below m x 64

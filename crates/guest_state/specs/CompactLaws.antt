@@ -22,7 +22,7 @@ module _ (r : CpuidResult) (n : ℕ) where
   unfolding placed component_start
   placed_packed f = rw f
 
-  placed_unused : {used : Bool} → used ≡ false → n ≡ placed used r n
+  pub placed_unused : {used : Bool} → used ≡ false → n ≡ placed used r n
   unfolding placed
   placed_unused e = rw e
 
@@ -32,24 +32,10 @@ pub compact_starts : (m : Rows) (x : ℕ) → ◌≡◌ {A = ℕ} 576 (compact_b
 unfolding compact_below placed
 compact_starts m x = refl
 
-compact_next : (m : Rows) (x k : ℕ) {n s : ℕ} → 2 ≤ k → n ≡ compact_below m x k → has k x ≡ true
-    → s ≡ placed true (m (Place.extendedState k)).result n → s ≡ compact_below m x (k + 1)
+pub compact_next : (m : Rows) (x k : ℕ) {n s : ℕ} → 2 ≤ k → n ≡ compact_below m x k → has k x ≡ true
+    → s ≡ placed true (m (Place.extended_state k)).result n → s ≡ compact_below m x (k + 1)
 unfolding compact_below
 compact_next m x k l e f g = g ∙ rw (e, add-one, compact_below, le-leb 2 k l, f)
-
--- no bit from k up to n: nothing is added
-compact_stays : (m : Rows) (x k n : ℕ) → k ≤ n → ((j : ℕ) → k ≤ j → j < n → has j x ≡ false) → compact_below m x n ≡ compact_below m x k
-unfolding compact_below
-compact_stays m x k zero h f = let q : 0 ≡ k = omega arith in ap (compact_below m x) q
-compact_stays m x k (suc n) h f =
-    elim (eq-or-lt_of_le h) [
-      | inl q ↦ sym (ap (compact_below m x) q)
-      | inr q ↦ step (leb 2 n) (f n (omega arith) (omega arith)) ∙ compact_stays m x k n (omega arith) (λ j l u. f j l (omega arith))
-    ]
-  where
-    step : (b : Bool) → has n x ≡ false → placed (b && has n x) (m (Place.extendedState n)).result (compact_below m x n) ≡ compact_below m x n
-    step true e = sym (placed_unused _ _ e)
-    step false e = sym (placed_unused _ _ refl)
 
 -- the bits of the mask from bit k up are left, and the size is that of the subleaves below k: at most 576 and 2^33 for each
 pub record Placing (m : Rows) (x size rest : ℕ) : Type 0 where
@@ -60,46 +46,9 @@ pub record Placing (m : Rows) (x size rest : ℕ) : Type 0 where
   pub most : size ≤ 576 + k * 2 ^ 33
   pub left : Left x rest k
 
-module _ (m : Rows) (x : ℕ) where
-  pub placing_starts : {rest : ℕ} → Left x rest 2 → Placing m x 576 rest
-  placing_starts l = record { k = 2; low = omega arith; high = omega arith; area = compact_starts m x; most = omega arith; left = l }
-
-  module _ {size rest : ℕ} (p : Placing m x size rest) where
-    pub placing_small : size < 2 ^ 40
-    placing_small = omega (arith, p.most, p.high)
-
-    pub placing_taken : ¬ (rest ≡ 0) → Taken x rest p.k (count_trailing_zeros 64 rest)
-    placing_taken e = left_taken p.left e
-
-    pub placing_next : {s : ℕ} → ¬ (rest ≡ 0) → s ≡ placed true (m (Place.extendedState (count_trailing_zeros 64 rest))).result size → s ≤ size + 2 ^ 33
-        → Placing m x s (bit_and rest (rest - 1))
-    placing_next {s} n e l =
-        let t : Taken x rest p.k (count_trailing_zeros 64 rest) = placing_taken n in
-        record {
-          k = count_trailing_zeros 64 rest + 1;
-          low = omega (arith, t.from, p.low);
-          high = omega (arith, t.inside);
-          area = compact_next m x (count_trailing_zeros 64 rest) (omega (arith, t.from, p.low))
-              (p.area ∙ sym (compact_stays m x p.k (count_trailing_zeros 64 rest) t.from t.between)) t.here e;
-          most = omega (arith, p.most, t.from);
-          left = t.next;
-        }
-
-    pub placing_ends : rest ≡ 0 → size ≡ compact_size m x
-    placing_ends e = p.area ∙ sym (compact_stays m x p.k 64 p.high (λ j a b. left_none p.left e j a))
-
 -- ---- only the subleaves of the mask matter
 
-placed_same : (used : Bool) {r s : CpuidResult} (n : ℕ) → (used ≡ true → r ≡ s) → placed used r n ≡ placed used s n
+pub placed_same : (used : Bool) {r s : CpuidResult} (n : ℕ) → (used ≡ true → r ≡ s) → placed used r n ≡ placed used s n
 unfolding placed
 placed_same true n f = ap (λ r. placed true r n) (f refl)
 placed_same false n f = refl
-
-pub compact_same : (A B : Rows) (x n : ℕ)
-    → ((k : ℕ) → 2 ≤ k → k < n → has k x ≡ true → (A (Place.extendedState k)).result ≡ (B (Place.extendedState k)).result)
-    → compact_below A x n ≡ compact_below B x n
-unfolding compact_below
-compact_same A B x zero f = refl
-compact_same A B x (suc k) f =
-    ap (placed (leb 2 k && has k x) (A (Place.extendedState k)).result) (compact_same A B x k (λ j l u. f j l (omega arith)))
-    ∙ placed_same (leb 2 k && has k x) (compact_below B x k) (λ e. f k (leb-true 2 k (and_left _ _ e)) (omega arith) (and_right (leb 2 k) _ e))

@@ -13,7 +13,6 @@ use Rattle.table.specs.Table as Tables
 use Rattle.memory.specs.Memory.{is_there, row_of, rows_in}
 use Rattle.memory.specs.Held.{held_in, whole_row_lem}
 use Rattle.guest_state.specs.State.{save_register, compact_register, state_verdict}
-use Rattle.guest_state.specs.StateLaws.{save_of_state, compact_of_state, verdict_of_state}
 use Rattle.rows.specs.Checked.{registers_in}
 use Rattle.guest_state.specs.declared.InUse.{InUse}
 use Rattle.guest_state.specs.declared.InUse.TheVariants.{Refused as NotGiven, Compacted}
@@ -73,18 +72,3 @@ module _ (w o : List ℕ) (i : ℕ) {q : CpuidResult} where
 
   pub read_any : {own : Bool} → own ≡ false → q ≡ row_of w i → q ≡ (read_rows own w o i).result
   read_any e h = h ∙ rw e
-
--- ---- the table that the memory holds: verdict and sizes need no length of the memory
-
-module _ (w o : List ℕ) where
-  same : (k : ℕ) → k < 64 → (Tables.rowsOfTable (held_in w o) (Place.extendedState k)).result ≡ (rows_in w o (Place.extendedState k)).result
-  same k h = ap (λ (r : Row). r.result) (whole_row_lem (rows_in w o) (Place.extendedState k) (omega arith))
-
-  pub held_verdict : (x s : ℕ) → state_verdict (Tables.rowsOfTable (held_in w o)) x s ≡ state_verdict (read_rows false w o) x s
-  held_verdict x s = verdict_of_state (Tables.rowsOfTable (held_in w o)) (read_rows false w o) same x s
-
-  pub held_compact : (x s : ℕ) → compact_register (Tables.rowsOfTable (held_in w o)) x s ≡ compact_register (read_rows false w o) x s
-  held_compact x s = compact_of_state (Tables.rowsOfTable (held_in w o)) (read_rows false w o) same x s
-
-  pub held_save : (x : ℕ) → save_register (Tables.rowsOfTable (held_in w o)) x ≡ save_register (registers_in w) x
-  held_save x = save_of_state (Tables.rowsOfTable (held_in w o)) (registers_in w) same x 0

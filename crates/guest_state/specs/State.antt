@@ -5,7 +5,7 @@ use Rattle.std.specs.Int.Bits.{bit_and, bit_or}
 use Rattle.bits.specs.Choice.{pick}
 use Rattle.bits.specs.Bits.{has}
 use Rattle.x86defs.specs.ExtendedStateEnumerationSubleaf1Eax as Subleaf1Eax
-use Rattle.x86defs.specs.ExtendedStateEnumerationSubleaf1Eax.ExtendedStateEnumerationSubleaf1Eax.{xsave-c, xsave-s}
+use Rattle.x86defs.specs.ExtendedStateEnumerationSubleaf1Eax.ExtendedStateEnumerationSubleaf1Eax.{xsave_c, xsave_s}
 use Rattle.masking.specs.Place
 use Rattle.table.specs.declared.Refusal.TheVariants.{StateBeyondTable, CompactSizeTooLarge}
 use Rattle.table.specs.declared.Verdict.{Verdict}
@@ -23,11 +23,11 @@ save_register m xcr0 = min (save_area m xcr0) (2 ^ 32 - 1)
 
 -- "D.1.EAX has bit 1 or 3"
 unfoldable pub compacts : ℕ → Bool
-compacts eax = has (Subleaf1Eax.position xsave-c) eax || has (Subleaf1Eax.position xsave-s) eax
+compacts eax = has (Subleaf1Eax.position xsave_c) eax || has (Subleaf1Eax.position xsave_s) eax
 
 -- D.1.EBX: the compacted size over "XCR0 or XSS"; "it is 0 if D.1.EAX has neither bit 1 nor bit 3"
 unfoldable pub compact_register : Rows → ℕ → ℕ → ℕ
-compact_register m xcr0 xss = pick (compacts (m (Place.extendedState 1)).result.eax) (compact_size m (bit_or xcr0 xss)) 0
+compact_register m xcr0 xss = pick (compacts (m (Place.extended_state 1)).result.eax) (compact_size m (bit_or xcr0 xss)) 0
 
 -- ---- the refusals
 

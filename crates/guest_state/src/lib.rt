@@ -1,5 +1,7 @@
 // Extended state in use, over a table in lent memory: whether the table allows an XCR0 and XSS (refusals 13 and 14), the compacted size and the size
 // of the save area.
+#![tactic(auto)]
+
 ghost use Rattle.std.specs.Prelude.{◌≡◌, true, ◌+◌, ◌≤◌, ◌<◌, ◌^◌};
 ghost use Rattle.masking.specs.Kept.{places};
 ghost use Rattle.rows.specs.Checked.{registers_in};
@@ -21,7 +23,7 @@ const HEADER_END: u64 = 576;
 const LARGEST: u64 = 0xFFFFFFFF;
 
 // Refused by 13 or 14, or allowed, with the compacted size (D.1.EBX).
-#[derive(Drop)]
+#[derive(Clone, Copy)]
 pub enum InUse {
     Refused(Refusal),
     Compacted(u32),

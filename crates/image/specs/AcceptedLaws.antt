@@ -30,7 +30,7 @@ use Rattle.image.specs.RowsPresent.{stands, component_stands, row_stands}
 -- ---- a table whose rows are those that stand under x
 
 -- rows 7.0 to D.63
-indexed_sum : (x : ℕ) → sum_to (λ k. one (stands x (Place.extendedFeatures + k))) 67 ≡ 5 + sum_to (λ k. one (has (2 + k) x)) 62
+indexed_sum : (x : ℕ) → sum_to (λ k. one (stands x (Place.extended_features + k))) 67 ≡ 5 + sum_to (λ k. one (has (2 + k) x)) 62
 unfolding sum_to
 indexed_sum x = omega arith
 
@@ -39,24 +39,24 @@ module _ (t : CpuidResults) (x : ℕ) (standing : (i : ℕ) → i < places → g
   unfolding rows_among
   among first end h = sum_ext _ _ (end - first) (λ k l. ap one (standing (first + k) (omega arith)))
 
-  basic : rows_among t.present 0 Place.extendedFeatures ≡ 3
+  basic : rows_among t.present 0 Place.extended_features ≡ 3
   unfolding sum_to
-  basic = among 0 Place.extendedFeatures (omega arith)
+  basic = among 0 Place.extended_features (omega arith)
 
-  indexed : rows_among t.present Place.extendedFeatures Place.extendedMaxFunction ≡ 5 + sum_to (λ k. one (has (2 + k) x)) 62
-  indexed = among Place.extendedFeatures Place.extendedMaxFunction (omega arith) ∙ indexed_sum x
+  indexed : rows_among t.present Place.extended_features Place.extended_max_function ≡ 5 + sum_to (λ k. one (has (2 + k) x)) 62
+  indexed = among Place.extended_features Place.extended_max_function (omega arith) ∙ indexed_sum x
 
-  extended : rows_among t.present Place.extendedMaxFunction (Place.cacheTopology 0) ≡ 12
+  extended : rows_among t.present Place.extended_max_function (Place.cache_topology 0) ≡ 12
   unfolding sum_to
-  extended = among Place.extendedMaxFunction (Place.cacheTopology 0) (omega arith)
+  extended = among Place.extended_max_function (Place.cache_topology 0) (omega arith)
 
-  caches : rows_among t.present (Place.cacheTopology 0) Place.processorTopologyDefinition ≡ 4
+  caches : rows_among t.present (Place.cache_topology 0) Place.processor_topology_definition ≡ 4
   unfolding sum_to
-  caches = among (Place.cacheTopology 0) Place.processorTopologyDefinition (omega arith)
+  caches = among (Place.cache_topology 0) Place.processor_topology_definition (omega arith)
 
-  last : rows_among t.present Place.processorTopologyDefinition places ≡ 2
+  last : rows_among t.present Place.processor_topology_definition places ≡ 2
   unfolding sum_to
-  last = among Place.processorTopologyDefinition places (omega arith)
+  last = among Place.processor_topology_definition places (omega arith)
 
   -- how many bytes its image has
   pub standing_length : length (image t) ≡ 582 + 25 * sum_to (λ k. one (has (2 + k) x)) 62
@@ -93,8 +93,8 @@ module _ (chosen : Choices) (s : List ℕ) {v : Verdict} {w o : List ℕ} (k : I
   pub accepted_components : Components o x
   accepted_components = record {
     there = λ j low high.
-        sym (flag_at o (Place.extendedState j) (omega arith))
-        ∙ stands_held (Place.extendedState j) (omega arith)
+        sym (flag_at o (Place.extended_state j) (omega arith))
+        ∙ stands_held (Place.extended_state j) (omega arith)
         ∙ component_stands x j low high;
   }
 

@@ -6,4 +6,4 @@ use Rattle.memory.specs.Memory.{is_there}
 
 -- x tells which components have a row in memory with origins o; its bits 0 and 1 tell nothing
 pub record Components (o : List ℕ) (x : ℕ) : Type 0 where
-  pub there : (k : ℕ) → 2 ≤ k → k < 64 → is_there (get_or o (Place.extendedState k) 0) ≡ has k x
+  pub there : (k : ℕ) → 2 ≤ k → k < 64 → is_there (get_or o (Place.extended_state k) 0) ≡ has k x

@@ -25,7 +25,7 @@ one_bit_lem k n = go (has k n) refl
 
 -- x has the bits of the subleaves from k up
 pub record Gathered (o : List ℕ) (k x : ℕ) : Type 0 where
-  pub bits : (j : ℕ) → k + j < 64 → has j x ≡ is_there (get_or o (Place.extendedState (k + j)) 0)
+  pub bits : (j : ℕ) → k + j < 64 → has j x ≡ is_there (get_or o (Place.extended_state (k + j)) 0)
   pub fits : x < 2 ^ (64 - k)
 
 pub gathered_none : (o : List ℕ) → Gathered o 64 0
@@ -50,14 +50,14 @@ module _ (x : ℕ) (b : Bool) where
       rw (bit_suc j (2 * x + bool_byte b), half)
 
 pub gathered_next : {o : List ℕ} {k x : ℕ} {b : Bool} → Gathered o k x → 0 < k → k ≤ 64
-    → b ≡ is_there (get_or o (Place.extendedState (k - 1)) 0) → Gathered o (k - 1) (2 * x + bool_byte b)
+    → b ≡ is_there (get_or o (Place.extended_state (k - 1)) 0) → Gathered o (k - 1) (2 * x + bool_byte b)
 gathered_next {o} {k} {x} {b} g low high e = record { bits = bits; fits = fits }
   where
-    bits : (j : ℕ) → k - 1 + j < 64 → has j (2 * x + bool_byte b) ≡ is_there (get_or o (Place.extendedState (k - 1 + j)) 0)
-    bits zero h = let q : k - 1 + 0 ≡ k - 1 = omega arith in last x b ∙ e ∙ ap (λ (i : ℕ). is_there (get_or o (Place.extendedState i) 0)) (sym q)
+    bits : (j : ℕ) → k - 1 + j < 64 → has j (2 * x + bool_byte b) ≡ is_there (get_or o (Place.extended_state (k - 1 + j)) 0)
+    bits zero h = let q : k - 1 + 0 ≡ k - 1 = omega arith in last x b ∙ e ∙ ap (λ (i : ℕ). is_there (get_or o (Place.extended_state i) 0)) (sym q)
     bits (suc j) h =
         let q : k - 1 + suc j ≡ k + j = omega arith in
-        others x b j ∙ g.bits j (omega arith) ∙ ap (λ (i : ℕ). is_there (get_or o (Place.extendedState i) 0)) (sym q)
+        others x b j ∙ g.bits j (omega arith) ∙ ap (λ (i : ℕ). is_there (get_or o (Place.extended_state i) 0)) (sym q)
 
     fits : 2 * x + bool_byte b < 2 ^ (64 - (k - 1))
     fits = let q : 64 - (k - 1) ≡ suc (64 - k) = omega arith in rw q (omega (arith, g.fits, byte_le b))

@@ -47,14 +47,14 @@ among_split p first i (suc n) h =
 
 -- the components, by the ones of the word that tells which of them have a row
 components_among : (o : List ℕ) (x : ℕ) → Components o x → x < 2 ^ 64
-    → rows_among (flags o) (Place.extendedState 2) Place.extendedMaxFunction ≡ ones (x / 2 ^ 2)
+    → rows_among (flags o) (Place.extended_state 2) Place.extended_max_function ≡ ones (x / 2 ^ 2)
 unfolding rows_among
 components_among o x c h = sum_ext _ _ 62 (λ k l. ap one (at k l)) ∙ sym (ones_sum x h)
   where
-    at : (k : ℕ) → k < 62 → get_or (flags o) (Place.extendedState 2 + k) false ≡ has (2 + k) x
+    at : (k : ℕ) → k < 62 → get_or (flags o) (Place.extended_state 2 + k) false ≡ has (2 + k) x
     at k l =
-        let q : Place.extendedState 2 + k ≡ Place.extendedState (2 + k) = omega arith in
-        rw q (flag_at o (Place.extendedState (2 + k)) (omega arith) ∙ c.there (2 + k) (omega arith) (omega arith))
+        let q : Place.extended_state 2 + k ≡ Place.extended_state (2 + k) = omega arith in
+        rw q (flag_at o (Place.extended_state (2 + k)) (omega arith) ∙ c.there (2 + k) (omega arith) (omega arith))
 
 -- ---- how many bytes
 
@@ -92,22 +92,22 @@ module _ (t : CpuidResults) where
   pub image_length :
       length (image t)
       ≡ 21
-      * (rows_among t.present 0 Place.extendedFeatures
-      + rows_among t.present Place.extendedMaxFunction (Place.cacheTopology 0)
-      + rows_among t.present Place.processorTopologyDefinition places)
+      * (rows_among t.present 0 Place.extended_features
+      + rows_among t.present Place.extended_max_function (Place.cache_topology 0)
+      + rows_among t.present Place.processor_topology_definition places)
       + 25
-      * (rows_among t.present Place.extendedFeatures Place.extendedMaxFunction
-      + rows_among t.present (Place.cacheTopology 0) Place.processorTopologyDefinition)
+      * (rows_among t.present Place.extended_features Place.extended_max_function
+      + rows_among t.present (Place.cache_topology 0) Place.processor_topology_definition)
   unfolding rows_among slot kept_leaves
   image_length =
       omega (
         arith,
         ap length (rows_all t),
-        stretch 21 0 Place.extendedFeatures (lit≤ tt) refl,
-        stretch 25 Place.extendedFeatures 67 (lit≤ tt) refl,
-        stretch 21 Place.extendedMaxFunction 12 (lit≤ tt) refl,
-        stretch 25 (Place.cacheTopology 0) 4 (lit≤ tt) refl,
-        stretch 21 Place.processorTopologyDefinition 2 (lit≤ tt) refl,
+        stretch 21 0 Place.extended_features (lit≤ tt) refl,
+        stretch 25 Place.extended_features 67 (lit≤ tt) refl,
+        stretch 21 Place.extended_max_function 12 (lit≤ tt) refl,
+        stretch 25 (Place.cache_topology 0) 4 (lit≤ tt) refl,
+        stretch 21 Place.processor_topology_definition 2 (lit≤ tt) refl,
         ap length (rows_none t),
       )
 
@@ -115,17 +115,17 @@ module _ (t : CpuidResults) where
 pub components_length : (w o : List ℕ) (x : ℕ) → Components o x → x < 2 ^ 64
     → length (image (held_in w o))
     ≡ 21
-    * (rows_among (flags o) 0 Place.extendedFeatures
-    + rows_among (flags o) Place.extendedMaxFunction (Place.cacheTopology 0)
-    + rows_among (flags o) Place.processorTopologyDefinition places)
+    * (rows_among (flags o) 0 Place.extended_features
+    + rows_among (flags o) Place.extended_max_function (Place.cache_topology 0)
+    + rows_among (flags o) Place.processor_topology_definition places)
     + 25
-    * (rows_among (flags o) Place.extendedFeatures (Place.extendedState 2)
-    + rows_among (flags o) (Place.cacheTopology 0) Place.processorTopologyDefinition
+    * (rows_among (flags o) Place.extended_features (Place.extended_state 2)
+    + rows_among (flags o) (Place.cache_topology 0) Place.processor_topology_definition
     + ones (x / 2 ^ 2))
 components_length w o x c h =
     omega (
       arith,
       image_length (held_in w o),
-      among_split (flags o) Place.extendedFeatures (Place.extendedState 2) 62 (lit≤ tt),
+      among_split (flags o) Place.extended_features (Place.extended_state 2) 62 (lit≤ tt),
       components_among o x c h,
     )

@@ -59,7 +59,7 @@ onward_skip p e = record { kept = p.kept; room = rw (← e) p.room; bytes = rw (
 
 abbrev states : Run
 states = record {
-  first = Place.extendedState 0;
+  first = Place.extended_state 0;
   count = 64;
   leaf = ExtendedStateEnumeration;
   indexed = true;
@@ -77,7 +77,7 @@ pub record Putting (w o : List ℕ) (x : ℕ) (out₀ : List ℕ) (at₀ : ℕ) 
   pub low : 2 ≤ upto
   pub high : upto ≤ 64
   pub bits : Left x left upto
-  pub onward : Onward (rows_from (held_in w o)) out₀ at₀ (Place.extendedState 2) out at (Place.extendedState upto)
+  pub onward : Onward (rows_from (held_in w o)) out₀ at₀ (Place.extended_state 2) out at (Place.extended_state upto)
 
 module _ (w o : List ℕ) (x : ℕ) (c : Components o x) {out₀ : List ℕ} {at₀ : ℕ} where
   pub putting_starts : {left : ℕ} → Left x left 2 → Putting w o x out₀ at₀ out₀ at₀ left
@@ -86,18 +86,18 @@ module _ (w o : List ℕ) (x : ℕ) (c : Components o x) {out₀ : List ℕ} {at
   module _ {out : List ℕ} {at left : ℕ} (p : Putting w o x out₀ at₀ out at left) where
     -- the places from where writing stands up to a component before which there is none
     skipped : (z : ℕ) → p.upto ≤ z → z ≤ 64 → ((j : ℕ) → p.upto ≤ j → j < z → has j x ≡ false)
-        → rows_from (held_in w o) (Place.extendedState p.upto) ≡ rows_from (held_in w o) (Place.extendedState z)
+        → rows_from (held_in w o) (Place.extended_state p.upto) ≡ rows_from (held_in w o) (Place.extended_state z)
     skipped z from high none =
-        let e : Place.extendedState p.upto + (z - p.upto) ≡ Place.extendedState z = omega arith in
-        rows_skip w o (Place.extendedState p.upto) (z - p.upto) (omega (arith, from)) absent ∙ ap (rows_from (held_in w o)) e
+        let e : Place.extended_state p.upto + (z - p.upto) ≡ Place.extended_state z = omega arith in
+        rows_skip w o (Place.extended_state p.upto) (z - p.upto) (omega (arith, from)) absent ∙ ap (rows_from (held_in w o)) e
       where
-        absent : (i : ℕ) → Place.extendedState p.upto ≤ i → i < Place.extendedState p.upto + (z - p.upto) → is_there (get_or o i 0) ≡ false
+        absent : (i : ℕ) → Place.extended_state p.upto ≤ i → i < Place.extended_state p.upto + (z - p.upto) → is_there (get_or o i 0) ≡ false
         absent i a b =
-            let e : Place.extendedState (i - Place.extendedState 0) ≡ i = omega arith in
-            rw e at (c.there (i - Place.extendedState 0) (omega (arith, p.low)) (omega arith))
-            ∙ none (i - Place.extendedState 0) (omega arith) (omega (arith, from))
+            let e : Place.extended_state (i - Place.extended_state 0) ≡ i = omega arith in
+            rw e at (c.there (i - Place.extended_state 0) (omega (arith, p.low)) (omega arith))
+            ∙ none (i - Place.extended_state 0) (omega arith) (omega (arith, from))
 
-    pub putting_ends : left ≡ 0 → Onward (rows_from (held_in w o)) out₀ at₀ (Place.extendedState 2) out at Place.extendedMaxFunction
+    pub putting_ends : left ≡ 0 → Onward (rows_from (held_in w o)) out₀ at₀ (Place.extended_state 2) out at Place.extended_max_function
     putting_ends none = onward_skip p.onward (skipped 64 p.high (omega arith) (λ j a b. left_none p.bits none j a))
 
     module _ (some : ¬ (left ≡ 0)) where
@@ -108,36 +108,36 @@ module _ (w o : List ℕ) (x : ℕ) (c : Components o x) {out₀ : List ℕ} {at
       z = count_trailing_zeros 64 left
 
       -- the row of the lowest component that is left comes first of those that are left
-      component_more : {r : CpuidResult} → r ≡ row_of w (Place.extendedState z)
-          → rows_from (held_in w o) (Place.extendedState z)
-          ≡ indexed_row ExtendedStateEnumeration z r ++ rows_from (held_in w o) (Place.extendedState z + 1)
+      component_more : {r : CpuidResult} → r ≡ row_of w (Place.extended_state z)
+          → rows_from (held_in w o) (Place.extended_state z)
+          ≡ indexed_row ExtendedStateEnumeration z r ++ rows_from (held_in w o) (Place.extended_state z + 1)
       component_more {r} e =
-          let there : true ≡ is_there (get_or o (Place.extendedState z) 0) =
+          let there : true ≡ is_there (get_or o (Place.extended_state z) 0) =
           sym (c.there z (omega (arith, p.low, putting_taken.from)) putting_taken.inside ∙ putting_taken.here) in
           run_more w o states states_lawful z putting_taken.inside there e
-          ∙ ap (λ (bytes : List ℕ). bytes ++ rows_from (held_in w o) (Place.extendedState z + 1)) (run_indexed states z r refl refl)
+          ∙ ap (λ (bytes : List ℕ). bytes ++ rows_from (held_in w o) (Place.extended_state z + 1)) (run_indexed states z r refl refl)
 
-      here : Onward (rows_from (held_in w o)) out₀ at₀ (Place.extendedState 2) out at (Place.extendedState z)
+      here : Onward (rows_from (held_in w o)) out₀ at₀ (Place.extended_state 2) out at (Place.extended_state z)
       here = onward_skip p.onward (skipped z putting_taken.from (omega (arith, putting_taken.inside)) putting_taken.between)
 
-      pub putting_room : at₀ + length (rows_from (held_in w o) (Place.extendedState 2)) ≤ length out₀ → at + 25 ≤ length out
+      pub putting_room : at₀ + length (rows_from (held_in w o) (Place.extended_state 2)) ≤ length out₀ → at + 25 ≤ length out
       putting_room h =
-          let r : CpuidResult = row_of w (Place.extendedState z) in
+          let r : CpuidResult = row_of w (Place.extended_state z) in
           omega (
             arith,
-            piece_room (rows_from (held_in w o)) (indexed_row ExtendedStateEnumeration z r) (Place.extendedState z) (component_more refl),
+            piece_room (rows_from (held_in w o)) (indexed_row ExtendedStateEnumeration z r) (Place.extended_state z) (component_more refl),
             indexed_length ExtendedStateEnumeration z r,
             here.room,
             here.kept,
           )
 
-      pub putting_next : {r : CpuidResult} {out' : List ℕ} → r ≡ row_of w (Place.extendedState z)
+      pub putting_next : {r : CpuidResult} {out' : List ℕ} → r ≡ row_of w (Place.extended_state z)
           → out' ≡ sets out at (indexed_row ExtendedStateEnumeration z r)
           → Putting w o x out₀ at₀ out' (at + 25) (bit_and left (left - 1))
       putting_next {r} {out'} e f =
           let row : List ℕ = indexed_row ExtendedStateEnumeration z r in
-          let on = onward_piece (rows_from (held_in w o)) row (Place.extendedState z) (component_more e) out out' at f in
-          let one : Place.extendedState (z + 1) ≡ Place.extendedState z + 1 = omega arith in
+          let on = onward_piece (rows_from (held_in w o)) row (Place.extended_state z) (component_more e) out out' at f in
+          let one : Place.extended_state (z + 1) ≡ Place.extended_state z + 1 = omega arith in
           record {
             upto = z + 1;
             low = omega (arith, p.low, putting_taken.from);

@@ -20,24 +20,24 @@ use Rattle.checks.specs.ChecksLaws.{AllPass, required_present, component_present
 
 -- D.k, k from 2 up
 abbrev component : ℕ → Bool
-component i = leb (Place.extendedState 2) i && ltb i (Place.extendedState 64)
+component i = leb (Place.extended_state 2) i && ltb i (Place.extended_state 64)
 
 -- whether a table with combined mask x has a row at place i
 abbrev pub stands : ℕ → ℕ → Bool
-stands x i = pick (component i) (has (i - Place.extendedState 0) x) true
+stands x i = pick (component i) (has (i - Place.extended_state 0) x) true
 
-pub component_stands : (x k : ℕ) → 2 ≤ k → k < 64 → stands x (Place.extendedState k) ≡ has k x
+pub component_stands : (x k : ℕ) → 2 ≤ k → k < 64 → stands x (Place.extended_state k) ≡ has k x
 component_stands x k low high =
-    let back : Place.extendedState k - Place.extendedState 0 ≡ k = omega arith in
+    let back : Place.extended_state k - Place.extended_state 0 ≡ k = omega arith in
     rw (
-      le-leb (Place.extendedState 2) (Place.extendedState k) (omega arith),
-      lt-ltb (Place.extendedState k) (Place.extendedState 64) (omega arith),
+      le-leb (Place.extended_state 2) (Place.extended_state k) (omega arith),
+      lt-ltb (Place.extended_state k) (Place.extended_state 64) (omega arith),
       back,
     )
 
 -- what remains, for any entries
 abbrev kept : ℕ → (ℕ → Bool) → ℕ → Bool
-kept x p i = pick (component i) (has (i - Place.extendedState 0) x && p i) (made_here i || p i)
+kept x p i = pick (component i) (has (i - Place.extended_state 0) x && p i) (made_here i || p i)
 
 remains_at : (n : ℕ) (m : Rows) (p : ℕ → Bool) → tabulate places (λ i. remains (settings n m) (rule_at i) (p i)) ≡ tabulate places (kept (combined_mask m) p)
 unfolding tabulate settings enabled_by combined_mask
@@ -61,14 +61,14 @@ module _ (n : ℕ) (m : Rows) (pass : AllPass m) where
       ∙ go (component i) refl (made_here i) refl (every_at known places all_known i h)
     where
       k : ℕ
-      k = i - Place.extendedState 0
+      k = i - Place.extended_state 0
 
       go : (b : Bool) → component i ≡ b → (c : Bool) → made_here i ≡ c → (b || (c || always (rule_at i))) ≡ true
           → pick b (has k (combined_mask m) && (m i).present) (c || (m i).present) ≡ pick b (has k (combined_mask m)) true
       go true e c f t =
-          let low : Place.extendedState 2 ≤ i = leb-true _ i (and_left _ _ e) in
-          let high : i < Place.extendedState 64 = ltb-true i _ (and_right (leb (Place.extendedState 2) i) _ e) in
-          let place : Place.extendedState k ≡ i = omega arith in
+          let low : Place.extended_state 2 ≤ i = leb-true _ i (and_left _ _ e) in
+          let high : i < Place.extended_state 64 = ltb-true i _ (and_right (leb (Place.extended_state 2) i) _ e) in
+          let place : Place.extended_state k ≡ i = omega arith in
           and_implied _ _ (λ has-k. rw place at (component_present m pass.components k (omega arith) (omega arith) has-k))
       go false e true f t = refl
       go false e false f t = entry_present i h t

@@ -1,5 +1,7 @@
 // The image of a table: writes the table's bytes into a lent buffer, from pages or from a table in lent memory. A refusal leaves the buffer as it
 // was.
+#![tactic(auto)]
+
 ghost use Rattle.std.specs.Prelude.{◌≡◌, List, ℕ, ◌+◌, ◌≤◌, length};
 ghost use Rattle.bits.specs.Lists.{one};
 ghost use Rattle.masking.specs.Kept.{places};

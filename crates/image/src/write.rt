@@ -114,9 +114,9 @@ fn put_components(
     from: usize,
 ) -> usize
     requires { Components origins.now components
-        × (from + length (rows_from (held_in registers.now origins.now) (Place.extendedState 2)) ≤ length out.old) }
+        × (from + length (rows_from (held_in registers.now origins.now) (Place.extended_state 2)) ≤ length out.old) }
     ensures { Onward (rows_from (held_in registers.now origins.now))
-        out.old from (Place.extendedState 2) out.new result Place.extendedMaxFunction }
+        out.old from (Place.extended_state 2) out.new result Place.extended_max_function }
 {
     let mut at = from;
     let mut rest = components & FROM_2;

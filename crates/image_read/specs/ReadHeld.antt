@@ -11,7 +11,7 @@ use Rattle.table.specs.Table.{table_of, empty_table, row_in}
 use Rattle.table.specs.Table as Tables
 use Rattle.checks.specs.ExtendedState.{combined_mask}
 use Rattle.memory.specs.Memory.{row_of, is_there, rows_in}
-use Rattle.memory.specs.MemoryLaws.{layout_row}
+use Rattle.memory.proofs.MemoryLaws.{layout_row}
 use Rattle.memory.specs.Held.{whole_of, held_in, whole_row_lem, whole_ext, empty_whole}
 use Rattle.image_read.specs.ReadImage.{rows_read, is_image, read_image}
 use Rattle.image_read.specs.ReadIn.{origin_of_read, ReadIn}
@@ -35,12 +35,12 @@ module _ {s : List ℕ} {r : Bool} {w o : List ℕ} (h : ReadIn s r w o) where
       ap (λ (k : List ℕ). row_of k i) h.registers ∙ layout_row (λ j. (row_in t j).result) i l in
       λ k. record { present = p k; result = q k }
 
-  whole : whole_of (Tables.rowsOfTable t) ≡ t
+  whole : whole_of (Tables.rows_of_table t) ≡ t
   unfolding read_image
   whole = go (is_image s)
     where
       go : (b : Bool)
-          → whole_of (Tables.rowsOfTable (pick b (table_of (rows_read s) (combined_mask (rows_read s))) empty_table))
+          → whole_of (Tables.rows_of_table (pick b (table_of (rows_read s) (combined_mask (rows_read s))) empty_table))
           ≡ pick b (table_of (rows_read s) (combined_mask (rows_read s))) empty_table
       go true = whole_ext (λ i l. whole_row_lem (rows_read s) i l)
       go false = empty_whole

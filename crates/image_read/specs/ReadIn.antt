@@ -5,13 +5,13 @@ use Rattle.bits.specs.Lists.{tabulate}
 use Rattle.masking.specs.Kept.{places}
 use Rattle.table.specs.Table.{row_in}
 use Rattle.memory.specs.Origin.{origin_number}
-use Rattle.memory.specs.Origin.Origin.{neither, notKnown}
+use Rattle.memory.specs.Origin.Origin.{neither, not_known}
 use Rattle.memory.specs.Memory.{layout}
 use Rattle.image_read.specs.ReadImage.{left, rows_read, read_image}
 
 -- an image holds no origins
 abbrev pub origin_of_read : Bool → ℕ
-origin_of_read p = pick p (origin_number notKnown) (origin_number neither)
+origin_of_read p = pick p (origin_number not_known) (origin_number neither)
 
 -- what memory has after reading, and whether the bytes are an image
 pub record ReadIn (s : List ℕ) (r : Bool) (w o : List ℕ) : Type 0 where

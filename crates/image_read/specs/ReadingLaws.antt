@@ -18,7 +18,7 @@ use Rattle.masking.specs.Kept.{places, indexed_at}
 use Rattle.table.specs.Rows.{Row, row, vacant}
 use Rattle.table.specs.Table.{row_in}
 use Rattle.memory.specs.Origin.{origin_number}
-use Rattle.memory.specs.Origin.Origin.{notKnown}
+use Rattle.memory.specs.Origin.Origin.{not_known}
 use Rattle.memory.specs.Memory.{put_row, layout, row_list}
 use Rattle.memory.specs.MemoryLaws.{put_length, put_is_set, known_by_rows, layout_ext}
 use Rattle.memory.specs.Held.{whole_row_lem}
@@ -88,7 +88,7 @@ module _ (s : List ℕ) where
 
     -- its row is stored, and reading goes on behind it
     pub reading_row : {n : ℕ} {q : CpuidResult} → RowThere s at i n → q ≡ registers_at s (at + n - 16)
-        → Reading s (at + n) (i + 1) (put_row w i q) (set o i (origin_number notKnown))
+        → Reading s (at + n) (i + 1) (put_row w i q) (set o i (origin_number not_known))
     unfolding left after_row row_read
     reading_row {n} {q} t v =
         let f : rows_read s i ≡ row q = rw (here t.here, v, registers_end s at n (indexed_at i) t.width, ← r.rest) in

@@ -1,4 +1,6 @@
 // Reads an image into lent memory: the rows of the table whose image the bytes are, or none where they are no image.
+#![tactic(auto)]
+
 ghost use Rattle.std.specs.Prelude.{◌≡◌, ◌+◌, ◌^◌, ◌≤◌, ◌<◌, length, drop};
 ghost use Rattle.bits.specs.Choice.{pick};
 ghost use Rattle.memory.specs.Held.{held_in};
@@ -19,7 +21,7 @@ const WHOLE_ROW: usize = 21;
 const INDEXED_ROW: usize = 25;
 
 // Whether bytes are an image, and of which table; an empty one where they are none.
-#[derive(Drop)]
+#[derive(Clone, Copy)]
 pub struct ReadImage {
     pub is_image: bool,
     pub table: CpuidResults,

@@ -11,22 +11,22 @@ use Rattle.table.specs.declared.Verdict.TheVariants.{Accepted}
 use Rattle.table.specs.Table as Tables
 use Rattle.table.specs.TableLaws.{table_ext}
 use Rattle.memory.specs.Origin.{Origin, origin_of, origin_number}
-use Rattle.memory.specs.Origin.Origin.{neither, made_here, notKnown, entry}
+use Rattle.memory.specs.Origin.Origin.{neither, made_here, not_known, entry}
 use Rattle.memory.specs.Memory.{is_there, rows_in, layout}
-use Rattle.memory.specs.MemoryLaws.{layout_row}
+use Rattle.memory.proofs.MemoryLaws.{layout_row}
 use Rattle.memory.specs.Held.{whole_of, held_in, whole_ext}
 use Rattle.collect.specs.FirstEntryOrigin.{stands_at}
 use Rattle.build.specs.Build.{origins_in, answer, origin_at, TableIn}
 use Rattle.rise.specs.RiseProof.{answer_table, answer_row}
 use Rattle.rise.specs.BuiltLaws.{built_mask}
 use Rattle.rise.specs.Located.{Origins}
-use Rattle.rise.specs.LocatedProof.{rows_have_origins}
+use Rattle.rise.proofs.LocatedProof.{rows_have_origins}
 
 -- an origin that is not neither has a number that is not 0
 origin_there : (x : Origin) → (x ≡ neither → ⊥) → is_there (origin_number x) ≡ true
 origin_there neither n = absurd (n refl)
 origin_there made_here n = refl
-origin_there notKnown n = refl
+origin_there not_known n = refl
 origin_there (entry p q) n = rw (ne_eqb (4 + 64 * p + q) 0 (λ z. omega arith))
 
 module _ (chosen : Choices) (s : List ℕ) (e : (answer chosen s).verdict ≡ Accepted) where
@@ -54,7 +54,7 @@ module _ (chosen : Choices) (s : List ℕ) (e : (answer chosen s).verdict ≡ Ac
       go false p = ap (λ (x : Origin). is_there (origin_number x)) (known.absent.1 p)
 
   -- the table is the whole of its rows
-  table_whole : t ≡ whole_of (Tables.rowsOfTable t)
+  table_whole : t ≡ whole_of (Tables.rows_of_table t)
   table_whole = answer_table chosen s e ∙ sym (table_ext (answer_row chosen s e) (built_mask chosen s e))
 
   built_row : (i : ℕ) → i < places → rows_in w o i ≡ Tables.row_in t i

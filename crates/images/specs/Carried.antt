@@ -18,7 +18,7 @@ pub record Carries (t u : CpuidResults) (from to xcr0 xss : ℕ) : Type 0 where
   pub present : u.present ≡ t.present
   pub count : u.row_count ≡ t.row_count
   pub mask : u.max_extended_state ≡ t.max_extended_state
-  pub others : (i : ℕ) → i < places → (i ≡ Place.versionAndFeatures → ⊥) → (i ≡ Place.extendedVersionAndFeatures → ⊥) → row_in u i ≡ row_in t i
+  pub others : (i : ℕ) → i < places → (i ≡ Place.version_and_features → ⊥) → (i ≡ Place.extended_version_and_features → ⊥) → row_in u i ≡ row_in t i
   pub save : save_register (rows_of_table u) xcr0 ≡ save_register (rows_of_table t) xcr0
   pub compact : compact_register (rows_of_table u) xcr0 xss ≡ compact_register (rows_of_table t) xcr0 xss
   pub same : from ≡ to → u ≡ t

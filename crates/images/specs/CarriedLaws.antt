@@ -19,7 +19,7 @@ use Rattle.table.specs.Table.{row_in}
 use Rattle.buffer.specs.Front.{write_front}
 use Rattle.image.specs.Image.{image}
 use Rattle.image.specs.LengthLaws.{image_length}
-use Rattle.guest_state.specs.StateLaws.{save_of_state, compact_of_state}
+use Rattle.guest_state.proofs.StateLaws.{save_of_state, compact_of_state}
 use Rattle.image_read.specs.ReadImage.{read_image}
 use Rattle.image_read.specs.WrittenAgain.{read_has_image}
 use Rattle.table.specs.declared.Verdict.{Verdict}
@@ -34,7 +34,7 @@ use Rattle.images.specs.Carried.{CarryKeeps, CarriesInPlace}
 -- bits that are kept change nothing
 kept_at : (bits : EditionBits) (i : ℕ) (r : Row) → carried_at bits true i r ≡ r.result
 unfolding clear_unless
-kept_at bits i r = go (eqb i Place.versionAndFeatures && r.present) (eqb i Place.extendedVersionAndFeatures && r.present)
+kept_at bits i r = go (eqb i Place.version_and_features && r.present) (eqb i Place.extended_version_and_features && r.present)
   where
     go : (a b : Bool) → pick a r.result (pick b r.result r.result) ≡ r.result
     go true b = refl
@@ -49,20 +49,20 @@ kept_table bits t n =
 
 -- ---- two rows alone
 
-other_at : (bits : EditionBits) (keep : Bool) (i : ℕ) (r : Row) → (i ≡ Place.versionAndFeatures → ⊥) → (i ≡ Place.extendedVersionAndFeatures → ⊥)
+other_at : (bits : EditionBits) (keep : Bool) (i : ℕ) (r : Row) → (i ≡ Place.version_and_features → ⊥) → (i ≡ Place.extended_version_and_features → ⊥)
     → carried_at bits keep i r ≡ r.result
-other_at bits keep i r p q = rw (ne_eqb i Place.versionAndFeatures p, ne_eqb i Place.extendedVersionAndFeatures q)
+other_at bits keep i r p q = rw (ne_eqb i Place.version_and_features p, ne_eqb i Place.extended_version_and_features q)
 
 module _ (bits : EditionBits) (keep : Bool) (t : CpuidResults) where
-  other_row : (i : ℕ) → i < places → (i ≡ Place.versionAndFeatures → ⊥) → (i ≡ Place.extendedVersionAndFeatures → ⊥)
+  other_row : (i : ℕ) → i < places → (i ≡ Place.version_and_features → ⊥) → (i ≡ Place.extended_version_and_features → ⊥)
       → row_in (carried_table bits keep t) i ≡ row_in t i
   other_row i h p q = λ k. record {
     present = (row_in t i).present;
     result = (get_d_tabulate places (λ j. carried_at bits keep j (row_in t j)) i (cpuid_result 0 0 0 0) h ∙ other_at bits keep i (row_in t i) p q) k;
   }
 
-  state_row : (k : ℕ) → k < 64 → (row_in (carried_table bits keep t) (Place.extendedState k)).result ≡ (row_in t (Place.extendedState k)).result
-  state_row k h = ap (λ (r : Row). r.result) (other_row (Place.extendedState k) (omega arith) (λ e. omega arith) (λ e. omega arith))
+  state_row : (k : ℕ) → k < 64 → (row_in (carried_table bits keep t) (Place.extended_state k)).result ≡ (row_in t (Place.extended_state k)).result
+  state_row k h = ap (λ (r : Row). r.result) (other_row (Place.extended_state k) (omega arith) (λ e. omega arith) (λ e. omega arith))
 
   same_length : length (image (carried_table bits keep t)) ≡ length (image t)
   same_length = image_length (carried_table bits keep t) ∙ sym (image_length t)

@@ -17,7 +17,7 @@ use Rattle.carry.specs.CarryImage.{carry_image}
 
 -- whether the table's own D.0.EAX has bit 2; an absent row reads as zeros
 abbrev pub own_ymm : CpuidResults → Bool
-own_ymm t = has 2 (pick (row_in t (Place.extendedState 0)).present (row_in t (Place.extendedState 0)).result.eax 0)
+own_ymm t = has 2 (pick (row_in t (Place.extended_state 0)).present (row_in t (Place.extended_state 0)).result.eax 0)
 
 -- a register x carried as y: where bits are kept it is x, else the named bits are 0 and every other is x's
 pub record BitsGone (keep : Bool) (named : ℕ → Bool) (x y : ℕ) : Type 0 where
@@ -41,12 +41,12 @@ pub record CarriedRows (t u : CpuidResults) : Type 0 where
   pub present : u.present ≡ t.present
   pub count : u.row_count ≡ t.row_count
   pub mask : u.max_extended_state ≡ t.max_extended_state
-  pub version : (row_in t Place.versionAndFeatures).present ≡ true
-      → RowGone (own_ymm t) of_version (row_in t Place.versionAndFeatures).result (row_in u Place.versionAndFeatures).result
-  pub extended : (row_in t Place.extendedVersionAndFeatures).present ≡ true
-      → RowGone (own_ymm t) of_extended (row_in t Place.extendedVersionAndFeatures).result (row_in u Place.extendedVersionAndFeatures).result
+  pub version : (row_in t Place.version_and_features).present ≡ true
+      → RowGone (own_ymm t) of_version (row_in t Place.version_and_features).result (row_in u Place.version_and_features).result
+  pub extended : (row_in t Place.extended_version_and_features).present ≡ true
+      → RowGone (own_ymm t) of_extended (row_in t Place.extended_version_and_features).result (row_in u Place.extended_version_and_features).result
   -- every other row as it was, and a row that is not there
-  pub others : (i : ℕ) → i < places → i ≢ Place.versionAndFeatures → i ≢ Place.extendedVersionAndFeatures → row_in u i ≡ row_in t i
+  pub others : (i : ℕ) → i < places → i ≢ Place.version_and_features → i ≢ Place.extended_version_and_features → row_in u i ≡ row_in t i
   pub absent : (i : ℕ) → i < places → (row_in t i).present ≡ false → row_in u i ≡ row_in t i
 
 abbrev pub CarriesRows : Type 0

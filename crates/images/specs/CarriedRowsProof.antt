@@ -52,73 +52,25 @@ module _ (m : ℕ) (named : ℕ → Bool) where
       go k y true e f = omega arith
       go k y false e f = omega (arith, bit_lt k x)
 
-version_gone : (keep : Bool) (x : ℕ) → BitsGone keep of_version x (clear_unless keep (bits_between 1 2).version_ecx x)
+pub version_gone : (keep : Bool) (x : ℕ) → BitsGone keep of_version x (clear_unless keep (bits_between 1 2).version_ecx x)
 unfolding bits_between joined_from mask_of bit
 version_gone = bits_gone (bits_between 1 2).version_ecx of_version refl
 
-extended_gone : (keep : Bool) (x : ℕ) → BitsGone keep of_extended x (clear_unless keep (bits_between 1 2).extended_version_ecx x)
+pub extended_gone : (keep : Bool) (x : ℕ) → BitsGone keep of_extended x (clear_unless keep (bits_between 1 2).extended_version_ecx x)
 unfolding bits_between joined_from mask_of bit
 extended_gone = bits_gone (bits_between 1 2).extended_version_ecx of_extended refl
 
 -- ---- rows
 
-own_keeps : (t : CpuidResults) → keeps t 1 2 ≡ own_ymm t
+pub own_keeps : (t : CpuidResults) → keeps t 1 2 ≡ own_ymm t
 unfolding keeps xfem
-own_keeps t = go (row_in t (Place.extendedState 0)).present
+own_keeps t = go (row_in t (Place.extended_state 0)).present
   where
     go : (b : Bool)
-        → has 2 (pick b (row_in t (Place.extendedState 0)).result (cpuid_result 0 0 0 0)).eax
-        ≡ has 2 (pick b (row_in t (Place.extendedState 0)).result.eax 0)
+        → has 2 (pick b (row_in t (Place.extended_state 0)).result (cpuid_result 0 0 0 0)).eax
+        ≡ has 2 (pick b (row_in t (Place.extended_state 0)).result.eax 0)
     go true = refl
     go false = refl
-
-module _ (keep : Bool) (t : CpuidResults) where
-  carried_at_lem : (i : ℕ) → i < places → (row_in (carried_table (bits_between 1 2) keep t) i).result ≡ carried_at (bits_between 1 2) keep i (row_in t i)
-  carried_at_lem i l = get_d_tabulate places (λ j. carried_at (bits_between 1 2) keep j (row_in t j)) i (cpuid_result 0 0 0 0) l
-
-  absent_at : (i : ℕ) (r : Row) → r.present ≡ false → carried_at (bits_between 1 2) keep i r ≡ r.result
-  absent_at i r e = rw (e, none (eqb i Place.versionAndFeatures), none (eqb i Place.extendedVersionAndFeatures))
-    where
-      none : (b : Bool) → (b && false) ≡ false
-      none true = refl
-      none false = refl
-
-  absent_row : (i : ℕ) → i < places → (row_in t i).present ≡ false → row_in (carried_table (bits_between 1 2) keep t) i ≡ row_in t i
-  absent_row i l e = λ k. record { present = (row_in t i).present; result = (carried_at_lem i l ∙ absent_at i (row_in t i) e) k }
-
-  other_at : (i : ℕ) (r : Row) → i ≢ Place.versionAndFeatures → i ≢ Place.extendedVersionAndFeatures → carried_at (bits_between 1 2) keep i r ≡ r.result
-  other_at i r p q = rw (ne_eqb i Place.versionAndFeatures p, ne_eqb i Place.extendedVersionAndFeatures q)
-
-  other_row : (i : ℕ) → i < places → i ≢ Place.versionAndFeatures → i ≢ Place.extendedVersionAndFeatures → row_in (carried_table (bits_between 1 2) keep t) i ≡ row_in t i
-  other_row i l p q = λ k. record {
-    present = (row_in t i).present;
-    result = (carried_at_lem i l ∙ other_at i (row_in t i) p q) k;
-  }
-
-  version_row_lem : (row_in t Place.versionAndFeatures).present ≡ true
-      → RowGone keep of_version (row_in t Place.versionAndFeatures).result (row_in (carried_table (bits_between 1 2) keep t) Place.versionAndFeatures).result
-  version_row_lem e = rw (carried_at_lem Place.versionAndFeatures (lit< tt), e) (record { eax = refl; ebx = refl; ecx = version_gone keep _; edx = refl })
-
-  extended_row : (row_in t Place.extendedVersionAndFeatures).present ≡ true
-      → RowGone keep of_extended (row_in t Place.extendedVersionAndFeatures).result
-      (row_in (carried_table (bits_between 1 2) keep t) Place.extendedVersionAndFeatures).result
-  extended_row e =
-      rw (carried_at_lem Place.extendedVersionAndFeatures (lit< tt), e) (record { eax = refl; ebx = refl; ecx = extended_gone keep _; edx = refl })
-
-pub carries_rows : CarriesRows
-carries_rows t xcr0 xss e =
-    let g : (carry t 1 2 xcr0 xss).table ≡ carried_table (bits_between 1 2) (own_ymm t) t =
-    given t 1 2 xcr0 xss e ∙ ap (λ (b : Bool). carried_table (bits_between 1 2) b t) (own_keeps t) in
-    rw g
-    (record {
-      present = refl;
-      count = refl;
-      mask = refl;
-      version = version_row_lem (own_ymm t) t;
-      extended = extended_row (own_ymm t) t;
-      others = other_row (own_ymm t) t;
-      absent = absent_row (own_ymm t) t;
-    })
 
 -- ---- in place
 

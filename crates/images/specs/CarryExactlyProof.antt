@@ -12,7 +12,7 @@ use Rattle.table.specs.Table.{empty_table}
 use Rattle.guest_state.specs.State.{state_verdict}
 use Rattle.refusals.specs.Conditions.{EditionFault}
 use Rattle.guest_rise.specs.StateExactly.{StateAnswers}
-use Rattle.guest_rise.specs.StateExactlyProof.{state_answers}
+use Rattle.guest_rise.proofs.StateExactlyProof.{state_answers}
 use Rattle.guest_rise.specs.StateExactly.StateAnswers.{beyond, large, given}
 use Rattle.table.specs.declared.Refusal.{Refusal}
 use Rattle.table.specs.declared.Refusal.TheVariants.{UnknownEdition, EditionBack}

@@ -66,11 +66,7 @@ passed_image = refl
 pub image_a_lem : image (answer first_edition server_a).table ≡ image_a
 image_a_lem = ap image (table_passed first_edition server_a accepted) ∙ passed_image
 
-digest_a_lem : sha256 image_a ≡ digest_a
+pub digest_a_lem : sha256 image_a ≡ digest_a
 unfolding Σ₀ Σ₁ σ₀ σ₁ constants big_endian padding padded word_at words initial next_word with_next schedule turn turns added compress hashed digest_of sha256
     image_a digest_a
 digest_a_lem = refl
-
-pub fingerprint_a : fingerprint (answer first_edition server_a).table ≡ digest_a
-unfolding fingerprint
-fingerprint_a = ap sha256 image_a_lem ∙ digest_a_lem

@@ -23,7 +23,7 @@ same_or_apart (x ∷ m) (y ∷ n) = go (eqb x y) refl (same_or_apart m n)
     go false e p = inr (λ q. eqb-false x y e (ap (λ (l : List ℕ). get_or l 0 0) q))
 
 -- messages with one digest are equal, or a collision
-one_digest : (m n : List ℕ) → sha256 m ≡ sha256 n → (m ≡ n) ⊎ Collision m n
+pub one_digest : (m n : List ℕ) → sha256 m ≡ sha256 n → (m ≡ n) ⊎ Collision m n
 one_digest m n e = elim (same_or_apart m n) [
   | inl p ↦ inl p
   | inr p ↦ inr (record { apart = p; digest = e })
@@ -32,17 +32,3 @@ one_digest m n e = elim (same_or_apart m n) [
 pub rows_fingerprint : RowsFingerprint
 unfolding fingerprint
 rows_fingerprint t u same = ap sha256 (same_image t u same)
-
-pub fingerprint_rows : FingerprintRows
-unfolding fingerprint
-fingerprint_rows t u p q e = elim (one_digest (image t) (image u) e) [
-  | inl same ↦ inl (rows_told t u p q same)
-  | inr collision ↦ inr collision
-]
-
-pub fingerprint_table : FingerprintTable
-unfolding fingerprint
-fingerprint_table chosen chosen' s s' a b e = elim (one_digest (image (answer chosen s).table) (image (answer chosen' s').table) e) [
-  | inl same ↦ inl ((equal_images chosen chosen' s s' a b).0 same)
-  | inr collision ↦ inr collision
-]

@@ -19,7 +19,8 @@ use Rattle.table.specs.Fits.{Fits}
 use Rattle.checks.specs.ExtendedState.{xss_of, xfem, xss, combined_mask}
 use Rattle.checks.specs.TopologyInputs.{inputs_of}
 use Rattle.finish.specs.Finish.{settings, finished}
-use Rattle.finish.specs.FitLaws.{SettingsFit, finished_fits}
+use Rattle.finish.specs.FitLaws.{SettingsFit}
+use Rattle.finish.proofs.FitLaws.{finished_fits}
 use Rattle.collect.specs.RowsFit.{rows_fit_lem}
 use Rattle.build.specs.Build.{rows_for, answer}
 use Rattle.rise.specs.RiseProof.{answer_row, answer_mask}
@@ -62,7 +63,7 @@ module _ (chosen : Choices) (s : List ℕ) (e : (answer chosen s).verdict ≡ Ac
 mask_of_rows : (t u : CpuidResults) → ((i : ℕ) → i < places → row_in t i ≡ row_in u i) → combined_mask (rows_of_table t) ≡ combined_mask (rows_of_table u)
 unfolding combined_mask xfem xss
 mask_of_rows t u same =
-    ap₂ (λ (a b : Row). bit_or a.result.eax (xss_of b.result)) (same (Place.extendedState 0) (lit< tt)) (same (Place.extendedState 1) (lit< tt))
+    ap₂ (λ (a b : Row). bit_or a.result.eax (xss_of b.result)) (same (Place.extended_state 0) (lit< tt)) (same (Place.extended_state 1) (lit< tt))
 
 pub equal_images : EqualImages
 equal_images chosen chosen' s s' e e' = (

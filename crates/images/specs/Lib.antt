@@ -16,7 +16,6 @@ pub mod BuiltIn
 pub mod Carried
 pub mod CarriedLaws
 pub mod Moves
-pub mod MovesProof
 pub mod CarryExactly
 pub mod CarryExactlyProof
 pub mod CarriedRows

@@ -4,7 +4,8 @@ use Rattle.std.proofs.Math.Path.{refl}
 use Rattle.std.proofs.Common.{ap, ◌∙◌, subst, subst₂, lit<}
 use Rattle.std.proofs.Math.Bool.{true, false}
 use Rattle.bits.specs.Bits.{bit, has, Within}
-use Rattle.bits.specs.BitsLaws.{within_zero, within_or, has_mono}
+use Rattle.bits.specs.BitsLaws.{within_zero, within_or}
+use Rattle.bits.proofs.BitsLaws.{has_mono}
 use Rattle.bits.specs.Choice.{pick}
 use Rattle.bits.specs.ChoiceLaws.{never_both, and_mono}
 use Rattle.x86defs.specs.declared.CpuidResult.{CpuidResult}
@@ -19,7 +20,7 @@ use Rattle.memory.specs.Held.{whole_of, held_in, whole_row_lem}
 use Rattle.compare.specs.declared.search.RowsCompared.TheVariants.{MaskLacks}
 use Rattle.compare.specs.RowsMean.{PlaceRises}
 use Rattle.compare.specs.TablesMean.{tables, TablesAnswerMeans}
-use Rattle.compare.specs.TablesDecideProof.{decides}
+use Rattle.compare.proofs.TablesDecideProof.{decides}
 use Rattle.images.specs.TablesMoved.{MaskFollows}
 
 picked : (b c : Bool) {x y : ℕ} → (b ≡ true → c ≡ true) → Within x y → Within (pick b x 0) (pick c y 0)
@@ -32,11 +33,11 @@ xss_rises_lem a b h k =
     picked (has 1 a.eax && has 3 a.eax) (has 1 b.eax && has 3 b.eax)
     (and_mono (has 1 a.eax) (has 3 a.eax) (has_mono 1 h) (has_mono 3 h)) k
 
-state0 : (a b : CpuidResult) → Registers TableAtLeast (kinds_at (Place.extendedState 0)) a b → Within a.eax b.eax
+state0 : (a b : CpuidResult) → Registers TableAtLeast (kinds_at (Place.extended_state 0)) a b → Within a.eax b.eax
 unfolding kinds_at register_kinds slot kept_leaves
 state0 a b h = h.eax
 
-state1 : (a b : CpuidResult) → Registers TableAtLeast (kinds_at (Place.extendedState 1)) a b → Within a.eax b.eax × Within a.ecx b.ecx
+state1 : (a b : CpuidResult) → Registers TableAtLeast (kinds_at (Place.extended_state 1)) a b → Within a.eax b.eax × Within a.ecx b.ecx
 unfolding kinds_at register_kinds slot kept_leaves
 state1 a b h = (h.eax, h.ecx)
 
@@ -49,22 +50,22 @@ module _ (m n : Rows) (absent : (i : ℕ) → i < places → (m i).present ≡ f
 
   xfem_rises_lem : Within (xfem m) (xfem n)
   unfolding xfem
-  xfem_rises_lem = go (m (Place.extendedState 0)).present refl
+  xfem_rises_lem = go (m (Place.extended_state 0)).present refl
     where
-      go : (b : Bool) → (m (Place.extendedState 0)).present ≡ b → Within (m (Place.extendedState 0)).result.eax (n (Place.extendedState 0)).result.eax
-      go true e = state0 _ _ (registers (Place.extendedState 0) (lit< tt) e)
-      go false e = rw (absent (Place.extendedState 0) (lit< tt) e) (within_zero _)
+      go : (b : Bool) → (m (Place.extended_state 0)).present ≡ b → Within (m (Place.extended_state 0)).result.eax (n (Place.extended_state 0)).result.eax
+      go true e = state0 _ _ (registers (Place.extended_state 0) (lit< tt) e)
+      go false e = rw (absent (Place.extended_state 0) (lit< tt) e) (within_zero _)
 
   xss_rise : Within (xss m) (xss n)
   unfolding xss has bit
-  xss_rise = go (m (Place.extendedState 1)).present refl
+  xss_rise = go (m (Place.extended_state 1)).present refl
     where
-      go : (b : Bool) → (m (Place.extendedState 1)).present ≡ b
-          → Within (xss_of (m (Place.extendedState 1)).result) (xss_of (n (Place.extendedState 1)).result)
+      go : (b : Bool) → (m (Place.extended_state 1)).present ≡ b
+          → Within (xss_of (m (Place.extended_state 1)).result) (xss_of (n (Place.extended_state 1)).result)
       go true e =
-          let (p, q) = state1 _ _ (registers (Place.extendedState 1) (lit< tt) e) in
-          xss_rises_lem (m (Place.extendedState 1)).result (n (Place.extendedState 1)).result p q
-      go false e = rw (absent (Place.extendedState 1) (lit< tt) e) (within_zero _)
+          let (p, q) = state1 _ _ (registers (Place.extended_state 1) (lit< tt) e) in
+          xss_rises_lem (m (Place.extended_state 1)).result (n (Place.extended_state 1)).result p q
+      go false e = rw (absent (Place.extended_state 1) (lit< tt) e) (within_zero _)
 
   masks_rise : Within (combined_mask m) (combined_mask n)
   unfolding combined_mask

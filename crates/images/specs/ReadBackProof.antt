@@ -44,7 +44,7 @@ module _ (t : CpuidResults) (p : Plain t) where
   unfolding read_image
   read_table = rw all_read
 
-  reads_back : ReadsBack t
+  pub reads_back : ReadsBack t
   unfolding read_image
   reads_back = record {
     read = all_read;
@@ -53,19 +53,6 @@ module _ (t : CpuidResults) (p : Plain t) where
         ap (λ (u : CpuidResults). row_in u i) read_table ∙ table_row (rows_read (image t)) (combined_mask (rows_read (image t))) i h ∙ rows_back t p i h;
     whole = λ e. read_table ∙ table_ext (rows_back t p) (mask_ext (rows_back t p)) ∙ sym e;
   }
-
-pub image_reads_back : ImageReadsBack
-image_reads_back t p = reads_back t p
-
--- ---- of a built table
-
-pub built_reads_back : BuiltReadsBack
-built_reads_back chosen s e =
-    let t : CpuidResults = (answer chosen s).table in
-    let back = reads_back t (accepted_plain chosen s e) in
-    let whole : t ≡ table_of (rows_of_table t) (combined_mask (rows_of_table t)) =
-    answer_table chosen s e ∙ sym (table_ext (answer_row chosen s e) (built_mask chosen s e)) in
-    λ k. record { is_image = back.read k; table = back.whole whole k }
 
 -- ---- nothing else
 
@@ -83,15 +70,8 @@ module _ (s : List ℕ) (bytes : (k : ℕ) → get_or s k 0 < 256) where
       go true = (λ e. absurd (never_both refl e), registers_fit (left s i) (bytes_left s bytes i) _)
       go false = (λ e. refl, record { eax = lit< tt; ebx = lit< tt; ecx = lit< tt; edx = lit< tt })
 
-  plain_read : (x : ℕ) → Plain (table_of (rows_read s) x)
+  pub plain_read : (x : ℕ) → Plain (table_of (rows_read s) x)
   plain_read x = record {
     absent = λ i h e. table_row (rows_read s) x i h ∙ (plain_row_lem i).0 (sym (ap (λ (r : Row). r.present) (table_row (rows_read s) x i h)) ∙ e);
     fits = λ i h. subst (λ (r : Row). Fits r.result) (sym (table_row (rows_read s) x i h)) (plain_row_lem i).1;
   }
-
-pub only_images_read : OnlyImagesRead
-unfolding read_image
-only_images_read s bytes = (
-  λ e. ((read_image s).table, rw e (plain_read s bytes _), read_has_image s bytes e),
-  λ w. let (t, p, e) = w in subst (λ (l : List ℕ). (read_image l).is_image ≡ true) e (reads_back t p).read,
-)

@@ -13,29 +13,11 @@ use Rattle.build.specs.Build.{answer, InMemory}
 use Rattle.rise.specs.Rise.{with_edition}
 use Rattle.carry.specs.Carry.{carry}
 use Rattle.carry.specs.CarriedInPlace.{left_by, CarriedIn}
-use Rattle.rise.specs.SecondProof.{second_edition}
+use Rattle.rise.proofs.SecondProof.{second_edition}
 use Rattle.images.specs.Moves.{table_under}
-use Rattle.images.specs.MovesProof.{moves_to_second}
 
 -- built under edition 1 with the verdict v, and carried with the verdict d
 abbrev pub SecondInMemory : Type 0
 SecondInMemory = (c : Choices) (s : List ℕ) (v : Verdict) (w o : List ℕ) → InMemory (answer (with_edition c 1) s) v w o → v ≡ Accepted
     → (xcr0 xss : ℕ) (d : Verdict) (w₁ : List ℕ) → CarriedIn (carry (held_in w o) 1 2 xcr0 xss) d w o w₁ → d ≡ Accepted
     → InMemory (answer (with_edition c 2) s) d w₁ o
-
-pub second_in_memory : SecondInMemory
-second_in_memory c s v w o h accepted xcr0 xss d w₁ k carried =
-    let t : CpuidResults = table_under 1 c s in
-    let of-pages : CarriedIn (carry t 1 2 xcr0 xss) d w o w₁ = subst (λ (u : CpuidResults). CarriedIn (carry u 1 2 xcr0 xss) d w o w₁) h.table k in
-    let built : (answer (with_edition c 1) s).verdict ≡ Accepted = sym h.verdict ∙ accepted in
-    let given : (carry t 1 2 xcr0 xss).verdict ≡ Accepted = sym of-pages.verdict ∙ carried in
-    let same : (carry t 1 2 xcr0 xss).table ≡ table_under 2 c s = (moves_to_second c s xcr0 xss built).table given in
-    record {
-      verdict = carried ∙ sym built ∙ sym (second_edition c s).verdict;
-      registers =
-          of-pages.registers
-          ∙ ap (λ (e : Verdict). left_by e (carry t 1 2 xcr0 xss) w) given
-          ∙ ap (λ (u : CpuidResults). layout (λ i. (row_in u i).result)) same;
-      origins = h.origins ∙ sym (second_edition c s).origins;
-      table = of-pages.table carried ∙ same;
-    }

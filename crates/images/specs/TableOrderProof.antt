@@ -2,10 +2,11 @@
 use Rattle.std.specs.Prelude.{◌≡◌}
 use Rattle.table.specs.declared.CpuidResults.{CpuidResults}
 use Rattle.rise.specs.Preorder.{SameRows}
-use Rattle.rise.specs.PreorderProof.{table_rises_itself, table_rises_compose, both_ways_same, same_both_ways}
+use Rattle.rise.specs.PreorderProof.{table_rises_itself, table_rises_compose, both_ways_same}
+use Rattle.rise.proofs.AroundProof.{same_both_ways}
 use Rattle.compare.specs.declared.search.RowsCompared.TheVariants.{Rises}
 use Rattle.compare.specs.RowsCompared.{compared_tables}
-use Rattle.compare.specs.TablesDecideProof.{decides}
+use Rattle.compare.proofs.TablesDecideProof.{decides}
 
 pub compared_itself : (t : CpuidResults) → compared_tables t t ≡ Rises
 compared_itself t = (decides t t).complete (table_rises_itself t)

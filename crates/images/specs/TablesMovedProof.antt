@@ -15,16 +15,15 @@ use Rattle.images.specs.ImageTableLaws.{Plain}
 use Rattle.images.specs.ImagesProof.{accepted_plain}
 use Rattle.image_read.specs.declared.ReadImage.{ReadImage}
 use Rattle.images.specs.ReadBack.{ReadsBack}
-use Rattle.images.specs.ReadBackProof.{image_reads_back, built_reads_back}
 use Rattle.compare.specs.declared.Compared.TheVariants.{Rises as PagesRise}
 use Rattle.compare.specs.Compare.{compared}
 use Rattle.compare.specs.Means as PagesMean
-use Rattle.compare.specs.DecidesProof as PagesDecided
+use Rattle.compare.proofs.DecidesProof as PagesDecided
 use Rattle.image_read.specs.ReadIn.{ReadIn}
 use Rattle.image_read.specs.ReadHeld.{read_row, read_held}
 use Rattle.compare.specs.declared.search.RowsCompared.TheVariants.{Rises}
 use Rattle.compare.specs.RowsCompared.{compared_tables}
-use Rattle.compare.specs.TablesDecideProof.{decides}
+use Rattle.compare.proofs.TablesDecideProof.{decides}
 use Rattle.images.specs.TablesMoved.{CompareAgrees, ImagesAgree, PlainIn, Back, ImageBack, BuiltBack}
 
 -- ---- pages
@@ -33,46 +32,16 @@ module _ (chosen : Choices) (a b : List ℕ) (y : compared chosen a b ≡ PagesR
   means : PagesMean.AnswerMeans chosen a b PagesRise
   means = subst (PagesMean.AnswerMeans chosen a b) y (PagesDecided.decides chosen a b).means
 
-  accepted_a : (answer chosen a).verdict ≡ Accepted
+  pub accepted_a : (answer chosen a).verdict ≡ Accepted
   accepted_a = means.0.accepted
 
-  tables_rise : compared_tables (answer chosen a).table (answer chosen b).table ≡ Rises
+  pub tables_rise : compared_tables (answer chosen a).table (answer chosen b).table ≡ Rises
   tables_rise = (decides _ _).complete (means.1.table e)
 
 pub compare_agrees : CompareAgrees
 compare_agrees chosen a b y e _ _ v o w q h k = ap₂ compared_tables h.table k.table ∙ tables_rise chosen a b y e
 
--- an image of a built table gives it back
-read_built : (chosen : Choices) (s : List ℕ) → (answer chosen s).verdict ≡ Accepted → {r : Bool} {w o : List ℕ}
-    → ReadIn (image (answer chosen s).table) r w o → held_in w o ≡ (answer chosen s).table
-read_built chosen s e h = read_held h ∙ ap (λ (r : ReadImage). r.table) (built_reads_back chosen s e)
-
-pub images_agree : ImagesAgree
-images_agree chosen a b y e _ _ v o w q h k =
-    ap₂ compared_tables (read_built chosen a (accepted_a chosen a b y e) h) (read_built chosen b e k) ∙ tables_rise chosen a b y e
-
--- ---- an image of memory
-
-module _ (w o : List ℕ) (p : Plain (held_in w o)) {r : Bool} {v q : List ℕ} (h : ReadIn (image (held_in w o)) r v q) where
-  back : ReadsBack (held_in w o)
-  back = image_reads_back (held_in w o) p
-
-  same_rows : (i : ℕ) → i < places → rows_in v q i ≡ rows_in w o i
-  same_rows i l = read_row h i l ∙ back.rows i l ∙ whole_row_lem (rows_in w o) i l
-
-  image_back : Back w o r v q
-  image_back = record {
-    read = h.image ∙ back.read;
-    rows = same_rows;
-    table = whole_ext same_rows;
-    registers =
-        λ e.
-        h.registers
-        ∙ layout_ext _ (row_of w) (λ i l. ap (λ (x : Row). x.result) (back.rows i l ∙ whole_row_lem (rows_in w o) i l))
-        ∙ sym (known_by_rows w (row_of w) e refl);
-  }
-
-plain_in : (w o : List ℕ) → PlainIn w o → Plain (held_in w o)
+pub plain_in : (w o : List ℕ) → PlainIn w o → Plain (held_in w o)
 plain_in w o p = record {
   absent = λ i l e.
       let f : is_there (get_or o i 0) ≡ false = sym (ap (λ (x : Row). x.present) (whole_row_lem (rows_in w o) i l)) ∙ e in
@@ -81,10 +50,3 @@ plain_in w o p = record {
       subst (λ (x : Row). Fits x.result) (sym (whole_row_lem (rows_in w o) i l))
       (record { eax = p.fits (4 * i); ebx = p.fits (4 * i + 1); ecx = p.fits (4 * i + 2); edx = p.fits (4 * i + 3) });
 }
-
-pub image_reads : ImageBack
-image_reads w o p r v q h = image_back w o (plain_in w o p) h
-
-pub built_reads : BuiltBack
-built_reads chosen s e _ w o m r v q h =
-    image_back w o (subst Plain (sym m.table) (accepted_plain chosen s e)) h

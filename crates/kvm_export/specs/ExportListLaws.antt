@@ -20,11 +20,11 @@ use Rattle.kvm_list.specs.FormatLaws.{length_all, list_length_lem}
 use Rattle.kvm_list.specs.StoresLaws.{sets_join, word_length}
 use Rattle.kvm_export.specs.Export.{list_row, rows_from, list_rows, list_of}
 use Rattle.kvm_export.specs.ExportPieces.{run_row, rows_left}
-use Rattle.kvm_export.specs.RunRowLaws.{place_bytes, run_row_lem}
+use Rattle.kvm_export.specs.RunRowLaws.{place_bytes}
 
 -- ---- the rows that are left
 
-rows_more : (t : CpuidResults) (i : ℕ) → i < places → rows_left t i ≡ place_bytes t i ++ rows_left t (i + 1)
+pub rows_more : (t : CpuidResults) (i : ℕ) → i < places → rows_left t i ≡ place_bytes t i ++ rows_left t (i + 1)
 unfolding rows_left rows_from all_words
 rows_more t i h =
     let e : places - i ≡ suc (places - suc i) = omega arith in
@@ -38,14 +38,9 @@ rows_more t i h =
     go true = bytes_append (row_words (list_row i (row_in t i).result)) (all_words (rows_from t (suc i) (places - suc i)))
     go false = refl
 
--- the first of them, by the run in which the place stands
-pub run_more : (t : CpuidResults) (g : Run) → lawful_run g ≡ true → (i : ℕ) → g.first ≤ i → i < g.first + g.count
-    → rows_left t i ≡ run_row g (i - g.first) (row_in t i).present (row_in t i).result ++ rows_left t (i + 1)
-run_more t g h i low high = rows_more t i (omega (arith, run_end g h)) ∙ ap (λ (b : List ℕ). b ++ rows_left t (i + 1)) (run_row_lem t g h i low high)
-
 -- ---- the whole list
 
-count_from_lem : (t : CpuidResults) (k n : ℕ) → rows_among t.present 0 k + length (rows_from t k n) ≡ rows_among t.present 0 (k + n)
+pub count_from_lem : (t : CpuidResults) (k n : ℕ) → rows_among t.present 0 k + length (rows_from t k n) ≡ rows_among t.present 0 (k + n)
 unfolding rows_from
 count_from_lem t k zero = let z : k + 0 ≡ k = omega arith in rw z (omega arith)
 count_from_lem t k (suc n) = go (row_in t k).present refl (count_from_lem t (suc k) n)
@@ -68,36 +63,13 @@ count_from_lem t k (suc n) = go (row_in t k).present refl (count_from_lem t (suc
         last true m = omega (arith, ih, m)
         last false m = omega (arith, ih, m)
 
-pub count_rows_lem : (t : CpuidResults) → rows_among t.present 0 places ≡ length (list_rows t)
-unfolding list_rows
-count_rows_lem t = omega (arith, count_from_lem t 0 places, among_none t.present 0)
-
 pub export_length : (t : CpuidResults) → length (list_of t) ≡ 8 + 40 * length (list_rows t)
 unfolding list_of
 export_length t = list_length_lem (list_rows t)
 
-pub list_size : (t : CpuidResults) {n : ℕ} → n ≡ rows_among t.present 0 places → 8 + 40 * n ≡ length (list_of t)
-list_size t q = omega (arith, q, count_rows_lem t, export_length t)
-
-pub rows_size : (t : CpuidResults) {n : ℕ} → n ≡ rows_among t.present 0 places → length (rows_left t 0) ≡ 40 * n
-unfolding rows_left list_rows
-rows_size t q = length_bytes (all_words (list_rows t)) ∙ omega (arith, q, count_rows_lem t, length_all (list_rows t))
-
-list_pieces : (t : CpuidResults) → (word_bytes (length (list_rows t)) ++ word_bytes 0) ++ rows_left t 0 ≡ list_of t
+pub list_pieces : (t : CpuidResults) → (word_bytes (length (list_rows t)) ++ word_bytes 0) ++ rows_left t 0 ≡ list_of t
 unfolding word_bytes rows_left list_of list_bytes bytes_of_words list_rows
 list_pieces t = refl
-
-pub list_done : (t : CpuidResults) (out : List ℕ) {n : ℕ} {o₁ o₂ o₃ : List ℕ} → n ≡ rows_among t.present 0 places
-    → o₁ ≡ sets out 0 (word_bytes n) → o₂ ≡ sets o₁ 4 (word_bytes 0) → o₃ ≡ sets o₂ 8 (rows_left t 0) → o₃ ≡ sets out 0 (list_of t)
-list_done t out {n} q e₁ e₂ e₃ =
-    let a : List ℕ = word_bytes n in
-    let z : List ℕ = word_bytes 0 in
-    let la : length a ≡ 4 = word_length n in
-    let lz : length z ≡ 4 = word_length 0 in
-    rw (e₃, e₂, e₁)
-    (ap (λ (m : List ℕ). sets m 8 (rows_left t 0)) (sets_join out 0 a z 4 (omega arith))
-    ∙ sets_join out 0 (a ++ z) (rows_left t 0) 8 (omega (arith, length-append a z))
-    ∙ ap (sets out 0) (ap (λ (m : ℕ). (word_bytes m ++ z) ++ rows_left t 0) (q ∙ count_rows_lem t) ∙ list_pieces t))
 
 pub rows_none : (t : CpuidResults) (i : ℕ) → i ≡ places → rows_left t i ≡ []
 unfolding rows_left rows_from all_words bytes_of_words

@@ -77,16 +77,9 @@ module _ (g : Run) (k : ℕ) (r : CpuidResult) (out : List ℕ) (at : ℕ) where
 abbrev pub place_bytes : CpuidResults → ℕ → List ℕ
 place_bytes t i = pick (row_in t i).present (bytes_of_words (row_words (list_row i (row_in t i).result))) []
 
-stands_row : (b : Bool) (leaf : CpuidFunction) (k i : ℕ) (p : Bool) (r : CpuidResult)
+pub stands_row : (b : Bool) (leaf : CpuidFunction) (k i : ℕ) (p : Bool) (r : CpuidResult)
     → b ≡ indexed_at i → pick b leaf (function (leaf.0 + k)) ≡ leaf_at i → pick b k 0 ≡ subleaf_at i
     → pick p (bytes_of_words (row_words (list_row i r))) [] ≡ pick p (pick b (row_bytes leaf.0 k 1 r) (row_bytes (leaf.0 + k) 0 0 r)) []
 unfolding row_bytes
 stands_row true leaf k i p r e f g = rw (← e, ← f, ← g)
 stands_row false leaf k i p r e f g = rw (← e, ← f, ← g)
-
-pub run_row_lem : (t : CpuidResults) (g : Run) → lawful_run g ≡ true → (i : ℕ) → g.first ≤ i → i < g.first + g.count
-    → place_bytes t i ≡ run_row g (i - g.first) (row_in t i).present (row_in t i).result
-unfolding run_row
-run_row_lem t g l i low high =
-    stands_row g.indexed g.leaf (i - g.first) i (row_in t i).present (row_in t i).result
-    (indexed_in_run g l low high) (leaf_in_run g l low high) (subleaf_in_run g l low high)

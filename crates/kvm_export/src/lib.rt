@@ -1,4 +1,6 @@
 // Writes a table as a list for KVM into a lent buffer, from pages or from a table in lent memory. A refusal leaves the buffer as it was.
+#![tactic(auto)]
+
 ghost use Rattle.std.specs.Prelude.{◌≡◌, ◌+◌, ◌^◌, ◌≤◌, ◌<◌, length};
 ghost use Rattle.std.proofs.lemmas.List.Edits.{sets};
 ghost use Rattle.memory.specs.Held.{held_in};

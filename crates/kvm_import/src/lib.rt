@@ -1,4 +1,6 @@
 // Converts a KVM CPUID list to two CPUID pages in a lent buffer. A refusal leaves the buffer as it was.
+#![tactic(auto)]
+
 ghost use Rattle.std.specs.Prelude.{◌≡◌};
 ghost use Rattle.kvm_import.specs.Import.{read_list};
 

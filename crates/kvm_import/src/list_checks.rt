@@ -8,7 +8,7 @@ use kvm_list::{HEAD_SIZE, ROW_SIZE};
 use pages::word_at;
 
 // Whether each row's flag and padding, and the head's zero word, are as they must be; and how many rows are of leaf Dh, if they are.
-#[derive(Drop)]
+#[derive(Clone, Copy)]
 pub struct Checked {
     pub lawful: bool,
     pub extended: usize,

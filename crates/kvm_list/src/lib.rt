@@ -1,4 +1,6 @@
 // The list that KVM takes and gives, struct kvm_cpuid2: its bytes in specs/, its sizes here, and what fills a stretch of a lent buffer with zeros.
+#![tactic(auto)]
+
 ghost use Rattle.std.specs.Prelude.{◌≡◌, ◌-◌, ◌≤◌, length, replicate};
 ghost use Rattle.std.proofs.lemmas.List.Edits.{sets};
 

@@ -6,13 +6,13 @@ use Rattle.pages.specs.Layout.{entry_at}
 use Rattle.pages.specs.Entries as Entries
 use Rattle.letter.specs.Paper.{on_page, on_pages, read_entries, counted}
 
-on_page_lem : (s : List ℕ) (p q n : ℕ) → Entries.onPage s p q n ≡ on_page s p q n
-unfolding Entries.onPage on_page entry_at
+on_page_lem : (s : List ℕ) (p q n : ℕ) → Entries.on_page s p q n ≡ on_page s p q n
+unfolding Entries.on_page on_page entry_at
 on_page_lem s p q zero = refl
 on_page_lem s p q (suc n) = ap (◌∷◌ (entry_at s p q)) (on_page_lem s p (suc q) n)
 
-on_pages_lem : (s : List ℕ) (p n : ℕ) → Entries.onPages s p n ≡ on_pages s p n
-unfolding Entries.onPages on_pages
+on_pages_lem : (s : List ℕ) (p n : ℕ) → Entries.on_pages s p n ≡ on_pages s p n
+unfolding Entries.on_pages on_pages
 on_pages_lem s p zero = refl
 on_pages_lem s p (suc n) = ap₂ ◌++◌ (on_page_lem s p 0 _) (on_pages_lem s (suc p) n)
 

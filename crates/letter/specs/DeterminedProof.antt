@@ -7,14 +7,13 @@ use Rattle.table.specs.declared.CpuidResults.{CpuidResults}
 use Rattle.table.specs.declared.Verdict.TheVariants.{Accepted}
 use Rattle.build.specs.Build.{answer}
 use Rattle.letter.specs.Paper.{Line, Equations, lines_of, combined_of, table_with}
-use Rattle.letter.specs.TableProof.{table_by_figures}
 
-column : (f : CpuidResult → ℕ) (ls : List Line) → map f (map (λ (l : Line). l.row.result) ls) ≡ map (λ (l : Line). f l.row.result) ls
+pub column : (f : CpuidResult → ℕ) (ls : List Line) → map f (map (λ (l : Line). l.row.result) ls) ≡ map (λ (l : Line). f l.row.result) ls
 column f [] = refl
 column f (l ∷ ls) = ap (◌∷◌ (f l.row.result)) (column f ls)
 
 -- four columns make the rows
-results_same : (r q : List CpuidResult) → map (λ (x : CpuidResult). x.eax) r ≡ map (λ (x : CpuidResult). x.eax) q
+pub results_same : (r q : List CpuidResult) → map (λ (x : CpuidResult). x.eax) r ≡ map (λ (x : CpuidResult). x.eax) q
     → map (λ (x : CpuidResult). x.ebx) r ≡ map (λ (x : CpuidResult). x.ebx) q → map (λ (x : CpuidResult). x.ecx) r ≡ map (λ (x : CpuidResult). x.ecx) q
     → map (λ (x : CpuidResult). x.edx) r ≡ map (λ (x : CpuidResult). x.edx) q → r ≡ q
 results_same [] [] a b c d = refl
@@ -27,28 +26,3 @@ results_same (x ∷ r) (y ∷ q) a b c d =
     let h : x.edx ≡ y.edx = cc in
     let same : r ≡ q = results_same r q (cc) (cc) (cc) (cc) in
     λ t. record { eax = e t; ebx = f t; ecx = g t; edx = h t } ∷ same t
-
-module _ (chosen : Choices) (s : List ℕ) where
-  holds : Equations chosen s (table_with (combined_of chosen s) (lines_of chosen s))
-  holds = record {
-    present = refl;
-    eax = column (λ r. r.eax) (lines_of chosen s);
-    ebx = column (λ r. r.ebx) (lines_of chosen s);
-    ecx = column (λ r. r.ecx) (lines_of chosen s);
-    edx = column (λ r. r.edx) (lines_of chosen s);
-    rows = refl;
-    mask = refl;
-  }
-
-  whole : (t : CpuidResults) → Equations chosen s t → t ≡ table_with (combined_of chosen s) (lines_of chosen s)
-  whole t e =
-      let same : t.results ≡ map (λ (l : Line). l.row.result) (lines_of chosen s) =
-      results_same t.results (map (λ (l : Line). l.row.result) (lines_of chosen s)) (e.eax ∙ sym holds.eax) (e.ebx ∙ sym holds.ebx)
-      (e.ecx ∙ sym holds.ecx) (e.edx ∙ sym holds.edx) in
-      λ k. record { present = e.present k; results = same k; row_count = e.rows k; max_extended_state = e.mask k }
-
-  pub determined : (answer chosen s).verdict ≡ Accepted → (t : CpuidResults) → Equations chosen s t ↔ (t ≡ (answer chosen s).table)
-  determined a t = (
-    λ e. whole t e ∙ sym (table_by_figures chosen s a),
-    λ q. subst (Equations chosen s) (sym (q ∙ table_by_figures chosen s a)) holds,
-  )

@@ -14,7 +14,7 @@ use Rattle.masking.specs.Masks as Masks
 use Rattle.masking.specs.Kept.{kept_leaves, place_of, slot}
 use Rattle.table.specs.declared.Subleaf.{Subleaf}
 use Rattle.table.specs.Edition.{known_edition, joined_from, bits_between}
-use Rattle.table.specs.EditionLaws.{each_edition}
+use Rattle.table.proofs.EditionLaws.{each_edition}
 use Rattle.table.specs.Rows.{Rows, row, vacant}
 use Rattle.topology.specs.Topology as Topology
 use Rattle.checks.specs.ExtendedState as State
@@ -29,17 +29,9 @@ use Rattle.letter.specs.Names.{place_for}
 abbrev pub clears_said : ℕ → Finish.YmmClears
 clears_said n = record { version_ecx = version_clears n; features_ebx = 0x20; features_ecx = 0x700; extended_version_ecx = extended_clears n }
 
-abbrev said_test : ℕ → Bool
+abbrev pub said_test : ℕ → Bool
 said_test n =
-    eqb (Finish.ymmClears n).version_ecx (version_clears n) && eqb (Finish.ymmClears n).extended_version_ecx (extended_clears n)
-
-pub clears_same : (n : ℕ) → known_edition n ≡ true → Finish.ymmClears n ≡ clears_said n
-unfolding Finish.ymmClears Finish.edition1 bits_between joined_from mask_of
-clears_same n e =
-    let t : said_test n ≡ true = each_edition said_test refl n e in
-    let p = eqb-true _ _ (and_left (eqb (Finish.ymmClears n).version_ecx (version_clears n)) _ t) in
-    let q = eqb-true _ _ (and_right (eqb (Finish.ymmClears n).version_ecx (version_clears n)) _ t) in
-    λ i. record { version_ecx = p i; features_ebx = 0x20; features_ecx = 0x700; extended_version_ecx = q i }
+    eqb (Finish.ymm_clears n).version_ecx (version_clears n) && eqb (Finish.ymm_clears n).extended_version_ecx (extended_clears n)
 
 -- ---- the rows
 
@@ -51,17 +43,17 @@ module _ (g : ℕ → CpuidResult) where
   m avic i = pick (ltb i 88) (row (masked_at avic i (g i))) vacant
 
   pub xfem_same : (avic : Bool) → State.xfem (m avic) ≡ xfem (masked avic e)
-  unfolding State.xfem place_of kept_leaves slot Masks.extendedState0 mask_of legacy_features
+  unfolding State.xfem place_of kept_leaves slot Masks.extended_state0 mask_of legacy_features
   xfem_same avic = refl
 
-  pub avx512_same : (avic : Bool) → Finish.hasAvx512 (Finish.enabledBy (m avic)) ≡ avx512 (masked avic e)
-  unfolding State.xfem Finish.enabledBy place_of kept_leaves slot Masks.extendedState0 mask_of legacy_features
+  pub avx512_same : (avic : Bool) → Finish.has_avx512 (Finish.enabled_by (m avic)) ≡ avx512 (masked avic e)
+  unfolding State.xfem Finish.enabled_by place_of kept_leaves slot Masks.extended_state0 mask_of legacy_features
   avx512_same avic = refl
 
-  pub table_same : (n : ℕ) (avic : Bool) → Finish.ymmClears n ≡ clears_said n
+  pub table_same : (n : ℕ) (avic : Bool) → Finish.ymm_clears n ≡ clears_said n
       → tabulate 88 (Finish.finished n (m avic))
       ≡ map (λ (l : Line). l.row)
-      (lines_with n (masked avic e) (Topology.processors (Topology.topologyOf (inputs_of (m avic)))) (λ k. has k (combined (masked avic e)) && true))
-  unfolding State.xfem State.xss State.areaBelow Finish.finished Finish.settings Finish.enabledBy Finish.avx512FeaturesEbx Finish.avx512FeaturesEcx Finish.avx512FeaturesEdx Finish.cetSs Finish.rdPid Finish.rdtscp Finish.ibrsAndStibp Finish.btcNo Finish.hypervisorPresent Finish.version_ecx Finish.features_ebx Finish.features_ecx Finish.featuresEdx Finish.extended_version_ecx Finish.extendedVersionEdx Finish.addressSizesEbx Finish.unlessNoXss inputs_of Topology.topologyOf Topology.shift_of Topology.leastPower least_from place_of kept_leaves slot Masks.versionAndFeatures Masks.extendedFeatures Masks.extendedState0 Masks.extendedState1 Masks.extendedVersionAndFeatures Masks.extendedAddressSpaceSizes Masks.extendedSvm Masks.extendedOptimization Masks.secureAvicMask Masks.extendedSev fields_mask field_mask mask_of field bit clear clear_unless legacy_features AmdMaximum ExtendedAmdMaximum tabulate area
+      (lines_with n (masked avic e) (Topology.processors (Topology.topology_of (inputs_of (m avic)))) (λ k. has k (combined (masked avic e)) && true))
+  unfolding State.xfem State.xss State.area_below Finish.finished Finish.settings Finish.enabled_by Finish.avx512_features_ebx Finish.avx512_features_ecx Finish.avx512_features_edx Finish.cet_ss Finish.rd_pid Finish.rdtscp Finish.ibrs_and_stibp Finish.btc_no Finish.hypervisor_present Finish.version_ecx Finish.features_ebx Finish.features_ecx Finish.features_edx Finish.extended_version_ecx Finish.extended_version_edx Finish.address_sizes_ebx Finish.unless_no_xss inputs_of Topology.topology_of Topology.shift_of Topology.least_power least_from place_of kept_leaves slot Masks.version_and_features Masks.extended_features Masks.extended_state0 Masks.extended_state1 Masks.extended_version_and_features Masks.extended_address_space_sizes Masks.extended_svm Masks.extended_optimization Masks.secure_avic_mask Masks.extended_sev fields_mask field_mask mask_of field bit clear clear_unless legacy_features AmdMaximum ExtendedAmdMaximum tabulate area
   table_same n true q = rw q refl
   table_same n false q = rw q refl

@@ -27,19 +27,17 @@ use Rattle.image.specs.Write.{write}
 use Rattle.program.specs.Output.{subleaf_code, output, output_for}
 use Rattle.letter.specs.Paper.{Line, lines, table_with, entry_of, lines_of, combined_of, written, verdict, carried, wrote, little, subleaf_or, answer_bytes, program, programs}
 use Rattle.letter.specs.Names.{sub_at}
-use Rattle.letter.specs.TableProof.{table_by_figures}
-use Rattle.letter.specs.VerdictProof.{verdict_by_figures}
 
 -- the rows of a table at the 88 places, each with its leaf and subleaf
 abbrev pub told : Rows → List Line
 told m = tabulate 88 (λ i. record { leaf = (leaf_at i).0; subleaf = sub_at i; row = m i })
 
-image_told : (t : CpuidResults) → image t ≡ written (told (row_in t))
+pub image_told : (t : CpuidResults) → image t ≡ written (told (row_in t))
 unfolding image image_in tabulate slot kept_leaves
 image_told t = ap (λ (o : List ℕ). image_in o t) row_order_lem
 
 -- the paper's rows have the leaves and subleaves of the places
-lines_told : (n : ℕ) (avic : Bool) (e : ℕ → Subleaf → CpuidResult) (x : ℕ) → told (row_in (table_with x (lines n avic e))) ≡ lines n avic e
+pub lines_told : (n : ℕ) (avic : Bool) (e : ℕ → Subleaf → CpuidResult) (x : ℕ) → told (row_in (table_with x (lines n avic e))) ≡ lines n avic e
 unfolding tabulate slot kept_leaves
 lines_told n avic e x = refl
 
@@ -70,39 +68,9 @@ same_code : (k : Subleaf) → subleaf_code k ≡ subleaf_or k
 same_code None = refl
 same_code (Some k) = refl
 
-refusal_bytes_lem : (r : Refusal) (bytes : List ℕ) → output_for (Refused r) bytes ≡ answer_bytes (Refused r) bytes
+pub refusal_bytes_lem : (r : Refusal) (bytes : List ℕ) → output_for (Refused r) bytes ≡ answer_bytes (Refused r) bytes
 refusal_bytes_lem r bytes =
     ap (λ (d : Details). output_of d (subleaf_code d.subleaf)) (carried_same r) ∙ ap (output_of (carried r)) (same_code (carried r).subleaf)
   where
     output_of : Details → ℕ → List ℕ
     output_of d k = 3 ∷ d.number ∷ little d.leaf ++ little k ++ (d.s ∷ [])
-
--- ---- of page bytes
-
-module _ (chosen : Choices) (s : List ℕ) where
-  pub rows_by_figures : (answer chosen s).verdict ≡ Accepted → told (row_in (answer chosen s).table) ≡ lines_of chosen s
-  rows_by_figures e = ap (λ (t : CpuidResults). told (row_in t)) (table_by_figures chosen s e) ∙ lines_told chosen.edition chosen.secure_avic (entry_of s) (combined_of chosen s)
-
-  pub image_by_figures : (answer chosen s).verdict ≡ Accepted → image (answer chosen s).table ≡ written (lines_of chosen s)
-  image_by_figures e = image_told (answer chosen s).table ∙ ap written (rows_by_figures e)
-
-  pub write_by_figures : (buffer : List ℕ) → write chosen s buffer ≡ wrote (verdict chosen s) (written (lines_of chosen s)) buffer
-  unfolding write write_front
-  write_by_figures buffer =
-      go (answer chosen s).verdict refl ∙ ap (λ (v : Verdict). wrote v (written (lines_of chosen s)) buffer) (verdict_by_figures chosen s)
-    where
-      go : (v : Verdict) → (answer chosen s).verdict ≡ v
-          → write_verdict v (image (answer chosen s).table) buffer ≡ wrote v (written (lines_of chosen s)) buffer
-      go Accepted e = ap (λ (b : List ℕ). write_front b buffer) (image_by_figures e)
-      go (Refused r) e = refl
-
-pub program_by_figures : (s : List ℕ) → output s ≡ program s
-unfolding output
-program_by_figures s =
-    ap (λ (b : List ℕ). pick (leb (length s) 65536) b (4 ∷ []))
-    (go (answer programs s).verdict refl ∙ ap (λ (v : Verdict). answer_bytes v (written (lines_of programs s))) (verdict_by_figures programs s))
-  where
-    go : (v : Verdict) → (answer programs s).verdict ≡ v
-        → output_for v (image (answer programs s).table) ≡ answer_bytes v (written (lines_of programs s))
-    go Accepted e = image_by_figures programs s e
-    go (Refused r) e = refusal_bytes_lem r []

@@ -8,5 +8,4 @@ pub mod VerdictProof
 pub mod ImageProof
 pub mod LookupProof
 pub mod RegistersProof
-pub mod LengthProof
 pub mod DeterminedProof

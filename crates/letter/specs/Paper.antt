@@ -26,7 +26,7 @@ use Rattle.table.specs.Refusal.{Details}
 use Rattle.buffer.specs.declared.Written.TheVariants.{Bytes, Refused as NotWritten}
 use Rattle.buffer.specs.Front.{AfterWrite}
 use Rattle.finish.specs.Kinds.{Kinds, kinds}
-use Rattle.finish.specs.Kinds.Kind.{feature, featureBut28, area as save_area, freed, other}
+use Rattle.finish.specs.Kinds.Kind.{feature, feature_but28, area as save_area, freed, other}
 use Rattle.lookup.specs.declared.LeafResult.{LeafResult}
 use Rattle.lookup.specs.declared.LeafResult.TheVariants.{Some as Found, None as Nothing}
 
@@ -572,7 +572,7 @@ kinded l k t = record { leaf = l; subleaf = k; kinds = t }
 abbrev pub registers : List Kinded
 registers =
     kinded 0x0 None (kinds freed freed freed freed)
-    ∷ kinded 0x1 None (kinds other other feature featureBut28)
+    ∷ kinded 0x1 None (kinds other other feature feature_but28)
     ∷ kinded 0x5 None (kinds other other other other)
     ∷ kinded 0x7 (Some 0) (kinds other feature feature feature)
     ∷ kinded 0xB (Some 0) (kinds freed freed freed freed)

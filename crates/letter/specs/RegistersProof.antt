@@ -27,7 +27,7 @@ unfolding tabulate keep_if slot kept_leaves
 made_rows = refl
 
 pub masks_same : (avic : Bool) → tabulate 88 (masks_at avic) ≡ tabulate 88 (λ i. masks_of avic (leaf_at i).0 (sub_at i))
-unfolding tabulate slot kept_leaves Masks.versionAndFeatures Masks.extendedFeatures Masks.extendedState0 Masks.extendedState1 Masks.extendedVersionAndFeatures Masks.extendedAddressSpaceSizes Masks.extendedSvm Masks.extendedOptimization Masks.secureAvicMask Masks.extendedSev fields_mask field_mask mask_of
+unfolding tabulate slot kept_leaves Masks.version_and_features Masks.extended_features Masks.extended_state0 Masks.extended_state1 Masks.extended_version_and_features Masks.extended_address_space_sizes Masks.extended_svm Masks.extended_optimization Masks.secure_avic_mask Masks.extended_sev fields_mask field_mask mask_of
 masks_same true = refl
 masks_same false = refl
 

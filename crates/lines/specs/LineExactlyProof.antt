@@ -16,7 +16,7 @@ use Rattle.lines.specs.declared.LineWritten.TheVariants.{Line, NoSuchLine}
 use Rattle.lines.specs.WriteLine.{AfterLine, write_line}
 use Rattle.lines.specs.LineExactly.{LineExactly, Nameable}
 
-exactly_at : (d : LineDetails) (buffer : List ℕ) (w : AfterLine) → w ≡ write_line d buffer → LineExactly d buffer w
+pub exactly_at : (d : LineDetails) (buffer : List ℕ) (w : AfterLine) → w ≡ write_line d buffer → LineExactly d buffer w
 unfolding write_line write_front
 exactly_at d buffer w made = go (writable d) refl (leb (length (line d)) (length buffer)) refl
   where
@@ -56,9 +56,6 @@ exactly_at d buffer w made = go (writable d) refl (leb (length (line d)) (length
           short_untouched = λ r p. cc;
           beyond = λ n p. cc;
         }
-
-pub line_exactly : (d : LineDetails) (buffer : List ℕ) → LineExactly d buffer (write_line d buffer)
-line_exactly d buffer = exactly_at d buffer (write_line d buffer) refl
 
 -- ---- which details have a line
 

@@ -12,24 +12,23 @@ use Rattle.lines.specs.declared.bytes.names.Named.{Named}
 use Rattle.lines.specs.Digits.{width, decimal}
 use Rattle.lines.specs.DigitsLaws.{length_digits, width_le}
 use Rattle.lines.specs.NumbersInUse.{names}
-use Rattle.lines.specs.NumbersInUseLaws.{room_few}
 use Rattle.lines.specs.Line.{leaf_field, subleaf_field, s_field, fields_as, fields, line}
 
 -- ---- lengths
 
-length_leaf : (b : Bool) (leaf : ℕ) → length (leaf_field b leaf) ≡ pick b 9 0
+pub length_leaf : (b : Bool) (leaf : ℕ) → length (leaf_field b leaf) ≡ pick b 9 0
 length_leaf true leaf = omega (arith, length_digits 16 8 leaf)
 length_leaf false leaf = refl
 
 pub length_leaf_named : {b : Bool} (leaf : ℕ) → b ≡ true → length (leaf_field b leaf) ≡ 9
 length_leaf_named leaf e = rw e (length_leaf true leaf)
 
-length_subleaf : (b : Bool) (k : Subleaf) → length (subleaf_field b k) ≤ pick b 11 0
+pub length_subleaf : (b : Bool) (k : Subleaf) → length (subleaf_field b k) ≤ pick b 11 0
 length_subleaf true None = omega arith
 length_subleaf true (Some k) = omega (arith, length_digits 10 (width k) k, width_le k)
 length_subleaf false k = omega arith
 
-length_s : (b : Bool) (s : ℕ) → length (s_field b s) ≤ pick b 11 0
+pub length_s : (b : Bool) (s : ℕ) → length (s_field b s) ≤ pick b 11 0
 length_s true s = omega (arith, length_digits 10 (width s) s, width_le s)
 length_s false s = omega arith
 
@@ -46,20 +45,6 @@ module _ (d : LineDetails) {k : Named} (e : k ≡ names d.number) where
 pub length_parts : (d : LineDetails) → length (line d) ≡ length (decimal d.number) + length (fields d) + 1
 unfolding line
 length_parts d = simp length-append (omega arith)
-
-pub at_most_22 : (d : LineDetails) → length (line d) ≤ 22
-at_most_22 d =
-    let k = names d.number in
-    omega (
-      arith,
-      length_parts d,
-      length_digits 10 (width d.number) d.number,
-      length_fields d {k = names d.number} refl,
-      length_leaf k.leaf d.leaf,
-      length_subleaf k.subleaf d.subleaf,
-      length_s k.s d.s,
-      room_few d.number,
-    )
 
 -- s where it is not named
 pub zero_leb : (s : ℕ) → eqb s 0 ≡ leb s 0

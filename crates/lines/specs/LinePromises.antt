@@ -18,17 +18,11 @@ use Rattle.lines.specs.declared.LineWritten.TheVariants.{Line as Answered, NoSuc
 use Rattle.lines.specs.Digits.{width, decimal}
 use Rattle.lines.specs.DigitsLaws.{AtLeast, none, next, at_least_append, digits_at_least}
 use Rattle.lines.specs.NumbersInUse.{names}
-use Rattle.lines.specs.NumbersNamedProof.{sets_named}
 use Rattle.lines.specs.Line.{newline, space, LineFits, most_s, leaf_field, subleaf_field, s_field, fields_as, fields, writable, line}
 use Rattle.lines.specs.WriteLine.{AfterLine, leaves, write_line}
 use Rattle.lines.specs.WriteLineLaws.{write_none, write_short, write_whole, front}
 use Rattle.lines.specs.ReadLine.{guess, same_bytes, read_line}
-use Rattle.lines.specs.ReadLineLaws.{same_refl, same_eq, guess_written, guess_fits}
-
--- every line is read back
-pub read_written : (d : LineDetails) → LineFits d → writable d ≡ true → read_line (line d) ≡ Line d
-unfolding read_line
-read_written d f h = rw (guess_written d f h, h, same_refl (line d))
+use Rattle.lines.specs.ReadLineLaws.{same_refl, same_eq, guess_fits}
 
 -- what is read is a line: the one that is written for what it says
 pub record LineOf (l : List ℕ) (d : LineDetails) : Type 0 where
@@ -36,97 +30,35 @@ pub record LineOf (l : List ℕ) (d : LineDetails) : Type 0 where
   pub is_writable : writable d ≡ true
   pub same : l ≡ line d
 
-pub only_written_read : (l : List ℕ) (d : LineDetails) → read_line l ≡ Line d → LineOf l d
-unfolding read_line
-only_written_read l d e = go (writable (guess l) && same_bytes (line (guess l)) l) refl e
-  where
-    go : (b : Bool) → (writable (guess l) && same_bytes (line (guess l)) l) ≡ b → pick b (Line (guess l)) NoSuchLine ≡ Line d → LineOf l d
-    go true p q =
-        let g : guess l ≡ d = cc in
-        rw (← g)
-        (record {
-          fits = guess_fits l;
-          is_writable = and_left (writable (guess l)) (same_bytes (line (guess l)) l) p;
-          same = sym (same_eq (line (guess l)) l (and_right (writable (guess l)) (same_bytes (line (guess l)) l) p));
-        })
-    go false p q = let z : ◌≡◌ {A = ℕ} 0 1 = cc in absurd (omega arith)
-
--- so the reader gives d for exactly the line of d
-pub line_read : (l : List ℕ) (d : LineDetails) → LineOf l d → read_line l ≡ Line d
-line_read l d h = ap read_line h.same ∙ read_written d h.fits h.is_writable
-
--- what was written into any lent buffer is read back from its front
-pub write_then_read : (d : LineDetails) (buffer left : List ℕ) (n : ℕ)
-    → LineFits d → write_line d buffer ≡ leaves (Answered (Bytes n)) left → read_line (take n left) ≡ Line d
-write_then_read d buffer left n f e = go (writable d) refl (leb (length (line d)) (length buffer)) refl
-  where
-    go : (w : Bool) → writable d ≡ w → (r : Bool) → leb (length (line d)) (length buffer) ≡ r → read_line (take n left) ≡ Line d
-    go true p true q =
-        let room = leb-true (length (line d)) (length buffer) q in
-        let x = sym (write_whole d buffer p room) ∙ e in
-        let a : Answered (Bytes (length (line d))) ≡ Answered (Bytes n) = ap (λ (o : AfterLine). o.answer) x in
-        let b : sets buffer 0 (line d) ≡ left = ap (λ (o : AfterLine). o.buffer) x in
-        let m : length (line d) ≡ n = cc in
-        ap read_line (front (line d) buffer (sym b) (sym m) (omega arith)) ∙ read_written d f p
-    go true p false q =
-        let x = sym (write_short d buffer p (leb-false (length (line d)) (length buffer) q)) ∙ e in
-        let a : Answered (Refused BufferTooShort) ≡ Answered (Bytes n) = ap (λ (o : AfterLine). o.answer) x in
-        let z : ◌≡◌ {A = ℕ} 0 1 = cc in
-        absurd (omega arith)
-    go false p r q =
-        let x = sym (write_none d buffer p) ∙ e in
-        let a : NotWritten ≡ Answered (Bytes n) = ap (λ (o : AfterLine). o.answer) x in
-        let z : ◌≡◌ {A = ℕ} 0 1 = cc in
-        absurd (omega arith)
-
--- different refusals have different lines
-pub lines_differ : (d e : LineDetails) → LineFits d → LineFits e → writable d ≡ true → writable e ≡ true → line d ≡ line e → d ≡ e
-lines_differ d e f g h k q =
-    let a : read_line (line d) ≡ Line d = read_written d f h in
-    let b : read_line (line e) ≡ Line e = read_written e g k in
-    cc
-
 -- ---- no line begins another: no byte before the newline is one
 
-leaf_above : (b : Bool) (leaf : ℕ) → AtLeast 32 (leaf_field b leaf)
+pub leaf_above : (b : Bool) (leaf : ℕ) → AtLeast 32 (leaf_field b leaf)
 leaf_above true leaf = next {b = space} (omega arith) (digits_at_least 32 16 8 leaf (omega arith))
 leaf_above false leaf = none
 
-subleaf_above : (b : Bool) (k : Subleaf) → AtLeast 32 (subleaf_field b k)
+pub subleaf_above : (b : Bool) (k : Subleaf) → AtLeast 32 (subleaf_field b k)
 subleaf_above true None = none
 subleaf_above true (Some k) = next {b = space} (omega arith) (digits_at_least 32 10 (width k) k (omega arith))
 subleaf_above false k = none
 
-s_above : (b : Bool) (s : ℕ) → AtLeast 32 (s_field b s)
+pub s_above : (b : Bool) (s : ℕ) → AtLeast 32 (s_field b s)
 s_above true s = next {b = space} (omega arith) (digits_at_least 32 10 (width s) s (omega arith))
 s_above false s = none
 
-fields_above : (k : Named) (d : LineDetails) → AtLeast 32 (fields_as k d)
-fields_above k d =
-    at_least_append (leaf_above k.leaf d.leaf) (at_least_append (subleaf_above k.subleaf d.subleaf) (s_above k.s d.s))
-
 -- what stands before the newline
-abbrev body : LineDetails → List ℕ
+abbrev pub body : LineDetails → List ℕ
 body d = decimal d.number ++ fields d
 
-body_above : (d : LineDetails) → AtLeast 32 (body d)
-unfolding fields
-body_above d = at_least_append (digits_at_least 32 10 (width d.number) d.number (omega arith)) (fields_above (names d.number) d)
-
-line_body : (d : LineDetails) (t : List ℕ) → line d ++ t ≡ body d ++ (newline ∷ t)
+pub line_body : (d : LineDetails) (t : List ℕ) → line d ++ t ≡ body d ++ (newline ∷ t)
 unfolding line
 line_body d t = simp append_assoc
 
 -- two texts without a newline, each ended by one: what follows is the same if the whole is
-one_end : {l k : List ℕ} (t u : List ℕ) → AtLeast 32 l → AtLeast 32 k → l ++ (newline ∷ t) ≡ k ++ (newline ∷ u) → t ≡ u
+pub one_end : {l k : List ℕ} (t u : List ℕ) → AtLeast 32 l → AtLeast 32 k → l ++ (newline ∷ t) ≡ k ++ (newline ∷ u) → t ≡ u
 one_end t u none none e = cc
 one_end t u none (next {b = b} h r) e = let z : newline ≡ b = cc in absurd (omega arith)
 one_end t u (next {b = b} h r) none e = let z : b ≡ newline = cc in absurd (omega arith)
 one_end t u (next {b = b} {l = l} h r) (next {b = c} {l = k} i s) e = one_end t u r s (cc)
-
--- line d ++ t begins with line d: it is a line only where t is empty
-pub no_line_begins_another : (d e : LineDetails) (t : List ℕ) → line d ++ t ≡ line e → t ≡ []
-no_line_begins_another d e t q = one_end t [] (body_above d) (body_above e) (sym (line_body d t) ∙ q ∙ sym (append-nil (line e)) ∙ line_body e [])
 
 -- ---- every refusal has a line
 
@@ -134,12 +66,6 @@ no_line_begins_another d e t q = one_end t [] (body_above d) (body_above e) (sym
 abbrev pub line_details : Details → LineDetails
 line_details t = record { number = t.number; leaf = t.leaf; subleaf = t.subleaf; s = t.s }
 
-s_taken : (named : Bool) (s : ℕ) → (named || eqb s 0) ≡ true → s ≤ most_s → leb s (pick named most_s 0) ≡ true
+pub s_taken : (named : Bool) (s : ℕ) → (named || eqb s 0) ≡ true → s ≤ most_s → leb s (pick named most_s 0) ≡ true
 s_taken true s e h = le-leb s most_s h
 s_taken false s e h = le-leb s 0 (omega (arith, eqb-true s 0 e))
-
-pub every_refusal : (r : Refusal) → (details r).s ≤ most_s → writable (line_details (details r)) ≡ true
-unfolding writable
-every_refusal r h =
-    let n = sets_named r in
-    and_both (and_both (and_both n.used n.leaf) n.subleaf) (s_taken (names (details r).number).s (details r).s n.s h)

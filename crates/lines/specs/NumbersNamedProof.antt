@@ -20,10 +20,10 @@ use Rattle.lines.specs.NumbersNamed.{NamesExactly}
 
 -- ---- what a refusal sets, its number names
 
-abbrev only_named : Named → Details → Bool
+abbrev pub only_named : Named → Details → Bool
 only_named k d = k.used && ((k.leaf || eqb d.leaf 0) && ((k.subleaf || is_none d.subleaf) && (k.s || eqb d.s 0)))
 
-only_named_lem : (r : Refusal) → only_named (names (details r).number) (details r) ≡ true
+pub only_named_lem : (r : Refusal) → only_named (names (details r).number) (details r) ≡ true
 unfolding names rows
 only_named_lem PagesLength = refl
 only_named_lem PageCount = refl
@@ -52,96 +52,39 @@ pub record SetsNamed (k : Named) (d : Details) : Type 0 where
   pub subleaf : (k.subleaf || is_none d.subleaf) ≡ true
   pub s : (k.s || eqb d.s 0) ≡ true
 
-pub sets_named : (r : Refusal) → SetsNamed (names (details r).number) (details r)
-sets_named r =
-    let d = details r in
-    let k = names d.number in
-    let leaf = k.leaf || eqb d.leaf 0 in
-    let subleaf = k.subleaf || is_none d.subleaf in
-    let e₁ = and_right k.used _ (only_named_lem r) in
-    let e₂ = and_right leaf _ e₁ in
-    record {
-      used = and_left k.used _ (only_named_lem r);
-      leaf = and_left leaf _ e₁;
-      subleaf = and_left subleaf _ e₂;
-      s = and_right subleaf _ e₂;
-    }
-
 -- a detail that is set is named
-set_named : (named : Bool) (x : ℕ) → (named || eqb x 0) ≡ true → x ≢ 0 → named ≡ true
+pub set_named : (named : Bool) (x : ℕ) → (named || eqb x 0) ≡ true → x ≢ 0 → named ≡ true
 set_named true x e h = refl
 set_named false x e h = absurd (h (eqb-true x 0 e))
 
-some_named : (named : Bool) (k : Subleaf) (j : ℕ) → (named || is_none k) ≡ true → k ≡ Some j → named ≡ true
+pub some_named : (named : Bool) (k : Subleaf) (j : ℕ) → (named || is_none k) ≡ true → k ≡ Some j → named ≡ true
 some_named true k j e h = refl
 some_named false k j e h = absurd (never_both e (ap is_none h))
 
 -- ---- what a number names, this refusal with that number sets; one test over the table's rows
 
-abbrev sample : ℕ → Refusal
+abbrev pub sample : ℕ → Refusal
 sample n = refusal_with (record { number = n; leaf = 1; subleaf = Some 1; s = 1 })
 
 -- of the numbers in use; 0 is not
-abbrev sample_test : Refusal → ℕ → Named → Bool
+abbrev pub sample_test : Refusal → ℕ → Named → Bool
 sample_test r n k =
     pick k.used (eqb (details r).number n) true
     && (pick k.leaf (eqb (details r).number n && not (eqb (details r).leaf 0)) true
     && (pick k.subleaf (eqb (details r).number n && not (is_none (details r).subleaf)) true
     && pick k.s (eqb (details r).number n && not (eqb (details r).s 0)) true))
 
-all_sampled : every (λ n. sample_test (sample n) n (names n)) (length rows) ≡ true
+pub all_sampled : every (λ n. sample_test (sample n) n (names n)) (length rows) ≡ true
 unfolding names rows
 all_sampled = refl
 
-sampled : (n : ℕ) → sample_test (sample n) n (names n) ≡ true
-sampled n = go (ltb n (length rows)) refl
-  where
-    go : (b : Bool) → ltb n (length rows) ≡ b → sample_test (sample n) n (names n) ≡ true
-    go true e = every_at (λ m. sample_test (sample m) m (names m)) (length rows) all_sampled n (ltb-true n (length rows) e)
-    go false e = rw (beyond n (ltb-false n (length rows) e))
-
-not_zero : (x : ℕ) → not (eqb x 0) ≡ true → x ≢ 0
+pub not_zero : (x : ℕ) → not (eqb x 0) ≡ true → x ≢ 0
 not_zero x e z = go (eqb x 0) (eq-eqb x 0 z) e
   where
     go : (b : Bool) → b ≡ true → not b ≡ true → ⊥
     go true p q = false≢true q
     go false p q = false≢true p
 
-some_subleaf : (k : Subleaf) → not (is_none k) ≡ true → (j : ℕ) × (k ≡ Some j)
+pub some_subleaf : (k : Subleaf) → not (is_none k) ≡ true → (j : ℕ) × (k ≡ Some j)
 some_subleaf None e = absurd (false≢true e)
 some_subleaf (Some j) e = (j, refl)
-
-pub names_exactly : (n : ℕ) → NamesExactly n
-names_exactly n = at (sample n) (sampled n)
-  where
-    at : (r : Refusal) → sample_test r n (names n) ≡ true → NamesExactly n
-    at r t =
-        let u = pick (names n).used (eqb (details r).number n) true in
-        let a = pick (names n).leaf (eqb (details r).number n && not (eqb (details r).leaf 0)) true in
-        let b = pick (names n).subleaf (eqb (details r).number n && not (is_none (details r).subleaf)) true in
-        let t₁ = and_right u _ t in
-        let t₂ = and_right a _ t₁ in
-        record {
-          used = (
-            λ e. (r, eqb-true _ n (if_holds (names n).used _ (and_left u _ t) e)),
-            λ p. subst (λ (m : ℕ). (names m).used ≡ true) p.1 (sets_named p.0).used,
-          );
-          leaf = (
-            λ e.
-                let h = if_holds (names n).leaf _ (and_left a _ t₁) e in
-                (r, eqb-true _ n (and_left _ _ h), not_zero (details r).leaf (and_right (eqb (details r).number n) _ h)),
-            λ p. subst (λ (m : ℕ). (names m).leaf ≡ true) p.1 (set_named _ _ (sets_named p.0).leaf p.2),
-          );
-          subleaf = (
-            λ e.
-                let h = if_holds (names n).subleaf _ (and_left b _ t₂) e in
-                (r, eqb-true _ n (and_left _ _ h), some_subleaf (details r).subleaf (and_right (eqb (details r).number n) _ h)),
-            λ p. subst (λ (m : ℕ). (names m).subleaf ≡ true) p.1 (some_named _ _ p.2.0 (sets_named p.0).subleaf p.2.1),
-          );
-          s = (
-            λ e.
-                let h = if_holds (names n).s _ (and_right b _ t₂) e in
-                (r, eqb-true _ n (and_left _ _ h), not_zero (details r).s (and_right (eqb (details r).number n) _ h)),
-            λ p. subst (λ (m : ℕ). (names m).s ≡ true) p.1 (set_named _ _ (sets_named p.0).s p.2),
-          );
-        }

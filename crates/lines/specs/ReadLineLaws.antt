@@ -13,7 +13,6 @@ use Rattle.table.specs.declared.Subleaf.TheVariants.{None, Some}
 use Rattle.table.specs.Numbers.{subleaf_or0}
 use Rattle.lines.specs.declared.bytes.LineDetails.{LineDetails}
 use Rattle.lines.specs.NumbersInUse.{names}
-use Rattle.lines.specs.NumbersInUseLaws.{used_below, subleaf_or_s}
 use Rattle.lines.specs.Line.{newline, space, is_none, most_s, LineFits, writable, subleaf_field, s_field, fields, line}
 use Rattle.lines.specs.declared.LineRead.TheVariants.{Line, NoSuchLine}
 use Rattle.lines.specs.ReadLine.{field_if, after_if, subleaf_in, subleaf_if, guess_as, guess, same_bytes, read_line}
@@ -55,15 +54,15 @@ subleaf_snoc [] x = refl
 subleaf_snoc (a ∷ l) x = refl
 
 -- what stands after the leaf begins with a separator, and subleaf and s are read back from behind it
-record Rest (subleaf s : Bool) (k : Subleaf) (n : ℕ) : Type 0 where
-  separator : ℕ
-  behind : List ℕ
-  below : separator < 48
-  same : subleaf_field subleaf k ++ (s_field s n ++ (newline ∷ [])) ≡ separator ∷ behind
-  subleaf_back : subleaf_if subleaf behind ≡ k
-  s_back : field_if s 10 behind ≡ n
+pub record Rest (subleaf s : Bool) (k : Subleaf) (n : ℕ) : Type 0 where
+  pub separator : ℕ
+  pub behind : List ℕ
+  pub below : separator < 48
+  pub same : subleaf_field subleaf k ++ (s_field s n ++ (newline ∷ [])) ≡ separator ∷ behind
+  pub subleaf_back : subleaf_if subleaf behind ≡ k
+  pub s_back : field_if s 10 behind ≡ n
 
-rest_read : (b c : Bool) (k : Subleaf) (n : ℕ)
+pub rest_read : (b c : Bool) (k : Subleaf) (n : ℕ)
     → not (b && c) ≡ true → (b || is_none k) ≡ true → leb n (pick c most_s 0) ≡ true → subleaf_or0 k < 2 ^ 32 → Rest b c k n
 rest_read true true k n e p q h = absurd (never_both e refl)
 rest_read true false None n e p q h =
@@ -90,58 +89,14 @@ rest_read false false k n e p q h =
     record { separator = newline; behind = []; below = omega arith; same = refl; subleaf_back = none_set k p; s_back = omega (arith, leb-true n 0 q) }
 
 -- the number is read back, and its details come from what stands behind the byte that ends it
-guess_line : (d : LineDetails) (x : ℕ) (t : List ℕ)
+pub guess_line : (d : LineDetails) (x : ℕ) (t : List ℕ)
     → x < 48 → d.number < 2 ^ 32 → fields d ++ (newline ∷ []) ≡ x ∷ t → guess (line d) ≡ guess_as (names d.number) d.number t
 unfolding guess line
 guess_line d x t l h e = rw (e, decimal_read d.number x t h l, after_number 10 (width d.number) d.number x t l)
 
-same_details : (d : LineDetails) {leaf s : ℕ} {subleaf : Subleaf}
+pub same_details : (d : LineDetails) {leaf s : ℕ} {subleaf : Subleaf}
     → leaf ≡ d.leaf → subleaf ≡ d.subleaf → s ≡ d.s → record { number = d.number; leaf = leaf; subleaf = subleaf; s = s } ≡ d
 same_details d p q r = rw (p, q, r)
-
--- the fields are read back, with a leaf and without
-guess_fields : (d : LineDetails) (l : Bool)
-    → (names d.number).leaf ≡ l
-    → d.number < 2 ^ 32
-    → d.leaf < 2 ^ 32
-    → (l || eqb d.leaf 0) ≡ true
-    → Rest (names d.number).subleaf (names d.number).s d.subleaf d.s
-    → guess (line d) ≡ d
-unfolding fields
-guess_fields d true e n h p r =
-    guess_line d space (hex d.leaf ++ (r.separator ∷ r.behind)) (omega arith) n (rw e (simp append_assoc (rw r.same)))
-    ∙ rw (e, after_number 16 8 d.leaf r.separator r.behind r.below)
-    (same_details d (hex_read d.leaf r.separator r.behind h r.below) r.subleaf_back r.s_back)
-guess_fields d false e n h p r =
-    guess_line d r.separator r.behind r.below n (rw e (simp append_assoc r.same))
-    ∙ rw e (same_details d (sym (eqb-true d.leaf 0 p)) r.subleaf_back r.s_back)
-
--- what the writer wrote is guessed
-pub guess_written : (d : LineDetails) → LineFits d → writable d ≡ true → guess (line d) ≡ d
-unfolding writable
-guess_written d f h =
-    let k = names d.number in
-    let leafOk = k.leaf || eqb d.leaf 0 in
-    let subleafOk = k.subleaf || is_none d.subleaf in
-    let sOk = leb d.s (pick k.s most_s 0) in
-    let three = and_left ((k.used && leafOk) && subleafOk) sOk h in
-    let two = and_left (k.used && leafOk) subleafOk three in
-    guess_fields
-    d
-    k.leaf
-    refl
-    (used_below d.number (and_left k.used leafOk two))
-    f.leaf
-    (and_right k.used leafOk two)
-    (rest_read
-    k.subleaf
-    k.s
-    d.subleaf
-    d.s
-    (subleaf_or_s d.number)
-    (and_right (k.used && leafOk) subleafOk three)
-    (and_right ((k.used && leafOk) && subleafOk) sOk h)
-    f.subleaf)
 
 -- ---- what is guessed fits its widths
 
@@ -159,22 +114,3 @@ unfolding guess
 guess_fits l =
     let k = names (field_from 10 0 l) in
     record { leaf = leaf_fits k.leaf (after l); subleaf = subleaf_fits k.subleaf (after_if k.leaf (after l)) }
-
--- ---- the answer, by the tests that decide
-
-module _ (l : List ℕ) {d : LineDetails} (g : d ≡ guess l) where
-  pub read_none : writable d ≡ false → NoSuchLine ≡ read_line l
-  unfolding read_line
-  read_none e = rw (← g, e)
-
-  pub read_same : writable d ≡ true → line d ≡ l → Line d ≡ read_line l
-  unfolding read_line
-  read_same e q = rw (← g, e, ← q, same_refl (line d))
-
-  pub read_other : writable d ≡ true → (line d ≡ l → ⊥) → NoSuchLine ≡ read_line l
-  unfolding read_line
-  read_other e q = go (same_bytes (line d) l) refl
-    where
-      go : (b : Bool) → same_bytes (line d) l ≡ b → NoSuchLine ≡ read_line l
-      go true p = absurd (q (same_eq (line d) l p))
-      go false p = rw (← g, e, p)

@@ -5,7 +5,7 @@ pub mod names;
 pub mod put;
 
 // What a line says: the number, and the leaf, subleaf and s that it names. Those that it does not name are 0 or none.
-#[derive(Drop)]
+#[derive(Clone, Copy)]
 pub struct LineDetails {
     pub number: u32,
     pub leaf: u32,

@@ -6,7 +6,7 @@ ghost use Rattle.lines.specs.Digits.{capital, digits, width, decimal, more};
 ghost use Rattle.lines.specs.Field.{field_from, after};
 
 // A field's number, and the index after the byte that ends it.
-#[derive(Drop)]
+#[derive(Clone, Copy)]
 pub struct Field {
     pub value: u32,
     pub next: usize,

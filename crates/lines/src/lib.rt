@@ -1,5 +1,7 @@
 // A refusal as one line of ASCII: writes the line of a number and its details into a lent buffer, and reads the number and details whose line bytes
 // are.
+#![tactic(auto)]
+
 ghost use Rattle.std.specs.Prelude.{◌≡◌, ◌||◌, eqb, leb};
 ghost use Rattle.bits.specs.Choice.{pick};
 ghost use Rattle.lines.specs.Line.{is_none, most_s, writable};
@@ -24,14 +26,14 @@ const LONGEST: usize = 22;
 const MOST_S: u32 = 255;
 
 // What writing answers: how many bytes or 9; or that there is no such line.
-#[derive(Drop)]
+#[derive(Clone, Copy)]
 pub enum LineWritten {
     Line(Written),
     NoSuchLine,
 }
 
 // What a line says, or that there is no such line.
-#[derive(Drop)]
+#[derive(Clone, Copy)]
 pub enum LineRead {
     Line(LineDetails),
     NoSuchLine,

@@ -77,19 +77,19 @@ unfolding span_of with_subleaves place_of kept_leaves tabulate
 which l = a (eqb l.0 0xD) refl
   where
     d : (b : Bool) → eqb l.0 0x7 ≡ b → eqb l.0 0xB ≡ false → eqb l.0 0x8000001D ≡ false → eqb l.0 0xD ≡ false → Which l
-    d true q r s t = one 0x7 Place.extendedFeatures 1 (eqb-true _ _ q) (rw (t, s, r, q)) (omega arith) (λ z. omega arith) refl refl refl
+    d true q r s t = one 0x7 Place.extended_features 1 (eqb-true _ _ q) (rw (t, s, r, q)) (omega arith) (λ z. omega arith) refl refl refl
     d false q r s t = none (rw (t, s, r, q)) (rw (q, r, t, s))
 
     c : (b : Bool) → eqb l.0 0xB ≡ b → eqb l.0 0x8000001D ≡ false → eqb l.0 0xD ≡ false → Which l
-    c true r s t = one 0xB Place.threadLevel 2 (eqb-true _ _ r) (rw (t, s, r)) (omega arith) (λ z. omega arith) refl refl refl
+    c true r s t = one 0xB Place.thread_level 2 (eqb-true _ _ r) (rw (t, s, r)) (omega arith) (λ z. omega arith) refl refl refl
     c false r s t = d (eqb l.0 0x7) refl r s t
 
     b : (b : Bool) → eqb l.0 0x8000001D ≡ b → eqb l.0 0xD ≡ false → Which l
-    b true s t = one 0x8000001D (Place.cacheTopology 0) 4 (eqb-true _ _ s) (rw (t, s)) (omega arith) (λ z. omega arith) refl refl refl
+    b true s t = one 0x8000001D (Place.cache_topology 0) 4 (eqb-true _ _ s) (rw (t, s)) (omega arith) (λ z. omega arith) refl refl refl
     b false s t = c (eqb l.0 0xB) refl s t
 
     a : (b : Bool) → eqb l.0 0xD ≡ b → Which l
-    a true t = one 0xD (Place.extendedState 0) 64 (eqb-true _ _ t) (rw t) (omega arith) (λ z. omega arith) refl refl refl
+    a true t = one 0xD (Place.extended_state 0) 64 (eqb-true _ _ t) (rw t) (omega arith) (λ z. omega arith) refl refl refl
     a false t = b (eqb l.0 0x8000001D) refl t
 
 pub spans_fit : (l : CpuidFunction) → (span_of l).first + (span_of l).count ≤ places
@@ -122,13 +122,13 @@ pub alone_basic : (n : ℕ) → n < 0x2 → n ≡ place_alone (function n)
 unfolding place_alone with_subleaves place_whole place_of kept_leaves tabulate
 alone_basic n h = on_run (λ n. n) (λ n. place_alone (function n)) {a = 0} {b = 0x2} {i = n} (omega arith) h refl
 
-pub alone_mwait : (n : ℕ) → n ≡ 5 → Place.monitorMwait ≡ place_alone (function n)
+pub alone_mwait : (n : ℕ) → n ≡ 5 → Place.monitor_mwait ≡ place_alone (function n)
 unfolding place_alone with_subleaves place_whole place_of kept_leaves
 alone_mwait n h = rw h
 
-pub alone_extended : (n : ℕ) → 0x80000000 ≤ n → n < 0x80000009 → Place.extendedMaxFunction + (n - 0x80000000) ≡ place_alone (function n)
+pub alone_extended : (n : ℕ) → 0x80000000 ≤ n → n < 0x80000009 → Place.extended_max_function + (n - 0x80000000) ≡ place_alone (function n)
 unfolding place_alone with_subleaves place_whole place_of kept_leaves tabulate
-alone_extended n g h = on_run (λ n. Place.extendedMaxFunction + (n - 0x80000000)) (λ n. place_alone (function n)) {i = n} g h refl
+alone_extended n g h = on_run (λ n. Place.extended_max_function + (n - 0x80000000)) (λ n. place_alone (function n)) {i = n} g h refl
 
 pub alone_svm : (n : ℕ) → n ≡ 0x8000000A → 79 ≡ place_alone (function n)
 unfolding place_alone with_subleaves place_whole place_of kept_leaves
@@ -138,9 +138,9 @@ pub alone_tlb : (n : ℕ) → 0x80000019 ≤ n → n < 0x8000001B → 80 + (n - 
 unfolding place_alone with_subleaves place_whole place_of kept_leaves tabulate
 alone_tlb n g h = on_run (λ n. 80 + (n - 0x80000019)) (λ n. place_alone (function n)) {i = n} g h refl
 
-pub alone_last : (n : ℕ) → 0x8000001E ≤ n → n < 0x80000020 → Place.processorTopologyDefinition + (n - 0x8000001E) ≡ place_alone (function n)
+pub alone_last : (n : ℕ) → 0x8000001E ≤ n → n < 0x80000020 → Place.processor_topology_definition + (n - 0x8000001E) ≡ place_alone (function n)
 unfolding place_alone with_subleaves place_whole place_of kept_leaves tabulate
-alone_last n g h = on_run (λ n. Place.processorTopologyDefinition + (n - 0x8000001E)) (λ n. place_alone (function n)) {i = n} g h refl
+alone_last n g h = on_run (λ n. Place.processor_topology_definition + (n - 0x8000001E)) (λ n. place_alone (function n)) {i = n} g h refl
 
 -- any other leaf: it has subleaves, or no table has it
 

@@ -28,8 +28,8 @@ with_subleaves l =
 -- the place of a leaf without subleaves, the two made here included; 88 where no table has it
 unfoldable pub place_whole : CpuidFunction → ℕ
 place_whole l =
-    pick (same_function l VendorAndMaxFunction) Place.vendorAndMaxFunction
-    (pick (same_function l ExtendedMaxFunction) Place.extendedMaxFunction (place_of l 0))
+    pick (same_function l VendorAndMaxFunction) Place.vendor_and_max_function
+    (pick (same_function l ExtendedMaxFunction) Place.extended_max_function (place_of l 0))
 
 -- the same, and 88 for a leaf with subleaves
 unfoldable pub place_alone : CpuidFunction → ℕ
@@ -41,9 +41,9 @@ span first count = record { first = first; count = count }
 -- the places of a leaf with subleaves; none for any other
 unfoldable pub span_of : CpuidFunction → Span
 span_of l =
-    pick (eqb l.0 0xD) (span (Place.extendedState 0) 64)
-    (pick (eqb l.0 0x8000001D) (span (Place.cacheTopology 0) 4)
-    (pick (eqb l.0 0xB) (span Place.threadLevel 2) (pick (eqb l.0 0x7) (span Place.extendedFeatures 1) (span 0 0))))
+    pick (eqb l.0 0xD) (span (Place.extended_state 0) 64)
+    (pick (eqb l.0 0x8000001D) (span (Place.cache_topology 0) 4)
+    (pick (eqb l.0 0xB) (span Place.thread_level 2) (pick (eqb l.0 0x7) (span Place.extended_features 1) (span 0 0))))
 
 abbrev pub row_result : Row → LeafResult
 row_result r = pick r.present (Found r.result) Nothing

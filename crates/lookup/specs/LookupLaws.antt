@@ -62,7 +62,7 @@ module _ (l : CpuidFunction) where
 
 -- without a subleaf and with one, where past the last place there is no row
 module _ (t : CpuidResults) (past : row_result (row_in t places) ≡ Nothing) (l : CpuidFunction) where
-  asked_whole : (enforce : Bool) → lookup t l None enforce ≡ row_result (row_in t (place_asked l None enforce))
+  pub asked_whole : (enforce : Bool) → lookup t l None enforce ≡ row_result (row_in t (place_asked l None enforce))
   unfolding lookup place_asked
   asked_whole enforce = go (with_subleaves l)
     where
@@ -70,7 +70,7 @@ module _ (t : CpuidResults) (past : row_result (row_in t places) ≡ Nothing) (l
       go true = sym past
       go false = refl
 
-  asked_within : (k : ℕ) (enforce : Bool) → lookup t l (Some k) enforce ≡ row_result (row_in t (place_asked l (Some k) enforce))
+  pub asked_within : (k : ℕ) (enforce : Bool) → lookup t l (Some k) enforce ≡ row_result (row_in t (place_asked l (Some k) enforce))
   unfolding lookup place_asked
   asked_within k enforce = go (with_subleaves l) enforce
     where
@@ -80,23 +80,9 @@ module _ (t : CpuidResults) (past : row_result (row_in t places) ≡ Nothing) (l
       go false true = sym past
       go false false = refl
 
--- a table has 88 places
-module _ (t : CpuidResults) (whole : length t.present ≤ places) where
-  past_last : row_result (row_in t places) ≡ Nothing
-  past_last = rw (get_or-eq_default t.present false whole)
-
-  lookup_asked : (l : CpuidFunction) (sub : Subleaf) (enforce : Bool) → lookup t l sub enforce ≡ row_result (row_in t (place_asked l sub enforce))
-  lookup_asked l None enforce = asked_whole t past_last l enforce
-  lookup_asked l (Some k) enforce = asked_within t past_last l k enforce
-
-  -- so the row of that place is what is found
-  pub lookup_at : (l : CpuidFunction) (sub : Subleaf) (enforce : Bool) (i : ℕ) → i ≡ place_asked l sub enforce
-      → row_result (row_in t i) ≡ lookup t l sub enforce
-  lookup_at l sub enforce i e = rw e (sym (lookup_asked l sub enforce))
-
 -- ---- a refused table
 
-empty_absent : (i : ℕ) → (row_in empty_table i).present ≡ false
+pub empty_absent : (i : ℕ) → (row_in empty_table i).present ≡ false
 empty_absent i = go (ltb i places) refl
   where
     go : (b : Bool) → ltb i places ≡ b → (row_in empty_table i).present ≡ false
@@ -104,9 +90,3 @@ empty_absent i = go (ltb i places) refl
     go false e =
         let past : length (replicate places false) ≤ i = omega (arith, length-replicate places false, ltb-false i places e) in
         get_or-eq_default (replicate places false) false past
-
--- "in a refused table it finds nothing"
-pub empty_finds_nothing : (l : CpuidFunction) (sub : Subleaf) (enforce : Bool) → lookup empty_table l sub enforce ≡ Nothing
-empty_finds_nothing l sub enforce =
-    sym (lookup_at empty_table (le_of_eq (length-replicate places false)) l sub enforce (place_asked l sub enforce) refl)
-    ∙ pick_false _ _ (empty_absent (place_asked l sub enforce))

@@ -1,5 +1,7 @@
 // Lookup in a table in lent memory, as the source's leaf_result_ref: finds the row of a leaf and subleaf with its origin, enforcing or not, or
 // nothing.
+#![tactic(auto)]
+
 ghost use Rattle.std.specs.Prelude.{◌≡◌, ◌+◌, ◌≤◌, ltb};
 ghost use Rattle.bits.specs.Choice.{pick};
 ghost use Rattle.masking.specs.Kept.{places};
@@ -12,14 +14,14 @@ use table::Subleaf;
 use x86defs::{CpuidFunction, CpuidResult, leaf};
 
 // What `leaf_result_ref` gives.
-#[derive(Drop)]
+#[derive(Clone, Copy)]
 pub enum LeafResult {
     Some(CpuidResult),
     None,
 }
 
 // A row that is found, with the number of where it came from.
-#[derive(Drop)]
+#[derive(Clone, Copy)]
 pub enum Found {
     Row(CpuidResult, u64),
     NoRow,
@@ -50,7 +52,7 @@ pub fn find(
 }
 
 // The place that a question asks for, or that it has no answer.
-#[derive(Drop)]
+#[derive(Clone, Copy)]
 pub enum PlaceAsked {
     At(usize),
     Nowhere,
@@ -74,7 +76,7 @@ pub fn place_asked(leaf: CpuidFunction, subleaf: Subleaf, enforce_subleaf: bool)
 }
 
 // The places of a leaf with subleaves: the first, and how many.
-#[derive(Drop)]
+#[derive(Clone, Copy)]
 pub struct Span {
     pub first: usize,
     pub count: u32,

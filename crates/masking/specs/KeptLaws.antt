@@ -39,13 +39,13 @@ pub named_leaves : (k : ℕ)
     ∷ place_of ProcessorTopologyDefinition k
     ∷ place_of ExtendedSevFeatures k
     ∷ []
-    ≡ Place.versionAndFeatures
-    ∷ Place.monitorMwait
-    ∷ Place.extendedVersionAndFeatures
-    ∷ Place.extendedAddressSpaceSizes
-    ∷ Place.extendedOptimizationIdentifiers
-    ∷ Place.processorTopologyDefinition
-    ∷ Place.extendedSevFeatures
+    ≡ Place.version_and_features
+    ∷ Place.monitor_mwait
+    ∷ Place.extended_version_and_features
+    ∷ Place.extended_address_space_sizes
+    ∷ Place.extended_optimization_identifiers
+    ∷ Place.processor_topology_definition
+    ∷ Place.extended_sev_features
     ∷ []
 unfolding place_of kept_leaves
 named_leaves k = refl
@@ -53,17 +53,17 @@ named_leaves k = refl
 -- of a leaf with subleaves
 pub named_subleaves :
     place_of ExtendedFeatures 0 ∷ place_of ExtendedTopologyEnumeration 0 ∷ place_of ExtendedTopologyEnumeration 1 ∷ place_of CacheTopologyDefinition 0 ∷ []
-    ≡ Place.extendedFeatures ∷ Place.threadLevel ∷ Place.coreLevel ∷ Place.cacheTopology 0 ∷ []
+    ≡ Place.extended_features ∷ Place.thread_level ∷ Place.core_level ∷ Place.cache_topology 0 ∷ []
 unfolding place_of kept_leaves
 named_subleaves = refl
 
 -- D.k
-pub extended_state_place : (k : ℕ) → k < 64 → place_of ExtendedStateEnumeration k ≡ Place.extendedState k
+pub extended_state_place : (k : ℕ) → k < 64 → place_of ExtendedStateEnumeration k ≡ Place.extended_state k
 unfolding place_of kept_leaves
-extended_state_place k h = eqb-true _ _ (every_at (λ k. eqb (place_of ExtendedStateEnumeration k) (Place.extendedState k)) 64 refl k h)
+extended_state_place k h = eqb-true _ _ (every_at (λ k. eqb (place_of ExtendedStateEnumeration k) (Place.extended_state k)) 64 refl k h)
 
 pub made_leaves :
-    leaf_at Place.vendorAndMaxFunction ∷ leaf_at Place.extendedMaxFunction ∷ [] ≡ VendorAndMaxFunction ∷ ExtendedMaxFunction ∷ []
+    leaf_at Place.vendor_and_max_function ∷ leaf_at Place.extended_max_function ∷ [] ≡ VendorAndMaxFunction ∷ ExtendedMaxFunction ∷ []
 unfolding slot kept_leaves
 made_leaves = refl
 

@@ -1,15 +1,13 @@
 -- The code's table of kept leaves gives each of the 88 places its masks.
 use Rattle.std.specs.Prelude.{◌≡◌, refl, Bool, true, false, ◌||◌, List, [], ◌∷◌, map, ℕ, ◌-◌, ◌<◌, eqb, ltb, get_or}
-use Rattle.std.proofs.Common.{sym, ap, ◌∙◌}
+use Rattle.std.proofs.Common.{sym, ◌∙◌}
 use Rattle.bits.specs.Choice.{pick}
 use Rattle.bits.specs.ChoiceLaws.{pick_false}
 use Rattle.bits.specs.Bits.{mask_of, field_mask}
 use Rattle.bits.specs.Lists.{tabulate}
 use Rattle.bits.specs.ListsLaws.{tabulate_at}
-use Rattle.x86defs.specs.declared.CpuidResult.{CpuidResult}
 use Rattle.x86defs.specs.Functions.{cpuid_result}
 use Rattle.x86defs.specs.Fields.{fields_mask}
-use Rattle.masking.specs.declared.masks.KeptLeaf.{KeptLeaf}
 use Rattle.masking.specs.Masks.{Masks, all_ones, combine, version_and_features, extended_features, extended_state0, extended_state1, extended_version_and_features, extended_address_space_sizes, extended_svm, extended_optimization, extended_sev, secure_avic_mask}
 use Rattle.masking.specs.Kept.{Kept, kept_leaves, places_of, places, slot_in, slot, masks_at}
 use Rattle.masking.specs.Place
@@ -34,7 +32,7 @@ masks_of_row avic i = masks_in_lem (kept_leaves avic) i
 
 -- document 01: the secure-AVIC choice "adds one bit to 8000001Fh.EAX"; it adds nothing to any other mask
 abbrev pub added_to : Bool → ℕ → Masks
-added_to avic i = combine (masks_at false i) (cpuid_result (pick (eqb i Place.extendedSevFeatures) (secure_avic_mask avic) 0) 0 0 0)
+added_to avic i = combine (masks_at false i) (cpuid_result (pick (eqb i Place.extended_sev_features) (secure_avic_mask avic) 0) 0 0 0)
 
 pub secure_avic_adds : (avic : Bool) (i : ℕ) → i < places → masks_at avic i ≡ added_to avic i
 unfolding slot kept_leaves version_and_features extended_features extended_state0 extended_state1 extended_version_and_features extended_address_space_sizes extended_svm extended_optimization extended_sev secure_avic_mask mask_of fields_mask field_mask tabulate
@@ -49,13 +47,13 @@ is_one (n ∷ ns) i = eqb i n || is_one ns i
 
 abbrev pub is_basic_masked : ℕ → Bool
 is_basic_masked =
-    is_one (Place.extendedState 1 ∷ Place.extendedState 0 ∷ Place.extendedFeatures ∷ Place.versionAndFeatures ∷ Place.vendorAndMaxFunction ∷ [])
+    is_one (Place.extended_state 1 ∷ Place.extended_state 0 ∷ Place.extended_features ∷ Place.version_and_features ∷ Place.vendor_and_max_function ∷ [])
 
 abbrev pub is_extended_masked : ℕ → Bool
 is_extended_masked =
     is_one
-    (Place.extendedSevFeatures ∷ Place.processorTopologyDefinition ∷ Place.extendedOptimizationIdentifiers ∷ 80 ∷ 79
-    ∷ Place.extendedAddressSpaceSizes ∷ Place.extendedVersionAndFeatures ∷ Place.extendedMaxFunction ∷ [])
+    (Place.extended_sev_features ∷ Place.processor_topology_definition ∷ Place.extended_optimization_identifiers ∷ 80 ∷ 79
+    ∷ Place.extended_address_space_sizes ∷ Place.extended_version_and_features ∷ Place.extended_max_function ∷ [])
 
 abbrev pub is_masked : ℕ → Bool
 is_masked i = is_extended_masked i || is_basic_masked i

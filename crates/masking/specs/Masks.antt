@@ -7,10 +7,10 @@ use Rattle.bits.specs.Bits.{mask_of}
 use Rattle.x86defs.specs.declared.CpuidResult.{CpuidResult}
 use Rattle.x86defs.specs.Functions.{cpuid_result}
 use Rattle.x86defs.specs.Fields.{fields_mask}
-use Rattle.x86defs.specs.Fields.Field.{processor-stepping, processor-model, processor-family, processor-type, extended-model, extended-family}
-use Rattle.x86defs.specs.Fields.Field.{brand-index, clflush-line-size, lps-per-package, initial-apic-id, brand-id, pkg-type}
-use Rattle.x86defs.specs.Fields.Field.{physical-address-size, virtual-address-size, nc, apic-core-id-size, invlpgb-count-max, rdpru-max-ecx}
-use Rattle.x86defs.specs.Fields.Field.{svm_rev, cbit-position, encryption-physical-bits-used, number-of-vmpls}
+use Rattle.x86defs.specs.Fields.Field.{processor_stepping, processor_model, processor_family, processor_type, extended_model, extended_family}
+use Rattle.x86defs.specs.Fields.Field.{brand_index, clflush_line_size, lps_per_package, initial_apic_id, brand_id, pkg_type}
+use Rattle.x86defs.specs.Fields.Field.{physical_address_size, virtual_address_size, nc, apic_core_id_size, invlpgb_count_max, rdpru_max_ecx}
+use Rattle.x86defs.specs.Fields.Field.{svm_rev, cbit_position, encryption_physical_bits_used, number_of_vmpls}
 use Rattle.x86defs.specs.VersionAndFeaturesEcx
 use Rattle.x86defs.specs.VersionAndFeaturesEdx
 use Rattle.x86defs.specs.ExtendedFeatureSubleaf0Ebx
@@ -45,7 +45,7 @@ abbrev pub combine : Masks → Masks → Masks
 combine m n = cpuid_result (bit_or m.eax n.eax) (bit_or m.ebx n.ebx) (bit_or m.ecx n.ecx) (bit_or m.edx n.edx)
 
 signature : ℕ
-signature = fields_mask (processor-stepping ∷ processor-model ∷ processor-family ∷ processor-type ∷ extended-model ∷ extended-family ∷ [])
+signature = fields_mask (processor_stepping ∷ processor_model ∷ processor_family ∷ processor_type ∷ extended_model ∷ extended_family ∷ [])
 
 -- 1
 unfoldable pub version_and_features : Masks
@@ -53,7 +53,7 @@ unfolding signature
 version_and_features =
     cpuid_result
     signature
-    (fields_mask (brand-index ∷ clflush-line-size ∷ lps-per-package ∷ initial-apic-id ∷ []))
+    (fields_mask (brand_index ∷ clflush_line_size ∷ lps_per_package ∷ initial_apic_id ∷ []))
     (mask_of VersionAndFeaturesEcx.position VersionAndFeaturesEcx.kept)
     (mask_of VersionAndFeaturesEdx.position VersionAndFeaturesEdx.kept)
 
@@ -86,21 +86,21 @@ extended_version_and_features =
     combine
     (cpuid_result
     signature
-    (fields_mask (brand-id ∷ pkg-type ∷ []))
+    (fields_mask (brand_id ∷ pkg_type ∷ []))
     (mask_of ExtendedVersionAndFeaturesEcx.position ExtendedVersionAndFeaturesEcx.kept)
     (mask_of ExtendedVersionAndFeaturesEdx.position ExtendedVersionAndFeaturesEdx.kept))
-    (cpuid_result 0 0 0 (mask_of ExtendedVersionAndFeaturesEdx.position ExtendedVersionAndFeaturesEdx.keptBySnp))
+    (cpuid_result 0 0 0 (mask_of ExtendedVersionAndFeaturesEdx.position ExtendedVersionAndFeaturesEdx.kept_by_snp))
 
 -- 80000008h: the masks of masking.rs, then those of snp.rs
 unfoldable pub extended_address_space_sizes : Masks
 extended_address_space_sizes =
     combine
-    (cpuid_result (fields_mask (physical-address-size ∷ virtual-address-size ∷ [])) 0 0 0)
+    (cpuid_result (fields_mask (physical_address_size ∷ virtual_address_size ∷ [])) 0 0 0)
     (cpuid_result
     0
     (mask_of ExtendedAddressSpaceSizesEbx.position ExtendedAddressSpaceSizesEbx.kept)
-    (fields_mask (nc ∷ apic-core-id-size ∷ []))
-    (fields_mask (invlpgb-count-max ∷ rdpru-max-ecx ∷ [])))
+    (fields_mask (nc ∷ apic_core_id_size ∷ []))
+    (fields_mask (invlpgb_count_max ∷ rdpru_max_ecx ∷ [])))
 
 -- 8000000Ah
 unfoldable pub extended_svm : Masks
@@ -120,13 +120,13 @@ processor_topology = cpuid_result ones ones ones 0
 
 -- "The secure-AVIC choice, yes or no, adds one bit to 8000001Fh.EAX"
 unfoldable pub secure_avic_mask : Bool → ℕ
-secure_avic_mask avic = pick avic (mask_of ExtendedSevFeaturesEax.position (ExtendedSevFeaturesEax.ExtendedSevFeaturesEax.secure-avic ∷ [])) 0
+secure_avic_mask avic = pick avic (mask_of ExtendedSevFeaturesEax.position (ExtendedSevFeaturesEax.ExtendedSevFeaturesEax.secure_avic_bit ∷ [])) 0
 
 -- 8000001Fh
 unfoldable pub extended_sev : Bool → Masks
 extended_sev avic =
     cpuid_result
     (bit_or (mask_of ExtendedSevFeaturesEax.position ExtendedSevFeaturesEax.kept) (secure_avic_mask avic))
-    (fields_mask (cbit-position ∷ encryption-physical-bits-used ∷ number-of-vmpls ∷ []))
+    (fields_mask (cbit_position ∷ encryption_physical_bits_used ∷ number_of_vmpls ∷ []))
     ones
     ones

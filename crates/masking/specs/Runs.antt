@@ -3,7 +3,7 @@ use Rattle.std.specs.Prelude.{Bool, false, not, ◌&&◌, ℕ, ◌+◌, ◌-◌,
 use Rattle.bits.specs.Choice.{pick}
 use Rattle.bits.specs.Search.{every}
 use Rattle.x86defs.specs.declared.CpuidFunction.{CpuidFunction}
-use Rattle.x86defs.specs.Functions.{function, same_function}
+use Rattle.x86defs.specs.Functions.{function}
 use Rattle.masking.specs.declared.run.Run.{Run}
 use Rattle.masking.specs.Kept.{Slot, places, slot}
 use Rattle.masking.specs.MaskTable.{row_of_place}

@@ -1,4 +1,6 @@
 // The 88 places of the kept leaves, and their masks: the place of a leaf and subleaf, and the masks of an entry's registers.
+#![tactic(auto)]
+
 ghost use Rattle.std.specs.Prelude.{◌≡◌, true, ◌+◌, ◌≤◌, ◌<◌, ltb};
 ghost use Rattle.bits.specs.Choice.{pick};
 ghost use Rattle.masking.specs.Kept.{places, place_of, leaf_at, indexed_at, subleaf_at};

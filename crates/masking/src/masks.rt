@@ -9,7 +9,7 @@ use x86defs::{CpuidFunction, CpuidResult, leaf};
 
 // One row of the table: a leaf, its four masks, and whether the leaf has subleaves. Leaf Dh has three rows, for subleaf 0, for subleaf 1,
 // and for subleaves 2 to 63.
-#[derive(Drop)]
+#[derive(Clone, Copy)]
 pub struct KeptLeaf {
     pub leaf: CpuidFunction,
     pub eax: u32,

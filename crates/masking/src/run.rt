@@ -6,7 +6,7 @@ use x86defs::CpuidFunction;
 // A run of `count` places from `first` on. An indexed run has the subleaves of `leaf` from 0 on, any other run the leaves from `leaf` on. The
 // first place has its row `row` in the table of kept leaves, which names its leaf and whether that has subleaves; each next place has the next row,
 // but none has a row after `last_row`.
-#[derive(Drop)]
+#[derive(Clone, Copy)]
 pub struct Run {
     pub first: usize,
     pub count: u32,

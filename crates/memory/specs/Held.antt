@@ -31,7 +31,7 @@ flag_at o i h = get_d_tabulate places (λ j. is_there (get_or o j 0)) i false h
 pub mask_ext : {a b : Rows} → ((i : ℕ) → i < places → a i ≡ b i) → combined_mask a ≡ combined_mask b
 unfolding combined_mask xfem xss
 mask_ext e =
-    ap₂ (λ (d0 d1 : Row). bit_or d0.result.eax (xss_of d1.result)) (e (Place.extendedState 0) (lit< tt)) (e (Place.extendedState 1) (lit< tt))
+    ap₂ (λ (d0 d1 : Row). bit_or d0.result.eax (xss_of d1.result)) (e (Place.extended_state 0) (lit< tt)) (e (Place.extended_state 1) (lit< tt))
 
 pub whole_ext : {a b : Rows} → ((i : ℕ) → i < places → a i ≡ b i) → whole_of a ≡ whole_of b
 whole_ext e = table_ext e (mask_ext e)
@@ -42,7 +42,7 @@ mask_held_lem w o = refl
 
 -- ---- cleared memory holds the empty table
 
-pub empty_whole : whole_of (Tables.rowsOfTable empty_table) ≡ empty_table
+pub empty_whole : whole_of (Tables.rows_of_table empty_table) ≡ empty_table
 unfolding tabulate count_rows sum_to combined_mask xfem xss has bit
 empty_whole = refl
 

@@ -24,7 +24,7 @@ flags o = tabulate places (λ i. is_there (get_or o i 0))
 
 -- the mask as the code reads it
 abbrev pub mask_held : List ℕ → ℕ
-mask_held w = bit_or (row_of w (Place.extendedState 0)).eax (xss_of (row_of w (Place.extendedState 1)))
+mask_held w = bit_or (row_of w (Place.extended_state 0)).eax (xss_of (row_of w (Place.extended_state 1)))
 
 -- how many of the first n places have a row
 abbrev pub count_to : List ℕ → ℕ → ℕ

@@ -9,13 +9,13 @@ use Rattle.memory.specs.declared.origins.OriginRead.{OriginRead}
 
 -- an entry is told by its page and its position there, both from 0
 pub data Origin : Type 0 where
-  neither made_here notKnown : Origin
+  neither made_here not_known : Origin
   entry : ℕ → ℕ → Origin
 
 -- "made here" for 0, 80000000h, B.0 and B.1
 unfoldable pub is_made_here : ℕ → Bool
 is_made_here i =
-    eqb i Place.vendorAndMaxFunction || (eqb i Place.extendedMaxFunction || (eqb i Place.threadLevel || eqb i Place.coreLevel))
+    eqb i Place.vendor_and_max_function || (eqb i Place.extended_max_function || (eqb i Place.thread_level || eqb i Place.core_level))
 
 -- the origin of the row at place i: whether it is there, and where the first entry of the place stands
 unfoldable pub origin_of : Bool → ℕ → Origin → Origin
@@ -27,7 +27,7 @@ origin_of present i first = pick present (pick (is_made_here i) made_here first)
 abbrev pub origin_number : Origin → ℕ
 origin_number neither = 0
 origin_number made_here = 1
-origin_number notKnown = 3
+origin_number not_known = 3
 origin_number (entry page position) = 4 + 64 * page + position
 
 -- a table's column of origins, from the flags of its rows and the numbers of the first entries
@@ -43,5 +43,5 @@ origin_read n =
 abbrev pub origin_told : Origin → OriginRead
 origin_told neither = record { origin = 0; page = 0; position = 0 }
 origin_told made_here = record { origin = 1; page = 0; position = 0 }
-origin_told notKnown = record { origin = 3; page = 0; position = 0 }
+origin_told not_known = record { origin = 3; page = 0; position = 0 }
 origin_told (entry page position) = record { origin = 2; page = page; position = position }

@@ -8,7 +8,7 @@ use Rattle.bits.specs.ListsLaws.{get_d_tabulate, tabulate_ext}
 use Rattle.masking.specs.Kept.{places}
 use Rattle.masking.specs.Place
 use Rattle.memory.specs.Origin.{Origin, is_made_here, origin_of, origin_number, finished_origins, origin_read, origin_told}
-use Rattle.memory.specs.Origin.Origin.{neither, made_here, notKnown, entry}
+use Rattle.memory.specs.Origin.Origin.{neither, made_here, not_known, entry}
 
 -- "Pages beyond 32 bits of number": any page, and any position below 64
 pub entry_read : (p q : ℕ) → q < 64 → origin_read (origin_number (entry p q)) ≡ origin_told (entry p q)
@@ -26,7 +26,7 @@ pub made_read : origin_read (origin_number made_here) ≡ origin_told made_here
 unfolding origin_read
 made_read = refl
 
-pub not_known_read : origin_read (origin_number notKnown) ≡ origin_told notKnown
+pub not_known_read : origin_read (origin_number not_known) ≡ origin_told not_known
 unfolding origin_read
 not_known_read = refl
 
@@ -52,4 +52,4 @@ finished_origins_lem present first =
 -- the stores of the code: the four rows that are made here
 
 abbrev pub marked : List ℕ → List ℕ
-marked l = set (set (set (set l Place.coreLevel 1) Place.threadLevel 1) Place.extendedMaxFunction 1) Place.vendorAndMaxFunction 1
+marked l = set (set (set (set l Place.core_level 1) Place.thread_level 1) Place.extended_max_function 1) Place.vendor_and_max_function 1

@@ -15,7 +15,6 @@ use Rattle.nearest.specs.OneBit.{one_bit, xor_result}
 use Rattle.nearest.specs.SameVerdict.{same_from}
 use Rattle.nearest.specs.WithRow.{with_row}
 use Rattle.nearest.specs.Irrelevant.{irrelevant}
-use Rattle.nearest.specs.IrrelevantLaws.{irrelevant_same}
 use Rattle.nearest.specs.declared.search.decisive.Decisive.{Decisive}
 use Rattle.nearest.specs.declared.search.decisive.Decisive.TheVariants.{Number, NoNumber}
 
@@ -29,36 +28,3 @@ bit_found none = NoNumber
 
 unfoldable pub first_bit : ℕ → Rows → KeptLeaf → ℕ → CpuidResult → Decisive
 first_bit n m kept i x = bit_found (lowest (keeps n m kept i x) 0 128)
-
-module _ (n : ℕ) (m : Rows) (kept : KeptLeaf) (i : ℕ) (x : CpuidResult) where
-  -- what the code finds of flip j
-  pub keeps_found : {y z : CpuidResult} {b : Bool} (j : ℕ) → y ≡ xor_result x (one_bit (j / 32) (j % 32)) → z ≡ set_legacy i (apply_mask (masks_of kept) y)
-      → b ≡ same_from n (with_row i z m) m → b ≡ keeps n m kept i x j
-  unfolding keeps
-  keeps_found j e f g =
-      g ∙ ap (λ (w : CpuidResult). same_from n (with_row i w m) m) (f ∙ ap (λ (w : CpuidResult). set_legacy i (apply_mask (masks_of kept) w)) e)
-
-  -- what is left to search from j on
-  unfoldable pub bit_from : ℕ → Decisive
-  bit_from j = bit_found (lowest (keeps n m kept i x) j (128 - j))
-
-  pub bit_first : first_bit n m kept i x ≡ bit_from 0
-  unfolding first_bit bit_from
-  bit_first = refl
-
-  pub bit_passes : (j : ℕ) → j < 128 → keeps n m kept i x j ≡ true → bit_from j ≡ bit_from (j + 1)
-  unfolding bit_from
-  bit_passes j l e = ap bit_found (lowest_passes (keeps n m kept i x) 128 j l e)
-
-  pub bit_stops : (j : ℕ) → j < 128 → keeps n m kept i x j ≡ false → bit_from j ≡ Number j
-  unfolding bit_from
-  bit_stops j l e = ap bit_found (lowest_stops (keeps n m kept i x) 128 j l e)
-
-  pub bit_ends : (j : ℕ) → 128 ≤ j → bit_from j ≡ NoNumber
-  unfolding bit_from
-  bit_ends j l = ap bit_found (lowest_ends (keeps n m kept i x) 128 j l)
-
-  -- at a irrelevant place no bit decides
-  pub bit_irrelevant : (m i).present ≡ true → irrelevant m i ≡ true → NoNumber ≡ first_bit n m kept i x
-  unfolding first_bit keeps
-  bit_irrelevant e f = sym (ap bit_found (lowest_all (keeps n m kept i x) 0 128 (λ j l u. irrelevant_same n i _ m e f)))

@@ -106,15 +106,15 @@ module _ (p q r k : ℕ) where
 
   lowest : {a : ℕ} (done : List Entry) (e : Entry) (es : List Entry) → Rising a (done ++ e ∷ es) → a ≤ rank e
   lowest [] e es (next g t) = g
-  lowest (d ∷ done) e es (next g t) = let u = lowest done e es t in omega arith
+  lowest {a = a} (d ∷ done) e es (next g t) = let u = lowest {a = suc (rank d)} done e es t in omega arith
 
   pub around : {a : ℕ} (done : List Entry) (e : Entry) (es : List Entry) → Rising a (done ++ e ∷ es) → e.page ≡ p → e.position ≡ q
       → map (flip_at p q r k) (done ++ e ∷ es) ≡ done ++ flip_entry r k e ∷ es
   around [] e es (next g t) x y =
       ap₂ ◌∷◌ (unfold flip_at in rw (eq-eqb e.page p x, eq-eqb e.position q y)) (above {a = suc (rank e)} (omega arith) t)
-  around (d ∷ done) e es (next g t) x y =
-      let u = lowest done e es t in
-      ap₂ ◌∷◌ (flip_other d (λ z. omega arith)) (around done e es t x y)
+  around {a = a} (d ∷ done) e es (next g t) x y =
+      let u = lowest {a = suc (rank d)} done e es t in
+      ap₂ ◌∷◌ (flip_other d (λ z. omega arith)) (around {a = suc (rank d)} done e es t x y)
 
 -- a flip of an entry among the others
 pub flip_among : (s : List ℕ) (p q r k : ℕ) → Inside s p q r k → counts_fit s ≡ true → (done es : List Entry) → entries s ≡ done ++ entry_at s p q ∷ es

@@ -24,12 +24,12 @@ use Rattle.nearest.specs.WithRowLaws.{put_other, put_present, required_same}
 
 -- place i is none that a check reads the registers of
 pub record Unread (m : Rows) (i : ℕ) : Type 0 where
-  pub version : Place.versionAndFeatures ≢ i
-  pub definition : Place.processorTopologyDefinition ≢ i
-  pub sizes : Place.extendedAddressSpaceSizes ≢ i
-  pub state0 : Place.extendedState 0 ≢ i
-  pub state1 : Place.extendedState 1 ≢ i
-  pub states : (k : ℕ) → 2 ≤ k → k < 64 → has k (combined_mask m) ≡ true → Place.extendedState k ≢ i
+  pub version : Place.version_and_features ≢ i
+  pub definition : Place.processor_topology_definition ≢ i
+  pub sizes : Place.extended_address_space_sizes ≢ i
+  pub state0 : Place.extended_state 0 ≢ i
+  pub state1 : Place.extended_state 1 ≢ i
+  pub states : (k : ℕ) → 2 ≤ k → k < 64 → has k (combined_mask m) ≡ true → Place.extended_state k ≢ i
 
 module _ (i : ℕ) (x : CpuidResult) (m : Rows) (present : (m i).present ≡ true) (u : Unread m i) where
   abbrev o : Rows
@@ -37,11 +37,11 @@ module _ (i : ℕ) (x : CpuidResult) (m : Rows) (present : (m i).present ≡ tru
 
   xfem_same : xfem o ≡ xfem m
   unfolding xfem
-  xfem_same = ap (λ (r : Row). r.result.eax) (put_other i x m (Place.extendedState 0) u.state0)
+  xfem_same = ap (λ (r : Row). r.result.eax) (put_other i x m (Place.extended_state 0) u.state0)
 
   xss_same : xss o ≡ xss m
   unfolding xss
-  xss_same = ap (λ (r : Row). xss_of r.result) (put_other i x m (Place.extendedState 1) u.state1)
+  xss_same = ap (λ (r : Row). xss_of r.result) (put_other i x m (Place.extended_state 1) u.state1)
 
   pub mask_same : combined_mask o ≡ combined_mask m
   unfolding combined_mask
@@ -49,18 +49,18 @@ module _ (i : ℕ) (x : CpuidResult) (m : Rows) (present : (m i).present ≡ tru
 
   invlpgb_same : invlpgb_verdict o ≡ invlpgb_verdict m
   unfolding invlpgb_verdict
-  invlpgb_same = ap (λ (r : Row). invlpgb_of r.result) (put_other i x m Place.extendedAddressSpaceSizes u.sizes)
+  invlpgb_same = ap (λ (r : Row). invlpgb_of r.result) (put_other i x m Place.extended_address_space_sizes u.sizes)
 
   components_same : components_verdict o ≡ components_verdict m
   unfolding components_verdict components_of
   components_same =
       ap (λ (t : ℕ → Bool). refuse_at (lowest t 2 62) missing_component)
-      (fun_ext (λ j k. pick (has j (mask_same k)) (put_present i x m present (Place.extendedState j) k) true))
+      (fun_ext (λ j k. pick (has j (mask_same k)) (put_present i x m present (Place.extended_state j) k) true))
 
   -- what the sums are over XFEM
   sum_same : (k : ℕ) → 2 ≤ k → k < 64 → has k (xfem m) ≡ true → sum_at o k ≡ sum_at m k
   sum_same k l h e =
-      ap (λ (r : Row). r.result.eax + r.result.ebx) (put_other i x m (Place.extendedState k) (u.states k l h (in_combined m k e)))
+      ap (λ (r : Row). r.result.eax + r.result.ebx) (put_other i x m (Place.extended_state k) (u.states k l h (in_combined m k e)))
 
   area_same : save_area o (xfem o) ≡ save_area m (xfem m)
   area_same =
@@ -73,9 +73,9 @@ module _ (i : ℕ) (x : CpuidResult) (m : Rows) (present : (m i).present ≡ tru
   unfolding inputs_of
   inputs_same =
       rw (
-        put_other i x m Place.extendedAddressSpaceSizes u.sizes,
-        put_other i x m Place.versionAndFeatures u.version,
-        put_other i x m Place.processorTopologyDefinition u.definition,
+        put_other i x m Place.extended_address_space_sizes u.sizes,
+        put_other i x m Place.version_and_features u.version,
+        put_other i x m Place.processor_topology_definition u.definition,
       )
 
   -- so no check finds anything else
@@ -87,7 +87,7 @@ module _ (i : ℕ) (x : CpuidResult) (m : Rows) (present : (m i).present ≡ tru
       (and_then (components_same k) (and_then (size_verdict (size_of (area_same k))) (topology_refusal (topology_of (inputs_same k))))))
 
   -- and rules have from other rows what they had
-  pub settings_same : Place.extendedSevFeatures ≢ i → (n : ℕ) → settings n o ≡ settings n m
+  pub settings_same : Place.extended_sev_features ≢ i → (n : ℕ) → settings n o ≡ settings n m
   unfolding settings enabled_by
   settings_same sev n k = record {
     clears = ymm_clears n;
@@ -95,8 +95,8 @@ module _ (i : ℕ) (x : CpuidResult) (m : Rows) (present : (m i).present ≡ tru
       xfem = xfem_same k;
       xss = xss_same k;
       tsc_aux =
-          has (Sev.position Sev.ExtendedSevFeaturesEax.tsc-aux-virtualization)
-          (ap (λ (r : Row). r.result.eax) (put_other i x m Place.extendedSevFeatures sev) k);
+          has (Sev.position Sev.ExtendedSevFeaturesEax.tsc_aux_virtualization)
+          (ap (λ (r : Row). r.result.eax) (put_other i x m Place.extended_sev_features sev) k);
     };
     save_area = area_same k;
     threads = thread_level (inputs_same k).t;

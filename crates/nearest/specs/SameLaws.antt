@@ -36,15 +36,11 @@ table_same t =
     (and_both (eqb_same t.max_extended_state)
     (every_all _ places (λ i. and_both (agree_same (row_in t i).present) (result_same (row_in t i).result))))
 
-numbers_same : (n : AnswerNumbers) → same_numbers n n ≡ true
+pub numbers_same : (n : AnswerNumbers) → same_numbers n n ≡ true
 unfolding same_numbers
 numbers_same n =
     and_both (eqb_same n.number)
     (and_both (eqb_same n.leaf) (and_both (eqb_same n.has_subleaf) (and_both (eqb_same n.subleaf) (eqb_same n.s))))
-
-pub answer_same : {v w : Verdict} {t u : CpuidResults} → v ≡ w → t ≡ u → same_answer v t w u ≡ true
-unfolding same_answer
-answer_same {v} {w} {t} {u} e f = rw (e, f) (and_both (numbers_same (numbers_of w)) (table_same u))
 
 -- ---- the same registers are equal
 

@@ -23,7 +23,7 @@ module _ (m : Rows) (i : ℕ) where
   irrelevant_missing e = rw e
 
   pub irrelevant_clear : {r : Refusal} → required_verdict m ≡ Accepted → invlpgb_verdict m ≡ Refused r
-      → not (eqb i Place.extendedAddressSpaceSizes) ≡ irrelevant m i
+      → not (eqb i Place.extended_address_space_sizes) ≡ irrelevant m i
   unfolding irrelevant
   irrelevant_clear e f = rw (e, f)
 
@@ -38,7 +38,7 @@ module _ (m : Rows) (i : ℕ) where
   relevant_required = go (required_verdict m)
     where
       go : (v : Verdict) → pick (refuses v) true
-          (pick (refuses (invlpgb_verdict m)) (not (eqb i Place.extendedAddressSpaceSizes))
+          (pick (refuses (invlpgb_verdict m)) (not (eqb i Place.extended_address_space_sizes))
           (irrelevant_at (refuses (rows_verdict m)) (combined_mask m) i))
           ≡ false
           → v ≡ Accepted
@@ -47,14 +47,14 @@ module _ (m : Rows) (i : ℕ) where
 
 module _ (i : ℕ) where
   -- the bounds of a component
-  pub component_from : is_component i ≡ true → Place.extendedState 2 ≤ i
+  pub component_from : is_component i ≡ true → Place.extended_state 2 ≤ i
   component_from e = leb-true _ i (and_left _ _ e)
 
-  pub component_below : is_component i ≡ true → i < Place.extendedState 64
-  component_below e = ltb-true i _ (and_right (leb (Place.extendedState 2) i) _ e)
+  pub component_below : is_component i ≡ true → i < Place.extended_state 64
+  component_below e = ltb-true i _ (and_right (leb (Place.extended_state 2) i) _ e)
 
 module _ (b : Bool) (x i : ℕ) where
-  pub at_component : is_component i ≡ true → {h : Bool} → h ≡ has (i - Place.extendedState 0) x → not h ≡ irrelevant_at b x i
+  pub at_component : is_component i ≡ true → {h : Bool} → h ≡ has (i - Place.extended_state 0) x → not h ≡ irrelevant_at b x i
   unfolding irrelevant_at
   at_component e f = rw (e, f)
 

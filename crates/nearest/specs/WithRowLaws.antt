@@ -68,11 +68,11 @@ pub record AllBut (m : Rows) (o w : List ℕ) (i : ℕ) : Type 0 where
   pub rows : (x : CpuidResult) → with_row i x (rows_in w o) ≡ with_row i x m
 
 module _ (o : List ℕ) (i : ℕ) (small : i < places) (there : is_there (get_or o i 0) ≡ true) where
-  put_row_lem : (w : List ℕ) (x : CpuidResult) → length w ≡ 4 * places → rows_in (Memory.putRow w i x) o ≡ with_row i x (rows_in w o)
+  put_row_lem : (w : List ℕ) (x : CpuidResult) → length w ≡ 4 * places → rows_in (Memory.put_row w i x) o ≡ with_row i x (rows_in w o)
   unfolding with_row
   put_row_lem w x e = fun_ext (λ j. go j (eqb j i) refl)
     where
-      go : (j : ℕ) (b : Bool) → eqb j i ≡ b → rows_in (Memory.putRow w i x) o j ≡ pick b (row x) (rows_in w o j)
+      go : (j : ℕ) (b : Bool) → eqb j i ≡ b → rows_in (Memory.put_row w i x) o j ≡ pick b (row x) (rows_in w o j)
       go j true f = λ k. record {
         present = (ap (λ (n : ℕ). is_there (get_or o n 0)) (eqb-true j i f) ∙ there) k;
         result = (put_at w i x e small j ∙ pick_true _ _ f) k;
@@ -80,7 +80,7 @@ module _ (o : List ℕ) (i : ℕ) (small : i < places) (there : is_there (get_or
       go j false f = λ k. record { present = is_there (get_or o j 0); result = (put_at w i x e small j ∙ pick_false _ _ f) k }
 
   -- a row stored there
-  module _ {m : Rows} {w v : List ℕ} (x : CpuidResult) (d : AllBut m o w i) (e : v ≡ Memory.putRow w i x) where
+  module _ {m : Rows} {w v : List ℕ} (x : CpuidResult) (d : AllBut m o w i) (e : v ≡ Memory.put_row w i x) where
     pub stored_rows : rows_in v o ≡ with_row i x m
     stored_rows = ap (λ (l : List ℕ). rows_in l o) e ∙ put_row_lem w x d.size ∙ d.rows x
 

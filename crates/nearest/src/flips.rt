@@ -5,7 +5,7 @@ ghost use Rattle.nearest.specs.OneBit.{one_bit, xor_result};
 use x86defs::CpuidResult;
 
 // One result bit: page, entry, register (0 to 3: EAX, EBX, ECX, EDX) and bit.
-#[derive(Drop)]
+#[derive(Clone, Copy)]
 pub struct Flip {
     pub page: usize,
     pub entry: u32,

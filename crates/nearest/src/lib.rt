@@ -1,4 +1,6 @@
 // The nearest bit that matters: the first result bit of the pages whose flip changes the answer, or why there is none. The pages are not written.
+#![tactic(auto)]
+
 ghost use Rattle.std.specs.Prelude.{◌≡◌, true};
 ghost use Rattle.table.specs.Edition.{known_edition};
 ghost use Rattle.memory.specs.Memory.{rows_in};
@@ -21,7 +23,7 @@ pub mod flips;
 pub mod search;
 
 // The first bit that matters, or why none is named.
-#[derive(Drop)]
+#[derive(Clone, Copy)]
 pub enum Nearest {
     Bit(Flip),
     NoBit(Refusal),

@@ -7,7 +7,8 @@ use Rattle.bits.specs.Search.{Failing, every, lowest}
 use Rattle.bits.specs.Search.Failing.{at, none}
 use Rattle.bits.specs.SearchLaws.{every_at}
 use Rattle.bits.specs.Bits.{bit, has, mask_of, field_mask}
-use Rattle.bits.specs.BitsLaws.{bit_has, bit_has_not, has_bit, has_not, has_and}
+use Rattle.bits.specs.BitsLaws.{bit_has, bit_has_not, has_bit, has_not}
+use Rattle.bits.proofs.BitsLaws.{has_and}
 use Rattle.x86defs.specs.declared.CpuidResult.{CpuidResult}
 use Rattle.x86defs.specs.Fields.{fields_mask}
 use Rattle.topology.specs.declared.Topology.{Topology}
@@ -32,7 +33,7 @@ use Rattle.table.specs.Numbers.{numbers_of}
 use Rattle.nearest.specs.OneBit.{bit_in, one_bit, xor_result}
 use Rattle.nearest.specs.SameVerdict.{same_numbers, same_answer, same_from}
 use Rattle.finish.specs.RowsBuilt.{table_for}
-use Rattle.nearest.specs.SameLaws.{answer_same}
+use Rattle.nearest.proofs.SameLaws.{answer_same}
 use Rattle.nearest.specs.WithRow.{with_row}
 use Rattle.nearest.specs.WithRowLaws.{required_same}
 use Rattle.nearest.specs.FlippedMaskLaws.{bit_xor_lem}
@@ -61,7 +62,7 @@ from_components_lem m = go (lowest (supplied m (combined_mask m)) 2 62) (size_of
 -- ---- INVLPGB decides wherever the required leaves are there
 
 abbrev pub invlpgb : Rows → Bool
-invlpgb m = has 3 (m Place.extendedAddressSpaceSizes).result.ebx
+invlpgb m = has 3 (m Place.extended_address_space_sizes).result.ebx
 
 four : (m : Rows) → required_verdict m ≡ Accepted → invlpgb m ≡ false → number (rows_verdict m) ≡ 4
 unfolding rows_verdict invlpgb_verdict
@@ -84,7 +85,7 @@ invlpgb_decides n m o e f g = go (same_from n o m) refl (invlpgb m) refl
     go true p false q = absurd (not_four o f (g ∙ ap not q) (same_number n o m p ∙ four m e q))
     go false p b q = refl
 
-mask_has : (avic : Bool) → has 3 (masks_at avic Place.extendedAddressSpaceSizes).ebx ≡ true
+mask_has : (avic : Bool) → has 3 (masks_at avic Place.extended_address_space_sizes).ebx ≡ true
 unfolding slot kept_leaves has bit extended_address_space_sizes mask_of fields_mask field_mask
 mask_has true = refl
 mask_has false = refl
@@ -102,8 +103,8 @@ xor_has x = go (has 3 x) refl
 
 -- flip 35 of 80000008h: EBX bit 3
 flip_35 : (avic : Bool) (x : CpuidResult)
-    → has 3 (masked_at avic Place.extendedAddressSpaceSizes (xor_result x (one_bit 1 3))).ebx
-    ≡ not (has 3 (masked_at avic Place.extendedAddressSpaceSizes x).ebx)
+    → has 3 (masked_at avic Place.extended_address_space_sizes (xor_result x (one_bit 1 3))).ebx
+    ≡ not (has 3 (masked_at avic Place.extended_address_space_sizes x).ebx)
 unfolding bit_in
 flip_35 avic x =
     has_and 3 (bit_xor x.ebx (2 ^ 3)) _ ∙ ap₂ ◌&&◌ (xor_has x.ebx) (mask_has avic) ∙ go (has 3 x.ebx)
@@ -114,11 +115,11 @@ flip_35 avic x =
     go false = refl
 
 pub invlpgb_flip : (avic : Bool) (n : ℕ) (m : Rows) (x : CpuidResult) → required_verdict m ≡ Accepted
-    → m Place.extendedAddressSpaceSizes ≡ row (masked_at avic Place.extendedAddressSpaceSizes x)
-    → same_from n (with_row Place.extendedAddressSpaceSizes (masked_at avic Place.extendedAddressSpaceSizes (xor_result x (one_bit 1 3))) m) m ≡ false
+    → m Place.extended_address_space_sizes ≡ row (masked_at avic Place.extended_address_space_sizes x)
+    → same_from n (with_row Place.extended_address_space_sizes (masked_at avic Place.extended_address_space_sizes (xor_result x (one_bit 1 3))) m) m ≡ false
 unfolding with_row
 invlpgb_flip avic n m x e f =
-    invlpgb_decides n m _ e (required_same Place.extendedAddressSpaceSizes _ m (ap (λ (r : Row). r.present) f) ∙ e)
+    invlpgb_decides n m _ e (required_same Place.extended_address_space_sizes _ m (ap (λ (r : Row). r.present) f) ∙ e)
     (flip_35 avic x ∙ ap (λ (r : Row). not (has 3 r.result.ebx)) (sym f))
 
 -- ---- the bits of 80000008h before it leave INVLPGB as it is
@@ -139,12 +140,12 @@ unfolding not_bit_3 bit bit_in
 all_not_bit_3 = refl
 
 pub flip_below : (avic : Bool) (x : CpuidResult) (j : ℕ) → j < 35
-    → has 3 (masked_at avic Place.extendedAddressSpaceSizes (xor_result x (one_bit (j / 32) (j % 32)))).ebx
-    ≡ has 3 (masked_at avic Place.extendedAddressSpaceSizes x).ebx
+    → has 3 (masked_at avic Place.extended_address_space_sizes (xor_result x (one_bit (j / 32) (j % 32)))).ebx
+    ≡ has 3 (masked_at avic Place.extended_address_space_sizes x).ebx
 unfolding not_bit_3
 flip_below avic x j l =
     has_and 3 (bit_xor x.ebx (bit_in (j / 32) (j % 32) 1)) _
-    ∙ ap (λ (b : Bool). b && has 3 (masks_at avic Place.extendedAddressSpaceSizes).ebx)
+    ∙ ap (λ (b : Bool). b && has 3 (masks_at avic Place.extended_address_space_sizes).ebx)
     (xor_keeps x.ebx _ (eqb-true _ 0 (every_at not_bit_3 35 all_not_bit_3 j l)))
     ∙ sym (has_and 3 x.ebx _)
 

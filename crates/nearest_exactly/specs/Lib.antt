@@ -3,7 +3,6 @@ pub mod NoDecisiveBit
 pub mod NearestExactly
 pub mod FirstLaws
 pub mod NearestExactlyProof
-pub mod TwentyExactly
 pub mod OutsideLaws
 pub mod Meaning
 pub mod MeaningProof

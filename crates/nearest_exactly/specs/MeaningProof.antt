@@ -13,7 +13,8 @@ use Rattle.table.specs.declared.CpuidResults.{CpuidResults}
 use Rattle.table.specs.declared.Subleaf.{Subleaf}
 use Rattle.table.specs.declared.Subleaf.TheVariants.{None, Some}
 use Rattle.table.specs.Refusal.{Details, details, refusal_with}
-use Rattle.table.specs.RefusalLaws.{refusal_told, refusal_numbered}
+use Rattle.table.specs.RefusalLaws.{refusal_told}
+use Rattle.table.proofs.RefusalLaws.{refusal_numbered}
 use Rattle.table.specs.declared.Verdict.{Verdict}
 use Rattle.table.specs.declared.Verdict.TheVariants.{Accepted, Refused}
 use Rattle.table.specs.Rows.{Rows}
@@ -25,7 +26,8 @@ use Rattle.table.specs.Numbers.{named, subleaf_or0, detail_numbers, numbers_of}
 use Rattle.nearest.specs.declared.flips.Flip.{Flip}
 use Rattle.nearest.specs.Flips.{flipped}
 use Rattle.nearest.specs.SameVerdict.{agree, is_same_row, same_rows, same_table, same_numbers, same_verdict, same_answer}
-use Rattle.nearest.specs.SameLaws.{agree_equal, result_equal, answer_same}
+use Rattle.nearest.specs.SameLaws.{agree_equal, result_equal}
+use Rattle.nearest.proofs.SameLaws.{answer_same}
 use Rattle.nearest.specs.Changes.{changes}
 use Rattle.nearest_exactly.specs.Meaning.{Unchanged}
 

@@ -36,7 +36,7 @@ use Rattle.collect.specs.Collect.{stored_at, first_among}
 use Rattle.collect.specs.CollectLaws.{row_masks}
 use Rattle.collect.specs.Lawful.{lawful_verdict}
 use Rattle.build.specs.Build.{rows_for}
-use Rattle.collect.specs.LawfulLaws.{lawful_counts}
+use Rattle.collect.proofs.LawfulLaws.{lawful_counts}
 use Rattle.nearest.specs.Flips.{flip, flips}
 use Rattle.nearest.specs.OneBit.{one_bit, xor_result}
 use Rattle.nearest.specs.SameVerdict.{same_from}
@@ -48,11 +48,13 @@ use Rattle.nearest.specs.Irrelevant.{irrelevant}
 use Rattle.nearest.specs.SearchReturnLaws.{irrelevant_missing, irrelevant_clear}
 use Rattle.nearest.specs.declared.search.decisive.Decisive.{Decisive}
 use Rattle.nearest.specs.declared.search.decisive.Decisive.TheVariants.{Number, NoNumber}
-use Rattle.nearest.specs.BitLaws.{keeps, bit_found, first_bit, bit_irrelevant}
+use Rattle.nearest.specs.BitLaws.{keeps, bit_found, first_bit}
+use Rattle.nearest.proofs.BitLaws.{bit_irrelevant}
 use Rattle.nearest.specs.declared.Nearest.{Nearest}
 use Rattle.nearest.specs.declared.Nearest.TheVariants.{Bit, NoBit}
 use Rattle.nearest.specs.Nearest.{first_that}
-use Rattle.nearest.specs.NearestSearchLaws.{Searching, searching_first, searching_last, search_passes, search_none, search_found, seen_taken, not_kept, here, inside}
+use Rattle.nearest.specs.NearestSearchLaws.{Searching, searching_first, searching_last}
+use Rattle.nearest.proofs.NearestSearchLaws.{search_passes, search_none, search_found, seen_taken, not_kept, here, inside}
 use Rattle.nearest_exactly.specs.Invlpgb.{invlpgb, invlpgb_flip, flip_below, clear_same}
 
 -- the lowest number that fails a test is the one that is searched
@@ -157,7 +159,7 @@ module _ (c : Choices) (s : List ℕ) (bytes : (n : ℕ) → get_or s n 0 < 256)
   -- ---- where none is missing, some flip does: at the latest that of INVLPGB
 
   abbrev sizes : ℕ
-  sizes = Place.extendedAddressSpaceSizes
+  sizes = Place.extended_address_space_sizes
 
   required_there : required_verdict m ≡ Accepted → (m sizes).present ≡ true
   unfolding place_required required_at common_required_leaves snp_required_leaves place_of kept_leaves

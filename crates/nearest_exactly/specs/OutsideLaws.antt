@@ -14,7 +14,7 @@ use Rattle.nearest.specs.Flips.{flip}
 use Rattle.nearest.specs.OneBit.{one_bit}
 use Rattle.nearest.specs.FlippedEntryLaws.{Inside}
 use Rattle.nearest.specs.Changes.{changes}
-use Rattle.nearest.specs.ChangesLaws.{changes_nothing, changes_masked}
+use Rattle.nearest.proofs.ChangesLaws.{changes_nothing, changes_masked}
 use Rattle.nearest.specs.FlippedMaskLaws.{masked_out}
 
 -- the entry at position q of page p among the entries of lawful pages, and bit k of its register r

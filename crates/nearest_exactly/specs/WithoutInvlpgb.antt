@@ -14,7 +14,7 @@ use Rattle.checks.specs.Checks.{missing_required, required_verdict, rows_verdict
 use Rattle.checks.specs.ChecksLaws.{then_left}
 use Rattle.collect.specs.Collect.{stored_at}
 use Rattle.build.specs.Build.{edition_verdict, front_verdict, rows_for, verdict_of, answer}
-use Rattle.build.specs.BuildLaws.{front_known, front_lawful, front_refused}
+use Rattle.build.proofs.BuildLaws.{front_known, front_lawful, front_refused}
 use Rattle.refusals.specs.Conditions.{RequiredFault}
 use Rattle.refusals.specs.Settles.{Settles}
 use Rattle.refusals.specs.Settles.Settles.{passes, refuses}
@@ -24,43 +24,10 @@ use Rattle.nearest.specs.Flips.{flip}
 use Rattle.nearest.specs.declared.Nearest.TheVariants.{Bit, NoBit}
 use Rattle.nearest.specs.Nearest.{nearest}
 use Rattle.nearest.specs.NearestFrontLaws.{front_refuses, searched}
-use Rattle.nearest_exactly.specs.NearestExactlyProof.{nearest_exactly}
 use Rattle.nearest_exactly.specs.Invlpgb.{invlpgb, not_four}
 use Rattle.nearest_exactly.specs.NoDecisiveBit.{without_invlpgb}
 
 -- bit 3 of EBX of an entry that is stored as 80000008h's
 abbrev pub InvlpgbNearest : Choices → List ℕ → Type 0
 InvlpgbNearest c s =
-    (p : ℕ) × (q : ℕ) × (stored_at (entry_at s p q) ≡ Place.extendedAddressSpaceSizes) × (nearest c s ≡ Bit (flip p q 1 3))
-
-module _ (c : Choices) (s : List ℕ) (bytes : (k : ℕ) → get_or s k 0 < 256) where
-  abbrev m : Rows
-  m = rows_for c s
-
-  of_rows : front_verdict c s ≡ Accepted → (answer c s).verdict ≡ rows_verdict m
-  unfolding answer verdict_of
-  of_rows e = rw (then_left (edition_verdict c.edition) _ e, front_lawful c s e)
-
-  found : (e : front_verdict c s ≡ Accepted) → required_verdict m ≡ Accepted → invlpgb m ≡ false → InvlpgbNearest c s
-  found e f g =
-      let (p, q, stored, h) = without_invlpgb c s bytes (front_known c s e) (front_lawful c s e) f g in (p, q, stored, searched c s e ∙ h)
-
-  by_rows : (e : front_verdict c s ≡ Accepted) → rows_verdict m ≡ Refused InvlpgbUnavailable
-      → Settles (λ q. (j : ℕ) × RequiredFault m j × (q ≡ missing_required j)) (required_verdict m) → InvlpgbNearest c s
-  by_rows e f (refuses r g (j, fault, h) one) =
-      let k : rows_verdict m ≡ Refused (missing_required j) = (unfold rows_verdict in rw (g ∙ ap Refused h)) in
-      let z : ◌≡◌ {A = ℕ} 0 1 = cc in absurd (omega arith)
-  by_rows e f (passes g n) = go (invlpgb m) refl
-    where
-      go : (b : Bool) → invlpgb m ≡ b → InvlpgbNearest c s
-      go true h = absurd (not_four m g h (ap (λ (v : Verdict). (numbers_of v).number) f))
-      go false h = found e g h
-
-  pub refused_by_4 : (answer c s).verdict ≡ Refused InvlpgbUnavailable → InvlpgbNearest c s
-  refused_by_4 e = go (front_verdict c s) refl
-    where
-      go : (v : Verdict) → front_verdict c s ≡ v → InvlpgbNearest c s
-      go Accepted f = by_rows f (sym (of_rows f) ∙ e) (required_decides m)
-      go (Refused r) f =
-          let q : r ≡ InvlpgbUnavailable = (let h : Refused r ≡ Refused InvlpgbUnavailable = sym (front_refused c s f) ∙ e in cc) in
-          absurd ((nearest_exactly c s (NoBit InvlpgbUnavailable)).0 (front_refuses c s f ∙ ap NoBit q))
+    (p : ℕ) × (q : ℕ) × (stored_at (entry_at s p q) ≡ Place.extended_address_space_sizes) × (nearest c s ≡ Bit (flip p q 1 3))

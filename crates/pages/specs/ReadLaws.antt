@@ -16,7 +16,6 @@ use Rattle.pages.specs.Parsed.{parsed, counts_read}
 use Rattle.pages.specs.Walk.{incremented, rest, first_index}
 use Rattle.pages.specs.WalkLaws.{Valid, Turn, turn, first_valid, rest_first, rest_end}
 use Rattle.pages.specs.Reserved.{clean, all_clean}
-use Rattle.pages.specs.ReservedLaws.{clean_kept}
 use Rattle.pages.specs.declared.reader.Read.TheVariants.{Entry, Unclean}
 use Rattle.pages.specs.Read.{Readable, entry_here, clean_here, read_at, given}
 
@@ -53,7 +52,7 @@ module _ (s : List ℕ) (i : CpuidPageIndex) where
       go true g = let z : ◌≡◌ {A = ℕ} 0 1 = cc in absurd (omega arith)
       go false g = (cc, refl)
 
-gives_rest : (s : List ℕ) (n : ℕ) (i : CpuidPageIndex) → Valid s i → length (rest s i) ≤ n → given s n i ≡ map parsed (rest s i)
+pub gives_rest : (s : List ℕ) (n : ℕ) (i : CpuidPageIndex) → Valid s i → length (rest s i) ≤ n → given s n i ≡ map parsed (rest s i)
 unfolding given
 gives_rest s zero i v l = go (ltb i.page_index (pages_in s)) refl
   where
@@ -71,11 +70,8 @@ gives_rest s (suc n) i v l = go (gives_rest s n (incremented s i)) (ltb i.page_i
         ∙ sym (ap (map parsed) t.taken)
     go ih false e = sym (ap (map parsed) (rest_end s i (ltb-false _ _ e)))
 
-pub reader_gives : (s : List ℕ) (n : ℕ) → length (entries s) ≤ n → given s n (first_index s) ≡ map parsed (entries s)
-reader_gives s n l = gives_rest s n (first_index s) (first_valid s) (rw (rest_first s) l) ∙ ap (map parsed) (rest_first s)
-
 -- what is taken of an entry says whether the entry counts
-says_counts : (es : List PageEntry) → keep_if counts_read (map parsed es) ≡ map parsed (keep_if counts es)
+pub says_counts : (es : List PageEntry) → keep_if counts_read (map parsed es) ≡ map parsed (keep_if counts es)
 unfolding keep_if counts
 says_counts [] = refl
 says_counts (e ∷ es) = go (says_counts es) (counts e)
@@ -84,13 +80,3 @@ says_counts (e ∷ es) = go (says_counts es) (counts e)
         → pick b (parsed e ∷ keep_if counts_read (map parsed es)) (keep_if counts_read (map parsed es)) ≡ map parsed (pick b (e ∷ keep_if counts es) (keep_if counts es))
     go ih true = ap (λ (ps : List ParsedCpuidEntry). parsed e ∷ ps) ih
     go ih false = ih
-
--- those that count are the counted entries
-pub reader_gives_counted : (s : List ℕ) (n : ℕ) → length (entries s) ≤ n → keep_if counts_read (given s n (first_index s)) ≡ map parsed (counted s)
-unfolding counted
-reader_gives_counted s n l = ap (keep_if counts_read) (reader_gives s n l) ∙ says_counts (entries s)
-
--- of clean pages every entry that it gives is clean: it gives those alone, and leaves none out
-pub reader_gives_clean : (s : List ℕ) (n : ℕ) → length (entries s) ≤ n → all_clean s ≡ true
-    → given s n (first_index s) ≡ map parsed (keep_if (clean s) (entries s))
-reader_gives_clean s n l e = reader_gives s n l ∙ ap (map parsed) (sym (clean_kept s e))

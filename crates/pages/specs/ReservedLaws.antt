@@ -1,7 +1,7 @@
 -- Clean pages by page and position, and that what `reserved_of` names is the first entry that is not clean.
 use Rattle.std.specs.Prelude.{◌≡◌, Bool, true, false, List, [], ◌∷◌, ◌++◌}
 use Rattle.std.proofs.Math.Path.{refl}
-use Rattle.std.proofs.Common.{sym, ap, ◌∙◌, le_refl, eq-or-lt_of_le, arith}
+use Rattle.std.proofs.Common.{ap, ◌∙◌, le_refl, eq-or-lt_of_le, arith}
 use Rattle.std.proofs.Math.Logic.{inl, inr}
 use Prim.Native.Nat.{ℕ, zero, suc, ◌+◌, ◌≤◌, ◌<◌}
 use Rattle.bits.specs.Choice.{pick}
@@ -65,7 +65,7 @@ module _ (s : List ℕ) where
             (record { from = h; below = omega arith; fails = l.fails; before = λ i k u. l.before i (omega arith) u }))
       ]
 
-  pages_passed : (p n : ℕ) → ((i j : ℕ) → p ≤ i → i < p + n → j < count_of s i → is_clean_at s i j ≡ true) → first_nonzero s (on_pages s p n) ≡ Zero
+  pub pages_passed : (p n : ℕ) → ((i j : ℕ) → p ≤ i → i < p + n → j < count_of s i → is_clean_at s i j ≡ true) → first_nonzero s (on_pages s p n) ≡ Zero
   unfolding first_nonzero on_pages
   pages_passed p zero f = refl
   pages_passed p (suc n) f =
@@ -89,59 +89,14 @@ pub unclean_named : (s : List ℕ) (p q : ℕ) → FirstUnclean s p q → reserv
 unfolding reserved_of entries
 unclean_named s p q u = pages_stop s 0 (pages_in s) p q (omega arith) (omega (arith, u.page)) u.position u.unclean u.before
 
-pub clean_zero : (s : List ℕ) → all_clean s ≡ true → reserved_of s ≡ Zero
-unfolding reserved_of entries
-clean_zero s e = pages_passed s 0 (pages_in s) (λ i j l h k. clean_at s e i j (omega arith) k)
-
 -- pages are clean, or one of their entries is the first that is not
 pub data Cleanness (s : List ℕ) : Type 0 where
   clean_pages : all_clean s ≡ true → Cleanness s
   unclean_entry : (p q : ℕ) → FirstUnclean s p q → Cleanness s
 
-pub cleanness : (s : List ℕ) → Cleanness s
-cleanness s = by_page (lowest (page_clean s) 0 (pages_in s)) refl
-  where
-    by_position : (p : ℕ) → Lowest (page_clean s) 0 (pages_in s) p → (f : Failing) → lowest (is_clean_at s p) 0 (count_of s p) ≡ f → Cleanness s
-    by_position p w (at q) e =
-        let v : Lowest (is_clean_at s p) 0 (count_of s p) q = lowest_at (is_clean_at s p) 0 (count_of s p) q e in
-        unclean_entry p q
-        (record {
-          page = omega (arith, w.below);
-          position = omega (arith, v.below);
-          unclean = v.fails;
-          before = record {
-            pages = λ i j h l. every_at (is_clean_at s i) (count_of s i) (w.before i (omega arith) h) j l;
-            positions = λ j l. v.before j (omega arith) l;
-          };
-        })
-    by_position p w none e =
-        let (q, l, u) = every_fails (is_clean_at s p) (count_of s p) w.fails in
-        absurd (never_both (lowest_none (is_clean_at s p) 0 (count_of s p) e q (omega arith) (omega arith)) u)
-
-    by_page : (f : Failing) → lowest (page_clean s) 0 (pages_in s) ≡ f → Cleanness s
-    by_page (at p) e = by_position p (lowest_at (page_clean s) 0 (pages_in s) p e) (lowest (is_clean_at s p) 0 (count_of s p)) refl
-    by_page none e =
-        clean_pages (all_clean_lem s (λ p q h l.
-        every_at (is_clean_at s p) (count_of s p) (lowest_none (page_clean s) 0 (pages_in s) e p (omega arith) (omega arith)) q l))
-
-pub zero_clean : (s : List ℕ) → reserved_of s ≡ Zero → all_clean s ≡ true
-zero_clean s e = go (cleanness s)
-  where
-    go : Cleanness s → all_clean s ≡ true
-    go (clean_pages c) = c
-    go (unclean_entry p q u) = let f : reserved_of s ≡ Nonzero (entry_at s p q).leaf = unclean_named s p q u in cc
-
--- what is named is the leaf of the first entry that is not clean
-pub named_unclean : (s : List ℕ) (l : CpuidFunction) → reserved_of s ≡ Nonzero l → (p : ℕ) × (q : ℕ) × FirstUnclean s p q × (l ≡ (entry_at s p q).leaf)
-named_unclean s l e = go (cleanness s)
-  where
-    go : Cleanness s → (p : ℕ) × (q : ℕ) × FirstUnclean s p q × (l ≡ (entry_at s p q).leaf)
-    go (clean_pages c) = let f : reserved_of s ≡ Zero = clean_zero s c in let z : ◌≡◌ {A = ℕ} 0 1 = cc in absurd (omega arith)
-    go (unclean_entry p q u) = (p, q, u, (let f : reserved_of s ≡ Nonzero (entry_at s p q).leaf = unclean_named s p q u in cc))
-
 -- ---- the entries of clean pages
 
-kept_of_zero : (s : List ℕ) (es : List Entry) → first_nonzero s es ≡ Zero → keep_if (clean s) es ≡ es
+pub kept_of_zero : (s : List ℕ) (es : List Entry) → first_nonzero s es ≡ Zero → keep_if (clean s) es ≡ es
 unfolding first_nonzero keep_if
 kept_of_zero s [] e = refl
 kept_of_zero s (x ∷ es) e = go (kept_of_zero s es) (clean s x) e
@@ -150,8 +105,3 @@ kept_of_zero s (x ∷ es) e = go (kept_of_zero s es) (clean s x) e
         → pick b (x ∷ keep_if (clean s) es) (keep_if (clean s) es) ≡ x ∷ es
     go ih true f = ap (x ∷◌) (ih f)
     go ih false f = let z : ◌≡◌ {A = ℕ} 0 1 = cc in absurd (omega arith)
-
--- all of them are clean
-pub clean_kept : (s : List ℕ) → all_clean s ≡ true → keep_if (clean s) (entries s) ≡ entries s
-unfolding reserved_of
-clean_kept s e = kept_of_zero s (entries s) (clean_zero s e)

@@ -5,9 +5,8 @@ use Rattle.bits.specs.Choice.{pick}
 use Rattle.bits.specs.Search.{Failing, lowest}
 use Rattle.bits.specs.Search.Failing.{at, none}
 use Rattle.pages.specs.declared.CpuidPageIndex.{CpuidPageIndex}
-use Rattle.pages.specs.declared.ParsedCpuidEntry.{ParsedCpuidEntry}
 use Rattle.pages.specs.Layout.{Entry, pages_in, count_of}
-use Rattle.pages.specs.Entries.{on_page, on_pages, counts_on}
+use Rattle.pages.specs.Entries.{on_page, on_pages}
 
 -- position q of page p
 abbrev pub index : ℕ → ℕ → CpuidPageIndex

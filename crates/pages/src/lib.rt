@@ -1,5 +1,7 @@
 // The CPUID pages of the SEV-SNP firmware: their counts, the entry at an index, and whether its reserved bytes are zero. `reader` reads the entries one
 // by one, as the source's reader does.
+#![tactic(auto)]
+
 ghost use Rattle.std.specs.Prelude.{◌≡◌, ◌+◌, ◌≤◌, ◌<◌, length, get_or};
 ghost use Rattle.pages.specs.Layout.{word_at, registers_at, pages_in, count_of, bad_length, counts_fit, entry_at, most_entries};
 ghost use Rattle.pages.specs.Parsed.{parsed};
@@ -18,14 +20,14 @@ pub const ENTRY_SIZE: usize = 48;
 const MOST_ENTRIES: u32 = 64;
 
 // Where the walk stands: a page, and a position on it. At the end it is the page after the last, position 0.
-#[derive(Drop)]
+#[derive(Clone, Copy)]
 pub struct CpuidPageIndex {
     pub page_index: usize,
     pub function_index: usize,
 }
 
 // What is read of an entry, and the page that it stands on, which decides whether an entry of leaf Dh counts.
-#[derive(Drop)]
+#[derive(Clone, Copy)]
 pub struct ParsedCpuidEntry {
     pub page: usize,
     pub leaf: CpuidFunction,

@@ -17,7 +17,7 @@ pub struct SnpCpuidIterator<'a> {
 }
 
 // What the reader gives where it stands: an entry whose reserved bytes are zero, or the leaf of an entry where one of these bytes is not zero.
-#[derive(Drop)]
+#[derive(Clone, Copy)]
 pub enum Read {
     Entry(ParsedCpuidEntry),
     Unclean(CpuidFunction),
@@ -72,6 +72,7 @@ pub fn step(pages: &[u8], index: CpuidPageIndex, count: usize) -> CpuidPageIndex
         cpuid_pages: pages,
         index,
     };
-    increment(&mut r.index, r.cpuid_pages, count);
+    let cpuid_pages = r.cpuid_pages;
+    increment(&mut r.index, cpuid_pages, count);
     r.index
 }

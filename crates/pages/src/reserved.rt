@@ -9,7 +9,7 @@ use x86defs::CpuidFunction;
 const RESERVED: usize = 40;
 
 // All reserved bytes are zero, or the leaf of the first entry with a nonzero one.
-#[derive(Drop)]
+#[derive(Clone, Copy)]
 pub enum Reserved {
     Zero,
     Nonzero(CpuidFunction),

@@ -7,20 +7,21 @@ use Rattle.x86defs.specs.Functions.{cpuid_result}
 use Rattle.masking.specs.Kept.{places}
 use Rattle.table.specs.Rows.{Row, Rows, vacant}
 use Rattle.memory.specs.Memory.{rows_in}
-use Rattle.memory.specs.MemoryLaws.{rows_laid}
+use Rattle.memory.proofs.MemoryLaws.{rows_laid}
 use Rattle.collect.specs.FirstEntries.{rows_of}
 use Rattle.collect.specs.FirstEntriesLaws.{row_beyond}
 use Rattle.collect.specs.FirstEntryOrigin.{found_origins}
-use Rattle.collect.specs.FirstEntryOriginLaws.{found_length, found_rows}
+use Rattle.collect.specs.FirstEntryOriginLaws.{found_length}
+use Rattle.collect.proofs.FirstEntryOriginLaws.{found_rows}
 use Rattle.finish.specs.Kinds.{Kind, Kinds, kinds_at}
-use Rattle.finish.specs.Kinds.Kind.{feature, featureBut28, area, freed, other}
+use Rattle.finish.specs.Kinds.Kind.{feature, feature_but28, area, freed, other}
 use Rattle.register_masks.specs.Join.{joined_register, pooled_results, with_server, pool}
 use Rattle.pool.specs.PoolJoinLaws.{registers_of}
 
 -- past the last place there are zeros on both sides
 pooled_zero : (k : Kind) → joined_register k 0 0 ≡ 0
 pooled_zero feature = refl
-pooled_zero featureBut28 = refl
+pooled_zero feature_but28 = refl
 pooled_zero area = refl
 pooled_zero freed = refl
 pooled_zero other = refl

@@ -3,7 +3,6 @@ pub mod PoolMaskLaws
 pub mod PoolJoinLaws
 pub mod CodeLaws
 pub mod Server
-pub mod ServerLaws
 pub mod Sets
 pub mod Servers
 pub mod SetsLaws

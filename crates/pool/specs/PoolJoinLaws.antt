@@ -11,12 +11,14 @@ use Rattle.bits.specs.ListsLaws.{get_d_tabulate, tabulated, tabulate_ext}
 use Rattle.masking.specs.Kept.{places}
 use Rattle.table.specs.Rows.{Rows}
 use Rattle.memory.specs.Memory.{row_of, layout}
-use Rattle.memory.specs.MemoryLaws.{layout_row, layout_ext}
+use Rattle.memory.specs.MemoryLaws.{layout_ext}
+use Rattle.memory.proofs.MemoryLaws.{layout_row}
 use Rattle.finish.specs.Kinds.{kinds_at}
 use Rattle.register_masks.specs.Join.{pooled_results, with_server, pool, all_to}
 use Rattle.register_masks.specs.Alike.{registers_alike, alike_to}
 use Rattle.register_masks.specs.JoinedEntryLaws.{registers_refl}
-use Rattle.register_masks.specs.AlikeLaws.{registers_test, alike_first}
+use Rattle.register_masks.specs.AlikeLaws.{registers_test}
+use Rattle.register_masks.proofs.AlikeLaws.{alike_first}
 use Rattle.pool.specs.Joins.{joined_row, found_alike}
 
 abbrev pub registers_of : Rows → List ℕ

@@ -7,7 +7,7 @@ use Rattle.x86defs.specs.declared.CpuidResult.{CpuidResult}
 use Rattle.x86defs.specs.Functions.{cpuid_result}
 use Rattle.table.specs.Fits.{Fits}
 use Rattle.finish.specs.Kinds.{Kind, Kinds}
-use Rattle.finish.specs.Kinds.Kind.{feature, featureBut28, area, freed, other}
+use Rattle.finish.specs.Kinds.Kind.{feature, feature_but28, area, freed, other}
 use Rattle.register_masks.specs.declared.RowMasks.{RowMasks}
 use Rattle.register_masks.specs.RegisterMasks.{feature_bits, agreed_bits, masks_of}
 use Rattle.register_masks.specs.RegisterMaskLaws.{agree, whole, none_agreed, bit_28_agreed, all_agreed}
@@ -37,14 +37,14 @@ stays a b h = and_of_within (within_trans (within_of_and (whole a h)) (or_within
 
 joins : (k : Kind) (a b : ℕ) → a < 2 ^ 32 → joined_bits (feature_bits k) a b ≡ joined_register k a b
 joins feature a b h = ap (bit_and a) (or_zero_r b)
-joins featureBut28 a b h = refl
+joins feature_but28 a b h = refl
 joins area a b h = stays a b h
 joins freed a b h = stays a b h
 joins other a b h = stays a b h
 
 agrees : (k : Kind) (a b : ℕ) → a < 2 ^ 32 → b < 2 ^ 32 → agree (agreed_bits k) a b ≡ alike_test k a b
 agrees feature a b h l = none_agreed a b
-agrees featureBut28 a b h l = bit_28_agreed a b
+agrees feature_but28 a b h l = bit_28_agreed a b
 agrees area a b h l = none_agreed a b
 agrees freed a b h l = none_agreed a b
 agrees other a b h l = all_agreed a b h l

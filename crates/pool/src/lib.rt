@@ -1,5 +1,7 @@
 // One table for a pool of servers, from their page sets and a list of lengths: a table that any of them can keep, or its image, or one refusal with
 // the server whose own it is.
+#![tactic(auto)]
+
 ghost use Rattle.std.specs.Prelude.{◌≡◌, true};
 ghost use Rattle.pool.specs.Sets.{lawful_sets};
 ghost use Rattle.pool.specs.Pool.{pooled, refused_pool};
@@ -19,7 +21,7 @@ pub mod write;
 
 // What pooling gives, as specs/Pool.antt has it: accepted with its table and where each row stood in the first server's pages, or refused with an
 // empty one. `server` is the number, from 0, of the server whose own refusal it is, else 0.
-#[derive(Drop)]
+#[derive(Clone, Copy)]
 pub struct Pooled {
     pub verdict: Verdict,
     pub server: usize,
@@ -28,7 +30,7 @@ pub struct Pooled {
 }
 
 // What is given beside the memory.
-#[derive(Drop)]
+#[derive(Clone, Copy)]
 pub struct PoolVerdict {
     pub verdict: Verdict,
     pub server: usize,

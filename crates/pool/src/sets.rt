@@ -18,7 +18,7 @@ pub const MOST_SETS: usize = 16;
 
 // What joining gives beside the joined registers: the first server that is refused, or that none is, and the places at which those that were
 // joined are like the first.
-#[derive(Drop)]
+#[derive(Clone, Copy)]
 pub struct Joined {
     pub verdict: Verdict,
     pub server: usize,

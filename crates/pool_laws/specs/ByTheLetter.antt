@@ -9,7 +9,7 @@ use Rattle.table.specs.declared.CpuidResults.{CpuidResults}
 use Rattle.table.specs.declared.Verdict.TheVariants.{Accepted}
 use Rattle.table.specs.Table.{row_in}
 use Rattle.finish.specs.Kinds.{Kind, Registers, kinds_at}
-use Rattle.finish.specs.Kinds.Kind.{feature, featureBut28, area, freed, other}
+use Rattle.finish.specs.Kinds.Kind.{feature, feature_but28, area, freed, other}
 use Rattle.pool.specs.Sets.{last_of}
 use Rattle.pool.specs.Pool.{pooled}
 use Rattle.pool_laws.specs.PoolRight.{server_table, pool_table, SetsAmong}
@@ -21,7 +21,7 @@ pub record WithinBut28 (a b : ℕ) : Type 0 where
 -- no feature bit beyond another's
 abbrev pub FeatureBits : Kind → ℕ → ℕ → Type 0
 FeatureBits feature a b = Within a b
-FeatureBits featureBut28 a b = WithinBut28 a b
+FeatureBits feature_but28 a b = WithinBut28 a b
 FeatureBits area a b = Unit {0}
 FeatureBits freed a b = Unit {0}
 FeatureBits other a b = Unit {0}

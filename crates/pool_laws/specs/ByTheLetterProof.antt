@@ -9,14 +9,14 @@ use Rattle.table.specs.declared.CpuidResults.{CpuidResults}
 use Rattle.table.specs.declared.Verdict.TheVariants.{Accepted}
 use Rattle.table.specs.Table.{row_in}
 use Rattle.finish.specs.Kinds.{Kind, Kinds, Registers, kinds_at}
-use Rattle.finish.specs.Kinds.Kind.{feature, featureBut28, area, freed, other}
+use Rattle.finish.specs.Kinds.Kind.{feature, feature_but28, area, freed, other}
 use Rattle.register_masks.specs.Join.{and_to}
 use Rattle.register_masks.specs.Features.{FeatureIs, FeaturesAre, FeatureWithin}
 use Rattle.register_masks.specs.RegisterRunLaws.{and_to_greatest}
 use Rattle.pool.specs.Sets.{last_of}
 use Rattle.pool.specs.Pool.{pooled}
 use Rattle.pool_laws.specs.PoolRight.{server_table, pool_table, PoolRight, NoneBeyond, NothingMore}
-use Rattle.pool_laws.specs.PoolProof.{pool_right, one_more}
+use Rattle.pool_laws.specs.PoolProof.{pool_right}
 use Rattle.pool_laws.specs.ByTheLetter.{FeatureBits, NoFeatureBeyond, GreatestByTheLetter, OneMoreByTheLetter}
 
 -- ---- the statements
@@ -33,12 +33,12 @@ and_to_bit y k x (suc n) h =
 
 is_greatest : (k : Kind) (y z : ℕ) (x : ℕ → ℕ) (n : ℕ) → FeatureIs k z x n → ((j : ℕ) → j ≤ n → FeatureBits k y (x j)) → FeatureBits k y z
 is_greatest feature y z x n e h = within_trans (and_to_greatest x n h) (within_eq (sym e))
-is_greatest featureBut28 y z x n e h = record { at = λ k c. rw e (and_to_bit (bit k y) k x n (λ j l. (h j l).at k c)) }
+is_greatest feature_but28 y z x n e h = record { at = λ k c. rw e (and_to_bit (bit k y) k x n (λ j l. (h j l).at k c)) }
 is_greatest area y z x n e h = tt
 is_greatest freed y z x n e h = tt
 is_greatest other y z x n e h = tt
 
-all_greatest : (k : Kinds) (y z : CpuidResult) (x : ℕ → CpuidResult) (n : ℕ) → FeaturesAre k z x n
+pub all_greatest : (k : Kinds) (y z : CpuidResult) (x : ℕ → CpuidResult) (n : ℕ) → FeaturesAre k z x n
     → ((j : ℕ) → j ≤ n → Registers FeatureBits k y (x j)) → Registers FeatureBits k y z
 all_greatest k y z x n e h = record {
   eax = is_greatest k.eax _ _ (λ j. (x j).eax) n e.eax (λ j l. (h j l).eax);
@@ -47,20 +47,10 @@ all_greatest k y z x n e h = record {
   edx = is_greatest k.edx _ _ (λ j. (x j).edx) n e.edx (λ j l. (h j l).edx);
 }
 
-pub greatest_by_the_letter : (c : Choices) (pages lengths : List ℕ) → (pooled c pages lengths).verdict ≡ Accepted → GreatestByTheLetter c pages lengths
-greatest_by_the_letter c pages lengths accepted t h =
-    let r : PoolRight c pages lengths = pool_right c pages lengths accepted in
-    record {
-      features = λ i l.
-          all_greatest (kinds_at i) _ _ (λ k. (row_in (server_table c pages lengths k) i).result) (last_of lengths) (r.features i l)
-          (λ k u. (h k u).features i l);
-      mask = within_trans (and_to_greatest _ (last_of lengths) (λ k u. (h k u).mask)) (within_eq (sym r.mask));
-    }
-
 -- 1.EDX whole says more
 bits_of : (k : Kind) (a b : ℕ) → FeatureWithin k a b → FeatureBits k a b
 bits_of feature a b h = h
-bits_of featureBut28 a b h = record { at = λ k c. h.at k }
+bits_of feature_but28 a b h = record { at = λ k c. h.at k }
 bits_of area a b h = tt
 bits_of freed a b h = tt
 bits_of other a b h = tt
@@ -77,8 +67,3 @@ by_the_letter t u h = record {
       };
   mask = h.mask;
 }
-
-pub one_more_by_the_letter : OneMoreByTheLetter
-one_more_by_the_letter c pages lengths more moreLengths m ok ok₂ =
-    let n : NothingMore (pool_table c pages lengths) (pool_table c more moreLengths) = one_more c pages lengths more moreLengths m ok ok₂ in
-    (by_the_letter _ _ n.beyond, n.rows)

@@ -6,21 +6,21 @@ use Rattle.bits.specs.Bits.{bit, Within}
 use Rattle.bits.specs.BitsLaws.{bit_or_lem, within_of_and}
 use Rattle.table.specs.declared.CpuidResults.{CpuidResults}
 use Rattle.finish.specs.Kinds.{Kind}
-use Rattle.finish.specs.Kinds.Kind.{feature, featureBut28, area, freed, other}
+use Rattle.finish.specs.Kinds.Kind.{feature, feature_but28, area, freed, other}
 use Rattle.register_masks.specs.JoinedEntryLaws.{other_bits}
 use Rattle.pool_laws.specs.ByTheLetter.{FeatureBits, NoFeatureBeyond}
 use Rattle.pool_laws.specs.TableTest.{table_test, tested_mask, tested_rows}
 
-abbrev bits_test : Kind → ℕ → ℕ → Bool
+abbrev pub bits_test : Kind → ℕ → ℕ → Bool
 bits_test feature a b = eqb (bit_and a b) a
-bits_test featureBut28 a b = eqb (bit_and a (bit_or b (2 ^ 28))) a
+bits_test feature_but28 a b = eqb (bit_and a (bit_or b (2 ^ 28))) a
 bits_test area a b = true
 bits_test freed a b = true
 bits_test other a b = true
 
-bits_within : (k : Kind) (a b : ℕ) → bits_test k a b ≡ true → FeatureBits k a b
+pub bits_within : (k : Kind) (a b : ℕ) → bits_test k a b ≡ true → FeatureBits k a b
 bits_within feature a b e = within_of_and (eqb-true _ _ e)
-bits_within featureBut28 a b e =
+bits_within feature_but28 a b e =
     let w : Within a (bit_or b (2 ^ 28)) = within_of_and (eqb-true _ _ e) in
     record { at = λ k n. omega (arith, w.at k, bit_or_lem k b (2 ^ 28), other_bits k n) }
 bits_within area a b e = tt
@@ -29,6 +29,3 @@ bits_within other a b e = tt
 
 abbrev pub letter_test : CpuidResults → CpuidResults → Bool
 letter_test = table_test bits_test
-
-pub no_feature_beyond : (t u : CpuidResults) → letter_test t u ≡ true → NoFeatureBeyond t u
-no_feature_beyond t u e = record { features = tested_rows bits_test FeatureBits bits_within t u e; mask = tested_mask bits_test t u e }

@@ -10,4 +10,3 @@ pub mod ByTheLetterProof
 pub mod TableTest
 pub mod LetterTest
 pub mod PoolMoves
-pub mod PoolMovesProof

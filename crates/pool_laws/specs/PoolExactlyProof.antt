@@ -23,16 +23,16 @@ use Rattle.finish.specs.Kinds.{Registers, kinds_at}
 use Rattle.finish.specs.RowsBuilt.{table_for}
 use Rattle.build.specs.Build.{rows_for, answer}
 use Rattle.refusals.specs.Conditions.{Check, Fault, EditionFault}
-use Rattle.refusals.specs.Conditions.Check.{edition, pagesLength, pageCounts, reservedBytes, requiredLeaves, invlpgb, components, save_area, processor_count, hyperthreading, threadsPerUnit}
+use Rattle.refusals.specs.Conditions.Check.{edition, length_of_pages, page_counts, reserved_bytes, required_leaves, invlpgb, components, save_area, processor_count, hyperthreading, threads_per_unit}
 use Rattle.refusals.specs.Exactly.{FirstFault}
-use Rattle.refusals.specs.ExactlyProof.{builds_exactly, not_built_lem}
+use Rattle.refusals.proofs.ExactlyProof.{builds_exactly, not_built_lem}
 use Rattle.rise.specs.RiseProof.{answer_row}
 use Rattle.register_masks.specs.Join.{all_to}
 use Rattle.register_masks.specs.Alike.{Alike, registers_alike, all_have, alike_to, all_alike, AllAlike}
 use Rattle.register_masks.specs.RegisterRunLaws.{all_at, all_of}
 use Rattle.register_masks.specs.AlikeLaws.{registers_test, alike_of_test}
 use Rattle.pool.specs.Sets.{set_start, set_at, last_of, most_sets, lawful_sets, sets_verdict}
-use Rattle.pool.specs.SetsLaws.{at_least_two, not_too_many, sums_to_slice}
+use Rattle.pool.proofs.SetsLaws.{at_least_two, not_too_many, sums_to_slice}
 use Rattle.pool.specs.Servers.{server_verdict, server_rows, is_accepted, first_refused, refused_by, servers_verdict, number_of, pool_rows}
 use Rattle.pool.specs.Pool.{alike_verdict, pool_verdict, server_named, pooled}
 use Rattle.pool.specs.PooledLaws.{is_accepted_lem}
@@ -186,16 +186,16 @@ module _ (c : Choices) (pages lengths : List ℕ) where
     where
       by_check : (k : Check) → Fault c s k UnknownEdition → EditionFault c.edition
       by_check edition g = g.0
-      by_check pagesLength g = let e = g.1 in impossible (cc)
-      by_check pageCounts g = let e = g.1 in impossible (cc)
-      by_check reservedBytes g = let e = g.3 in impossible (cc)
-      by_check requiredLeaves g = let e = g.2 in impossible (cc)
+      by_check length_of_pages g = let e = g.1 in impossible (cc)
+      by_check page_counts g = let e = g.1 in impossible (cc)
+      by_check reserved_bytes g = let e = g.3 in impossible (cc)
+      by_check required_leaves g = let e = g.2 in impossible (cc)
       by_check invlpgb g = let e = g.1 in impossible (cc)
       by_check components g = let e = g.2 in impossible (cc)
       by_check save_area g = let e = g.1 in impossible (cc)
       by_check processor_count g = let e = g.1 in impossible (cc)
       by_check hyperthreading g = let e = g.1 in impossible (cc)
-      by_check threadsPerUnit g = let e = g.1 in impossible (cc)
+      by_check threads_per_unit g = let e = g.1 in impossible (cc)
 
   first_edition_lem : {k : ℕ} {r : Refusal} → EditionFault c.edition → ServerFault c pages lengths k r → r ≡ UnknownEdition
   first_edition_lem {k} {r} e s =

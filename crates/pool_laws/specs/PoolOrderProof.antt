@@ -20,7 +20,7 @@ use Rattle.table.specs.declared.Verdict.TheVariants.{Accepted, Refused}
 use Rattle.table.specs.Rows.{Row, Rows}
 use Rattle.finish.specs.Finish.{finished}
 use Rattle.finish.specs.Kinds.{Kind, Kinds, Registers, kinds_at}
-use Rattle.finish.specs.Kinds.Kind.{feature, featureBut28, area, freed, other}
+use Rattle.finish.specs.Kinds.Kind.{feature, feature_but28, area, freed, other}
 use Rattle.finish.specs.RowsBuilt.{table_for}
 use Rattle.build.specs.Build.{rows_for, origins_in, answer}
 use Rattle.register_masks.specs.Join.{joined_register, with_server, pool, and_to, all_to}
@@ -29,11 +29,11 @@ use Rattle.register_masks.specs.RegisterRunLaws.{all_at, all_of, and_to_within, 
 use Rattle.register_masks.specs.JoinedEntryLaws.{keeps_28, joins_others}
 use Rattle.register_masks.specs.AlikeLaws.{same_truth, alike_of_test, test_of_alike}
 use Rattle.pool.specs.Sets.{set_at, last_of, lawful_sets}
-use Rattle.pool.specs.SetsLaws.{at_least_two}
+use Rattle.pool.proofs.SetsLaws.{at_least_two}
 use Rattle.pool.specs.Servers.{server_verdict, server_rows, pool_rows}
 use Rattle.pool.specs.declared.Pooled.{Pooled}
 use Rattle.pool.specs.Pool.{alike_verdict}
-use Rattle.pool.specs.PooledLaws.{pooled_by, pooled_alike}
+use Rattle.pool.proofs.PooledLaws.{pooled_by, pooled_alike}
 use Rattle.pool_laws.specs.RowsPool.{PoolAmong}
 use Rattle.pool_laws.specs.PoolRight.{SetsAmong, OrderFree}
 
@@ -42,7 +42,7 @@ use Rattle.pool_laws.specs.PoolRight.{SetsAmong, OrderFree}
 -- z is the join of x 0 to x n
 abbrev Joins : Kind → ℕ → (ℕ → ℕ) → ℕ → Type 0
 Joins feature z x n = z ≡ and_to x n
-Joins featureBut28 z x n = (bit 28 z ≡ bit 28 (x 0)) × ((j : ℕ) → (j ≡ 28 → ⊥) → bit j z ≡ bit j (and_to x n))
+Joins feature_but28 z x n = (bit 28 z ≡ bit 28 (x 0)) × ((j : ℕ) → (j ≡ 28 → ⊥) → bit j z ≡ bit j (and_to x n))
 Joins area z x n = z ≡ x 0
 Joins freed z x n = z ≡ x 0
 Joins other z x n = z ≡ x 0
@@ -50,7 +50,7 @@ Joins other z x n = z ≡ x 0
 joins_first : (k : Kind) (x : ℕ → ℕ) → Joins k (x 0) x 0
 unfolding and_to
 joins_first feature x = refl
-joins_first featureBut28 x = (refl, λ j h. refl)
+joins_first feature_but28 x = (refl, λ j h. refl)
 joins_first area x = refl
 joins_first freed x = refl
 joins_first other x = refl
@@ -58,7 +58,7 @@ joins_first other x = refl
 joins_next : (k : Kind) (z : ℕ) (x : ℕ → ℕ) (n : ℕ) → Joins k z x n → Joins k (joined_register k z (x (suc n))) x (suc n)
 unfolding and_to
 joins_next feature z x n p = ap (λ (w : ℕ). bit_and w (x (suc n))) p
-joins_next featureBut28 z x n p = (
+joins_next feature_but28 z x n p = (
   keeps_28 z (x (suc n)) ∙ p.0,
   λ j h. joins_others z (x (suc n)) j h ∙ omega (arith, bit_and_lem j z (x (suc n)), bit_and_lem j (and_to x n) (x (suc n)), p.1 j h),
 )
@@ -69,7 +69,7 @@ joins_next other z x n p = p
 -- it is determined by the first and the and of all
 joins_same : (k : Kind) (z w : ℕ) (x y : ℕ → ℕ) (n m : ℕ) → Joins k z x n → Joins k w y m → x 0 ≡ y 0 → and_to x n ≡ and_to y m → z ≡ w
 joins_same feature z w x y n m p q e a = p ∙ a ∙ sym q
-joins_same featureBut28 z w x y n m p q e a = bits_ext z w at_bit
+joins_same feature_but28 z w x y n m p q e a = bits_ext z w at_bit
   where
     at_bit : (j : ℕ) → bit j z ≡ bit j w
     at_bit j = go (eqb j 28) refl

@@ -28,12 +28,13 @@ use Rattle.register_masks.specs.Alike.{AllAlike, all_have}
 use Rattle.register_masks.specs.Features.{FeaturesAre, FeatureWithin}
 use Rattle.register_masks.specs.RegisterRunLaws.{and_to_ext, all_to_ext}
 use Rattle.register_masks.specs.AlikeLaws.{alike_of_test}
-use Rattle.register_masks.specs.PoolLaws.{Servers, features_ext, in_each, pool_mask, pool_mask_within, pool_mask_greatest, pool_rows_lem, pool_features, pool_greatest}
+use Rattle.register_masks.specs.PoolLaws.{Servers, features_ext, pool_mask, pool_mask_within, pool_mask_greatest}
+use Rattle.register_masks.proofs.PoolLaws.{in_each, pool_rows_lem, pool_features, pool_greatest}
 use Rattle.pool.specs.Sets.{set_at, last_of}
-use Rattle.pool.specs.SetsLaws.{at_least_two}
+use Rattle.pool.proofs.SetsLaws.{at_least_two}
 use Rattle.pool.specs.Servers.{server_verdict, server_rows}
 use Rattle.pool.specs.Pool.{pool_verdict, pooled}
-use Rattle.pool.specs.PooledLaws.{servers_of, each_accepted, passes_sets, passes_servers, passes_alike}
+use Rattle.pool.proofs.PooledLaws.{servers_of, each_accepted, passes_sets, passes_servers, passes_alike}
 use Rattle.pool_laws.specs.RowsPool.{pool_rises, pool_further, PoolAmong, no_row_more, no_mask_bit_more, no_feature_more}
 use Rattle.pool_laws.specs.PoolRight.{server_table, pool_table, PoolRight, NoneBeyond, Greatest, SetsAmong, NothingMore, OneMore}
 
@@ -44,7 +45,7 @@ module _ (c : Choices) (pages lengths : List ℕ) (accepted : (pooled c pages le
   abbrev n : ℕ
   n = last_of lengths
 
-  abbrev edition : ℕ
+  abbrev pub edition : ℕ
   edition = c.edition
 
   verdict : pool_verdict c pages lengths ≡ Accepted
@@ -56,10 +57,10 @@ module _ (c : Choices) (pages lengths : List ℕ) (accepted : (pooled c pages le
       each_accepted c pages lengths (passes_servers c pages lengths verdict) k
       (omega (arith, at_least_two pages lengths (passes_sets c pages lengths verdict)))
 
-  servers : Servers f n
+  pub servers : Servers f n
   servers = servers_of c pages lengths each_server
 
-  alike : AllAlike edition f n
+  pub alike : AllAlike edition f n
   alike = alike_of_test edition f n (passes_alike c pages lengths verdict)
 
   zero_edx : (k : ℕ) → XsavesEdx (f k)
@@ -71,10 +72,10 @@ module _ (c : Choices) (pages lengths : List ℕ) (accepted : (pooled c pages le
   unfolding pooled
   pool_table_lem = ap (λ (v : Verdict). table_for edition v (pool f n)) verdict
 
-  pool_row : (i : ℕ) → i < places → row_in (pool_table c pages lengths) i ≡ finished edition (pool f n) i
+  pub pool_row : (i : ℕ) → i < places → row_in (pool_table c pages lengths) i ≡ finished edition (pool f n) i
   pool_row i l = ap (λ (t : CpuidResults). row_in t i) pool_table_lem ∙ table_row (finished edition (pool f n)) (combined_mask (pool f n)) i l
 
-  pool_max : (pool_table c pages lengths).max_extended_state ≡ combined_mask (pool f n)
+  pub pool_max : (pool_table c pages lengths).max_extended_state ≡ combined_mask (pool f n)
   pool_max = ap (λ (t : CpuidResults). t.max_extended_state) pool_table_lem
 
   server_row : (i : ℕ) → i < places → (k : ℕ) → k ≤ n → finished edition (f k) i ≡ row_in (server_table c pages lengths k) i
@@ -176,27 +177,3 @@ module _ (c : Choices) (pages lengths : List ℕ) (accepted : (pooled c pages le
         (pool_mask_greatest f n servers t.max_extended_state
         (λ k u. subst (Within t.max_extended_state) (sym (server_max k u)) (h k u).mask));
   }
-
-pub one_more : OneMore
-one_more c pages lengths more moreLengths m ok ok₂ =
-    let a : ℕ → Rows = server_rows c pages lengths in
-    let b : ℕ → Rows = server_rows c more moreLengths in
-    let s = servers c pages lengths ok in
-    let t = servers c more moreLengths ok₂ in
-    let among : PoolAmong a (last_of lengths) b (last_of moreLengths) =
-    record { place = m.place; below = m.below; same = λ k l. ap (rows_for c) (m.same k l) } in
-    record {
-      beyond = record {
-        features = λ i l.
-            subst₂ (λ (x y : Row). Registers FeatureWithin (kinds_at i) x.result y.result) (sym (pool_row c more moreLengths ok₂ i l))
-            (sym (pool_row c pages lengths ok i l))
-            (no_feature_more c.edition a (last_of lengths) s b (last_of moreLengths) t among (alike c pages lengths ok) (alike c more moreLengths ok₂) i l);
-        mask =
-            subst₂ Within (sym (pool_max c more moreLengths ok₂)) (sym (pool_max c pages lengths ok))
-            (no_mask_bit_more c.edition a (last_of lengths) s b (last_of moreLengths) t among);
-      };
-      rows = λ i l p.
-          ap (λ (r : Row). r.present) (pool_row c pages lengths ok i l)
-          ∙ no_row_more c.edition a (last_of lengths) s b (last_of moreLengths) t among i l
-          (sym (ap (λ (r : Row). r.present) (pool_row c more moreLengths ok₂ i l)) ∙ p);
-    }

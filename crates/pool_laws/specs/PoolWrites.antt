@@ -7,7 +7,7 @@ use Rattle.table.specs.declared.Verdict.TheVariants.{Refused}
 use Rattle.buffer.specs.WritesExactly.{FrontExactly}
 use Rattle.buffer.specs.WritesExactlyProof.{front_exactly}
 use Rattle.image.specs.Image.{image}
-use Rattle.refusals.specs.ExactlyProof.{builds_exactly, not_short}
+use Rattle.refusals.proofs.ExactlyProof.{builds_exactly, not_short}
 use Rattle.pool.specs.Sets.{set_at}
 use Rattle.pool.specs.Pool.{pooled}
 use Rattle.pool.specs.WritePool.{write_pool}

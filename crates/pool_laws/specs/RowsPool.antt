@@ -10,9 +10,9 @@ use Rattle.table.specs.Rows.{Rows}
 use Rattle.checks.specs.ExtendedState.{combined_mask}
 use Rattle.finish.specs.Finish.{rule_at, finished}
 use Rattle.finish.specs.Kinds.{Kind, Kinds, Registers, EntryAtLeast, TableAtLeast, kinds_at, from_entry}
-use Rattle.finish.specs.Kinds.Kind.{feature, featureBut28, area, freed, other}
+use Rattle.finish.specs.Kinds.Kind.{feature, feature_but28, area, freed, other}
 use Rattle.finish.specs.FeatureLaws.{clears_same}
-use Rattle.finish.specs.RemainsLaws.{finished_entry}
+use Rattle.finish.proofs.RemainsLaws.{finished_entry}
 use Rattle.finish.specs.XsavesLaws.{XsavesEdx}
 use Rattle.rise.specs.Rise.{EntryRises}
 use Rattle.rise.specs.RowsRise.{registers_rise_lem, others_further}
@@ -21,35 +21,37 @@ use Rattle.register_masks.specs.Alike.{Alike, AlikeAt, AllAlike, all_have}
 use Rattle.register_masks.specs.Features.{FeatureWithin}
 use Rattle.register_masks.specs.RegisterRunLaws.{all_of}
 use Rattle.register_masks.specs.JoinedEntryLaws.{keeps_28, pooled_joined}
-use Rattle.register_masks.specs.PoolLaws.{Servers, pool_accepted, pool_rows_lem, in_each, in_pool, xsaves_first, like_next, fewer_alike, pool_greatest, pool_within, pool_mask_greatest, pool_mask_within}
+use Rattle.register_masks.specs.PoolLaws.{Servers, fewer_alike, pool_mask_greatest, pool_mask_within}
+use Rattle.register_masks.proofs.PoolLaws.{pool_accepted}
+use Rattle.register_masks.proofs.PoolLaws.{pool_rows_lem, in_each, in_pool, xsaves_first, like_next, pool_greatest, pool_within}
 
 -- ---- entries
 
 -- the join rises to the first and to the other where they are alike
 to_first : (k : Kind) (a b : ℕ) → Alike k a b → EntryAtLeast k (joined_register k a b) a
 to_first feature a b p = and_within_left a b
-to_first featureBut28 a b p = (within_trans (within_eq (pooled_joined featureBut28 a b p)) (and_within_left a b), keeps_28 a b)
+to_first feature_but28 a b p = (within_trans (within_eq (pooled_joined feature_but28 a b p)) (and_within_left a b), keeps_28 a b)
 to_first area a b p = tt
 to_first freed a b p = tt
 to_first other a b p = refl
 
 to_other : (k : Kind) (a b : ℕ) → Alike k a b → EntryAtLeast k (joined_register k a b) b
 to_other feature a b p = and_within_right a b
-to_other featureBut28 a b p = (within_trans (within_eq (pooled_joined featureBut28 a b p)) (and_within_right a b), keeps_28 a b ∙ p)
+to_other feature_but28 a b p = (within_trans (within_eq (pooled_joined feature_but28 a b p)) (and_within_right a b), keeps_28 a b ∙ p)
 to_other area a b p = tt
 to_other freed a b p = tt
 to_other other a b p = p
 
 to_itself : (k : Kind) (a : ℕ) → EntryAtLeast k a a
 to_itself feature a = within_refl a
-to_itself featureBut28 a = (within_refl a, refl)
+to_itself feature_but28 a = (within_refl a, refl)
 to_itself area a = tt
 to_itself freed a = tt
 to_itself other a = refl
 
 by_way_of : (k : Kind) (a b c : ℕ) → EntryAtLeast k a b → EntryAtLeast k b c → EntryAtLeast k a c
 by_way_of feature a b c p q = within_trans p q
-by_way_of featureBut28 a b c p q = (within_trans p.0 q.0, p.1 ∙ q.1)
+by_way_of feature_but28 a b c p q = (within_trans p.0 q.0, p.1 ∙ q.1)
 by_way_of area a b c p q = tt
 by_way_of freed a b c p q = tt
 by_way_of other a b c p q = p ∙ q
@@ -110,7 +112,7 @@ module _ (edition : ℕ) (f : ℕ → Rows) (n : ℕ) (s : Servers f n) (z : (k 
   -- beyond these only the Dh subleaves of further mask bits
   pub pool_further : (i : ℕ) → i < places → (finished edition (f k) i).present ≡ true
       → ((finished edition (pool f n) i).present ≡ true)
-      ⊎ ((j : ℕ) × (i ≡ Place.extendedState j) × (2 ≤ j) × (j < 64) × (has j (combined_mask (f k)) ≡ true) × (has j (combined_mask (pool f n)) ≡ false))
+      ⊎ ((j : ℕ) × (i ≡ Place.extended_state j) × (2 ≤ j) × (j < 64) × (has j (combined_mask (f k)) ≡ true) × (has j (combined_mask (pool f n)) ≡ false))
   pool_further = others_further edition edition (clears_same refl) (pool f n) (f k) (xsaves_first f n (z 0)) (z k) (pool_accepted f n s) entries
 
 -- ---- one server more

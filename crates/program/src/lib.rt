@@ -1,4 +1,6 @@
 // The program's output: the image of the input's pages, or the bytes that say why there is none.
+#![tactic(auto)]
+
 ghost use Rattle.std.specs.Prelude.{◌≡◌, [], ◌∷◌, ◌++◌, length, drop};
 ghost use Rattle.buffer.specs.Front.{write_front};
 ghost use Rattle.program.specs.Output.{output};

@@ -55,14 +55,14 @@ pub record RequiredFault (m : Rows) (j : ℕ) : Type 0 where
 
 -- 4. after these: "80000008h.EBX bit 3 (INVLPGB) clear"
 abbrev pub InvlpgbFault : Rows → Type 0
-InvlpgbFault m = bit 3 (m Place.extendedAddressSpaceSizes).result.ebx ≡ 0
+InvlpgbFault m = bit 3 (m Place.extended_address_space_sizes).result.ebx ≡ 0
 
 -- a D subleaf that the combined mask needs, from 2 up, and that is absent
 pub record Lacking (m : Rows) (k : ℕ) : Type 0 where
   pub from : 2 ≤ k
   pub below : k < 64
   pub needed : bit k (combined_mask m) ≡ 1
-  pub absent : (m (Place.extendedState k)).present ≡ false
+  pub absent : (m (Place.extended_state k)).present ≡ false
 
 -- 3. extended state, ascending: "a needed D subleaf is absent". Subleaf k is, and none below it.
 pub record ComponentFault (m : Rows) (k : ℕ) : Type 0 where
@@ -75,7 +75,7 @@ pub record AreaFault (m : Rows) : Type 0 where
   pub from : 2 ≤ subleaf
   pub below : subleaf < 64
   pub saved : bit subleaf (xfem m) ≡ 1
-  pub large : 2 ^ 32 ≤ (m (Place.extendedState subleaf)).result.eax + (m (Place.extendedState subleaf)).result.ebx
+  pub large : 2 ^ 32 ≤ (m (Place.extended_state subleaf)).result.eax + (m (Place.extended_state subleaf)).result.ebx
 
 -- 7. s = 0, mt = 1: lps must equal nc + 1; s = 1 to 7: nc + 1 at most 2^s and lps = 2^s
 pub data ProcessorCountFault (i : Inputs) : Type 0 where
@@ -99,28 +99,28 @@ ThreadsFault i = (1 < i.t) ⊎ (processors_said i ≤ i.t)
 
 -- the checks in order. 6 and 7 exclude each other where s = 0; where s is 1 to 7, 7 comes first
 pub data Check : Type 0 where
-  edition pagesLength pageCounts reservedBytes requiredLeaves invlpgb components save_area processor_count hyperthreading threadsPerUnit : Check
+  edition length_of_pages page_counts reserved_bytes required_leaves invlpgb components save_area processor_count hyperthreading threads_per_unit : Check
 
 abbrev pub rank : Check → ℕ
 rank edition = 0
-rank pagesLength = 1
-rank pageCounts = 2
-rank reservedBytes = 3
-rank requiredLeaves = 4
+rank length_of_pages = 1
+rank page_counts = 2
+rank reserved_bytes = 3
+rank required_leaves = 4
 rank invlpgb = 5
 rank components = 6
 rank save_area = 7
 rank processor_count = 8
 rank hyperthreading = 9
-rank threadsPerUnit = 10
+rank threads_per_unit = 10
 
 -- the condition of a check holds of a page set's bytes under the caller's choices, and the refusal names these details
 abbrev pub Fault : Choices → List ℕ → Check → Refusal → Type 0
 Fault chosen s edition r = EditionFault chosen.edition × (r ≡ UnknownEdition)
-Fault chosen s pagesLength r = LengthFault s × (r ≡ PagesLength)
-Fault chosen s pageCounts r = CountFault s × (r ≡ PageCount)
-Fault chosen s reservedBytes r = (p : ℕ) × (q : ℕ) × ReservedFault s p q × (r ≡ ReservedBytes (entry_at s p q).leaf)
-Fault chosen s requiredLeaves r =
+Fault chosen s length_of_pages r = LengthFault s × (r ≡ PagesLength)
+Fault chosen s page_counts r = CountFault s × (r ≡ PageCount)
+Fault chosen s reserved_bytes r = (p : ℕ) × (q : ℕ) × ReservedFault s p q × (r ≡ ReservedBytes (entry_at s p q).leaf)
+Fault chosen s required_leaves r =
     (j : ℕ) × RequiredFault (rows_for chosen s) j × (r ≡ MissingRequiredResult (required_at j).leaf (required_at j).subleaf)
 Fault chosen s invlpgb r = InvlpgbFault (rows_for chosen s) × (r ≡ InvlpgbUnavailable)
 Fault chosen s components r = (k : ℕ) × ComponentFault (rows_for chosen s) k × (r ≡ MissingRequiredResult ExtendedStateEnumeration (Some k))
@@ -129,4 +129,4 @@ Fault chosen s processor_count r =
     ProcessorCountFault (inputs_of (rows_for chosen s)) × (r ≡ TopologyInconsistent (ProcessorCount (inputs_of (rows_for chosen s)).s))
 Fault chosen s hyperthreading r =
     HyperthreadingFault (inputs_of (rows_for chosen s)) × (r ≡ TopologyInconsistent (Hyperthreading (inputs_of (rows_for chosen s)).s))
-Fault chosen s threadsPerUnit r = ThreadsFault (inputs_of (rows_for chosen s)) × (r ≡ TopologyInconsistent ThreadsPerUnit)
+Fault chosen s threads_per_unit r = ThreadsFault (inputs_of (rows_for chosen s)) × (r ≡ TopologyInconsistent ThreadsPerUnit)

@@ -14,33 +14,16 @@ use Rattle.build.specs.Build.{rows_for, answer}
 use Rattle.buffer.specs.WritesExactlyProof.{front_exactly}
 use Rattle.image.specs.Write.{write}
 use Rattle.refusals.specs.Conditions.{Check, Fault}
-use Rattle.refusals.specs.Conditions.Check.{edition, pagesLength, pageCounts, reservedBytes, requiredLeaves, invlpgb, components, save_area, processor_count, hyperthreading, threadsPerUnit}
+use Rattle.refusals.specs.Conditions.Check.{edition, length_of_pages, page_counts, reserved_bytes, required_leaves, invlpgb, components, save_area, processor_count, hyperthreading, threads_per_unit}
 use Rattle.refusals.specs.Exactly.{FirstFault, BuildsExactly, WritesExactly, image_of}
-use Rattle.refusals.specs.StagesSettled.{check_count, rank_lt, first_fault_unique, Judged, answer_judged}
-use Rattle.refusals.specs.StagesSettled.Judged.{accepted, refused}
+use Rattle.refusals.specs.StagesSettled.{check_count, rank_lt}
 
--- what follows where two constructors would be equal
 -- ---- building
 
 -- a refused table is empty
-refused_empty : (chosen : Choices) (s : List ℕ) (r : Refusal) → (answer chosen s).verdict ≡ Refused r → (answer chosen s).table ≡ empty_table
+pub refused_empty : (chosen : Choices) (s : List ℕ) (r : Refusal) → (answer chosen s).verdict ≡ Refused r → (answer chosen s).table ≡ empty_table
 unfolding answer
 refused_empty chosen s r e = ap (λ (v : Verdict). table_for chosen.edition v (rows_for chosen s)) e
-
-pub builds_exactly : (chosen : Choices) (s : List ℕ) → BuildsExactly chosen s
-builds_exactly chosen s = go (answer_judged chosen s)
-  where
-    go : Judged chosen s check_count (answer chosen s).verdict → BuildsExactly chosen s
-    go (accepted e none) = record {
-      accepted = (λ p c r. none c r (rank_lt c), λ n. e);
-      refused = λ r. (λ p. impossible (cc), λ f. absurd (none f.check r (rank_lt f.check) f.fault));
-      empty = refused_empty chosen s;
-    }
-    go (refused q e f) = record {
-      accepted = (λ p. impossible (cc), λ none. absurd (none f.check q f.fault));
-      refused = λ r. (λ p. let same : q ≡ r = cc in rw same at f, λ g. e ∙ ap Refused (first_fault_unique chosen s q r f g));
-      empty = refused_empty chosen s;
-    }
 
 -- ---- writing
 
@@ -50,26 +33,13 @@ building_number n = ltb n 9 || (eqb n 15 || eqb n 17)
 
 pub fault_number : (chosen : Choices) (s : List ℕ) (c : Check) (r : Refusal) → Fault chosen s c r → building_number (details r).number ≡ true
 fault_number chosen s edition r f = rw f.1
-fault_number chosen s pagesLength r f = rw f.1
-fault_number chosen s pageCounts r f = rw f.1
-fault_number chosen s reservedBytes r f = rw f.3
-fault_number chosen s requiredLeaves r f = rw f.2
+fault_number chosen s length_of_pages r f = rw f.1
+fault_number chosen s page_counts r f = rw f.1
+fault_number chosen s reserved_bytes r f = rw f.3
+fault_number chosen s required_leaves r f = rw f.2
 fault_number chosen s invlpgb r f = rw f.1
 fault_number chosen s components r f = rw f.2
 fault_number chosen s save_area r f = rw f.1
 fault_number chosen s processor_count r f = rw f.1
 fault_number chosen s hyperthreading r f = rw f.1
-fault_number chosen s threadsPerUnit r f = rw f.1
-
--- so it never refuses with another
-pub not_built_lem : (chosen : Choices) (s : List ℕ) (r : Refusal) → building_number (details r).number ≡ false → (answer chosen s).verdict ≡ Refused r → ⊥
-not_built_lem chosen s r n e =
-    let f : FirstFault chosen s r = ((builds_exactly chosen s).refused r).0 e in
-    never_both (fault_number chosen s f.check r f.fault) n
-
-pub not_short : (chosen : Choices) (s : List ℕ) → (answer chosen s).verdict ≡ Refused BufferTooShort → ⊥
-not_short chosen s = not_built_lem chosen s BufferTooShort refl
-
-pub writes_exactly : (chosen : Choices) (s buffer : List ℕ) → WritesExactly chosen s buffer
-unfolding write
-writes_exactly chosen s buffer = front_exactly (answer chosen s).verdict (image_of chosen s) buffer (write chosen s buffer) refl (not_short chosen s)
+fault_number chosen s threads_per_unit r f = rw f.1

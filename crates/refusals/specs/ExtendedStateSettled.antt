@@ -22,7 +22,7 @@ lacking_unsupplied m k l = rw (bit_has k (combined_mask m) l.needed) l.absent
 
 unsupplied_lacking : (m : Rows) (k : ℕ) → 2 ≤ k → k < 64 → supplied m (combined_mask m) k ≡ false → Lacking m k
 unsupplied_lacking m k l u e =
-    let (n, a) = if_fails (has k (combined_mask m)) (m (Place.extendedState k)).present e in
+    let (n, a) = if_fails (has k (combined_mask m)) (m (Place.extended_state k)).present e in
     record { from = l; below = u; needed = has_bit k (combined_mask m) n; absent = a }
 
 not_false_true : (b : Bool) → (b ≡ false → ⊥) → b ≡ true

@@ -23,25 +23,24 @@ use Rattle.build.specs.Build.{rows_for, answer}
 use Rattle.buffer.specs.declared.Written.TheVariants.{Bytes}
 use Rattle.lines.specs.declared.bytes.LineDetails.{LineDetails}
 use Rattle.lines.specs.Line.{LineFits, most_s, writable, line}
-use Rattle.lines.specs.LineLaws.{at_most_22}
+use Rattle.lines.proofs.LineLaws.{at_most_22}
 use Rattle.lines.specs.declared.LineRead.TheVariants.{Line as Says}
 use Rattle.lines.specs.declared.LineWritten.TheVariants.{Line as Answered}
 use Rattle.lines.specs.WriteLine.{AfterLine, leaves, write_line}
 use Rattle.lines.specs.WriteLineLaws.{write_whole}
 use Rattle.lines.specs.ReadLine.{read_line}
-use Rattle.lines.specs.LinePromises.{every_refusal, read_written, write_then_read, lines_differ}
+use Rattle.lines.proofs.LinePromises.{every_refusal, read_written, write_then_read, lines_differ}
 use Rattle.refusals.specs.Conditions.{Check, Fault}
-use Rattle.refusals.specs.Conditions.Check.{edition, pagesLength, pageCounts, reservedBytes, requiredLeaves, invlpgb, components, save_area, processor_count, hyperthreading, threadsPerUnit}
+use Rattle.refusals.specs.Conditions.Check.{edition, length_of_pages, page_counts, reserved_bytes, required_leaves, invlpgb, components, save_area, processor_count, hyperthreading, threads_per_unit}
 use Rattle.refusals.specs.Exactly.{FirstFault}
-use Rattle.refusals.specs.ExactlyProof.{builds_exactly}
 use Rattle.refusals.specs.Lined.{refusal_of, told_of, Lined, BuildingLined, LinesTell}
 
 -- ---- bounds
 
 -- what a line wants of a refusal
-record Small (r : Refusal) : Type 0 where
-  fits : LineFits (told_of r)
-  s : (details r).s ≤ most_s
+pub record Small (r : Refusal) : Type 0 where
+  pub fits : LineFits (told_of r)
+  pub s : (details r).s ≤ most_s
 
 word_fits : (s : List ℕ) → AreBytes s → (o : ℕ) → word_at s o < 2 ^ 32
 word_fits s h o = omega (arith, h o, h (o + 1), h (o + 2), h (o + 3))
@@ -78,29 +77,24 @@ size_small chosen s =
     let l : (inputs_of (rows_for chosen s)).s < 2 ^ 4 = field_lt 12 4 _ in
     omega arith
 
-fault_small : (chosen : Choices) (s : List ℕ) → AreBytes s → (c : Check) (r : Refusal) → Fault chosen s c r → Small r
+pub fault_small : (chosen : Choices) (s : List ℕ) → AreBytes s → (c : Check) (r : Refusal) → Fault chosen s c r → Small r
 fault_small chosen s h edition r f = rw f.1 (alone_small UnknownEdition refl refl (omega arith))
-fault_small chosen s h pagesLength r f = rw f.1 (alone_small PagesLength refl refl (omega arith))
-fault_small chosen s h pageCounts r f = rw f.1 (alone_small PageCount refl refl (omega arith))
-fault_small chosen s h reservedBytes r f =
+fault_small chosen s h length_of_pages r f = rw f.1 (alone_small PagesLength refl refl (omega arith))
+fault_small chosen s h page_counts r f = rw f.1 (alone_small PageCount refl refl (omega arith))
+fault_small chosen s h reserved_bytes r f =
     rw f.3 (record { fits = record { leaf = leaf_fits s h f.0 f.1; subleaf = lit< tt }; s = omega arith })
-fault_small chosen s h requiredLeaves r f = rw f.2 (required_small f.0 f.1.listed)
+fault_small chosen s h required_leaves r f = rw f.2 (required_small f.0 f.1.listed)
 fault_small chosen s h invlpgb r f = rw f.1 (alone_small InvlpgbUnavailable refl refl (omega arith))
 fault_small chosen s h components r f =
     rw f.2 (record { fits = record { leaf = lit< tt; subleaf = omega (arith, f.1.lacking.below) }; s = omega arith })
 fault_small chosen s h save_area r f = rw f.1 (alone_small SaveAreaOverflow refl refl (omega arith))
 fault_small chosen s h processor_count r f = rw f.1 (alone_small _ refl refl (size_small chosen s))
 fault_small chosen s h hyperthreading r f = rw f.1 (alone_small _ refl refl (size_small chosen s))
-fault_small chosen s h threadsPerUnit r f = rw f.1 (alone_small (TopologyInconsistent ThreadsPerUnit) refl refl (omega arith))
-
-refusal_small : (chosen : Choices) (s : List ℕ) → AreBytes s → (r : Refusal) → (answer chosen s).verdict ≡ Refused r → Small r
-refusal_small chosen s h r e =
-    let f : FirstFault chosen s r = ((builds_exactly chosen s).refused r).0 e in
-    fault_small chosen s h f.check r f.fault
+fault_small chosen s h threads_per_unit r f = rw f.1 (alone_small (TopologyInconsistent ThreadsPerUnit) refl refl (omega arith))
 
 -- ---- the lines
 
-small_lined : (r : Refusal) → Small r → Lined r
+pub small_lined : (r : Refusal) → Small r → Lined r
 small_lined r z = record {
   fits = z.fits;
   is_writable = w;
@@ -123,17 +117,6 @@ small_lined r z = record {
         → write_line (told_of r) buffer ≡ leaves (Answered (Bytes (length (line (told_of r))))) (sets buffer 0 (line (told_of r)))
     whole buffer h = write_whole (told_of r) buffer w (omega (arith, at_most_22 (told_of r)))
 
-pub building_lined : BuildingLined
-building_lined chosen s h r e = small_lined r (refusal_small chosen s h r e)
-
 -- and each refusal that names nothing, whoever gives it
 pub plain_lined : (r : Refusal) → (told_of r).leaf ≡ 0 → subleaf_or0 (told_of r).subleaf ≡ 0 → (details r).s ≡ 0 → Lined r
 plain_lined r a b c = small_lined r (alone_small r a b (omega arith))
-
-pub lines_tell : LinesTell
-lines_tell c d s t h k q r e f same =
-    let a : Lined q = building_lined c s h q e in
-    let b : Lined r = building_lined d t k r f in
-    sym a.tells
-    ∙ ap refusal_of (lines_differ (told_of q) (told_of r) a.fits b.fits a.is_writable b.is_writable same)
-    ∙ b.tells

@@ -17,7 +17,6 @@ use Rattle.page_sets.specs.Evaluation.{first_edition, passed}
 use Rattle.lines.specs.NumbersInUse.{rows, names}
 use Rattle.lines.specs.Line.{fields, line}
 use Rattle.refusals.specs.Lined.{told_of, Lined}
-use Rattle.refusals.specs.LinedProof.{building_lined}
 
 -- the line of a verdict that refuses
 abbrev pub line_of : Verdict → List ℕ
@@ -40,7 +39,7 @@ size_refused : (answer first_edition size_one).verdict ≡ Refused (TopologyInco
 unfolding passed size_one
 size_refused = verdict_passed first_edition size_one
 
-threads_refused : (answer first_edition two_threads).verdict ≡ Refused (TopologyInconsistent ThreadsPerUnit)
+pub threads_refused : (answer first_edition two_threads).verdict ≡ Refused (TopologyInconsistent ThreadsPerUnit)
 unfolding passed two_threads
 threads_refused = verdict_passed first_edition two_threads
 
@@ -60,9 +59,6 @@ unfolding line fields names rows digits width sum_to
 line_of_8 = ap line_of threads_refused
 
 -- what `BuildingLined` asks of the last one, its bytes, is computed
-threads_bytes : are_bytes two_threads ≡ true
+pub threads_bytes : are_bytes two_threads ≡ true
 unfolding two_threads are_bytes
 threads_bytes = refl
-
-pub threads_lined : Lined (TopologyInconsistent ThreadsPerUnit)
-threads_lined = building_lined first_edition two_threads (bytes_at two_threads threads_bytes) (TopologyInconsistent ThreadsPerUnit) threads_refused

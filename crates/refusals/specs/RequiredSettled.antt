@@ -32,7 +32,7 @@ unfolding invlpgb_verdict
 invlpgb_decides m = go (has 3 ebx) refl
   where
     ebx : ℕ
-    ebx = (m Place.extendedAddressSpaceSizes).result.ebx
+    ebx = (m Place.extended_address_space_sizes).result.ebx
 
     go : (b : Bool) → has 3 ebx ≡ b → Settles (λ q. InvlpgbFault m × (q ≡ InvlpgbUnavailable)) (refuse_unless b InvlpgbUnavailable)
     go true e = never (λ f. omega (arith, f, has_bit 3 ebx e))

@@ -8,7 +8,8 @@ use Rattle.pages.specs.Layout.{entry_at, entry_start}
 use Rattle.pages.specs.declared.reserved.Reserved.TheVariants.{Nonzero}
 use Rattle.pages.specs.Reserved.{reserved_at, reserved_of}
 use Rattle.pages.specs.ZerosLaws.{zero_byte, nonzero_byte, zero_bytes}
-use Rattle.pages.specs.ReservedLaws.{FirstUnclean, Cleanness, clean_at, clean_zero, unclean_named, cleanness}
+use Rattle.pages.specs.ReservedLaws.{FirstUnclean, Cleanness, clean_at, unclean_named}
+use Rattle.pages.proofs.ReservedLaws.{clean_zero, cleanness}
 use Rattle.pages.specs.ReservedLaws.Cleanness.{clean_pages, unclean_entry}
 use Rattle.table.specs.declared.Refusal.{Refusal}
 use Rattle.table.specs.declared.Refusal.TheVariants.{ReservedBytes}

@@ -15,7 +15,7 @@ use Rattle.checks.specs.Checks.{required_verdict, invlpgb_verdict, components_ve
 use Rattle.build.specs.Build.{rows_for, edition_verdict, verdict_of, answer}
 use Rattle.collect.specs.Lawful.{length_verdict, counts_verdict, reserved_verdict, lawful_verdict}
 use Rattle.refusals.specs.Conditions.{Check, rank, Fault, processors_said}
-use Rattle.refusals.specs.Conditions.Check.{edition, pagesLength, pageCounts, reservedBytes, requiredLeaves, invlpgb, components, save_area, processor_count, hyperthreading, threadsPerUnit}
+use Rattle.refusals.specs.Conditions.Check.{edition, length_of_pages, page_counts, reserved_bytes, required_leaves, invlpgb, components, save_area, processor_count, hyperthreading, threads_per_unit}
 use Rattle.refusals.specs.Exactly.{FirstFault}
 use Rattle.refusals.specs.Settles.{Settles, decided_unique}
 use Rattle.refusals.specs.Settles.Settles.{passes, refuses}
@@ -25,57 +25,25 @@ use Rattle.refusals.specs.RequiredSettled.{required_decides, invlpgb_decides}
 use Rattle.refusals.specs.ExtendedStateSettled.{components_decide, area_decides}
 use Rattle.refusals.specs.TopologySettled.{processor_count_verdict, hyperthreading_verdict, threads_verdict, topology_in_order, mt_lt, processor_count_decides, hyperthreading_decides, threads_decide}
 
--- ---- the verdict of each check
-
-module _ (chosen : Choices) (s : List ℕ) where
-  abbrev rows : Rows
-  rows = rows_for chosen s
-
-  abbrev stage : Check → Verdict
-  stage edition = edition_verdict chosen.edition
-  stage pagesLength = length_verdict s
-  stage pageCounts = counts_verdict s
-  stage reservedBytes = reserved_verdict s
-  stage requiredLeaves = required_verdict rows
-  stage invlpgb = invlpgb_verdict rows
-  stage components = components_verdict rows
-  stage save_area = area_verdict rows
-  stage processor_count = processor_count_verdict (inputs_of rows)
-  stage hyperthreading = hyperthreading_verdict (inputs_of rows)
-  stage threadsPerUnit = threads_verdict (processors_said (inputs_of rows)) (inputs_of rows).t
-
-  stage_decides : (c : Check) → Settles (Fault chosen s c) (stage c)
-  stage_decides edition = edition_decides chosen.edition
-  stage_decides pagesLength = length_decides s
-  stage_decides pageCounts = counts_decide s
-  stage_decides reservedBytes = reserved_decides s
-  stage_decides requiredLeaves = required_decides rows
-  stage_decides invlpgb = invlpgb_decides rows
-  stage_decides components = components_decide rows
-  stage_decides save_area = area_decides rows
-  stage_decides processor_count = processor_count_decides (inputs_of rows) (mt_lt rows)
-  stage_decides hyperthreading = hyperthreading_decides (inputs_of rows)
-  stage_decides threadsPerUnit = threads_decide (inputs_of rows)
-
 -- ---- the check of each rank
 
-checks : List Check
+unfoldable pub checks : List Check
 checks =
     edition
-    ∷ pagesLength
-    ∷ pageCounts
-    ∷ reservedBytes
-    ∷ requiredLeaves
+    ∷ length_of_pages
+    ∷ page_counts
+    ∷ reserved_bytes
+    ∷ required_leaves
     ∷ invlpgb
     ∷ components
     ∷ save_area
     ∷ processor_count
     ∷ hyperthreading
-    ∷ threadsPerUnit
+    ∷ threads_per_unit
     ∷ []
 
-check_at : ℕ → Check
-check_at n = get_or checks n threadsPerUnit
+unfoldable pub check_at : ℕ → Check
+check_at n = get_or checks n threads_per_unit
 
 abbrev pub check_count : ℕ
 check_count = 11
@@ -83,74 +51,30 @@ check_count = 11
 check_rank : (c : Check) → (rank c < check_count) × (check_at (rank c) ≡ c)
 unfolding check_at checks
 check_rank edition = (lit< tt, refl)
-check_rank pagesLength = (lit< tt, refl)
-check_rank pageCounts = (lit< tt, refl)
-check_rank reservedBytes = (lit< tt, refl)
-check_rank requiredLeaves = (lit< tt, refl)
+check_rank length_of_pages = (lit< tt, refl)
+check_rank page_counts = (lit< tt, refl)
+check_rank reserved_bytes = (lit< tt, refl)
+check_rank required_leaves = (lit< tt, refl)
 check_rank invlpgb = (lit< tt, refl)
 check_rank components = (lit< tt, refl)
 check_rank save_area = (lit< tt, refl)
 check_rank processor_count = (lit< tt, refl)
 check_rank hyperthreading = (lit< tt, refl)
-check_rank threadsPerUnit = (lit< tt, refl)
+check_rank threads_per_unit = (lit< tt, refl)
 
 pub rank_lt : (c : Check) → rank c < check_count
 rank_lt c = (check_rank c).0
 
-rank_check : (n : ℕ) → n < check_count → rank (check_at n) ≡ n
+pub rank_check : (n : ℕ) → n < check_count → rank (check_at n) ≡ n
 unfolding check_at checks
 rank_check n l = eqb-true _ _ (every_at (λ k. eqb (rank (check_at k)) k) check_count refl n l)
 
 -- the check of a rank is the only one of that rank
-rank_unique : (c d : Check) → rank c ≡ rank d → c ≡ d
+pub rank_unique : (c d : Check) → rank c ≡ rank d → c ≡ d
 rank_unique c d e = sym (check_rank c).1 ∙ ap check_at e ∙ (check_rank d).1
 
 -- ---- the checks in order
 
-then_assoc : (u v w : Verdict) → and_then (and_then u v) w ≡ and_then u (and_then v w)
+pub then_assoc : (u v w : Verdict) → and_then (and_then u v) w ≡ and_then u (and_then v w)
 then_assoc Accepted v w = refl
 then_assoc (Refused r) v w = refl
-
-module _ (chosen : Choices) (s : List ℕ) where
-  -- the verdict of the checks whose rank is below n
-  stages_below : ℕ → Verdict
-  stages_below zero = Accepted
-  stages_below (suc n) = and_then (stages_below n) (stage chosen s (check_at n))
-
-  verdict_in_order : verdict_of chosen s ≡ stages_below check_count
-  unfolding verdict_of lawful_verdict rows_verdict stages_below check_at checks
-  verdict_in_order = simp (topology_in_order, then_assoc)
-
-  -- there is one first fault at most
-  pub first_fault_unique : (q r : Refusal) → FirstFault chosen s q → FirstFault chosen s r → q ≡ r
-  first_fault_unique q r f g =
-      let a : ¬ (rank f.check < rank g.check) = λ h. g.first f.check q h f.fault in
-      let b : ¬ (rank g.check < rank f.check) = λ h. f.first g.check r h g.fault in
-      let e : f.check ≡ g.check = rank_unique f.check g.check (omega arith) in
-      decided_unique (stage_decides chosen s g.check) q r (rw e at f.fault) g.fault
-
-  -- what a verdict on the checks of rank below n says
-  pub data Judged (n : ℕ) (v : Verdict) : Type 0 where
-    accepted : v ≡ Accepted → ((c : Check) (r : Refusal) → rank c < n → Fault chosen s c r → ⊥) → Judged n v
-    refused : (r : Refusal) → v ≡ Refused r → FirstFault chosen s r → Judged n v
-
-  -- one check more, after a verdict u on those of rank below n
-  judged_step : (n : ℕ) (u v : Verdict) → n < check_count → Judged n u → Settles (Fault chosen s (check_at n)) v
-      → Judged (suc n) (and_then u v)
-  judged_step n u v l (refused r e f) d = refused r (rw e) f
-  judged_step n u v l (accepted e none) (refuses r p f one) =
-      refused r (rw e p) (record { check = check_at n; fault = f; first = λ c q b. none c q (omega (arith, rank_check n l)) })
-  judged_step n u v l (accepted e none) (passes p no_fault) = accepted (rw e p) λ c r b f.
-      elim (eq-or-lt_of_le b) [
-        | inl q ↦ no_fault r (rw (rank_unique c (check_at n) (omega (arith, rank_check n l))) at f)
-        | inr q ↦ none c r (omega arith) f
-      ]
-
-  stages_judged : (n : ℕ) → n ≤ check_count → Judged n (stages_below n)
-  unfolding stages_below
-  stages_judged zero l = accepted refl (λ c r b. absurd (omega arith))
-  stages_judged (suc n) l = judged_step n _ _ l (stages_judged n (omega arith)) (stage_decides chosen s (check_at n))
-
-  pub answer_judged : Judged check_count (answer chosen s).verdict
-  unfolding answer
-  answer_judged = rw verdict_in_order (stages_judged check_count (le_refl check_count))

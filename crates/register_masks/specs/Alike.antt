@@ -9,13 +9,13 @@ use Rattle.masking.specs.Kept.{places}
 use Rattle.table.specs.Rows.{Rows}
 use Rattle.finish.specs.Finish.{finished}
 use Rattle.finish.specs.Kinds.{Kind, Kinds, Registers, all_registers, kinds_at}
-use Rattle.finish.specs.Kinds.Kind.{feature, featureBut28, area, freed, other}
+use Rattle.finish.specs.Kinds.Kind.{feature, feature_but28, area, freed, other}
 use Rattle.register_masks.specs.Join.{all_to}
 
 -- a register of the first server's masked entry and of another's
 abbrev pub Alike : Kind → ℕ → ℕ → Type 0
 Alike feature a b = Unit {0}
-Alike featureBut28 a b = bit 28 a ≡ bit 28 b
+Alike feature_but28 a b = bit 28 a ≡ bit 28 b
 Alike area a b = Unit {0}
 Alike freed a b = Unit {0}
 Alike other a b = a ≡ b
@@ -23,7 +23,7 @@ Alike other a b = a ≡ b
 -- the same, computed
 abbrev pub alike_test : Kind → ℕ → ℕ → Bool
 alike_test feature a b = true
-alike_test featureBut28 a b = eqb (bit 28 a) (bit 28 b)
+alike_test feature_but28 a b = eqb (bit 28 a) (bit 28 b)
 alike_test area a b = true
 alike_test freed a b = true
 alike_test other a b = eqb a b

@@ -12,24 +12,23 @@ use Rattle.x86defs.specs.declared.CpuidResult.{CpuidResult}
 use Rattle.masking.specs.Kept.{places}
 use Rattle.table.specs.Rows.{Rows}
 use Rattle.finish.specs.Kinds.{Kind, Kinds, Registers, kinds_at}
-use Rattle.finish.specs.Kinds.Kind.{feature, featureBut28, area, freed, other}
+use Rattle.finish.specs.Kinds.Kind.{feature, feature_but28, area, freed, other}
 use Rattle.finish.specs.RegisterTestLaws.{registers_hold, registers_tested}
 use Rattle.register_masks.specs.Join.{pool}
 use Rattle.register_masks.specs.Alike.{Alike, alike_test, registers_alike, all_have, alike_to, all_alike, AlikeAt, AllAlike}
 use Rattle.register_masks.specs.RegisterRunLaws.{all_at, all_of}
 use Rattle.register_masks.specs.JoinedEntryLaws.{registers_refl, registers_both}
-use Rattle.register_masks.specs.PoolLaws.{like_first}
 
 test_alike : (k : Kind) (a b : ℕ) → alike_test k a b ≡ true → Alike k a b
 test_alike feature a b e = tt
-test_alike featureBut28 a b e = eqb-true (bit 28 a) (bit 28 b) e
+test_alike feature_but28 a b e = eqb-true (bit 28 a) (bit 28 b) e
 test_alike area a b e = tt
 test_alike freed a b e = tt
 test_alike other a b e = eqb-true a b e
 
 alike_test_lem : (k : Kind) (a b : ℕ) → Alike k a b → alike_test k a b ≡ true
 alike_test_lem feature a b h = refl
-alike_test_lem featureBut28 a b h = eq-eqb (bit 28 a) (bit 28 b) h
+alike_test_lem feature_but28 a b h = eq-eqb (bit 28 a) (bit 28 b) h
 alike_test_lem area a b h = refl
 alike_test_lem freed a b h = refl
 alike_test_lem other a b h = eq-eqb a b h
@@ -77,12 +76,3 @@ module _ (edition : ℕ) (f : ℕ → Rows) (n : ℕ) where
       go : (i : ℕ) → i < places → (b : Bool) → all_have edition f n i ≡ b → pick b (alike_to f n i) true ≡ true
       go i l true h = at_alike f n i (a i l h)
       go i l false h = refl
-
--- the joined entries stand for the first's
-pub alike_first : (f : ℕ → Rows) (n i : ℕ) (r : CpuidResult) → registers_alike (kinds_at i) (pool f n i).result r ≡ registers_alike (kinds_at i) (f 0 i).result r
-alike_first f n i r =
-    let k : Kinds = kinds_at i in
-    let p : Registers Alike k (f 0 i).result (pool f n i).result = like_first f n i in
-    same_truth _ _
-    (λ e. registers_test k _ _ (registers_both k (registers_both k p (registers_refl k (f 0 i).result)) (test_registers k _ _ e)))
-    (λ e. registers_test k _ _ (registers_both k p (test_registers k _ _ e)))

@@ -3,13 +3,13 @@ use Rattle.std.specs.Prelude.{◌≡◌, ℕ}
 use Rattle.bits.specs.Bits.{Within}
 use Rattle.x86defs.specs.declared.CpuidResult.{CpuidResult}
 use Rattle.finish.specs.Kinds.{Kind, Kinds}
-use Rattle.finish.specs.Kinds.Kind.{feature, featureBut28, area, freed, other}
+use Rattle.finish.specs.Kinds.Kind.{feature, feature_but28, area, freed, other}
 use Rattle.register_masks.specs.Join.{and_to}
 
 -- z is the and of x 0 to x n where the register holds features
 abbrev pub FeatureIs : Kind → ℕ → (ℕ → ℕ) → ℕ → Type 0
 FeatureIs feature z x n = z ≡ and_to x n
-FeatureIs featureBut28 z x n = z ≡ and_to x n
+FeatureIs feature_but28 z x n = z ≡ and_to x n
 FeatureIs area z x n = Unit {0}
 FeatureIs freed z x n = Unit {0}
 FeatureIs other z x n = Unit {0}
@@ -23,7 +23,7 @@ pub record FeaturesAre (k : Kinds) (z : CpuidResult) (x : ℕ → CpuidResult) (
 -- no feature bit beyond another's
 abbrev pub FeatureWithin : Kind → ℕ → ℕ → Type 0
 FeatureWithin feature a b = Within a b
-FeatureWithin featureBut28 a b = Within a b
+FeatureWithin feature_but28 a b = Within a b
 FeatureWithin area a b = Unit {0}
 FeatureWithin freed a b = Unit {0}
 FeatureWithin other a b = Unit {0}

@@ -6,12 +6,12 @@ use Rattle.x86defs.specs.declared.CpuidResult.{CpuidResult}
 use Rattle.x86defs.specs.Functions.{cpuid_result}
 use Rattle.table.specs.Rows.{Rows}
 use Rattle.finish.specs.Kinds.{Kind, Kinds, kinds_at}
-use Rattle.finish.specs.Kinds.Kind.{feature, featureBut28, area, freed, other}
+use Rattle.finish.specs.Kinds.Kind.{feature, feature_but28, area, freed, other}
 
 -- a register with one server's more; bit 28 of 1.EDX is no feature and stays the first's
 abbrev pub joined_register : Kind → ℕ → ℕ → ℕ
 joined_register feature a b = bit_and a b
-joined_register featureBut28 a b = bit_and a (bit_or b (2 ^ 28))
+joined_register feature_but28 a b = bit_and a (bit_or b (2 ^ 28))
 joined_register area a b = a
 joined_register freed a b = a
 joined_register other a b = a

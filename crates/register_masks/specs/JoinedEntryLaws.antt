@@ -8,10 +8,11 @@ use Rattle.std.proofs.lemmas.Bool.{eqb-false}
 use Rattle.bits.specs.Search.{every}
 use Rattle.bits.specs.SearchLaws.{every_at}
 use Rattle.bits.specs.Bits.{bit}
-use Rattle.bits.specs.BitsLaws.{bit_and_lem, bit_or_lem, bit_lt, bits_ext, has_not, none_from}
+use Rattle.bits.specs.BitsLaws.{bit_and_lem, bit_or_lem, bit_lt, bits_ext, has_not}
+use Rattle.bits.proofs.BitsLaws.{none_from}
 use Rattle.x86defs.specs.declared.CpuidResult.{CpuidResult}
 use Rattle.finish.specs.Kinds.{Kind, Kinds, Registers}
-use Rattle.finish.specs.Kinds.Kind.{feature, featureBut28, area, freed, other}
+use Rattle.finish.specs.Kinds.Kind.{feature, feature_but28, area, freed, other}
 use Rattle.finish.specs.MeetLaws.{meet, meet_results}
 use Rattle.register_masks.specs.Join.{joined_register, pooled_results}
 use Rattle.register_masks.specs.Alike.{Alike}
@@ -53,7 +54,7 @@ plain_and a b e = bits_ext _ _ at_bit
 
 alike_refl : (k : Kind) (a : ℕ) → Alike k a a
 alike_refl feature a = tt
-alike_refl featureBut28 a = refl
+alike_refl feature_but28 a = refl
 alike_refl area a = tt
 alike_refl freed a = tt
 alike_refl other a = refl
@@ -61,21 +62,21 @@ alike_refl other a = refl
 -- two that are like a third
 alike_both : (k : Kind) (a b c : ℕ) → Alike k a b → Alike k a c → Alike k b c
 alike_both feature a b c p q = tt
-alike_both featureBut28 a b c p q = sym p ∙ q
+alike_both feature_but28 a b c p q = sym p ∙ q
 alike_both area a b c p q = tt
 alike_both freed a b c p q = tt
 alike_both other a b c p q = sym p ∙ q
 
-alike_pooled : (k : Kind) (x a b : ℕ) → Alike k x a → Alike k x (joined_register k a b)
+pub alike_pooled : (k : Kind) (x a b : ℕ) → Alike k x a → Alike k x (joined_register k a b)
 alike_pooled feature x a b p = tt
-alike_pooled featureBut28 x a b p = p ∙ sym (keeps_28 a b)
+alike_pooled feature_but28 x a b p = p ∙ sym (keeps_28 a b)
 alike_pooled area x a b p = tt
 alike_pooled freed x a b p = tt
 alike_pooled other x a b p = p
 
 pub pooled_joined : (k : Kind) (a b : ℕ) → Alike k a b → joined_register k a b ≡ meet k a b
 pooled_joined feature a b p = refl
-pooled_joined featureBut28 a b p = plain_and a b p
+pooled_joined feature_but28 a b p = plain_and a b p
 pooled_joined area a b p = refl
 pooled_joined freed a b p = refl
 pooled_joined other a b p = refl
@@ -96,20 +97,4 @@ registers_both k p q = record {
   ebx = alike_both k.ebx _ _ _ p.ebx q.ebx;
   ecx = alike_both k.ecx _ _ _ p.ecx q.ecx;
   edx = alike_both k.edx _ _ _ p.edx q.edx;
-}
-
-pub registers_pooled : (k : Kinds) {x a : CpuidResult} (b : CpuidResult) → Registers Alike k x a → Registers Alike k x (pooled_results k a b)
-registers_pooled k b p = record {
-  eax = alike_pooled k.eax _ _ b.eax p.eax;
-  ebx = alike_pooled k.ebx _ _ b.ebx p.ebx;
-  ecx = alike_pooled k.ecx _ _ b.ecx p.ecx;
-  edx = alike_pooled k.edx _ _ b.edx p.edx;
-}
-
-pub results_joined : (k : Kinds) {a b : CpuidResult} → Registers Alike k a b → pooled_results k a b ≡ meet_results k a b
-results_joined k p i = record {
-  eax = pooled_joined k.eax _ _ p.eax i;
-  ebx = pooled_joined k.ebx _ _ p.ebx i;
-  ecx = pooled_joined k.ecx _ _ p.ecx i;
-  edx = pooled_joined k.edx _ _ p.edx i;
 }

@@ -2,19 +2,19 @@
 use Rattle.std.specs.Prelude.{ℕ, ◌-◌, ◌^◌}
 use Rattle.x86defs.specs.Functions.{cpuid_result}
 use Rattle.finish.specs.Kinds.{Kind, Kinds}
-use Rattle.finish.specs.Kinds.Kind.{feature, featureBut28, area, freed, other}
+use Rattle.finish.specs.Kinds.Kind.{feature, feature_but28, area, freed, other}
 use Rattle.register_masks.specs.declared.RowMasks.{RowMasks}
 
 abbrev pub feature_bits : Kind → ℕ
 feature_bits feature = 2 ^ 32 - 1
-feature_bits featureBut28 = 2 ^ 32 - 1 - 2 ^ 28
+feature_bits feature_but28 = 2 ^ 32 - 1 - 2 ^ 28
 feature_bits area = 0
 feature_bits freed = 0
 feature_bits other = 0
 
 abbrev pub agreed_bits : Kind → ℕ
 agreed_bits feature = 0
-agreed_bits featureBut28 = 2 ^ 28
+agreed_bits feature_but28 = 2 ^ 28
 agreed_bits area = 0
 agreed_bits freed = 0
 agreed_bits other = 2 ^ 32 - 1

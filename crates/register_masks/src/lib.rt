@@ -1,7 +1,9 @@
 // Which bits of each register are features, and in which bits two servers must agree: two masks for each register of a place. In specs/ the join of
 // two servers' entries for a pool.
+#![tactic(auto)]
+
 ghost use Rattle.std.specs.Prelude.{◌≡◌, ◌<◌};
-ghost use Rattle.x86defs.specs.Functions.{result};
+ghost use Rattle.x86defs.specs.Functions.{cpuid_result};
 ghost use Rattle.masking.specs.Kept.{places};
 ghost use Rattle.finish.specs.Kinds.{kinds_at};
 ghost use Rattle.register_masks.specs.RegisterMasks.{masks_of};
@@ -10,7 +12,7 @@ use masking::place;
 use x86defs::CpuidResult;
 
 // The masks of the four registers at a place.
-#[derive(Drop)]
+#[derive(Clone, Copy)]
 pub struct RowMasks {
     pub features: CpuidResult,
     pub agreed: CpuidResult,
@@ -25,7 +27,7 @@ const ALL_BUT_BIT_28: u32 = 0xEFFFFFFF;
 
 // Features of EAX, EBX, ECX and EDX, then what must agree of each.
 fn masks(f0: u32, f1: u32, f2: u32, f3: u32, a0: u32, a1: u32, a2: u32, a3: u32) -> RowMasks
-    ensures* { λ r. ⌜ r ≡ record { features = result f0 f1 f2 f3; agreed = result a0 a1 a2 a3 } ⌝ }
+    ensures { result ≡ record { features = cpuid_result f0 f1 f2 f3; agreed = cpuid_result a0 a1 a2 a3 } }
 {
     RowMasks {
         features: CpuidResult {
@@ -47,7 +49,7 @@ fn masks(f0: u32, f1: u32, f2: u32, f3: u32, a0: u32, a1: u32, a2: u32, a3: u32)
 // out anew by each call. tests/gate/kinds.py writes its arms.
 pub fn masks_at(place: usize) -> RowMasks
     requires { place < places }
-    ensures* { λ r. ⌜ r ≡ masks_of (kinds_at place) ⌝ }
+    ensures { result ≡ masks_of (kinds_at place) }
 {
     match place {
         place::VENDOR_AND_MAX_FUNCTION => masks(0, 0, 0, 0, 0, 0, 0, 0),

@@ -15,10 +15,10 @@ use Rattle.collect.specs.Lawful.{lawful_verdict}
 use Rattle.rise.specs.Added.{LastWithEntries, CountAfter, Added}
 use Rattle.rise.specs.Added.CountAfter.{same, raised}
 
-abbrev is_last : List ℕ → ℕ → Bool
+abbrev pub is_last : List ℕ → ℕ → Bool
 is_last s p = ltb 0 (count_of s p) && every (λ q. pick (ltb p q) (eqb (count_of s q) 0) true) (pages_in s)
 
-is_last_lem : (s : List ℕ) (p : ℕ) → is_last s p ≡ true → LastWithEntries s p
+pub is_last_lem : (s : List ℕ) (p : ℕ) → is_last s p ≡ true → LastWithEntries s p
 is_last_lem s p e = record {
   some = ltb-true _ _ (and_left _ _ e);
   after = λ q l h.
@@ -27,18 +27,11 @@ is_last_lem s p e = record {
       (every_at (λ q. pick (ltb p q) (eqb (count_of s q) 0) true) (pages_in s) (and_right (ltb 0 (count_of s p)) _ e) q h) (lt-ltb p q l));
 }
 
-abbrev count_test : List ℕ → List ℕ → ℕ → Bool
+abbrev pub count_test : List ℕ → List ℕ → ℕ → Bool
 count_test s u p = pick (eqb (count_of u p) (count_of s p)) true (is_last s p && leb (count_of s p) (count_of u p))
 
-count_after : (s u : List ℕ) (p : ℕ) → count_test s u p ≡ true → CountAfter s u p
-count_after s u p = go (eqb (count_of u p) (count_of s p)) refl
-  where
-    go : (b : Bool) → eqb (count_of u p) (count_of s p) ≡ b → pick b true (is_last s p && leb (count_of s p) (count_of u p)) ≡ true → CountAfter s u p
-    go true e t = same (eqb-true _ _ e)
-    go false e t = raised (is_last_lem s p (and_left _ _ t)) (leb-true _ _ (and_right (is_last s p) _ t))
-
 -- the bytes of u from offset a on, n of them, are those of s
-abbrev SameBytes : List ℕ → List ℕ → ℕ → ℕ → Type 0
+abbrev pub SameBytes : List ℕ → List ℕ → ℕ → ℕ → Type 0
 SameBytes s u a n = (i : ℕ) → a ≤ i → i < a + n → get_or u i 0 ≡ get_or s i 0
 
 word_same : (s u : List ℕ) (a n o : ℕ) → SameBytes s u a n → a ≤ o → o + 4 ≤ a + n → word_at u o ≡ word_at s o
@@ -51,7 +44,7 @@ word_same s u a n o f l h =
     )
 
 -- an entry whose 48 bytes stand where they stood
-entry_same : (s u : List ℕ) (p q : ℕ) → SameBytes s u (page_size * p + entries_at + entry_size * q) entry_size → entry_at u p q ≡ entry_at s p q
+pub entry_same : (s u : List ℕ) (p q : ℕ) → SameBytes s u (page_size * p + entries_at + entry_size * q) entry_size → entry_at u p q ≡ entry_at s p q
 unfolding entry_at
 entry_same s u p q f = λ k. record {
   page = p;
@@ -70,10 +63,10 @@ entry_same s u p q f = λ k. record {
     word i l h = word_same s u o entry_size i f l h
 
 -- the bytes of u where page p of s has its entries
-abbrev entry_bytes : List ℕ → List ℕ → ℕ → List ℕ
+abbrev pub entry_bytes : List ℕ → List ℕ → ℕ → List ℕ
 entry_bytes s u p = take (entry_size * count_of s p) (drop (page_size * p + entries_at) u)
 
-page_bytes_lem : (s u : List ℕ) (p : ℕ) → entry_bytes s u p ≡ entry_bytes s s p → SameBytes s u (page_size * p + entries_at) (entry_size * count_of s p)
+pub page_bytes_lem : (s u : List ℕ) (p : ℕ) → entry_bytes s u p ≡ entry_bytes s s p → SameBytes s u (page_size * p + entries_at) (entry_size * count_of s p)
 page_bytes_lem s u p e i l h = sym (at u) ∙ ap (λ (bytes : List ℕ). get_or bytes (i - o) 0) e ∙ at s
   where
     o : ℕ
@@ -85,7 +78,7 @@ page_bytes_lem s u p e i l h = sym (at u) ∙ ap (λ (bytes : List ℕ). get_or 
         ∙ get_or-drop o w (i - o) 0
         ∙ ap (λ (j : ℕ). get_or w j 0) (omega arith)
 
-abbrev page_test : List ℕ → List ℕ → Bool
+abbrev pub page_test : List ℕ → List ℕ → Bool
 page_test s u = leb (pages_in s) (pages_in u) && every (count_test s u) (pages_in s)
 
 abbrev bytes_of_entries : List ℕ → List ℕ → List (List ℕ)
@@ -100,18 +93,3 @@ figures_of s u = (lawful_verdict u, page_test s u, bytes_of_entries s u)
 
 abbrev pub figures_wanted : List ℕ → Figures
 figures_wanted s = (Accepted, true, bytes_of_entries s s)
-
-pub added_by_figures : (s u : List ℕ) → figures_of s u ≡ figures_wanted s → Added s u
-added_by_figures s u e = record {
-  lawful = ap (λ (f : Figures). f.0) e;
-  pages = leb-true _ _ (and_left _ _ test);
-  counts = λ p l. count_after s u p (every_at (count_test s u) (pages_in s) (and_right (leb (pages_in s) (pages_in u)) _ test) p l);
-  entries = λ p q l h. entry_same s u p q (λ i k n. on_page_lem p l i (omega arith) (omega arith));
-}
-  where
-    test : page_test s u ≡ true
-    test = ap (λ (f : Figures). f.1) e
-
-    on_page_lem : (p : ℕ) → p < pages_in s → SameBytes s u (page_size * p + entries_at) (entry_size * count_of s p)
-    on_page_lem p l =
-        page_bytes_lem s u p (tabulate_at (pages_in s) (entry_bytes s u) (entry_bytes s s) (ap (λ (f : Figures). f.2) e) p l)

@@ -24,7 +24,8 @@ use Rattle.checks.specs.ExtendedStateLaws.{xsaves_ecx}
 use Rattle.checks.specs.ChecksLaws.{AllPass, all_pass, required_present, then_right}
 use Rattle.finish.specs.Finish.{rule_at, settings, enabled_by, finish, finished, unless_no_xss}
 use Rattle.finish.specs.PlaceLaws.{always, position, always_required}
-use Rattle.finish.specs.RemainsLaws.{finished_present, finished_result, always_remains}
+use Rattle.finish.specs.RemainsLaws.{finished_present}
+use Rattle.finish.proofs.RemainsLaws.{finished_result, always_remains}
 use Rattle.build.specs.Build.{rows_for, verdict_of, answer}
 use Rattle.collect.specs.Lawful.{lawful_verdict}
 use Rattle.rise.specs.RiseProof.{answer_row, accepted_rows}
@@ -58,20 +59,20 @@ module _ (chosen : Choices) (s : List ℕ) (e : (answer chosen s).verdict ≡ Ac
   pub result_at : (i : ℕ) → i < places → (finished chosen.edition m i).present ≡ true → (row_in t i).result ≡ finish (settings chosen.edition m) (rule_at i) (m i).result
   result_at i l f = ap (λ (r : Row). r.result) (answer_row chosen s e i l) ∙ finished_result chosen.edition m i f
 
-  state0 : (row_in t (Place.extendedState 0)).result ≡ finish (settings chosen.edition m) (rule_at (Place.extendedState 0)) (m (Place.extendedState 0)).result
-  state0 = result_at (Place.extendedState 0) (lit< tt) (always_finished (Place.extendedState 0) (lit< tt) refl)
+  state0 : (row_in t (Place.extended_state 0)).result ≡ finish (settings chosen.edition m) (rule_at (Place.extended_state 0)) (m (Place.extended_state 0)).result
+  state0 = result_at (Place.extended_state 0) (lit< tt) (always_finished (Place.extended_state 0) (lit< tt) refl)
 
-  state1 : (row_in t (Place.extendedState 1)).result ≡ finish (settings chosen.edition m) (rule_at (Place.extendedState 1)) (m (Place.extendedState 1)).result
-  state1 = result_at (Place.extendedState 1) (lit< tt) (always_finished (Place.extendedState 1) (lit< tt) refl)
+  state1 : (row_in t (Place.extended_state 1)).result ≡ finish (settings chosen.edition m) (rule_at (Place.extended_state 1)) (m (Place.extended_state 1)).result
+  state1 = result_at (Place.extended_state 1) (lit< tt) (always_finished (Place.extended_state 1) (lit< tt) refl)
 
   pub built_xfem : xfem (rows_of_table t) ≡ xfem m
   unfolding xfem
   built_xfem = ap (λ (r : CpuidResult). r.eax) state0
 
-  built_eax : (row_in t (Place.extendedState 1)).result.eax ≡ (m (Place.extendedState 1)).result.eax
+  built_eax : (row_in t (Place.extended_state 1)).result.eax ≡ (m (Place.extended_state 1)).result.eax
   built_eax = ap (λ (r : CpuidResult). r.eax) state1
 
-  built_ecx : (row_in t (Place.extendedState 1)).result.ecx ≡ xss m
+  built_ecx : (row_in t (Place.extended_state 1)).result.ecx ≡ xss m
   unfolding settings enabled_by unless_no_xss
   built_ecx = ap (λ (r : CpuidResult). r.ecx) state1 ∙ xsaves_ecx m
 
@@ -79,7 +80,7 @@ module _ (chosen : Choices) (s : List ℕ) (e : (answer chosen s).verdict ≡ Ac
   unfolding xss
   built_xss =
       ap₂ (λ (a c : ℕ). pick (has 1 a && has 3 a) c 0) built_eax built_ecx
-      ∙ pick_twice (has 1 (m (Place.extendedState 1)).result.eax && has 3 (m (Place.extendedState 1)).result.eax) (m (Place.extendedState 1)).result.ecx 0
+      ∙ pick_twice (has 1 (m (Place.extended_state 1)).result.eax && has 3 (m (Place.extended_state 1)).result.eax) (m (Place.extended_state 1)).result.ecx 0
 
   pub built_mask : combined_mask (rows_of_table t) ≡ combined_mask m
   unfolding combined_mask

@@ -5,13 +5,13 @@ use Rattle.bits.specs.Bits.{bit}
 use Rattle.table.specs.declared.Choices.{Choices}
 use Rattle.table.specs.Table.{row_in}
 use Rattle.finish.specs.Kinds.{Kind}
-use Rattle.finish.specs.Kinds.Kind.{feature, featureBut28, area, freed, other}
+use Rattle.finish.specs.Kinds.Kind.{feature, feature_but28, area, freed, other}
 use Rattle.build.specs.Build.{answer}
 
 -- whether a register of B's entry is as the hypothesis wants it
 abbrev pub rises_test : Kind → ℕ → ℕ → Bool
 rises_test feature a b = eqb (bit_and a b) a
-rises_test featureBut28 a b = eqb (bit_and a b) a && eqb (bit 28 a) (bit 28 b)
+rises_test feature_but28 a b = eqb (bit_and a b) a && eqb (bit 28 a) (bit 28 b)
 rises_test area a b = true
 rises_test freed a b = true
 rises_test other a b = eqb a b

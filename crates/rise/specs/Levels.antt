@@ -27,10 +27,10 @@ pub record AcceptedLevels (i : Inputs) (t : CpuidResults) : Type 0 where
   pub processors : topology_of i ≡ Processors v
   pub given : GivenBy i v
   pub fits : v < 2 ^ 32
-  pub threads_present : (row_in t Place.threadLevel).present ≡ true
-  pub threads : (row_in t Place.threadLevel).result ≡ cpuid_result i.t (i.t + 1) 0x100 0
-  pub cores_present : (row_in t Place.coreLevel).present ≡ true
-  pub shift : LeastShift v (row_in t Place.coreLevel).result.eax
-  pub count : (row_in t Place.coreLevel).result.ebx ≡ v
-  pub level : (row_in t Place.coreLevel).result.ecx ≡ 0x201
-  pub number : (row_in t Place.coreLevel).result.edx ≡ 0
+  pub threads_present : (row_in t Place.thread_level).present ≡ true
+  pub threads : (row_in t Place.thread_level).result ≡ cpuid_result i.t (i.t + 1) 0x100 0
+  pub cores_present : (row_in t Place.core_level).present ≡ true
+  pub shift : LeastShift v (row_in t Place.core_level).result.eax
+  pub count : (row_in t Place.core_level).result.ebx ≡ v
+  pub level : (row_in t Place.core_level).result.ecx ≡ 0x201
+  pub number : (row_in t Place.core_level).result.edx ≡ 0

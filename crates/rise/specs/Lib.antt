@@ -10,7 +10,6 @@ pub mod Preorder
 pub mod PreorderProof
 pub mod BuiltLaws
 pub mod Levels
-pub mod LevelsProof
 pub mod Located
 pub mod StandsLaws
 pub mod LocatedProof
@@ -19,7 +18,6 @@ pub mod BeginningLaws
 pub mod KeepsLaws
 pub mod CoveredLaws
 pub mod KeptRowsLaws
-pub mod AddedProof
 pub mod AddedDecide
 pub mod Second
 pub mod SecondLaws

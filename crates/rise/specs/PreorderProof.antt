@@ -4,47 +4,47 @@ use Rattle.std.proofs.Common.{sym, ap, ◌∙◌, inl, inr, ⊎_elim, le_refl, l
 use Rattle.std.proofs.lemmas.List.{get_or-replicate}
 use Rattle.bits.specs.ChoiceLaws.{never_both}
 use Rattle.bits.specs.Bits.{has, Within}
-use Rattle.bits.specs.BitsLaws.{within_refl, within_trans, within_antisym, has_mono}
+use Rattle.bits.specs.BitsLaws.{within_refl, within_trans, within_antisym}
+use Rattle.bits.proofs.BitsLaws.{has_mono}
 use Rattle.x86defs.specs.declared.CpuidResult.{CpuidResult}
 use Rattle.x86defs.specs.Functions.{cpuid_result}
 use Rattle.masking.specs.Kept.{places}
 use Rattle.table.specs.declared.Choices.{Choices}
 use Rattle.table.specs.declared.CpuidResults.{CpuidResults}
 use Rattle.finish.specs.Kinds.{Kind, Kinds, EntryAtLeast, TableAtLeast, Registers, kinds_at}
-use Rattle.finish.specs.Kinds.Kind.{feature, featureBut28, area, freed, other}
+use Rattle.finish.specs.Kinds.Kind.{feature, feature_but28, area, freed, other}
 use Rattle.table.specs.Rows.{Row}
 use Rattle.table.specs.Table.{row_in}
 use Rattle.build.specs.Built.{SameButOrigins}
 use Rattle.build.specs.Build.{answer}
 use Rattle.rise.specs.Rise.{RiseHypothesis, Further, TableRises}
-use Rattle.rise.specs.RiseProof.{demand_3}
-use Rattle.rise.specs.SameProof.{registers_same, same_figures}
+use Rattle.rise.specs.SameProof.{registers_same}
 use Rattle.rise.specs.Preorder.{SameRows, without_rows}
 
 -- ---- registers
 
 entry_composes : (k : Kind) (a b c : ℕ) → EntryAtLeast k a b → EntryAtLeast k b c → EntryAtLeast k a c
 entry_composes feature a b c p q = within_trans p q
-entry_composes featureBut28 a b c p q = (within_trans p.0 q.0, p.1 ∙ q.1)
+entry_composes feature_but28 a b c p q = (within_trans p.0 q.0, p.1 ∙ q.1)
 entry_composes area a b c p q = tt
 entry_composes freed a b c p q = tt
 entry_composes other a b c p q = p ∙ q
 
 register_itself : (k : Kind) (a : ℕ) → TableAtLeast k a a
 register_itself feature a = within_refl a
-register_itself featureBut28 a = (within_refl a, refl)
+register_itself feature_but28 a = (within_refl a, refl)
 register_itself area a = le_refl a
 register_itself freed a = refl
 register_itself other a = refl
 
 register_composes : (k : Kind) (a b c : ℕ) → TableAtLeast k a b → TableAtLeast k b c → TableAtLeast k a c
 register_composes feature a b c p q = within_trans p q
-register_composes featureBut28 a b c p q = (within_trans p.0 q.0, p.1 ∙ q.1)
+register_composes feature_but28 a b c p q = (within_trans p.0 q.0, p.1 ∙ q.1)
 register_composes area a b c p q = le_trans p q
 register_composes freed a b c p q = p ∙ q
 register_composes other a b c p q = p ∙ q
 
-entries_compose : (k : Kinds) (a b c : CpuidResult) → Registers EntryAtLeast k a b → Registers EntryAtLeast k b c → Registers EntryAtLeast k a c
+pub entries_compose : (k : Kinds) (a b c : CpuidResult) → Registers EntryAtLeast k a b → Registers EntryAtLeast k b c → Registers EntryAtLeast k a c
 entries_compose k a b c p q = record {
   eax = entry_composes k.eax _ _ _ p.eax q.eax;
   ebx = entry_composes k.ebx _ _ _ p.ebx q.ebx;
@@ -67,24 +67,6 @@ registers_compose k a b c p q = record {
   ecx = register_composes k.ecx _ _ _ p.ecx q.ecx;
   edx = register_composes k.edx _ _ _ p.edx q.edx;
 }
-
--- ---- servers: the first two are accepted, each by its own hypothesis
-
-pub rises_compose : (chosen : Choices) (a b c : List ℕ) → RiseHypothesis chosen a b → RiseHypothesis chosen b c → RiseHypothesis chosen a c
-rises_compose chosen a b c p q = record {
-  accepted = p.accepted;
-  lawful = q.lawful;
-  entries = λ i l f e.
-      let first = p.entries i l f e in
-      let second = q.entries i l f (((demand_3 chosen a b p).table q.accepted).rows i l e) in
-      record { present = second.present; registers = entries_compose (kinds_at i) _ _ _ first.registers second.registers };
-}
-
--- three servers, each at least the next and the last at least the first, have the same answer except for origins
-pub around_the_same : (chosen : Choices) (a b c : List ℕ) → RiseHypothesis chosen a b → RiseHypothesis chosen b c → RiseHypothesis chosen c a
-    → SameButOrigins (answer chosen a) (answer chosen b) × SameButOrigins (answer chosen b) (answer chosen c)
-around_the_same chosen a b c p q r =
-    (same_figures chosen a b p (rises_compose chosen b c a q r), same_figures chosen b c q (rises_compose chosen c a b r p))
 
 -- ---- tables
 
@@ -147,7 +129,7 @@ both_ways_same t u p q = record {
     go i l false false e f = e ∙ sym f
 
 -- and the other way round: tables with the same rows and mask rise to each other
-same_at : (t u : CpuidResults) → SameRows t u → TableRises t u
+pub same_at : (t u : CpuidResults) → SameRows t u → TableRises t u
 same_at t u s = record {
   rows = λ i l e. sym (s.present i l) ∙ e;
   registers = λ i l e. rw (s.registers i l e) (registers_itself (kinds_at i) (row_in u i).result);
@@ -155,15 +137,12 @@ same_at t u s = record {
   mask = rw s.mask (within_refl u.max_extended_state);
 }
 
-same_back : (t u : CpuidResults) → SameRows t u → SameRows u t
+pub same_back : (t u : CpuidResults) → SameRows t u → SameRows u t
 same_back t u s = record {
   present = λ i l. sym (s.present i l);
   registers = λ i l e. sym (s.registers i l (s.present i l ∙ e));
   mask = sym s.mask;
 }
-
-pub same_both_ways : (t u : CpuidResults) → SameRows t u → TableRises t u × TableRises u t
-same_both_ways t u s = (same_at t u s, same_at u t (same_back t u s))
 
 -- ---- what is not said
 

@@ -63,7 +63,7 @@ pub data Outcome (m : Rows) (v : Verdict) : Type 0 where
 -- a subleaf of Dh that b's mask has and a's does not
 pub record Further (a b : CpuidResults) (i : ℕ) : Type 0 where
   pub subleaf : ℕ
-  pub place : i ≡ Place.extendedState subleaf
+  pub place : i ≡ Place.extended_state subleaf
   pub from : 2 ≤ subleaf
   pub below : subleaf < 64
   pub in_b : has subleaf b.max_extended_state ≡ true

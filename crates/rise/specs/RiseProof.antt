@@ -23,7 +23,7 @@ use Rattle.table.specs.Rows.{Row, Rows, row, vacant}
 use Rattle.checks.specs.ExtendedState.{combined_mask}
 use Rattle.finish.specs.Finish.{ymm_clears, rule_at, finished}
 use Rattle.finish.specs.FeatureLaws.{ClearsFewer, clears_same, second_to_first}
-use Rattle.finish.specs.RemainsLaws.{finished_entry}
+use Rattle.finish.proofs.RemainsLaws.{finished_entry}
 use Rattle.finish.specs.XsavesLaws.{XsavesEdx}
 use Rattle.finish.specs.Kinds.{EntryAtLeast, TableAtLeast, Registers, register_kinds, kinds_at, from_entry}
 use Rattle.finish.specs.Kinds.Kind.{area, other}
@@ -74,7 +74,7 @@ answer_mask chosen s e = ap (λ t. t.max_extended_state) (answer_table chosen s 
 
 -- ---- D.1.EDX is masked to 0
 
-xsaves_mask : (avic : Bool) → (masks_at avic (Place.extendedState 1)).edx ≡ 0
+xsaves_mask : (avic : Bool) → (masks_at avic (Place.extended_state 1)).edx ≡ 0
 unfolding slot kept_leaves extended_state1
 xsaves_mask avic = refl
 
@@ -87,7 +87,7 @@ mask_row_edx avic i r e = go r.present
 
 pub xsaves_edx : (avic : Bool) (s : List ℕ) → XsavesEdx (rows_of avic s)
 unfolding rows_of
-xsaves_edx avic s = mask_row_edx avic (Place.extendedState 1) (first_at (Place.extendedState 1) (counted s)) (xsaves_mask avic)
+xsaves_edx avic s = mask_row_edx avic (Place.extended_state 1) (first_at (Place.extended_state 1) (counted s)) (xsaves_mask avic)
 
 -- ---- what the checks of the extended state say
 
@@ -170,39 +170,32 @@ module _ (chosen : Choices) (n : ℕ) (known : edition_verdict n ≡ Accepted) (
     table_ab : TableRises (answer chosen a).table (answer choice_b b).table
     table_ab = record { rows = rows_ab; registers = registers_ab; others = others_ab; mask = mask_ab }
 
-  risen : RiseTo chosen choice_b a b
+  pub risen : RiseTo chosen choice_b a b
   risen = record { outcome = rw verdict_b (outcome_of (rows_for choice_b b)); table = table_ab }
-
-pub demand_3 : Demand3
-demand_3 chosen a b rises = risen chosen chosen.edition (accepted_edition chosen a rises.accepted) (clears_same refl) a b rises
-
-pub second_to_first_rises : SecondToFirst
-unfolding edition_verdict known_edition
-second_to_first_rises chosen a b e rises = risen chosen 1 refl (rw e second_to_first) a b rises
 
 -- ---- by the letter: entries compared as masked compare with D.0.EAX's bits 0 and 1 set, too
 
 -- at D.0 itself, where two bits are set in both
 letter_state : (avic : Bool) (x y : CpuidResult)
-    → Registers EntryAtLeast (kinds_at (Place.extendedState 0)) (apply_mask (masks_at avic (Place.extendedState 0)) x)
-    (apply_mask (masks_at avic (Place.extendedState 0)) y)
-    → Registers EntryAtLeast (kinds_at (Place.extendedState 0)) (masked_at avic (Place.extendedState 0) x) (masked_at avic (Place.extendedState 0) y)
+    → Registers EntryAtLeast (kinds_at (Place.extended_state 0)) (apply_mask (masks_at avic (Place.extended_state 0)) x)
+    (apply_mask (masks_at avic (Place.extended_state 0)) y)
+    → Registers EntryAtLeast (kinds_at (Place.extended_state 0)) (masked_at avic (Place.extended_state 0) x) (masked_at avic (Place.extended_state 0) y)
 unfolding kinds_at register_kinds slot kept_leaves
 letter_state avic x y h = record { eax = within_or h.eax (within_refl legacy_features); ebx = h.ebx; ecx = h.ecx; edx = h.edx }
 
 letter_registers : (avic : Bool) (x y : CpuidResult) (i : ℕ)
     → Registers EntryAtLeast (kinds_at i) (apply_mask (masks_at avic i) x) (apply_mask (masks_at avic i) y)
     → Registers EntryAtLeast (kinds_at i) (masked_at avic i x) (masked_at avic i y)
-letter_registers avic x y i = go (eqb i (Place.extendedState 0)) refl
+letter_registers avic x y i = go (eqb i (Place.extended_state 0)) refl
   where
-    go : (b : Bool) → eqb i (Place.extendedState 0) ≡ b
+    go : (b : Bool) → eqb i (Place.extended_state 0) ≡ b
         → Registers EntryAtLeast (kinds_at i) (apply_mask (masks_at avic i) x) (apply_mask (masks_at avic i) y)
         → Registers EntryAtLeast (kinds_at i) (masked_at avic i x) (masked_at avic i y)
     go true e =
         subst
         (λ (n : ℕ). Registers EntryAtLeast (kinds_at n) (apply_mask (masks_at avic n) x) (apply_mask (masks_at avic n) y)
         → Registers EntryAtLeast (kinds_at n) (masked_at avic n x) (masked_at avic n y))
-        (sym (eqb-true i (Place.extendedState 0) e)) (letter_state avic x y)
+        (sym (eqb-true i (Place.extended_state 0) e)) (letter_state avic x y)
     go false e = λ h. record {
       eax = subst₂ (EntryAtLeast (kinds_at i).eax) (sym (pick_false _ _ e)) (sym (pick_false _ _ e)) h.eax;
       ebx = h.ebx;
@@ -228,7 +221,7 @@ letter_entry avic i x y e h = record {
       (letter_registers avic x.result y.result i h.registers);
 }
 
-letter_rises : (chosen : Choices) (a b : List ℕ) → HypothesisByTheLetter chosen a b → RiseHypothesis chosen a b
+pub letter_rises : (chosen : Choices) (a b : List ℕ) → HypothesisByTheLetter chosen a b → RiseHypothesis chosen a b
 letter_rises chosen a b h = record {
   accepted = h.accepted;
   lawful = h.lawful;
@@ -239,6 +232,3 @@ letter_rises chosen a b h = record {
       ∙ finished_entry chosen.edition (rows_for chosen a) i l f (sym (ap (λ (r : Row). r.present) (answer_row chosen a h.accepted i l)) ∙ p))
       (h.entries i l f p));
 }
-
-pub demand_3_by_the_letter : Demand3ByTheLetter
-demand_3_by_the_letter chosen a b rises = demand_3 chosen a b (letter_rises chosen a b rises)

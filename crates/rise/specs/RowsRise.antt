@@ -4,7 +4,8 @@ use Rattle.std.proofs.Common.{sym, ap₂, ◌∙◌, subst, inl, inr, arith, lit
 use Rattle.std.proofs.Math.Path.{ap}
 use Rattle.bits.specs.ChoiceLaws.{and_left, and_both, pick_true}
 use Rattle.bits.specs.Bits.{has, Within}
-use Rattle.bits.specs.BitsLaws.{has_mono, within_or}
+use Rattle.bits.specs.BitsLaws.{within_or}
+use Rattle.bits.proofs.BitsLaws.{has_mono}
 use Rattle.topology.specs.Topology.{Inputs, topology_of}
 use Rattle.masking.specs.Kept.{places, kept_leaves, slot}
 use Rattle.masking.specs.Place
@@ -22,11 +23,13 @@ use Rattle.finish.specs.FeatureLaws.{ClearsFewer}
 use Rattle.finish.specs.Kinds.{Kinds, kinds, EntryAtLeast, TableAtLeast, Registers, register_kinds, kinds_at, from_entry}
 use Rattle.finish.specs.Kinds.Kind.{other}
 use Rattle.finish.specs.RuleKinds.{kinds_of, kinds_at_lem, component_kinds}
-use Rattle.finish.specs.XsavesLaws.{XsavesEdx, xsaves_at}
+use Rattle.finish.specs.XsavesLaws.{XsavesEdx}
+use Rattle.finish.proofs.XsavesLaws.{xsaves_at}
 use Rattle.checks.specs.Checks.{invlpgb_verdict, components_verdict, area_verdict, topology_verdict, topology_refusal, rows_verdict, refuse_unless}
 use Rattle.checks.specs.ChecksLaws.{AllPass, all_pass, required_present, present_required, component_present, demanded, then_accepted, then_skips}
 use Rattle.finish.specs.PlaceLaws.{always, always_from_entry, required_place, position, always_required, component_rule, Sort, sort}
-use Rattle.finish.specs.RemainsLaws.{finished_present, finished_result, made_remains, always_remains, component_finished}
+use Rattle.finish.specs.RemainsLaws.{finished_present}
+use Rattle.finish.proofs.RemainsLaws.{finished_result, made_remains, always_remains, component_finished}
 use Rattle.finish.specs.PlaceLaws.Sort.{made, required, subleaf}
 use Rattle.rise.specs.Rise.{EntryRises}
 use Rattle.rise.specs.RuleLaws.{SettingsRise, finish_rises, remains_rises}
@@ -57,41 +60,41 @@ module _ (nA nB : ℕ) (fewer : ClearsFewer (ymm_clears nA) (ymm_clears nB)) (A 
   at : (i : ℕ) → i < places → always (rule_at i) ≡ true → Registers EntryAtLeast (kinds_of (kinds_at i) (rule_at i)) (A i).result (B i).result
   at i l e = by_rule i l (entry i l e).registers
 
-  component_in_table_a : (k : ℕ) → 2 ≤ k → k < 64 → has k (combined_mask A) ≡ true → (finished nA A (Place.extendedState k)).present ≡ true
+  component_in_table_a : (k : ℕ) → 2 ≤ k → k < 64 → has k (combined_mask A) ≡ true → (finished nA A (Place.extended_state k)).present ≡ true
   component_in_table_a k l u h = component_finished nA A k l u ∙ and_both h (component_present A pass.components k l u h)
 
   component_entry : (k : ℕ) → 2 ≤ k → k < 64 → has k (combined_mask A) ≡ true
-      → Registers EntryAtLeast (kinds other other other other) (A (Place.extendedState k)).result (B (Place.extendedState k)).result
+      → Registers EntryAtLeast (kinds other other other other) (A (Place.extended_state k)).result (B (Place.extended_state k)).result
   component_entry k l u h =
-      let i : ℕ = Place.extendedState k in
+      let i : ℕ = Place.extended_state k in
       subst (λ (q : Kinds). Registers EntryAtLeast q (A i).result (B i).result) (component_kinds k l u)
       (entries i (omega arith) (ap from_entry (component_rule k l u)) (component_in_table_a k l u h)).registers
 
-  threads_same : (A Place.processorTopologyDefinition).result.ebx ≡ (B Place.processorTopologyDefinition).result.ebx
+  threads_same : (A Place.processor_topology_definition).result.ebx ≡ (B Place.processor_topology_definition).result.ebx
   unfolding kinds_at register_kinds slot kept_leaves
-  threads_same = (at Place.processorTopologyDefinition (lit< tt) refl).ebx
+  threads_same = (at Place.processor_topology_definition (lit< tt) refl).ebx
 
-  sev_rises : Within (A Place.extendedSevFeatures).result.eax (B Place.extendedSevFeatures).result.eax
+  sev_rises : Within (A Place.extended_sev_features).result.eax (B Place.extended_sev_features).result.eax
   unfolding kinds_at register_kinds slot kept_leaves
-  sev_rises = (at Place.extendedSevFeatures (lit< tt) refl).eax
+  sev_rises = (at Place.extended_sev_features (lit< tt) refl).eax
 
   same_inputs : inputs_of A ≡ inputs_of B
   unfolding inputs_of
   same_inputs =
       cc (
-        (at Place.extendedAddressSpaceSizes (lit< tt) refl).ecx,
-        (at Place.versionAndFeatures (lit< tt) refl).ebx,
-        (at Place.versionAndFeatures (lit< tt) refl).edx.1,
+        (at Place.extended_address_space_sizes (lit< tt) refl).ecx,
+        (at Place.version_and_features (lit< tt) refl).ebx,
+        (at Place.version_and_features (lit< tt) refl).edx.1,
         threads_same,
       )
 
   xfem_rises : Within (xfem A) (xfem B)
   unfolding xfem
-  xfem_rises = (at (Place.extendedState 0) (lit< tt) refl).eax
+  xfem_rises = (at (Place.extended_state 0) (lit< tt) refl).eax
 
   xss_rises : Within (xss A) (xss B)
   xss_rises =
-      xss_mono A B (at (Place.extendedState 1) (lit< tt) refl).eax (at (Place.extendedState 1) (lit< tt) refl).ecx
+      xss_mono A B (at (Place.extended_state 1) (lit< tt) refl).eax (at (Place.extended_state 1) (lit< tt) refl).ecx
 
   sums : (k : ℕ) → 2 ≤ k → k < 64 → has k (xfem A) ≡ true → sum_at A k ≡ sum_at B k
   sums k l u h =
@@ -128,7 +131,7 @@ module _ (nA nB : ℕ) (fewer : ClearsFewer (ymm_clears nA) (ymm_clears nB)) (A 
 
   -- beyond these only the subleaves of further bits
   abbrev pub Beyond : ℕ → Type 0
-  Beyond i = (k : ℕ) × (i ≡ Place.extendedState k) × (2 ≤ k) × (k < 64) × (has k (combined_mask B) ≡ true) × (has k (combined_mask A) ≡ false)
+  Beyond i = (k : ℕ) × (i ≡ Place.extended_state k) × (2 ≤ k) × (k < 64) × (has k (combined_mask B) ≡ true) × (has k (combined_mask A) ≡ false)
 
   pub others_further : (i : ℕ) → i < places → (finished nB B i).present ≡ true → ((finished nA A i).present ≡ true) ⊎ Beyond i
   others_further i l h = go (sort i l)
@@ -153,7 +156,7 @@ module _ (nA nB : ℕ) (fewer : ClearsFewer (ymm_clears nA) (ymm_clears nB)) (A 
   unfolding invlpgb_verdict
   invlpgb_b =
       pick_true Accepted (Refused InvlpgbUnavailable)
-      (has_mono 3 (at Place.extendedAddressSpaceSizes (lit< tt) refl).ebx (demanded _ InvlpgbUnavailable pass.invlpgb))
+      (has_mono 3 (at Place.extended_address_space_sizes (lit< tt) refl).ebx (demanded _ InvlpgbUnavailable pass.invlpgb))
 
   topology_b : topology_verdict B ≡ Accepted
   unfolding topology_verdict

@@ -5,16 +5,18 @@ use Rattle.std.specs.Int.Bits.{bit_or}
 use Rattle.bits.specs.Choice.{pick}
 use Rattle.bits.specs.ChoiceLaws.{and_left, and_right, and_both}
 use Rattle.bits.specs.Bits.{has, Within}
-use Rattle.bits.specs.BitsLaws.{has_mono, within_or, within_of_and, and_of_within, within_trans}
+use Rattle.bits.specs.BitsLaws.{within_or, within_of_and, and_of_within, within_trans}
+use Rattle.bits.proofs.BitsLaws.{has_mono}
 use Rattle.x86defs.specs.declared.CpuidResult.{CpuidResult}
 use Rattle.finish.specs.Finish.{Made, Needed, Rule, Enabled, Settings, make_row, change_row, finish, remains, unless_no_xss, address_sizes_ebx, version_ecx, features_ebx, features_ecx, features_edx, extended_version_ecx, extended_version_edx}
-use Rattle.finish.specs.Finish.Needed.{version_and_features, extended_features, threadLevelRow, coreLevelRow, extended_state0, extended_state1, extended_version_and_features, extended_address_space_sizes, untouched}
+use Rattle.finish.specs.Finish.Needed.{version_and_features, extended_features, thread_level_row, core_level_row, extended_state0, extended_state1, extended_version_and_features, extended_address_space_sizes, untouched}
 use Rattle.finish.specs.Finish.Rule.{made, needed, component}
 use Rattle.finish.specs.Kinds.{Kind, Kinds, kinds, EntryAtLeast, TableAtLeast, Registers, from_entry}
-use Rattle.finish.specs.Kinds.Kind.{feature, featureBut28, area, freed, other}
+use Rattle.finish.specs.Kinds.Kind.{feature, feature_but28, area, freed, other}
 use Rattle.finish.specs.RuleKinds.{kept, kinds_of}
 use Rattle.finish.specs.XsavesLaws.{XsavesRow}
-use Rattle.finish.specs.FeatureLaws.{EnablesAtLeast, at_least_of_and, version_ecx_and, features_ebx_and, features_ecx_and, features_edx_and, extended_version_ecx_and, extended_version_edx_and, address_sizes_ebx_and, ClearsFewer, version_ecx_fewer, features_ebx_fewer, features_ecx_fewer, extended_version_ecx_fewer}
+use Rattle.finish.specs.FeatureLaws.{EnablesAtLeast, at_least_of_and, features_edx_and, extended_version_edx_and, address_sizes_ebx_and, ClearsFewer, version_ecx_fewer, features_ebx_fewer, features_ecx_fewer, extended_version_ecx_fewer}
+use Rattle.finish.proofs.FeatureLaws.{version_ecx_and, features_ebx_and, features_ecx_and, extended_version_ecx_and}
 
 -- what B's rows need from each other, compared with A's; of the same edition or not, B clears no bit that A leaves
 pub record SettingsRise (c d : Settings) : Type 0 where
@@ -47,7 +49,7 @@ address_sizes_ebx_mono {x} {y} h = within_of_and (sym (address_sizes_ebx_and x y
 -- a register that keeps its masked value compares as its entry does
 kept_rises : (k : Kind) (x y : ℕ) → EntryAtLeast (kept k) x y → TableAtLeast (kept k) x y
 kept_rises feature x y h = h
-kept_rises featureBut28 x y h = h
+kept_rises feature_but28 x y h = h
 kept_rises area x y h = h
 kept_rises freed x y h = h
 kept_rises other x y h = h
@@ -72,8 +74,8 @@ module _ {c d : Settings} (s : SettingsRise c d) where
         within_trans (at_least_of_and (features_ecx c.clears) (features_ecx_and c.clears) s.enabled h.ecx) (features_ecx_fewer s.clears d.enabled b.ecx);
     edx = at_least_of_and features_edx features_edx_and s.enabled h.edx;
   }
-  needed_rises f threadLevelRow a b h p q = made_registers s.threads
-  needed_rises f coreLevelRow a b h p q = made_registers s.cores
+  needed_rises f thread_level_row a b h p q = made_registers s.threads
+  needed_rises f core_level_row a b h p q = made_registers s.cores
   needed_rises f extended_state0 a b h p q = record { eax = h.eax; ebx = h.ebx; ecx = s.save_area; edx = kept_rises f.edx _ _ h.edx }
   needed_rises f extended_state1 a b h p q = record {
     eax = h.eax;

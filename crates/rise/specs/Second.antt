@@ -25,11 +25,11 @@ clear_ecx keep m r = record {
 -- the row of place i of edition 1's table as edition 2 has it; `keep` says whether XFEM has bit 2
 abbrev pub second_row : Bool → ℕ → Row → Row
 second_row keep i r =
-    pick (eqb i Place.versionAndFeatures) (clear_ecx keep f16c r) (pick (eqb i Place.extendedVersionAndFeatures) (clear_ecx keep xop_and_fma4 r) r)
+    pick (eqb i Place.version_and_features) (clear_ecx keep f16c r) (pick (eqb i Place.extended_version_and_features) (clear_ecx keep xop_and_fma4 r) r)
 
 -- whether a table's XFEM, D.0.EAX, has bit 2
 abbrev pub has_ymm_state : CpuidResults → Bool
-has_ymm_state t = has 2 (row_in t (Place.extendedState 0)).result.eax
+has_ymm_state t = has 2 (row_in t (Place.extended_state 0)).result.eax
 
 -- b beside a, the tables of editions 2 and 1
 pub record SecondTable (a b : CpuidResults) : Type 0 where
@@ -48,5 +48,5 @@ pub record SecondEdition (chosen : Choices) (s : List ℕ) : Type 0 where
 -- Edition 1 is document 01's rule: it clears nothing in 80000001h.ECX, whose masked first entry stands.
 abbrev pub FirstEdition : Type 0
 FirstEdition = (chosen : Choices) (s : List ℕ) → (answer (with_edition chosen 1) s).verdict ≡ Accepted
-    → (row_in (answer (with_edition chosen 1) s).table Place.extendedVersionAndFeatures).result.ecx
-    ≡ (rows_for chosen s Place.extendedVersionAndFeatures).result.ecx
+    → (row_in (answer (with_edition chosen 1) s).table Place.extended_version_and_features).result.ecx
+    ≡ (rows_for chosen s Place.extended_version_and_features).result.ecx

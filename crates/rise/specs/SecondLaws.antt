@@ -67,8 +67,8 @@ extended_first c x l = go (has 2 c.xfem)
 
 -- ---- every row
 
-abbrev touched : ℕ → Bool
-touched i = eqb i Place.versionAndFeatures || eqb i Place.extendedVersionAndFeatures
+abbrev pub touched : ℕ → Bool
+touched i = eqb i Place.version_and_features || eqb i Place.extended_version_and_features
 
 -- the others are the same: one equation over all places
 all_same : (m : Rows) (r : ℕ → CpuidResult)
@@ -77,55 +77,13 @@ all_same : (m : Rows) (r : ℕ → CpuidResult)
 unfolding tabulate settings ymm_clears edition1 features_ebx features_ecx
 all_same m r = refl
 
-same_elsewhere : (m : Rows) (r : ℕ → CpuidResult) (i : ℕ) → i < places → touched i ≡ false
+pub same_elsewhere : (m : Rows) (r : ℕ → CpuidResult) (i : ℕ) → i < places → touched i ≡ false
     → finish (settings 2 m) (rule_at i) (r i) ≡ finish (settings 1 m) (rule_at i) (r i)
 same_elsewhere m r i l e = sym (pick_false _ _ e) ∙ tabulate_at places _ _ (all_same m r) i l ∙ pick_false _ _ e
 
-pub zero_clears : (keep : Bool) (k : ℕ) → clear_unless keep k 0 ≡ 0
-unfolding clear_unless clear
-zero_clears true k = refl
-zero_clears false k = and_zero_l (2 ^ 32 - 1 - k)
-
--- a row whose ECX loses the bits of k, there or not
-row_second : (p keep : Bool) (k : ℕ) (r : CpuidResult) (x y d : ℕ) → x ≡ clear_unless keep k y
-    → pick p (row (cpuid_result r.eax r.ebx x d)) vacant ≡ clear_ecx keep k (pick p (row (cpuid_result r.eax r.ebx y d)) vacant)
-row_second true keep k r x y d e = ap (λ (z : ℕ). row (cpuid_result r.eax r.ebx z d)) e
-row_second false keep k r x y d e = ap (λ (z : ℕ). record { present = false; result = cpuid_result 0 0 z 0 }) (sym (zero_clears keep k))
-
 -- which rows remain does not depend on the edition
-remains_same : (m : Rows) (t : Rule) (p : Bool) → remains (settings 2 m) t p ≡ remains (settings 1 m) t p
+pub remains_same : (m : Rows) (t : Rule) (p : Bool) → remains (settings 2 m) t p ≡ remains (settings 1 m) t p
 unfolding settings
 remains_same m (made t) p = refl
 remains_same m (needed t) p = refl
 remains_same m (component k) p = refl
-
-module _ (m : Rows) where
-  abbrev keep : Bool
-  keep = has 2 (xfem m)
-
-  version_row_lem : finished 2 m Place.versionAndFeatures ≡ clear_ecx keep f16c (finished 1 m Place.versionAndFeatures)
-  unfolding finished settings enabled_by
-  version_row_lem =
-      let r : CpuidResult = (m Place.versionAndFeatures).result in
-      row_second (m Place.versionAndFeatures).present keep f16c r _ _ r.edx (version_second (enabled_by m) r.ecx)
-
-  extended_row : finished 2 m Place.extendedVersionAndFeatures ≡ clear_ecx keep xop_and_fma4 (finished 1 m Place.extendedVersionAndFeatures)
-  unfolding finished settings enabled_by
-  extended_row =
-      let r : CpuidResult = (m Place.extendedVersionAndFeatures).result in
-      row_second (m Place.extendedVersionAndFeatures).present keep xop_and_fma4 r _ _ _ (extended_second (enabled_by m) r.ecx)
-
-  pub finished_second : (i : ℕ) → i < places → finished 2 m i ≡ second_row keep i (finished 1 m i)
-  unfolding finished
-  finished_second i l = go (eqb i Place.versionAndFeatures) refl (eqb i Place.extendedVersionAndFeatures) refl
-    where
-      go : (p : Bool) → eqb i Place.versionAndFeatures ≡ p → (q : Bool) → eqb i Place.extendedVersionAndFeatures ≡ q
-          → finished 2 m i ≡ pick p (clear_ecx keep f16c (finished 1 m i)) (pick q (clear_ecx keep xop_and_fma4 (finished 1 m i)) (finished 1 m i))
-      go true e q f =
-          subst (λ (j : ℕ). finished 2 m j ≡ clear_ecx keep f16c (finished 1 m j)) (sym (eqb-true i Place.versionAndFeatures e)) version_row_lem
-      go false e true f =
-          subst (λ (j : ℕ). finished 2 m j ≡ clear_ecx keep xop_and_fma4 (finished 1 m j)) (sym (eqb-true i Place.extendedVersionAndFeatures f))
-          extended_row
-      go false e false f =
-          ap₂ (λ (b : Bool) (q : CpuidResult). pick b (row q) vacant) (remains_same m (rule_at i) (m i).present)
-          (same_elsewhere m (λ j. (m j).result) i l (rw (e, f)))

@@ -28,83 +28,13 @@ use Rattle.rise.specs.RiseProof.{answer_table, answer_row, answer_mask}
 use Rattle.rise.specs.BuiltLaws.{always_finished, result_at, built_xfem}
 use Rattle.rise.specs.LocatedProof.{refused_has_none}
 use Rattle.rise.specs.Second.{clear_ecx, second_row, has_ymm_state, SecondTable, SecondEdition, FirstEdition}
-use Rattle.rise.specs.SecondLaws.{extended_first, finished_second}
+use Rattle.rise.specs.SecondLaws.{extended_first}
 
 -- clearing bits of ECX leaves which rows are there
-second_present : (keep : Bool) (i : ℕ) (r : Row) → (second_row keep i r).present ≡ r.present
-second_present keep i r = go (eqb i Place.versionAndFeatures) (eqb i Place.extendedVersionAndFeatures)
+pub second_present : (keep : Bool) (i : ℕ) (r : Row) → (second_row keep i r).present ≡ r.present
+second_present keep i r = go (eqb i Place.version_and_features) (eqb i Place.extended_version_and_features)
   where
     go : (p q : Bool) → (pick p (clear_ecx keep f16c r) (pick q (clear_ecx keep xop_and_fma4 r) r)).present ≡ r.present
     go true q = refl
     go false true = refl
     go false false = refl
-
-module _ (chosen : Choices) (s : List ℕ) where
-  abbrev one_of : Choices
-  one_of = with_edition chosen 1
-
-  abbrev two_of : Choices
-  two_of = with_edition chosen 2
-
-  verdicts : (answer two_of s).verdict ≡ (answer one_of s).verdict
-  unfolding answer verdict_of edition_verdict known_edition
-  verdicts = refl
-
-  module _ (e : (answer one_of s).verdict ≡ Accepted) where
-    abbrev m : Rows
-    m = rows_for chosen s
-
-    accepted : (answer two_of s).verdict ≡ Accepted
-    accepted = verdicts ∙ e
-
-    state : has 2 (xfem m) ≡ has_ymm_state (answer one_of s).table
-    unfolding xfem
-    state = ap (has 2) (sym (built_xfem one_of s e))
-
-    row_at : (i : ℕ) → i < places → row_in (answer two_of s).table i ≡ second_row (has_ymm_state (answer one_of s).table) i (row_in (answer one_of s).table i)
-    row_at i l =
-        answer_row two_of s accepted i l
-        ∙ finished_second m i l
-        ∙ ap₂ (λ (b : Bool) (r : Row). second_row b i r) state (sym (answer_row one_of s e i l))
-
-    counts : count_rows (finished 2 m) ≡ count_rows (finished 1 m)
-    unfolding count_rows
-    counts =
-        sum_ext (λ i. one (finished 2 m i).present) (λ i. one (finished 1 m i).present) places
-        (λ i l. ap one (ap (λ (r : Row). r.present) (finished_second m i l) ∙ second_present (has 2 (xfem m)) i (finished 1 m i)))
-
-    tables : SecondTable (answer one_of s).table (answer two_of s).table
-    tables = record {
-      rows = row_at;
-      count =
-          ap (λ (t : CpuidResults). t.row_count) (answer_table two_of s accepted)
-          ∙ counts
-          ∙ sym (ap (λ (t : CpuidResults). t.row_count) (answer_table one_of s e));
-      mask = answer_mask two_of s accepted ∙ sym (answer_mask one_of s e);
-    }
-
-    -- the same rows are there, so each has the origin that it had
-    origins_at : (i : ℕ) → i < places → origin_at two_of s i ≡ origin_at one_of s i
-    origins_at i l =
-        ap (λ (b : Bool). origin_of b i (stands_at i (counted s)))
-        (ap (λ (r : Row). r.present) (row_at i l) ∙ second_present (has_ymm_state (answer one_of s).table) i (row_in (answer one_of s).table i))
-
-    accepted_origins : (answer two_of s).origins ≡ (answer one_of s).origins
-    unfolding answer origins_in
-    accepted_origins = tabulate_ext places _ _ (λ i l. ap origin_number (origins_at i l))
-
-  origins : (v : Verdict) → (answer one_of s).verdict ≡ v → (answer two_of s).origins ≡ (answer one_of s).origins
-  origins Accepted e = accepted_origins e
-  origins (Refused r) e = refused_has_none two_of s r (verdicts ∙ e) ∙ sym (refused_has_none one_of s r e)
-
-  pub second_edition : SecondEdition chosen s
-  second_edition = record { verdict = verdicts; table = tables; origins = origins (answer one_of s).verdict refl }
-
-pub first_edition_lem : FirstEdition
-unfolding settings ymm_clears
-first_edition_lem chosen s e =
-    let m : Rows = rows_for chosen s in
-    ap (λ (r : CpuidResult). r.ecx)
-    (result_at (with_edition chosen 1) s e Place.extendedVersionAndFeatures (lit< tt)
-    (always_finished (with_edition chosen 1) s e Place.extendedVersionAndFeatures (lit< tt) refl))
-    ∙ extended_first (enabled_by m) _ (rows_fit_lem chosen.secure_avic s Place.extendedVersionAndFeatures).ecx

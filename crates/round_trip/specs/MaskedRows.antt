@@ -37,7 +37,7 @@ eax_again false x m l = and_again x m
 
 masked_again : (avic : Bool) (i : ℕ) (r : CpuidResult) → masked_at avic i (masked_at avic i r) ≡ masked_at avic i r
 masked_again avic i r = λ k.
-    cpuid_result (eax_again (eqb i (Place.extendedState 0)) r.eax (masks_at avic i).eax legacy_features k)
+    cpuid_result (eax_again (eqb i (Place.extended_state 0)) r.eax (masks_at avic i).eax legacy_features k)
     (and_again r.ebx (masks_at avic i).ebx k)
     (and_again r.ecx (masks_at avic i).ecx k)
     (and_again r.edx (masks_at avic i).edx k)

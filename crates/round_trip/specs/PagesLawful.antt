@@ -7,7 +7,7 @@ use Rattle.pages.specs.ZerosLaws.{zeros_of_words}
 use Rattle.pages.specs.ReservedLaws.{all_clean_lem}
 use Rattle.table.specs.declared.Verdict.TheVariants.{Accepted}
 use Rattle.collect.specs.Lawful.{lawful_verdict}
-use Rattle.collect.specs.LawfulLaws.{clean_lawful}
+use Rattle.collect.proofs.LawfulLaws.{clean_lawful}
 use Rattle.kvm_list.specs.Words.{bytes_of_words, low_word}
 use Rattle.kvm_list.specs.Format.{ListRow}
 use Rattle.kvm_import.specs.ListChecks.{rows_on0, rows_on1}

@@ -24,7 +24,7 @@ use Rattle.kvm_list.specs.Format.{ListRow}
 use Rattle.kvm_list.specs.FormatLaws.{cut_row}
 use Rattle.kvm_import.specs.ListChecks.{is_extended_state, rows_on0, rows_on1}
 use Rattle.kvm_import.specs.ListPages.{entry_words, entries_words, page_words, pages_of}
-use Rattle.kvm_import.specs.PagesLaws.{length_page}
+use Rattle.kvm_import.proofs.PagesLaws.{length_page}
 use Rattle.round_trip.specs.Reads.{LeafRow, of_row, of_entry}
 
 abbrev from_words : (ℕ → ℕ) → LeafRow

@@ -22,7 +22,7 @@ use Rattle.kvm_list.specs.Format.{ListRow, row_count, zero_word, row_at, rows_li
 use Rattle.kvm_list.specs.FormatLaws.{cut_row}
 use Rattle.kvm_import.specs.ListChecks.{bad_list_length, is_row_lawful, all_lawful, fields_lawful, rows_on0, rows_on1, rows_fit}
 use Rattle.kvm_import.specs.ListPages.{pages_of}
-use Rattle.kvm_import.specs.PagesLaws.{pages_length}
+use Rattle.kvm_import.proofs.PagesLaws.{pages_length}
 use Rattle.kvm_import.specs.Import.{list_verdict, read_list}
 use Rattle.round_trip.specs.Reads.{ReadMakes}
 use Rattle.round_trip.specs.ReadsExactly.{LengthHolds, RowHolds, FieldsHold, RowsFit, ReadsExactly}
@@ -170,46 +170,3 @@ module _ (l buffer : List ℕ) where
             untouched = λ r p. cc;
             beyond = λ n p. impossible (cc);
           }
-
--- ---- what reading makes
-
--- a row of bytes has words of 32 bits
-module _ (l : List ℕ) (bytes : AreBytes l) where
-  word_small : (o : ℕ) → low_word (word_at l o) ≡ word_at l o
-  word_small o = cut_small (word_at l o) (omega (arith, bytes o, bytes (o + 1), bytes (o + 2), bytes (o + 3)))
-
-  row_small : (q : ℕ) → cut_row (row_at l q) ≡ row_at l q
-  unfolding row_at
-  row_small q =
-      let o : ℕ = 8 + 40 * q in
-      λ k. record {
-        leaf = word_small (o + 0) k;
-        index = word_small (o + 4) k;
-        flags = word_small (o + 8) k;
-        registers = cpuid_result (word_small (o + 12) k) (word_small (o + 16) k) (word_small (o + 20) k) (word_small (o + 24) k);
-        padding0 = word_small (o + 28) k;
-        padding1 = word_small (o + 32) k;
-        padding2 = word_small (o + 36) k;
-      }
-
-  fit_tabulate : (f : ℕ → ListRow) → ((q : ℕ) → cut_row (f q) ≡ f q) → (n : ℕ) → AllFit (tabulate n f)
-  unfolding tabulate
-  fit_tabulate f h zero = tt
-  fit_tabulate f h (suc n) = (h 0, fit_tabulate (λ k. f (suc k)) (λ q. h (suc q)) n)
-
-  rows_small : AllFit (rows_listed l)
-  unfolding rows_listed
-  rows_small = fit_tabulate (row_at l) row_small (row_count l)
-
-  pub read_makes : (buffer : List ℕ) → (read_list l buffer).answer ≡ Bytes 8192 → ReadMakes l buffer
-  read_makes buffer e =
-      let x = reads_exactly l buffer in
-      let g = ((x.read 8192).0 e).2 in
-      record {
-        two = pages_length (rows_listed l) g.0 g.1;
-        bytes = x.beyond 8192 e;
-        lawful = pages_lawful (rows_listed l) rows_small g.0 g.1;
-        page0 = page_0 (rows_listed l) rows_small g.0 g.1;
-        page1 = page_1 (rows_listed l) rows_small g.0 g.1;
-        all = all_counted (rows_listed l) rows_small g.0 g.1;
-      }

@@ -23,19 +23,20 @@ use Rattle.collect.specs.FirstEntries.{first_at, mask_row, rows_of}
 use Rattle.finish.specs.RowsBuilt.{built_from}
 use Rattle.build.specs.Built.{without_origins, SameButOrigins}
 use Rattle.build.specs.Build.{rows_for, answer}
-use Rattle.build.specs.BuildLaws.{answer_of_rows}
+use Rattle.build.proofs.BuildLaws.{answer_of_rows}
 use Rattle.buffer.specs.declared.Written.TheVariants.{Bytes}
 use Rattle.buffer.specs.Front.{AfterWrite, write_front}
 use Rattle.buffer.specs.WritesExactlyProof.{front_exactly}
 use Rattle.image.specs.ImagePieces.{rows_among}
-use Rattle.refusals.specs.ExactlyProof.{not_short}
+use Rattle.refusals.proofs.ExactlyProof.{not_short}
 use Rattle.rise.specs.RiseProof.{answer_table, answer_row, accepted_edition, accepted_lawful, accepted_rows}
 use Rattle.kvm_list.specs.Format.{rows_listed}
 use Rattle.kvm_import.specs.ListPages.{pages_of}
-use Rattle.kvm_import.specs.PagesLaws.{pages_length as two_pages}
+use Rattle.kvm_import.proofs.PagesLaws.{pages_length as two_pages}
 use Rattle.kvm_import.specs.Import.{list_verdict, read_list}
 use Rattle.kvm_export.specs.Export.{list_rows, list_of, write_list}
-use Rattle.kvm_export.specs.ExportListLaws.{count_rows_lem, export_length}
+use Rattle.kvm_export.specs.ExportListLaws.{export_length}
+use Rattle.kvm_export.proofs.ExportListLaws.{count_rows_lem}
 use Rattle.round_trip.specs.Again.{read_again, again}
 use Rattle.round_trip.specs.RowsAgain.{built_again}
 use Rattle.round_trip.specs.MaskedRows.{rows_masked}

@@ -32,7 +32,8 @@ use Rattle.checks.specs.ChecksLaws.{AllPass, all_pass, required_present, present
 use Rattle.finish.specs.Finish.{Rule, Settings, ymm_clears, rule_at, enabled_by, settings, finish, remains, finish_row, finished, unless_no_xss, address_sizes_ebx}
 use Rattle.finish.specs.Kinds.{from_entry}
 use Rattle.finish.specs.PlaceLaws.{always, always_from_entry, required_place, position, always_required, component_rule}
-use Rattle.finish.specs.RemainsLaws.{finished_present, finished_result, finished_entry, always_remains, component_finished}
+use Rattle.finish.specs.RemainsLaws.{finished_present}
+use Rattle.finish.proofs.RemainsLaws.{finished_result, finished_entry, always_remains, component_finished}
 use Rattle.table.specs.declared.CpuidResults.{CpuidResults}
 use Rattle.table.specs.Table.{table_of, count_rows}
 use Rattle.finish.specs.RowsBuilt.{table_for, built_from}
@@ -53,7 +54,7 @@ all_sizes avic = refl
 keeps_12 : (avic : Bool) (i : ℕ) → i < places → is_sizes (rule_at i) ≡ true → bit 12 (masks_at avic i).ebx ≡ 1
 keeps_12 avic i l e = has_bit 12 (masks_at avic i).ebx (if_holds (is_sizes (rule_at i)) _ (every_at (sizes_test avic) places (all_sizes avic) i l) e)
 
-keeps_3 : (avic : Bool) → bit 3 (masks_at avic Place.extendedAddressSpaceSizes).ebx ≡ 1
+keeps_3 : (avic : Bool) → bit 3 (masks_at avic Place.extended_address_space_sizes).ebx ≡ 1
 unfolding slot kept_leaves extended_address_space_sizes bit mask_of fields_mask
 keeps_3 avic = refl
 
@@ -128,9 +129,9 @@ module _ (edition : ℕ) (avic : Bool) (m : Rows) (masked : MaskedAgain avic m) 
         in_table i l (always_from_entry (rule_at i) e)
         (finished_present edition m i ∙ always_remains (settings edition m) (λ j. (m j).present) i l e ∙ present i l e)
 
-    component_row : (k : ℕ) → 2 ≤ k → k < 64 → has k (combined_mask m) ≡ true → n (Place.extendedState k) ≡ row (m (Place.extendedState k)).result
+    component_row : (k : ℕ) → 2 ≤ k → k < 64 → has k (combined_mask m) ≡ true → n (Place.extended_state k) ≡ row (m (Place.extended_state k)).result
     component_row k l u h =
-        let i : ℕ = Place.extendedState k in
+        let i : ℕ = Place.extended_state k in
         let b : i < places = omega arith in
         let p : (m i).present ≡ true = component_present m pass.components k l u h in
         in_table i b (ap from_entry (component_rule k l u)) (component_finished edition m k l u ∙ and_both h p)
@@ -152,39 +153,39 @@ module _ (edition : ℕ) (avic : Bool) (m : Rows) (masked : MaskedAgain avic m) 
 
     xfem_again : xfem n ≡ xfem m
     unfolding xfem
-    xfem_again = left (Place.extendedState 0) (lit< tt) refl (λ r. r.eax) refl
+    xfem_again = left (Place.extended_state 0) (lit< tt) refl (λ r. r.eax) refl
 
-    xsaves_eax : (n (Place.extendedState 1)).result.eax ≡ (m (Place.extendedState 1)).result.eax
-    xsaves_eax = left (Place.extendedState 1) (lit< tt) refl (λ r. r.eax) refl
+    xsaves_eax : (n (Place.extended_state 1)).result.eax ≡ (m (Place.extended_state 1)).result.eax
+    xsaves_eax = left (Place.extended_state 1) (lit< tt) refl (λ r. r.eax) refl
 
-    xsaves_ecx_again : (n (Place.extendedState 1)).result.ecx ≡ bit_and (xss m) (masks_at avic (Place.extendedState 1)).ecx
+    xsaves_ecx_again : (n (Place.extended_state 1)).result.ecx ≡ bit_and (xss m) (masks_at avic (Place.extended_state 1)).ecx
     unfolding unless_no_xss settings enabled_by
     xsaves_ecx_again =
-        ap (λ (r : CpuidResult). r.ecx) (made_row (Place.extendedState 1) (lit< tt) refl)
-        ∙ ap (λ (x : ℕ). bit_and x (masks_at avic (Place.extendedState 1)).ecx) (xsaves_ecx m)
+        ap (λ (r : CpuidResult). r.ecx) (made_row (Place.extended_state 1) (lit< tt) refl)
+        ∙ ap (λ (x : ℕ). bit_and x (masks_at avic (Place.extended_state 1)).ecx) (xsaves_ecx m)
 
     xss_again : xss n ≡ xss m
     unfolding xss
     xss_again =
         rw (xsaves_eax, xsaves_ecx_again)
-        (pick_again (has 1 (m (Place.extendedState 1)).result.eax && has 3 (m (Place.extendedState 1)).result.eax)
-        (m (Place.extendedState 1)).result.ecx (masks_at avic (Place.extendedState 1)).ecx
-        (ap (λ (r : CpuidResult). r.ecx) (same_row (Place.extendedState 1) (lit< tt) refl)))
+        (pick_again (has 1 (m (Place.extended_state 1)).result.eax && has 3 (m (Place.extended_state 1)).result.eax)
+        (m (Place.extended_state 1)).result.ecx (masks_at avic (Place.extended_state 1)).ecx
+        (ap (λ (r : CpuidResult). r.ecx) (same_row (Place.extended_state 1) (lit< tt) refl)))
 
-    sev_again : (n Place.extendedSevFeatures).result.eax ≡ (m Place.extendedSevFeatures).result.eax
-    sev_again = left Place.extendedSevFeatures (lit< tt) refl (λ r. r.eax) refl
+    sev_again : (n Place.extended_sev_features).result.eax ≡ (m Place.extended_sev_features).result.eax
+    sev_again = left Place.extended_sev_features (lit< tt) refl (λ r. r.eax) refl
 
     inputs_again : inputs_of n ≡ inputs_of m
     unfolding inputs_of
     inputs_again =
-        let a : (n Place.extendedAddressSpaceSizes).result.ecx ≡ (m Place.extendedAddressSpaceSizes).result.ecx =
-        left Place.extendedAddressSpaceSizes (lit< tt) refl (λ r. r.ecx) refl in
-        let b : (n Place.versionAndFeatures).result.ebx ≡ (m Place.versionAndFeatures).result.ebx =
-        left Place.versionAndFeatures (lit< tt) refl (λ r. r.ebx) refl in
-        let d : (n Place.versionAndFeatures).result.edx ≡ (m Place.versionAndFeatures).result.edx =
-        left Place.versionAndFeatures (lit< tt) refl (λ r. r.edx) refl in
-        let f : (n Place.processorTopologyDefinition).result.ebx ≡ (m Place.processorTopologyDefinition).result.ebx =
-        left Place.processorTopologyDefinition (lit< tt) refl (λ r. r.ebx) refl in
+        let a : (n Place.extended_address_space_sizes).result.ecx ≡ (m Place.extended_address_space_sizes).result.ecx =
+        left Place.extended_address_space_sizes (lit< tt) refl (λ r. r.ecx) refl in
+        let b : (n Place.version_and_features).result.ebx ≡ (m Place.version_and_features).result.ebx =
+        left Place.version_and_features (lit< tt) refl (λ r. r.ebx) refl in
+        let d : (n Place.version_and_features).result.edx ≡ (m Place.version_and_features).result.edx =
+        left Place.version_and_features (lit< tt) refl (λ r. r.edx) refl in
+        let f : (n Place.processor_topology_definition).result.ebx ≡ (m Place.processor_topology_definition).result.ebx =
+        left Place.processor_topology_definition (lit< tt) refl (λ r. r.ebx) refl in
         rw (a, b, d, f)
 
     mask_again : combined_mask n ≡ combined_mask m
@@ -218,12 +219,12 @@ module _ (edition : ℕ) (avic : Bool) (m : Rows) (masked : MaskedAgain avic m) 
     required_again : (j : ℕ) → j < required_count → (n (place_required j)).present ≡ true
     required_again j l = ap (λ (r : Row). r.present) (required_row (place_required j) (required_place j l).0 (required_place j l).1)
 
-    invlpgb_bit : has 3 (n Place.extendedAddressSpaceSizes).result.ebx ≡ has 3 (m Place.extendedAddressSpaceSizes).result.ebx
+    invlpgb_bit : has 3 (n Place.extended_address_space_sizes).result.ebx ≡ has 3 (m Place.extended_address_space_sizes).result.ebx
     invlpgb_bit =
         has_of_bit 3 _ _
-        (ap (λ (r : CpuidResult). bit 3 r.ebx) (made_row Place.extendedAddressSpaceSizes (lit< tt) refl)
-        ∙ bit_and_lem 3 (address_sizes_ebx (m Place.extendedAddressSpaceSizes).result.ebx) (masks_at avic Place.extendedAddressSpaceSizes).ebx
-        ∙ (let x : ℕ = (m Place.extendedAddressSpaceSizes).result.ebx in omega (arith, sizes_bit_3 x, keeps_3 avic, bit_lt 3 x)))
+        (ap (λ (r : CpuidResult). bit 3 r.ebx) (made_row Place.extended_address_space_sizes (lit< tt) refl)
+        ∙ bit_and_lem 3 (address_sizes_ebx (m Place.extended_address_space_sizes).result.ebx) (masks_at avic Place.extended_address_space_sizes).ebx
+        ∙ (let x : ℕ = (m Place.extended_address_space_sizes).result.ebx in omega (arith, sizes_bit_3 x, keeps_3 avic, bit_lt 3 x)))
 
     invlpgb_again : invlpgb_verdict n ≡ Accepted
     unfolding invlpgb_verdict
@@ -232,7 +233,7 @@ module _ (edition : ℕ) (avic : Bool) (m : Rows) (masked : MaskedAgain avic m) 
     supplied_again : (k : ℕ) → 2 ≤ k → k < 64 → supplied n (combined_mask n) k ≡ true
     supplied_again k l u = rw mask_again (go (has k (combined_mask m)) refl)
       where
-        go : (b : Bool) → has k (combined_mask m) ≡ b → pick b (n (Place.extendedState k)).present true ≡ true
+        go : (b : Bool) → has k (combined_mask m) ≡ b → pick b (n (Place.extended_state k)).present true ≡ true
         go true e = ap (λ (r : Row). r.present) (component_row k l u e)
         go false e = refl
 

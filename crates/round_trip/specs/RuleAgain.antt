@@ -12,7 +12,7 @@ use Rattle.x86defs.specs.Functions.{cpuid_result}
 use Rattle.masking.specs.Kept.{masks_at}
 use Rattle.table.specs.Rows.{Row, Rows, row, vacant}
 use Rattle.finish.specs.Finish.{Needed, Rule, change_row, Enabled, YmmClears, Settings, has_ymm, has_avx512, has_cet, avx512_features_ebx, avx512_features_ecx, avx512_features_edx, cet_ss, rd_pid, rdtscp, ibrs_and_stibp, btc_no, hypervisor_present, version_ecx, features_ebx, features_ecx, features_edx, extended_version_ecx, extended_version_edx, address_sizes_ebx, unless_no_xss, finish, remains}
-use Rattle.finish.specs.Finish.Needed.{version_and_features, extended_features, threadLevelRow, coreLevelRow, extended_state0, extended_state1, extended_version_and_features, extended_address_space_sizes, untouched}
+use Rattle.finish.specs.Finish.Needed.{version_and_features, extended_features, thread_level_row, core_level_row, extended_state0, extended_state1, extended_version_and_features, extended_address_space_sizes, untouched}
 use Rattle.finish.specs.Finish.Rule.{made, needed, component}
 use Rattle.finish.specs.Kinds.{from_entry}
 use Rattle.finish.specs.PlaceLaws.{is_needed}
@@ -143,8 +143,8 @@ module _ (c : Settings) (avic : Bool) (i : ℕ) (r : CpuidResult) where
       (features_ebx_again c.clears c.enabled _ _ (λ j. (e j).ebx) k)
       (features_ecx_again c.clears c.enabled _ _ (λ j. (e j).ecx) k)
       (features_edx_again c.enabled _ _ (λ j. (e j).edx) k)
-  change_again threadLevelRow e h = refl
-  change_again coreLevelRow e h = refl
+  change_again thread_level_row e h = refl
+  change_again core_level_row e h = refl
   change_again extended_state0 e h = λ k. cpuid_result (e k).eax (e k).ebx c.save_area (e k).edx
   change_again extended_state1 e h = λ k.
       cpuid_result (e k).eax (e k).ebx

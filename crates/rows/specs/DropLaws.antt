@@ -37,11 +37,11 @@ module _ (k to : ℕ) (h : k < to) where
   more : to - k ≡ suc (to - (k + 1))
   more = omega arith
 
-  pub empty_row : (w : List ℕ) → empty_rows (to - (k + 1)) (k + 1) (put_row w (Place.extendedState k) (cpuid_result 0 0 0 0)) ≡ empty_rows (to - k) k w
+  pub empty_row : (w : List ℕ) → empty_rows (to - (k + 1)) (k + 1) (put_row w (Place.extended_state k) (cpuid_result 0 0 0 0)) ≡ empty_rows (to - k) k w
   unfolding empty_rows
   empty_row w = sym (ap (λ (n : ℕ). empty_rows n k w) more)
 
-  pub empty_origin : (o : List ℕ) → empty_origins (to - (k + 1)) (k + 1) (set o (Place.extendedState k) 0) ≡ empty_origins (to - k) k o
+  pub empty_origin : (o : List ℕ) → empty_origins (to - (k + 1)) (k + 1) (set o (Place.extended_state k) 0) ≡ empty_origins (to - k) k o
   unfolding empty_origins
   empty_origin o = sym (ap (λ (n : ℕ). empty_origins n k o) more)
 
@@ -59,18 +59,18 @@ module _ (k to : ℕ) (h : k ≡ to) where
 
 -- ---- which rows stay
 
-stays_low : (x i : ℕ) (p : Bool) → i < Place.extendedState 2 → stays x i p ≡ true
-stays_low x i p h = rw (lt-leb (Place.extendedState 2) i h)
+stays_low : (x i : ℕ) (p : Bool) → i < Place.extended_state 2 → stays x i p ≡ true
+stays_low x i p h = rw (lt-leb (Place.extended_state 2) i h)
 
-stays_high : (x i : ℕ) (p : Bool) → Place.extendedState 64 ≤ i → stays x i p ≡ true
-stays_high x i p h = rw (le-leb (Place.extendedState 2) i (omega arith), le-ltb i (Place.extendedState 64) h)
+stays_high : (x i : ℕ) (p : Bool) → Place.extended_state 64 ≤ i → stays x i p ≡ true
+stays_high x i p h = rw (le-leb (Place.extended_state 2) i (omega arith), le-ltb i (Place.extended_state 64) h)
 
-stays_at : (x k : ℕ) (p : Bool) → 2 ≤ k → k < 64 → stays x (Place.extendedState k) p ≡ (has k x && p)
+stays_at : (x k : ℕ) (p : Bool) → 2 ≤ k → k < 64 → stays x (Place.extended_state k) p ≡ (has k x && p)
 stays_at x k p l u =
-    let q : Place.extendedState k - Place.extendedState 0 ≡ k = omega arith in
+    let q : Place.extended_state k - Place.extended_state 0 ≡ k = omega arith in
     rw (
-      le-leb (Place.extendedState 2) (Place.extendedState k) (omega arith),
-      lt-ltb (Place.extendedState k) (Place.extendedState 64) (omega arith),
+      le-leb (Place.extended_state 2) (Place.extended_state k) (omega arith),
+      lt-ltb (Place.extended_state k) (Place.extended_state 64) (omega arith),
       q,
     )
 
@@ -79,8 +79,8 @@ stays_at x k p l u =
 module _ (w o : List ℕ) (x : ℕ) where
   pub record Dropping (k : ℕ) (v q : List ℕ) : Type 0 where
     pub size : length v ≡ 4 * places
-    pub rows : UpTo (cpuid_result 0 0 0 0) (kept_row w o x) (row_list w) (row_list v) (Place.extendedState k)
-    pub origins : UpTo 0 (kept_origin o x) o q (Place.extendedState k)
+    pub rows : UpTo (cpuid_result 0 0 0 0) (kept_row w o x) (row_list w) (row_list v) (Place.extended_state k)
+    pub origins : UpTo 0 (kept_origin o x) o q (Place.extended_state k)
 
   abbrev there : ℕ → Bool
   there j = is_there (get_or o j 0)
@@ -99,14 +99,14 @@ module _ (w o : List ℕ) (x : ℕ) where
 
   -- a turn, at subleaf k, whose place is i: a row that stays, and any other
   module _ {v q : List ℕ} (k : ℕ) {used here : Bool} (l : 2 ≤ k) (u : k < 64) (d : Dropping k v q) (e : used ≡ has k x)
-      (f : here ≡ is_there (get_or q (Place.extendedState k) 0)) (s : length o ≡ places) where
+      (f : here ≡ is_there (get_or q (Place.extended_state k) 0)) (s : length o ≡ places) where
     abbrev i : ℕ
-    i = Place.extendedState k
+    i = Place.extended_state k
 
     stay : stays x i (there i) ≡ (used && here)
     stay = stays_at x k (there i) l u ∙ rw (e, f, d.origins.above i (le_refl i))
 
-    next : Place.extendedState (k + 1) ≡ i + 1
+    next : Place.extended_state (k + 1) ≡ i + 1
     next = omega arith
 
     pub dropping_stays : (used && here) ≡ true → Dropping (k + 1) v q
@@ -132,13 +132,13 @@ module _ (w o : List ℕ) (x : ℕ) where
 
   -- n subleaves from k on that do not stay
   pub dropping_run : (n k : ℕ) {v q : List ℕ} → 2 ≤ k → k + n ≤ 64 → length o ≡ places
-      → ((j : ℕ) → k ≤ j → j < k + n → (has j x && there (Place.extendedState j)) ≡ false) → Dropping k v q
+      → ((j : ℕ) → k ≤ j → j < k + n → (has j x && there (Place.extended_state j)) ≡ false) → Dropping k v q
       → Dropping (k + n) (empty_rows n k v) (empty_origins n k q)
   unfolding empty_rows empty_origins
   dropping_run zero k l u s f d = let e : k + 0 ≡ k = omega arith in rw e d
   dropping_run (suc n) k {v} {q} l u s f d =
       let e : k + suc n ≡ k + 1 + n = omega arith in
-      let same : is_there (get_or q (Place.extendedState k) 0) ≡ there (Place.extendedState k) = ap is_there (d.origins.above (Place.extendedState k) (le_refl (Place.extendedState k))) in
+      let same : is_there (get_or q (Place.extended_state k) 0) ≡ there (Place.extended_state k) = ap is_there (d.origins.above (Place.extended_state k) (le_refl (Place.extended_state k))) in
       rw e
       (dropping_run n (k + 1) (omega arith) (omega arith) s (λ j a b. f j (omega arith) (omega arith))
       (dropping_goes k l (omega arith) d refl refl s (ap (λ (b : Bool). has k x && b) same ∙ f k (omega arith) (omega arith))))
@@ -149,7 +149,7 @@ module _ (w o : List ℕ) (x : ℕ) where
     pub low : 2 ≤ k
     pub upto : k ≤ b
     pub high : b ≤ 64
-    pub gap : (j : ℕ) → k ≤ j → j < b → (has j x && there (Place.extendedState j)) ≡ false
+    pub gap : (j : ℕ) → k ≤ j → j < b → (has j x && there (Place.extended_state j)) ≡ false
     pub left : Left x rest b
     pub done : Dropping k v q
 
@@ -165,10 +165,10 @@ module _ (w o : List ℕ) (x : ℕ) where
   }
 
   module _ {k rest : ℕ} {v q : List ℕ} (d : Running k v q rest) (s : length o ≡ places) where
-    widened : (z : ℕ) → ((j : ℕ) → d.b ≤ j → j < z → has j x ≡ false) → (j : ℕ) → k ≤ j → j < z → (has j x && there (Place.extendedState j)) ≡ false
+    widened : (z : ℕ) → ((j : ℕ) → d.b ≤ j → j < z → has j x ≡ false) → (j : ℕ) → k ≤ j → j < z → (has j x && there (Place.extended_state j)) ≡ false
     widened z f j l u = go (ltb j d.b) refl
       where
-        go : (c : Bool) → ltb j d.b ≡ c → (has j x && there (Place.extendedState j)) ≡ false
+        go : (c : Bool) → ltb j d.b ≡ c → (has j x && there (Place.extended_state j)) ≡ false
         go true e = d.gap j l (ltb-true j d.b e)
         go false e = rw (f j (ltb-false j d.b e) u)
 
@@ -189,17 +189,17 @@ module _ (w o : List ℕ) (x : ℕ) where
       pub running_from : k ≤ z
       running_from = omega (arith, d.upto, taken.from)
 
-      same : get_or q (Place.extendedState z) 0 ≡ get_or o (Place.extendedState z) 0
-      same = d.done.origins.above (Place.extendedState z) (omega (arith, running_from))
+      same : get_or q (Place.extended_state z) 0 ≡ get_or o (Place.extended_state z) 0
+      same = d.done.origins.above (Place.extended_state z) (omega (arith, running_from))
 
-      module _ {here : Bool} (f : here ≡ is_there (get_or q (Place.extendedState z) 0)) where
+      module _ {here : Bool} (f : here ≡ is_there (get_or q (Place.extended_state z) 0)) where
         -- its row is there, and what stands before it is dropped
         pub running_stays : here ≡ true → {v₁ q₁ : List ℕ} → v₁ ≡ empty_rows (z - k) k v → q₁ ≡ empty_origins (z - k) k q
             → Running (z + 1) v₁ q₁ (bit_and rest (rest - 1))
         running_stays t {v₁} {q₁} e g =
             let r : Dropping z v₁ q₁ = run z running_from (omega (arith, taken.inside)) taken.between e g in
-            let h : true ≡ is_there (get_or q₁ (Place.extendedState z) 0) =
-            sym (ap is_there (r.origins.above (Place.extendedState z) (le_refl (Place.extendedState z)) ∙ sym same) ∙ sym f ∙ t) in
+            let h : true ≡ is_there (get_or q₁ (Place.extended_state z) 0) =
+            sym (ap is_there (r.origins.above (Place.extended_state z) (le_refl (Place.extended_state z)) ∙ sym same) ∙ sym f ∙ t) in
             record {
               b = z + 1;
               low = omega (arith, d.low, running_from);
@@ -212,7 +212,7 @@ module _ (w o : List ℕ) (x : ℕ) where
 
         pub running_goes : here ≡ false → Running k v q (bit_and rest (rest - 1))
         running_goes t =
-            let absent : there (Place.extendedState z) ≡ false = ap is_there (sym same) ∙ sym f ∙ t in
+            let absent : there (Place.extended_state z) ≡ false = ap is_there (sym same) ∙ sym f ∙ t in
             record {
               b = z + 1;
               low = d.low;
@@ -223,8 +223,8 @@ module _ (w o : List ℕ) (x : ℕ) where
               done = d.done;
             }
           where
-            gap : there (Place.extendedState z) ≡ false → (j : ℕ) → k ≤ j → j < z + 1 → (c : Bool) → eqb j z ≡ c
-                → (has j x && there (Place.extendedState j)) ≡ false
+            gap : there (Place.extended_state z) ≡ false → (j : ℕ) → k ≤ j → j < z + 1 → (c : Bool) → eqb j z ≡ c
+                → (has j x && there (Place.extended_state j)) ≡ false
             gap absent j a b true e = let i : j ≡ z = eqb-true j z e in rw i (rw absent (never (has z x)))
               where
                 never : (c : Bool) → (c && false) ≡ false
@@ -241,8 +241,8 @@ module _ (w o : List ℕ) (x : ℕ) where
       record {
         registers =
             known_by_rows v (kept_row w o x) d.size
-            (up_to_rest (cpuid_result 0 0 0 0) (kept_row w o x) places (Place.extendedState 64) (length_tabulate places (row_of w))
+            (up_to_rest (cpuid_result 0 0 0 0) (kept_row w o x) places (Place.extended_state 64) (length_tabulate places (row_of w))
             (λ j h l. pick_true _ _ (stays_high x j (there j) h) ∙ sym (get_d_tabulate places (row_of w) j (cpuid_result 0 0 0 0) l)) d₁.rows);
         origins =
-            up_to_rest 0 (kept_origin o x) places (Place.extendedState 64) s (λ j h l. pick_true _ _ (stays_high x j (there j) h)) d₁.origins;
+            up_to_rest 0 (kept_origin o x) places (Place.extended_state 64) s (λ j h l. pick_true _ _ (stays_high x j (there j) h)) d₁.origins;
       }

@@ -19,7 +19,8 @@ use Rattle.table.specs.Table.{table_of}
 use Rattle.memory.specs.Origin.{is_made_here, finished_origins}
 use Rattle.memory.specs.OriginLaws.{marked}
 use Rattle.memory.specs.Memory.{row_of, is_there, rows_in, row_list}
-use Rattle.memory.specs.MemoryLaws.{Rowed, known_by_rows, layout_length, layout_row, layout_ext, layout_list}
+use Rattle.memory.specs.MemoryLaws.{Rowed, known_by_rows, layout_length, layout_ext}
+use Rattle.memory.proofs.MemoryLaws.{layout_row, layout_list}
 use Rattle.checks.specs.ExtendedState.{combined_mask, xfem, xss}
 use Rattle.checks.specs.TopologyInputs.{inputs_of}
 use Rattle.checks.specs.Checks.{required_verdict}
@@ -28,7 +29,8 @@ use Rattle.finish.specs.Finish.{Enabled, YmmClears, Settings, ymm_clears, rule_a
 use Rattle.finish.specs.FeaturesInCode.{enabled_from}
 use Rattle.finish.specs.PlaceLaws.{always, position, always_required}
 use Rattle.finish.specs.Stores.{dropped_row, dropped, Ready}
-use Rattle.finish.specs.FinishedTable.{store_results, settings_with, finished_rows}
+use Rattle.finish.specs.FinishedTable.{settings_with}
+use Rattle.finish.proofs.FinishedTable.{store_results, finished_rows}
 use Rattle.finish.specs.RemainsLaws.{finished_present}
 use Rattle.rows.specs.Finished.{Holds, stays, kept_row, kept_origin, Dropped}
 
@@ -42,7 +44,7 @@ dropped_rowed {w} {o} {x} d = record {
 
 -- a row other than D.2 to D.63 that is read is as it was
 pub dropped_read : {w o : List ℕ} {x : ℕ} {v q : List ℕ} → Dropped w o x v q → (i : ℕ) → ltb i places ≡ true
-    → (leb (Place.extendedState 2) i && ltb i (Place.extendedState 64)) ≡ false → {r : CpuidResult} → r ≡ row_of v i → r ≡ row_of w i
+    → (leb (Place.extended_state 2) i && ltb i (Place.extended_state 64)) ≡ false → {r : CpuidResult} → r ≡ row_of v i → r ≡ row_of w i
 dropped_read {w} {o} {x} d i h e f =
     f ∙ ap (λ (u : List ℕ). row_of u i) d.registers ∙ layout_row (kept_row w o x) i (ltb-true i places h) ∙ rw e
 
@@ -51,7 +53,7 @@ dropped_read {w} {o} {x} d i h e f =
 kept_dropped : (w o : List ℕ) (x i : ℕ) → kept_row w o x i ≡ (dropped (rows_in w o) x i).result
 unfolding dropped_row
 kept_dropped w o x i =
-    go (leb (Place.extendedState 2) i && ltb i (Place.extendedState 64)) (has (i - Place.extendedState 0) x && is_there (get_or o i 0))
+    go (leb (Place.extended_state 2) i && ltb i (Place.extended_state 64)) (has (i - Place.extended_state 0) x && is_there (get_or o i 0))
   where
     go : (b c : Bool)
         → pick (pick b c true) (row_of w i) (cpuid_result 0 0 0 0) ≡ (pick b (pick c (row (row_of w i)) vacant) (rows_in w o i)).result
@@ -94,7 +96,7 @@ module _ (n : ℕ) (w o : List ℕ) (h : required_verdict (rows_in w o) ≡ Acce
 
 pub finished_memory : (edition : ℕ) (w o : List ℕ) {y : YmmClears} {e : Enabled} {x size n : ℕ} {d q v p : List ℕ} {l : List CpuidResult}
     → Ready (rows_in w o) size n → y ≡ ymm_clears edition
-    → e ≡ enabled_from (row_of w (Place.extendedState 0)) (row_of w (Place.extendedState 1)) (row_of w Place.extendedSevFeatures)
+    → e ≡ enabled_from (row_of w (Place.extended_state 0)) (row_of w (Place.extended_state 1)) (row_of w Place.extended_sev_features)
     → x ≡ combined_mask (rows_in w o) → Dropped w o x d q → p ≡ marked q → Rowed v l
     → l ≡ store_results (settings_with y e size (inputs_of (rows_in w o)).t n) (row_of w) (tabulate places (kept_row w o x))
     → Holds (table_of (finished edition (rows_in w o)) (combined_mask (rows_in w o))) o v p

@@ -23,7 +23,7 @@ use Rattle.table.specs.Table.{table_of, row_in}
 use Rattle.table.specs.TableLaws.{table_ext}
 use Rattle.memory.specs.Origin.{is_made_here, finished_origins}
 use Rattle.memory.specs.Memory.{row_of, is_there, rows_in}
-use Rattle.memory.specs.MemoryLaws.{layout_row}
+use Rattle.memory.proofs.MemoryLaws.{layout_row}
 use Rattle.memory.specs.Held.{held_in}
 use Rattle.checks.specs.ExtendedState.{combined_mask, xfem, xss}
 use Rattle.checks.specs.ExtendedStateLaws.{xsaves_ecx}
@@ -32,7 +32,8 @@ use Rattle.checks.specs.ChecksLaws.{required_present}
 use Rattle.finish.specs.Finish.{rule_at, finish, settings, enabled_by, unless_no_xss, finished}
 use Rattle.finish.specs.Kinds.{from_entry}
 use Rattle.finish.specs.PlaceLaws.{always, position, always_required}
-use Rattle.finish.specs.RemainsLaws.{finished_present, finished_result, finished_entry, always_remains}
+use Rattle.finish.specs.RemainsLaws.{finished_present}
+use Rattle.finish.proofs.RemainsLaws.{finished_result, finished_entry, always_remains}
 use Rattle.rows.specs.Finished.{Holds}
 
 -- an origin is not 0 exactly where the row is there
@@ -92,10 +93,10 @@ module _ (n : ℕ) (w o : List ℕ) {x : ℕ} {v q : List ℕ} (h : Holds (table
         ∙ required_present m r (position i) k.0)
 
     abbrev state0 : ℕ
-    state0 = Place.extendedState 0
+    state0 = Place.extended_state 0
 
     abbrev state1 : ℕ
-    state1 = Place.extendedState 1
+    state1 = Place.extended_state 1
 
     held_xfem : xfem (rows_in v q) ≡ xfem m
     unfolding xfem

@@ -20,7 +20,7 @@ pub use extended_state::{process_extended_state_subleaves, xsave_size};
 pub use required::validate_required;
 
 // Refused, or ready to be finished: the combined mask, the size of the save area and the number of processors.
-#[derive(Drop)]
+#[derive(Clone, Copy)]
 pub enum Checked {
     Refused(Refusal),
     Ready(u64, u32, u32),

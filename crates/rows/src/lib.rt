@@ -1,7 +1,9 @@
 // Turns the 88 rows in lent memory into the table, where they stand: checks them first, and leaves them as they were on a refusal.
+#![tactic(auto)]
+
 ghost use Rattle.std.specs.Prelude.{◌≡◌, ◌*◌, ◌-◌, ◌≤◌, length};
 ghost use Rattle.masking.specs.Kept.{places};
-ghost use Rattle.x86defs.specs.Functions.{result, vendor_ebx, vendor_ecx, vendor_edx};
+ghost use Rattle.x86defs.specs.Functions.{cpuid_result, vendor_ebx, vendor_ecx, vendor_edx};
 ghost use Rattle.memory.specs.Memory.{rows_in};
 ghost use Rattle.table.specs.Table.{table_of};
 ghost use Rattle.checks.specs.ExtendedState.{combined_mask};
@@ -38,7 +40,7 @@ const VENDOR_EDX: u32 = 0x69746E65;
 
 // The registers of a place without a row.
 fn no_registers() -> CpuidResult
-    ensures* { λ r. ⌜ r ≡ result 0 0 0 0 ⌝ }
+    ensures { result ≡ cpuid_result 0 0 0 0 }
 {
     CpuidResult {
         eax: 0,
@@ -50,7 +52,7 @@ fn no_registers() -> CpuidResult
 
 // Leaves 0 and 80000000h.
 fn vendor_and_max_function(max: u32) -> CpuidResult
-    ensures* { λ r. ⌜ r ≡ result max vendor_ebx vendor_ecx vendor_edx ⌝ }
+    ensures { result ≡ cpuid_result max vendor_ebx vendor_ecx vendor_edx }
 {
     CpuidResult {
         eax: max,
@@ -64,7 +66,7 @@ fn vendor_and_max_function(max: u32) -> CpuidResult
 // them is dropped at once.
 fn drop_subleaves(registers: &mut [u32; REGISTERS], origins: &mut [u64; PLACES], mask: u64)
     requires { (length registers.old ≡ 352) × (length origins.old ≡ 88) }
-    ensures* { λ _. ⌜ Dropped registers.old origins.old mask registers.new origins.new ⌝ }
+    ensures { Dropped registers.old origins.old mask registers.new origins.new }
 {
     let mut k: usize = 2;
     let mut rest = mask & FROM_2;
@@ -83,8 +85,8 @@ fn drop_subleaves(registers: &mut [u32; REGISTERS], origins: &mut [u64; PLACES],
 // The subleaves from one up to another become zeros, in one loop for each array: so the compiler makes each a call that fills memory.
 fn drop_run(registers: &mut [u32; REGISTERS], origins: &mut [u64; PLACES], from: usize, to: usize)
     requires { (from ≤ to) × (to ≤ 64) × (length origins.old ≡ 88) }
-    ensures* { λ _. ⌜ (registers.new ≡ empty_rows (to - from) from registers.old)
-        × (origins.new ≡ empty_origins (to - from) from origins.old) ⌝ }
+    ensures { (registers.new ≡ empty_rows (to - from) from registers.old)
+        × (origins.new ≡ empty_origins (to - from) from origins.old) }
 {
     drop_origins(origins, from, to);
     drop_rows(registers, from, to);
@@ -92,7 +94,7 @@ fn drop_run(registers: &mut [u32; REGISTERS], origins: &mut [u64; PLACES], from:
 
 fn drop_origins(origins: &mut [u64; PLACES], from: usize, to: usize)
     requires { (from ≤ to) × (to ≤ 64) × (length origins.old ≡ 88) }
-    ensures* { λ _. ⌜ origins.new ≡ empty_origins (to - from) from origins.old ⌝ }
+    ensures { origins.new ≡ empty_origins (to - from) from origins.old }
 {
     let mut k = from;
     while k < to {
@@ -103,7 +105,7 @@ fn drop_origins(origins: &mut [u64; PLACES], from: usize, to: usize)
 
 fn drop_rows(registers: &mut [u32; REGISTERS], from: usize, to: usize)
     requires { (from ≤ to) × (to ≤ 64) }
-    ensures* { λ _. ⌜ registers.new ≡ empty_rows (to - from) from registers.old ⌝ }
+    ensures { registers.new ≡ empty_rows (to - from) from registers.old }
 {
     let mut k = from;
     while k < to {
@@ -123,8 +125,8 @@ pub fn finish(
     processors: u32,
 )
     requires { (mask ≡ combined_mask (rows_in registers.old origins.old)) × Ready (rows_in registers.old origins.old) size processors }
-    ensures* { λ _. ⌜ Holds (table_of (finished edition (rows_in registers.old origins.old))
-        (combined_mask (rows_in registers.old origins.old))) origins.old registers.new origins.new ⌝ }
+    ensures { Holds (table_of (finished edition (rows_in registers.old origins.old))
+        (combined_mask (rows_in registers.old origins.old))) origins.old registers.new origins.new }
 {
     lengths_known(registers, origins);
     drop_subleaves(registers, origins, mask);
@@ -199,8 +201,8 @@ pub fn finish_rows(
     origins: &mut [u64; PLACES],
     edition: u32,
 ) -> Verdict
-    ensures* { λ r. ⌜ Tried (built_from edition (rows_in registers.old origins.old)) registers.old origins.old r
-        registers.new origins.new ⌝ }
+    ensures { Tried (built_from edition (rows_in registers.old origins.old)) registers.old origins.old result
+        registers.new origins.new }
 {
     let checked = check_rows(registers, origins);
     match checked {

@@ -3,7 +3,7 @@ ghost use Rattle.std.specs.Prelude.{◌≡◌, ◌+◌, ◌-◌, ◌*◌, ◌/�
 ghost use Rattle.sha256.specs.Block.{◌⊞◌, rotr, ch, maj, Σ₀, Σ₁, σ₀, σ₁, word_at, words, turn, turns, added, compress};
 
 // A hash value, and the eight working variables.
-#[derive(Drop)]
+#[derive(Clone, Copy)]
 pub struct State {
     pub a: u32,
     pub b: u32,

@@ -1,4 +1,6 @@
 // SHA-256 (FIPS 180-4) of a message that is there as a whole: the 32 bytes of its digest.
+#![tactic(auto)]
+
 ghost use Rattle.std.specs.Prelude.{◌≡◌, ◌+◌, ◌-◌, ◌*◌, ◌/◌, ◌%◌, ◌^◌, ◌<◌, ◌≤◌, ◌++◌, length, replicate};
 ghost use Rattle.std.proofs.lemmas.List.Edits.{sets};
 ghost use Rattle.sha256.specs.Sha256.{big_endian, padding, initial, digest_of, sha256};

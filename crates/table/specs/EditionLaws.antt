@@ -8,18 +8,11 @@ use Rattle.bits.specs.SearchLaws.{every_at}
 use Rattle.bits.specs.Bits.{mask_of, Within}
 use Rattle.bits.specs.BitsLaws.{within_refl, within_trans, within_le, within_or, or_within_left}
 use Rattle.table.specs.declared.edition.EditionBits.{EditionBits}
-use Rattle.table.specs.Edition.{editions, known_edition, joined, joined_from, after, bits_between, later_bits}
+use Rattle.table.specs.Edition.{editions, known_edition, joined, joined_from, bits_between, later_bits}
 
 pub known_bounds : (n : ℕ) → known_edition n ≡ true → (1 ≤ n) × (n ≤ editions)
 unfolding known_edition
 known_bounds n e = (leb-true 1 n (and_left (leb 1 n) (leb n editions) e), leb-true n editions (and_right (leb 1 n) (leb n editions) e))
-
--- a test that each edition passes, by computation
-pub each_edition : (test : ℕ → Bool) → every (λ k. test (suc k)) editions ≡ true → (n : ℕ) → known_edition n ≡ true → test n ≡ true
-each_edition test e n k =
-    let (low, high) = known_bounds n k in
-    let q : suc (n - 1) ≡ n = omega arith in
-    sym (ap test q) ∙ every_at (λ j. test (suc j)) editions e (n - 1) (omega arith)
 
 -- c has at least the bits of b
 pub record Inside (b c : EditionBits) : Type 0 where

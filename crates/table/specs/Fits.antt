@@ -1,5 +1,5 @@
 -- Registers of 32 bits.
-use Rattle.std.specs.Prelude.{ℕ, ◌^◌, ◌<◌}
+use Rattle.std.specs.Prelude.{◌^◌, ◌<◌}
 use Rattle.x86defs.specs.declared.CpuidResult.{CpuidResult}
 
 pub record Fits (r : CpuidResult) : Type 0 where

@@ -1,5 +1,5 @@
 -- The 88 places stand in the order of their rows: they rise by leaf, as an unsigned number, then by subleaf.
-use Rattle.std.specs.Prelude.{◌≡◌, refl, Bool, true, false, ◌&&◌, ◌||◌, ◌⊎◌, ℕ, zero, suc, ◌<◌, eqb, ltb}
+use Rattle.std.specs.Prelude.{◌≡◌, refl, Bool, true, false, ◌&&◌, ◌||◌, ℕ, zero, suc, ◌<◌, eqb, ltb}
 use Rattle.std.proofs.Common.{◌∙◌, inl, inr, eq-or-lt_of_le, arith, eqb-true, ltb-true}
 use Rattle.bits.specs.ChoiceLaws.{and_left, and_right}
 use Rattle.bits.specs.Search.{every}

@@ -27,10 +27,3 @@ refusal_told (ReservedBytes leaf) = refl
 refusal_told PoolSets = refl
 refusal_told PoolDiffers = refl
 refusal_told NothingDecides = refl
-
-pub refusal_numbered : (r : Refusal) → (details r).number ≡ 0 → ⊥
-refusal_numbered r e =
-    let first : PagesLength ≡ r =
-    sym (ap (λ (n : ℕ). refusal_with (record { number = n; leaf = (details r).leaf; subleaf = (details r).subleaf; s = (details r).s })) e)
-    ∙ refusal_told r in
-    omega (arith, e, ap (λ (q : Refusal). (details q).number) first)

@@ -1,7 +1,7 @@
 -- Tables with the same rows, and the rows of a table.
 use Rattle.std.specs.Prelude.{◌≡◌, false, ℕ, ◌<◌}
 use Rattle.std.proofs.Common.{ap}
-use Rattle.bits.specs.Lists.{tabulate, one}
+use Rattle.bits.specs.Lists.{one}
 use Rattle.bits.specs.ListsLaws.{get_d_tabulate, tabulate_ext, sum_ext}
 use Rattle.x86defs.specs.Functions.{cpuid_result}
 use Rattle.masking.specs.Kept.{places}

@@ -19,7 +19,7 @@ pub fn known_edition(edition: u32) -> bool
 }
 
 // Bits of 1.ECX and of 80000001h.ECX, as masks.
-#[derive(Drop)]
+#[derive(Clone, Copy)]
 pub struct EditionBits {
     pub version_ecx: u32,
     pub extended_version_ecx: u32,

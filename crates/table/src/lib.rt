@@ -1,4 +1,6 @@
 // The words of an answer: the caller's choices, refusals, the verdict and the table; and a verdict's number and details as plain numbers.
+#![tactic(auto)]
+
 ghost use Rattle.std.specs.Prelude.{◌≡◌};
 ghost use Rattle.table.specs.Numbers.{subleaf_of};
 
@@ -10,14 +12,14 @@ pub mod edition;
 pub mod numbers;
 
 // What a caller chooses: whether secure AVIC is kept (document 01, "Corners of masking.rs"), and the edition of the AVX rule (document 02, P7).
-#[derive(Drop)]
+#[derive(Clone, Copy)]
 pub struct Choices {
     pub secure_avic: bool,
     pub edition: u32,
 }
 
 // A subleaf, where a leaf has them.
-#[derive(Drop)]
+#[derive(Clone, Copy)]
 pub enum Subleaf {
     None,
     Some(u32),
@@ -34,7 +36,7 @@ pub fn subleaf_of(named: bool, number: u32) -> Subleaf
 }
 
 // Why no table is given, or no answer from one. specs/Refusal.antt has the number and the details of each.
-#[derive(Drop)]
+#[derive(Clone, Copy)]
 pub enum Refusal {
     PagesLength,
     PageCount,
@@ -56,14 +58,14 @@ pub enum Refusal {
     NothingDecides,
 }
 
-#[derive(Drop)]
+#[derive(Clone, Copy)]
 pub enum Verdict {
     Accepted,
     Refused(Refusal),
 }
 
 // A table: which of the 88 places have a row, the rows' registers, how many rows there are, and the combined mask.
-#[derive(Drop)]
+#[derive(Clone, Copy)]
 pub struct CpuidResults {
     pub present: [bool; PLACES],
     pub results: [CpuidResult; PLACES],

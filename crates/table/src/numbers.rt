@@ -6,7 +6,7 @@ use crate::{Refusal, Subleaf, Verdict};
 use topology::TopologyError;
 
 // Number 0 means accepted. A leaf, subleaf or s that the number does not name is 0; `has_subleaf` is 1 where a subleaf is named.
-#[derive(Drop)]
+#[derive(Clone, Copy)]
 pub struct AnswerNumbers {
     pub number: u8,
     pub leaf: u32,

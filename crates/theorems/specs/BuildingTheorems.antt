@@ -22,15 +22,17 @@ use Rattle.pages.specs.Walk.{first_index}
 use Rattle.build.specs.Build.{answer}
 use Rattle.pages.specs.declared.reader.Read.TheVariants.{Entry as ReadEntry}
 use Rattle.pages.specs.Read.{read_at, given}
-use Rattle.pages.specs.ReadLaws.{read_entry, reader_gives, reader_gives_counted, reader_gives_clean}
+use Rattle.pages.specs.ReadLaws.{read_entry}
+use Rattle.pages.proofs.ReadLaws.{reader_gives, reader_gives_counted, reader_gives_clean}
 use Rattle.lookup.specs.declared.LeafResult.TheVariants.{None as Nothing}
 use Rattle.lookup.specs.Lookup.{lookup}
-use Rattle.lookup.specs.LookupLaws.{empty_finds_nothing}
+use Rattle.lookup.proofs.LookupLaws.{empty_finds_nothing}
 use Rattle.image.specs.Image.{image}
 use Rattle.refusals.specs.Exactly.{BuildsExactly, WritesExactly}
-use Rattle.refusals.specs.ExactlyProof.{builds_exactly, writes_exactly}
+use Rattle.refusals.proofs.ExactlyProof.{builds_exactly, writes_exactly}
 use Rattle.counts.specs.Counts.{Counted}
-use Rattle.counts.specs.CountsProof.{rows_counted, rows_at_most, bytes_at_most, single_page_refused}
+use Rattle.counts.specs.CountsProof.{rows_counted, single_page_refused}
+use Rattle.counts.proofs.CountsProof.{rows_at_most, bytes_at_most}
 use Rattle.images.specs.Images.{ImageAscends, EqualImages}
 use Rattle.images.specs.AscendLaws.{image_ascends}
 use Rattle.images.specs.ImagesProof.{equal_images}
@@ -93,19 +95,19 @@ reader_gives_clean_entries = reader_gives_clean
 -- Examples: server A is clean; with an entry of a filtered leaf that is not, 17 names the leaf, and the comparison too; above the count it is not
 -- tested; 17 comes before 3, names the first, and comes after a later page's 2. crates/examples/specs/Unclean.antt
 pub a_clean : all_clean server_a ≡ true
-a_clean = Unclean.serverA-clean
+a_clean = Unclean.server_a_clean
 
-pub unclean_filtered : (answer first_edition (Unclean.withUnclean 23)).verdict ≡ Refused (ReservedBytes (function 0x40000000))
-unclean_filtered = Unclean.filtered-refused
+pub unclean_filtered : (answer first_edition (Unclean.with_unclean 23)).verdict ≡ Refused (ReservedBytes (function 0x40000000))
+unclean_filtered = Unclean.filtered_refused
 
-pub unclean_compared : compared first_edition server_a (Unclean.withUnclean 23) ≡ UnlawfulB (ReservedBytes (function 0x40000000))
-unclean_compared = Unclean.a-to-unclean
+pub unclean_compared : compared first_edition server_a (Unclean.with_unclean 23) ≡ UnlawfulB (ReservedBytes (function 0x40000000))
+unclean_compared = Unclean.a_to_unclean
 
-pub unclean_unused : (answer first_edition (Unclean.withUnclean 22)).verdict ≡ Accepted
-unclean_unused = Unclean.unused-accepted
+pub unclean_unused : (answer first_edition (Unclean.with_unclean 22)).verdict ≡ Accepted
+unclean_unused = Unclean.unused_accepted
 
-pub unclean_before_missing : (answer first_edition Unclean.twoUnclean).verdict ≡ Refused (ReservedBytes (function 0xD))
-unclean_before_missing = Unclean.two-refused
+pub unclean_before_missing : (answer first_edition Unclean.two_unclean).verdict ≡ Refused (ReservedBytes (function 0xD))
+unclean_before_missing = Unclean.two_refused
 
 -- ---- The page reader in the source's form. crates/pages/specs/Read.antt.
 
@@ -145,49 +147,49 @@ images_tell_tables = equal_images
 
 -- two whole pages
 pub a_whole_set : length server_a ≡ 8192
-a_whole_set = Computed.serverA-length
+a_whole_set = Computed.server_a_length
 
 pub a_accepted : (answer first_edition server_a).verdict ≡ Accepted
-a_accepted = Computed.serverA-accepted
+a_accepted = Computed.server_a_accepted
 
 -- B meets the hypothesis with more features, and is accepted with a larger mask
 pub b_rises : RiseHypothesis first_edition server_a server_b
-b_rises = Computed.serverB-rises
+b_rises = Computed.server_b_rises
 
 pub b_accepted : (answer first_edition server_b).verdict ≡ Accepted
-b_accepted = Computed.serverB-accepted
+b_accepted = Computed.server_b_accepted
 
 pub b_richer : (answer first_edition server_a).table.max_extended_state ∷ (answer first_edition server_b).table.max_extended_state ∷ [] ≡ 0x7 ∷ 0x18E7 ∷ []
 b_richer = Computed.masks
 
 -- two more that meet it, one refused by 3 and one by 5
 pub without_d12_rises : RiseHypothesis first_edition server_a server_without_d12
-without_d12_rises = Computed.without-rises
+without_d12_rises = Computed.without_rises
 
 pub without_d12_refused : (answer first_edition server_without_d12).verdict ≡ Refused (MissingRequiredResult ExtendedStateEnumeration (Some 12))
-without_d12_refused = Computed.without-refused
+without_d12_refused = Computed.without_refused
 
 pub large_d6_rises : RiseHypothesis first_edition server_a server_with_large_d6
-large_d6_rises = Computed.large-rises
+large_d6_rises = Computed.large_rises
 
 pub large_d6_refused : (answer first_edition server_with_large_d6).verdict ≡ Refused SaveAreaOverflow
-large_d6_refused = Computed.large-refused
+large_d6_refused = Computed.large_refused
 
 -- a comparison that says yes, and one for each way to say no
 pub a_to_b : compared first_edition server_a server_b ≡ Yes
-a_to_b = Pairs.a-to-b
+a_to_b = Pairs.a_to_b
 
 pub b_to_a : compared first_edition server_b server_a ≡ Differs VersionAndFeatures None Ecx
-b_to_a = Pairs.b-to-a
+b_to_a = Pairs.b_to_a
 
 pub b_to_without_d12 : compared first_edition server_b server_without_d12 ≡ NoEntry ExtendedStateEnumeration (Some 12)
-b_to_without_d12 = Pairs.b-to-without-d12
+b_to_without_d12 = Pairs.b_to_without_d12
 
 pub from_large_d6 : compared first_edition server_with_large_d6 server_b ≡ RefusedA SaveAreaOverflow
-from_large_d6 = Pairs.from-large-d6
+from_large_d6 = Pairs.from_large_d6
 
 pub a_to_none : compared first_edition server_a [] ≡ UnlawfulB PagesLength
-a_to_none = Pairs.a-to-none
+a_to_none = Pairs.a_to_none
 
 -- ---- The fourteen marked rows of document 01, T1 to T10, X1 to X3 (two figures) and C1. crates/examples/specs/MarkedRows.antt.
 

@@ -5,8 +5,9 @@ use Rattle.table.specs.declared.Choices.{Choices}
 use Rattle.table.specs.declared.Verdict.{Verdict}
 use Rattle.build.specs.Build.{answer}
 use Rattle.rise.specs.Rise.{RiseHypothesis}
-use Rattle.rise.specs.SameProof.{rises_itself, same_figures}
-use Rattle.rise.specs.PreorderProof.{rises_compose}
+use Rattle.rise.specs.SameProof.{rises_itself}
+use Rattle.rise.proofs.SameProof.{same_figures}
+use Rattle.rise.proofs.PreorderProof.{rises_compose}
 use Rattle.table.specs.Numbers.{numbers_of}
 use Rattle.theorems.specs.Exported.{compare_answer}
 use Rattle.theorems.specs.ExportedProof.{exports_compare, verdict_numbered}

@@ -7,7 +7,7 @@ use Rattle.compare.specs.Compare.{compared}
 use Rattle.compare.specs.Means.{Decides}
 use Rattle.table.specs.Order.{Precedes}
 use Rattle.table.specs.OrderLaws.{places_rise}
-use Rattle.compare.specs.DecidesProof.{decides}
+use Rattle.compare.proofs.DecidesProof.{decides}
 use Rattle.theorems.specs.Exported.{ExportsCompare}
 use Rattle.theorems.specs.ExportedProof.{exports_compare}
 use Rattle.theorems.specs.CompareOrder.{CompareOrder}

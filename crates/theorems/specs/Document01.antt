@@ -28,7 +28,7 @@ use Rattle.table.specs.Rows.{Row, vacant}
 use Rattle.table.specs.Table.{row_in}
 use Rattle.finish.specs.Finish.{rule_at}
 use Rattle.finish.specs.Kinds.{kinds_at, from_entry, EntryAtLeast, TableAtLeast}
-use Rattle.finish.specs.Kinds.Kind.{feature, featureBut28, area, freed, other}
+use Rattle.finish.specs.Kinds.Kind.{feature, feature_but28, area, freed, other}
 use Rattle.checks.specs.ExtendedState.{xfem as xfemIn, combined_mask}
 use Rattle.collect.specs.FirstEntries.{first_at, rows_of}
 use Rattle.collect.specs.Lawful.{lawful_verdict}
@@ -37,18 +37,20 @@ use Rattle.lookup.specs.Lookup.{lookup}
 use Rattle.image.specs.Image.{image}
 use Rattle.image.specs.Write.{write}
 use Rattle.program.specs.Output.{output}
-use Rattle.counts.specs.CountsProof.{single_page_refused, rows_at_most}
+use Rattle.counts.specs.CountsProof.{single_page_refused}
+use Rattle.counts.proofs.CountsProof.{rows_at_most}
 use Rattle.letter.specs.Paper.{read_entries, counted, first, xfem, combined, entry_of, name, required, first_missing, masked, masks_of, topology, hyperthreading, processor_count, processors, least_from, is_kept, lines, lines_of, combined_of, count_from, without, from_d2, further_bits, Equations, verdict, table, rows_verdict, carried, lawful, registers, written, wrote, find, find_after, program}
 use Rattle.letter.specs.Names.{sub_at}
-use Rattle.letter.specs.FirstProof as Firsts
+use Rattle.letter.proofs.FirstProof as Firsts
 use Rattle.letter.specs.CountedProof as Counted
-use Rattle.letter.specs.VerdictProof.{verdict_by_figures, lawful_same, own_masks}
-use Rattle.letter.specs.DeterminedProof as Determined
+use Rattle.letter.proofs.VerdictProof.{verdict_by_figures, lawful_same, own_masks}
+use Rattle.letter.proofs.DeterminedProof as Determined
 use Rattle.letter.specs.ImageProof as Images
+use Rattle.letter.proofs.ImageProof as ImagesLaws
 use Rattle.letter.specs.ImageProof.{told}
-use Rattle.letter.specs.LookupProof as Lookups
+use Rattle.letter.proofs.LookupProof as Lookups
 use Rattle.letter.specs.RegistersProof as Registers
-use Rattle.letter.specs.LengthProof as Counts
+use Rattle.letter.proofs.LengthProof as Counts
 use Rattle.page_sets.specs.PageSets.{server_a, server_without_d12}
 use Rattle.page_sets.specs.Evaluation.{first_edition}
 use Rattle.examples.specs.Computed as Computed
@@ -58,7 +60,7 @@ use Rattle.examples.specs.RowsOfA as RowsOfA
 
 -- which entries are read and which count
 pub entries_by_the_letter : (s : List ℕ) → (Entries.entries s ≡ read_entries s) × (Entries.counted s ≡ counted s)
-entries_by_the_letter s = (Counted.entries-same s, Counted.counted_same s)
+entries_by_the_letter s = (Counted.entries_same s, Counted.counted_same s)
 
 -- "So a single page is never accepted."
 pub single_page_by_the_letter : (chosen : Choices) (s : List ℕ) → length s ≡ 4096 → verdict chosen s ≡ Accepted → ⊥
@@ -72,7 +74,7 @@ verdict_by_the_letter = verdict_by_figures
 
 -- the table of any page bytes, every row, every register, the count and the mask: demand 2
 pub table_by_the_letter : (chosen : Choices) (s : List ℕ) → (answer chosen s).table ≡ table chosen s
-table_by_the_letter = Lookups.table-by-the-letter
+table_by_the_letter = Lookups.table_by_the_letter
 
 -- the same register by register: the equations of an accepted page set's table hold of its table and of no other
 pub table_determined : (chosen : Choices) (s : List ℕ) → (answer chosen s).verdict ≡ Accepted
@@ -81,18 +83,18 @@ table_determined = Determined.determined
 
 -- each row under its leaf and subleaf: `told` lists what stands at the 88 places, each with its leaf and subleaf. crates/letter/specs/ImageProof.antt
 pub rows_by_the_letter : (chosen : Choices) (s : List ℕ) → (answer chosen s).verdict ≡ Accepted → told (row_in (answer chosen s).table) ≡ lines_of chosen s
-rows_by_the_letter = Images.rows-by-figures
+rows_by_the_letter = ImagesLaws.rows_by_figures
 
 -- "All others are filtered.": what the entries of another leaf or subleaf hold, or that there are some, changes no row and no verdict
 pub others_filtered : (n : ℕ) (avic : Bool) (e : ℕ → Subleaf → CpuidResult) (f : ℕ → Subleaf → Row)
     → (lines n avic (λ l k. pick (is_kept l k) (e l k) (cpuid_result 0 0 0 0)) ≡ lines n avic e)
     × (rows_verdict avic (λ l k. pick (is_kept l k) (f l k) vacant) ≡ rows_verdict avic f)
-others_filtered n avic e f = (Registers.rows-filtered n avic e, Registers.verdict-filtered avic f)
+others_filtered n avic e f = (Registers.rows_filtered n avic e, Registers.verdict_filtered avic f)
 
 -- "after masking only bits 0, 1, 2, 5, 6, 7, 11, 12 can be set"
 pub combined_bits : (chosen : Choices) (s : List ℕ) → (answer chosen s).verdict ≡ Accepted
     → Within (combined_of chosen s) (2 ^ 0 + 2 ^ 1 + 2 ^ 2 + 2 ^ 5 + 2 ^ 6 + 2 ^ 7 + 2 ^ 11 + 2 ^ 12)
-combined_bits = Counts.bits-said
+combined_bits = Counts.bits_said
 
 -- "An accepted table has 17 rows without subleaf, 9 with, and one for each combined bit from 2 up: 26 to 32.": 17 and 9 are always there, 62 more are
 -- D.2 to D.63; `further_bits` counts the combined bits from 2 up
@@ -102,11 +104,11 @@ pub rows_17_and_9 : (n : ℕ) (avic : Bool) (e : ℕ → Subleaf → CpuidResult
     ∷ count_from 0 (λ l. from_d2 l.leaf l.subleaf) (lines n avic e)
     ∷ []
     ≡ 17 ∷ 9 ∷ 62 ∷ []
-rows_17_and_9 = Registers.rows-with-and-without
+rows_17_and_9 = Registers.rows_with_and_without
 
 pub rows_26_to_32 : (chosen : Choices) (s : List ℕ) → (answer chosen s).verdict ≡ Accepted
     → ((answer chosen s).table.row_count ≡ 26 + further_bits (combined_of chosen s)) × ((answer chosen s).table.row_count ≤ 32)
-rows_26_to_32 chosen s e = (Counts.rows-said chosen s e, rows_at_most chosen s e)
+rows_26_to_32 chosen s e = (Counts.rows_said chosen s e, rows_at_most chosen s e)
 
 -- the number of each refusal, and what it names
 pub numbers_by_the_letter : (r : Refusal) → details r ≡ carried r
@@ -114,7 +116,7 @@ numbers_by_the_letter = Images.carried_same
 
 -- 9, and every lent byte, for any page bytes and any buffer
 pub write_by_the_letter : (chosen : Choices) (s buffer : List ℕ) → write chosen s buffer ≡ wrote (verdict chosen s) (written (lines_of chosen s)) buffer
-write_by_the_letter = Images.write-by-figures
+write_by_the_letter = ImagesLaws.write_by_figures
 
 -- ======== "Feature registers of demand 3"
 
@@ -131,52 +133,52 @@ own_masks_by_the_letter = own_masks
 -- which registers are features, over the 88 rows. "Demand 3 is due whole with the first delivery that builds a table from page bytes.":
 -- RiseTheorems.antt has it, and `rise_by_the_letter` there asks of B's entries what is said here.
 pub registers_by_the_letter : tabulate 88 (λ i. record { leaf = (leaf_at i).0; subleaf = sub_at i; kinds = kinds_at i }) ≡ registers
-registers_by_the_letter = Registers.registers-same
+registers_by_the_letter = Registers.registers_same
 
 -- "for every row of A's table but 0 and 80000000h, a first counted entry" (demand 3): the rows of which no entry is asked, the first counted entry of
 -- each other row, and the masks under which entries are compared, over the 88 rows
 pub rows_without_entry : map (λ (i : ℕ). name (leaf_at i).0 (sub_at i)) (keep_if (λ i. not (from_entry (rule_at i))) (tabulate 88 (λ i. i)))
     ≡ name 0x0 None ∷ name 0x80000000 None ∷ []
-rows_without_entry = Registers.made-rows
+rows_without_entry = Registers.made_rows
 
 pub first_entries_by_the_letter : (s : List ℕ) (i : ℕ) → i < 88 → made_here i ≡ false
     → first_at i (Entries.counted s) ≡ first (counted s) (leaf_at i).0 (sub_at i)
 first_entries_by_the_letter s i l m =
-    Firsts.first-same i l m (Entries.counted s) ∙ ap (λ (es : List Entry). first es (leaf_at i).0 (sub_at i)) (Counted.counted_same s)
+    Firsts.first_same i l m (Entries.counted s) ∙ ap (λ (es : List Entry). first es (leaf_at i).0 (sub_at i)) (Counted.counted_same s)
 
 pub masks_by_the_letter : (avic : Bool) → tabulate 88 (masks_at avic) ≡ tabulate 88 (λ i. masks_of avic (leaf_at i).0 (sub_at i))
-masks_by_the_letter = Registers.masks-same
+masks_by_the_letter = Registers.masks_same
 
 -- "Entries are compared as masked." ""At least" means every bit set in A's; "no smaller" is unsigned." "Bit 28 of 1.EDX is equal, in entries and
 -- tables." Here entries, then tables, by kind; RiseTheorems.antt has demand 3 over them.
 pub entries_compared : (a b : ℕ)
-    → EntryAtLeast feature a b ∷ EntryAtLeast featureBut28 a b ∷ EntryAtLeast area a b ∷ EntryAtLeast freed a b ∷ EntryAtLeast other a b ∷ []
+    → EntryAtLeast feature a b ∷ EntryAtLeast feature_but28 a b ∷ EntryAtLeast area a b ∷ EntryAtLeast freed a b ∷ EntryAtLeast other a b ∷ []
     ≡ Within a b ∷ (Within a b × (bit 28 a ≡ bit 28 b)) ∷ Unit {0} ∷ Unit {0} ∷ (a ≡ b) ∷ []
 entries_compared a b = refl
 
 pub tables_compared : (a b : ℕ)
-    → TableAtLeast feature a b ∷ TableAtLeast featureBut28 a b ∷ TableAtLeast area a b ∷ TableAtLeast freed a b ∷ TableAtLeast other a b ∷ []
+    → TableAtLeast feature a b ∷ TableAtLeast feature_but28 a b ∷ TableAtLeast area a b ∷ TableAtLeast freed a b ∷ TableAtLeast other a b ∷ []
     ≡ Within a b ∷ (Within a b × (bit 28 a ≡ bit 28 b)) ∷ (a ≤ b) ∷ (a ≡ b) ∷ (a ≡ b) ∷ []
 tables_compared a b = refl
 
 -- ======== "Image and lookup"
 
 pub image_by_the_letter : (chosen : Choices) (s : List ℕ) → (answer chosen s).verdict ≡ Accepted → image (answer chosen s).table ≡ written (lines_of chosen s)
-image_by_the_letter = Images.image-by-figures
+image_by_the_letter = ImagesLaws.image_by_figures
 
 -- "Length 582 + 25 for each combined bit from 2 up"
 pub length_by_the_letter : (chosen : Choices) (s : List ℕ) → (answer chosen s).verdict ≡ Accepted
     → length (image (answer chosen s).table) ≡ 582 + 25 * further_bits (combined_of chosen s)
-length_by_the_letter = Counts.length-said
+length_by_the_letter = Counts.length_said
 
 -- any leaf, any subleaf or none, enforcing or not, of any page bytes
 pub lookup_by_the_letter : (chosen : Choices) (s : List ℕ) (l : ℕ) (k : Subleaf) (enforce : Bool)
     → lookup (answer chosen s).table (function l) k enforce ≡ find_after (verdict chosen s) (lines_of chosen s) l k enforce
-lookup_by_the_letter = Lookups.lookup-by-the-letter
+lookup_by_the_letter = Lookups.lookup_by_the_letter
 
 -- what the program writes, for any input
 pub program_by_the_letter : (s : List ℕ) → output s ≡ program s
-program_by_the_letter = Images.program-by-figures
+program_by_the_letter = ImagesLaws.program_by_figures
 
 -- ======== Examples
 
@@ -228,14 +230,14 @@ level_figures = refl
 -- server A is accepted; its rows 0, 1, 7.0, D.0 and 80000008h in figures, and no row 80000000h under an enforced subleaf.
 -- crates/examples/specs/RowsOfA.antt
 pub a_by_the_letter : verdict first_edition server_a ≡ Accepted
-a_by_the_letter = sym (verdict_by_figures first_edition server_a) ∙ Computed.serverA-accepted
+a_by_the_letter = sym (verdict_by_figures first_edition server_a) ∙ Computed.server_a_accepted
 
 pub a_rows_by_the_letter : RowsOfA.asked (find (lines_of first_edition server_a)) ≡ RowsOfA.figures
-a_rows_by_the_letter = RowsOfA.by-the-letter
+a_rows_by_the_letter = RowsOfA.by_the_letter
 
 -- one that 3 refuses for D.12: no row is found, and the program's bytes
 pub without_d12_by_the_letter : verdict first_edition server_without_d12 ≡ Refused (MissingRequiredResult (function 0xD) (Some 12))
-without_d12_by_the_letter = sym (verdict_by_figures first_edition server_without_d12) ∙ Computed.without-refused
+without_d12_by_the_letter = sym (verdict_by_figures first_edition server_without_d12) ∙ Computed.without_refused
 
 pub without_d12_bytes : program server_without_d12 ≡ 3 ∷ 3 ∷ 0xD ∷ 0 ∷ 0 ∷ 0 ∷ 12 ∷ 0 ∷ 0 ∷ 0 ∷ 0 ∷ []
-without_d12_bytes = RowsOfA.without-d12-bytes
+without_d12_bytes = RowsOfA.without_d12_bytes

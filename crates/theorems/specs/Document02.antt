@@ -37,8 +37,8 @@ use Rattle.table.specs.Rows.{Rows}
 use Rattle.checks.specs.Checks.{topology_refusal}
 use Rattle.checks.specs.ExtendedState.{xfem, xss, area_below, save_area}
 use Rattle.memory.specs.Origin.{origin_number, is_made_here}
-use Rattle.memory.specs.Origin.Origin.{neither, made_here, notKnown, entry}
-use Rattle.finish.specs.Kinds.Kind.{feature, featureBut28, area, freed, other}
+use Rattle.memory.specs.Origin.Origin.{neither, made_here, not_known, entry}
+use Rattle.finish.specs.Kinds.Kind.{feature, feature_but28, area, freed, other}
 use Rattle.register_masks.specs.Join.{joined_register}
 use Rattle.register_masks.specs.Alike.{Alike}
 use Rattle.kvm_list.specs.Format.{row_at}
@@ -46,7 +46,7 @@ use Rattle.guest_state.specs.State.{compacts, allowed}
 use Rattle.guest_state.specs.Compact.{component_start, placed, compact_below, compact_size}
 use Rattle.letter.specs.Paper.{Name, topology}
 use Rattle.letter.specs.Names.{sub_at}
-use Rattle.letter.specs.VerdictProof.{topology_same}
+use Rattle.letter.proofs.VerdictProof.{topology_same}
 
 abbrev name_at : ℕ → Name
 name_at i = record { leaf = (leaf_at i).0; subleaf = sub_at i }
@@ -58,15 +58,15 @@ word s o = get_or s o 0 + 256 * get_or s (o + 1) 0 + 65536 * get_or s (o + 2) 0 
 
 pub named_places :
     map name_at
-    (Place.versionAndFeatures
-    ∷ Place.threadLevel
-    ∷ Place.coreLevel
-    ∷ Place.extendedState 0
-    ∷ Place.extendedState 1
-    ∷ Place.extendedState 2
-    ∷ Place.extendedState 63
-    ∷ Place.extendedVersionAndFeatures
-    ∷ Place.extendedAddressSpaceSizes
+    (Place.version_and_features
+    ∷ Place.thread_level
+    ∷ Place.core_level
+    ∷ Place.extended_state 0
+    ∷ Place.extended_state 1
+    ∷ Place.extended_state 2
+    ∷ Place.extended_state 63
+    ∷ Place.extended_version_and_features
+    ∷ Place.extended_address_space_sizes
     ∷ [])
     ≡ record { leaf = 0x1; subleaf = None }
     ∷ record { leaf = 0xB; subleaf = Some 0 }
@@ -162,7 +162,7 @@ unfolding slot kept_leaves keep_if tabulate is_made_here
 made_here_lem = refl
 
 pub origin_numbers : (page position : ℕ)
-    → origin_number neither ∷ origin_number made_here ∷ origin_number notKnown ∷ origin_number (entry page position) ∷ []
+    → origin_number neither ∷ origin_number made_here ∷ origin_number not_known ∷ origin_number (entry page position) ∷ []
     ≡ 0 ∷ 1 ∷ 3 ∷ (4 + 64 * page + position) ∷ []
 origin_numbers page position = refl
 
@@ -172,12 +172,12 @@ origin_numbers page position = refl
 -- differ elsewhere than in feature registers or D.0.ECX": a feature register, 1.EDX, the save area, one that is freed and any other
 
 pub pool_joins : (a b : ℕ)
-    → joined_register feature a b ∷ joined_register featureBut28 a b ∷ joined_register area a b ∷ joined_register freed a b ∷ joined_register other a b ∷ []
+    → joined_register feature a b ∷ joined_register feature_but28 a b ∷ joined_register area a b ∷ joined_register freed a b ∷ joined_register other a b ∷ []
     ≡ bit_and a b ∷ bit_and a (bit_or b (2 ^ 28)) ∷ a ∷ a ∷ a ∷ []
 pool_joins a b = refl
 
 pub pool_holds_equal : (a b : ℕ)
-    → Alike feature a b ∷ Alike featureBut28 a b ∷ Alike area a b ∷ Alike freed a b ∷ Alike other a b ∷ []
+    → Alike feature a b ∷ Alike feature_but28 a b ∷ Alike area a b ∷ Alike freed a b ∷ Alike other a b ∷ []
     ≡ Unit {0} ∷ (bit 28 a ≡ bit 28 b) ∷ Unit {0} ∷ Unit {0} ∷ (a ≡ b) ∷ []
 pool_holds_equal a b = refl
 

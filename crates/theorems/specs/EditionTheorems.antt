@@ -8,12 +8,12 @@ use Rattle.table.specs.Table.{empty_table}
 use Rattle.table.specs.declared.Verdict.TheVariants.{Accepted, Refused}
 use Rattle.build.specs.Build.{answer, under_edition}
 use Rattle.rise.specs.Rise.{RiseTo, TableRises, SecondToFirst}
-use Rattle.rise.specs.RiseProof.{second_to_first_rises}
+use Rattle.rise.proofs.RiseProof.{second_to_first_rises}
 use Rattle.examples.specs.SeenExamples.{figures}
 use Rattle.finish.specs.Finish.{ymm_clears}
 use Rattle.finish.specs.FinishLaws.{figures as clears, ymm_figures, ymm_figures_2}
 use Rattle.rise.specs.Second.{SecondEdition, FirstEdition}
-use Rattle.rise.specs.SecondProof as Editions
+use Rattle.rise.proofs.SecondProof as Editions
 use Rattle.examples.specs.WithoutYmm as WithoutYmm
 use Rattle.carry.specs.Carry.{carry}
 use Rattle.carry.specs.AbsentRows as AbsentRows
@@ -21,10 +21,12 @@ use Rattle.images.specs.Carried.{CarryKeeps, CarriesInPlace}
 use Rattle.images.specs.CarriedLaws.{carry_keeps, carries_in_place}
 use Rattle.images.specs.CarriedRows as CarriedRows
 use Rattle.images.specs.CarriedRowsProof as CarriedRowsProof
+use Rattle.images.proofs.CarriedRowsProof as CarriedRowsProofLaws
 use Rattle.images.specs.ReadBack.{ImageReadsBack, BuiltReadsBack, OnlyImagesRead}
 use Rattle.images.specs.ReadBackProof as ReadBack
+use Rattle.images.proofs.ReadBackProof as ReadBackLaws
 use Rattle.images.specs.Moves.{MovesToSecond}
-use Rattle.images.specs.MovesProof.{moves_to_second}
+use Rattle.images.proofs.MovesProof.{moves_to_second}
 use Rattle.images.specs.CarryExactly.{CarryExactly}
 use Rattle.images.specs.CarryExactlyProof.{carry_exactly}
 use Rattle.examples.specs.WithoutYmmMoved as Moved
@@ -42,11 +44,11 @@ edition_2_clears = ymm_figures_2
 
 -- edition 1 is document 01's rule: 80000001h.ECX stays as masked
 pub edition_1_leaves_80000001h : FirstEdition
-edition_1_leaves_80000001h = Editions.first-edition
+edition_1_leaves_80000001h = Editions.first_edition_lem
 
 -- edition 2 refuses what edition 1 refuses, and its table is edition 1's with exactly the three bits cleared where XFEM lacks bit 2
 pub edition_2_clears_three_bits : (chosen : Choices) (s : List ℕ) → SecondEdition chosen s
-edition_2_clears_three_bits = Editions.second-edition
+edition_2_clears_three_bits = Editions.second_edition
 
 -- from edition 2 to edition 1 is a rise, from any A to any B that demand 3's hypothesis allows
 pub rise_from_2_to_1 : SecondToFirst
@@ -54,23 +56,23 @@ rise_from_2_to_1 = second_to_first_rises
 
 -- Examples: a server without YMM state whose entries have the three bits, its 1.ECX and 80000001h.ECX under each edition, the rise from 2 to
 -- 1, and none from 1 to 2. crates/examples/specs/WithoutYmm.antt
-pub without_ymm_accepted : (answer (under_edition 2) WithoutYmm.withoutYmm).verdict ≡ Accepted
-without_ymm_accepted = WithoutYmm.second-accepted
+pub without_ymm_accepted : (answer (under_edition 2) WithoutYmm.without_ymm).verdict ≡ Accepted
+without_ymm_accepted = WithoutYmm.second_accepted
 
 pub without_ymm_1 : WithoutYmm.figures first_edition ≡ 0xAED82203 ∷ 0x4109F3 ∷ []
-without_ymm_1 = WithoutYmm.first-figures
+without_ymm_1 = WithoutYmm.first_figures
 
 pub without_ymm_2 : WithoutYmm.figures (under_edition 2) ≡ 0x8ED82203 ∷ 0x4001F3 ∷ []
-without_ymm_2 = WithoutYmm.second-figures
+without_ymm_2 = WithoutYmm.second_figures
 
-pub without_ymm_2_to_1 : RiseTo (under_edition 2) first_edition WithoutYmm.withoutYmm WithoutYmm.withoutYmm
+pub without_ymm_2_to_1 : RiseTo (under_edition 2) first_edition WithoutYmm.without_ymm WithoutYmm.without_ymm
 without_ymm_2_to_1 = WithoutYmm.from_second
 
-pub no_rise_from_1_to_2 : TableRises (answer first_edition WithoutYmm.withoutYmm).table (answer (under_edition 2) WithoutYmm.withoutYmm).table → ⊥
-no_rise_from_1_to_2 = WithoutYmm.not-from-first
+pub no_rise_from_1_to_2 : TableRises (answer first_edition WithoutYmm.without_ymm).table (answer (under_edition 2) WithoutYmm.without_ymm).table → ⊥
+no_rise_from_1_to_2 = WithoutYmm.not_from_first
 
 pub no_such_edition : (answer (under_edition 3) []).verdict ≡ Refused UnknownEdition
-no_such_edition = WithoutYmm.unknown-refused
+no_such_edition = WithoutYmm.unknown_refused
 
 -- ---- P8, moving a live guest to edition 2. crates/carry/specs/Carry.antt has the table that is carried and the answers,
 -- crates/carry/specs/CarryImage.antt the same of a table handed over as its image, in place.
@@ -92,7 +94,7 @@ carrying_changes_nothing_else = carry_keeps
 -- of any table from 1 to 2: rows 1 and 80000001h lose exactly the three bits where its own D.0.EAX lacks bit 2, absent rows reading as zeros, and
 -- every other row is as it was. crates/images/specs/CarriedRows.antt; `without_ymm_moved` below meets it
 pub carrying_clears_exactly : CarriedRows.CarriesRows
-carrying_clears_exactly = CarriedRowsProof.carries-rows
+carrying_clears_exactly = CarriedRowsProofLaws.carries_rows
 
 -- in place, within one edition: no lent byte changes, whatever is answered. Any slice of bytes meets it; of a list with a larger element it is false
 -- (crates/examples/specs/NoByteExamples.antt)
@@ -105,13 +107,13 @@ carried_in_place = carries_in_place
 
 -- an image is read back as the table that it was written of, and nothing else is taken for one. crates/images/specs/ReadBack.antt
 pub images_read_back : ImageReadsBack
-images_read_back = ReadBack.image-reads-back
+images_read_back = ReadBackLaws.image_reads_back
 
 pub built_images_read_back : BuiltReadsBack
-built_images_read_back = ReadBack.built-reads-back
+built_images_read_back = ReadBackLaws.built_reads_back
 
 pub only_images_are_read : OnlyImagesRead
-only_images_are_read = ReadBack.only-images-read
+only_images_are_read = ReadBackLaws.only_images_read
 
 -- Examples: the server without YMM state moved, with its 1.ECX and 80000001h.ECX; a processor beyond it; 16 and 15.
 -- crates/examples/specs/WithoutYmmMoved.antt
@@ -119,7 +121,7 @@ pub without_ymm_moved : (carry Moved.running 1 2 3 0).verdict ≡ Accepted
 without_ymm_moved = Moved.moved
 
 pub without_ymm_moved_figures : Moved.figures (carry Moved.running 1 2 3 0).table ≡ 0x8ED82203 ∷ 0x4001F3 ∷ []
-without_ymm_moved_figures = Moved.moved-figures
+without_ymm_moved_figures = Moved.moved_figures
 
 pub without_ymm_beyond : (carry Moved.running 1 2 7 0).verdict ≡ Refused StateBeyondTable
 without_ymm_beyond = Moved.beyond
@@ -133,4 +135,4 @@ no_such_edition_to_carry = Moved.no_such
 -- absent rows read as zeros: a table without a row and one with D.0 alone, whose other registers are all ones. 13; 13 for a bit of XSS; given.
 -- crates/carry/specs/AbsentRows.antt
 pub absent_rows_as_zeros : AbsentRows.verdicts ≡ Refused StateBeyondTable ∷ Refused StateBeyondTable ∷ Accepted ∷ []
-absent_rows_as_zeros = AbsentRows.absent-as-zeros
+absent_rows_as_zeros = AbsentRows.absent_as_zeros

@@ -1,4 +1,4 @@
--- Demand 3 of what the exported functions return: snp_cpuid_build and snp_cpuid_lookup give `builtNumbers` and `found_in` of the
+-- Demand 3 of what the exported functions return: snp_cpuid_build and snp_cpuid_lookup give `built_numbers` and `found_in` of the
 -- definition's answers (crates/snp_cpuid/src/lib.rt), and these rise from A to B. Left out is snp_cpuid_write_image: what it returns and
 -- writes is the image of the same table, by its contract and `each_write_exactly`.
 use Rattle.std.specs.Prelude.{◌≡◌, Bool, List, ◌⊎◌, ℕ}
@@ -18,7 +18,7 @@ use Rattle.rise.specs.Rise.{RiseHypothesis, Further}
 use Rattle.compare.specs.Compare.{compared}
 use Rattle.answers.specs.declared.SnpCpuidBuilt.{SnpCpuidBuilt}
 use Rattle.answers.specs.declared.SnpCpuidFound.{SnpCpuidFound}
-use Rattle.answers.specs.Answers.{builtNumbers}
+use Rattle.answers.specs.Answers.{built_numbers}
 use Rattle.answers.specs.ComparedAnswers.{compared_numbers}
 use Rattle.snp_cpuid.specs.Exports.{found_in}
 use Rattle.memory.specs.declared.origins.OriginRead.{OriginRead}
@@ -26,7 +26,7 @@ use Rattle.memory.specs.Origin.{origin_told}
 
 -- what snp_cpuid_build gives a page set, and snp_cpuid_lookup
 abbrev pub built : Choices → List ℕ → SnpCpuidBuilt
-built chosen s = builtNumbers (answer chosen s)
+built chosen s = built_numbers (answer chosen s)
 
 abbrev pub found : Choices → List ℕ → CpuidFunction → Subleaf → Bool → SnpCpuidFound
 found chosen s leaf subleaf enforce = found_in (answer chosen s) leaf.0 subleaf enforce

@@ -8,7 +8,7 @@ use Rattle.x86defs.specs.Functions.{cpuid_result}
 use Rattle.masking.specs.Kept.{places}
 use Rattle.table.specs.declared.Choices.{Choices}
 use Rattle.table.specs.declared.Subleaf.{Subleaf}
-use Rattle.table.specs.RefusalLaws.{refusal_numbered}
+use Rattle.table.proofs.RefusalLaws.{refusal_numbered}
 use Rattle.table.specs.declared.Verdict.{Verdict}
 use Rattle.table.specs.declared.Verdict.TheVariants.{Accepted, Refused}
 use Rattle.table.specs.Rows.{Row}
@@ -17,21 +17,21 @@ use Rattle.table.specs.Table.{row_in}
 use Rattle.finish.specs.RowsBuilt.{table_for}
 use Rattle.build.specs.Build.{rows_for, answer}
 use Rattle.lookup.specs.Lookup.{place_asked, lookup_origin}
-use Rattle.refusals.specs.ExactlyProof.{builds_exactly}
+use Rattle.refusals.proofs.ExactlyProof.{builds_exactly}
 use Rattle.rise.specs.Rise.{RiseHypothesis, Outcome, RiseConclusion, Further, TableRises}
 use Rattle.rise.specs.Rise.Outcome.{missing, overflow, accepted}
-use Rattle.rise.specs.RiseProof.{demand_3}
+use Rattle.rise.proofs.RiseProof.{demand_3}
 use Rattle.compare.specs.declared.Compared.{Compared}
 use Rattle.compare.specs.declared.Compared.TheVariants.{Rises as Yes, RefusedA, UnlawfulB, NoEntry, Differs}
 use Rattle.compare.specs.Compare.{compared}
 use Rattle.compare.specs.Means.{AnswerMeans, Decides}
-use Rattle.compare.specs.DecidesProof.{decides}
+use Rattle.compare.proofs.DecidesProof.{decides}
 use Rattle.table.specs.Numbers.{numbers_of}
 use Rattle.answers.specs.declared.SnpCpuidFound.{SnpCpuidFound}
-use Rattle.answers.specs.Answers.{foundWith}
+use Rattle.answers.specs.Answers.{found_with}
 use Rattle.answers.specs.ComparedAnswers.{compared_numbers}
 use Rattle.memory.specs.Origin.{origin_read}
-use Rattle.rise.specs.LocatedProof.{rows_have_origins}
+use Rattle.rise.proofs.LocatedProof.{rows_have_origins}
 use Rattle.theorems.specs.Looked.{looked_present, looked_inside, looked_at, looked_found}
 use Rattle.theorems.specs.Exported.{built, found, registers_of, BuiltRises, ExportsRise, ExportsCompare, origin_found, FoundOrigins}
 use Rattle.theorems.specs.Exported.BuiltRises.{refused_3, refused_5, accepted_0}
@@ -72,7 +72,7 @@ module _ (chosen : Choices) (s : List ℕ) (leaf : CpuidFunction) (subleaf : Sub
   present_found = looked_found (answer chosen s).table (table_whole chosen s) (answer chosen s).origins leaf subleaf enforce
 
   found_numbers : asked.present ≡ true
-      → found chosen s leaf subleaf enforce ≡ foundWith asked.result (origin_read (lookup_origin (answer chosen s).origins leaf subleaf enforce))
+      → found chosen s leaf subleaf enforce ≡ found_with asked.result (origin_read (lookup_origin (answer chosen s).origins leaf subleaf enforce))
   found_numbers = looked_at (answer chosen s).table (table_whole chosen s) (answer chosen s).origins leaf subleaf enforce
 
 module _ (chosen : Choices) (a b : List ℕ) (rises : RiseHypothesis chosen a b) where

@@ -46,7 +46,7 @@ pub record GuestExportsRise (chosen : Choices) (a b : List ℕ) (v : Processor) 
   -- with registers that compare, D.0.EBX and D.1.EBX among those that are equal; of D.1 so where A's D.1.EAX has bit 1 or bit 3
   pub registers : (guest_built chosen b v).number ≡ 0 → (leaf : CpuidFunction) (subleaf : Subleaf) (enforce : Bool)
       → (seen chosen a v leaf subleaf enforce).found ≡ 1
-      → (place_asked leaf subleaf enforce ≡ Place.extendedState 1 → compacts_in (guest_pages chosen a v).table ≡ true)
+      → (place_asked leaf subleaf enforce ≡ Place.extended_state 1 → compacts_in (guest_pages chosen a v).table ≡ true)
       → Registers TableAtLeast (kinds_at (place_asked leaf subleaf enforce)) (registers_of (seen chosen a v leaf subleaf enforce))
       (registers_of (seen chosen b v leaf subleaf enforce))
   -- beyond these only a Dh subleaf from 2 up that B's mask has and A's has not

@@ -19,14 +19,14 @@ use Rattle.rise.specs.Rise.{RiseHypothesis, Further}
 use Rattle.guest.specs.declared.Processor.{Processor}
 use Rattle.guest.specs.GuestPages.{guest_pages}
 use Rattle.guest_rise.specs.GuestRise.{compacts_in, GuestTableRises}
-use Rattle.guest_rise.specs.GuestExactly.{guest_exactly}
+use Rattle.guest_rise.proofs.GuestExactly.{guest_exactly}
 use Rattle.guest_rise.specs.GuestRisen.{GuestRisen}
-use Rattle.guest_rise.specs.GuestRisenProof.{guest_rises_all}
+use Rattle.guest_rise.proofs.GuestRisenProof.{guest_rises_all}
 use Rattle.guest_rise.specs.GuestRisen.GuestRisen.{missing, overflow, too_large, given}
 use Rattle.answers.specs.declared.SnpCpuidFound.{SnpCpuidFound}
 use Rattle.snp_cpuid.specs.GuestExports.{guest_numbers}
 use Rattle.memory.specs.Origin.{origin_told}
-use Rattle.rise.specs.LocatedProof.{rows_have_origins}
+use Rattle.rise.proofs.LocatedProof.{rows_have_origins}
 use Rattle.theorems.specs.Exported.{registers_of, origin_found}
 use Rattle.theorems.specs.ExportedProof.{verdict_numbered, table_whole}
 use Rattle.theorems.specs.Looked.{looked_present, looked_inside, looked_at, looked_found}
@@ -88,7 +88,7 @@ module _ (chosen : Choices) (a b : List ℕ) (v : Processor) (rises : RiseHypoth
     found_b : (seen chosen a v leaf subleaf enforce).found ≡ 1 → (seen chosen b v leaf subleaf enforce).found ≡ 1
     found_b e = looked_found tb (guest_whole chosen b v) (answer chosen b).origins leaf subleaf enforce (in_b e)
 
-    registers_b : (seen chosen a v leaf subleaf enforce).found ≡ 1 → (i ≡ Place.extendedState 1 → compacts_in ta ≡ true)
+    registers_b : (seen chosen a v leaf subleaf enforce).found ≡ 1 → (i ≡ Place.extended_state 1 → compacts_in ta ≡ true)
         → Registers TableAtLeast (kinds_at i) (registers_of (seen chosen a v leaf subleaf enforce)) (registers_of (seen chosen b v leaf subleaf enforce))
     registers_b e c =
         subst₂ (λ (x y : SnpCpuidFound). Registers TableAtLeast (kinds_at i) (registers_of x) (registers_of y))

@@ -20,16 +20,17 @@ use Rattle.guest.specs.declared.Processor.{Processor}
 use Rattle.guest.specs.Guest.{guest_table, refused_answer}
 use Rattle.guest.specs.GuestPages.{guest_pages, write_guest}
 use Rattle.guest_rise.specs.StateExactly.{StateAnswers}
-use Rattle.guest_rise.specs.StateExactlyProof.{state_answers}
-use Rattle.guest_rise.specs.GuestExactly.{GuestExactly, guest_exactly, guest_writes_exactly}
+use Rattle.guest_rise.proofs.StateExactlyProof.{state_answers}
+use Rattle.guest_rise.specs.GuestExactly.{GuestExactly}
+use Rattle.guest_rise.proofs.GuestExactly.{guest_exactly, guest_writes_exactly}
 use Rattle.guest_rise.specs.GuestRise.{GuestRise, GuestOutcome, GuestTableRises, compacts_in}
 use Rattle.guest_rise.specs.GuestPreorder.{guest_rises_compose}
-use Rattle.guest_rise.specs.GuestRiseProof as GuestRiseProof
-use Rattle.guest.specs.SeenLaws as Seen
+use Rattle.guest_rise.proofs.GuestRiseProof as GuestRiseProof
+use Rattle.guest.proofs.SeenLaws as Seen
 use Rattle.guest.specs.SeenExactly.{SeenExactly}
-use Rattle.guest.specs.SeenExactlyProof.{seen_exactly}
+use Rattle.guest.proofs.SeenExactlyProof.{seen_exactly}
 use Rattle.guest_rise.specs.GuestRisen.{GuestRiseAll}
-use Rattle.guest_rise.specs.GuestRisenProof.{guest_rises_all}
+use Rattle.guest_rise.proofs.GuestRisenProof.{guest_rises_all}
 use Rattle.examples.specs.CompactSizes.{sizes, sizes_are}
 use Rattle.examples.specs.SeenExamples.{processor, figures}
 use Rattle.examples.specs.Views as Views
@@ -59,8 +60,8 @@ each_guest_write_exactly = guest_writes_exactly
 
 -- the rows of five places differ, and no others
 pub no_other_row_differs : (t : CpuidResults) (v : Processor) (i : ℕ) → i < places
-    → (i ≡ Place.versionAndFeatures → ⊥) → (i ≡ Place.threadLevel → ⊥) → (i ≡ Place.coreLevel → ⊥)
-    → (i ≡ Place.extendedState 0 → ⊥) → (i ≡ Place.extendedState 1 → ⊥)
+    → (i ≡ Place.version_and_features → ⊥) → (i ≡ Place.thread_level → ⊥) → (i ≡ Place.core_level → ⊥)
+    → (i ≡ Place.extended_state 0 → ⊥) → (i ≡ Place.extended_state 1 → ⊥)
     → (row_in (guest_table t v) i).result ≡ (row_in t i).result
 no_other_row_differs = Seen.elsewhere
 
@@ -73,19 +74,19 @@ no_other_register_differs = seen_exactly
 pub guest_size_never_overflows : (chosen : Choices) (s : List ℕ) (v : Processor) → (answer chosen s).verdict ≡ Accepted
     → (guest_pages chosen s v).verdict ≡ Accepted
     → (save_area (rows_of_table (answer chosen s).table) v.xcr0 < 2 ^ 32)
-    × ((row_in (guest_pages chosen s v).table (Place.extendedState 0)).result.ebx ≡ save_area (rows_of_table (answer chosen s).table) v.xcr0)
-guest_size_never_overflows chosen s v a g = (GuestRiseProof.never-overflows chosen s v a g, GuestRiseProof.area-seen chosen s v a g)
+    × ((row_in (guest_pages chosen s v).table (Place.extended_state 0)).result.ebx ≡ save_area (rows_of_table (answer chosen s).table) v.xcr0)
+guest_size_never_overflows chosen s v a g = (GuestRiseProof.never_overflows chosen s v a g, GuestRiseProof.area_seen chosen s v a g)
 
 -- The rise of guest answers: B's view is given and its table rises from A's, or A's D.1.EAX has neither bit 1 nor bit 3, and then D.1.EBX is
 -- free or B is refused by 14, and nothing else is loosened. crates/guest_rise/specs/GuestRise.antt
 pub guest_rise : GuestRise
-guest_rise = GuestRiseProof.guest-rise
+guest_rise = GuestRiseProof.guest_rise
 
 -- where A's D.1.EAX has either bit: given, and the tables rise as in demand 3, D.0.EBX and D.1.EBX equal among the rest
 pub guest_rise_whole : (chosen : Choices) (a b : List ℕ) (v : Processor) → RiseHypothesis chosen a b → (answer chosen b).verdict ≡ Accepted
     → (guest_pages chosen a v).verdict ≡ Accepted → compacts_in (answer chosen a).table ≡ true
     → ((guest_pages chosen b v).verdict ≡ Accepted) × TableRises (guest_pages chosen a v).table (guest_pages chosen b v).table
-guest_rise_whole = GuestRiseProof.guest-rise-whole
+guest_rise_whole = GuestRiseProof.guest_rise_whole
 
 -- The whole of it, B refused or given: by 3 or 5 as in demand 3, by 14 only where A's D.1.EAX has neither bit, or given and risen; never by 13.
 -- crates/guest_rise/specs/GuestRisen.antt. `guest_from_a_to_b` and `exception_outcome` below meet it; so does A's guest on the two servers that are
@@ -105,50 +106,50 @@ guest_rise_of_exports = guest_exports_rise
 
 -- Examples. crates/examples/specs/Views.antt: server A's guest with all of its state, and the six registers that it reads
 -- anew (1.EBX, 1.ECX, B.0.EDX, B.1.EDX, D.0.EBX, D.1.EBX)
-pub guest_of_a : figures (guest_pages first_edition server_a Views.viewA).table ≡ 0x45010000 ∷ 0xBED83203 ∷ 0x12345 ∷ 0x12345 ∷ 832 ∷ 832 ∷ []
-guest_of_a = Views.a-figures
+pub guest_of_a : figures (guest_pages first_edition server_a Views.view_a).table ≡ 0x45010000 ∷ 0xBED83203 ∷ 0x12345 ∷ 0x12345 ∷ 832 ∷ 832 ∷ []
+guest_of_a = Views.a_figures
 
 -- its row 1 whole: EAX and EDX are the table's
-pub guest_of_a_row_1 : (row_in (guest_pages first_edition server_a Views.viewA).table Place.versionAndFeatures).result
+pub guest_of_a_row_1 : (row_in (guest_pages first_edition server_a Views.view_a).table Place.version_and_features).result
     ≡ cpuid_result 0xA00F11 0x45010000 0xBED83203 0x178BFBFF
-guest_of_a_row_1 = Views.a-version
+guest_of_a_row_1 = Views.a_version
 
 -- 13, by a bit above 31
 pub guest_of_a_beyond : (guest_pages first_edition server_a (processor 0 0x100000007 0 true)).verdict ≡ Refused StateBeyondTable
-guest_of_a_beyond = Views.a-beyond
+guest_of_a_beyond = Views.a_beyond
 
 -- bit 1 of XCR0 is not asked
 pub guest_of_a_without_sse : (guest_pages first_edition server_a (processor 0 0x1 0 false)).verdict ≡ Accepted
-guest_of_a_without_sse = Views.a-without-sse
+guest_of_a_without_sse = Views.a_without_sse
 
 -- building first: 5, of a processor that 13 would refuse
 pub guest_unbuilt : guest_pages first_edition server_with_large_d6 (processor 0 0 0 true) ≡ refused_answer SaveAreaOverflow
 guest_unbuilt = Views.unbuilt
 
 -- A's guest on B; all of B's own state
-pub guest_from_a_to_b : GuestOutcome (guest_pages first_edition server_a Views.viewA).table (guest_pages first_edition server_b Views.viewA)
-guest_from_a_to_b = Views.a-to-b
+pub guest_from_a_to_b : GuestOutcome (guest_pages first_edition server_a Views.view_a).table (guest_pages first_edition server_b Views.view_a)
+guest_from_a_to_b = Views.a_to_b
 
 pub guest_of_b : figures (guest_pages first_edition server_b (processor 1 0xE7 0x1800 true)).table ≡ 0x01010000 ∷ 0xFEDA3203 ∷ 1 ∷ 1 ∷ 2432 ∷ 2472 ∷ []
-guest_of_b = Views.b-figures
+guest_of_b = Views.b_figures
 
 -- a guest of servers W, A and B, by composing. crates/examples/specs/Composed.antt
-pub guest_from_w_to_b : GuestTableRises (guest_pages first_edition server_w Composed.viewW).table (guest_pages first_edition server_b Composed.viewW).table
-guest_from_w_to_b = guest_tables_compose _ _ _ Composed.w-to-a-risen Composed.a-to-b-risen
+pub guest_from_w_to_b : GuestTableRises (guest_pages first_edition server_w Composed.view_w).table (guest_pages first_edition server_b Composed.view_w).table
+guest_from_w_to_b = guest_tables_compose _ _ _ Composed.w_to_a_risen Composed.a_to_b_risen
 
 -- the exception: a server with neither bit, where D.1.EBX is 0 and D.0.EBX the largest size, and one with bit 1, which refuses by 14.
 -- crates/examples/specs/Exception.antt
 pub exception_rises : RiseHypothesis first_edition Exception.plain Exception.compacting
-exception_rises = Exception.plain-to-compacting
+exception_rises = Exception.plain_to_compacting
 
-pub exception_given : figures (guest_pages first_edition Exception.plain Views.viewA).table ≡ 0x45010000 ∷ 0xBED83203 ∷ 0x12345 ∷ 0x12345 ∷ 0xFFFFFFFF ∷ 0 ∷ []
-exception_given = Exception.plain-figures
+pub exception_given : figures (guest_pages first_edition Exception.plain Views.view_a).table ≡ 0x45010000 ∷ 0xBED83203 ∷ 0x12345 ∷ 0x12345 ∷ 0xFFFFFFFF ∷ 0 ∷ []
+exception_given = Exception.plain_figures
 
-pub exception_refused : (guest_pages first_edition Exception.compacting Views.viewA).verdict ≡ Refused CompactSizeTooLarge
-exception_refused = Exception.compacting-refused
+pub exception_refused : (guest_pages first_edition Exception.compacting Views.view_a).verdict ≡ Refused CompactSizeTooLarge
+exception_refused = Exception.compacting_refused
 
-pub exception_outcome : GuestOutcome (guest_pages first_edition Exception.plain Views.viewA).table (guest_pages first_edition Exception.compacting Views.viewA)
-exception_outcome = Exception.plain-outcome
+pub exception_outcome : GuestOutcome (guest_pages first_edition Exception.plain Views.view_a).table (guest_pages first_edition Exception.compacting Views.view_a)
+exception_outcome = Exception.plain_outcome
 
 -- compacted sizes: order, alignment of the start, the largest that is given and the first that is not. crates/examples/specs/CompactSizes.antt
 pub compacted_sizes : sizes ≡ 576 ∷ 832 ∷ 840 ∷ 856 ∷ 920 ∷ 856 ∷ 0xFFFFFFFF ∷ 0x100000000 ∷ []

@@ -26,7 +26,7 @@ use Rattle.guest.specs.Guest.{guest_answer}
 use Rattle.guest.specs.Seen.{table_with, guest_found_in}
 use Rattle.guest.specs.FindLaws as FindLaws
 use Rattle.guest.specs.GuestPages.{guest_pages}
-use Rattle.guest.specs.FromMemory.{guest_from_memory}
+use Rattle.guest.proofs.FromMemory.{guest_from_memory}
 use Rattle.pool.specs.declared.Pooled.{Pooled}
 use Rattle.pool.specs.Pool.{pooled}
 use Rattle.rise.specs.Rise.{TableRises}
@@ -34,15 +34,17 @@ use Rattle.rise.specs.Preorder.{SameRows}
 use Rattle.compare.specs.declared.search.RowsCompared.TheVariants.{Rises}
 use Rattle.compare.specs.RowsCompared.{compared_tables}
 use Rattle.compare.specs.TablesMean.{DecidesTables}
-use Rattle.compare.specs.TablesDecideProof.{decides}
+use Rattle.compare.proofs.TablesDecideProof.{decides}
 use Rattle.images.specs.TablesMoved.{CompareAgrees, ImagesAgree, BuiltBack, AnyBack, MaskFollows}
 use Rattle.images.specs.TablesMovedProof as Moved
-use Rattle.images.specs.AnyMemory as AnyMemory
+use Rattle.images.proofs.TablesMovedProof as MovedLaws
+use Rattle.images.proofs.AnyMemory as AnyMemory
 use Rattle.images.specs.MaskFollows as Masks
 use Rattle.images.specs.TableOrderProof as Order
 use Rattle.images.specs.BuiltIn as BuiltIn
-use Rattle.images.specs.SecondInMemory.{SecondInMemory, second_in_memory}
-use Rattle.answers.specs.Answers.{foundAt}
+use Rattle.images.specs.SecondInMemory.{SecondInMemory}
+use Rattle.images.proofs.SecondInMemory.{second_in_memory}
+use Rattle.answers.specs.Answers.{found_at}
 use Rattle.snp_cpuid.specs.Exports.{found_in}
 use Rattle.snp_cpuid.specs.PoolExports.{pooled_found, PooledIn}
 use Rattle.page_sets.specs.PageSets.{server_a, server_b}
@@ -51,11 +53,11 @@ use Rattle.theorems.specs.RiseTheorems.{rise}
 
 -- what is found in a kept table is what the lookup from pages finds, its origin too
 pub kept_find : (chosen : Choices) (s w o : List ℕ) → TableIn (answer chosen s) w o → (leaf : ℕ) (subleaf : Subleaf) (enforce : Bool)
-    → foundAt (held_in w o) o leaf subleaf enforce ≡ found_in (answer chosen s) leaf subleaf enforce
+    → found_at (held_in w o) o leaf subleaf enforce ≡ found_in (answer chosen s) leaf subleaf enforce
 kept_find chosen s w o k leaf subleaf enforce =
-    ap₂ (λ (t : CpuidResults) (p : List ℕ). foundAt t p leaf subleaf enforce) k.table k.origins
+    ap₂ (λ (t : CpuidResults) (p : List ℕ). found_at t p leaf subleaf enforce) k.table k.origins
 
--- the same of what a processor's guest reads, 13 and 14 too. crates/guest/specs/FromMemory.antt
+-- the same of what a processor's guest reads, 13 and 14 too. crates/guest/proofs/FromMemory.antt
 pub kept_guest_find : (chosen : Choices) (s w o : List ℕ) → TableIn (answer chosen s) w o → (answer chosen s).verdict ≡ Accepted
     → (v : Processor) (leaf : CpuidFunction) (subleaf : Subleaf) (enforce : Bool)
     → guest_found_in (guest_answer (held_in w o) v) o leaf subleaf enforce ≡ guest_found_in (guest_pages chosen s v) (answer chosen s).origins leaf subleaf enforce
@@ -66,7 +68,7 @@ kept_guest_find chosen s w o k e v leaf subleaf enforce = guest_from_memory chos
 pub kept_size : (w o : List ℕ) (v : Processor) (n : ℕ) → in_use (read_rows false w o) v.xcr0 v.xss ≡ Compacted n
     → (leaf : CpuidFunction) (subleaf : Subleaf) (enforce : Bool)
     → Looked (found (table_with (held_in w o) v n) o leaf subleaf enforce) ≡ guest_found_in (guest_answer (held_in w o) v) o leaf subleaf enforce
-kept_size w o v n e leaf subleaf enforce = FindLaws.kept-found w o v refl leaf subleaf enforce e
+kept_size w o v n e leaf subleaf enforce = FindLaws.kept_found w o v refl leaf subleaf enforce e
 
 -- the image and the list of a kept table are those from pages
 pub kept_image : (chosen : Choices) (s w o : List ℕ) → TableIn (answer chosen s) w o → (answer chosen s).verdict ≡ Accepted → (buffer : List ℕ)
@@ -86,9 +88,9 @@ kept_list chosen s w o k e buffer =
 -- what is found in a pool's kept table is what the pool's lookup finds
 pub kept_pool_find : (chosen : Choices) (pages lengths w o : List ℕ) → PooledIn (pooled chosen pages lengths) w o
     → (leaf : ℕ) (subleaf : Subleaf) (enforce : Bool)
-    → foundAt (held_in w o) o leaf subleaf enforce ≡ pooled_found (pooled chosen pages lengths) leaf subleaf enforce
+    → found_at (held_in w o) o leaf subleaf enforce ≡ pooled_found (pooled chosen pages lengths) leaf subleaf enforce
 kept_pool_find chosen pages lengths w o k leaf subleaf enforce =
-    ap₂ (λ (t : CpuidResults) (p : List ℕ). foundAt t p leaf subleaf enforce) k.table k.origins
+    ap₂ (λ (t : CpuidResults) (p : List ℕ). found_at t p leaf subleaf enforce) k.table k.origins
 
 -- a table built under edition 1 and carried is the one that edition 2 builds of the pages, every word and origin.
 -- crates/images/specs/SecondInMemory.antt
@@ -98,10 +100,10 @@ kept_carried = second_in_memory
 -- a kept table's image, read back, is the same table except for origins; of any memory the rows that are there come back, and nothing else.
 -- crates/images/specs/TablesMoved.antt
 pub kept_read_back : BuiltBack
-kept_read_back = Moved.built-reads
+kept_read_back = MovedLaws.built_reads
 
 pub any_read_back : AnyBack
-any_read_back = AnyMemory.any-back
+any_read_back = AnyMemory.any_back
 
 -- comparing two tables decides `TableRises`, for tables of any content: yes if and only if it holds, else the first thing that fails.
 -- crates/compare/specs/TablesMean.antt
@@ -110,24 +112,24 @@ tables_decided = decides
 
 -- it orders tables: each is at least itself, moves compose, and both ways means the same rows
 pub tables_compare_to_themselves : (t : CpuidResults) → compared_tables t t ≡ Rises
-tables_compare_to_themselves = Order.compared-itself
+tables_compare_to_themselves = Order.compared_itself
 
 pub tables_compose : (t u v : CpuidResults) → compared_tables t u ≡ Rises → compared_tables u v ≡ Rises → compared_tables t v ≡ Rises
-tables_compose = Order.compared-compose
+tables_compose = Order.compared_compose
 
 pub tables_both_ways : (t u : CpuidResults) → compared_tables t u ≡ Rises → compared_tables u t ≡ Rises → SameRows t u
-tables_both_ways = Order.compared-both
+tables_both_ways = Order.compared_both
 
 -- where the comparison of pages says yes and B is accepted, the comparison of the two kept tables says yes; also of tables read from images
 pub tables_agree_with_pages : CompareAgrees
-tables_agree_with_pages = Moved.compare-agrees
+tables_agree_with_pages = Moved.compare_agrees
 
 pub images_agree_with_pages : ImagesAgree
-images_agree_with_pages = Moved.images-agree
+images_agree_with_pages = MovedLaws.images_agree
 
 -- of a first table whose absent rows are zeros, as of any that was built or read, the masks are never what fails
 pub masks_follow : MaskFollows
-masks_follow = Masks.mask-follows
+masks_follow = Masks.mask_follows
 
 -- Examples: every accepted page set has its table in memory (crates/images/specs/BuiltIn.antt), server A's for one; it is at least itself, and
 -- server B's is at least it
@@ -140,7 +142,7 @@ pub a_kept : TableIn (answer (under_edition 1) server_a) (layout (λ i. (row_in 
 a_kept = accepted_kept (under_edition 1) server_a a_accepted
 
 pub a_found_whole : (leaf : ℕ) (subleaf : Subleaf) (enforce : Bool)
-    → foundAt (held_in (layout (λ i. (row_in (answer (under_edition 1) server_a).table i).result)) (answer (under_edition 1) server_a).origins)
+    → found_at (held_in (layout (λ i. (row_in (answer (under_edition 1) server_a).table i).result)) (answer (under_edition 1) server_a).origins)
     (answer (under_edition 1) server_a).origins leaf subleaf enforce
     ≡ found_in (answer (under_edition 1) server_a) leaf subleaf enforce
 a_found_whole = kept_find (under_edition 1) server_a _ _ a_kept

@@ -9,20 +9,21 @@ use Rattle.table.specs.Refusal.{details}
 use Rattle.buffer.specs.declared.Written.TheVariants.{Bytes, Refused as NotWritten}
 use Rattle.lines.specs.declared.bytes.LineDetails.{LineDetails}
 use Rattle.lines.specs.Line.{LineFits, most_s, writable, line}
-use Rattle.lines.specs.LineLaws.{at_most_22}
+use Rattle.lines.proofs.LineLaws.{at_most_22}
 use Rattle.lines.specs.declared.LineWritten.TheVariants.{Line as Answered, NoSuchLine as NoLineWritten}
 use Rattle.lines.specs.declared.LineRead.TheVariants.{Line as Says, NoSuchLine as SaysNothing}
 use Rattle.lines.specs.WriteLine.{leaves, write_line}
 use Rattle.lines.specs.ReadLine.{read_line}
-use Rattle.lines.specs.LinePromises as Lines
+use Rattle.lines.proofs.LinePromises as Lines
 use Rattle.lines.specs.LinePromises.{LineOf, line_details}
 use Rattle.lines.specs.LineExactly.{LineExactly, Nameable}
-use Rattle.lines.specs.LineExactlyProof.{line_exactly, writable_means}
+use Rattle.lines.specs.LineExactlyProof.{writable_means}
+use Rattle.lines.proofs.LineExactlyProof.{line_exactly}
 use Rattle.lines.specs.NumbersNamed.{NamesExactly}
-use Rattle.lines.specs.NumbersNamedProof.{names_exactly}
+use Rattle.lines.proofs.NumbersNamedProof.{names_exactly}
 use Rattle.lines.specs.NumbersInUse.{names}
 use Rattle.refusals.specs.Lined.{BuildingLined, LinesTell}
-use Rattle.refusals.specs.LinedProof.{building_lined, lines_tell}
+use Rattle.refusals.proofs.LinedProof.{building_lined, lines_tell}
 use Rattle.refusals.specs.RefusedLines as RefusedLines
 use Rattle.lines.specs.ComputedLines as ComputedLines
 use Rattle.lines.specs.ComputedLines.{told, longest}
@@ -34,29 +35,29 @@ use Rattle.page_sets.specs.Evaluation.{first_edition}
 
 -- reading what was written gives it back: of every line, and of what the writer left at the front of any lent buffer
 pub line_read_back : (d : LineDetails) → LineFits d → writable d ≡ true → read_line (line d) ≡ Says d
-line_read_back = Lines.read-written
+line_read_back = Lines.read_written
 
 pub write_read_back : (d : LineDetails) (buffer left : List ℕ) (n : ℕ)
     → LineFits d → write_line d buffer ≡ leaves (Answered (Bytes n)) left → read_line (take n left) ≡ Says d
-write_read_back = Lines.write-then-read
+write_read_back = Lines.write_then_read
 
 -- what is read is what would be written: the reader takes nothing else
 pub only_lines_read : (l : List ℕ) (d : LineDetails) → read_line l ≡ Says d → LineOf l d
-only_lines_read = Lines.only-written-read
+only_lines_read = Lines.only_written_read
 
 -- different refusals, details included, give different lines
 pub lines_differ : (d e : LineDetails) → LineFits d → LineFits e → writable d ≡ true → writable e ≡ true → line d ≡ line e → d ≡ e
-lines_differ = Lines.lines-differ
+lines_differ = Lines.lines_differ
 
 pub no_line_begins_another : (d e : LineDetails) (t : List ℕ) → line d ++ t ≡ line e → t ≡ []
-no_line_begins_another = Lines.no-line-begins-another
+no_line_begins_another = Lines.no_line_begins_another
 
 pub line_at_most_22 : (d : LineDetails) → length (line d) ≤ 22
 line_at_most_22 = at_most_22
 
 -- every refusal that the table's functions give has a line
 pub every_refusal_has_a_line : (r : Refusal) → (details r).s ≤ most_s → writable (line_details (details r)) ≡ true
-every_refusal_has_a_line = Lines.every-refusal
+every_refusal_has_a_line = Lines.every_refusal
 
 -- each refusal that building gives, of page bytes, is written and read back to itself: nothing more is asked. crates/refusals/specs/Lined.antt;
 -- without "bytes" it is false (NotBytes.antt beside it). The sets of `line_of_7` and `line_of_8` below meet it.
@@ -84,42 +85,42 @@ each_number_names_exactly = names_exactly
 
 -- the longest line meets what they ask: 3 FFFFFFFF 4294967295
 pub longest_fits : LineFits longest
-longest_fits = ComputedLines.longest-fits
+longest_fits = ComputedLines.longest_fits
 
 pub longest_writable : writable longest ≡ true
-longest_writable = ComputedLines.longest-writable
+longest_writable = ComputedLines.longest_writable
 
 pub longest_length : length (line longest) ≡ 22
-longest_length = ComputedLines.longest-length
+longest_length = ComputedLines.longest_length
 
 -- lines in ASCII: 3 0000000D 12, then 3 8000001F, then 6 0, each with its newline
 pub missing_d12_line : line (told 3 0xD (Some 12) 0) ≡ 51 ∷ 32 ∷ 48 ∷ 48 ∷ 48 ∷ 48 ∷ 48 ∷ 48 ∷ 48 ∷ 68 ∷ 32 ∷ 49 ∷ 50 ∷ 10 ∷ []
-missing_d12_line = ComputedLines.missing-d12
+missing_d12_line = ComputedLines.missing_d12
 
 pub missing_8000001f_line : line (told 3 0x8000001F None 0) ≡ 51 ∷ 32 ∷ 56 ∷ 48 ∷ 48 ∷ 48 ∷ 48 ∷ 48 ∷ 49 ∷ 70 ∷ 10 ∷ []
-missing_8000001f_line = ComputedLines.missing-8000001f
+missing_8000001f_line = ComputedLines.missing_8000001f
 
 pub s_of_0_line : line (told 6 0 None 0) ≡ 54 ∷ 32 ∷ 48 ∷ 10 ∷ []
-s_of_0_line = ComputedLines.s-of-0
+s_of_0_line = ComputedLines.s_of_0
 
 -- lines of refused page sets: 7 1, which names s, and 8, which does not. crates/refusals/specs/RefusedLines.antt
-pub line_of_7 : RefusedLines.line_of (answer first_edition RefusedLines.sizeOne).verdict ≡ 55 ∷ 32 ∷ 49 ∷ 10 ∷ []
-line_of_7 = RefusedLines.line-of-7
+pub line_of_7 : RefusedLines.line_of (answer first_edition RefusedLines.size_one).verdict ≡ 55 ∷ 32 ∷ 49 ∷ 10 ∷ []
+line_of_7 = RefusedLines.line_of_7
 
-pub line_of_8 : RefusedLines.line_of (answer first_edition RefusedLines.twoThreads).verdict ≡ 56 ∷ 10 ∷ []
-line_of_8 = RefusedLines.line-of-8
+pub line_of_8 : RefusedLines.line_of (answer first_edition RefusedLines.two_threads).verdict ≡ 56 ∷ 10 ∷ []
+line_of_8 = RefusedLines.line_of_8
 
 -- no line: 01 and a newline
 pub leading_zero_no_line : read_line (48 ∷ 49 ∷ 10 ∷ []) ≡ SaysNothing
-leading_zero_no_line = ComputedLines.leading-zero
+leading_zero_no_line = ComputedLines.leading_zero
 
 -- without room for the line: 9; "no such line" comes before it, for a leaf that 1 does not name
 pub one_short : write_line (told 1 0 None 0) (7 ∷ []) ≡ leaves (Answered (NotWritten BufferTooShort)) (7 ∷ [])
-one_short = ComputedLines.one-short
+one_short = ComputedLines.one_short
 
 pub one_with_leaf : write_line (told 1 0xD None 0) (7 ∷ []) ≡ leaves NoLineWritten (7 ∷ [])
-one_with_leaf = ComputedLines.one-with-leaf
+one_with_leaf = ComputedLines.one_with_leaf
 
 -- and for an s that 8 does not name
 pub eight_with_s : write_line (told 8 0 None 3) (9 ∷ 9 ∷ 9 ∷ 9 ∷ []) ≡ leaves NoLineWritten (9 ∷ 9 ∷ 9 ∷ 9 ∷ [])
-eight_with_s = ComputedLines.eight-with-s
+eight_with_s = ComputedLines.eight_with_s

@@ -19,7 +19,8 @@ use Rattle.round_trip.specs.RoundTrip.{Returns, RoundTrip, ListWritesExactly}
 use Rattle.round_trip.specs.RoundTripProof.{round_trip, list_writes_exactly}
 use Rattle.round_trip.specs.Reads.{ReadMakes}
 use Rattle.round_trip.specs.ReadsExactly.{ReadsExactly}
-use Rattle.round_trip.specs.ReadsExactlyProof.{reads_exactly, read_makes}
+use Rattle.round_trip.specs.ReadsExactlyProof.{reads_exactly}
+use Rattle.round_trip.proofs.ReadsExactlyProof.{read_makes}
 use Rattle.round_trip.specs.Ascends.{Ascend, rows_ascend as list-ascends}
 use Rattle.examples.specs.KvmLists as KvmLists
 use Rattle.examples.specs.KvmBytes as KvmBytes
@@ -52,26 +53,26 @@ kvm_rows_ascend = list-ascends
 
 -- server A's list goes round; its head and its first row; and a list for each answer of reading
 pub a_goes_round : (buffer pages : List ℕ) → 1088 ≤ length buffer → 8192 ≤ length pages → Returns first_edition server_a buffer pages
-a_goes_round buffer pages h k = round_trip first_edition server_a Computed.serverA-accepted buffer pages (rw Computed.serverA-rows h) k
+a_goes_round buffer pages h k = round_trip first_edition server_a Computed.server_a_accepted buffer pages (rw Computed.server_a_rows h) k
 
 pub a_listed : take 48 (list_of (answer first_edition server_a).table)
     ≡ bytes_of_words (27 ∷ 0 ∷ 0 ∷ 0 ∷ 0 ∷ 0xD ∷ 0x68747541 ∷ 0x444D4163 ∷ 0x69746E65 ∷ 0 ∷ 0 ∷ 0 ∷ [])
-a_listed = KvmLists.serverA-list
+a_listed = KvmLists.server_a_list
 
 pub count_not_wrapped : (read_list (bytes_of_words (0xFFFFFFFF ∷ 0 ∷ [])) []).answer ≡ NotWritten ListLength
-count_not_wrapped = KvmLists.wrapped-count
+count_not_wrapped = KvmLists.wrapped_count
 
 pub head_word_read : (read_list (bytes_of_words (0 ∷ 1 ∷ [])) []).answer ≡ NotWritten ListFields
-head_word_read = KvmLists.head-not-zero
+head_word_read = KvmLists.head_not_zero
 
 pub too_many_rows : (read_list (list_bytes (replicate 65 (plain_row 5 0 0 (cpuid_result 0 0 0 0)))) []).answer ≡ NotWritten ListRows
-too_many_rows = KvmLists.sixty-five
+too_many_rows = KvmLists.sixty_five
 
 pub nothing_lent : (read_list (bytes_of_words (0 ∷ 0 ∷ [])) []).answer ≡ NotWritten BufferTooShort
 nothing_lent = KvmLists.nothing_lent
 
 pub an_empty_list : (read_list (bytes_of_words (0 ∷ 0 ∷ [])) (replicate 8192 0xA5)).answer ≡ Bytes 8192
-an_empty_list = KvmLists.empty-list
+an_empty_list = KvmLists.empty_list
 
 -- flag 1 where the row has a subleaf, else flag and index 0, over the 88 places: 7.0, Bh and Dh, then 8000001Dh, have subleaves.
 -- crates/kvm_export/specs/Flags.antt
@@ -86,9 +87,9 @@ pub row_of_d_2_listed : take 40 (drop 328 (list_of (answer first_edition server_
     ≡ 0xD ∷ 0 ∷ 0 ∷ 0 ∷ 2 ∷ 0 ∷ 0 ∷ 0 ∷ 1 ∷ 0 ∷ 0 ∷ 0
     ∷ 0 ∷ 0x01 ∷ 0 ∷ 0 ∷ 0x40 ∷ 0x02 ∷ 0 ∷ 0 ∷ 0 ∷ 0 ∷ 0 ∷ 0 ∷ 0 ∷ 0 ∷ 0 ∷ 0
     ∷ 0 ∷ 0 ∷ 0 ∷ 0 ∷ 0 ∷ 0 ∷ 0 ∷ 0 ∷ 0 ∷ 0 ∷ 0 ∷ 0 ∷ []
-row_of_d_2_listed = KvmBytes.row-of-d-2
+row_of_d_2_listed = KvmBytes.row_of_d_2
 
 -- a list of two rows given as bytes, and every byte of its two pages. crates/kvm_import/specs/TwoRows.antt
 pub two_rows_read : (buffer : List ℕ) → 8192 ≤ length buffer
-    → read_list TwoRows.twoRows buffer ≡ record { answer = Bytes 8192; buffer = (TwoRows.page0 ++ TwoRows.page1) ++ drop 8192 buffer }
-two_rows_read = KvmBytes.two-rows-read
+    → read_list TwoRows.two_rows buffer ≡ record { answer = Bytes 8192; buffer = (TwoRows.page0 ++ TwoRows.page1) ++ drop 8192 buffer }
+two_rows_read = KvmBytes.two_rows_read

@@ -14,9 +14,9 @@ use Rattle.table.specs.Table.{row_in}
 use Rattle.lookup.specs.declared.LeafResult.{LeafResult}
 use Rattle.lookup.specs.declared.LeafResult.TheVariants.{Some as Found, None as Nothing}
 use Rattle.lookup.specs.Lookup.{place_asked, row_result, lookup_origin}
-use Rattle.lookup.specs.LookupLaws.{lookup_at}
+use Rattle.lookup.proofs.LookupLaws.{lookup_at}
 use Rattle.answers.specs.declared.SnpCpuidFound.{SnpCpuidFound}
-use Rattle.answers.specs.Answers.{foundWith, foundGiven, foundAt}
+use Rattle.answers.specs.Answers.{found_with, found_given, found_at}
 use Rattle.memory.specs.Origin.{origin_read}
 
 module _ (t : CpuidResults) (whole : length t.present ≤ places) (origins : List ℕ) (leaf : CpuidFunction) (subleaf : Subleaf) (enforce : Bool) where
@@ -24,16 +24,16 @@ module _ (t : CpuidResults) (whole : length t.present ≤ places) (origins : Lis
   i = place_asked leaf subleaf enforce
 
   abbrev looked : SnpCpuidFound
-  looked = foundAt t origins leaf.0 subleaf enforce
+  looked = found_at t origins leaf.0 subleaf enforce
 
   -- one read, of the place that is asked for
-  as_read : foundGiven (row_result (row_in t i)) (lookup_origin origins leaf subleaf enforce) ≡ looked
-  as_read = ap (λ (x : LeafResult). foundGiven x (lookup_origin origins leaf subleaf enforce)) (lookup_at t whole leaf subleaf enforce i refl)
+  as_read : found_given (row_result (row_in t i)) (lookup_origin origins leaf subleaf enforce) ≡ looked
+  as_read = ap (λ (x : LeafResult). found_given x (lookup_origin origins leaf subleaf enforce)) (lookup_at t whole leaf subleaf enforce i refl)
 
-  present_of : (n : ℕ) (r : Row) → (foundGiven (row_result r) n).found ≡ 1 → r.present ≡ true
+  present_of : (n : ℕ) (r : Row) → (found_given (row_result r) n).found ≡ 1 → r.present ≡ true
   present_of n r e = go r.present e
     where
-      go : (b : Bool) → (foundGiven (pick b (Found r.result) Nothing) n).found ≡ 1 → b ≡ true
+      go : (b : Bool) → (found_given (pick b (Found r.result) Nothing) n).found ≡ 1 → b ≡ true
       go true e = refl
       go false e = absurd (omega arith)
 
@@ -52,9 +52,9 @@ module _ (t : CpuidResults) (whole : length t.present ≤ places) (origins : Lis
           absurd (never_both e (get_or-eq_default t.present false h))
 
   -- and a row that is there is found, with its registers and its origin
-  pub looked_at : (row_in t i).present ≡ true → looked ≡ foundWith (row_in t i).result (origin_read (lookup_origin origins leaf subleaf enforce))
+  pub looked_at : (row_in t i).present ≡ true → looked ≡ found_with (row_in t i).result (origin_read (lookup_origin origins leaf subleaf enforce))
   looked_at e =
-      sym as_read ∙ ap (λ (x : LeafResult). foundGiven x (lookup_origin origins leaf subleaf enforce)) (pick_true _ _ e)
+      sym as_read ∙ ap (λ (x : LeafResult). found_given x (lookup_origin origins leaf subleaf enforce)) (pick_true _ _ e)
 
   pub looked_found : (row_in t i).present ≡ true → looked.found ≡ 1
   looked_found e = ap (λ (f : SnpCpuidFound). f.found) (looked_at e)

@@ -21,11 +21,11 @@ use Rattle.nearest.specs.Changes.{changes}
 use Rattle.nearest.specs.declared.Nearest.TheVariants.{Bit, NoBit}
 use Rattle.nearest.specs.Nearest.{nearest}
 use Rattle.nearest_exactly.specs.NearestExactly.{NearestExactly, TwentyExactly}
-use Rattle.nearest_exactly.specs.NearestExactlyProof as Exactly
-use Rattle.nearest_exactly.specs.TwentyExactly as Twenty
+use Rattle.nearest_exactly.proofs.NearestExactlyProof as Exactly
+use Rattle.nearest_exactly.proofs.TwentyExactly as Twenty
 use Rattle.nearest_exactly.specs.MeaningProof as Meaning
 use Rattle.nearest_exactly.specs.Meaning.{Unchanged}
-use Rattle.nearest_exactly.specs.WithoutInvlpgb as Invlpgb
+use Rattle.nearest_exactly.proofs.WithoutInvlpgb as Invlpgb
 use Rattle.nearest_exactly.specs.WithoutInvlpgb.{InvlpgbNearest}
 use Rattle.nearest_exactly.specs.OutsideLaws as Outside
 use Rattle.nearest_exactly.specs.OutsideLaws.{Among, FirstAt}
@@ -38,16 +38,16 @@ use Rattle.examples.specs.NearestBits.{only_leaf5, without_d2, no_invlpgb, leaf1
 -- each answer, 15, 1, 2, 17, 20 or a bit: given if and only if its condition holds; no other number is given. A bit is the first flip, in the order
 -- of page, entry, register and bit, that changes the answer; 20 is given where none does. crates/nearest_exactly/specs/NearestExactly.antt
 pub nearest_exactly : (chosen : Choices) (s : List ℕ) → NearestExactly chosen s
-nearest_exactly = Exactly.nearest-exactly
+nearest_exactly = Exactly.nearest_exactly
 
 -- 20 exactly where building gives 3 for a leaf of the two required lists
 pub twenty_exactly : (chosen : Choices) (s : List ℕ) → TwentyExactly chosen s
-twenty_exactly = Twenty.twenty-exactly
+twenty_exactly = Twenty.twenty_exactly
 
 -- of pages that building refuses by 4 it is INVLPGB's own, 80000008h.EBX bit 3. crates/nearest_exactly/specs/WithoutInvlpgb.antt
 pub refused_by_4 : (chosen : Choices) (s : List ℕ) → AreBytes s → (answer chosen s).verdict ≡ Refused InvlpgbUnavailable
     → InvlpgbNearest chosen s
-refused_by_4 = Invlpgb.refused-by-4
+refused_by_4 = Invlpgb.refused_by_4
 
 -- the order of the flips, by page, entry, register and bit from 0: some of the 384 of three entries, two on page 0 and one on page 1.
 -- crates/nearest/specs/FlipOrder.antt
@@ -57,7 +57,7 @@ flips_in_order = flips_are
 
 -- to change nothing is that verdict and table of the two answers are equal. crates/nearest_exactly/specs/Meaning.antt
 pub unchanged_exactly : (chosen : Choices) (s : List ℕ) (f : Flip) → (changes chosen s f ≡ false) ↔ Unchanged chosen s f
-unchanged_exactly = Meaning.unchanged-exactly
+unchanged_exactly = Meaning.unchanged_exactly
 
 -- flips outside the counted first entries change nothing; nor do flips outside the masks. crates/nearest_exactly/specs/OutsideLaws.antt
 pub only_first_entries : (chosen : Choices) (s : List ℕ) (p q r k : ℕ) (w : Among chosen s p q r k)
@@ -66,53 +66,53 @@ only_first_entries = Outside.not_first
 
 pub only_inside_masks : (chosen : Choices) (s : List ℕ) (p q r k : ℕ) (w : Among chosen s p q r k) (i : ℕ) → FirstAt w.before (entry_at s p q) i
     → apply_mask (masks_at chosen.secure_avic i) (one_bit r k) ≡ cpuid_result 0 0 0 0 → changes chosen s (flip p q r k) ≡ false
-only_inside_masks = Outside.outside-masks
+only_inside_masks = Outside.outside_masks
 
 -- ---- Examples. crates/examples/specs/NearestBits.antt has a page set for each answer, byte by byte.
 
 pub no_edition : nearest (under_edition 3) [] ≡ NoBit UnknownEdition
-no_edition = Bits.no-edition
+no_edition = Bits.no_edition
 
 pub no_pages : nearest first_edition [] ≡ NoBit PagesLength
-no_pages = Bits.no-pages
+no_pages = Bits.no_pages
 
 pub large_count : nearest first_edition (page 65 []) ≡ NoBit PageCount
-large_count = Bits.large-count
+large_count = Bits.large_count
 
 pub unclean_entry : nearest first_edition (page 1 (word 0x40000000 ++ replicate 43 0 ++ (1 ∷ []))) ≡ NoBit (ReservedBytes (function 0x40000000))
-unclean_entry = Bits.unclean-entry
+unclean_entry = Bits.unclean_entry
 
 pub a_nearest : nearest first_edition server_a ≡ Bit (flip 0 0 0 0)
-a_nearest = Bits.serverA-nearest
+a_nearest = Bits.server_a_nearest
 
 -- a later page, and a later entry: what stands before is filtered, or Dh on page 0. crates/examples/specs/NearestOnLaterPage.antt
-pub later_page_decides : nearest first_edition Later.pageSet ≡ Bit (flip 1 0 0 0)
-later_page_decides = Later.page-decides
+pub later_page_decides : nearest first_edition Later.page_set ≡ Bit (flip 1 0 0 0)
+later_page_decides = Later.page_decides
 
 pub later_entry_decides : nearest first_edition Later.entry_set ≡ Bit (flip 0 1 0 0)
-later_entry_decides = Later.entry-decides
+later_entry_decides = Later.entry_decides
 
 -- leaf 1 is missing, and none of the 128 bits of the one entry decides
 pub only_leaf_5 : nearest first_edition only_leaf5 ≡ NoBit NothingDecides
-only_leaf_5 = Bits.onlyLeaf5-nearest
+only_leaf_5 = Bits.only_leaf5_nearest
 
 -- 3 for D.2, which is in neither list, is not 20
 pub without_d2_refused : (answer first_edition without_d2).verdict ≡ Refused (MissingRequiredResult ExtendedStateEnumeration (Some 2))
-without_d2_refused = Bits.withoutD2-refused
+without_d2_refused = Bits.without_d2_refused_lem
 
 pub without_d2_decided : nearest first_edition without_d2 ≢ NoBit NothingDecides
-without_d2_decided = Bits.withoutD2-nearest
+without_d2_decided = Bits.without_d2_nearest
 
 -- a server without INVLPGB
 pub no_invlpgb_refused : (answer first_edition no_invlpgb).verdict ≡ Refused InvlpgbUnavailable
-no_invlpgb_refused = Bits.noInvlpgb-refused
+no_invlpgb_refused = Bits.no_invlpgb_refused_lem
 
 pub no_invlpgb_nearest : InvlpgbNearest first_edition no_invlpgb
-no_invlpgb_nearest = Bits.noInvlpgb-nearest
+no_invlpgb_nearest = Bits.no_invlpgb_nearest_lem
 
 -- leaf 1 twice: the second is not the first of its place, and of the first 1.ECX bit 2 is outside the mask
 pub second_changes_nothing : (r k : ℕ) → r < 4 → k < 32 → changes first_edition leaf1_twice (flip 0 1 r k) ≡ false
-second_changes_nothing r k l u = only_first_entries first_edition leaf1_twice 0 1 r k (Bits.second-among r k l u) (Bits.second-not-first r k l u)
+second_changes_nothing r k l u = only_first_entries first_edition leaf1_twice 0 1 r k (Bits.second_among r k l u) (Bits.second_not_first r k l u)
 
 pub masked_changes_nothing : changes first_edition leaf1_twice (flip 0 0 2 2) ≡ false
-masked_changes_nothing = only_inside_masks first_edition leaf1_twice 0 0 2 2 Bits.first-among Place.versionAndFeatures Bits.first-is-first Bits.bit-outside
+masked_changes_nothing = only_inside_masks first_edition leaf1_twice 0 0 2 2 Bits.first_among_lem Place.version_and_features Bits.first_is_first Bits.bit_outside

@@ -53,7 +53,7 @@ use Rattle.nearest.specs.declared.Nearest.TheVariants.{Bit}
 use Rattle.lines.specs.declared.LineWritten.{LineWritten}
 use Rattle.lines.specs.declared.LineRead.{LineRead}
 use Rattle.table.specs.Numbers.{numbers_of}
-use Rattle.answers.specs.Answers.{choicesOf, processorOf, builtNumbers, foundNumbers, foundAt, guestFoundNumbers, stateNumbers, countsOf, readWith, writtenNumbers}
+use Rattle.answers.specs.Answers.{choices_of, processor_of, built_numbers, found_numbers, found_at, guest_found_numbers, state_numbers, counts_of, read_with, written_numbers}
 use Rattle.answers.specs.CarriedAnswers.{carried_numbers}
 use Rattle.answers.specs.ComparedAnswers.{compared_numbers, tables_compared_numbers}
 use Rattle.answers.specs.PoolAnswers.{pooled_numbers}
@@ -67,41 +67,41 @@ use Rattle.snp_cpuid.specs.PoolExports.{pooled_found}
 
 -- ---- what a caller gives is what the definition is asked, each field its own
 
-pub choices_are_the_callers : (avic : Bool) (edition : ℕ) → ChoicesGiven avic edition (choicesOf avic edition)
-choices_are_the_callers = Told.choices-given
+pub choices_are_the_callers : (avic : Bool) (edition : ℕ) → ChoicesGiven avic edition (choices_of avic edition)
+choices_are_the_callers = Told.choices_given
 
-pub processor_is_the_callers : (x2apic xcr0 xss : ℕ) (osxsave : Bool) → ProcessorGiven x2apic xcr0 xss osxsave (processorOf x2apic xcr0 xss osxsave)
-processor_is_the_callers = Told.processor-given
+pub processor_is_the_callers : (x2apic xcr0 xss : ℕ) (osxsave : Bool) → ProcessorGiven x2apic xcr0 xss osxsave (processor_of x2apic xcr0 xss osxsave)
+processor_is_the_callers = Told.processor_given
 
 pub subleaf_is_the_callers : (k : ℕ) → SubleafGiven k
-subleaf_is_the_callers = Told.subleaf-given
+subleaf_is_the_callers = Told.subleaf_given
 
 pub details_are_the_callers : (number leaf : ℕ) (has : Bool) (subleaf s : ℕ)
     → DetailsGiven number leaf has subleaf s (details_given number leaf has subleaf s)
-details_are_the_callers = Told.details-given
+details_are_the_callers = Told.details_given_lem
 
 -- ---- what a caller is given is the definition's answer
 
 -- accepted is five zeros; a refusal is its number, leaf, has_subleaf, subleaf and s, as the table has them; and these tell one verdict
 pub verdict_told : (v : Verdict)
     → VerdictTold v (numbers_of v).number (numbers_of v).leaf (numbers_of v).has_subleaf (numbers_of v).subleaf (numbers_of v).s
-verdict_told = Told.verdict-in
+verdict_told = Told.verdict_in_lem
 
 pub verdict_told_once : (v w : Verdict) (number leaf has subleaf s : ℕ) → VerdictTold v number leaf has subleaf s
     → VerdictTold w number leaf has subleaf s → v ≡ w
-verdict_told_once v w number leaf has subleaf s = Told.verdict-told-once
+verdict_told_once v w number leaf has subleaf s = Told.verdict_told_once
 
-pub build_told : (b : Built) → HeldTold b.verdict b.table (builtNumbers b)
-build_told = Told.built-told
+pub build_told : (b : Built) → HeldTold b.verdict b.table (built_numbers b)
+build_told = Told.built_told
 
 pub guest_build_told : (g : GuestAnswer) → HeldTold g.verdict g.table (guest_numbers g)
-guest_build_told g = Told.held-told g.verdict g.table
+guest_build_told g = Told.held_told g.verdict g.table
 
 -- lookups: in any table, in a built one, in a guest's and in a pool's; EAX to EDX, and the origin
 pub lookup_told : (t : CpuidResults) (o : List ℕ) (leaf : ℕ) (subleaf : Subleaf) (enforce : Bool)
-    → GivenTold (lookup t (function leaf) subleaf enforce) (lookup_origin o (function leaf) subleaf enforce) (foundAt t o leaf subleaf enforce)
+    → GivenTold (lookup t (function leaf) subleaf enforce) (lookup_origin o (function leaf) subleaf enforce) (found_at t o leaf subleaf enforce)
 lookup_told t o leaf subleaf enforce =
-    Told.given-told (lookup t (function leaf) subleaf enforce) (lookup_origin o (function leaf) subleaf enforce)
+    Told.given_told (lookup t (function leaf) subleaf enforce) (lookup_origin o (function leaf) subleaf enforce)
 
 pub build_lookup_told : (b : Built) (leaf : ℕ) (subleaf : Subleaf) (enforce : Bool)
     → GivenTold (lookup b.table (function leaf) subleaf enforce) (lookup_origin b.origins (function leaf) subleaf enforce)
@@ -119,47 +119,47 @@ pub pool_lookup_told : (p : Pooled) (leaf : ℕ) (subleaf : Subleaf) (enforce : 
 pool_lookup_told p = lookup_told p.table p.origins
 
 -- a row that was found with its origin, and what a kept table's guest finds: 13, 14 or a row
-pub found_told : (f : Found) → FoundTold f (foundNumbers f)
-found_told = Told.found-told
+pub found_told : (f : Found) → FoundTold f (found_numbers f)
+found_told = Told.found_told
 
-pub guest_found_told : (f : GuestFound) → GuestTold f (guestFoundNumbers f)
-guest_found_told = Told.guest-told
+pub guest_found_told : (f : GuestFound) → GuestTold f (guest_found_numbers f)
+guest_found_told = Told.guest_told
 
-pub state_told : (s : InUse) → StateTold s (stateNumbers s)
-state_told = Told.state-told
+pub state_told : (s : InUse) → StateTold s (state_numbers s)
+state_told = Told.state_told
 
-pub counts_told : (t : CpuidResults) → CountsTold t (countsOf t)
-counts_told = Told.counts-told
+pub counts_told : (t : CpuidResults) → CountsTold t (counts_of t)
+counts_told = Told.counts_told
 
-pub read_told : (b : Bool) (t : CpuidResults) → ReadTold b t (readWith b t)
+pub read_told : (b : Bool) (t : CpuidResults) → ReadTold b t (read_with b t)
 read_told = Told.read_told
 
 pub first_told : (f : FirstEntry) → FirstTold f.verdict f.origin (first_numbers f)
-first_told f = Told.first-told f.verdict f.origin
+first_told f = Told.first_told f.verdict f.origin
 
-pub written_told : (w : Written) → WrittenTold w (writtenNumbers w)
-written_told = Told.written-told
+pub written_told : (w : Written) → WrittenTold w (written_numbers w)
+written_told = Told.written_told
 
 pub carried_told : (c : CarriedImage) → CarriedTold c (carried_numbers c)
-carried_told = Told.carried-told
+carried_told = Told.carried_told
 
 pub compared_told : (c : Compared) → ComparedTold c (compared_numbers c)
-compared_told = Told.compared-told
+compared_told = Told.compared_told
 
 pub tables_compared_told : (c : TablesCompared) → TablesTold c (tables_compared_numbers c)
-tables_compared_told = Told.tables-told
+tables_compared_told = Told.tables_told
 
 pub pooled_told : (p : Pooled) → PooledTold p (pooled_numbers p)
-pooled_told = Told.pooled-told
+pooled_told = Told.pooled_told
 
 pub nearest_told : (a : Nearest) → NearestTold a (nearest_numbers a)
-nearest_told = Told.nearest-told
+nearest_told = Told.nearest_told
 
 pub line_written_told : (w : LineWritten) → LineWrittenTold w (line_written_numbers w)
-line_written_told = Told.line-written-told
+line_written_told = Told.line_written_told
 
 pub line_read_told : (l : LineRead) → LineTold l (line_read_numbers l)
-line_read_told = Told.line-told
+line_read_told = Told.line_told
 
 -- ---- Examples
 
@@ -169,16 +169,16 @@ pub missing_d12_told : numbers_of (Refused (MissingRequiredResult (function 0xD)
 missing_d12_told = refl
 
 -- a row of the entry at position 5 of page 1
-pub row_of_page_1_told : foundNumbers (Located (cpuid_result 1 2 3 4) (4 + 64 * 1 + 5))
+pub row_of_page_1_told : found_numbers (Located (cpuid_result 1 2 3 4) (4 + 64 * 1 + 5))
     ≡ record { found = 1; eax = 1; ebx = 2; ecx = 3; edx = 4; origin = 2; page = 1; entry = 5 }
 unfolding origin_read
 row_of_page_1_told = refl
 
 -- 14, and the processor that a caller describes
-pub too_large_told : stateNumbers (NotInUse CompactSizeTooLarge) ≡ record { number = 14; size = 0 }
+pub too_large_told : state_numbers (NotInUse CompactSizeTooLarge) ≡ record { number = 14; size = 0 }
 too_large_told = refl
 
-pub processor_given : processorOf 5 7 0x800 true ≡ record { x2apic = 5; xcr0 = 7; xss = 0x800; osxsave = true }
+pub processor_given : processor_of 5 7 0x800 true ≡ record { x2apic = 5; xcr0 = 7; xss = 0x800; osxsave = true }
 processor_given = refl
 
 -- a server whose 7.0.ECX is in the way; the third server's own refusal by 7 with s = 1; bit 31 of EDX

@@ -17,7 +17,8 @@ use Rattle.theorems.specs.PoolExportedProof.{pool_origins}
 use Rattle.memory.specs.Origin.Origin.{made_here, entry}
 use Rattle.collect.specs.FirstEntryOrigin.{stands_at}
 use Rattle.rise.specs.Located.{ComesFrom, Origins}
-use Rattle.rise.specs.LocatedProof.{rows_come_from, rows_have_origins, refused_has_none}
+use Rattle.rise.specs.LocatedProof.{refused_has_none}
+use Rattle.rise.proofs.LocatedProof.{rows_come_from, rows_have_origins}
 use Rattle.examples.specs.Origins as Origin
 use Rattle.page_sets.specs.Evaluation.{first_edition}
 
@@ -56,11 +57,11 @@ pool_exports_tell_origins = pool_origins
 
 -- Examples: of two entries for leaf 1 the first is told; of two for D.0 that of page 1, counted from that page's beginning; B.0 is made here although
 -- it has an entry. crates/examples/specs/Origins.antt
-pub leaf_1_of_the_first : origin_at first_edition Origin.repeated Place.versionAndFeatures ≡ entry 0 1
-leaf_1_of_the_first = Origin.first-leaf-1
+pub leaf_1_of_the_first : origin_at first_edition Origin.repeated Place.version_and_features ≡ entry 0 1
+leaf_1_of_the_first = Origin.first_leaf_1
 
-pub d0_of_page_1 : origin_at first_edition Origin.repeated (Place.extendedState 0) ≡ entry 1 0
-d0_of_page_1 = Origin.d0-on-page-1
+pub d0_of_page_1 : origin_at first_edition Origin.repeated (Place.extended_state 0) ≡ entry 1 0
+d0_of_page_1 = Origin.d0_on_page_1
 
-pub b0_made_here : (stands_at Place.threadLevel (counted Origin.repeated) ≡ entry 0 4) × (origin_at first_edition Origin.repeated Place.threadLevel ≡ made_here)
-b0_made_here = Origin.b0-made-here
+pub b0_made_here : (stands_at Place.thread_level (counted Origin.repeated) ≡ entry 0 4) × (origin_at first_edition Origin.repeated Place.thread_level ≡ made_here)
+b0_made_here = Origin.b0_made_here

@@ -18,7 +18,7 @@ use Rattle.pool.specs.Pool.{pool_verdict, pooled}
 use Rattle.pool_laws.specs.PoolRight.{pool_table, PoolRight}
 use Rattle.pool_laws.specs.PoolProof.{pool_right}
 use Rattle.memory.specs.Origin.{origin_read}
-use Rattle.rise.specs.LocatedProof.{rows_have_origins}
+use Rattle.rise.proofs.LocatedProof.{rows_have_origins}
 use Rattle.theorems.specs.Exported.{origin_found}
 use Rattle.theorems.specs.Looked.{looked_present, looked_inside, looked_at}
 use Rattle.theorems.specs.PoolExported.{PoolOrigins}

@@ -13,12 +13,13 @@ use Rattle.page_sets.specs.PageSets.{server_a, server_b, server_w}
 use Rattle.pool.specs.Pool.{pooled}
 use Rattle.pool.specs.WritePool.{write_pool}
 use Rattle.pool_laws.specs.PoolRight.{server_table, pool_table, PoolRight, NoneBeyond, Greatest, OneMore, OrderFree, NothingMore}
-use Rattle.pool_laws.specs.PoolProof.{pool_right, greatest, one_more}
+use Rattle.pool_laws.specs.PoolProof.{pool_right, greatest}
+use Rattle.pool_laws.proofs.PoolProof.{one_more}
 use Rattle.pool_laws.specs.ByTheLetter.{NoFeatureBeyond, GreatestByTheLetter, OneMoreByTheLetter}
-use Rattle.pool_laws.specs.ByTheLetterProof.{greatest_by_the_letter, one_more_by_the_letter}
+use Rattle.pool_laws.proofs.ByTheLetterProof.{greatest_by_the_letter, one_more_by_the_letter}
 use Rattle.pool_laws.specs.PoolOrderProof.{order_free}
 use Rattle.pool_laws.specs.PoolMoves.{PoolMoves}
-use Rattle.pool_laws.specs.PoolMovesProof.{pool_moves}
+use Rattle.pool_laws.proofs.PoolMovesProof.{pool_moves}
 use Rattle.pool_laws.specs.PoolExactly.{PoolExactly, ServerFault, DifferFault}
 use Rattle.pool_laws.specs.PoolExactlyProof.{pool_exactly}
 use Rattle.pool_laws.specs.PoolWrites.{pool_writes_exactly}
@@ -78,10 +79,10 @@ each_pool_write_exactly = pool_writes_exactly
 -- accepted with a third server that has no D.2, so that one server more gave rows to a pool that was refused; a table within both servers'; another
 -- order. crates/examples
 pub pool_of_a_and_w : PoolRight first_edition (server_a ++ server_w) Pools.two
-pool_of_a_and_w = PoolInstances.of-a-and-w
+pool_of_a_and_w = PoolInstances.of_a_and_w
 
 pub one_alone_is_no_pool : (pooled (under_edition 3) server_a (8192 ∷ [])).verdict ≡ Refused PoolSets
-one_alone_is_no_pool = Pools.one-alone
+one_alone_is_no_pool = Pools.one_alone
 
 pub lengths_do_not_wrap : (pooled first_edition (server_a ++ server_w) (0xFFFFFFFFFFFFFFFF ∷ 16385 ∷ [])).verdict ≡ Refused PoolSets
 lengths_do_not_wrap = Pools.wraps
@@ -90,37 +91,37 @@ pub no_such_edition_in_a_pool : (pooled (under_edition 3) server_a (8192 ∷ 0 �
 no_such_edition_in_a_pool = Pools.unknown
 
 pub the_second_by_itself : ServerFault first_edition server_a (8192 ∷ 0 ∷ []) 1 PagesLength
-the_second_by_itself = PoolInstances.of-own
+the_second_by_itself = PoolInstances.of_own
 
-pub bit_28_is_no_feature : (pooled first_edition (server_a ++ Bit28.serverM) Pools.two).verdict ≡ Refused PoolDiffers
-bit_28_is_no_feature = Bit28.a-and-m
+pub bit_28_is_no_feature : (pooled first_edition (server_a ++ Bit28.server_m) Pools.two).verdict ≡ Refused PoolDiffers
+bit_28_is_no_feature = Bit28.a_and_m
 
-pub d_2_differs : DifferFault first_edition (server_a ++ Differ.serverD) Pools.two
-d_2_differs = PoolInstances.of-a-and-d
+pub d_2_differs : DifferFault first_edition (server_a ++ Differ.server_d) Pools.two
+d_2_differs = PoolInstances.of_a_and_d
 
-pub a_third_server_lifts_it : (pooled first_edition (server_a ++ Differ.serverD ++ server_w) Differ.three).verdict ≡ Accepted
-a_third_server_lifts_it = Differ.a-and-d-and-w
+pub a_third_server_lifts_it : (pooled first_edition (server_a ++ Differ.server_d ++ server_w) Differ.three).verdict ≡ Accepted
+a_third_server_lifts_it = Differ.a_and_d_and_w
 
 pub a_server_more_adds_nothing :
-    NothingMore (pool_table first_edition (server_a ++ server_w) Pools.two) (pool_table first_edition (server_a ++ Differ.serverD ++ server_w) Differ.three)
-a_server_more_adds_nothing = PoolInstances.of-one-more
+    NothingMore (pool_table first_edition (server_a ++ server_w) Pools.two) (pool_table first_edition (server_a ++ Differ.server_d ++ server_w) Differ.three)
+a_server_more_adds_nothing = PoolInstances.of_one_more
 
 -- W's table lies within A's and its own; A, D and W pool as A, W and D do
 pub w_has_none_beyond_the_pool : NoneBeyond (answer first_edition server_w).table (pool_table first_edition (server_a ++ server_w) Pools.two)
-w_has_none_beyond_the_pool = PoolInstances.of-w-within
+w_has_none_beyond_the_pool = PoolInstances.of_w_within
 
 -- from the pool's table to server B, by way of A
 pub pool_to_b : TableRises (pool_table first_edition (server_a ++ server_w) Pools.two) (answer first_edition server_b).table
-pool_to_b = PoolInstances.of-moves
+pool_to_b = PoolInstances.of_moves
 
 -- A's table, which has bit 28 of 1.EDX, beside two servers that have not: no feature bit of it lies beyond theirs, nor beyond their pool's; with bit
 -- 28 it does not lie within. crates/examples/specs/Letter28.antt
-pub a_has_none_beyond_by_the_letter : NoFeatureBeyond (answer first_edition server_a).table (pool_table first_edition (Bit28.serverM ++ Bit28.serverM) Pools.two)
-a_has_none_beyond_by_the_letter = Letter28.a-has-none-beyond
+pub a_has_none_beyond_by_the_letter : NoFeatureBeyond (answer first_edition server_a).table (pool_table first_edition (Bit28.server_m ++ Bit28.server_m) Pools.two)
+a_has_none_beyond_by_the_letter = Letter28.a_has_none_beyond
 
-pub a_lies_beyond_with_bit_28 : NoneBeyond (answer first_edition server_a).table (server_table first_edition (Bit28.serverM ++ Bit28.serverM) Pools.two 0) → ⊥
-a_lies_beyond_with_bit_28 = Letter28.not-with-28
+pub a_lies_beyond_with_bit_28 : NoneBeyond (answer first_edition server_a).table (server_table first_edition (Bit28.server_m ++ Bit28.server_m) Pools.two 0) → ⊥
+a_lies_beyond_with_bit_28 = Letter28.not_with_28
 
 pub d_and_w_change_places :
-    pooled first_edition (server_a ++ Differ.serverD ++ server_w) Differ.three ≡ pooled first_edition (server_a ++ server_w ++ Differ.serverD) Differ.three
-d_and_w_change_places = PoolInstances.of-another-order
+    pooled first_edition (server_a ++ Differ.server_d ++ server_w) Differ.three ≡ pooled first_edition (server_a ++ server_w ++ Differ.server_d) Differ.three
+d_and_w_change_places = PoolInstances.of_another_order

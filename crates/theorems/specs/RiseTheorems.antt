@@ -13,18 +13,21 @@ use Rattle.pages.specs.Entries.{entries}
 use Rattle.build.specs.Built.{SameButOrigins}
 use Rattle.build.specs.Build.{answer}
 use Rattle.rise.specs.Rise.{RiseHypothesis, HypothesisByTheLetter, RiseConclusion, TableRises}
-use Rattle.rise.specs.RiseProof.{demand_3, demand_3_by_the_letter}
-use Rattle.rise.specs.SameProof.{rises_itself, same_figures}
+use Rattle.rise.proofs.RiseProof.{demand_3, demand_3_by_the_letter}
+use Rattle.rise.specs.SameProof.{rises_itself}
+use Rattle.rise.proofs.SameProof.{same_figures}
 use Rattle.rise.specs.Preorder as Preorder
 use Rattle.rise.specs.PreorderProof as PreorderProof
+use Rattle.rise.proofs.PreorderProof as PreorderProofLaws
+use Rattle.rise.proofs.AroundProof as AroundProof
 use Rattle.rise.specs.Preorder.{SameRows}
 use Rattle.theorems.specs.Exported.{ExportsRise}
 use Rattle.theorems.specs.ExportedProof.{exports_rise}
 use Rattle.topology.specs.declared.TopologyError.TheVariants.{ThreadsPerUnit}
 use Rattle.pages.specs.Layout.{Entry}
 use Rattle.rise.specs.Added.{Added, Covered}
-use Rattle.rise.specs.BeginningLaws.{entries_begin}
-use Rattle.rise.specs.AddedProof.{added_same, added_rises}
+use Rattle.rise.proofs.BeginningLaws.{entries_begin}
+use Rattle.rise.proofs.AddedProof.{added_same, added_rises}
 use Rattle.examples.specs.AddedEntries as Spare
 use Rattle.page_sets.specs.Evaluation.{first_edition}
 use Rattle.page_sets.specs.PageSets.{server_a, server_b, server_w}
@@ -58,41 +61,41 @@ each_rises_to_itself = rises_itself
 -- and the moves compose: from A to B and from B to C is from A to C. So the hypothesis is a preorder of the accepted servers, and those that rise to
 -- each other have one table. crates/rise/specs/Preorder.antt. Servers W, A and B below meet both hypotheses.
 pub moves_compose : (chosen : Choices) (a b c : List ℕ) → RiseHypothesis chosen a b → RiseHypothesis chosen b c → RiseHypothesis chosen a c
-moves_compose = PreorderProof.rises-compose
+moves_compose = PreorderProofLaws.rises_compose
 
 -- round a ring of three servers every answer is the same except for origins. Server A with entries added, A, and A with a page added are such a ring
 -- (P9).
 pub around_a_ring : (chosen : Choices) (a b c : List ℕ) → RiseHypothesis chosen a b → RiseHypothesis chosen b c → RiseHypothesis chosen c a
     → SameButOrigins (answer chosen a) (answer chosen b) × SameButOrigins (answer chosen b) (answer chosen c)
-around_a_ring = PreorderProof.around-the-same
+around_a_ring = AroundProof.around_the_same
 
 -- of tables the same: each rises to itself, rises compose, and two rise to each other exactly where they have the same rows and mask
 pub tables_rise_to_themselves : (t : CpuidResults) → TableRises t t
-tables_rise_to_themselves = PreorderProof.table-rises-itself
+tables_rise_to_themselves = PreorderProof.table_rises_itself
 
 pub table_rises_compose : (t u v : CpuidResults) → TableRises t u → TableRises u v → TableRises t v
-table_rises_compose = PreorderProof.table-rises-compose
+table_rises_compose = PreorderProof.table_rises_compose
 
 pub both_ways_the_same_rows : (t u : CpuidResults) → (TableRises t u × TableRises u t) ↔ SameRows t u
-both_ways_the_same_rows t u = (λ p. PreorderProof.both-ways-same t u p.0 p.1, PreorderProof.same-both-ways t u)
+both_ways_the_same_rows t u = (λ p. PreorderProof.both_ways_same t u p.0 p.1, AroundProof.same_both_ways t u)
 
 -- "the same table" would be too much: of rows that are not there nothing is asked, so two tables without a row rise to each other whatever they hold
 -- there. Tables that building gives have zeros there, and are equal (`same_figures_both_ways`).
-pub absent_rows_are_free : (r s : CpuidResult) → TableRises (Preorder.withoutRows r) (Preorder.withoutRows s)
-absent_rows_are_free = PreorderProof.without-rows-rise
+pub absent_rows_are_free : (r s : CpuidResult) → TableRises (Preorder.without_rows r) (Preorder.without_rows s)
+absent_rows_are_free = PreorderProof.without_rows_rise
 
-pub absent_rows_may_differ : row_in (Preorder.withoutRows (cpuid_result 0 0 0 0)) 0 ≡ row_in (Preorder.withoutRows (cpuid_result 1 0 0 0)) 0 → ⊥
-absent_rows_may_differ = PreorderProof.and-differ
+pub absent_rows_may_differ : row_in (Preorder.without_rows (cpuid_result 0 0 0 0)) 0 ≡ row_in (Preorder.without_rows (cpuid_result 1 0 0 0)) 0 → ⊥
+absent_rows_may_differ = PreorderProof.and_differ
 
 -- Examples: servers W, A and B, with combined masks 3, 7 and 18E7h (`b_richer`), and the move from W to B. crates/examples/specs/Chain.antt
 pub w_to_a : RiseHypothesis first_edition server_w server_a
-w_to_a = Chain.w-to-a
+w_to_a = Chain.w_to_a
 
 pub w_mask : (answer first_edition server_w).table.max_extended_state ≡ 0x3
-w_mask = Chain.w-mask
+w_mask = Chain.w_mask
 
 pub w_to_b : RiseHypothesis first_edition server_w server_b
-w_to_b = moves_compose first_edition server_w server_a server_b Chain.w-to-a Computed.serverB-rises
+w_to_b = moves_compose first_edition server_w server_a server_b Chain.w_to_a Computed.server_b_rises
 
 -- ---- P9: added entries change no answer. crates/rise/specs/Added.antt has what it is to add entries, and which verdicts are covered.
 
@@ -110,18 +113,18 @@ pub added_entries_rise_both_ways : (chosen : Choices) (s u : List ℕ) → Added
 added_entries_rise_both_ways = added_rises
 
 -- Examples. crates/examples/specs/AddedEntries.antt: server A with three entries added on its last page, and with a page added
-pub a_with_entries : Added server_a Spare.withEntries × (answer first_edition Spare.withEntries ≡ answer first_edition server_a)
-a_with_entries = (Spare.entries-added, Spare.entries-same)
+pub a_with_entries : Added server_a Spare.with_entries × (answer first_edition Spare.with_entries ≡ answer first_edition server_a)
+a_with_entries = (Spare.entries_added, Spare.entries_same)
 
-pub a_with_a_page : Added server_a Spare.withPage × (answer first_edition Spare.withPage ≡ answer first_edition server_a)
-a_with_a_page = (Spare.page-added, Spare.page-same)
+pub a_with_a_page : Added server_a Spare.with_page × (answer first_edition Spare.with_page ≡ answer first_edition server_a)
+a_with_a_page = (Spare.page_added, Spare.page_same)
 
 -- refused by 8, and the same with an entry added
-pub threads_with_an_entry : ((answer first_edition Spare.twoThreads).verdict ≡ Refused (TopologyInconsistent ThreadsPerUnit))
-    × Added Spare.twoThreads Spare.oneThreadLater × (answer first_edition Spare.oneThreadLater ≡ answer first_edition Spare.twoThreads)
-threads_with_an_entry = (Spare.threads-refused, Spare.threads-added, Spare.threads-same)
+pub threads_with_an_entry : ((answer first_edition Spare.two_threads).verdict ≡ Refused (TopologyInconsistent ThreadsPerUnit))
+    × Added Spare.two_threads Spare.one_thread_later × (answer first_edition Spare.one_thread_later ≡ answer first_edition Spare.two_threads)
+threads_with_an_entry = (Spare.threads_refused, Spare.threads_added, Spare.threads_same_lem)
 
 -- 3 is not covered: server A without D.2 is refused, and server A is this with an entry added
-pub missing_leaf_arrives : ((answer first_edition Spare.withoutD2).verdict ≡ Refused (MissingRequiredResult ExtendedStateEnumeration (Some 2)))
-    × Added Spare.withoutD2 server_a × ((answer first_edition server_a).verdict ≡ Accepted)
-missing_leaf_arrives = (Spare.without-refused, Spare.without-added, Computed.serverA-accepted)
+pub missing_leaf_arrives : ((answer first_edition Spare.without_d2).verdict ≡ Refused (MissingRequiredResult ExtendedStateEnumeration (Some 2)))
+    × Added Spare.without_d2 server_a × ((answer first_edition server_a).verdict ≡ Accepted)
+missing_leaf_arrives = (Spare.without_refused, Spare.without_added, Computed.server_a_accepted)

@@ -10,18 +10,19 @@ use Rattle.topology.specs.declared.Topology.TheVariants.{Processors}
 use Rattle.topology.specs.Topology.{Inputs, inputs, topology_of, shift_of}
 use Rattle.topology.specs.TopologyLaws.{LeastShift, shift_least}
 use Rattle.topology.specs.ShiftChange.{HighestBit, ShiftChange}
-use Rattle.topology.specs.ShiftChangeProof.{shift_changes, three_and_128}
+use Rattle.topology.specs.ShiftChangeProof.{three_and_128}
+use Rattle.topology.proofs.ShiftChangeProof.{shift_changes}
 use Rattle.topologies.specs.Topologies.{accepted_inputs, inputs_bytes, write_topologies}
 use Rattle.topologies.specs.TopologyWriteLaws.{list_bytes_lem}
 use Rattle.topology_list.specs.Listed.{In, Determined, Counted as TopologiesCounted}
-use Rattle.topology_list.specs.ListedProof.{determined, counted as topologies-counted}
+use Rattle.topology_list.proofs.ListedProof.{determined, counted as topologies-counted}
 use Rattle.topology_list.specs.Builds.{BuildsListed, inputs_for}
-use Rattle.topology_list.specs.BuildsProof.{builds_listed}
+use Rattle.topology_list.proofs.BuildsProof.{builds_listed}
 use Rattle.topology_list.specs.Writes.{writes_exactly as topologies-write-exactly}
 use Rattle.examples.specs.TopologyExamples as Topologies
 use Rattle.build.specs.Build.{rows_for, answer}
 use Rattle.rise.specs.Levels.{AcceptedLevels}
-use Rattle.rise.specs.LevelsProof.{accepted_levels}
+use Rattle.rise.proofs.LevelsProof.{accepted_levels}
 use Rattle.buffer.specs.WritesExactly.{FrontExactly}
 use Rattle.topology.specs.declared.TopologyError.TheVariants.{ProcessorCount}
 use Rattle.page_sets.specs.Evaluation.{first_edition}
@@ -69,22 +70,22 @@ building_accepts_the_listed = builds_listed
 
 -- Examples: whole page sets with three processors and with 128, each with its inputs, which are listed, and its B.0 and B.1; nc = 255 with
 -- s = 0 is refused by 7 and not listed. crates/examples/specs/TopologyExamples.antt
-pub three_processors_listed : (inputs_for first_edition Topologies.threeProcessors ≡ inputs 0 2 3 1 1)
-    × ((answer first_edition Topologies.threeProcessors).verdict ≡ Accepted)
+pub three_processors_listed : (inputs_for first_edition Topologies.three_processors ≡ inputs 0 2 3 1 1)
+    × ((answer first_edition Topologies.three_processors).verdict ≡ Accepted)
     × In (inputs 0 2 3 1 1) accepted_inputs
-    × (Topologies.levelsOf Topologies.threeProcessors ≡ cpuid_result 1 2 0x100 0 ∷ cpuid_result 2 3 0x201 0 ∷ [])
-three_processors_listed = (Topologies.three-inputs, Topologies.three-accepted, Topologies.three-listed, Topologies.three-levels)
+    × (Topologies.levels_of Topologies.three_processors ≡ cpuid_result 1 2 0x100 0 ∷ cpuid_result 2 3 0x201 0 ∷ [])
+three_processors_listed = (Topologies.three_inputs, Topologies.three_accepted, Topologies.three_listed, Topologies.three_levels)
 
-pub largest_listed : (inputs_for first_edition Topologies.largestServer ≡ inputs 7 127 128 1 1)
-    × ((answer first_edition Topologies.largestServer).verdict ≡ Accepted)
+pub largest_listed : (inputs_for first_edition Topologies.largest_server ≡ inputs 7 127 128 1 1)
+    × ((answer first_edition Topologies.largest_server).verdict ≡ Accepted)
     × In (inputs 7 127 128 1 1) accepted_inputs
-    × (Topologies.levelsOf Topologies.largestServer ≡ cpuid_result 1 2 0x100 0 ∷ cpuid_result 7 128 0x201 0 ∷ [])
-largest_listed = (Topologies.largest-inputs, Topologies.largest-accepted, Topologies.largest-listed, Topologies.largest-levels)
+    × (Topologies.levels_of Topologies.largest_server ≡ cpuid_result 1 2 0x100 0 ∷ cpuid_result 7 128 0x201 0 ∷ [])
+largest_listed = (Topologies.largest_inputs, Topologies.largest_accepted, Topologies.largest_listed, Topologies.largest_levels)
 
-pub nc_255_not_listed : (inputs_for first_edition Topologies.wrappedServer ≡ inputs 0 255 0 1 0)
-    × ((answer first_edition Topologies.wrappedServer).verdict ≡ Refused (TopologyInconsistent (ProcessorCount 0)))
+pub nc_255_not_listed : (inputs_for first_edition Topologies.wrapped_server ≡ inputs 0 255 0 1 0)
+    × ((answer first_edition Topologies.wrapped_server).verdict ≡ Refused (TopologyInconsistent (ProcessorCount 0)))
     × (In (inputs 0 255 0 1 0) accepted_inputs → ⊥)
-nc_255_not_listed = (Topologies.wrapped-inputs, Topologies.wrapped-refused, Topologies.wrapped-unlisted)
+nc_255_not_listed = (Topologies.wrapped_inputs, Topologies.wrapped_refused, Topologies.wrapped_unlisted)
 
 -- of any accepted table, whatever s: B.0 and B.1 by the five inputs. v is 1, lps = nc + 1 or 2^s, EBX of B.1 is v and EAX the least k with 2^k at
 -- least v. crates/rise/specs/Levels.antt
@@ -93,5 +94,5 @@ pub any_levels : (chosen : Choices) (s : List ℕ) → (answer chosen s).verdict
 any_levels = accepted_levels
 
 -- an example with s = 8, beyond the list: 256 processors. crates/examples/specs/Chain.antt
-pub eight_levels : Chain.levelsOf (answer first_edition Chain.eight).table ≡ cpuid_result 0 1 0x100 0 ∷ cpuid_result 8 256 0x201 0 ∷ []
-eight_levels = Chain.eight-figures
+pub eight_levels : Chain.levels_of (answer first_edition Chain.eight).table ≡ cpuid_result 0 1 0x100 0 ∷ cpuid_result 8 256 0x201 0 ∷ []
+eight_levels = Chain.eight_figures

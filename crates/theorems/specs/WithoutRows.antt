@@ -29,14 +29,14 @@ use Rattle.memory.specs.Memory.{layout}
 use Rattle.memory.specs.Held.{held_in, cleared_held}
 use Rattle.build.specs.Build.{answer, origins_in, TableIn}
 use Rattle.build.specs.BuildLaws.{no_origins_lem}
-use Rattle.refusals.specs.ExactlyProof.{builds_exactly}
+use Rattle.refusals.proofs.ExactlyProof.{builds_exactly}
 use Rattle.sha256.specs.Sha256.{sha256}
 use Rattle.sha256.specs.Facts as Facts
 use Rattle.fingerprint.specs.Fingerprint.{fingerprint}
 use Rattle.lookup.specs.declared.LeafResult.{LeafResult}
 use Rattle.lookup.specs.declared.LeafResult.TheVariants.{None as Nothing}
 use Rattle.lookup.specs.Lookup.{lookup, lookup_origin, place_asked, found, with_origin}
-use Rattle.lookup.specs.LookupLaws.{lookup_at, empty_finds_nothing}
+use Rattle.lookup.proofs.LookupLaws.{lookup_at, empty_finds_nothing}
 use Rattle.buffer.specs.declared.Written.TheVariants.{Bytes}
 use Rattle.buffer.specs.Front.{write_front}
 use Rattle.image.specs.Image.{image_in, image}
@@ -47,7 +47,7 @@ use Rattle.kvm_export.specs.Export.{list_of, list_rows, rows_from}
 use Rattle.guest_state.specs.State.{compact_register, state_verdict}
 use Rattle.guest_state.specs.InUse.{read_rows, in_use, in_use_by}
 use Rattle.guest_rise.specs.StateExactly.{StateAnswers}
-use Rattle.guest_rise.specs.StateExactlyProof.{state_answers}
+use Rattle.guest_rise.proofs.StateExactlyProof.{state_answers}
 use Rattle.guest_rise.specs.StateExactly.StateAnswers.{beyond, large, given}
 use Rattle.guest.specs.declared.Processor.{Processor}
 use Rattle.guest.specs.Guest.{guest_answer, answer_for}
@@ -56,11 +56,11 @@ use Rattle.carry.specs.Carry.{carry, carry_verdict, own_rows}
 use Rattle.compare.specs.declared.search.RowsCompared.TheVariants.{Rises, NoRow, Beyond}
 use Rattle.compare.specs.RowsCompared.{further_test, rows_compared, compared_tables}
 use Rattle.images.specs.TableOrderProof as Order
-use Rattle.answers.specs.Answers.{countsOf, readWith, foundAt, foundGiven, foundNumbers, guestFoundNumbers, stateNumbers, writtenNumbers}
+use Rattle.answers.specs.Answers.{counts_of, read_with, found_at, found_given, found_numbers, guest_found_numbers, state_numbers, written_numbers}
 use Rattle.snp_cpuid.specs.GuestExports.{guest_numbers}
 use Rattle.page_sets.specs.Evaluation.{first_edition}
-use Rattle.letter.specs.VerdictProof.{verdict_by_figures}
-use Rattle.letter.specs.TableProof.{table_by_figures}
+use Rattle.letter.proofs.VerdictProof.{verdict_by_figures}
+use Rattle.letter.proofs.TableProof.{table_by_figures}
 
 -- the 352 registers and 88 origins of such a table
 abbrev pub no_registers : List ℕ
@@ -114,19 +114,19 @@ none_there i = go (ltb i places) refl
         let past : length (replicate places false) ≤ i = omega (arith, length-replicate places false, ltb-false i places e) in
         get_or-eq_default (replicate places false) false past
 
-pub no_rows_find_nothing : (leaf : ℕ) (subleaf : Subleaf) (enforce : Bool) → foundAt no_rows no_origins leaf subleaf enforce
+pub no_rows_find_nothing : (leaf : ℕ) (subleaf : Subleaf) (enforce : Bool) → found_at no_rows no_origins leaf subleaf enforce
     ≡ record { found = 0; eax = 0; ebx = 0; ecx = 0; edx = 0; origin = 0; page = 0; entry = 0 }
 no_rows_find_nothing leaf subleaf enforce =
-    ap (λ (t : CpuidResults). foundAt t no_origins leaf subleaf enforce) cleared_held
-    ∙ ap (λ (x : LeafResult). foundGiven x (lookup_origin no_origins (function leaf) subleaf enforce)) (empty_finds_nothing (function leaf) subleaf enforce)
+    ap (λ (t : CpuidResults). found_at t no_origins leaf subleaf enforce) cleared_held
+    ∙ ap (λ (x : LeafResult). found_given x (lookup_origin no_origins (function leaf) subleaf enforce)) (empty_finds_nothing (function leaf) subleaf enforce)
 
 -- nor with a size that a caller kept
 pub no_rows_find_nothing_kept : (v : Processor) (size leaf : ℕ) (subleaf : Subleaf) (enforce : Bool)
-    → foundNumbers (found (table_with no_rows v size) no_origins (function leaf) subleaf enforce)
+    → found_numbers (found (table_with no_rows v size) no_origins (function leaf) subleaf enforce)
     ≡ record { found = 0; eax = 0; ebx = 0; ecx = 0; edx = 0; origin = 0; page = 0; entry = 0 }
 no_rows_find_nothing_kept v size leaf subleaf enforce =
-    ap (λ (t : CpuidResults). foundNumbers (found (table_with t v size) no_origins (function leaf) subleaf enforce)) cleared_held
-    ∙ ap (λ (x : LeafResult). foundNumbers (with_origin x (lookup_origin no_origins (function leaf) subleaf enforce))) none
+    ap (λ (t : CpuidResults). found_numbers (found (table_with t v size) no_origins (function leaf) subleaf enforce)) cleared_held
+    ∙ ap (λ (x : LeafResult). found_numbers (with_origin x (lookup_origin no_origins (function leaf) subleaf enforce))) none
   where
     none : lookup (table_with empty_table v size) (function leaf) subleaf enforce ≡ Nothing
     none =
@@ -146,19 +146,19 @@ state_refused m x s e = go (state_answers m x s)
     go (large h f q) = absurd (omega (arith, h.x87, h.user.at 0, none))
     go (given h f q) = absurd (omega (arith, h.x87, h.user.at 0, none))
 
-pub no_rows_give_no_state : (xcr0 xss : ℕ) → stateNumbers (in_use (read_rows false no_registers no_origins) xcr0 xss) ≡ record { number = 13; size = 0 }
+pub no_rows_give_no_state : (xcr0 xss : ℕ) → state_numbers (in_use (read_rows false no_registers no_origins) xcr0 xss) ≡ record { number = 13; size = 0 }
 unfolding in_use xfem
 no_rows_give_no_state xcr0 xss =
     let m : Rows = read_rows false no_registers no_origins in
-    ap (λ (w : Verdict). stateNumbers (in_use_by w (compact_register m xcr0 xss))) (state_refused m xcr0 xss refl)
+    ap (λ (w : Verdict). state_numbers (in_use_by w (compact_register m xcr0 xss))) (state_refused m xcr0 xss refl)
 
 pub no_rows_for_a_guest : (v : Processor) (leaf : ℕ) (subleaf : Subleaf) (enforce : Bool)
-    → guestFoundNumbers (found_in (guest_answer no_rows v) no_origins (function leaf) subleaf enforce)
+    → guest_found_numbers (found_in (guest_answer no_rows v) no_origins (function leaf) subleaf enforce)
     ≡ record { number = 13; found = 0; eax = 0; ebx = 0; ecx = 0; edx = 0; origin = 0; page = 0; entry = 0 }
 unfolding guest_answer xfem
 no_rows_for_a_guest v leaf subleaf enforce =
-    ap (λ (t : CpuidResults). guestFoundNumbers (found_in (guest_answer t v) no_origins (function leaf) subleaf enforce)) cleared_held
-    ∙ ap (λ (w : Verdict). guestFoundNumbers (found_in (answer_for w empty_table v) no_origins (function leaf) subleaf enforce))
+    ap (λ (t : CpuidResults). guest_found_numbers (found_in (guest_answer t v) no_origins (function leaf) subleaf enforce)) cleared_held
+    ∙ ap (λ (w : Verdict). guest_found_numbers (found_in (answer_for w empty_table v) no_origins (function leaf) subleaf enforce))
     (state_refused (rows_of_table empty_table) v.xcr0 v.xss refl)
 
 pub no_rows_become_no_view : (v : Processor) → guest_numbers (guest_answer no_rows v)
@@ -182,7 +182,7 @@ unfolding fingerprint
 no_rows_fingerprint = ap sha256 image_empty ∙ Facts.empty
 
 pub no_rows_write_no_bytes : (buffer : List ℕ)
-    → (writtenNumbers (write_front (image no_rows) buffer).answer ≡ record { number = 0; leaf = 0; has_subleaf = 0; subleaf = 0; s = 0; length = 0 })
+    → (written_numbers (write_front (image no_rows) buffer).answer ≡ record { number = 0; leaf = 0; has_subleaf = 0; subleaf = 0; s = 0; length = 0 })
     × ((write_front (image no_rows) buffer).buffer ≡ buffer)
 unfolding write_front
 no_rows_write_no_bytes buffer = rw (image_empty, le-leb 0 (length buffer) (omega arith)) (refl, refl)
@@ -202,10 +202,10 @@ no_rows_listed buffer l = rw (list_empty, le-leb 8 (length buffer) l) refl
 
 -- ---- the rest: no rows and mask 0; no bytes are its image; carrying is refused by 13 where the editions are lawful
 
-pub no_rows_counted : countsOf no_rows ≡ record { row_count = 0; max_extended_state = 0 }
-no_rows_counted = ap countsOf cleared_held
+pub no_rows_counted : counts_of no_rows ≡ record { row_count = 0; max_extended_state = 0 }
+no_rows_counted = ap counts_of cleared_held
 
-pub no_bytes_read : readWith (read_image []).is_image (read_image []).table ≡ record { is_image = 1; row_count = 0; max_extended_state = 0 }
+pub no_bytes_read : read_with (read_image []).is_image (read_image []).table ≡ record { is_image = 1; row_count = 0; max_extended_state = 0 }
 unfolding read_image is_image left after_row row_read begins opens tabulate count_rows sum_to combined_mask xfem xss slot kept_leaves has bit
 no_bytes_read = refl
 
@@ -230,7 +230,7 @@ pub no_rows_compared : (chosen : Choices) (s : List ℕ) → (answer chosen s).v
     × (compared_tables (answer chosen s).table no_rows ≡ NoRow (function 0) None)
 unfolding compared_tables rows_compared lowest further_test slot kept_leaves
 no_rows_compared chosen s e = (
-  Order.compared-itself no_rows,
+  Order.compared_itself no_rows,
   ap₂ compared_tables cleared_held (table_by_figures chosen s e),
   ap₂ compared_tables (table_by_figures chosen s e) cleared_held,
 )

@@ -1,5 +1,7 @@
 // Every lawful topology up to size seven: writes all inputs that the topology accepts into a lent buffer, five bytes each. Refusal 9 leaves the
 // buffer as it was.
+#![tactic(auto)]
+
 ghost use Rattle.std.specs.Prelude.{◌≡◌, ◌+◌, ◌*◌, ◌≤◌, ◌<◌, length};
 ghost use Rattle.topologies.specs.Topologies.{accepted_at, accepted_of, accepted_inputs, write_topologies};
 ghost use Rattle.topologies.specs.ShortLaws.{single, counted};

@@ -27,11 +27,11 @@ double p = pow-suc 2 p
 lower : (j p : ℕ) → j < p → 2 ^ j < 2 ^ p
 lower j p l = let up : 2 ^ suc j ≤ 2 ^ p = pow_mono l in omega (arith, double j, pow_pos j)
 
-shift_of_power : (v p : ℕ) → 0 < v → v ≤ 2 ^ 32 → v ≡ 2 ^ p → shift_of v ≡ p
+pub shift_of_power : (v p : ℕ) → 0 < v → v ≤ 2 ^ 32 → v ≡ 2 ^ p → shift_of v ≡ p
 shift_of_power v p z h e =
     least_one v (shift_of v) p (shift_least v z h) (record { reaches = omega arith; least = λ j l. omega (arith, lower j p l) })
 
-shift_of_other : (v p : ℕ) → 0 < v → v ≤ 2 ^ 32 → HighestBit v p → v ≢ 2 ^ p → shift_of v ≡ suc p
+pub shift_of_other : (v p : ℕ) → 0 < v → v ≤ 2 ^ 32 → HighestBit v p → v ≢ 2 ^ p → shift_of v ≡ suc p
 shift_of_other v p z h b n =
     let over : 2 ^ p < v = omega (arith, b.low, n) in
     least_one v (shift_of v) (suc p) (shift_least v z h)
@@ -63,7 +63,7 @@ power_place s p b = go (ltb s p) (ltb p s) refl refl
         let q : s ≡ p = omega (arith, ltb-false s p e, ltb-false p s f) in
         ap (λ (n : ℕ). 2 ^ n) q
 
-no_power : (i : Inputs) (v p : ℕ) → topology_of i ≡ Processors v → HighestBit v p → v ≢ 2 ^ p → Legacy i v
+pub no_power : (i : Inputs) (v p : ℕ) → topology_of i ≡ Processors v → HighestBit v p → v ≢ 2 ^ p → Legacy i v
 unfolding topology_of
 no_power i v p e b n =
     go (eqb i.s 0) (eqb i.mt 0) (eqb i.nc 0 && leb i.lps 1) (eqb i.lps (i.nc + 1)) (ltb i.s 8)
@@ -91,24 +91,6 @@ no_power i v p e b n =
     go false m c d true true false x y q = refused q
     go false m c d true false h x y q = refused q
     go false m c d false g h x y q = never (threads_said (2 ^ i.s) i.t v q)
-
--- ---- the statement
-
-pub shift_changes : (i : Inputs) (v p : ℕ) → i.lps < 256 → i.s < 16 → topology_of i ≡ Processors v → HighestBit v p → ShiftChange i v p
-shift_changes i v p l s e b = go (eqb v (2 ^ p)) refl
-  where
-    some : 0 < v
-    some = omega (arith, b.low, pow_pos p)
-
-    fits : v ≤ 2 ^ 32
-    fits = omega (arith, processors_fit i l s, ap processors e)
-
-    go : (x : Bool) → eqb v (2 ^ p) ≡ x → ShiftChange i v p
-    go true f = same (eqb-true _ _ f) (shift_of_power v p some fits (eqb-true _ _ f))
-    go false f =
-        let n : v ≢ 2 ^ p = eqb-false _ _ f in
-        let q : Legacy i v = no_power i v p e b n in
-        more q.size q.threads q.count n (shift_of_other v p some fits b n)
 
 pub three_and_128 : shift_of 3 ∷ shift_of 128 ∷ [] ≡ 2 ∷ 7 ∷ []
 unfolding shift_of least_power

@@ -1,6 +1,6 @@
 -- Laws of the topology: one for each return of the code, the shift by leading zeros, and a power of two by a shift.
 use Rattle.std.specs.Prelude.{◌≡◌, refl, Bool, true, false, ◌&&◌, ◌||◌, ◌≢◌, ℕ, zero, suc, ◌+◌, ◌-◌, ◌*◌, ◌%◌, ◌^◌, ◌≤◌, ◌<◌, eqb, ltb, leb}
-use Rattle.std.proofs.Common.{sym, ap, ◌∙◌, subst, inl, inr, eq-or-lt_of_le, one-mul, pow-suc, arith, lit<, pow_mono, shl_exact}
+use Rattle.std.proofs.Common.{sym, ◌∙◌, subst, inl, inr, eq-or-lt_of_le, one-mul, pow-suc, arith, lit<, pow_mono, shl_exact}
 use Rattle.std.specs.Int.Count.{count_leading_zeros}
 use Rattle.std.proofs.lemmas.Nat.{leading_length}
 use Rattle.bits.specs.Choice.{pick}

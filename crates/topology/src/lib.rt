@@ -1,12 +1,14 @@
 // The processor topology: from five numbers of the masked rows the number of processors, or what is inconsistent; from that number the two rows of
 // leaf Bh.
+#![tactic(auto)]
+
 ghost use Rattle.std.specs.Prelude.{◌≡◌, ◌&&◌, ◌+◌, ◌<◌, eqb, leb};
 ghost use Rattle.topology.specs.Topology.{inputs, threads_in, topology_of, shift_of, thread_level, core_level};
 
 use x86defs::CpuidResult;
 
 // The source's reasons, with the size of the core part of an APIC number (s) where it names one.
-#[derive(Drop)]
+#[derive(Clone, Copy)]
 pub enum TopologyError {
     Hyperthreading(u8),
     ProcessorCount(u8),
@@ -14,7 +16,7 @@ pub enum TopologyError {
 }
 
 // The number of logical processors in a socket (v), or a reason to refuse.
-#[derive(Drop)]
+#[derive(Clone, Copy)]
 pub enum Topology {
     Processors(u32),
     Inconsistent(TopologyError),

@@ -35,8 +35,8 @@ before_topology chosen s =
 pub record Levels (i : Inputs) (t : CpuidResults) : Type 0 where
   pub v : ℕ
   pub processors : topology_of i ≡ Processors v
-  pub threads : row_in t Place.threadLevel ≡ row (thread_level i.t)
-  pub cores : row_in t Place.coreLevel ≡ row (core_level v)
+  pub threads : row_in t Place.thread_level ≡ row (thread_level i.t)
+  pub cores : row_in t Place.core_level ≡ row (core_level v)
 
 pub record BuildsListed (chosen : Choices) (s : List ℕ) : Type 0 where
   -- with s up to 7: accepted if and only if no check before refuses and the inputs are listed

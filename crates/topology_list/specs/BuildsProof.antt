@@ -27,77 +27,27 @@ use Rattle.rise.specs.RiseProof.{answer_row}
 use Rattle.rise.specs.BuiltLaws.{always_finished}
 use Rattle.topologies.specs.Topologies.{consistent, accepts, accepted_inputs}
 use Rattle.topology_list.specs.Listed.{In, FieldsFit}
-use Rattle.topology_list.specs.ListedProof.{determined}
 use Rattle.topology_list.specs.Builds.{inputs_for, before_topology, Levels, BuildsListed}
 
 -- ---- the topology's check is the list's
 
-fits : (m : Rows) → (inputs_of m).s < 8 → FieldsFit (inputs_of m)
+pub fits : (m : Rows) → (inputs_of m).s < 8 → FieldsFit (inputs_of m)
 unfolding inputs_of
 fits m h = record { s = omega arith; nc = field_lt 0 8 _; lps = field_lt 16 8 _; mt = bit_lt _ _; t = field_lt 8 8 _ }
 
-verdict_accepts : (o : Topology) → topology_refusal o ≡ Accepted → consistent o ≡ true
+pub verdict_accepts : (o : Topology) → topology_refusal o ≡ Accepted → consistent o ≡ true
 verdict_accepts (Processors v) e = refl
 verdict_accepts (Inconsistent x) e = cc
 
-accepts_verdict : (o : Topology) → consistent o ≡ true → topology_refusal o ≡ Accepted
+pub accepts_verdict : (o : Topology) → consistent o ≡ true → topology_refusal o ≡ Accepted
 accepts_verdict (Processors v) e = refl
 accepts_verdict (Inconsistent x) e = absurd (false≢true e)
 
 -- v, where there is one
-given : (o : Topology) → consistent o ≡ true → o ≡ Processors (processors o)
+pub given : (o : Topology) → consistent o ≡ true → o ≡ Processors (processors o)
 given (Processors v) e = refl
 given (Inconsistent x) e = absurd (false≢true e)
 
-then_joins : (a b c : Verdict) → and_then (and_then a b) c ≡ and_then a (and_then b c)
+pub then_joins : (a b c : Verdict) → and_then (and_then a b) c ≡ and_then a (and_then b c)
 then_joins Accepted b c = refl
 then_joins (Refused r) b c = refl
-
-module _ (chosen : Choices) (s : List ℕ) where
-  in_order_lem : (answer chosen s).verdict ≡ and_then (before_topology chosen s) (topology_verdict (rows_for chosen s))
-  unfolding answer verdict_of rows_verdict
-  in_order_lem = sym (simp then_joins)
-
-  passed : topology_verdict (rows_for chosen s) ≡ Accepted → accepts (inputs_for chosen s) ≡ true
-  unfolding topology_verdict accepts
-  passed e = verdict_accepts (topology_of (inputs_for chosen s)) e
-
-  passes : accepts (inputs_for chosen s) ≡ true → topology_verdict (rows_for chosen s) ≡ Accepted
-  unfolding topology_verdict accepts
-  passes e = accepts_verdict (topology_of (inputs_for chosen s)) e
-
-  -- a row of a required leaf, which is there
-  required_row : (e : (answer chosen s).verdict ≡ Accepted) (i : ℕ) → i < places → always (rule_at i) ≡ true
-      → row_in (answer chosen s).table i ≡ row (finish (settings chosen.edition (rows_for chosen s)) (rule_at i) (rows_for chosen s i).result)
-  unfolding finished
-  required_row e i l a =
-      answer_row chosen s e i l
-      ∙ pick_true _ _ (sym (finished_present chosen.edition (rows_for chosen s) i) ∙ always_finished chosen s e i l a)
-
-  levels : (answer chosen s).verdict ≡ Accepted → In (inputs_for chosen s) accepted_inputs → Levels (inputs_for chosen s) (answer chosen s).table
-  unfolding accepts settings
-  levels e p = record {
-    v = processors (topology_of (inputs_for chosen s));
-    processors = given (topology_of (inputs_for chosen s)) (determined.has.no_other (inputs_for chosen s) p).1;
-    threads = required_row e Place.threadLevel (lit< tt) refl;
-    cores = required_row e Place.coreLevel (lit< tt) refl;
-  }
-
-  last : In (inputs_for chosen s) accepted_inputs → (answer chosen s).verdict ≡ before_topology chosen s
-  last p =
-      in_order_lem
-      ∙ ap (and_then (before_topology chosen s)) (passes (determined.has.no_other (inputs_for chosen s) p).1)
-      ∙ then_accepted (before_topology chosen s)
-
-  pub builds_listed : BuildsListed chosen s
-  builds_listed = record {
-    accepted = λ h. (
-      λ e.
-          let both = sym in_order_lem ∙ e in
-          let listed = determined.has.each (inputs_for chosen s) (fits (rows_for chosen s) h) in
-          (then_left (before_topology chosen s) _ both, listed (passed (then_right (before_topology chosen s) _ both))),
-      λ p. last p.1 ∙ p.0,
-    );
-    passes = last;
-    levels = levels;
-  }

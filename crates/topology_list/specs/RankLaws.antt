@@ -9,7 +9,7 @@ use Rattle.topology_list.specs.Listed.InputsBefore.{by_s, by_nc, by_lps, by_mt, 
 unfoldable pub inputs_rank : Inputs → ℕ
 inputs_rank i = (((i.s * 256 + i.nc) * 256 + i.lps) * 2 + i.mt) * 256 + i.t
 
-before_rank : (i j : Inputs) → FieldsFit i → FieldsFit j → InputsBefore i j → inputs_rank i < inputs_rank j
+pub before_rank : (i j : Inputs) → FieldsFit i → FieldsFit j → InputsBefore i j → inputs_rank i < inputs_rank j
 unfolding inputs_rank
 before_rank i j f g (by_s a) = omega (arith, f.nc, f.lps, f.mt, f.t)
 before_rank i j f g (by_nc a b) = omega (arith, f.lps, f.mt, f.t)
@@ -17,7 +17,7 @@ before_rank i j f g (by_lps a b c) = omega (arith, f.mt, f.t)
 before_rank i j f g (by_mt a b c d) = omega (arith, f.t)
 before_rank i j f g (by_t a b c d e) = omega arith
 
-rank_before : (i j : Inputs) → FieldsFit i → FieldsFit j → inputs_rank i < inputs_rank j → InputsBefore i j
+pub rank_before : (i j : Inputs) → FieldsFit i → FieldsFit j → inputs_rank i < inputs_rank j → InputsBefore i j
 unfolding inputs_rank
 rank_before i j f g h = elim (eq-or-lt_of_le {n = i.s} {m = j.s} (omega (arith, f.nc, f.lps, f.mt, f.t, g.nc, g.lps, g.mt, g.t))) [
   | inr q ↦ by_s q
@@ -37,26 +37,6 @@ rank_before i j f g h = elim (eq-or-lt_of_le {n = i.s} {m = j.s} (omega (arith, 
 abbrev pub InputsRise : List Inputs → Type 0
 InputsRise [] = Unit
 InputsRise (i ∷ is) = ((x : Inputs) → In x is → inputs_rank i < inputs_rank x) × InputsRise is
-
--- ---- rising by inputs_rank is to ascend
-
-pub ascending_rises : (l : List Inputs) → ((i : Inputs) → In i l → FieldsFit i) → Ascending InputsBefore l → InputsRise l
-ascending_rises [] f a = tt
-ascending_rises (i ∷ is) f a = (below i is (f i (inl refl)) (λ x p. f x (inr p)) a.0, ascending_rises is (λ x p. f x (inr p)) a.1)
-  where
-    below : (i : Inputs) (is : List Inputs) → FieldsFit i → ((x : Inputs) → In x is → FieldsFit x) → BeforeAll InputsBefore i is → (x : Inputs) → In x is → inputs_rank i < inputs_rank x
-    below i [] f g b x p = absurd p
-    below i (j ∷ js) f g b x (inl e) = rw e (before_rank i j f (g j (inl refl)) b.0)
-    below i (j ∷ js) f g b x (inr p) = below i js f (λ y q. g y (inr q)) b.1 x p
-
-pub rising_ascends : (l : List Inputs) → ((i : Inputs) → In i l → FieldsFit i) → InputsRise l → Ascending InputsBefore l
-rising_ascends [] f a = tt
-rising_ascends (i ∷ is) f a = (all i is (f i (inl refl)) (λ x p. f x (inr p)) a.0, rising_ascends is (λ x p. f x (inr p)) a.1)
-  where
-    all : (i : Inputs) (is : List Inputs) → FieldsFit i → ((x : Inputs) → In x is → FieldsFit x) → ((x : Inputs) → In x is → inputs_rank i < inputs_rank x)
-        → BeforeAll InputsBefore i is
-    all i [] f g h = tt
-    all i (j ∷ js) f g h = (rank_before i j f (g j (inl refl)) (h j (inl refl)), all i js f (λ x p. g x (inr p)) (λ x p. h x (inr p)))
 
 -- ---- two rising lists with the same members are one
 

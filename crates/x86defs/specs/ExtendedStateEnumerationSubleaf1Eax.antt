@@ -2,14 +2,14 @@
 use Rattle.std.specs.Prelude.{List, [], ◌∷◌, ℕ}
 
 pub data ExtendedStateEnumerationSubleaf1Eax : Type 0 where
-  xsave-opt xsave-c xsave-s : ExtendedStateEnumerationSubleaf1Eax
+  xsave_opt xsave_c xsave_s : ExtendedStateEnumerationSubleaf1Eax
 
 -- the bit of each name
 abbrev pub position : ExtendedStateEnumerationSubleaf1Eax → ℕ
-position xsave-opt = 0
-position xsave-c = 1
-position xsave-s = 3
+position xsave_opt = 0
+position xsave_c = 1
+position xsave_s = 3
 
 -- kept by masking.rs
 abbrev pub kept : List ExtendedStateEnumerationSubleaf1Eax
-kept = xsave-opt ∷ xsave-c ∷ xsave-s ∷ []
+kept = xsave_opt ∷ xsave_c ∷ xsave_s ∷ []

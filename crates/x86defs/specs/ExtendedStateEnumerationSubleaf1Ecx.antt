@@ -2,13 +2,13 @@
 use Rattle.std.specs.Prelude.{List, [], ◌∷◌, ℕ}
 
 pub data ExtendedStateEnumerationSubleaf1Ecx : Type 0 where
-  cet-u cet-s : ExtendedStateEnumerationSubleaf1Ecx
+  cet_u cet_s : ExtendedStateEnumerationSubleaf1Ecx
 
 -- the bit of each name
 abbrev pub position : ExtendedStateEnumerationSubleaf1Ecx → ℕ
-position cet-u = 11
-position cet-s = 12
+position cet_u = 11
+position cet_s = 12
 
 -- kept by masking.rs
 abbrev pub kept : List ExtendedStateEnumerationSubleaf1Ecx
-kept = cet-u ∷ cet-s ∷ []
+kept = cet_u ∷ cet_s ∷ []

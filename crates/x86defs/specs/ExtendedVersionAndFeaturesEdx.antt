@@ -2,8 +2,8 @@
 use Rattle.std.specs.Prelude.{List, [], ◌∷◌, ℕ}
 
 pub data ExtendedVersionAndFeaturesEdx : Type 0 where
-  fpu vme de pse tsc msr pae mce cx8 apic syscall mtrr pge mca cmov pat pse36 no-execute amd-mmx mmx fxsr : ExtendedVersionAndFeaturesEdx
-  fast-fxsr page-1gb rdtscp long-mode extended3d-now amd3d-now : ExtendedVersionAndFeaturesEdx
+  fpu vme de pse tsc msr pae mce cx8 apic syscall mtrr pge mca cmov pat pse36 no_execute amd_mmx mmx fxsr : ExtendedVersionAndFeaturesEdx
+  fast_fxsr page_1gb rdtscp long_mode extended3d_now amd3d_now : ExtendedVersionAndFeaturesEdx
 
 -- the bit of each name
 abbrev pub position : ExtendedVersionAndFeaturesEdx → ℕ
@@ -24,23 +24,23 @@ position mca = 14
 position cmov = 15
 position pat = 16
 position pse36 = 17
-position no-execute = 20
-position amd-mmx = 22
+position no_execute = 20
+position amd_mmx = 22
 position mmx = 23
 position fxsr = 24
-position fast-fxsr = 25
-position page-1gb = 26
+position fast_fxsr = 25
+position page_1gb = 26
 position rdtscp = 27
-position long-mode = 29
-position extended3d-now = 30
-position amd3d-now = 31
+position long_mode = 29
+position extended3d_now = 30
+position amd3d_now = 31
 
 -- kept by masking.rs
 abbrev pub kept : List ExtendedVersionAndFeaturesEdx
 kept =
     fpu ∷ vme ∷ de ∷ pse ∷ tsc ∷ msr ∷ pae ∷ mce ∷ cx8 ∷ apic ∷ syscall ∷ mtrr ∷ pge ∷ mca ∷ cmov ∷ pat ∷ pse36
-    ∷ no-execute ∷ amd-mmx ∷ mmx ∷ fxsr ∷ page-1gb ∷ rdtscp ∷ long-mode ∷ extended3d-now ∷ amd3d-now ∷ []
+    ∷ no_execute ∷ amd_mmx ∷ mmx ∷ fxsr ∷ page_1gb ∷ rdtscp ∷ long_mode ∷ extended3d_now ∷ amd3d_now ∷ []
 
 -- kept by snp.rs besides
 abbrev pub kept_by_snp : List ExtendedVersionAndFeaturesEdx
-kept_by_snp = fast-fxsr ∷ []
+kept_by_snp = fast_fxsr ∷ []

@@ -12,52 +12,52 @@ bits s w = record { shift = s; width = w }
 
 pub data Field : Type 0 where
   -- 1.EAX and 80000001h.EAX
-  processor-stepping processor-model processor-family processor-type extended-model extended-family : Field
+  processor_stepping processor_model processor_family processor_type extended_model extended_family : Field
   -- 1.EBX
-  brand-index clflush-line-size lps-per-package initial-apic-id : Field
+  brand_index clflush_line_size lps_per_package initial_apic_id : Field
   -- 80000001h.EBX
-  brand-id pkg-type : Field
+  brand_id pkg_type : Field
   -- 80000008h.EAX, ECX, EDX
-  physical-address-size virtual-address-size : Field
-  nc apic-core-id-size : Field
-  invlpgb-count-max rdpru-max-ecx : Field
+  physical_address_size virtual_address_size : Field
+  nc apic_core_id_size : Field
+  invlpgb_count_max rdpru_max_ecx : Field
   -- 8000000Ah.EAX
   svm_rev : Field
   -- 8000001Eh.EBX
   threads_per_compute_unit : Field
   -- 8000001Fh.EBX
-  cbit-position encryption-physical-bits-used number-of-vmpls : Field
+  cbit_position encryption_physical_bits_used number_of_vmpls : Field
   -- B.0 and B.1: EAX, EBX, ECX
-  x2-apic-shift num-lps level-number level-type : Field
+  x2_apic_shift num_lps level_number level_type : Field
 
 abbrev pub span : Field → FieldBits
-span processor-stepping = bits 0 4
-span processor-model = bits 4 4
-span processor-family = bits 8 4
-span processor-type = bits 12 2
-span extended-model = bits 16 4
-span extended-family = bits 20 8
-span brand-index = bits 0 8
-span clflush-line-size = bits 8 8
-span lps-per-package = bits 16 8
-span initial-apic-id = bits 24 8
-span brand-id = bits 0 16
-span pkg-type = bits 28 4
-span physical-address-size = bits 0 8
-span virtual-address-size = bits 8 8
+span processor_stepping = bits 0 4
+span processor_model = bits 4 4
+span processor_family = bits 8 4
+span processor_type = bits 12 2
+span extended_model = bits 16 4
+span extended_family = bits 20 8
+span brand_index = bits 0 8
+span clflush_line_size = bits 8 8
+span lps_per_package = bits 16 8
+span initial_apic_id = bits 24 8
+span brand_id = bits 0 16
+span pkg_type = bits 28 4
+span physical_address_size = bits 0 8
+span virtual_address_size = bits 8 8
 span nc = bits 0 8
-span apic-core-id-size = bits 12 4
-span invlpgb-count-max = bits 0 16
-span rdpru-max-ecx = bits 16 16
+span apic_core_id_size = bits 12 4
+span invlpgb_count_max = bits 0 16
+span rdpru_max_ecx = bits 16 16
 span svm_rev = bits 0 8
 span threads_per_compute_unit = bits 8 8
-span cbit-position = bits 0 6
-span encryption-physical-bits-used = bits 6 6
-span number-of-vmpls = bits 12 4
-span x2-apic-shift = bits 0 5
-span num-lps = bits 0 16
-span level-number = bits 0 8
-span level-type = bits 8 8
+span cbit_position = bits 0 6
+span encryption_physical_bits_used = bits 6 6
+span number_of_vmpls = bits 12 4
+span x2_apic_shift = bits 0 5
+span num_lps = bits 0 16
+span level_number = bits 0 8
+span level_type = bits 8 8
 
 -- a field of a register
 abbrev pub cut : Field → ℕ → ℕ

@@ -1,25 +1,27 @@
 // What the architecture's manuals name: leaf numbers, and the fields and bits of each register, each with the function that reads it.
+#![tactic(auto)]
+
 ghost use Rattle.std.specs.Prelude.{◌≡◌, ◌<◌};
 ghost use Rattle.bits.specs.Bits.{bit, has};
 ghost use Rattle.x86defs.specs.Fields.{cut};
-ghost use Rattle.x86defs.specs.Fields.Field.{nc, apic-core-id-size, lps-per-package, threads_per_compute_unit};
+ghost use Rattle.x86defs.specs.Fields.Field.{nc, apic_core_id_size, lps_per_package, threads_per_compute_unit};
 ghost use Rattle.x86defs.specs.VersionAndFeaturesEdx;
-ghost use Rattle.x86defs.specs.VersionAndFeaturesEdx.VersionAndFeaturesEdx.{mt-per-socket};
+ghost use Rattle.x86defs.specs.VersionAndFeaturesEdx.VersionAndFeaturesEdx.{mt_per_socket};
 ghost use Rattle.x86defs.specs.ExtendedAddressSpaceSizesEbx;
 ghost use Rattle.x86defs.specs.ExtendedAddressSpaceSizesEbx.ExtendedAddressSpaceSizesEbx.{invlpgb, ibpb};
 ghost use Rattle.x86defs.specs.ExtendedStateEnumerationSubleaf1Eax;
-ghost use Rattle.x86defs.specs.ExtendedStateEnumerationSubleaf1Eax.ExtendedStateEnumerationSubleaf1Eax.{xsave-c, xsave-s};
+ghost use Rattle.x86defs.specs.ExtendedStateEnumerationSubleaf1Eax.ExtendedStateEnumerationSubleaf1Eax.{xsave_c, xsave_s};
 ghost use Rattle.x86defs.specs.ExtendedSevFeaturesEax;
-ghost use Rattle.x86defs.specs.ExtendedSevFeaturesEax.ExtendedSevFeaturesEax.{tsc-aux-virtualization};
+ghost use Rattle.x86defs.specs.ExtendedSevFeaturesEax.ExtendedSevFeaturesEax.{tsc_aux_virtualization};
 
 pub mod leaf;
 
 // A leaf, the value of EAX going in. A subleaf is a plain u32, so one is never taken for the other.
-#[derive(Drop)]
+#[derive(Clone, Copy)]
 pub struct CpuidFunction(pub u32);
 
 // The four registers that come out.
-#[derive(Drop)]
+#[derive(Clone, Copy)]
 pub struct CpuidResult {
     pub eax: u32,
     pub ebx: u32,
@@ -39,7 +41,7 @@ pub fn nc(ecx: u32) -> u32
 
 // 80000008h.ECX: how many bits of an APIC number tell the threads of a package apart; 0 where the older fields say it.
 pub fn apic_core_id_size(ecx: u32) -> u32
-    ensures value { result ≡ cut apic-core-id-size ecx }
+    ensures value { result ≡ cut apic_core_id_size ecx }
     ensures small { result < 16 }
 {
     (ecx >> 12) & 0xF
@@ -47,7 +49,7 @@ pub fn apic_core_id_size(ecx: u32) -> u32
 
 // 1.EBX: the number of logical processors in the package.
 pub fn lps_per_package(ebx: u32) -> u32
-    ensures value { result ≡ cut lps-per-package ebx }
+    ensures value { result ≡ cut lps_per_package ebx }
     ensures small { result < 256 }
 {
     (ebx >> 16) & 0xFF
@@ -63,7 +65,7 @@ pub fn threads_per_compute_unit(ebx: u32) -> u32
 
 // 1.EDX: 1 where the package has several threads, by the bit that the APM calls HTT.
 pub fn mt_per_socket(edx: u32) -> u32
-    ensures value { result ≡ bit (VersionAndFeaturesEdx.position mt-per-socket) edx }
+    ensures value { result ≡ bit (VersionAndFeaturesEdx.position mt_per_socket) edx }
     ensures small { result < 2 }
 {
     (edx >> 28) & 1
@@ -87,21 +89,21 @@ pub fn ibpb(ebx: u32) -> bool
 
 // D.1.EAX: whether XSAVEC is there.
 pub fn xsave_c(eax: u32) -> bool
-    ensures { result ≡ has (ExtendedStateEnumerationSubleaf1Eax.position xsave-c) eax }
+    ensures { result ≡ has (ExtendedStateEnumerationSubleaf1Eax.position xsave_c) eax }
 {
     bits::has_bit(eax, 1)
 }
 
 // D.1.EAX: whether XSAVES is there.
 pub fn xsave_s(eax: u32) -> bool
-    ensures { result ≡ has (ExtendedStateEnumerationSubleaf1Eax.position xsave-s) eax }
+    ensures { result ≡ has (ExtendedStateEnumerationSubleaf1Eax.position xsave_s) eax }
 {
     bits::has_bit(eax, 3)
 }
 
 // 8000001Fh.EAX: whether TSC_AUX is virtualized.
 pub fn tsc_aux_virtualization(eax: u32) -> bool
-    ensures { result ≡ has (ExtendedSevFeaturesEax.position tsc-aux-virtualization) eax }
+    ensures { result ≡ has (ExtendedSevFeaturesEax.position tsc_aux_virtualization) eax }
 {
     bits::has_bit(eax, 9)
 }

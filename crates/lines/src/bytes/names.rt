@@ -3,7 +3,7 @@ ghost use Rattle.std.specs.Prelude.{◌≡◌};
 ghost use Rattle.lines.specs.NumbersInUse.{names};
 
 // Whether a number is in use, and whether it names a leaf, may name a subleaf, and names s.
-#[derive(Drop)]
+#[derive(Clone, Copy)]
 pub struct Named {
     pub used: bool,
     pub leaf: bool,

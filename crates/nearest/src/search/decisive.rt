@@ -25,7 +25,7 @@ use x86defs::CpuidResult;
 const BITS: u32 = 128;
 
 // The first of an entry's 128 result bits that decides, by number: 32 times the register, and the bit.
-#[derive(Drop)]
+#[derive(Clone, Copy)]
 pub enum Decisive {
     Number(u32),
     NoNumber,

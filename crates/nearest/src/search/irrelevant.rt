@@ -12,7 +12,7 @@ use table::Verdict;
 
 // What the checks find in the rows of a page set before any flip, once for all its entries: whether a required leaf is missing, whether INVLPGB is
 // clear, the combined mask, and what all checks answer.
-#[derive(Drop)]
+#[derive(Clone, Copy)]
 pub struct Unflipped {
     pub missing: bool,
     pub clear: bool,

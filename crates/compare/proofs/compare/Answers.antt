@@ -1,0 +1,53 @@
+-- `compare::compare` meets its contract: one return a case of the comparison.
+use borrow.Author.Rules.{rules}
+use mathlib.Core.Path.{◌≡◌, sym, ◌∙◌}
+use Rattle.table.specs.declared.Verdict.TheVariants.{Accepted}
+use Rattle.memory.specs.Memory.{rows_in}
+use Rattle.build.specs.Build.{rows_for, answer}
+use Rattle.build.proofs.BuildLaws.{front_refused}
+use Rattle.build.specs.InMemoryLaws.{rows_held}
+use Rattle.build.proofs.InMemoryLaws.{finished_verdict, answer_in_memory}
+use Rattle.compare.specs.declared.search.Asked.TheVariants.{Entries}
+use Rattle.compare.specs.RowsCompared.{wanted_by, rows_compared}
+use Rattle.compare.specs.CompareLaws.{asked}
+use Rattle.compare.proofs.CompareLaws.{refused_a, lawful_b, unlawful_b, rows_compared_lem}
+use Rattle.compare.proofs.DecidesProof.{decided}
+use Rattle.compare.proofs.compare.Goals as goal
+use Rattle.compare.proofs.compare.Goals.{After-compare_rows, In_default-lawful, In_default-verdict}
+
+pub returns-in-Refused : goal.returns-in-Refused
+returns-in-Refused c = let both = decided _ _ _ (refused_a _ _ _ (front_refused _ _ (sym c.rows_into-front.ensures.verdict ∙ c.in-Refused.is))) in record { value = both.0; decides = both.1 }
+
+pub returns-in-Refused-verdict : goal.returns-in-Refused-verdict
+returns-in-Refused-verdict c = let both = decided _ _ _
+    (refused_a _ _ _
+    (finished_verdict _ _ _ _ c.rows_into-front.ensures c.in_default.is c.finish_rows-verdict.ensures ∙ c.in-Refused-verdict.is)) in record { value = both.0; decides = both.1 }
+
+-- where A is accepted
+accepted : (c : In_default-verdict)
+    → (answer c.args.choices c.args.a.now).verdict ≡ Accepted
+accepted c =
+    finished_verdict _ _ _ _ c.rows_into-front.ensures c.in_default.is c.finish_rows-verdict.ensures ∙ c.in_default-verdict.is
+
+pub returns-in-Refused-lawful : goal.returns-in-Refused-lawful
+returns-in-Refused-lawful c = let both = decided _ _ _
+    (unlawful_b _ _ _ (accepted (goal.at.returns-in-Refused-lawful c).In_default-verdict) (lawful_b _ _ _ (accepted (goal.at.returns-in-Refused-lawful c).In_default-verdict) c.rows_into-lawful.ensures.verdict ∙ c.in-Refused-lawful.is)) in record { value = both.0; decides = both.1 }
+
+rows-of-b : (e : In_default-lawful) → rows_in e.rows_into-lawful.new.registers e.rows_into-lawful.new.origins
+    ≡ rows_for e.args.choices e.args.b.now
+rows-of-b e = rows_held _ _ _ _ e.rows_into-lawful.ensures e.in_default-lawful.is
+
+-- the rows of A's table are asked, in A's entries and in B's
+rows-searched : (s : After-compare_rows) →
+    s.compare_rows.result
+    ≡ rows_compared (wanted_by Entries) (rows_in s.rows_into-front.new.registers (asked s.finish_rows-verdict.new.origins))
+    (rows_in s.rows_into-lawful.new.registers s.rows_into-lawful.new.origins)
+rows-searched s = s.compare_rows.ensures
+
+pub returns : goal.returns
+returns c = let both = decided _ _ _
+    (rows_compared_lem _ _ _ (accepted (goal.at.returns c).In_default-verdict) (lawful_b _ _ _ (accepted (goal.at.returns c).In_default-verdict) c.rows_into-lawful.ensures.verdict ∙ c.in_default-lawful.is)
+    c.finish_rows-verdict.new.registers c.finish_rows-verdict.new.origins c.rows_into-front.new.registers c.rows_into-front.new.origins
+    c.rows_into-lawful.new.registers c.rows_into-lawful.new.origins
+    (answer_in_memory _ _ _ _ c.rows_into-front.ensures c.in_default.is c.finish_rows-verdict.ensures c.in_default-verdict.is).table
+    (rows_held _ _ _ _ c.rows_into-front.ensures c.in_default.is) (rows-of-b (goal.at.returns c).In_default-lawful) (rows-searched (goal.at.returns c).After-compare_rows) c.entries_named.ensures) in record { value = both.0; decides = both.1 }

@@ -1,0 +1,3 @@
+-- The laws that the proofs of this crate, and of the crates above it, cite.
+pub mod BuiltRows
+pub mod CountsProof

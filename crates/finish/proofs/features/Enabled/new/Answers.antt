@@ -1,0 +1,6 @@
+-- `finish::features::Enabled::new` meets its contract.
+use borrow.Author.Rules.{rules}
+use Rattle.finish.proofs.features.Enabled.new.Goals as goal
+
+pub returns : goal.returns
+returns c = cc

@@ -1,0 +1,17 @@
+-- `pages::counts_fit` meets its contract. The loop's invariant: the counts of the pages passed fit. The measure is how many pages are left.
+use mathlib.Core.Path.{sym}
+use native.Mathlib.Omega.{arith}
+use Rattle.pages.specs.LayoutLaws.{counts_fit_none, counts_fit_more, counts_fit_all, counts_fit_not}
+use Rattle.pages.proofs.counts_fit.Goals as goal
+
+pub returns-then-count_of-gt-MOST_ENTRIES : goal.returns-then-count_of-gt-MOST_ENTRIES
+returns-then-count_of-gt-MOST_ENTRIES c = sym (counts_fit_not _ c.loop-p.p (omega arith) (omega arith))
+
+pub loop-p-preserved : goal.loop-p-preserved
+loop-p-preserved c = (omega arith, counts_fit_more _ _ c.loop-p.invariant.1 (omega arith))
+
+pub returns : goal.returns
+returns c = sym (counts_fit_all _ _ c.loop-p.invariant.1 (omega arith))
+
+pub loop-p-init : goal.loop-p-init
+loop-p-init c = (omega arith, counts_fit_none _)

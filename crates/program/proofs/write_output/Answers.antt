@@ -1,0 +1,16 @@
+-- `program::write_output` meets its contract: too long, refused, or the image.
+use Rattle.program.specs.ProgramBytesLaws.{output_too_long, output_refused, output_accepted}
+use borrow.Author.Rules.{rules}
+use Rattle.program.proofs.write_output.Goals as goal
+
+pub returns-then-input-gt-LONGEST_INPUT : goal.returns-then-input-gt-LONGEST_INPUT
+returns-then-input-gt-LONGEST_INPUT c = rw (← output_too_long _ c.if-input-gt-LONGEST_INPUT.true) c.put_too_long.ensures
+
+pub returns-in-Refused : goal.returns-in-Refused
+returns-in-Refused c =
+    rw (← output_refused _ c.if-input-gt-LONGEST_INPUT.false c.build_into-verdict.ensures _ _ c.in-Refused.is c.refusal_numbers.ensures)
+    c.put_refusal.ensures
+
+pub returns : goal.returns
+returns c =
+    rw (← output_accepted _ c.if-input-gt-LONGEST_INPUT.false c.build_into-verdict.ensures c.in_default.is) c.write_table.ensures

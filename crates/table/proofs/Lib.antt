@@ -1,0 +1,3 @@
+-- The laws that the proofs of this crate, and of the crates above it, cite.
+pub mod EditionLaws
+pub mod RefusalLaws

@@ -1,0 +1,8 @@
+-- `table::numbers::at_leaf` meets its contract: one case for each form of a subleaf.
+use Rattle.table.proofs.numbers.at_leaf.Goals as goal
+
+pub returns-in-None : goal.returns-in-None
+returns-in-None c = rw c.in-None.is
+
+pub returns-in-Some : goal.returns-in-Some
+returns-in-Some c = rw c.in-Some.is
