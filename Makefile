@@ -1,5 +1,5 @@
 # make            prove program and library, and build the command: the proved program prints the table of the shipped page set as soon as it is
-#                 proved, and at the end the command does, with names; a line for each proved crate says how many are left
+#                 proved, and at the end the command does, with names; there is a line for each crate as it is proved
 # make install    put the command, the header, the library with its pkg-config file, the manual page and the completions below PREFIX, in DESTDIR
 # make uninstall  remove exactly these files
 # make libraries  the library, and beside it the one for ring 0, in target/staticlib (docs/EMBEDDING.md)
@@ -41,9 +41,6 @@ kit = $(if $(call found,rt),,$(error no Rattle kit: 'rt' is not on the PATH, so 
 cargo = $(if $(call found,cargo),,$(error no 'cargo', which builds the command: Rust 1.85 or newer, by rustup or of Debian 13; Debian 12's is too \
     old. From C, include/snp_cpuid.h and libsnp_cpuid.a are enough))
 
-# builds both libraries of the proved crates
-BUILD = install/libraries
-
 ifdef SNP_CPUID_LIB
 LIBRARY = $(SNP_CPUID_LIB)/libsnp_cpuid.a
 $(LIBRARY):
@@ -55,11 +52,10 @@ command: given-sum
 all: stage
 else
 LIBRARY = target/staticlib/libsnp_cpuid.a
-# The program's crates are proved first, and no crate twice: what the library needs beyond them goes on beside the first table. What the proved
-# program writes is what the command writes.
+# The program's crates are proved first, and no crate twice. What the proved program writes is what the command writes.
 all:
-	$(kit)@install/in-memory install/prove 'snp_cpuid_image=install/first-table $(PAGES)' \
-	    'snp_cpuid=env -u MAKEFLAGS $(MAKE) --question --no-print-directory $(LIBRARY) || $(BUILD)'
+	$(kit)@install/first-table $(PAGES)
+	@$(MAKE) --no-print-directory $(LIBRARY)
 	@echo 'proved: the library is $(LIBRARY); cargo builds the command'
 	@$(MAKE) --no-print-directory stage
 	@$(COMMAND) image $(PAGES) -o - | cmp - target/first.image
@@ -73,12 +69,12 @@ test:
 	$(kit)@tests/run
 
 clean:
-	rm -rf target
+	rm -rf target crates/*/out
 
 # the library for C and Rust, made again after an edit of any source, specification or proof; a folder is newer where a file of it went
 target/staticlib/libsnp_cpuid.a: crates.txt $(shell find crates/*/src crates/*/specs crates/*/proofs 2>/dev/null) \
     include/snp_cpuid.h install/libraries
-	$(kit)@install/in-memory install/prove 'snp_cpuid=$(BUILD)'
+	$(kit)@install/libraries
 
 # cargo tells what is to be built again
 command: $(LIBRARY)

@@ -19,20 +19,20 @@ THEOREMS, PAGE = 'crates/theorems/specs/Document01.antt', 'crates/letter/specs/P
 RISE, STATEMENT = 'crates/rise/specs/Rise.antt', 'Demand3ByTheLetter'
 READ_FIRST = (RISE, 'crates/finish/specs/Kinds.antt', 'crates/refusals/specs/Conditions.antt', THEOREMS, PAGE)
 DETERMINED = {
-    ('build', 'Build', 'answer'): ('verdict-by-the-letter', 'table-by-the-letter'),
-    ('collect', 'Lawful', 'lawfulVerdict'): ('lawful-by-the-letter',),
-    ('collect', 'FirstEntries', 'firstAt'): ('first-entries-by-the-letter',),
-    ('pages', 'Entries', 'entries'): ('entries-by-the-letter',),
-    ('pages', 'Entries', 'counted'): ('entries-by-the-letter',),
-    ('masking', 'Kept', 'masksAt'): ('masks-by-the-letter',),
-    ('masking', 'Kept', 'leafAt'): ('registers-by-the-letter',),
-    ('letter', 'Names', 'subAt'): ('registers-by-the-letter',),
-    ('finish', 'Kinds', 'kindsAt'): ('registers-by-the-letter',),
-    ('finish', 'Finish', 'ruleAt'): ('rows-without-entry',),
+    ('build', 'Build', 'answer'): ('verdict_by_the_letter', 'table_by_the_letter'),
+    ('collect', 'Lawful', 'lawful_verdict'): ('lawful_by_the_letter',),
+    ('collect', 'FirstEntries', 'first_at'): ('first_entries_by_the_letter',),
+    ('pages', 'Entries', 'entries'): ('entries_by_the_letter',),
+    ('pages', 'Entries', 'counted'): ('entries_by_the_letter',),
+    ('masking', 'Kept', 'masks_at'): ('masks_by_the_letter',),
+    ('masking', 'Kept', 'leaf_at'): ('registers_by_the_letter',),
+    ('letter', 'Names', 'sub_at'): ('registers_by_the_letter',),
+    ('finish', 'Kinds', 'kinds_at'): ('registers_by_the_letter',),
+    ('finish', 'Finish', 'rule_at'): ('rows_without_entry',),
 }
 MOST_NAMED = 12  # of more words the list says how many they are
 HEAD = ['| file | what is used of it | lines |', '|---|---|---|']
-IMPORT = re.compile(r'^(?:ghost )?use Rattle·(\w+?)(?:·specs)?\.specs\.([\w.-]+?)(?:\.the-variants)?(?:\.\{(.*)\})?(?: as (\w+))?;?$')
+IMPORT = re.compile(r"^(?:ghost )?use Rattle\.(?!std\.)(\w+)\.specs\.([\w.'-]+?)(?:\.TheVariants)?(?:\.\{(.*)\})?(?: as (\w+))?;?$")
 DEFINED = r'^(?: +(?=abbrev |unfoldable ))?(?:(?:abbrev|unfoldable|pub|record|data) )+{}(?= [:({{])'
 DECLARED = r'^pub (?:struct|enum) {}\b.*?(?:^\}}|;)$'
 

@@ -1,7 +1,7 @@
 """Holds every named bit and field of crates/x86defs/specs against the public lines of cpuid-bits.csv.
 
 Usage: python3 -m tests.gate.bit_names [SPECS]. Prints one line for each failure, then a count, and exits with 1 if any
-failed. A name counts once for each register it stands in: processor-type stands in 1.EAX and in 80000001h.EAX.
+failed. A name counts once for each register it stands in: processor_type stands in 1.EAX and in 80000001h.EAX.
 Registers are written as in document 01: 80000008h.EBX, D.1.ECX.
 """
 from collections import namedtuple
@@ -23,69 +23,69 @@ def pairs(text):
 
 # register -> our name -> short name in cpuid-bits.csv
 OURS = {register: pairs(text) for register, text in {
-    '1.EAX': '''processor-stepping=stepping processor-model=base_model processor-family=base_family_id
-        processor-type=cpu_type extended-model=ext_model extended-family=ext_family''',
-    '1.EBX': '''brand-index=brand_id clflush-line-size=clflush_size lps-per-package=n_logical_cpu
-        initial-apic-id=local_apic_id''',
-    '1.ECX': '''sse3=pni pclmulqdq=pclmulqdq ssse3=ssse3 fma=fma cx16=cx16 pcid=pcid sse4-1=sse4_1 sse4-2=sse4_2
-        movbe=movbe pop-cnt=popcnt aes=aes xsave=xsave os-xsave=osxsave avx=avx f16c=f16c rd-rand=rdrand
-        hypervisor-present=guest_status''',
+    '1.EAX': '''processor_stepping=stepping processor_model=base_model processor_family=base_family_id
+        processor_type=cpu_type extended_model=ext_model extended_family=ext_family''',
+    '1.EBX': '''brand_index=brand_id clflush_line_size=clflush_size lps_per_package=n_logical_cpu
+        initial_apic_id=local_apic_id''',
+    '1.ECX': '''sse3=pni pclmulqdq=pclmulqdq ssse3=ssse3 fma=fma cx16=cx16 pcid=pcid sse4_1=sse4_1 sse4_2=sse4_2
+        movbe=movbe pop_cnt=popcnt aes=aes xsave=xsave os_xsave=osxsave avx=avx f16c=f16c rd_rand=rdrand
+        hypervisor_present_lem=guest_status''',
     '1.EDX': '''fpu=fpu vme=vme de=de pse=pse tsc=tsc msr=msr pae=pae mce=mce cx8=cx8 apic=apic sep=sep mtrr=mtrr
-        pge=pge mca=mca cmov=cmov pat=pat pse36=pse36 cl-fsh=clflush mmx=mmx fxsr=fxsr sse=sse sse2=sse2
-        mt-per-socket=ht''',
-    '7.0.EBX': '''rd-wr-fs-gs=fsgsbase bmi1=bmi1 avx2=avx2 smep=smep bmi2=bmi2 enhanced-fast-string=erms
-        inv-pcid=invpcid dep-x87-fpu-save=zero_fcs_fds avx512f=avx512f avx512dq=avx512dq rd-seed=rdseed adx=adx
-        smap=smap avx512-ifma=avx512ifma clflushopt=clflushopt clwb=clwb avx512cd=avx512cd sha=sha_ni
+        pge=pge mca=mca cmov=cmov pat=pat pse36=pse36 cl_fsh=clflush mmx=mmx fxsr=fxsr sse=sse sse2=sse2
+        mt_per_socket=ht''',
+    '7.0.EBX': '''rd_wr_fs_gs=fsgsbase bmi1=bmi1 avx2=avx2 smep=smep bmi2=bmi2 enhanced_fast_string=erms
+        inv_pcid=invpcid dep_x87_fpu_save=zero_fcs_fds avx512f=avx512f avx512dq=avx512dq rd_seed=rdseed adx=adx
+        smap=smap avx512_ifma=avx512ifma clflushopt=clflushopt clwb=clwb avx512cd=avx512cd sha=sha_ni
         avx512bw=avx512bw avx512vl=avx512vl''',
-    '7.0.ECX': '''avx512-vbmi=avx512vbmi umip=umip umwait-tpause=waitpkg avx512-vbmi2=avx512_vbmi2 cet-ss=cet_ss
-        gfni=gfni vaes=vaes vpclmulqdq=vpclmulqdq avx512-vnni=avx512_vnni avx512-bitalg=avx512_bitalg
-        avx512-vpopcntdq=avx512_vpopcntdq rd-pid=rdpid cldemote=cldemote movdiri=movdiri movdir64b=movdir64b''',
-    '7.0.EDX': '''fast-short-rep-move=fsrm avx512-vp2-intersect=avx512_vp2intersect serialize=serialize
-        avx512-fp16=avx512_fp16''',
-    'B.0.EAX': 'x2-apic-shift=x2apic_id_shift',
-    'B.0.EBX': 'num-lps=domain_lcpus_count',
-    'B.0.ECX': 'level-number=domain_nr level-type=domain_type',
-    'B.1.EAX': 'x2-apic-shift=x2apic_id_shift',
-    'B.1.EBX': 'num-lps=domain_lcpus_count',
-    'B.1.ECX': 'level-number=domain_nr level-type=domain_type',
+    '7.0.ECX': '''avx512_vbmi=avx512vbmi umip=umip umwait_tpause=waitpkg avx512_vbmi2=avx512_vbmi2 cet_ss=cet_ss
+        gfni=gfni vaes=vaes vpclmulqdq=vpclmulqdq avx512_vnni=avx512_vnni avx512_bitalg=avx512_bitalg
+        avx512_vpopcntdq=avx512_vpopcntdq rd_pid=rdpid cldemote=cldemote movdiri=movdiri movdir64b=movdir64b''',
+    '7.0.EDX': '''fast_short_rep_move=fsrm avx512_vp2_intersect=avx512_vp2intersect serialize=serialize
+        avx512_fp16=avx512_fp16''',
+    'B.0.EAX': 'x2_apic_shift=x2apic_id_shift',
+    'B.0.EBX': 'num_lps=domain_lcpus_count',
+    'B.0.ECX': 'level_number=domain_nr level_type=domain_type',
+    'B.1.EAX': 'x2_apic_shift=x2apic_id_shift',
+    'B.1.EBX': 'num_lps=domain_lcpus_count',
+    'B.1.ECX': 'level_number=domain_nr level_type=domain_type',
     'D.0.EAX': '''x87=xcr0_x87 sse=xcr0_sse avx=xcr0_avx opmask=xcr0_avx512_opmask zmmhi=xcr0_avx512_zmm_hi256
-        zmm16-31=xcr0_avx512_hi16_zmm''',
-    'D.1.EAX': 'xsave-opt=xsaveopt xsave-c=xsavec xsave-s=xsaves',
-    'D.1.ECX': 'cet-u=xss_cet_u cet-s=xss_cet_p',
-    '80000001h.EAX': '''processor-stepping=e_stepping_id processor-model=e_base_model processor-family=e_base_family
-        extended-model=e_ext_model extended-family=e_ext_family''',
-    '80000001h.EBX': 'brand-id=brand_id pkg-type=pkg_type',
-    '80000001h.ECX': '''lahf-sahf-available=lahf_lm cmp-legacy=cmp_legacy alt-mov-cr8=cr8_legacy abm=abm sse4-a=sse4a
-        mis-align-sse=misalignsse prefetch=3dnowprefetch ibs=ibs xop=xop fma4=fma4 topology-extensions=topoext''',
+        zmm16_31=xcr0_avx512_hi16_zmm''',
+    'D.1.EAX': 'xsave_opt=xsaveopt xsave_c=xsavec xsave_s=xsaves',
+    'D.1.ECX': 'cet_u=xss_cet_u cet_s=xss_cet_p',
+    '80000001h.EAX': '''processor_stepping=e_stepping_id processor_model=e_base_model processor_family=e_base_family
+        extended_model=e_ext_model extended_family=e_ext_family''',
+    '80000001h.EBX': 'brand_id=brand_id pkg_type=pkg_type',
+    '80000001h.ECX': '''lahf_sahf_available=lahf_lm cmp_legacy=cmp_legacy alt_mov_cr8=cr8_legacy abm=abm sse4_a=sse4a
+        mis_align_sse=misalignsse prefetch=3dnowprefetch ibs=ibs xop=xop fma4=fma4 topology_extensions=topoext''',
     '80000001h.EDX': '''fpu=e_fpu vme=e_vme de=e_de pse=e_pse tsc=e_tsc msr=e_msr pae=pae mce=mce cx8=cx8 apic=apic
-        syscall=syscall mtrr=mtrr pge=pge mca=mca cmov=cmov pat=pat pse36=pse36 no-execute=nx amd-mmx=mmxext
-        fxsr=e_fxsr fast-fxsr=fxsr_opt page-1gb=pdpe1gb rdtscp=rdtscp long-mode=lm extended3d-now=3dnowext
-        amd3d-now=3dnow''',
-    '80000008h.EAX': 'physical-address-size=phys_addr_bits virtual-address-size=virt_addr_bits',
-    '80000008h.EBX': '''cl-zero=clzero inst-ret-cnt-msr=irperf x-save-er-ptr=xsaveerptr invlpgb=invlpgb rdpru=rdpru
-        wbnoinvd=wbnoinvd ibpb=amd_ibpb ibrs=amd_ibrs stibp=amd_stibp stibp-always-on=amd_stibp_always_on
-        efer-lmsle-unsupported=no_efer_lmsle ssbd=amd_ssbd psfd=amd_psfd btc-no=btc_no''',
-    '80000008h.ECX': 'nc=cpu_nthreads apic-core-id-size=apicid_coreid_len',
-    '80000008h.EDX': 'invlpgb-count-max=invlpgb_max_pages rdpru-max-ecx=rdpru_max_reg_id',
-    '8000000Ah.EAX': 'svm-rev=svm_version',
-    '8000001Ah.EAX': 'fp128=fp_128 mov-u=movu_preferred fp256=fp_256',
-    '8000001Eh.EBX': 'threads-per-compute-unit=core_nthreas',
-    '8000001Fh.EAX': '''sme=sme sev=sev vmpage-flush-msr-available=vm_page_flush sev-es=sev_es
-        sev-snp=sev_nested_paging vmpl=vm_permission_levels rmp-query=rpmquery tsc-aux-virtualization=v_tsc_aux''',
-    '8000001Fh.EBX': '''cbit-position=pte_cbit_pos encryption-physical-bits-used=phys_addr_reduction_nbits
-        number-of-vmpls=vmpl_count''',
+        syscall=syscall mtrr=mtrr pge=pge mca=mca cmov=cmov pat=pat pse36=pse36 no_execute=nx amd_mmx=mmxext
+        fxsr=e_fxsr fast_fxsr=fxsr_opt page_1gb=pdpe1gb rdtscp=rdtscp long_mode=lm extended3d_now=3dnowext
+        amd3d_now=3dnow''',
+    '80000008h.EAX': 'physical_address_size=phys_addr_bits virtual_address_size=virt_addr_bits',
+    '80000008h.EBX': '''cl_zero=clzero inst_ret_cnt_msr=irperf x_save_er_ptr=xsaveerptr invlpgb=invlpgb rdpru=rdpru
+        wbnoinvd=wbnoinvd ibpb=amd_ibpb ibrs=amd_ibrs stibp=amd_stibp stibp_always_on=amd_stibp_always_on
+        efer_lmsle_unsupported=no_efer_lmsle ssbd=amd_ssbd psfd=amd_psfd btc_no=btc_no''',
+    '80000008h.ECX': 'nc=cpu_nthreads apic_core_id_size=apicid_coreid_len',
+    '80000008h.EDX': 'invlpgb_count_max=invlpgb_max_pages rdpru_max_ecx=rdpru_max_reg_id',
+    '8000000Ah.EAX': 'svm_rev=svm_version',
+    '8000001Ah.EAX': 'fp128=fp_128 mov_u=movu_preferred fp256=fp_256',
+    '8000001Eh.EBX': 'threads_per_compute_unit=core_nthreas',
+    '8000001Fh.EAX': '''sme=sme sev=sev vmpage_flush_msr_available=vm_page_flush sev_es=sev_es
+        sev_snp=sev_nested_paging vmpl=vm_permission_levels rmp_query=rpmquery tsc_aux_virtualization=v_tsc_aux''',
+    '8000001Fh.EBX': '''cbit_position=pte_cbit_pos encryption_physical_bits_used=phys_addr_reduction_nbits
+        number_of_vmpls=vmpl_count''',
 }.items()}
 
 # (register, our name) -> bits and the manual that places them
 NO_PUBLIC_LINE = {
-    ('80000001h.EAX', 'processor-type'):
+    ('80000001h.EAX', 'processor_type'):
         (12, 13, 'AMD64 APM volume 3, Fn8000_0001_EAX, a copy of Fn0000_0001_EAX; type: Intel SDM, leaf 01H EAX 13-12'),
     ('80000001h.EDX', 'mmx'): (23, 23, 'AMD64 APM volume 3, Fn8000_0001_EDX bit 23'),
-    ('8000001Fh.EAX', 'secure-avic'): (26, 26, 'AMD64 APM volume 3, Fn8000_001F_EAX bit 26'),
+    ('8000001Fh.EAX', 'secure_avic_bit'): (26, 26, 'AMD64 APM volume 3, Fn8000_001F_EAX bit 26'),
 }
 
 # set by the port, or kept at the caller's choice: in no `kept` list
-NOT_KEPT = {('1.ECX', 'hypervisor-present'), ('8000001Fh.EAX', 'secure-avic')}
+NOT_KEPT = {('1.ECX', 'hypervisor_present_lem'), ('8000001Fh.EAX', 'secure_avic_bit')}
 
 LEAF = r'[0-9A-F]+h?(?:\.\d+)?'
 REGISTER = r'E[ABCD]X'

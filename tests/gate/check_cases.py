@@ -17,7 +17,7 @@ class Check(NamedTuple):
     refusal: str  # ManyPages, or the case of the topology
 
     def small(self):
-        return f'fault-small chosen s h {self.name} r f = rw (f .{self.fields}) (alone-small {self.refusal} refl refl (omega arith))\n'
+        return f'fault_small chosen s h {self.name} r f = rw f.{self.fields} (alone_small {self.refusal} refl refl (omega arith))\n'
 
 
 def outside(text):
@@ -53,15 +53,15 @@ def number_test(numbers):
 
 
 def smalls(path, listed, alone, text):
-    """The clauses of `fault-small`: of a check whose refusal names nothing it is made, others stand as they are."""
-    block = re.search(r'(?:^fault-small chosen .*\n(?: .*\n)*)+', text, re.MULTILINE)
+    """The clauses of `fault_small`: of a check whose refusal names nothing it is made, others stand as they are."""
+    block = re.search(r'(?:^fault_small chosen .*\n(?: .*\n)*)+', text, re.MULTILINE)
     if not block:
-        raise Unlisted(f'{path} has no fault-small')
-    own = {clause.split()[4]: clause for clause in re.findall(r'^fault-small .*\n(?: .*\n)*', block[0], re.MULTILINE)}
+        raise Unlisted(f'{path} has no fault_small')
+    own = {clause.split()[4]: clause for clause in re.findall(r'^fault_small .*\n(?: .*\n)*', block[0], re.MULTILINE)}
     made = ''
     for check in listed:
         if check.refusal not in alone and check.name not in own:
-            raise Unlisted(f'{path} wants a clause of fault-small for {check.name}')
+            raise Unlisted(f'{path} wants a clause of fault_small for {check.name}')
         made += check.small() if check.refusal in alone else own[check.name]
     return text[:block.start()] + made + text[block.end():]
 
@@ -78,11 +78,11 @@ def made(root, every, names):
     steps = {
         'Conditions': [(r'(?:^rank \w+ = \d+\n)+', ''.join(f'rank {check.name} = {at}\n' for at, check in enumerate(listed)))],
         'StagesSettled': [(r'^checks =\n(?:    .*\n)+', 'checks =\n    ' + '\n    ∷ '.join([*(check.name for check in listed), '[]']) + '\n'),
-                          (r'^checkCount = \d+\n', f'checkCount = {len(listed)}\n'),
-                          (r'(?:^check-rank \w+ = .*\n)+', ''.join(f'check-rank {check.name} = (lit< tt, refl)\n' for check in listed))],
-        'ExactlyProof': [(r'^buildingNumber n = .*\n', f'buildingNumber n = {number_test(given)}\n'),
-                         (r'(?:^fault-number chosen .*\n)+',
-                          ''.join(f'fault-number chosen s {check.name} r f = rw (f .{check.fields})\n' for check in listed))],
+                          (r'^check_count = \d+\n', f'check_count = {len(listed)}\n'),
+                          (r'(?:^check_rank \w+ = .*\n)+', ''.join(f'check_rank {check.name} = (lit< tt, refl)\n' for check in listed))],
+        'ExactlyProof': [(r'^building_number n = .*\n', f'building_number n = {number_test(given)}\n'),
+                         (r'(?:^fault_number chosen .*\n)+',
+                          ''.join(f'fault_number chosen s {check.name} r f = rw f.{check.fields}\n' for check in listed))],
         'LinedProof': [],
     }
     for name, parts in steps.items():
@@ -90,12 +90,17 @@ def made(root, every, names):
         for pattern, text in parts:
             read[path] = replaced(path, read[path], pattern, text)
         read[path] = re.sub(r'(?<=Conditions\.Check\.)\{.*\}', f'{{{cases}}}', read[path])
-    read[POOL] = replaced(POOL, read[POOL], r'(?:^      by-check \w+ g = let .*\n)+', ''.join(
-        f'      by-check {check.name} g = let e = g .{check.fields} in impossible (cc)\n' for check in listed if check.name != 'edition'))
+    read[POOL] = replaced(POOL, read[POOL], r'(?:^      by_check \w+ g = let .*\n)+', ''.join(
+        f'      by_check {check.name} g = let e = g.{check.fields} in impossible (cc)\n' for check in listed if check.name != 'edition'))
     read[POOL] = re.sub(r'(?<=Conditions\.Check\.)\{.*\}', f'{{{cases}}}', read[POOL])
+    # what of these files stands in proofs/ names the checks too
+    for name in steps:
+        path = f'{SPECS}/{name}.antt'.replace('/specs/', '/proofs/')
+        if (root / path).is_file():
+            read[path] = re.sub(r'(?<=Conditions\.Check\.)\{.*\}', f'{{{cases}}}', (root / path).read_text(encoding='utf-8'))
     path = f'{SPECS}/LinedProof.antt'
     read[path] = smalls(path, listed, alone, read[path])
     used = {check.refusal for check in listed} & alone
-    read[path] = replaced(path, read[path], r'(^use .*Refusal\.the-variants\.)\{(.*)\}\n', lambda found: f'{found[1]}{{' + ', '.join(
+    read[path] = replaced(path, read[path], r'(^use .*Refusal\.TheVariants\.)\{(.*)\}\n', lambda found: f'{found[1]}{{' + ', '.join(
         name for name in names if name in used or name in found[2].split(', ')) + '}\n')
     return read

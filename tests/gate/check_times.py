@@ -1,10 +1,10 @@
 #!/usr/bin/env python3
 """How long the check of a revision takes: tests/gate/check_times.py [--times N] [--logs FOLDER] REVISION..
 
-Each revision is cloned outside the repository and proved there from nothing by `rt prove` with two jobs, one revision after the other, with temporary
-files in memory where it can be had. --times N goes N times through the list. Each run prints a line: the commit, wall seconds, processor seconds, the
+Each revision is cloned outside the repository and proved there from nothing by `rt all verdict`, two crates at a time, one revision after the other,
+with temporary files in memory where it can be had. --times N goes N times through the list. Each run prints a line: the commit, wall seconds, processor seconds, the
 processor seconds that the machine spent on other things meanwhile, how many of the listed crates were proved, and 'proved' or the first crate that
-was not. --logs keeps what `rt prove` said. Run it on a machine with nothing else to do: 'others' stays near 0 where that was so.
+was not. --logs keeps what `rt all verdict` said. Run it on a machine with nothing else to do: 'others' stays near 0 where that was so.
 """
 import argparse
 import os
@@ -18,8 +18,8 @@ from pathlib import Path
 from typing import NamedTuple
 
 ROOT = Path(__file__).resolve().parents[2]
-PROVED = re.compile(r'^rt: (\w+) proved \(')
-NOT_PROVED = re.compile(r'^rt: (\w+) NOT PROVED')
+PROVED = re.compile(r'^(\w+): ok$')
+NOT_PROVED = re.compile(r'^(\w+): (?:failed|not run)')
 
 
 class Run(NamedTuple):
@@ -37,9 +37,10 @@ class Run(NamedTuple):
 
 
 def told(said, crates):
-    """(crates proved, 'proved' or what was not) of what `rt prove` said."""
-    proved = {found[1] for line in said.splitlines() if (found := PROVED.match(line))}
-    failed = next((found[1] for line in said.splitlines() if (found := NOT_PROVED.match(line))), None)
+    """(crates proved, 'proved' or what was not) of what `rt all verdict` said, by its summary."""
+    lines = said.partition('== summary\n')[2].splitlines()
+    proved = {found[1] for line in lines if (found := PROVED.match(line))}
+    failed = next((found[1] for line in lines if (found := NOT_PROVED.match(line))), None)
     if failed is None and len(proved) == len(crates):
         return len(proved), 'proved'
     return len(proved), f'not proved: {failed or "see rt"}'
@@ -74,7 +75,7 @@ def checked(commit, logs):
         git('clone', '--quiet', '--no-checkout', str(ROOT), f'{room}/clone')
         git('-C', f'{room}/clone', 'checkout', '--quiet', commit)
         before = seconds()
-        ran = subprocess.run(['rt', 'prove'], cwd=f'{room}/clone', env={**os.environ, 'RT_JOBS': '2', 'TMPDIR': scratch},
+        ran = subprocess.run(['rt', 'all', 'verdict', '--jobs', '2'], cwd=f'{room}/clone', env={**os.environ, 'TMPDIR': scratch},
                              stdout=subprocess.PIPE, stderr=subprocess.STDOUT, text=True, check=False)
         wall, processor, all_cores = (now - then for now, then in zip(seconds(), before))
     if logs:
@@ -103,7 +104,7 @@ def times(word):
 def main(words=None):
     parser = argparse.ArgumentParser(description=__doc__.splitlines()[0])
     parser.add_argument('--times', type=times, default=1, metavar='N', help='go N times through the list')
-    parser.add_argument('--logs', type=Path, metavar='FOLDER', help='keep what rt prove said, a file a commit')
+    parser.add_argument('--logs', type=Path, metavar='FOLDER', help='keep what rt all verdict said, a file a commit')
     parser.add_argument('commits', nargs='+', type=commit_of, metavar='REVISION')
     asked = parser.parse_args(words)
     print('commit    wall s  processor s  others s  crates proved  verdict', flush=True)

@@ -1,4 +1,4 @@
-"""edition_rows.py: the editions of the AVX rule, read from `furtherEditions` of crates/table/specs/Edition.antt, as numbers and in words. No tool by
+"""edition_rows.py: the editions of the AVX rule, read from `further_editions` of crates/table/specs/Edition.antt, as numbers and in words. No tool by
 itself: tests/gate/figures.py puts them where they are told."""
 import re
 
@@ -21,19 +21,19 @@ def named(root, text, mask):
     """[(name, bit)] of a mask by its name in the file of editions; none for 0."""
     if mask == '0':
         return []
-    found = re.search(rf'^{mask} =\s*maskOf (\w+)\.position \(([^)]*) ∷ \[\]\)', text, re.M)
-    module = found and re.search(rf'^use Rattle·x86defs\.specs\.(\w+) as {found[1]}$', text, re.M)
+    found = re.search(rf'^{mask} =\s*mask_of (\w+)\.position \(([^)]*) ∷ \[\]\)', text, re.M)
+    module = found and re.search(rf'^use Rattle\.x86defs\.specs\.(\w+) as {found[1]}$', text, re.M)
     if not module:
         raise Unlisted(f'{EDITION} has no mask {mask} of named bits')
     positions = dict(re.findall(r'^position (\S+) = (\d+)$', (root / f'{NAMES}/{module[1]}.antt').read_text(encoding='utf-8'), re.M))
     names = [name.rsplit('.', 1)[1] for name in found[2].split(' ∷ ')]
-    return [(name.replace('-', '').upper(), positions[name]) for name in names]
+    return [(name.replace('_', '').upper(), positions[name]) for name in names]
 
 
 def rows(root):
     """Of each edition from 2 on, for each of the two registers, [(name, bit)] that it clears and the one before it leaves."""
     text = (root / EDITION).read_text(encoding='utf-8')
-    found = re.search(r'^furtherEditions =\s+(.*?)\s+∷ \[\]$', text, re.M | re.S)
+    found = re.search(r'^further_editions =\s+(.*?)\s+∷ \[\]$', text, re.M | re.S)
     masks = found and [re.fullmatch(r'bits (\w+) (\w+)', row) for row in re.split(r'\s+∷\s+', found[1])]
     if not masks or None in masks:
         raise Unlisted(f'{EDITION} has no editions')

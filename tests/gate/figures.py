@@ -33,7 +33,7 @@ NUMBER, LEAF, DIGEST = '[0-9,]*[0-9]', '0x[0-9A-F]+', '[0-9a-f]{64}'
 
 def most_components(root):
     """The most bits that a combined mask has from 2 up: each is a row of leaf Dh."""
-    found = re.search(r'componentsIn x ≤ (\d+)', (root / MASK).read_text(encoding='utf-8'))
+    found = re.search(r'components_in x ≤ (\d+)', (root / MASK).read_text(encoding='utf-8'))
     if not found:
         raise Unlisted(f'{MASK} has no bound of the components')
     return int(found[1])
@@ -104,7 +104,7 @@ def with_figures(text, place, known):
         matched = (FORMS[found[2]] if found[1] == 'editions' else
                    LEAF if name.startswith('end:') else DIGEST if name == 'fingerprint' else NUMBER)
         pattern, wanted, at = f'{pattern}{re.escape(before)}{matched}', wanted + before + number, found.end()
-    pattern, wanted = f'(?<![0-9]){pattern}(?![0-9]){re.escape(place[at:])}', wanted + place[at:]
+    pattern, wanted = f'(?<![0-9_]){pattern}(?![0-9]){re.escape(place[at:])}', wanted + place[at:]
     made, many = re.subn(pattern, lambda _: wanted, text)
     return made if many else None
 
@@ -112,7 +112,7 @@ def with_figures(text, place, known):
 def renumbered(root, old, new):
     """Puts the new number of places, and of registers, for the old one. Gives the files that changed."""
     numbers, changed = {str(old): str(new), str(4 * old): str(4 * new)}, []
-    for path in sorted((root / 'crates').glob('*/*/**/*')):
+    for path in sorted(path for part in ('src', 'specs', 'proofs') for path in (root / 'crates').glob(f'*/{part}/**/*')):
         file = str(path.relative_to(root))
         if path.suffix in ('.antt', '.rt') and not file.startswith(BY_HAND):
             text = path.read_text(encoding='utf-8')

@@ -1,7 +1,7 @@
 """kept_leaves.py: the kept leaves, their places and the kinds of their registers, as the definitions have them.
 
-The leaves are `keptLeaves` of crates/masking/specs/Kept.antt with the numbers of crates/x86defs/specs/Functions.antt, those that every table needs
-the two lists of crates/checks/specs/Required.antt, the kinds `registerKinds` of crates/finish/specs/Kinds.antt; the names of places are the constants
+The leaves are `kept_leaves` of crates/masking/specs/Kept.antt with the numbers of crates/x86defs/specs/Functions.antt, those that every table needs
+the two lists of crates/checks/specs/Required.antt, the kinds `register_kinds` of crates/finish/specs/Kinds.antt; the names of places are the constants
 of crates/masking/src/place.rt.
 """
 import re
@@ -36,10 +36,10 @@ def defined(root):
 
 def table(root):
     """[(name of a leaf, first subleaf, last subleaf, masks)] of the rows of the table of kept leaves, as they are written."""
-    there = re.search(r'^keptLeaves avic =\n((?:    .*\n)+)', read(root, KEPT), re.MULTILINE)
+    there = re.search(r'^kept_leaves avic =\n((?:    .*\n)+)', read(root, KEPT), re.MULTILINE)
     found = re.findall(r'\bkept (\w+) (?:made|whole|\(subleaves (\d+) (\d+)\)) (.*)\n', there[1] if there else '')
     if not found:
-        raise Unlisted(f'{KEPT} has no keptLeaves')
+        raise Unlisted(f'{KEPT} has no kept_leaves')
     return found
 
 
@@ -61,7 +61,7 @@ def masks(root):
 def required(root):
     """The places that every table needs an entry for, in the order in which building asks for them."""
     numbers, text, found = defined(root), read(root, REQUIRED), []
-    for name in 'commonRequiredLeaves', 'snpRequiredLeaves':
+    for name in 'common_required_leaves', 'snp_required_leaves':
         lines = re.search(rf'^{name} =\n((?:    .*\n)+)', text, re.MULTILINE)
         for leaf, subleaf in re.findall(r'(?:whole|sub) (\w+)(?: (\d+))?\n', lines[1] if lines else ''):
             if leaf not in numbers:
@@ -79,7 +79,7 @@ def places(root):
 
 def kinds(root):
     """{place: the kinds of its four registers} of the places that the table names, in the table's order."""
-    table = re.search(r'^registerKinds =\n((?:    .*\n)+)', read(root, KINDS), re.MULTILINE)
+    table = re.search(r'^register_kinds =\n((?:    .*\n)+)', read(root, KINDS), re.MULTILINE)
     known, found = places(root), {}
     for leaf, subleaf, *four in re.findall(r'leaf \(function (0x[0-9A-F]+)\) (\d+) (\w+) (\w+) (\w+) (\w+)', table[1] if table else ''):
         place = next((each for each in known if (each.leaf, each.subleaf or 0) == (int(leaf, 16), int(subleaf))), None)
@@ -87,7 +87,7 @@ def kinds(root):
             raise Unlisted(f'{KINDS}: {leaf} {subleaf} is no place of {KEPT}')
         found[place] = four
     if not found:
-        raise Unlisted(f'{KINDS} has no registerKinds')
+        raise Unlisted(f'{KINDS} has no register_kinds')
     return found
 
 

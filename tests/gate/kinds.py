@@ -1,5 +1,5 @@
 #!/usr/bin/env python3
-"""kinds.py: what follows from the table of feature registers, `registerKinds` of crates/finish/specs/Kinds.antt.
+"""kinds.py: what follows from the table of feature registers, `register_kinds` of crates/finish/specs/Kinds.antt.
 
 --write writes it, and --check fails where a file has something else:
   crates/register_masks/src/lib.rt        the arms of `masks_at`
@@ -18,9 +18,9 @@ from made_files import replaced
 from proved_source import Unlisted
 
 ROOT = Path(__file__).resolve().parents[2]
-CODE, PROOF, HEADER = 'crates/register_masks/src/lib.rt', 'crates/register_masks/proofs/masks_at/Proof.antt', 'include/snp_cpuid.h'
+CODE, PROOF, HEADER = 'crates/register_masks/src/lib.rt', 'crates/register_masks/proofs/masks_at/Answers.antt', 'include/snp_cpuid.h'
 # the feature bits of a kind, and the bits that must agree
-MASKS = {'feature': ('ALL', '0'), 'featureBut28': ('ALL_BUT_BIT_28', 'BIT_28'), 'area': ('0', '0'), 'freed': ('0', '0'), 'other': ('0', 'ALL')}
+MASKS = {'feature': ('ALL', '0'), 'feature_but28': ('ALL_BUT_BIT_28', 'BIT_28'), 'area': ('0', '0'), 'freed': ('0', '0'), 'other': ('0', 'ALL')}
 WIDTH = 150
 
 
@@ -45,24 +45,27 @@ def code(text, rows):
 
 
 def proof(text, rows):
-    """The proof with its places: the code names so many, and the last arm is for all others."""
+    """The proof with its places: the list of those that the code names, that any other is none of them, and two answers for each."""
     many = len(rows)
     listed = textwrap.fill(' ∷ '.join(str(number) for number, _, _ in rows) + ' ∷ []', WIDTH - 20)
-    text = replaced(PROOF, text, r'^named = isOne \(.*\)\n', lambda _: f'named = isOne ({listed})\n')
-    tests = ''.join(f'      ne-eqb _ {number} (r{" .0" * (many - 1 - at)} .1),\n' for at, (number, _, _) in enumerate(rows))
-    text = replaced(PROOF, text, r'(    rw \(\n)(?:      ne-eqb .*\n)+', lambda found: found[1] + tests)
-    text = re.sub(r'returns-\d+', f'returns-{many + 1}', text)
-    text = re.sub(r'masks\d+ \.ensures ∙', f'masks{many + 1} .ensures ∙', text)
-    needs = '    (λ c κs. search needs)\n' * (many + 1)
-    own = ''.join(f'    (λ c. rw (c .masks{at if at > 1 else ""} .ensures, c .before .match .keys{at}))\n' for at in range(1, many + 1))
-    return replaced(PROOF, text, r'(    \(tie\.spec\n)(?:    \(λ .*\n)+', lambda found: found[1] + needs + own)
+    text = replaced(PROOF, text, r'^named = is_one \(.*\)\n', lambda _: f'named = is_one ({listed})\n')
+    tests = ''.join(f'      ne_eqb _ {number} c.in_default.in_default-own.rest{".0" * (many - 1 - at)}.1,\n' for at, (number, _, _) in enumerate(rows))
+    text = replaced(PROOF, text, r'(    rw \(\n)(?:      ne_eqb .*\n)+', lambda found: found[1] + tests)
+    # the first call has no place in its name
+    calls = [f'masks-in-{number}' if at else 'masks' for at, (number, _, _) in enumerate(rows)] + ['masks-in_default']
+
+    def answer(name, body):
+        return f'pub {name} : goal.{name}\nunfolding kinds_at register_kinds slot kept_leaves\n{name} c = {body}\n'
+    needs = [answer(call.replace('masks', 'masks-requires'), 'search rules') for call in calls]
+    own = [answer(f'returns-in-{number}', f'rw (c.{call}.ensures, c.in-{number}.is)') for call, (number, _, _) in zip(calls, rows)]
+    return replaced(PROOF, text, r'(?:^pub masks-requires.*\n.*\n.*\n\n)+(?:^pub returns-in-\d+ : .*\n.*\n.*\n\n?)+', '\n'.join(needs + own))
 
 
 def header(text, root):
     """The feature registers in words: 1.EDX but its bit 28, 7.0.EBX, ECX and EDX."""
     found = []
     for place, four in kinds(root).items():
-        held = [REGISTERS[at] + (' but its bit 28' if kind == 'featureBut28' else '') for at, kind in enumerate(four) if kind.startswith('feature')]
+        held = [REGISTERS[at] + (' but its bit 28' if kind == 'feature_but28' else '') for at, kind in enumerate(four) if kind.startswith('feature')]
         if held:
             found.append(f'{place.written()}.' + (', '.join(held[:-1]) + ' and ' if len(held) > 1 else '') + held[-1])
     words = f'Feature registers are {"; ".join(found)}.'

@@ -56,7 +56,7 @@ def table_of_masks(path, text, root):
         name = leaf[places_of[0].leaf]
         if there and there[0][1] == name:
             made += there.pop(0)[0]
-        elif mask == 'allOnes':
+        elif mask == 'all_ones':
             registers = ''.join(f'        {register}: ONES,\n' for register in ('eax', 'ebx', 'ecx', 'edx'))
             subleaf = 'false' if places_of[0].subleaf is None else 'true'
             made += f'    KeptLeaf {{\n        leaf: CpuidFunction(leaf::{name}),\n{registers}        subleaf: {subleaf},\n    }},\n'
@@ -85,7 +85,7 @@ def command_masks(path, text, root):
         leaf, subleaf = row[0]
         if leaf in MADE or any(first <= leaf <= last and subleaf == own for first, last, own in there):
             continue
-        if mask != 'allOnes':
+        if mask != 'all_ones':
             raise Unlisted(f'{path} has no line for {leaf:X}, and {KEPT} does not keep it whole')
         made = f'leaf({number(leaf)}, [Whole; 4])' if subleaf is None else f'subleaves({number(leaf)}, {subleaf}, {row[-1].subleaf}, [Whole; 4])'
         at = sum((first, own or 0) < (leaf, subleaf or 0) for first, _, own in there)
@@ -149,6 +149,6 @@ def flags(kept):
 def with_flags(path, text, kept, suffix):
     """A file that states the flags and the indexes."""
     for name, made in zip(('flags', 'indexes'), flags(kept)):
-        text = replaced(path, text, rf'^(pub {name}-{suffix} : {name} ≡ ).*\n', lambda old, said=made: f'{old[1]}{said}\n')
+        text = replaced(path, text, rf'^(pub {name}_{suffix} : {name} ≡ ).*\n', lambda old, said=made: f'{old[1]}{said}\n')
     return text
 

@@ -1,5 +1,5 @@
 #!/usr/bin/env python3
-"""leaves.py: where the kept leaves stand in lists that follow from the table of them, made of `keptLeaves` of crates/masking/specs/Kept.antt.
+"""leaves.py: where the kept leaves stand in lists that follow from the table of them, made of `kept_leaves` of crates/masking/specs/Kept.antt.
 
 --write writes them, and --check fails where a file has something else:
   crates/x86defs/src/leaf.rt, masking/src/place.rt    the numbers of the leaves, and a name for the first place of each
@@ -18,7 +18,7 @@
   differential/compare/src/pages.rs         the required leaves in the order of their lists
   include/refusals.txt, docs/COMMAND.md     what `explain` prints of refusal 3
 A new run of the code is written by hand, with any numbers; figures.py --write comes before this. Every place is needed but the two made here and Dh's
-subleaves from 2 up: `all-found` of crates/finish/specs/PlaceLaws.antt holds that.
+subleaves from 2 up: `all_found` of crates/finish/specs/PlaceLaws.antt holds that.
 """
 from itertools import groupby
 from pathlib import Path
@@ -104,19 +104,21 @@ def place_of(path, text, root, kept):
 
 
 def place_of_proof(path, text, kept):
-    """The arms in the proof of `place_of`: the leaves with an arm of their own in the order of the code, then the run."""
-    arms, called = '', 0
-    for key, (_, _, indexed) in enumerate(alone(kept), 1):
+    """The answers for the arms of `place_of` in the order of the code: what the call for a leaf with subleaves requires, and each arm's return."""
+    def answer(name, body):
+        return f'pub {name} : goal.{name}\nunfolding place_of kept_leaves tabulate\n{name} c = {body}\n\n'
+    needs, arms = '', ''
+    for leaf, _, indexed in alone(kept):
         if indexed:
-            called += 1
-            call = f'subleaf-place{called if called > 1 else ""}'
-            arms += (f'    (λ c. (subleaf-run _ _ (c .before .before .args .subleaf) (c .before .match .keys{key}) '
-                     f'(c .{call} .ensures .0) refl refl, c .{call} .ensures .1))\n')
+            own = f'-in-{leaf}' if needs else ''
+            needs += answer(f'subleaf_place-requires{own}', 'search rules')
+            body = (f'value = subleaf_run _ _ c.args.subleaf c.in-{leaf}.is c.subleaf_place{own}.ensures.value refl refl; '
+                    f'small = c.subleaf_place{own}.ensures.small')
         else:
-            arms += f'    (λ c. (rw (c .match .keys{key}), search needs))\n'
-    text = replaced(path, text, r'^    \(tie\.spec\n(?:    \(λ c κs\. search needs\)\n)+',
-                    lambda _: '    (tie.spec\n' + '    (λ c κs. search needs)\n' * called)
-    return replaced(path, text, r'(?:^    \(λ c\. \((?:rw \(c \.match|subleaf-run _ _) .*\n)+', lambda _: arms)
+            body = f'value = rw c.in-{leaf}.is; small = search rules'
+        arms += answer(f'returns-in-{leaf}', f'record {{ {body} }}')
+    text = replaced(path, text, r'(?:^pub subleaf_place-requires.*\n.*\n.*\n\n)+', needs)
+    return replaced(path, text, r'(?:^pub returns-in-\d+ : .*\n.*\n.*\n\n)+', arms)
 
 
 def last_leaves(path, text, root, kept):
@@ -183,16 +185,16 @@ def made(root):
     of('crates/masking/src/masks.rt', leaf_code.table_of_masks, root)
     of('crates/masking/src/run.rt', code_runs, root, kept)
     of('crates/masking/src/lib.rt', place_of, root, kept)
-    of('crates/masking/proofs/place_of/Proof.antt', place_of_proof, kept)
+    of('crates/masking/proofs/place_of/Answers.antt', place_of_proof, kept)
     single = ' ∷ '.join(f'0x{leaf:X}' for leaf, _, _ in reversed(alone(kept)))
-    of('crates/masking/specs/PlaceOfLaws.antt', replaced, r'^singleLeaves =\n    .*\n', f'singleLeaves =\n    {single} ∷ []\n')
+    of('crates/masking/specs/PlaceOfLaws.antt', replaced, r'^single_leaves =\n    .*\n', f'single_leaves =\n    {single} ∷ []\n')
     of('crates/rows/src/checked/required.rt', leaf_code.required_places, root, kept)
     bits, with_1 = leaf_code.not_kept(kept)
     of('crates/collect/src/full.rt', replaced, r'^pub const NOT_KEPT: .*\n', bits)
     of('crates/collect/must-fail/several.edit', replaced, r'^old: pub const NOT_KEPT: .*\nnew: .*\n', f'old: {bits}new: {with_1}')
     of('crates/lookup/src/lib.rt', last_leaves, root, kept)
     of('crates/kvm_export/specs/Flags.antt', leaf_code.with_flags, kept, 'are')
-    of('crates/theorems/specs/ListTheorems.antt', leaf_code.with_flags, kept, 'by-place')
+    of('crates/theorems/specs/ListTheorems.antt', leaf_code.with_flags, kept, 'by_place')
     of('include/snp_cpuid.h', in_paragraph, 'by rising leaf and subleaf: ', '. origins says', words(kept, 'h'), ' * ', 150)
     of('rust/src/places.rs', array, 'RUNS', len(rows) + 1, table)
     of('rust/tests/memory.rs', array, 'RUNS', len(rows), tried)

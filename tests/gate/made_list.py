@@ -13,7 +13,7 @@ class Unlisted(Exception):
 
 def groups(root):
     """[(heading, {crate: the crates that its line names})] in the order of crates.txt, where a line that opens with ## is a heading. The kit's own
-    crates are left out."""
+    crates are left out, and the word that makes a crate a static library."""
     found, above = [], set()
     for line in (root / 'crates.txt').read_text(encoding='utf-8').splitlines():
         if line.startswith('##'):
@@ -22,7 +22,7 @@ def groups(root):
             name, names = (part.strip() for part in line.split(':'))
             if not found:
                 raise Unlisted(f'{name} stands above the first heading of crates.txt')
-            found[-1][1][name] = names.split()
+            found[-1][1][name.removesuffix(' staticlib')] = names.split()
     listed = {name for _, named in found for name in named}
     folders = {path.name for path in (root / 'crates').iterdir() if path.is_dir()}
     for name in sorted(folders ^ listed):

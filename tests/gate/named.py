@@ -4,7 +4,7 @@
 Read are the comments of the .rt, .antt and .edit files under crates/, and README.md, CONTRIBUTING.md, CHANGELOG.md and docs/*.md. Checked are
   a path       that begins with a top folder (tests/run) or with a crate (bits/specs/Bits, with .antt or without)
   a file       of a crate (specs/Bits.antt, Bits.antt, place.rt): the comment's own crate or one named before it in the paragraph; in a row of a table
-               also a further file as in bits/specs/Bits `has`; Lists `concat`
+               also a further file as in bits/specs/Bits `has`; Lists `concat`. Bits.antt alone is that of specs/ or of proofs/
   a link       relative to its document; what follows # is a heading of the page
   an item      crate::item, of the crate's src; snp_cpuid::item may also be of the crate for Rust
   a crate      where the word crate stands before its name, in a picture after |   or +--, and in a list as in (over bits, rows)
@@ -12,9 +12,9 @@ Read are the comments of the .rt, .antt and .edit files under crates/, and READM
   other names  with an underscore, and in backticks those with a hyphen or a capital too: a name that a crate defines or brings in, a crate, a file of
                specs/, or a word of the code beside the crates
 
-A word in capitals, * and .. in a path stand for any name (crates/NAME/must-fail/LABEL.edit); there must be one such path. Three documents name what
-is gone: docs/CHANGES.md and docs/HISTORY.md tell what has moved away, and only their links are checked; docs/DECISIONS.md tells what was not chosen, and
-its other names are not checked.
+A word in capitals, * and .. in a path stand for any name (crates/NAME/must-fail/LABEL.edit); there must be one such path. Four documents name what is
+gone: docs/CHANGES.md and docs/HISTORY.md tell what has moved away and docs/PORT.md what had another spelling, and only their links are checked;
+docs/DECISIONS.md tells what was not chosen, and its other names are not checked.
 
 Each thing that is not there is a line FILE:LINE: what. The last line counts the documents and the names that are there, and the exit status is 0 only
 where none is missing.
@@ -28,7 +28,7 @@ import sys
 ROOT = Path(__file__).resolve().parents[2]
 TOP = 'crates|docs|tests|rust|include|differential|bench|install|examples'
 INSIDE = 'specs|src|proofs|must-fail'
-LINKS_ONLY = {'docs/CHANGES.md', 'docs/HISTORY.md'}
+LINKS_ONLY = {'docs/CHANGES.md', 'docs/HISTORY.md', 'docs/PORT.md'}
 NO_OTHER_NAMES = {'docs/DECISIONS.md'}
 # a name that stands for any; names of Rust's library and of Linux
 ELSEWHERE = {'Name', 'HashMap', 'kernel_fpu_begin'}
@@ -104,7 +104,9 @@ class Repository:
         self.names = cache(self._names)
 
     def glob(self, path):
-        return sorted(found.relative_to(self.root).as_posix() for found in self.root.glob(path))
+        found = sorted(found.relative_to(self.root).as_posix() for found in self.root.glob(path))
+        # what rt keeps of a crate has copies of its files
+        return [path for path in found if not re.match(r'crates/\w+/out/', path)]
 
     def _there(self, path):
         """The path as it stands in the repository, where a specification may be named without .antt, and an edit of a crate that has the name of a
@@ -155,9 +157,12 @@ class Repository:
         """Whether a file, or any of a crate's folder, defines a name; None where that cannot be told."""
         crate = re.fullmatch(r'crates/(\w+)/?', path)
         if crate:
-            return name in self.items(crate[1]) or any(name in self.definitions(each) for each in self.glob(f'crates/{crate[1]}/specs/*.antt'))
+            return name in self.items(crate[1]) or any(
+                name in self.definitions(each) for part in ('specs', 'proofs') for each in self.glob(f'crates/{crate[1]}/{part}/*.antt'))
         if path.endswith('.antt'):
-            return name in self.definitions(path)
+            # a file of specs/ may have a part of it in proofs/
+            beside = path.replace('/specs/', '/proofs/')
+            return name in self.definitions(path) or beside != path and self.there(beside) is not None and name in self.definitions(beside)
         if path.endswith('.rt') and not re.fullmatch(KEYWORDS, name):
             return name.split('::')[-1] in self.items_of(path)
         return None
@@ -256,7 +261,8 @@ class Reading:
             return file
         inside = token['own'] or f'{"specs" if token["bare"].endswith(".antt") else "src"}/{token["bare"]}'
         named = [token['whose']] if token['whose'] else named
-        found = (self.repository.there(f'crates/{crate}/{inside}') for crate in named or sorted(self.repository.crates))
+        places = [inside] if token['own'] else [inside, inside.replace('specs/', 'proofs/')]
+        found = (self.repository.there(f'crates/{crate}/{place}') for crate in named or sorted(self.repository.crates) for place in places)
         of = ' of ' + ', '.join(sorted(set(named))) if named else ''
         return self.hold(place, next(filter(None, found), None), f'there is no {inside}{of}')
 

@@ -1,7 +1,7 @@
 """Runs the program on real input and compares every byte that it writes with the model's output: tables, each refusal with all its details, and
 input that is too long.
 
-program_answers.py [PROGRAM]      target/bin/snp_cpuid_image where none is named
+program_answers.py [PROGRAM]      crates/snp_cpuid_image/out/snp_cpuid_image where none is named
 """
 from collections import Counter
 from functools import cache
@@ -13,7 +13,7 @@ import model
 from pagesets import STATE, minimal, pages, rich, split, spread, with_byte, with_topology
 import vector_groups
 
-PROGRAM = Path(__file__).resolve().parents[2] / 'target' / 'bin' / 'snp_cpuid_image'
+PROGRAM = Path(__file__).resolve().parents[2] / 'crates/snp_cpuid_image/out/snp_cpuid_image'
 LONGEST = 65536
 
 # every refusal that building can give, with its details: document 01, "Where each check stands"

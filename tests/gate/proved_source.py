@@ -1,13 +1,14 @@
 """proved_source.py: the exported structs and functions as the proved source has them, and the numbers of the refusals.
 
-Structs are those marked #[repr(C)] in crates/*/src, functions those marked `pub extern "C" fn` in crates/snp_cpuid/src. A parameter that lends a
-slice is a pointer and a length for C and Rust, one that lends an array a pointer alone.
+Structs are those marked #[repr(C)] in crates/*/src, functions those marked `pub extern "C" fn` in crates/snp_cpuid_c/src. A parameter that lends
+a slice is a pointer and a length for C and Rust, one that lends an array a pointer alone.
 """
 import re
 from typing import NamedTuple
 
-STRUCT = re.compile(r'((?:^// [^\n]*\n)*)^#\[repr\(C\)\]\npub struct SnpCpuid(\w+) \{\n(.*?)^\}', re.MULTILINE | re.DOTALL)
-FUNCTION = re.compile(r'((?:^// [^\n]*\n)*)^#\[no_mangle\]\npub extern "C" fn (\w+)\((.*?)\)(?: -> (\w+))?\s*(?:ensures|\{)',
+STRUCT = re.compile(r'((?:^// [^\n]*\n)*)^#\[repr\(C\)\]\n(?:#\[derive\([^)\n]*\)\]\n)?pub struct SnpCpuid(\w+) \{\n(.*?)^\}',
+                    re.MULTILINE | re.DOTALL)
+FUNCTION = re.compile(r'((?:^// [^\n]*\n)*)^#\[unsafe\(no_mangle\)\]\npub extern "C" fn (\w+)\((.*?)\)(?: -> (\w+))?\s*(?:ensures|\{)',
                       re.MULTILINE | re.DOTALL)
 LENT = re.compile(r'&(mut )?\[(u8|u32|u64)(?:; (\w+))?\]$')
 REFUSED = re.compile(r'(Refusal|TopologyError)::(\w+)(?:\(.*?\))? => (?:with_s|at_leaf)\((\d+), ')
@@ -86,13 +87,13 @@ def parameters(function, text):
 def functions(root):
     """Every exported function, those over a kept table first."""
     found = []
-    for text in sources(root, 'snp_cpuid'):
+    for text in sources(root, 'snp_cpuid_c'):
         for comment, name, given, answer in FUNCTION.findall(text):
             found.append(Function(name, words_of(comment), parameters(name, given), (answer or '').removeprefix('SnpCpuid')))
-        if len(FUNCTION.findall(text)) != text.count('#[no_mangle]'):
-            raise Unlisted('crates/snp_cpuid/src has a #[no_mangle] that is not read as a function')
+        if len(FUNCTION.findall(text)) != text.count('#[unsafe(no_mangle)]'):
+            raise Unlisted('crates/snp_cpuid_c/src has a #[unsafe(no_mangle)] that is not read as a function')
     if not found:
-        raise Unlisted('crates/snp_cpuid/src exports nothing')
+        raise Unlisted('crates/snp_cpuid_c/src exports nothing')
     return sorted(found, key=lambda function: not function.name.startswith('snp_cpuid_table_'))
 
 

@@ -1,67 +1,66 @@
 #!/usr/bin/env python3
 """reader_promise.py: whether what stands above the page reader relies on what the reader promises with each entry, that its reserved bytes are zero.
 
-In a copy of the crates the promise is taken out of the contract of `pages::reader::take`: it still says that it gives the entry there or the leaf of that
+Beside the crates the promise is taken out of the contract of `pages::reader::take`: it still says that it gives the entry there or the leaf of that
 entry, and no longer which. The code stays. The reader must still be proved, and the walk above it, crate collect, must not be, for want of that fact.
 """
 from pathlib import Path
-import os
-import shutil
-import subprocess
 import sys
 import tempfile
 
+import own_check
+
 ROOT = Path(__file__).resolve().parents[2]
 
-WEAKER = 'readBy b (now (pages .entry)) index'
-# file, what stands there once, what takes its place
+GIVEN = 'read_by b pages.now index'
+MISSED = ' ∙ c.take-read.ensures.1 ∙ by_clean {b = c.take-read.ensures.0} _ _ (search rules))'
+# crate, file, what stands there once, what takes its place
 CHANGES = (
-    ('pages/src/reader.rt', 'ghost use mathlib.Core.Path.{_≡_};', 'ghost use mathlib.Core.Path.{_≡_};\nghost use mathlib.Core.Bool.{Bool};'),
-    ('pages/src/reader.rt', 'specs.Read.{Readable, readAt};', 'specs.Read.{Readable, readAt, readBy};'),
-    ('pages/src/reader.rt', '    ensures { λ r. ⌜ r ≡ readAt (now (pages .entry)) index ⌝ }', '    ensures { λ r. ⌜ ((b : Bool) × (r ≡ ' + WEAKER + ')) ⌝ }'),
-    ('pages/specs/Read.antt', 'unfoldable pub readAt :', 'abbrev pub readBy : Bool → List ℕ → CpuidPageIndex → Read\n'
-     'readBy b s i = pick b (Read′.Entry (parsed (entryHere s i))) (Read′.Unclean (entryHere s i .leaf))\n\nunfoldable pub readAt :'),
-    ('pages/specs/ReadLaws.antt', 'cleanHere, readAt, given}', 'cleanHere, readAt, readBy, given}'),
-    ('pages/specs/ReadLaws.antt', '-- by each answer of the code\n',
-     'pub read-by : (s : List ℕ) (i : CpuidPageIndex) → readAt s i ≡ readBy (cleanHere s i) s i\nunfolding readAt\nread-by s i = refl\n\n'
-     'pub by-clean : {b : Bool} (s : List ℕ) (i : CpuidPageIndex) → b ≡ cleanHere s i → readBy b s i ≡ readAt s i\n'
-     'by-clean s i e = ap (λ (c : Bool). readBy c s i) e ∙ sym (read-by s i)\n\n-- by each answer of the code\n'),
-    ('pages/proofs/reader/take/Proof.antt', 'use mathlib.Core.Path.{sym, _∙_}',
-     'use mathlib.Core.Path.{ap}\nuse mathlib.Core.Bool.{true, false}\nuse Rattle·pages·specs.specs.declared.ParsedCpuidEntry.{ParsedCpuidEntry}\n'
-     'use Rattle·pages·specs.specs.declared.reader.Read.the-variants.{Entry, Unclean}'),
-    ('pages/proofs/reader/take/Proof.antt', 'ReadLaws.{readable-within, clean-read, unclean-read}', 'ReadLaws.{readable-within}'),
-    ('pages/proofs/reader/take/Proof.antt', 'in clean-read _ _ (k .before .entry-at .ensures) (sym (k .clean-at .ensures) ∙ c .if1 .taken)',
-     'in (true, ap (λ (x : ParsedCpuidEntry). Entry x) (k .before .entry-at .ensures))'),
-    ('pages/proofs/reader/take/Proof.antt', 'in unclean-read _ _ (k .before .entry-at .ensures) (sym (k .clean-at .ensures) ∙ c .before .if1 .left)',
-     'in (false, ap (λ (x : ParsedCpuidEntry). Unclean (x .leaf)) (k .before .entry-at .ensures))'),
-    ('collect/proofs/collect_into/Proof.antt', 'ReadLaws.{read-entry}', 'ReadLaws.{read-entry, by-clean}'),
-    ('collect/proofs/collect_into/Proof.antt', '.read .given .1) ∙ k .take .ensures)',
-     '.read .given .1) ∙ k .take .ensures .1 ∙ by-clean {b = k .take .ensures .0} _ _ (search needs))'),
-    ('collect/proofs/collect_into/Proof.antt', '.read2 .given .1) ∙ k .take .ensures)',
-     '.read2 .given .1) ∙ k .take .ensures .1 ∙ by-clean {b = k .take .ensures .0} _ _ (search needs))'),
+    ('pages', 'src/reader.rt', 'Prelude.{◌≡◌};', 'Prelude.{◌≡◌, Bool};'),
+    ('pages', 'src/reader.rt', 'specs.Read.{Readable, read_at};', 'specs.Read.{Readable, read_by};'),
+    ('pages', 'src/reader.rt', '    ensures { result ≡ read_at pages.now index }', f'    ensures {{ (b : Bool) × (result ≡ {GIVEN}) }}'),
+    ('pages', 'specs/Read.antt', 'unfoldable pub read_at :', 'abbrev pub read_by : Bool → List ℕ → CpuidPageIndex → Read\n'
+     "read_by b s i = pick b (Read'.Entry (parsed (entry_here s i))) (Read'.Unclean (entry_here s i).leaf)\n\nunfoldable pub read_at :"),
+    ('pages', 'specs/ReadLaws.antt', 'clean_here, read_at, given}', 'clean_here, read_at, read_by, given}'),
+    ('pages', 'specs/ReadLaws.antt', '-- by each answer of the code\n',
+     'pub read_as : (s : List ℕ) (i : CpuidPageIndex) → read_at s i ≡ read_by (clean_here s i) s i\nunfolding read_at\nread_as s i = refl\n\n'
+     'pub by_clean : {b : Bool} (s : List ℕ) (i : CpuidPageIndex) → b ≡ clean_here s i → read_by b s i ≡ read_at s i\n'
+     'by_clean s i e = ap (λ (c : Bool). read_by c s i) e ∙ sym (read_as s i)\n\n-- by each answer of the code\n'),
+    ('pages', 'proofs/reader/take/Answers.antt', 'use mathlib.Core.Path.{sym, ◌∙◌}',
+     'use mathlib.Core.Path.{ap}\nuse mathlib.Core.Bool.{true, false}\nuse Rattle.pages.specs.declared.ParsedCpuidEntry.{ParsedCpuidEntry}\n'
+     'use Rattle.pages.specs.declared.reader.Read.TheVariants.{Entry, Unclean}'),
+    ('pages', 'proofs/reader/take/Answers.antt', 'ReadLaws.{readable_within, clean_read, unclean_read}', 'ReadLaws.{readable_within}'),
+    ('pages', 'proofs/reader/take/Answers.antt', ' c = clean_read _ _ c.entry_at-entry.ensures (sym c.clean_at.ensures ∙ c.if-clean_at.true)',
+     ' c = (true, ap (λ (x : ParsedCpuidEntry). Entry x) c.entry_at-entry.ensures)'),
+    ('pages', 'proofs/reader/take/Answers.antt', ' c = unclean_read _ _ c.entry_at-entry.ensures (sym c.clean_at.ensures ∙ c.if-clean_at.false)',
+     ' c = (false, ap (λ (x : ParsedCpuidEntry). Unclean x.leaf) c.entry_at-entry.ensures)'),
+    ('collect', 'proofs/collect_into/Answers.antt', 'ReadLaws.{read_entry}', 'ReadLaws.{read_entry, by_clean}'),
+    ('collect', 'proofs/collect_into/Answers.antt', '(sym c.in-Entry.is ∙ c.take-read.ensures)', f'(sym c.in-Entry.is{MISSED}'),
+    ('collect', 'proofs/collect_into/Answers.antt', '(sym c.in-Unclean.is ∙ c.take-read.ensures)', f'(sym c.in-Unclean.is{MISSED}'),
 )
 
 
+def texts(crate):
+    """{path: text} of the files of a crate that are changed."""
+    found = {}
+    for _, path, old, new in (change for change in CHANGES if change[0] == crate):
+        text = found.get(path) or (ROOT / 'crates' / crate / path).read_text(encoding='utf-8')
+        if text.count(old) != 1:
+            sys.exit(f'{crate}/{path}: not once in it: {old}')
+        found[path] = text.replace(old, new)
+    return found
+
+
 def main():
+    own_check.hold_libraries(ROOT, 'collect')
     with tempfile.TemporaryDirectory() as room:
-        # of target/ what rt takes of an earlier proof, and nothing that a test or proof beside this one may write
-        below = next(line.split(':')[1].split() for line in (ROOT / 'crates.txt').read_text(encoding='utf-8').splitlines() if line.startswith('collect:'))
-        for name in ('crates', 'target/stamp', *(f'target/rlib/{crate}.rlib' for crate in below)):
-            if (ROOT / name).is_dir():
-                shutil.copytree(ROOT / name, Path(room) / name, symlinks=True, ignore=shutil.ignore_patterns('must-fail'))
-        shutil.copy(ROOT / 'crates.txt', room)
-        for name, old, new in CHANGES:
-            path = Path(room) / 'crates' / name
-            text = path.read_text(encoding='utf-8')
-            if text.count(old) != 1:
-                sys.exit(f'{name}: not once in it: {old}')
-            path.write_text(text.replace(old, new), encoding='utf-8')
-        run = subprocess.run(['rt', 'check', 'collect'], cwd=room, env={**os.environ, 'RT_CUT': '0'}, text=True,
-                             stdout=subprocess.PIPE, stderr=subprocess.STDOUT)
-    said = run.stdout
-    wanted = [line for line in said.split('\n') if 'collect/proofs/collect_into' in line and 'no proof of' in line and 'cleanHere' in line]
-    if 'rt: pages proved' not in said or 'rt: collect NOT PROVED' not in said or not wanted:
-        sys.exit(said[-4000:] + '\nthe walk does not miss the promise, or something else fails')
+        pages = Path(room) / 'pages.rlib'
+        proved, said = own_check.ask(ROOT, 'build', 'pages', texts('pages'), '--statements', '-o', pages)
+        status, walk = own_check.ask(ROOT, 'check', 'collect', texts('collect'), instead={'pages': pages}) if proved == 0 else (proved, '')
+    errors = [line for line in walk.split('\n') if 'proofs/collect_into' in line and ': error: ' in line]
+    wanted = [line for line in errors if 'no proof of' in line and 'clean_here' in line]
+    if proved != 0 or status != 1 or not wanted:
+        sys.exit(said[-2000:] + walk[-4000:] + '\nthe walk does not miss the promise, or something else fails')
     print(f'{len(wanted)} facts missed above the reader without its promise, and the reader still proved')
 
 

@@ -3,8 +3,8 @@
 
 --write writes them, and --check fails where a file has something else:
   crates/table/src/lib.rt, numbers.rt      the cases of `Refusal`, the arms of `refusal_numbers`
-  crates/table/specs, proofs               `details`, `refusalWith`, `refusal-told`; the proof of `refusal_numbers`, the whole file
-  crates/lines/src, specs                  what each number names; `only-named`
+  crates/table/specs, proofs               `details`, `refusal_with`, `refusal_told`; the proof of `refusal_numbers`, the whole file
+  crates/lines/src, specs                  what each number names; `only_named_lem`
   crates/answers/specs/Told.antt, ToldProof.antt    `RefusalTold`, and the two laws on it
   crates/letter, crates/nearest_exactly    one line for each case that has none of its own
   crates/refusals/specs, pool_laws/specs   the rank of each check of `Check`, and its lines in proofs by cases on them; the number that it gives
@@ -80,43 +80,34 @@ def arm(case):
 
 def detail(case):
     if case.nested:
-        return f'details ({NESTED} e) = topologyDetails e\n'
+        return f'details ({NESTED} e) = topology_details e\n'
     if 'leaf' in case.details:
         subleaf = 'subleaf' if 'subleaf' in case.details else 'None'
-        told = f'record {{ number = {case.number}; leaf = leaf .0; subleaf = {subleaf}; s = 0 }}'
+        told = f'record {{ number = {case.number}; leaf = leaf.0; subleaf = {subleaf}; s = 0 }}'
     else:
-        told = f'withS {case.number} s' if case.details else f'alone {case.number}'
+        told = f'with_s {case.number} s' if case.details else f'alone {case.number}'
     return f'details {case.pattern()} = {told}\n'
 
 
 def with_details(case):
-    """A row of `refusalWith`."""
-    words = {'leaf': '(function (d .leaf))', 'subleaf': '(d .subleaf)', 's': '(d .s)'}
+    """A row of `refusal_with`."""
+    words = {'leaf': '(function d.leaf)', 'subleaf': 'd.subleaf', 's': 'd.s'}
     row = case.pattern(*(words[each] for each in case.details))
     return row if not row.startswith('(') else row[1:-1]
 
 
 def numbers_proof(every):
-    """The proof of `refusal_numbers`: one return for each arm, after the call that it makes."""
-    counts, returns = {}, []
-
-    def next_of(name):
-        counts[name] = counts.get(name, 0) + 1
-        return name + (str(counts[name]) if counts[name] > 1 else '')
-    rows = plain(every)
-    for at, case in enumerate(rows, 1):
-        carries = case.nested or case.details
-        told = f'c .before .before .{next_of("refusal")}' if carries else f'c .before .{next_of("enum-told")}'
-        called = next_of('topology-numbers' if case.nested else 'at-leaf' if 'leaf' in case.details else 'with-s')
-        name = 'returns' + (f'-{at}' if at > 1 else '')
-        returns.append(f'{name} : tie.Need-{name}\n{name} c = rw ({told} .given .1) (c .{called} .ensures)\n\n')
-    named = ['returns' + (f'-{at}' if at > 1 else '') for at in range(1, len(rows) + 1)]
+    """The answers of `refusal_numbers`: one return for each arm, after the call that it makes."""
+    called, returns = set(), ''
+    for case in plain(every):
+        name = NESTED if case.nested else case.name
+        call = 'topology_numbers' if case.nested else 'at_leaf' if 'leaf' in case.details else 'with_s'
+        of_arm = call if call not in called else f'{call}-in-{name}'
+        called.add(call)
+        returns += (f'\npub returns-in-{name} : goal.returns-in-{name}\n'
+                    f'returns-in-{name} c = rw c.in-{name}.is c.{of_arm}.ensures\n')
     return ('-- `table::numbers::refusal_numbers` meets its contract: one case for each refusal. Written by tests/gate/refusal_cases.py.\n'
-            'use borrow.Author.Needs.{needs}\n'
-            'use Rattle·table·proofs.proofs.numbers.refusal_numbers.Statement.{statement}\n'
-            'use Rattle·table·proofs.proofs.numbers.refusal_numbers.Tie as tie\n\n' + ''.join(returns)
-            + 'pub refusal-numbers-spec : {M : Type 1} → statement M\nrefusal-numbers-spec =\n    tie.close\n    (tie.spec\n'
-            + '    (λ c. search needs)\n    (λ c κs. search needs)\n' * len(rows) + '    ' + '\n    '.join(named) + ')\n')
+            'use Rattle.table.proofs.numbers.refusal_numbers.Goals as goal\n' + returns)
 
 
 def named(case, words):
@@ -129,17 +120,17 @@ def told(every):
     rows, given, back = '', '', ''
     for case in every:
         both = case.details == ['leaf', 'subleaf']
-        for suffix, subleaf in ((('', 'None'), ('-subleaf', '(Some k)')) if both else (('', ''),)):
+        for suffix, subleaf in ((('', 'None'), ('_subleaf', '(Some k)')) if both else (('', ''),)):
             kept = {'leaf': 'l', 's': 's'}
             words = [subleaf if each == 'subleaf' else kept[each] for each in case.details]
             bound = {'leaf': '(l : CpuidFunction)', 's': '(s : ℕ)'}
             binders = [bound[each] for each in case.details if each in bound] + (['(k : ℕ)'] if suffix else [])
-            name = ' '.join([f'told-{case.number}{suffix}', *(kept[each] for each in case.details if each in kept), *(['k'] if suffix else [])])
-            numbers = f'{case.number} {"(l .0)" if "leaf" in case.details else 0} {"1 k" if suffix else "0 0"} {"s" if "s" in case.details else 0}'
+            name = ' '.join([f'told_{case.number}{suffix}', *(kept[each] for each in case.details if each in kept), *(['k'] if suffix else [])])
+            numbers = f'{case.number} {"l.0" if "leaf" in case.details else 0} {"1 k" if suffix else "0 0"} {"s" if "s" in case.details else 0}'
             arrow = f'{" ".join(binders)} → ' if binders else ''
-            rows += f'  told-{case.number}{suffix} : {arrow}RefusalTold {case.pattern(*words)} {numbers}\n'
-            given += f'refusal-in {case.pattern(*words)} = {name}\n'
-            back += f'refusal-back {f"({name})" if " " in name else name} = refl\n'
+            rows += f'  told_{case.number}{suffix} : {arrow}RefusalTold {case.pattern(*words)} {numbers}\n'
+            given += f'refusal_in {case.pattern(*words)} = {name}\n'
+            back += f'refusal_back {f"({name})" if " " in name else name} = refl\n'
     return rows, given, back
 
 
@@ -160,7 +151,7 @@ def made(root):
     def of(path, *steps):
         text = (root / path).read_text(encoding='utf-8')
         # a file that names all cases names a new one
-        text = re.sub(r'(Refusal\.the-variants\.)\{(PagesLength, PageCount, MissingRequiredResult(?:, \w+){12,})\}',
+        text = re.sub(r'(Refusal\.TheVariants\.)\{(PagesLength, PageCount, MissingRequiredResult(?:, \w+){12,})\}',
                       lambda found: f'{found[1]}{{{", ".join(names)}}}', text)
         for step in steps:
             text = step(path, text)
@@ -174,29 +165,34 @@ def made(root):
        lambda path, text: replaced(path, text, r'(?:^details .* = .*\n)+', ''.join(map(detail, plain(every)))),
        lambda path, text: replaced(path, text, r'(^    \(PagesLength\n)(?:    ∷ .*\n)+',
                                    lambda found: found[1] + ''.join(f'    ∷ {with_details(case)}\n' for case in every) + '    ∷ [])\n'))
-    of('crates/table/specs/RefusalLaws.antt', lambda path, text: clauses(path, text, 'refusal-told', ' = refl', expanded))
-    read['crates/table/proofs/numbers/refusal_numbers/Proof.antt'] = numbers_proof(every)
+    of('crates/table/specs/RefusalLaws.antt', lambda path, text: clauses(path, text, 'refusal_told', ' = refl', expanded))
+    read['crates/table/proofs/numbers/refusal_numbers/Answers.antt'] = numbers_proof(every)
     words = 'NOTHING', 'ONLY_LEAF', 'LEAF_AND_SUBLEAF', 'ONLY_S'
     of('crates/lines/src/bytes/names.rt',
        lambda path, text: replaced(path, text, r'^const NUMBERS: usize = \d+;\n', f'const NUMBERS: usize = {len(every) + 1};\n'),
        lambda path, text: replaced(path, text, r'(^    NOT_IN_USE,\n)(?:    \w+, // \d+\n)+',
                                    lambda found: found[1] + ''.join(f'    {named(case, words)}, // {case.number}\n' for case in every)))
-    kinds = 'nothing', 'onlyLeaf', 'leafAndSubleaf', 'onlyS'
+    kinds = 'nothing', 'only_leaf', 'leaf_and_subleaf', 'only_s'
     of('crates/lines/specs/NumbersInUse.antt', lambda path, text: replaced(
-        path, text, r'(^    notInUse ∷\n)(?:    \w+ ∷  -- \d+\n)+',
+        path, text, r'(^    not_in_use ∷\n)(?:    \w+ ∷  -- \d+\n)+',
         lambda found: found[1] + ''.join(f'    {named(case, kinds)} ∷  -- {case.number}\n' for case in every)))
-    of('crates/lines/specs/NumbersNamedProof.antt', lambda path, text: clauses(path, text, 'only-named', ' = refl', expanded))
+    of('crates/lines/specs/NumbersNamedProof.antt', lambda path, text: clauses(path, text, 'only_named_lem', ' = refl', expanded))
     of('crates/letter/specs/Paper.antt')
-    of('crates/letter/specs/ImageProof.antt', lambda path, text: clauses(path, text, 'carried-same', ' = refl', expanded))
+    of('crates/letter/specs/ImageProof.antt', lambda path, text: clauses(path, text, 'carried_same', ' = refl', expanded))
     rows, given, back = told(every)
-    of(f'{TOLD}.antt', lambda path, text: replaced(path, text, r'(?:^  told-\d+.*\n)+', rows))
-    constructors = ', '.join(re.findall(r'^  (told-\S+)', rows, re.MULTILINE))
+    of(f'{TOLD}.antt', lambda path, text: replaced(path, text, r'(?:^  told_\d+.*\n)+', rows))
+    constructors = ', '.join(re.findall(r'^  (told_\S+)', rows, re.MULTILINE))
     of(f'{TOLD}Proof.antt',
        lambda path, text: replaced(path, text, r'(^use \S+\.RefusalTold\.)\{.*\}\n', lambda found: f'{found[1]}{{{constructors}}}\n'),
-       lambda path, text: replaced(path, text, r'(?:^refusal-in .* = .*\n)+', given),
-       lambda path, text: replaced(path, text, r'(?:^refusal-back .* = .*\n)+', back))
+       lambda path, text: replaced(path, text, r'(?:^refusal_in .* = .*\n)+', given),
+       lambda path, text: replaced(path, text, r'(?:^refusal_back .* = .*\n)+', back))
     of(f'{NEAREST}.antt', lambda path, text: others(path, text, 'GivenFor c s', ' = ⊥', every, names))
-    of(f'{NEAREST}Proof.antt', lambda path, text: others(path, text, '  refusal-given', ' f = absurd f', every, names))
+    of(f'{NEAREST}Proof.antt')
+    of(f'{NEAREST}Proof.antt'.replace('/specs/', '/proofs/'), lambda path, text: others(path, text, '  refusal_given', ' f = absurd f', every, names))
+    # what of a file of specs/ stands in proofs/ names the cases too
+    for path in [path.replace('/specs/', '/proofs/') for path in read]:
+        if path not in read and (root / path).is_file():
+            of(path)
     read.update(check_cases.made(root, every, names))
     return read, f'{len(every)} refusals in {len(read)} files of the proved source'
 

@@ -13,7 +13,7 @@ from pagesets import pages
 
 ROOT = Path(__file__).resolve().parents[2]
 SETS, LISTED = 'crates/page_sets/specs/PageSets.antt', 'crates/images/specs/FingerprintA.antt'
-SERVER = re.compile(r'^serverA = firstPage (\w+) (\w+) (\w+) \+\+ page \d+ \(stateEntries (\w+) (\w+) (\w+)\)$', re.MULTILINE)
+SERVER = re.compile(r'^server_a = first_page (\w+) (\w+) (\w+) \+\+ page \d+ \(state_entries (\w+) (\w+) (\w+)\)$', re.MULTILINE)
 
 
 def entries(text, name, given):
@@ -28,7 +28,7 @@ def server_a():
     """The pages of server A."""
     text = (ROOT / SETS).read_text(encoding='utf-8')
     numbers = SERVER.search(text).groups()
-    return pages(entries(text, 'requiredEntries', numbers[:3]), entries(text, 'stateEntries', numbers[3:]))
+    return pages(entries(text, 'required_entries', numbers[:3]), entries(text, 'state_entries', numbers[3:]))
 
 
 def listed(data, wide):
@@ -40,7 +40,7 @@ def listed(data, wide):
 def made():
     """The file with both lists."""
     image, text = model.image(model.build(server_a(), False, 1)), (ROOT / LISTED).read_text(encoding='utf-8')
-    for name, data, wide in ('imageA', image, 20), ('digestA', hashlib.sha256(image).digest(), 16):
+    for name, data, wide in ('image_a', image, 20), ('digest_a', hashlib.sha256(image).digest(), 16):
         text = re.sub(rf'^{name} =\n(?:    .*\n)+', lambda _, name=name, said=listed(data, wide): f'{name} =\n{said}', text, flags=re.MULTILINE)
     return text, len(image)
 

@@ -6,22 +6,22 @@ from tests.unit.small_repository import asked, page_of
 
 FILES = {
     believed.THEOREMS: '''-- The theorems.
-use mathlib.Core.Path.{_≡_}
-use Rattle·letter.specs.Paper.{small}
-use Rattle·build.specs.Build.{answer}
+use mathlib.Core.Path.{◌≡◌}
+use Rattle.letter.specs.Paper.{small}
+use Rattle.build.specs.Build.{answer}
 
-pub verdict-by-the-letter : 1 ≡ 1  -- in words
-verdict-by-the-letter = refl
+pub verdict_by_the_letter : 1 ≡ 1  -- in words
+verdict_by_the_letter = refl
 
-pub table-by-the-letter : (n : ℕ)
+pub table_by_the_letter : (n : ℕ)
     → answer n ≡ small n
 unfolding answer
-table-by-the-letter = proof
+table_by_the_letter = proof
 ''',
     believed.RISE: '''-- Demand 3.
-use Rattle·build.specs.Build.{answer}
-use Rattle·bits.specs.Other
-use Rattle·bits.specs.Kinds as K
+use Rattle.build.specs.Build.{answer}
+use Rattle.bits.specs.Other
+use Rattle.bits.specs.Kinds as K
 
 -- whether
 pub record Hypothesis : Type 0 where
@@ -37,15 +37,15 @@ unused = 7
     'crates/build/specs/Build.antt': 'unfoldable pub answer : ℕ → ℕ\nanswer n = long n\n\nabbrev pub long : ℕ → ℕ\nlong n = n\n',
     believed.PAGE: '''-- The paper.
 use Prim.Native.Nat.{ℕ}
-use Rattle·bits.specs.Choice.{pick as choose}
-use Rattle·bits.specs.Kinds.Kind.{low, high as top}
-use Rattle·table.specs.declared.Verdict.the-variants.{Accepted}
+use Rattle.bits.specs.Choice.{pick as choose}
+use Rattle.bits.specs.Kinds.Kind.{low, high as top}
+use Rattle.table.specs.declared.Verdict.TheVariants.{Accepted}
 
 -- "A bit is 1 or 0."
 abbrev pub small : ℕ → ℕ
 small n = choose true n 0
 ''',
-    'crates/bits/specs/Choice.antt': '''use Rattle·bits·specs.specs.Other.{yes}
+    'crates/bits/specs/Choice.antt': '''use Rattle.bits.specs.Other.{yes}
 
 abbrev pub pick : Bool → ℕ → ℕ → ℕ
 pick true a b = yes a
@@ -84,7 +84,7 @@ LIST = '''### 21 lines to believe for demand 3, the rise
 | file | what is used of it | lines |
 |---|---|---|
 | [rise/specs/Rise](../crates/rise/specs/Rise.antt) | `Demand3ByTheLetter`, `Hypothesis` | 5 |
-| [theorems/specs/Document01](../crates/theorems/specs/Document01.antt) | `table-by-the-letter`, `verdict-by-the-letter` | 3 |
+| [theorems/specs/Document01](../crates/theorems/specs/Document01.antt) | `table_by_the_letter`, `verdict_by_the_letter` | 3 |
 | [letter/specs/Paper](../crates/letter/specs/Paper.antt) | `small` | 2 |
 | [bits/specs/Choice](../crates/bits/specs/Choice.antt) | `both`, `pick` | 5 |
 | [bits/specs/Kinds](../crates/bits/specs/Kinds.antt) | `Kind` | 2 |

@@ -1,4 +1,4 @@
-"""What tests/gate/check_times.py makes of the words of `rt prove` and of /proc/stat, and its runs over a small repository with a script as `rt`."""
+"""What tests/gate/check_times.py makes of the words of `rt all verdict` and of /proc/stat, and its runs over a small repository with a script as `rt`."""
 from contextlib import redirect_stderr, redirect_stdout
 from io import StringIO
 from pathlib import Path
@@ -13,14 +13,16 @@ import check_times
 
 class Told(unittest.TestCase):
     def test_all_proved(self):
-        self.assertEqual(check_times.told('rt: a proved (3 s)\nrt: b proved (4 s)\nrt: ok, 2 crates proved\n', ['a', 'b']), (2, 'proved'))
+        said = '== a\nlogic=proved\n== b\nlogic=proved\n== summary\na: ok\nb: ok\n2 of 2 crates ok\n'
+        self.assertEqual(check_times.told(said, ['a', 'b']), (2, 'proved'))
 
     def test_one_not_proved_is_named(self):
-        said = 'rt: a proved (3 s)\nrt: b NOT PROVED (exit 1, 4 s)\nrt: c NOT PROVED: its dependency b is not proved\n'
+        said = '== summary\na: ok\nb: failed (1)\nc: not run, since b failed\n(1: not proved or not passed)\n1 of 3 crates ok\n'
         self.assertEqual(check_times.told(said, ['a', 'b', 'c']), (1, 'not proved: b'))
 
     def test_a_crate_that_is_missing_is_no_proof(self):
-        self.assertEqual(check_times.told('rt: a proved (3 s)\n', ['a', 'b']), (1, 'not proved: see rt'))
+        self.assertEqual(check_times.told('== summary\na: ok\n', ['a', 'b']), (1, 'not proved: see rt'))
+        self.assertEqual(check_times.told('a: ok\nb: ok\n', ['a', 'b']), (0, 'not proved: see rt'))
 
 
 class Busy(unittest.TestCase):
@@ -30,13 +32,14 @@ class Busy(unittest.TestCase):
             self.assertEqual(check_times.busy('cpu  100 200 300 9000 9000 400 500 600 9000 9000\ncpu0 1 1 1 1 1 1 1 1 1 1\n'), 21)
 
 
-# Proves what crates.txt lists but a crate named `wrong`, where it is called as it should be: in a clone without a trace of an earlier run, with two
-# jobs, and with a temporary folder of its own.
+# Proves what crates.txt lists but a crate named `wrong`, where it is called as it should be: in a clone without a trace of an earlier run, two crates
+# at a time, and with a temporary folder of its own.
 RT = '''#!/bin/sh
-[ "$1" = prove ] && [ "$RT_JOBS" = 2 ] && [ -d "$TMPDIR" ] && [ "$PWD" != "$REPOSITORY" ] && [ ! -e trace ] || exit 2
+[ "$*" = 'all verdict --jobs 2' ] && [ -d "$TMPDIR" ] && [ "$PWD" != "$REPOSITORY" ] && [ ! -e trace ] || exit 2
 touch trace
+echo '== summary'
 for crate in $(sed 's/#.*//; s/:.*//' crates.txt); do
-    if [ "$crate" = wrong ]; then echo "rt: $crate NOT PROVED (exit 1, 0 s)" >&2; else echo "rt: $crate proved (0 s)"; fi
+    if [ "$crate" = wrong ]; then echo "$crate: failed (1)" >&2; else echo "$crate: ok"; fi
 done
 '''
 
@@ -85,7 +88,7 @@ class Runs(unittest.TestCase):
     def test_a_revision_that_is_not_proved(self):
         lines = [(self.wrong, '2 of 3', 'not proved: wrong'), (self.one, '1 of 1', 'proved')]
         self.assertEqual(self.asked('--logs', str(self.logs), self.wrong, self.one), (1, lines))
-        self.assertIn('rt: wrong NOT PROVED (exit 1, 0 s)\n', (self.logs / self.wrong).read_text(encoding='utf-8'))
+        self.assertIn('wrong: failed (1)\n', (self.logs / self.wrong).read_text(encoding='utf-8'))
 
     def test_a_wrong_word_is_refused_before_the_first_run(self):
         for words in (self.one, 'no-such'), ('--times', '0', self.one), ('--times', 'x', self.one):

@@ -39,6 +39,8 @@ class Lists(unittest.TestCase):
 
     def test_as_it_should_be(self):
         self.assertEqual(self.ask(['--check']), (0, '4 crates in the list\n', PAGE))
+        # a static library has the row of a library
+        self.assertEqual(self.ask(['--check'], lines=LINES.replace('table: bits', 'table staticlib: bits')), (0, '4 crates in the list\n', PAGE))
 
     def test_written(self):
         for page in PAGE.replace(LIST, ''), PAGE.replace('Bits, 1', 'Bits, 2'), PAGE.replace('| table |', '| rows |'):

@@ -52,7 +52,7 @@ class Figures(unittest.TestCase):
     def test_a_place_more(self):
         old = figures.figures(figures.ROOT)['places']
         new, row = old + 1, '    ∷ kept ProcessorTopologyDefinition whole'
-        self.edit('crates/masking/specs/Kept.antt', row, f'    ∷ kept CacheTopologyDefinition whole allOnes\n{row}')
+        self.edit('crates/masking/specs/Kept.antt', row, f'    ∷ kept CacheTopologyDefinition whole all_ones\n{row}')
         for path in 'memory/specs/Memory', 'theorems/specs/Page', 'theorems/specs/Document01':
             (self.root / f'crates/{path}.antt').parent.mkdir(parents=True, exist_ok=True)
             (self.root / f'crates/{path}.antt').write_text(f'-- {old} rows\nw = replicate {4 * old} 0x{old} .{old} 1{old}\n')
@@ -68,8 +68,8 @@ class Figures(unittest.TestCase):
 
     def test_a_third_edition(self):
         text = self.text(EDITION)
-        (self.root / EDITION).write_text(re.sub('^furtherEditions = .*', 'furtherEditions = bits f16c xopAndFma4 ∷ bits popCnt 0 ∷ []', text, flags=re.M))
-        self.edit(EDITION, 'abbrev bits : ', 'popCnt = maskOf Version.position (Version.VersionAndFeaturesEcx.pop-cnt ∷ [])\n\nabbrev bits : ')
+        (self.root / EDITION).write_text(re.sub('^further_editions = .*', 'further_editions = bits f16c xop_and_fma4 ∷ bits pop_cnt 0 ∷ []', text, flags=re.M))
+        self.edit(EDITION, 'abbrev bits : ', 'pop_cnt = mask_of Version.position (Version.VersionAndFeaturesEcx.pop_cnt ∷ [])\n\nabbrev bits : ')
         self.assertEqual(self.asked('--write')[0], 0)
         self.assertEqual(self.asked('--check')[0], 0)
         self.assertIn('it has editions 1, 2 and 3\n', self.text('include/refusals.txt'))
@@ -80,7 +80,7 @@ class Figures(unittest.TestCase):
         self.assertIn('usually 1; 2 hides F16C, XOP, FMA4; 3 also POPCNT without YMM state', self.text('rust/src/bin/snp-cpuid/building.rs'))
         self.assertIn('needs --edition 1, --edition 2 or --edition 3\n', self.text('docs/COMMAND.md'))
         self.assertIn('from a later edition of the AVX rule back to an earlier one\n', self.text('include/refusals.txt'))
-        self.assertIn('answer (underEdition 4) []', self.text('crates/theorems/specs/EditionTheorems.antt'))
+        self.assertIn('answer (under_edition 4) []', self.text('crates/theorems/specs/EditionTheorems.antt'))
 
     def test_a_lost_place_is_told(self):
         self.edit('README.md', 'the tables of 2 to 16 servers', 'the tables of some servers')

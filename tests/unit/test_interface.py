@@ -10,10 +10,11 @@ import interface
 
 MADE = ('include/snp_cpuid.h', 'rust/src/exports.rs', 'rust/src/refusal_list.rs', 'tests/c/layout.h', 'docs/EMBEDDING.md', 'rust/src/refusal.rs',
         'rust/src/bin/snp-cpuid/meanings.rs', 'tests/data/messages.txt', 'rust/src/kvm.rs', 'rust/src/carry.rs', 'rust/src/nearest.rs')
-SOURCES = 'crates/snp_cpuid/src', 'crates/answers/src', 'crates/table/src', 'crates/memory/src', 'crates/masking/src'
+SOURCES = 'crates/snp_cpuid_c/src', 'crates/answers/src', 'crates/table/src', 'crates/memory/src', 'crates/masking/src'
 NEW = '''
 // What a digest gives.
 #[repr(C)]
+#[derive(Clone, Copy)]
 pub struct SnpCpuidDigest {
     pub number: u32,
     pub length: u64,
@@ -21,9 +22,9 @@ pub struct SnpCpuidDigest {
 '''
 EXPORT = '''
 // Builds, and writes the digest of the table.
-#[no_mangle]
+#[unsafe(no_mangle)]
 pub extern "C" fn snp_cpuid_digest(pages: &[u8], secure_avic: bool, edition: u32, out: &mut [u8; 32]) -> SnpCpuidDigest
-    ensures { λ r. r }
+    ensures { result ≡ result }
 {
 }
 '''
@@ -61,7 +62,7 @@ class Made(unittest.TestCase):
     def test_a_new_export_needs_no_hand(self):
         before = self.symbol()
         self.edit('crates/answers/src/line.rt', '// A line\'s answer in writing', NEW + '\n// A line\'s answer in writing')
-        self.edit('crates/snp_cpuid/src/nearest_exports.rt', '// The first result bit', EXPORT + '\n// The first result bit')
+        self.edit('crates/snp_cpuid_c/src/nearest_exports.rt', '// The first result bit', EXPORT + '\n// The first result bit')
         status, said = self.asked('--check')
         self.assertEqual(status, 1)
         for path in MADE[0], MADE[1], MADE[3]:
@@ -161,7 +162,7 @@ class Made(unittest.TestCase):
         self.assertTrue(messages.endswith('\n21 0: none\n21 2: 4 of 2\n21 255: 255\n'))
 
     def test_what_has_no_form_for_c_is_told(self):
-        self.edit('crates/snp_cpuid/src/nearest_exports.rt', '    edition: u32,\n', '    edition: Choices,\n')
+        self.edit('crates/snp_cpuid_c/src/nearest_exports.rt', '    edition: u32,\n', '    edition: Choices,\n')
         self.assertEqual(self.asked('--check'), (1, 'snp_cpuid_nearest takes edition: Choices, which has no form for C\n'))
 
     def test_usage(self):

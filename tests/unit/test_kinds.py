@@ -54,7 +54,8 @@ class Kinds(unittest.TestCase):
         self.assertIn('EXTENDED_SVM_VERSION_AND_FEATURES => masks(0, 0, 0, ALL, ALL, ALL, ALL, 0),\n', self.text(kinds.CODE))
         proof = self.text(kinds.PROOF)
         self.assertIn(f'78 ∷ 79 ∷ 81 ∷ {len(kept_leaves.places(self.root)) - 1} ∷ []', proof)
-        self.assertEqual((proof.count('returns-14'), proof.count('(λ c κs. search needs)'), proof.count('ne-eqb _ ')), (4, 14, 13))
+        self.assertEqual((proof.count('returns-in-79'), proof.count(' c = search rules\n'), proof.count('      ne_eqb _ ')), (3, 14, 13))
+        self.assertIn('returns-in-79 c = rw (c.masks-in-79.ensures, c.in-79.is)\n', proof)
         self.assertIn('8000000Ah.EDX', self.text(kinds.HEADER))
 
     def test_what_has_no_arm_is_told(self):

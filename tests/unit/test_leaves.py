@@ -19,6 +19,7 @@ ROW = ROWS - 3
 NUMBER = f'abbrev pub AddedLeaf : CpuidFunction\nAddedLeaf = function 0x{LEAF:X}\n'
 BEFORE = '    ∷ kept CacheTopologyDefinition '
 LAST = '    ∷ whole ProcessorTopologyDefinition\n'
+PROOF = 'crates/masking/proofs/place_of/Answers.antt'
 RUNS, PLACE_OF, CHECKED = 'crates/masking/src/run.rt', 'crates/masking/src/lib.rt', 'crates/rows/src/checked/required.rt'
 
 
@@ -47,8 +48,8 @@ class Leaves(unittest.TestCase):
         self.assertEqual(self.asked('--check')[0], 0)
 
     def further(self, row, places, needed, run=''):
-        self.edit(kept_leaves.FUNCTIONS, 'abbrev pub vendorEcx', f'{NUMBER}\nabbrev pub vendorEcx')
-        self.edit(kept_leaves.KEPT, BEFORE, f'    ∷ kept AddedLeaf {row} allOnes\n{BEFORE}')
+        self.edit(kept_leaves.FUNCTIONS, 'abbrev pub vendor_ecx', f'{NUMBER}\nabbrev pub vendor_ecx')
+        self.edit(kept_leaves.KEPT, BEFORE, f'    ∷ kept AddedLeaf {row} all_ones\n{BEFORE}')
         for name, number in ('CACHE_TOPOLOGY_0', PLACE), ('PROCESSOR_TOPOLOGY_DEFINITION', PLACE + 4):
             self.edit(kept_leaves.PLACES, f'{name}: usize = {number};', f'{name}: usize = {number + places};')
         self.edit(RUNS, 'pub const CACHE_TOPOLOGY', run + 'pub const CACHE_TOPOLOGY')
@@ -81,7 +82,7 @@ class Leaves(unittest.TestCase):
             self.assertIn(f'tabulate 64 (λ k. k) ++ replicate {11 + MANY} 0 ++ (0 ∷ 1 ∷ 2 ∷ 3 ∷ [])', self.text(path))
         self.assertIn(f'leaf({leaf_code.number(LEAF)}, [Whole; 4]), subleaves(0x8000_001D,', self.text('rust/src/bin/snp-cpuid/masks.rs'))
         self.assertIn(f'0x8000001D ∷ 0x{LEAF:X} ∷ 0x{LEAF - 1:X}', self.text('crates/masking/specs/PlaceOfLaws.antt'))
-        self.assertIn(f'(rw (c .match .keys{len(leaves.alone(KEPT)) + 1}), search needs)', self.text('crates/masking/proofs/place_of/Proof.antt'))
+        self.assertIn(f'returns-in-{LEAF} c = record {{ value = rw c.in-{LEAF}.is; small = search rules }}', self.text(PROOF))
         runs = f'run({AT}, 0x8000_0019, {MANY + 1}, None), run({PLACE + 1}, 0x8000_001D, 1, Some(4)), run({PLACE + 5}, 0x8000_001E, 2, None),'
         self.assertIn(runs, self.text('rust/src/places.rs'))
         self.assertIn(f'80000019h to {LEAF:X}h, 8000001Dh.0 to .3', self.text('include/snp_cpuid.h').replace(' * ', ' '))
@@ -102,19 +103,20 @@ class Leaves(unittest.TestCase):
                       self.text('crates/kvm_export/specs/Flags.antt'))
         self.assertIn(f'subleaves({leaf_code.number(LEAF)}, 0, 1, [Whole; 4]),', self.text('rust/src/bin/snp-cpuid/masks.rs'))
         self.assertIn('leaf::ADDED_LEAF => subleaf_place(run::ADDED, subleaf),', self.text(PLACE_OF))
-        self.assertIn('subleaf-place5 .ensures .1))', self.text('crates/masking/proofs/place_of/Proof.antt'))
+        self.assertIn(f'pub subleaf_place-requires-in-{LEAF} :', self.text(PROOF))
+        self.assertIn(f'small = c.subleaf_place-in-{LEAF}.ensures.small }}', self.text(PROOF))
         self.assertIn(f'first: place::ADDED_LEAF_0, count: 2, leaf: CpuidFunction(KEPT_LEAVES[{ROW}].leaf.0),', self.text(RUNS))
         runs = f'run({PLACE}, {leaf_code.number(LEAF)}, 1, Some(2)), run({PLACE + 2}, 0x8000_001D, 1, Some(4)),'
         self.assertIn(runs, self.text('rust/src/places.rs'))
         self.assertIn(f'{LEAF - 1:X}, {LEAF:X}.0, {LEAF:X}.1, 8000001D.0 to .3', self.text('docs/COMMAND.md'))
 
     def test_a_name_without_a_number(self):
-        self.edit(kept_leaves.KEPT, BEFORE, f'    ∷ kept Unknown whole allOnes\n{BEFORE}')
+        self.edit(kept_leaves.KEPT, BEFORE, f'    ∷ kept Unknown whole all_ones\n{BEFORE}')
         self.assertEqual(self.asked('--check'), (1, f'{kept_leaves.FUNCTIONS} has no number for Unknown of {kept_leaves.KEPT}\n'))
 
     def test_a_leaf_that_is_not_kept_whole(self):
-        self.edit(kept_leaves.FUNCTIONS, 'abbrev pub vendorEcx', f'{NUMBER}\nabbrev pub vendorEcx')
-        self.edit(kept_leaves.KEPT, BEFORE, f'    ∷ kept AddedLeaf whole addedLeaf\n{BEFORE}')
+        self.edit(kept_leaves.FUNCTIONS, 'abbrev pub vendor_ecx', f'{NUMBER}\nabbrev pub vendor_ecx')
+        self.edit(kept_leaves.KEPT, BEFORE, f'    ∷ kept AddedLeaf whole added_leaf\n{BEFORE}')
         status, said = self.asked('--write')
         self.assertEqual(status, 1)
         self.assertIn('has no row for ADDED_LEAF at its place', said)

@@ -26,16 +26,16 @@ class Fingerprint(unittest.TestCase):
         self.assertEqual(model_table.fingerprint(model_table.EMPTY).hex(), digest)
 
     def test_server_a_as_the_theorem_has_it(self):
-        is_image, memory = model_table.read(literal('imageA'))
+        is_image, memory = model_table.read(literal('image_a'))
         self.assertTrue(is_image)
-        self.assertEqual(model_table.fingerprint(memory), literal('digestA'))
+        self.assertEqual(model_table.fingerprint(memory), literal('digest_a'))
 
     def test_server_a_is_as_made(self):
         self.assertEqual(SERVER_A.read_text(encoding='utf-8'), make_server_a.made()[0])
 
     @unittest.skipUnless(shutil.which('sha256sum'), 'sha256sum is missing (coreutils)')
     def test_sha256sum_gives_the_same(self):
-        for image in literal('imageA'), model.image(model.build(MILAN, False, 1)):
+        for image in literal('image_a'), model.image(model.build(MILAN, False, 1)):
             told = subprocess.run(['sha256sum'], input=image, capture_output=True, check=True).stdout.split()[0].decode()
             self.assertEqual(model_table.fingerprint(model_table.read(image)[1]).hex(), told)
 

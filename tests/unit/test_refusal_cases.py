@@ -42,22 +42,22 @@ class Cases(unittest.TestCase):
     def test_a_further_refusal(self):
         self.add()
         status, said = self.asked('--check')
-        self.assertEqual((status, said.count('is not as made')), (1, 14))
+        self.assertEqual((status, said.count('is not as made')), (1, 18))
         self.assertEqual(self.asked('--write')[0], 0)
         self.assertEqual(self.asked('--check')[0], 0)
         self.has('crates/table/src/lib.rt', '    NothingDecides,\n    GuestGone,')
         self.has(NUMBERS, '        Refusal::GuestGone => with_s(21, 0),')
         self.has(REFUSAL, 'details GuestGone = alone 21', '    ∷ GuestGone\n    ∷ [])')
-        self.has('crates/table/specs/RefusalLaws.antt', 'refusal-told GuestGone = refl')
-        self.has('crates/table/proofs/numbers/refusal_numbers/Proof.antt',
-                 'returns-19 c = rw (c .before .enum-told16 .given .1) (c .with-s16 .ensures)')
+        self.has('crates/table/specs/RefusalLaws.antt', 'refusal_told GuestGone = refl')
+        self.has('crates/table/proofs/numbers/refusal_numbers/Answers.antt',
+                 'returns-in-GuestGone c = rw c.in-GuestGone.is c.with_s-in-GuestGone.ensures')
         self.has('crates/lines/src/bytes/names.rt', 'const NUMBERS: usize = 22;', '    NOTHING, // 21')
         self.has('crates/lines/specs/NumbersInUse.antt', '    nothing ∷  -- 21')
-        self.has('crates/answers/specs/Told.antt', '  told-21 : RefusalTold GuestGone 21 0 0 0 0')
-        self.has('crates/answers/specs/ToldProof.antt', 'refusal-in GuestGone = told-21', 'refusal-back told-21 = refl')
-        self.assertIn('told-20, told-21}\n', (self.root / 'crates/answers/specs/ToldProof.antt').read_text())
+        self.has('crates/answers/specs/Told.antt', '  told_21 : RefusalTold GuestGone 21 0 0 0 0')
+        self.has('crates/answers/specs/ToldProof.antt', 'refusal_in GuestGone = told_21', 'refusal_back told_21 = refl')
+        self.assertIn('told_20, told_21}\n', (self.root / 'crates/answers/specs/ToldProof.antt').read_text())
         self.has('crates/nearest_exactly/specs/NearestExactly.antt', 'GivenFor c s GuestGone = ⊥')
-        self.has('crates/nearest_exactly/specs/NearestExactlyProof.antt', '  refusal-given GuestGone f = absurd f')
+        self.has('crates/nearest_exactly/proofs/NearestExactlyProof.antt', '  refusal_given GuestGone f = absurd f')
         # what has a line of its own is left alone
         text = (self.root / 'crates/nearest_exactly/specs/NearestExactly.antt').read_text()
         self.assertEqual((text.count('GivenFor c s NothingDecides'), text.count('GivenFor c s UnknownEdition')), (1, 1))
@@ -65,48 +65,48 @@ class Cases(unittest.TestCase):
     def test_what_it_names(self):
         for details, arm, told, row in (
                 (' leaf', 'Refusal::GuestGone(leaf) => at_leaf(21, leaf.0, Subleaf::None)',
-                 '(l : CpuidFunction) → RefusalTold (GuestGone l) 21 (l .0) 0 0 0',
-                 'GuestGone (function (d .leaf))'),
+                 '(l : CpuidFunction) → RefusalTold (GuestGone l) 21 l.0 0 0 0',
+                 'GuestGone (function d.leaf)'),
                 (' leaf subleaf', 'Refusal::GuestGone(leaf, subleaf) => at_leaf(21, leaf.0, subleaf)',
-                 '(l : CpuidFunction) → RefusalTold (GuestGone l None) 21 (l .0) 0 0 0', 'GuestGone (function (d .leaf)) (d .subleaf)'),
-                (' s', 'Refusal::GuestGone(s) => with_s(21, s)', '(s : ℕ) → RefusalTold (GuestGone s) 21 0 0 0 s', 'GuestGone (d .s)')):
+                 '(l : CpuidFunction) → RefusalTold (GuestGone l None) 21 l.0 0 0 0', 'GuestGone (function d.leaf) d.subleaf'),
+                (' s', 'Refusal::GuestGone(s) => with_s(21, s)', '(s : ℕ) → RefusalTold (GuestGone s) 21 0 0 0 s', 'GuestGone d.s')):
             with self.subTest(details):
                 self.setUp()
                 self.add(details)
                 self.assertEqual(self.asked('--write')[0], 0)
                 self.has(NUMBERS, f'        {arm},')
-                self.has('crates/answers/specs/Told.antt', f'  told-21 : {told}')
+                self.has('crates/answers/specs/Told.antt', f'  told_21 : {told}')
                 self.has(REFUSAL, f'    ∷ {row}')
 
     def further_check(self, fault, details=''):
         """A check of building after that of the length, which gives the further refusal."""
         self.add(details)
         path = self.root / CONDITIONS
-        text = path.read_text().replace('  edition pagesLength pageCounts ', '  edition pagesLength guest pageCounts ')
-        path.write_text(text.replace('Fault chosen s pageCounts r', f'Fault chosen s guest r = {fault}\nFault chosen s pageCounts r'))
+        text = path.read_text().replace('  edition length_of_pages page_counts ', '  edition length_of_pages guest page_counts ')
+        path.write_text(text.replace('Fault chosen s page_counts r', f'Fault chosen s guest r = {fault}\nFault chosen s page_counts r'))
 
     def test_a_further_check_of_building(self):
         self.further_check('GuestFault (f s) × (r ≡ GuestGone)')
         self.assertEqual((self.asked('--write')[0], self.asked('--check')[0]), (0, 0))
-        self.has(CONDITIONS, 'rank pagesLength = 1\nrank guest = 2\nrank pageCounts = 3', 'rank threadsPerUnit = 11')
+        self.has(CONDITIONS, 'rank length_of_pages = 1\nrank guest = 2\nrank page_counts = 3', 'rank threads_per_unit = 11')
         settled, exactly, lined = (f'crates/refusals/specs/{name}.antt' for name in ('StagesSettled', 'ExactlyProof', 'LinedProof'))
-        self.has(settled, '    ∷ pagesLength\n    ∷ guest\n    ∷ pageCounts', 'checkCount = 12', 'check-rank guest = (lit< tt, refl)')
-        self.has(exactly, 'buildingNumber n = ltb n 9 || (eqb n 15 || (eqb n 17 || eqb n 21))', 'fault-number chosen s guest r f = rw (f .1)')
-        self.has(lined, 'fault-small chosen s h guest r f = rw (f .1) (alone-small GuestGone refl refl (omega arith))')
+        self.has(settled, '    ∷ length_of_pages\n    ∷ guest\n    ∷ page_counts', 'check_count = 12', 'check_rank guest = (lit< tt, refl)')
+        self.has(exactly, 'building_number n = ltb n 9 || (eqb n 15 || (eqb n 17 || eqb n 21))', 'fault_number chosen s guest r f = rw f.1')
+        self.has(lined, 'fault_small chosen s h guest r f = rw f.1 (alone_small GuestGone refl refl (omega arith))')
         pool = 'crates/pool_laws/specs/PoolExactlyProof.antt'
-        self.has(pool, '      by-check guest g = let e = g .1 in impossible (cc)')
+        self.has(pool, '      by_check guest g = let e = g.1 in impossible (cc)')
         for path in settled, exactly, lined, pool:
-            self.assertIn('{edition, pagesLength, guest, pageCounts, ', (self.root / path).read_text())
+            self.assertIn('{edition, length_of_pages, guest, page_counts, ', (self.root / path).read_text())
         self.assertIn('UnknownEdition, GuestGone}\n', (self.root / lined).read_text())
 
     def test_a_check_whose_refusal_names_something_has_a_clause_by_hand(self):
-        self.further_check('(p : ℕ) × GuestFault s p × (r ≡ GuestGone (leafAt s p))', ' leaf')
-        self.assertEqual(self.asked('--check'), (1, 'crates/refusals/specs/LinedProof.antt wants a clause of fault-small for guest\n'))
+        self.further_check('(p : ℕ) × GuestFault s p × (r ≡ GuestGone (leaf_at s p))', ' leaf')
+        self.assertEqual(self.asked('--check'), (1, 'crates/refusals/specs/LinedProof.antt wants a clause of fault_small for guest\n'))
         path = self.root / 'crates/refusals/specs/LinedProof.antt'
-        own = 'fault-small chosen s h guest r f =\n    guest-small s h f\n'
-        path.write_text(path.read_text().replace('fault-small chosen s h pageCounts', f'{own}fault-small chosen s h pageCounts'))
+        own = 'fault_small chosen s h guest r f =\n    guest_small s h f\n'
+        path.write_text(path.read_text().replace('fault_small chosen s h page_counts', f'{own}fault_small chosen s h page_counts'))
         self.assertEqual((self.asked('--write')[0], path.read_text().count(own)), (0, 1))
-        self.has('crates/refusals/specs/ExactlyProof.antt', 'fault-number chosen s guest r f = rw (f .2)')
+        self.has('crates/refusals/specs/ExactlyProof.antt', 'fault_number chosen s guest r f = rw f.2')
 
     def test_a_check_without_a_refusal_is_told(self):
         self.further_check('GuestFault s')

@@ -13,16 +13,20 @@ TESTS = len(NAMES)
 SAME = 7
 
 
+# what rt ci says of a crate, and at the end
+PROVED, OK = 'rt: one proved', 'rt: ok; handles allowed: none; must-fail edits: 3 refused'
+
+
 def parts(*more):
     """tests/parts.txt with one number for every test but one, which the machine decides."""
     return '# numbers\n' + ''.join(f'{"6+" if name == "guest under KVM" else SAME} {name}\n' for name in (*NAMES, *more))
 
 
 class Gate(unittest.TestCase):
-    def run_gate(self, said=f'{SAME} tests ran', status=0, proofs='7 passed, 0 failed', words=(), kvm=True, **others):
+    def run_gate(self, said=f'{SAME} tests ran', status=0, proofs=f'{OK}\\n7 passed, 0 failed', words=(), kvm=True, **others):
         """(exit status, lines): what every test says last, with which status, and what rt ci says; other commands by name."""
         commands = {
-            'rt': f'[ "$1" != ci ] || {{ rm -rf target; mkdir -p target; echo "rt: one proved (1 s)"; printf "%b\\n" "{proofs}"; }}',
+            'rt': f'[ "$*" != ci ] || [ -n "$TMPDIR" ] || {{ echo "{PROVED}"; printf "%b\\n" "{proofs}"; }}',
             'python3': f'echo "{said}"; exit {status}',
             # what it makes is named after -o
             'gcc': f'while [ "$1" != -o ]; do shift; done; printf "#!/bin/sh\\necho {SAME} parts\\n" >"$2" && chmod +x "$2"',
@@ -70,7 +74,7 @@ class Gate(unittest.TestCase):
         self.assertEqual((status, lines[-1]), (0, f'{TESTS + 7} passed, 0 failed'), lines)
         self.assertRegex(lines[-2], r'^3 passed over: ([^;:]*: the Rust is not at hand \(differential/README.md\)(; |$)){3}$')
         self.assertEqual(self.counted, parts())
-        self.assertIn('rt: one proved (1 s), 0 left', lines)
+        self.assertIn(f'{PROVED}, 0 left', lines)
 
     def test_another_number_of_parts_fails_and_says_it(self):
         for number in SAME - 1, SAME + 1:
@@ -101,18 +105,30 @@ class Gate(unittest.TestCase):
 
     def test_proofs_that_fail(self):
         for proofs, last in ('6 passed, 1 failed', f'{TESTS + 6} passed, 1 failed'), ('rt: out of memory', f'{TESTS} passed, 1 failed'), \
-                ('', f'{TESTS} passed, 1 failed'):
+                ('', f'{TESTS} passed, 1 failed'), ('7 passed, 0 failed', f'{TESTS + 7} passed, 1 failed'):
             status, lines = self.run_gate(proofs=proofs)
             self.assertEqual((status, lines[-1]), (1, last), lines)
 
-    def test_the_library_is_made_beside_the_last_proofs(self):
-        """rt goes on only when the library is there, which waits for no crate but those that snp_cpuid stands on."""
-        self.before = lambda root: (root / 'crates.txt').write_text('one:\nsnp_cpuid: one\nlast: snp_cpuid\n')
-        rt = ('[ "$1" = ci ] || exit 0; rm -rf target; mkdir -p target; echo "rt: one proved (1 s)"; for i in $(seq 600); do [ ! -e made ] || break; '
-              'sleep 0.1; done; [ -e made ] || exit 1; echo "rt: snp_cpuid proved (1 s)"; echo "rt: last proved (1 s)"; echo "7 passed, 0 failed"')
-        status, lines = self.run_gate(rt=rt, make='touch made')
+    def test_a_bad_edit_fails(self):
+        """rt counts it, and goes on."""
+        bad = 'rt: must-fail one/x.edit: BAD EDIT: it changes nothing', f'{OK}, 1 bad', f'{OK}, 2 of them only by a limit, 1 bad; every proof'
+        for proofs in f'{bad[0]}\\n{OK}', bad[1], bad[2]:
+            status, lines = self.run_gate(proofs=f'{proofs}\\n7 passed, 0 failed')
+            self.assertEqual((status, lines[-1]), (1, f'{TESTS + 7} passed, 1 failed'), lines)
+            self.assertIn('rt ci: an edit that must fail is bad', lines)
+        self.assertEqual(self.run_gate(proofs=f'{OK}, 2 of them only by a limit\\n7 passed, 0 failed')[0], 0)
+
+    def test_crates_that_are_kept_and_their_tests(self):
+        self.before = lambda root: (root / 'crates.txt').write_text('one:\ntwo:\nlast: two\n')
+        kept = 'rt: two is kept: an earlier run on this machine proved the same files over the same libraries'
+        _, lines = self.run_gate(proofs=f'rt: two: its tests are proved\\n{kept}\\nrt: last NOT PROVED: its library two failed\\n1 passed, 1 failed')
+        for line in f'{PROVED}, 2 left', 'rt: two: its tests are proved', f'{kept}, 1 left', 'rt: last NOT PROVED: its library two failed, 0 left':
+            self.assertIn(line, lines)
+
+    def test_the_library_is_made_after_the_proofs(self):
+        rt = f'[ "$1" = ci ] || exit 0; echo "{PROVED}"; sleep 0.5; touch proved; echo "{OK}"; echo "7 passed, 0 failed"'
+        status, lines = self.run_gate(rt=rt, make='[ -e proved ]')
         self.assertEqual((status, lines[-1]), (0, f'{TESTS + 7} passed, 0 failed'), lines)
-        self.assertIn('rt: snp_cpuid proved (1 s), 1 left', lines)
 
     def test_tests_passed_over_are_named(self):
         skipped = "skipped: Debian's cpuid is not installed\n" * 2 + "..skipped: Debian's jq is not installed (apt-get install jq)\n" \
@@ -130,21 +146,22 @@ class Gate(unittest.TestCase):
     def test_without_proofs(self):
         status, lines = self.run_gate(words=['--no-proofs'])
         self.assertEqual((status, lines[-1]), (0, f'{TESTS - 1} passed, 0 failed'), lines)
-        self.assertRegex(lines[-2], '^5 passed over: the proofs, as asked; why the edits are refused, as there is no log of them')
+        self.assertRegex(lines[-2], '^5 passed over: the proofs, as asked; why the edits are refused, as asked')
 
     def test_what_is_older_than_the_sources_is_said(self):
+        program = 'crates/snp_cpuid_image/out/snp_cpuid_image'
+
         def before(root):
-            for at, name in enumerate(('target/bin/snp_cpuid_image', 'target/must-fail/one/x/.log', 'crates/one/src/deep/lib.rt')):
+            for at, name in enumerate((program, 'crates/one/src/deep/lib.rt')):
                 (root / name).parent.mkdir(parents=True)
                 (root / name).write_text('')
                 os.utime(root / name, (at + 1, at + 1))
             os.utime(root / 'crates.txt', (1, 1))
         self.before = before
         status, lines = self.run_gate(words=['--no-proofs'])
-        self.assertEqual((status, lines[-1]), (0, f'{TESTS} passed, 0 failed'), lines)
-        for file in 'target/bin/snp_cpuid_image', 'target/must-fail/one/x/.log':
-            self.assertIn(f'{file} is older than crates/one/src/deep/lib.rt', lines)
-            self.assertIn(f'{file} is older than crates/one/src/deep/lib.rt', lines[-2])
+        self.assertEqual((status, lines[-1]), (0, f'{TESTS - 1} passed, 0 failed'), lines)
+        self.assertIn(f'{program} is older than crates/one/src/deep/lib.rt', lines)
+        self.assertIn(f'{program} is older than crates/one/src/deep/lib.rt', lines[-2])
 
     def test_words(self):
         """Unknown words are refused before anything is removed; --help asks for nothing."""
@@ -186,7 +203,7 @@ class Gate(unittest.TestCase):
                 return ran
             subprocess.run = into_a_file
             self.addCleanup(setattr, subprocess, 'run', real)
-            _, lines = self.run_gate(rt=f'[ "$1" != ci ] || {{ echo "rt: one proved (1 s)"; {seen}; echo "7 passed, 0 failed"; }}')
+            _, lines = self.run_gate(rt=f'[ "$1" != ci ] || {{ echo "{PROVED}"; {seen}; echo "7 passed, 0 failed"; }}')
         self.assertIn('rt: seen 1', lines)
 
 

@@ -35,23 +35,23 @@ fn bits_are_those_of_the_specification() {
     assert_eq!(ours.len(), FEATURES.len());
 }
 
-/// Every field here is a span of the specification, and every span is here.
+/// Every field here is a span of the specification, and every span is here. The specification has an underscore where the command has a dash.
 #[test]
 fn fields_are_those_of_the_specification() {
     let fields = fs::read_to_string("../crates/x86defs/specs/Fields.antt").unwrap();
-    let expected: BTreeMap<&str, (u32, u32)> = fields
+    let expected: BTreeMap<String, (u32, u32)> = fields
         .lines()
         .filter_map(|line| line.strip_prefix("span "))
         .map(|line| {
             let (name, bits) = line.split_once(" = bits ").unwrap();
             let (low, width) = bits.trim().split_once(' ').unwrap();
-            (name, (low.parse().unwrap(), width.parse().unwrap()))
+            (name.replace('_', "-"), (low.parse().unwrap(), width.parse().unwrap()))
         })
         .collect();
     for f in &FIELDS {
         assert_eq!(expected.get(f.name), Some(&(f.low, f.width)), "{}", f.name);
     }
-    assert_eq!(FIELDS.iter().map(|f| f.name).collect::<BTreeSet<_>>(), expected.into_keys().collect());
+    assert_eq!(FIELDS.iter().map(|f| f.name.into()).collect::<BTreeSet<String>>(), expected.into_keys().collect());
 }
 
 /// With every bit of every entry set, a feature register of the table is exactly its named bits: each bit that a mask keeps, or the table
