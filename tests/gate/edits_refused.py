@@ -10,7 +10,7 @@ that no longer fits the shape of the code would also come of an edit that change
 
 A file may hold several edits, each under a comment that opens with its name and with a line `at: FILE` or `at: FILE DECLARATION`: one check then
 tries them all. Such an edit must be refused at a fact of its own, in the file of the crate that it names or in that declaration of it, and no two of
-them name one place. Of a source file the declaration is a function that has no proof file.
+them name one place. Of a source file the declaration is a function that has no proof file, or TYPE::METHOD.
 """
 from collections import Counter
 from concurrent.futures import ThreadPoolExecutor
@@ -37,7 +37,7 @@ DECLARATION = re.compile(r'`[^`]+`: (.*)')
 REPEATS = re.compile(r'.* was not admitted |\d+ declarations? that depends? on ')
 # what rattle says of a fact that the proof which it made itself does not show, and then of the function; of one that is `not proved` an error stands
 # elsewhere, and the fact may only want an answer that has another name
-UNPROVED = re.compile(r'^note: (\S+):\d+:\d+: it is not proved that|^fn (?:\w+::)*(\w+): (no proof: |not proved)', re.MULTILINE)
+UNPROVED = re.compile(r'^note: (\S+):\d+:\d+: it is not proved that|^fn \w+::((?:\w+::)*\w+): (no proof: |not proved)', re.MULTILINE)
 
 # a whole goal that is another one than the code now asks for
 OTHER_GOAL = re.compile(r'expected type `(?:[^` ]*\.)?goals?\.', re.IGNORECASE)
@@ -60,6 +60,12 @@ def within(place):
     return lambda path, message: f'/{path}'.endswith('/' + file) and (not declaration or message.startswith(f'`{declaration}`: '))
 
 
+def names(path):
+    """The names of a function by its path in the crate: the last word, and each longer end of it, as a method's with its type."""
+    words = path.split('::')
+    return ['::'.join(words[at:]) for at in range(len(words))]
+
+
 def unproved(text):
     """(file, function) of each fact that a proof which rattle made itself does not show."""
     found, files = [], []
@@ -77,7 +83,7 @@ def no_fact(text, own=anywhere):
     errors = (message for path, message in ERROR.findall(text) if own(path, message))
     first = next((message for message in errors if not REPEATS.match(message)), None)
     if first is None:
-        return None if any(own(path, f'`{function}`: ') for path, function in unproved(text)) else ('no error', '')
+        return None if any(own(path, f'`{name}`: ') for path, function in unproved(text) for name in names(function)) else ('no error', '')
     line = first.split('\n')[0]
     inside = DECLARATION.match(line)
     if OTHER_GOAL.search(first):

@@ -19,8 +19,8 @@ CHANGES = (
     ('pages', 'src/reader.rt', 'Prelude.{◌≡◌};', 'Prelude.{◌≡◌, Bool};'),
     ('pages', 'src/reader.rt', 'specs.Read.{Readable, read_at};', 'specs.Read.{Readable, read_by};'),
     ('pages', 'src/reader.rt', '    ensures { result ≡ read_at pages.now index }', f'    ensures {{ (b : Bool) × (result ≡ {GIVEN}) }}'),
-    ('pages', 'specs/Read.antt', 'unfoldable pub read_at :', 'abbrev pub read_by : Bool → List ℕ → CpuidPageIndex → Read\n'
-     "read_by b s i = pick b (Read'.Entry (parsed (entry_here s i))) (Read'.Unclean (entry_here s i).leaf)\n\nunfoldable pub read_at :"),
+    ('pages', 'specs/Read.antt', 'unfoldable pub read_at :', 'abbrev pub read_by : Bool → List ℕ → CpuidPageIndex → Result ParsedCpuidEntry CpuidFunction\n'
+     "read_by b s i = pick b (Ok (parsed (entry_here s i))) (Err (entry_here s i).leaf)\n\nunfoldable pub read_at :"),
     ('pages', 'specs/ReadLaws.antt', 'clean_here, read_at, given}', 'clean_here, read_at, read_by, given}'),
     ('pages', 'specs/ReadLaws.antt', '-- by each answer of the code\n',
      'pub read_as : (s : List ℕ) (i : CpuidPageIndex) → read_at s i ≡ read_by (clean_here s i) s i\nunfolding read_at\nread_as s i = refl\n\n'
@@ -28,15 +28,15 @@ CHANGES = (
      'by_clean s i e = ap (λ (c : Bool). read_by c s i) e ∙ sym (read_as s i)\n\n-- by each answer of the code\n'),
     ('pages', 'proofs/reader/take/Answers.antt', 'use mathlib.Core.Path.{sym, ◌∙◌}',
      'use mathlib.Core.Path.{ap}\nuse mathlib.Core.Bool.{true, false}\nuse Rattle.pages.specs.declared.ParsedCpuidEntry.{ParsedCpuidEntry}\n'
-     'use Rattle.pages.specs.declared.reader.Read.TheVariants.{Entry, Unclean}'),
+     'use Rattle.std.specs.Prelude.{Ok, Err}'),
     ('pages', 'proofs/reader/take/Answers.antt', 'ReadLaws.{readable_within, clean_read, unclean_read}', 'ReadLaws.{readable_within}'),
     ('pages', 'proofs/reader/take/Answers.antt', ' c = clean_read _ _ c.entry_at-entry.ensures (sym c.clean_at.ensures ∙ c.if-clean_at.true)',
-     ' c = (true, ap (λ (x : ParsedCpuidEntry). Entry x) c.entry_at-entry.ensures)'),
+     ' c = (true, ap (λ (x : ParsedCpuidEntry). Ok x) c.entry_at-entry.ensures)'),
     ('pages', 'proofs/reader/take/Answers.antt', ' c = unclean_read _ _ c.entry_at-entry.ensures (sym c.clean_at.ensures ∙ c.if-clean_at.false)',
-     ' c = (false, ap (λ (x : ParsedCpuidEntry). Unclean x.leaf) c.entry_at-entry.ensures)'),
+     ' c = (false, ap (λ (x : ParsedCpuidEntry). Err x.leaf) c.entry_at-entry.ensures)'),
     ('collect', 'proofs/collect_into/Answers.antt', 'ReadLaws.{read_entry}', 'ReadLaws.{read_entry, by_clean}'),
-    ('collect', 'proofs/collect_into/Answers.antt', '(sym c.in-Entry.is ∙ c.take-read.ensures)', f'(sym c.in-Entry.is{MISSED}'),
-    ('collect', 'proofs/collect_into/Answers.antt', '(sym c.in-Unclean.is ∙ c.take-read.ensures)', f'(sym c.in-Unclean.is{MISSED}'),
+    ('collect', 'proofs/collect_into/Answers.antt', '(sym c.in-Ok.is ∙ c.take-read.ensures)', f'(sym c.in-Ok.is{MISSED}'),
+    ('collect', 'proofs/collect_into/Answers.antt', '(sym c.in-Err.is ∙ c.take-read.ensures)', f'(sym c.in-Err.is{MISSED}'),
 )
 
 

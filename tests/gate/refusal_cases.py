@@ -2,8 +2,8 @@
 """refusal_cases.py: the cases of the refusals in the proved source, made of include/refusals.txt: number, name, and what each names.
 
 --write writes them, and --check fails where a file has something else:
-  crates/table/src/lib.rt, numbers.rt      the cases of `Refusal`, the arms of `refusal_numbers`
-  crates/table/specs, proofs               `details`, `refusal_with`, `refusal_told`; the proof of `refusal_numbers`, the whole file
+  crates/table/src/lib.rt, numbers.rt      the cases of `Refusal`, and the numbers of each
+  crates/table/specs, proofs               `details`, `refusal_with`, `refusal_told`
   crates/lines/src, specs                  what each number names; `only_named_lem`
   crates/answers/specs/Told.antt, ToldProof.antt    `RefusalTold`, and the two laws on it
   crates/letter, crates/nearest_exactly    one line for each case that has none of its own
@@ -24,7 +24,7 @@ from refusal_list import listed
 ROOT = Path(__file__).resolve().parents[2]
 NESTED = 'TopologyInconsistent'
 TOLD, NEAREST = 'crates/answers/specs/Told', 'crates/nearest_exactly/specs/NearestExactly'
-TYPES = {'leaf': 'CpuidFunction', 'subleaf': 'Subleaf', 's': 'u8'}
+TYPES = {'leaf': 'CpuidFunction', 'subleaf': 'Option<u32>', 's': 'u8'}
 
 
 class Case:
@@ -72,9 +72,9 @@ def enum(case):
 def arm(case):
     given = f'({", ".join(case.details)})' if case.details else ''
     if case.nested:
-        return f'Refusal::{NESTED}(e) => topology_numbers(e)'
+        return f'Refusal::{NESTED}(e) => AnswerNumbers::from(e)'
     if 'leaf' in case.details:
-        return f'Refusal::{case.name}{given} => at_leaf({case.number}, leaf.0, {"subleaf" if "subleaf" in case.details else "Subleaf::None"})'
+        return f'Refusal::{case.name}{given} => at_leaf({case.number}, leaf.0, {"subleaf" if "subleaf" in case.details else "None"})'
     return f'Refusal::{case.name}{given} => with_s({case.number}, {"s" if case.details else "0"})'
 
 
@@ -94,20 +94,6 @@ def with_details(case):
     words = {'leaf': '(function d.leaf)', 'subleaf': 'd.subleaf', 's': 'd.s'}
     row = case.pattern(*(words[each] for each in case.details))
     return row if not row.startswith('(') else row[1:-1]
-
-
-def numbers_proof(every):
-    """The answers of `refusal_numbers`: one return for each arm, after the call that it makes."""
-    called, returns = set(), ''
-    for case in plain(every):
-        name = NESTED if case.nested else case.name
-        call = 'topology_numbers' if case.nested else 'at_leaf' if 'leaf' in case.details else 'with_s'
-        of_arm = call if call not in called else f'{call}-in-{name}'
-        called.add(call)
-        returns += (f'\npub returns-in-{name} : goal.returns-in-{name}\n'
-                    f'returns-in-{name} c = rw c.in-{name}.is c.{of_arm}.ensures\n')
-    return ('-- `table::numbers::refusal_numbers` meets its contract: one case for each refusal. Written by tests/gate/refusal_cases.py.\n'
-            'use Rattle.table.proofs.numbers.refusal_numbers.Goals as goal\n' + returns)
 
 
 def named(case, words):
@@ -159,14 +145,13 @@ def made(root):
     of('crates/table/src/lib.rt', lambda path, text: replaced(
         path, text, r'(^pub enum Refusal \{\n)(?:    .*\n)+', lambda found: found[1] + ''.join(f'    {enum(case)},\n' for case in plain(every))))
     of('crates/table/src/numbers.rt', lambda path, text: replaced(
-        path, text, r'(^    match refusal \{\n)(?:        .*\n)+',
-        lambda found: found[1] + ''.join(f'        {arm(case)},\n' for case in plain(every))))
+        path, text, r'(^        match refusal \{\n)(?:            .*\n)+',
+        lambda found: found[1] + ''.join(f'            {arm(case)},\n' for case in plain(every))))
     of('crates/table/specs/Refusal.antt',
        lambda path, text: replaced(path, text, r'(?:^details .* = .*\n)+', ''.join(map(detail, plain(every)))),
        lambda path, text: replaced(path, text, r'(^    \(PagesLength\n)(?:    ∷ .*\n)+',
                                    lambda found: found[1] + ''.join(f'    ∷ {with_details(case)}\n' for case in every) + '    ∷ [])\n'))
     of('crates/table/specs/RefusalLaws.antt', lambda path, text: clauses(path, text, 'refusal_told', ' = refl', expanded))
-    read['crates/table/proofs/numbers/refusal_numbers/Answers.antt'] = numbers_proof(every)
     words = 'NOTHING', 'ONLY_LEAF', 'LEAF_AND_SUBLEAF', 'ONLY_S'
     of('crates/lines/src/bytes/names.rt',
        lambda path, text: replaced(path, text, r'^const NUMBERS: usize = \d+;\n', f'const NUMBERS: usize = {len(every) + 1};\n'),

@@ -80,10 +80,10 @@ class Logs(unittest.TestCase):
         text += 'fn bits::mid: no proof: it calls `bits::low`, which is not proved\n'
         # the fact of a function whose answers do not fit is not that of the next one
         text += note.format(20) + 'fn bits::odd: not proved\nfn bits::above: no proof: it calls `bits::odd`, which is not proved\n'
-        self.assertEqual(edits_refused.unproved(text + END), [('src/lib.rt', 'low'), ('src/lib.rt', 'high'), ('src/lib.rt', '')])
-        for place in 'src/lib.rt', 'src/lib.rt low', 'src/lib.rt high':
+        self.assertEqual(edits_refused.unproved(text + END), [('src/lib.rt', 'low'), ('src/lib.rt', 'in::high'), ('src/lib.rt', '')])
+        for place in 'src/lib.rt', 'src/lib.rt low', 'src/lib.rt high', 'src/lib.rt in::high':
             self.assertIsNone(edits_refused.no_fact(text + END, edits_refused.within(place)), place)
-        for place in 'src/lib.rt mid', 'src/lib.rt lo', 'src/in.rt high', 'src/in.rt':
+        for place in 'src/lib.rt mid', 'src/lib.rt lo', 'src/lib.rt n::high', 'src/in.rt high', 'src/in.rt':
             self.assertEqual(edits_refused.no_fact(text + END, edits_refused.within(place)), ('no error', ''), place)
 
     def test_error_of_the_compiler(self):

@@ -42,15 +42,13 @@ class Cases(unittest.TestCase):
     def test_a_further_refusal(self):
         self.add()
         status, said = self.asked('--check')
-        self.assertEqual((status, said.count('is not as made')), (1, 18))
+        self.assertEqual((status, said.count('is not as made')), (1, 15))
         self.assertEqual(self.asked('--write')[0], 0)
         self.assertEqual(self.asked('--check')[0], 0)
         self.has('crates/table/src/lib.rt', '    NothingDecides,\n    GuestGone,')
         self.has(NUMBERS, '        Refusal::GuestGone => with_s(21, 0),')
         self.has(REFUSAL, 'details GuestGone = alone 21', '    ∷ GuestGone\n    ∷ [])')
         self.has('crates/table/specs/RefusalLaws.antt', 'refusal_told GuestGone = refl')
-        self.has('crates/table/proofs/numbers/refusal_numbers/Answers.antt',
-                 'returns-in-GuestGone c = rw c.in-GuestGone.is c.with_s-in-GuestGone.ensures')
         self.has('crates/lines/src/bytes/names.rt', 'const NUMBERS: usize = 22;', '    NOTHING, // 21')
         self.has('crates/lines/specs/NumbersInUse.antt', '    nothing ∷  -- 21')
         self.has('crates/answers/specs/Told.antt', '  told_21 : RefusalTold GuestGone 21 0 0 0 0')
@@ -64,7 +62,7 @@ class Cases(unittest.TestCase):
 
     def test_what_it_names(self):
         for details, arm, told, row in (
-                (' leaf', 'Refusal::GuestGone(leaf) => at_leaf(21, leaf.0, Subleaf::None)',
+                (' leaf', 'Refusal::GuestGone(leaf) => at_leaf(21, leaf.0, None)',
                  '(l : CpuidFunction) → RefusalTold (GuestGone l) 21 l.0 0 0 0',
                  'GuestGone (function d.leaf)'),
                 (' leaf subleaf', 'Refusal::GuestGone(leaf, subleaf) => at_leaf(21, leaf.0, subleaf)',

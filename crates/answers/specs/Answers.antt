@@ -1,5 +1,5 @@
 -- The answers as the exported functions give them: plain numbers, one for each detail.
-use Rattle.std.specs.Prelude.{◌≡◌, refl, Bool, List, ℕ, ◌/◌}
+use Rattle.std.specs.Prelude.{◌≡◌, refl, Bool, List, ℕ, ◌/◌, Err, None, Ok, Option, Result, Some}
 use Rattle.bits.specs.Lists.{one}
 use Rattle.x86defs.specs.declared.CpuidResult.{CpuidResult}
 use Rattle.memory.specs.declared.origins.OriginRead.{OriginRead}
@@ -7,20 +7,8 @@ use Rattle.memory.specs.Origin.{origin_read}
 use Rattle.build.specs.declared.Built.{Built}
 use Rattle.table.specs.declared.Choices.{Choices}
 use Rattle.table.specs.declared.CpuidResults.{CpuidResults}
-use Rattle.table.specs.declared.Verdict.{Verdict}
-use Rattle.table.specs.declared.Subleaf.{Subleaf}
 use Rattle.lookup.specs.Lookup.{lookup, lookup_origin, with_origin}
-use Rattle.lookup.specs.declared.Found.{Found as Location}
-use Rattle.lookup.specs.declared.Found.TheVariants.{Row as Located, NoRow}
-use Rattle.lookup.specs.declared.LeafResult.{LeafResult}
-use Rattle.lookup.specs.declared.LeafResult.TheVariants.{Some as Found, None as Nothing}
-use Rattle.guest_state.specs.declared.InUse.{InUse}
-use Rattle.guest_state.specs.declared.InUse.TheVariants.{Refused as NotInUse, Compacted}
 use Rattle.guest.specs.declared.Processor.{Processor}
-use Rattle.guest.specs.declared.GuestFound.{GuestFound}
-use Rattle.guest.specs.declared.GuestFound.TheVariants.{Refused as NotGiven, Looked}
-use Rattle.buffer.specs.declared.Written.{Written}
-use Rattle.buffer.specs.declared.Written.TheVariants.{Bytes, Refused}
 use Rattle.table.specs.declared.numbers.AnswerNumbers.{AnswerNumbers}
 use Rattle.table.specs.Numbers.{numbers_of, refusal_numbers}
 use Rattle.answers.specs.declared.SnpCpuidBuilt.{SnpCpuidBuilt}
@@ -31,6 +19,10 @@ use Rattle.answers.specs.declared.SnpCpuidCounts.{SnpCpuidCounts}
 use Rattle.answers.specs.declared.SnpCpuidRead.{SnpCpuidRead}
 use Rattle.answers.specs.declared.SnpCpuidFirst.{SnpCpuidFirst}
 use Rattle.answers.specs.declared.SnpCpuidWritten.{SnpCpuidWritten}
+use Rattle.buffer.specs.Written.{Written}
+use Rattle.lookup.specs.declared.FoundRow.{FoundRow}
+use Rattle.table.specs.Verdict.{Verdict}
+use Rattle.table.specs.declared.Refusal.{Refusal}
 
 -- what a caller chooses
 abbrev pub choices_of : Bool → ℕ → Choices
@@ -77,21 +69,21 @@ found_with r o = record {
 abbrev pub nothing_found : SnpCpuidFound
 nothing_found = record { found = 0; eax = 0; ebx = 0; ecx = 0; edx = 0; origin = 0; page = 0; entry = 0 }
 
-abbrev pub found_given : LeafResult → ℕ → SnpCpuidFound
-found_given (Found r) n = found_with r (origin_read n)
-found_given Nothing n = nothing_found
+abbrev pub found_given : Option CpuidResult → ℕ → SnpCpuidFound
+found_given (Some r) n = found_with r (origin_read n)
+found_given None n = nothing_found
 
 -- the same of a row that was found with its origin
-abbrev pub found_numbers : Location → SnpCpuidFound
-found_numbers (Located r n) = found_with r (origin_read n)
-found_numbers NoRow = nothing_found
+abbrev pub found_numbers : Option FoundRow → SnpCpuidFound
+found_numbers (Some f) = found_with f.row (origin_read f.origin)
+found_numbers None = nothing_found
 
-pub given_located : (x : LeafResult) (n : ℕ) → found_numbers (with_origin x n) ≡ found_given x n
-given_located (Found r) n = refl
-given_located Nothing n = refl
+pub given_located : (x : Option CpuidResult) (n : ℕ) → found_numbers (with_origin x n) ≡ found_given x n
+given_located (Some r) n = refl
+given_located None n = refl
 
 -- the row that a lookup finds in a table, with its origin from the column of origins beside the table
-abbrev pub found_at : CpuidResults → List ℕ → ℕ → Subleaf → Bool → SnpCpuidFound
+abbrev pub found_at : CpuidResults → List ℕ → ℕ → Option ℕ → Bool → SnpCpuidFound
 found_at t origins leaf subleaf enforce =
     found_given (lookup t (record { 0 = leaf }) subleaf enforce) (lookup_origin origins (record { 0 = leaf }) subleaf enforce)
 
@@ -122,8 +114,8 @@ written_with n length = record {
 }
 
 abbrev pub written_numbers : Written → SnpCpuidWritten
-written_numbers (Bytes n) = record { number = 0; leaf = 0; has_subleaf = 0; subleaf = 0; s = 0; length = n }
-written_numbers (Refused r) = written_with (refusal_numbers r) 0
+written_numbers (Ok n) = record { number = 0; leaf = 0; has_subleaf = 0; subleaf = 0; s = 0; length = n }
+written_numbers (Err r) = written_with (refusal_numbers r) 0
 
 -- ---- of a table that the caller keeps
 
@@ -144,13 +136,13 @@ guest_found_with n f = record {
 }
 
 -- 13 or 14 and nothing found, or what was found
-abbrev pub guest_found_numbers : GuestFound → SnpCpuidGuestFound
-guest_found_numbers (NotGiven r) = guest_found_with (refusal_numbers r).number nothing_found
-guest_found_numbers (Looked f) = guest_found_with 0 (found_numbers f)
+abbrev pub guest_found_numbers : Result (Option FoundRow) Refusal → SnpCpuidGuestFound
+guest_found_numbers (Err r) = guest_found_with (refusal_numbers r).number nothing_found
+guest_found_numbers (Ok f) = guest_found_with 0 (found_numbers f)
 
-abbrev pub state_numbers : InUse → SnpCpuidState
-state_numbers (NotInUse r) = record { number = (refusal_numbers r).number; size = 0 }
-state_numbers (Compacted n) = record { number = 0; size = n }
+abbrev pub state_numbers : Result ℕ Refusal → SnpCpuidState
+state_numbers (Err r) = record { number = (refusal_numbers r).number; size = 0 }
+state_numbers (Ok n) = record { number = 0; size = n }
 
 -- whether bytes are an image, 1 or 0, with the counts of the table that they gave
 abbrev pub read_with : Bool → CpuidResults → SnpCpuidRead

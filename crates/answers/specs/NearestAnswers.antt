@@ -1,11 +1,12 @@
 -- The nearest bit as the exported function gives it: number 0 with the bit's place, or a refusal's numbers and no place.
 use Rattle.table.specs.Numbers.{refusal_numbers}
-use Rattle.nearest.specs.declared.Nearest.{Nearest}
-use Rattle.nearest.specs.declared.Nearest.TheVariants.{Bit, NoBit}
 use Rattle.answers.specs.declared.nearest_bit.SnpCpuidNearest.{SnpCpuidNearest}
+use Rattle.std.specs.Prelude.{Err, Ok, Result}
+use Rattle.nearest.specs.declared.flips.Flip.{Flip}
+use Rattle.table.specs.declared.Refusal.{Refusal}
 
-abbrev pub nearest_numbers : Nearest → SnpCpuidNearest
-nearest_numbers (Bit f) = record {
+abbrev pub nearest_numbers : Result Flip Refusal → SnpCpuidNearest
+nearest_numbers (Ok f) = record {
   number = 0;
   leaf = 0;
   has_subleaf = 0;
@@ -16,7 +17,7 @@ nearest_numbers (Bit f) = record {
   register_index = f.register;
   bit = f.bit;
 }
-nearest_numbers (NoBit r) = record {
+nearest_numbers (Err r) = record {
   number = (refusal_numbers r).number;
   leaf = (refusal_numbers r).leaf;
   has_subleaf = (refusal_numbers r).has_subleaf;

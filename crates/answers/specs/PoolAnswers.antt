@@ -1,10 +1,10 @@
 -- What a pool of servers gives, as the exported functions give it.
 use Rattle.std.specs.Prelude.{ℕ}
-use Rattle.table.specs.declared.Verdict.{Verdict}
 use Rattle.table.specs.declared.numbers.AnswerNumbers.{AnswerNumbers}
 use Rattle.table.specs.Numbers.{numbers_of}
 use Rattle.pool.specs.declared.Pooled.{Pooled}
 use Rattle.answers.specs.declared.pool_answer.SnpCpuidPooled.{SnpCpuidPooled}
+use Rattle.table.specs.Verdict.{Verdict}
 
 abbrev pub pooled_with : AnswerNumbers → ℕ → ℕ → ℕ → SnpCpuidPooled
 pooled_with n server rows mask = record {

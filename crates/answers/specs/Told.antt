@@ -1,33 +1,17 @@
 -- What each number that an exported function gives says of the answer that the definition gives, field by field, against figures and fields alone:
 -- nothing here is said by the functions that make the numbers. For each refusal its number, leaf, subleaf and s stand in one table, `RefusalTold`.
-use Rattle.std.specs.Prelude.{◌≡◌, Bool, true, false, ℕ, ◌+◌, ◌*◌, ◌<◌, eqb}
+use Rattle.std.specs.Prelude.{◌≡◌, Bool, true, false, ℕ, ◌+◌, ◌*◌, ◌<◌, eqb, Err, None, Ok, Option, Result, Some}
 use Rattle.bits.specs.Choice.{pick}
 use Rattle.x86defs.specs.declared.CpuidFunction.{CpuidFunction}
 use Rattle.x86defs.specs.declared.CpuidResult.{CpuidResult}
 use Rattle.topology.specs.declared.TopologyError.TheVariants.{Hyperthreading, ProcessorCount, ThreadsPerUnit}
 use Rattle.table.specs.declared.Choices.{Choices}
 use Rattle.table.specs.declared.CpuidResults.{CpuidResults}
-use Rattle.table.specs.declared.Subleaf.{Subleaf}
-use Rattle.table.specs.declared.Subleaf.TheVariants.{None, Some}
 use Rattle.table.specs.declared.Refusal.{Refusal}
 use Rattle.table.specs.declared.Refusal.TheVariants.{PagesLength, PageCount, MissingRequiredResult, InvlpgbUnavailable, SaveAreaOverflow, TopologyInconsistent, BufferTooShort, ListLength, ListRows, ListFields, StateBeyondTable, CompactSizeTooLarge, UnknownEdition, EditionBack, ReservedBytes, PoolSets, PoolDiffers, NothingDecides}
-use Rattle.table.specs.declared.Verdict.{Verdict}
-use Rattle.table.specs.declared.Verdict.TheVariants.{Accepted, Refused}
 use Rattle.table.specs.Refusal.{refusal_with}
 use Rattle.table.specs.Numbers.{named, subleaf_of}
-use Rattle.buffer.specs.declared.Written.{Written}
-use Rattle.buffer.specs.declared.Written.TheVariants.{Bytes, Refused as NotWritten}
-use Rattle.lookup.specs.declared.Found.{Found}
-use Rattle.lookup.specs.declared.Found.TheVariants.{Row as Located, NoRow as NotLocated}
-use Rattle.lookup.specs.declared.LeafResult.{LeafResult}
-use Rattle.lookup.specs.declared.LeafResult.TheVariants.{Some as Given, None as Nothing}
-use Rattle.guest_state.specs.declared.InUse.{InUse}
-use Rattle.guest_state.specs.declared.InUse.TheVariants.{Refused as NotInUse, Compacted}
 use Rattle.guest.specs.declared.Processor.{Processor}
-use Rattle.guest.specs.declared.GuestFound.{GuestFound}
-use Rattle.guest.specs.declared.GuestFound.TheVariants.{Refused as NotGiven, Looked}
-use Rattle.carry.specs.declared.in_image.CarriedImage.{CarriedImage}
-use Rattle.carry.specs.declared.in_image.CarriedImage.TheVariants.{NotAnImage, Image}
 use Rattle.compare.specs.declared.registers.Register.{Register}
 use Rattle.compare.specs.declared.registers.Register.TheVariants.{Eax, Ebx, Ecx, Edx}
 use Rattle.compare.specs.declared.Compared.{Compared}
@@ -35,13 +19,7 @@ use Rattle.compare.specs.declared.Compared.TheVariants.{Rises, RefusedA, Unlawfu
 use Rattle.compare.specs.declared.search.RowsCompared.{RowsCompared as TablesCompared}
 use Rattle.compare.specs.declared.search.RowsCompared.TheVariants.{Rises as TablesRise, NoRow, Differs as RowDiffers, Beyond, MaskLacks}
 use Rattle.pool.specs.declared.Pooled.{Pooled}
-use Rattle.nearest.specs.declared.Nearest.{Nearest}
-use Rattle.nearest.specs.declared.Nearest.TheVariants.{Bit, NoBit}
 use Rattle.lines.specs.declared.bytes.LineDetails.{LineDetails}
-use Rattle.lines.specs.declared.LineWritten.{LineWritten}
-use Rattle.lines.specs.declared.LineWritten.TheVariants.{Line, NoSuchLine}
-use Rattle.lines.specs.declared.LineRead.{LineRead}
-use Rattle.lines.specs.declared.LineRead.TheVariants.{Line as Says, NoSuchLine as SaysNothing}
 use Rattle.answers.specs.declared.SnpCpuidBuilt.{SnpCpuidBuilt}
 use Rattle.answers.specs.declared.SnpCpuidFound.{SnpCpuidFound}
 use Rattle.answers.specs.declared.SnpCpuidGuestFound.{SnpCpuidGuestFound}
@@ -57,9 +35,13 @@ use Rattle.answers.specs.declared.pool_answer.SnpCpuidPooled.{SnpCpuidPooled}
 use Rattle.answers.specs.declared.nearest_bit.SnpCpuidNearest.{SnpCpuidNearest}
 use Rattle.answers.specs.declared.line.SnpCpuidLineWritten.{SnpCpuidLineWritten}
 use Rattle.answers.specs.declared.line.SnpCpuidLineRead.{SnpCpuidLineRead}
+use Rattle.buffer.specs.Written.{Written}
+use Rattle.lookup.specs.declared.FoundRow.{FoundRow}
+use Rattle.nearest.specs.declared.flips.Flip.{Flip}
+use Rattle.table.specs.Verdict.{Verdict}
 
 -- has_subleaf and subleaf
-pub data SubleafTold : Subleaf → ℕ → ℕ → Type 0 where
+pub data SubleafTold : Option ℕ → ℕ → ℕ → Type 0 where
   none : SubleafTold None 0 0
   some : (k : ℕ) → SubleafTold (Some k) 1 k
 
@@ -89,9 +71,9 @@ pub data RefusalTold : Refusal → ℕ → ℕ → ℕ → ℕ → ℕ → Type 
 
 -- accepted is five zeros
 pub data VerdictTold : Verdict → ℕ → ℕ → ℕ → ℕ → ℕ → Type 0 where
-  accepted : VerdictTold Accepted 0 0 0 0 0
+  accepted : VerdictTold (Ok tt) 0 0 0 0 0
   refused : {r : Refusal} {number leaf has subleaf s : ℕ} → RefusalTold r number leaf has subleaf s
-      → VerdictTold (Refused r) number leaf has subleaf s
+      → VerdictTold (Err r) number leaf has subleaf s
 
 -- EAX to EDX as 0 to 3
 pub data RegisterTold : Register → ℕ → Type 0 where
@@ -155,13 +137,13 @@ pub record NoRowTold (is a b c d from p q : ℕ) : Type 0 where
   pub position : q ≡ 0
 
 -- SnpCpuidFound, of what is looked up and the number of its origin; and of a row that was found with its origin
-abbrev pub GivenTold : LeafResult → ℕ → SnpCpuidFound → Type 0
-GivenTold (Given r) o n = RowTold r o n.found n.eax n.ebx n.ecx n.edx n.origin n.page n.entry
-GivenTold Nothing o n = NoRowTold n.found n.eax n.ebx n.ecx n.edx n.origin n.page n.entry
+abbrev pub GivenTold : Option CpuidResult → ℕ → SnpCpuidFound → Type 0
+GivenTold (Some r) o n = RowTold r o n.found n.eax n.ebx n.ecx n.edx n.origin n.page n.entry
+GivenTold None o n = NoRowTold n.found n.eax n.ebx n.ecx n.edx n.origin n.page n.entry
 
-abbrev pub FoundTold : Found → SnpCpuidFound → Type 0
-FoundTold (Located r o) n = RowTold r o n.found n.eax n.ebx n.ecx n.edx n.origin n.page n.entry
-FoundTold NotLocated n = NoRowTold n.found n.eax n.ebx n.ecx n.edx n.origin n.page n.entry
+abbrev pub FoundTold : Option FoundRow → SnpCpuidFound → Type 0
+FoundTold (Some f) n = RowTold f.row f.origin n.found n.eax n.ebx n.ecx n.edx n.origin n.page n.entry
+FoundTold None n = NoRowTold n.found n.eax n.ebx n.ecx n.edx n.origin n.page n.entry
 
 -- a refusal that names nothing, so that its number is all
 pub record NumberTold (r : Refusal) (number : ℕ) : Type 0 where
@@ -172,18 +154,18 @@ pub record NumberTold (r : Refusal) (number : ℕ) : Type 0 where
   pub told : RefusalTold r number leaf has subleaf s
 
 -- SnpCpuidGuestFound
-abbrev pub GuestTold : GuestFound → SnpCpuidGuestFound → Type 0
-GuestTold (NotGiven r) n =
+abbrev pub GuestTold : Result (Option FoundRow) Refusal → SnpCpuidGuestFound → Type 0
+GuestTold (Err r) n =
     NumberTold r n.number × NoRowTold n.found n.eax n.ebx n.ecx n.edx n.origin n.page n.entry
-GuestTold (Looked (Located r o)) n =
-    (n.number ≡ 0) × RowTold r o n.found n.eax n.ebx n.ecx n.edx n.origin n.page n.entry
-GuestTold (Looked NotLocated) n =
+GuestTold (Ok (Some f)) n =
+    (n.number ≡ 0) × RowTold f.row f.origin n.found n.eax n.ebx n.ecx n.edx n.origin n.page n.entry
+GuestTold (Ok None) n =
     (n.number ≡ 0) × NoRowTold n.found n.eax n.ebx n.ecx n.edx n.origin n.page n.entry
 
 -- SnpCpuidState
-abbrev pub StateTold : InUse → SnpCpuidState → Type 0
-StateTold (NotInUse r) n = NumberTold r n.number × (n.size ≡ 0)
-StateTold (Compacted size) n = (n.number ≡ 0) × (n.size ≡ size)
+abbrev pub StateTold : Result ℕ Refusal → SnpCpuidState → Type 0
+StateTold (Err r) n = NumberTold r n.number × (n.size ≡ 0)
+StateTold (Ok size) n = (n.number ≡ 0) × (n.size ≡ size)
 
 -- SnpCpuidCounts
 pub record CountsTold (t : CpuidResults) (n : SnpCpuidCounts) : Type 0 where
@@ -205,19 +187,19 @@ pub record FirstTold (v : Verdict) (o : ℕ) (n : SnpCpuidFirst) : Type 0 where
 
 -- SnpCpuidWritten
 abbrev pub WrittenTold : Written → SnpCpuidWritten → Type 0
-WrittenTold (Bytes k) n = VerdictTold Accepted n.number n.leaf n.has_subleaf n.subleaf n.s × (n.length ≡ k)
-WrittenTold (NotWritten r) n = VerdictTold (Refused r) n.number n.leaf n.has_subleaf n.subleaf n.s × (n.length ≡ 0)
+WrittenTold (Ok k) n = VerdictTold (Ok tt) n.number n.leaf n.has_subleaf n.subleaf n.s × (n.length ≡ k)
+WrittenTold (Err r) n = VerdictTold (Err r) n.number n.leaf n.has_subleaf n.subleaf n.s × (n.length ≡ 0)
 
 -- SnpCpuidCarried
-abbrev pub CarriedTold : CarriedImage → SnpCpuidCarried → Type 0
-CarriedTold NotAnImage n = (n.is_image ≡ 0) × (n.number ≡ 0)
-CarriedTold (Image Accepted) n = (n.is_image ≡ 1) × (n.number ≡ 0)
-CarriedTold (Image (Refused r)) n = (n.is_image ≡ 1) × NumberTold r n.number
+abbrev pub CarriedTold : Option Verdict → SnpCpuidCarried → Type 0
+CarriedTold None n = (n.is_image ≡ 0) × (n.number ≡ 0)
+CarriedTold (Some (Ok _)) n = (n.is_image ≡ 1) × (n.number ≡ 0)
+CarriedTold (Some (Err r)) n = (n.is_image ≡ 1) × NumberTold r n.number
 
 -- SnpCpuidCompared: which answer, and what goes with it
 abbrev pub ComparedTold : Compared → SnpCpuidCompared → Type 0
 ComparedTold Rises n =
-    (n.answer ≡ 0) × VerdictTold Accepted n.number n.leaf n.has_subleaf n.subleaf n.s × (n.register_index ≡ 0)
+    (n.answer ≡ 0) × VerdictTold (Ok tt) n.number n.leaf n.has_subleaf n.subleaf n.s × (n.register_index ≡ 0)
 ComparedTold (RefusedA r) n =
     (n.answer ≡ 1) × RefusalTold r n.number n.leaf n.has_subleaf n.subleaf n.s × (n.register_index ≡ 0)
 ComparedTold (UnlawfulB r) n =
@@ -253,30 +235,30 @@ pub record FlipTold (p e r b : ℕ) (n : SnpCpuidNearest) : Type 0 where
   pub register : n.register_index ≡ r
   pub bit : n.bit ≡ b
 
-abbrev pub NearestTold : Nearest → SnpCpuidNearest → Type 0
-NearestTold (Bit f) n =
-    VerdictTold Accepted n.number n.leaf n.has_subleaf n.subleaf n.s × FlipTold f.page f.entry f.register f.bit n
-NearestTold (NoBit r) n = RefusalTold r n.number n.leaf n.has_subleaf n.subleaf n.s × FlipTold 0 0 0 0 n
+abbrev pub NearestTold : Result Flip Refusal → SnpCpuidNearest → Type 0
+NearestTold (Ok f) n =
+    VerdictTold (Ok tt) n.number n.leaf n.has_subleaf n.subleaf n.s × FlipTold f.page f.entry f.register f.bit n
+NearestTold (Err r) n = RefusalTold r n.number n.leaf n.has_subleaf n.subleaf n.s × FlipTold 0 0 0 0 n
 
 -- SnpCpuidLineWritten
-abbrev pub LineWrittenTold : LineWritten → SnpCpuidLineWritten → Type 0
-LineWrittenTold (Line (Bytes k)) n = (n.is_line ≡ 1) × (n.number ≡ 0) × (n.length ≡ k)
-LineWrittenTold (Line (NotWritten r)) n = (n.is_line ≡ 1) × NumberTold r n.number × (n.length ≡ 0)
-LineWrittenTold NoSuchLine n = (n.is_line ≡ 0) × (n.number ≡ 0) × (n.length ≡ 0)
+abbrev pub LineWrittenTold : Option Written → SnpCpuidLineWritten → Type 0
+LineWrittenTold (Some (Ok k)) n = (n.is_line ≡ 1) × (n.number ≡ 0) × (n.length ≡ k)
+LineWrittenTold (Some (Err r)) n = (n.is_line ≡ 1) × NumberTold r n.number × (n.length ≡ 0)
+LineWrittenTold None n = (n.is_line ≡ 0) × (n.number ≡ 0) × (n.length ≡ 0)
 
 -- SnpCpuidLineRead
-pub record LineReadTold (is r l : ℕ) (sub : Subleaf) (z : ℕ) (n : SnpCpuidLineRead) : Type 0 where
+pub record LineReadTold (is r l : ℕ) (sub : Option ℕ) (z : ℕ) (n : SnpCpuidLineRead) : Type 0 where
   pub is_line : n.is_line ≡ is
   pub number : n.number ≡ r
   pub leaf : n.leaf ≡ l
   pub subleaf : SubleafTold sub n.has_subleaf n.subleaf
   pub s : n.s ≡ z
 
-abbrev pub LineTold : LineRead → SnpCpuidLineRead → Type 0
-LineTold (Says d) n = LineReadTold 1 d.number d.leaf d.subleaf d.s n
-LineTold SaysNothing n = LineReadTold 0 0 0 None 0 n
+abbrev pub LineTold : Option LineDetails → SnpCpuidLineRead → Type 0
+LineTold (Some d) n = LineReadTold 1 d.number d.leaf d.subleaf d.s n
+LineTold None n = LineReadTold 0 0 0 None 0 n
 
 -- five numbers tell one verdict: it is read back from them
 unfoldable pub verdict_from : ℕ → ℕ → ℕ → ℕ → ℕ → Verdict
 verdict_from number leaf has subleaf s =
-    pick (eqb number 0) Accepted (Refused (refusal_with (record { number = number; leaf = leaf; subleaf = subleaf_of (eqb has 1) subleaf; s = s })))
+    pick (eqb number 0) (Ok _) (Err (refusal_with (record { number = number; leaf = leaf; subleaf = subleaf_of (eqb has 1) subleaf; s = s })))

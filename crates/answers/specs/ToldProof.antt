@@ -1,32 +1,16 @@
 -- The exported numbers are as Told.antt says, field by field.
-use Rattle.std.specs.Prelude.{◌≡◌, refl, Bool, ℕ, ◌/◌}
+use Rattle.std.specs.Prelude.{◌≡◌, refl, Bool, ℕ, ◌/◌, Err, None, Ok, Option, Result, Some}
 use Rattle.std.proofs.Common.{sym, ap, ◌∙◌}
 use Rattle.topology.specs.declared.TopologyError.TheVariants.{Hyperthreading, ProcessorCount, ThreadsPerUnit}
 use Rattle.table.specs.declared.CpuidResults.{CpuidResults}
-use Rattle.table.specs.declared.Subleaf.{Subleaf}
-use Rattle.table.specs.declared.Subleaf.TheVariants.{None, Some}
 use Rattle.table.specs.declared.Refusal.{Refusal}
 use Rattle.table.specs.declared.Refusal.TheVariants.{PagesLength, PageCount, MissingRequiredResult, InvlpgbUnavailable, SaveAreaOverflow, TopologyInconsistent, BufferTooShort, ListLength, ListRows, ListFields, StateBeyondTable, CompactSizeTooLarge, UnknownEdition, EditionBack, ReservedBytes, PoolSets, PoolDiffers, NothingDecides}
-use Rattle.table.specs.declared.Verdict.{Verdict}
-use Rattle.table.specs.declared.Verdict.TheVariants.{Accepted, Refused}
 use Rattle.table.specs.declared.numbers.AnswerNumbers.{AnswerNumbers}
 use Rattle.table.specs.Numbers.{named, subleaf_or0, subleaf_of, numbers_of, refusal_numbers}
 use Rattle.memory.specs.Origin.{origin_read}
 use Rattle.memory.specs.OriginLaws.{entry_read, neither_read, made_read, not_known_read}
 use Rattle.memory.specs.declared.origins.OriginRead.{OriginRead}
-use Rattle.buffer.specs.declared.Written.{Written}
-use Rattle.buffer.specs.declared.Written.TheVariants.{Bytes, Refused as NotWritten}
 use Rattle.build.specs.declared.Built.{Built}
-use Rattle.lookup.specs.declared.Found.{Found}
-use Rattle.lookup.specs.declared.Found.TheVariants.{Row as Located, NoRow as NotLocated}
-use Rattle.lookup.specs.declared.LeafResult.{LeafResult}
-use Rattle.lookup.specs.declared.LeafResult.TheVariants.{Some as Given, None as Nothing}
-use Rattle.guest_state.specs.declared.InUse.{InUse}
-use Rattle.guest_state.specs.declared.InUse.TheVariants.{Refused as NotInUse, Compacted}
-use Rattle.guest.specs.declared.GuestFound.{GuestFound}
-use Rattle.guest.specs.declared.GuestFound.TheVariants.{Refused as NotGiven, Looked}
-use Rattle.carry.specs.declared.in_image.CarriedImage.{CarriedImage}
-use Rattle.carry.specs.declared.in_image.CarriedImage.TheVariants.{NotAnImage, Image}
 use Rattle.compare.specs.declared.registers.Register.{Register}
 use Rattle.compare.specs.declared.registers.Register.TheVariants.{Eax, Ebx, Ecx, Edx}
 use Rattle.compare.specs.Registers.{order}
@@ -35,12 +19,6 @@ use Rattle.compare.specs.declared.Compared.TheVariants.{Rises, RefusedA, Unlawfu
 use Rattle.compare.specs.declared.search.RowsCompared.{RowsCompared as TablesCompared}
 use Rattle.compare.specs.declared.search.RowsCompared.TheVariants.{Rises as TablesRise, NoRow, Differs as RowDiffers, Beyond, MaskLacks}
 use Rattle.pool.specs.declared.Pooled.{Pooled}
-use Rattle.nearest.specs.declared.Nearest.{Nearest}
-use Rattle.nearest.specs.declared.Nearest.TheVariants.{Bit, NoBit}
-use Rattle.lines.specs.declared.LineWritten.{LineWritten}
-use Rattle.lines.specs.declared.LineWritten.TheVariants.{Line, NoSuchLine}
-use Rattle.lines.specs.declared.LineRead.{LineRead}
-use Rattle.lines.specs.declared.LineRead.TheVariants.{Line as Says, NoSuchLine as SaysNothing}
 use Rattle.answers.specs.Answers.{choices_of, processor_of, held_numbers, built_numbers, found_given, found_numbers, guest_found_numbers, state_numbers, counts_of, read_with, first_given, written_numbers}
 use Rattle.answers.specs.CarriedAnswers.{carried_numbers}
 use Rattle.answers.specs.ComparedAnswers.{compared_numbers, tables_compared_numbers}
@@ -52,6 +30,12 @@ use Rattle.answers.specs.Told.SubleafTold.{none, some}
 use Rattle.answers.specs.Told.RefusalTold.{told_1, told_2, told_3, told_3_subleaf, told_4, told_5, told_6, told_7, told_8, told_9, told_10, told_11, told_12, told_13, told_14, told_15, told_16, told_17, told_18, told_19, told_20}
 use Rattle.answers.specs.Told.VerdictTold.{accepted, refused}
 use Rattle.answers.specs.Told.RegisterTold.{eax, ebx, ecx, edx}
+use Rattle.buffer.specs.Written.{Written}
+use Rattle.lines.specs.declared.bytes.LineDetails.{LineDetails}
+use Rattle.lookup.specs.declared.FoundRow.{FoundRow}
+use Rattle.nearest.specs.declared.flips.Flip.{Flip}
+use Rattle.table.specs.Verdict.{Verdict}
+use Rattle.x86defs.specs.declared.CpuidResult.{CpuidResult}
 
 -- ---- subleaves, refusals, verdicts, registers, origins
 
@@ -61,7 +45,7 @@ use Rattle.answers.specs.Told.RegisterTold.{eax, ebx, ecx, edx}
 
 -- ---- the proofs: each by the answer's cases
 
-pub subleaf_told : (k : Subleaf) → SubleafTold k (named k) (subleaf_or0 k)
+pub subleaf_told : (k : Option ℕ) → SubleafTold k (named k) (subleaf_or0 k)
 subleaf_told None = none
 subleaf_told (Some k) = some k
 
@@ -95,11 +79,11 @@ abbrev VerdictIn : Verdict → AnswerNumbers → Type 0
 VerdictIn v n = VerdictTold v n.number n.leaf n.has_subleaf n.subleaf n.s
 
 pub verdict_in_lem : (v : Verdict) → VerdictIn v (numbers_of v)
-verdict_in_lem Accepted = accepted
-verdict_in_lem (Refused r) = refused (refusal_in r)
+verdict_in_lem (Ok _) = accepted
+verdict_in_lem (Err r) = refused (refusal_in r)
 
 refusal_back : {r : Refusal} {number leaf has subleaf s : ℕ} → RefusalTold r number leaf has subleaf s
-    → verdict_from number leaf has subleaf s ≡ Refused r
+    → verdict_from number leaf has subleaf s ≡ Err r
 unfolding verdict_from
 refusal_back told_1 = refl
 refusal_back told_2 = refl
@@ -173,24 +157,24 @@ held_told v t = record { verdict = verdict_in_lem v; rows = refl; mask = refl }
 pub built_told : (b : Built) → HeldTold b.verdict b.table (built_numbers b)
 built_told b = record { verdict = verdict_in_lem b.verdict; rows = refl; mask = refl }
 
-pub given_told : (x : LeafResult) (o : ℕ) → GivenTold x o (found_given x o)
-given_told (Given r) o = record { found = refl; eax = refl; ebx = refl; ecx = refl; edx = refl; origin = origin_in o }
-given_told Nothing o = record { found = refl; eax = refl; ebx = refl; ecx = refl; edx = refl; origin = refl; page = refl; position = refl }
+pub given_told : (x : Option CpuidResult) (o : ℕ) → GivenTold x o (found_given x o)
+given_told (Some r) o = record { found = refl; eax = refl; ebx = refl; ecx = refl; edx = refl; origin = origin_in o }
+given_told None o = record { found = refl; eax = refl; ebx = refl; ecx = refl; edx = refl; origin = refl; page = refl; position = refl }
 
-pub found_told : (f : Found) → FoundTold f (found_numbers f)
-found_told (Located r o) = record { found = refl; eax = refl; ebx = refl; ecx = refl; edx = refl; origin = origin_in o }
-found_told NotLocated = record { found = refl; eax = refl; ebx = refl; ecx = refl; edx = refl; origin = refl; page = refl; position = refl }
+pub found_told : (f : Option FoundRow) → FoundTold f (found_numbers f)
+found_told (Some f) = record { found = refl; eax = refl; ebx = refl; ecx = refl; edx = refl; origin = origin_in f.origin }
+found_told None = record { found = refl; eax = refl; ebx = refl; ecx = refl; edx = refl; origin = refl; page = refl; position = refl }
 
-pub guest_told : (f : GuestFound) → GuestTold f (guest_found_numbers f)
-guest_told (NotGiven r) =
+pub guest_told : (f : Result (Option FoundRow) Refusal) → GuestTold f (guest_found_numbers f)
+guest_told (Err r) =
     (number_in r, record { found = refl; eax = refl; ebx = refl; ecx = refl; edx = refl; origin = refl; page = refl; position = refl })
-guest_told (Looked (Located r o)) = (refl, record { found = refl; eax = refl; ebx = refl; ecx = refl; edx = refl; origin = origin_in o })
-guest_told (Looked NotLocated) =
+guest_told (Ok (Some f)) = (refl, record { found = refl; eax = refl; ebx = refl; ecx = refl; edx = refl; origin = origin_in f.origin })
+guest_told (Ok None) =
     (refl, record { found = refl; eax = refl; ebx = refl; ecx = refl; edx = refl; origin = refl; page = refl; position = refl })
 
-pub state_told : (s : InUse) → StateTold s (state_numbers s)
-state_told (NotInUse r) = (number_in r, refl)
-state_told (Compacted size) = (refl, refl)
+pub state_told : (s : Result ℕ Refusal) → StateTold s (state_numbers s)
+state_told (Err r) = (number_in r, refl)
+state_told (Ok size) = (refl, refl)
 
 pub counts_told : (t : CpuidResults) → CountsTold t (counts_of t)
 counts_told t = record { rows = refl; mask = refl }
@@ -213,13 +197,13 @@ first_told v o =
     }
 
 pub written_told : (w : Written) → WrittenTold w (written_numbers w)
-written_told (Bytes k) = (accepted, refl)
-written_told (NotWritten r) = (refused (refusal_in r), refl)
+written_told (Ok k) = (accepted, refl)
+written_told (Err r) = (refused (refusal_in r), refl)
 
-pub carried_told : (c : CarriedImage) → CarriedTold c (carried_numbers c)
-carried_told NotAnImage = (refl, refl)
-carried_told (Image Accepted) = (refl, refl)
-carried_told (Image (Refused r)) = (refl, number_in r)
+pub carried_told : (c : Option Verdict) → CarriedTold c (carried_numbers c)
+carried_told None = (refl, refl)
+carried_told (Some (Ok _)) = (refl, refl)
+carried_told (Some (Err r)) = (refl, number_in r)
 
 pub compared_told : (c : Compared) → ComparedTold c (compared_numbers c)
 compared_told Rises = (refl, accepted, refl)
@@ -238,15 +222,15 @@ tables_told MaskLacks = (refl, refl, none, refl)
 pub pooled_told : (p : Pooled) → PooledTold p (pooled_numbers p)
 pooled_told p = record { verdict = verdict_in_lem p.verdict; server = refl; rows = refl; mask = refl }
 
-pub nearest_told : (a : Nearest) → NearestTold a (nearest_numbers a)
-nearest_told (Bit f) = (accepted, record { page = refl; entry = refl; register = refl; bit = refl })
-nearest_told (NoBit r) = (refusal_in r, record { page = refl; entry = refl; register = refl; bit = refl })
+pub nearest_told : (a : Result Flip Refusal) → NearestTold a (nearest_numbers a)
+nearest_told (Ok f) = (accepted, record { page = refl; entry = refl; register = refl; bit = refl })
+nearest_told (Err r) = (refusal_in r, record { page = refl; entry = refl; register = refl; bit = refl })
 
-pub line_written_told : (w : LineWritten) → LineWrittenTold w (line_written_numbers w)
-line_written_told (Line (Bytes k)) = (refl, refl, refl)
-line_written_told (Line (NotWritten r)) = (refl, number_in r, refl)
-line_written_told NoSuchLine = (refl, refl, refl)
+pub line_written_told : (w : Option Written) → LineWrittenTold w (line_written_numbers w)
+line_written_told (Some (Ok k)) = (refl, refl, refl)
+line_written_told (Some (Err r)) = (refl, number_in r, refl)
+line_written_told None = (refl, refl, refl)
 
-pub line_told : (l : LineRead) → LineTold l (line_read_numbers l)
-line_told (Says d) = record { is_line = refl; number = refl; leaf = refl; subleaf = subleaf_told d.subleaf; s = refl }
-line_told SaysNothing = record { is_line = refl; number = refl; leaf = refl; subleaf = none; s = refl }
+pub line_told : (l : Option LineDetails) → LineTold l (line_read_numbers l)
+line_told (Some d) = record { is_line = refl; number = refl; leaf = refl; subleaf = subleaf_told d.subleaf; s = refl }
+line_told None = record { is_line = refl; number = refl; leaf = refl; subleaf = none; s = refl }

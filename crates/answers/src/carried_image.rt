@@ -2,7 +2,8 @@
 ghost use Rattle.std.specs.Prelude.{◌≡◌};
 ghost use Rattle.answers.specs.CarriedAnswers.{carried_numbers};
 
-use carry::in_image::CarriedImage;
+use table::Verdict;
+use table::numbers::AnswerNumbers;
 
 #[repr(C)]
 #[derive(Clone, Copy)]
@@ -12,19 +13,21 @@ pub struct SnpCpuidCarried {
 }
 
 // What carrying an image answers, as numbers.
-pub fn carried_numbers(answer: CarriedImage) -> SnpCpuidCarried
-    ensures { result ≡ carried_numbers answer }
-{
-    match answer {
-        CarriedImage::NotAnImage => SnpCpuidCarried {
-            is_image: 0,
-            number: 0,
-        },
-        CarriedImage::Image(verdict) => {
-            let numbers = table::numbers::answer_numbers(verdict);
-            SnpCpuidCarried {
-                is_image: 1,
-                number: numbers.number as u32,
+impl From<Option<Verdict>> for SnpCpuidCarried {
+    ghost from_gives = { λ answer result. result ≡ carried_numbers answer };
+
+    fn from(answer: Option<Verdict>) -> Self {
+        match answer {
+            None => SnpCpuidCarried {
+                is_image: 0,
+                number: 0,
+            },
+            Some(verdict) => {
+                let numbers = AnswerNumbers::from(verdict);
+                SnpCpuidCarried {
+                    is_image: 1,
+                    number: numbers.number as u32,
+                }
             }
         }
     }

@@ -1,10 +1,8 @@
 // A comparison's answer as C and Rust are given it: a struct of plain numbers.
 ghost use Rattle.std.specs.Prelude.{◌≡◌};
-ghost use Rattle.compare.specs.Registers.{order};
 ghost use Rattle.answers.specs.ComparedAnswers.{compared_with, compared_numbers, tables_compared_with, tables_compared_numbers};
 
 use compare::Compared;
-use compare::registers::Register;
 use compare::search::RowsCompared;
 use table::Verdict;
 use table::numbers::AnswerNumbers;
@@ -19,18 +17,6 @@ pub struct SnpCpuidCompared {
     pub subleaf: u32,
     pub s: u32,
     pub register_index: u32,
-}
-
-// EAX to EDX as 0 to 3.
-fn register_index(register: Register) -> u32
-    ensures { result ≡ order register }
-{
-    match register {
-        Register::Eax => 0,
-        Register::Ebx => 1,
-        Register::Ecx => 2,
-        Register::Edx => 3,
-    }
 }
 
 // One answer of a comparison, with the numbers of a refusal or of a place, and a register.
@@ -49,27 +35,21 @@ fn compared_with(answer: u32, numbers: AnswerNumbers, register_index: u32) -> Sn
 }
 
 // A comparison's answer as numbers.
-pub fn compared_numbers(compared: Compared) -> SnpCpuidCompared
-    ensures { result ≡ compared_numbers compared }
-{
-    match compared {
-        Compared::Rises => compared_with(0, table::numbers::answer_numbers(Verdict::Accepted), 0),
-        Compared::RefusedA(refusal) => compared_with(
-            1,
-            table::numbers::refusal_numbers(refusal),
-            0,
-        ),
-        Compared::UnlawfulB(refusal) => compared_with(
-            2,
-            table::numbers::refusal_numbers(refusal),
-            0,
-        ),
-        Compared::NoEntry(leaf, subleaf) => {
-            compared_with(3, table::numbers::at_leaf(0, leaf.0, subleaf), 0)
-        }
-        Compared::Differs(leaf, subleaf, register) => {
-            let numbers = table::numbers::at_leaf(0, leaf.0, subleaf);
-            compared_with(4, numbers, register_index(register))
+impl From<Compared> for SnpCpuidCompared {
+    ghost from_gives = { λ compared result. result ≡ compared_numbers compared };
+
+    fn from(compared: Compared) -> Self {
+        match compared {
+            Compared::Rises => compared_with(0, AnswerNumbers::from(Ok(())), 0),
+            Compared::RefusedA(refusal) => compared_with(1, AnswerNumbers::from(refusal), 0),
+            Compared::UnlawfulB(refusal) => compared_with(2, AnswerNumbers::from(refusal), 0),
+            Compared::NoEntry(leaf, subleaf) => {
+                compared_with(3, table::numbers::at_leaf(0, leaf.0, subleaf), 0)
+            }
+            Compared::Differs(leaf, subleaf, register) => {
+                let numbers = table::numbers::at_leaf(0, leaf.0, subleaf);
+                compared_with(4, numbers, u32::from(register))
+            }
         }
     }
 }
@@ -103,25 +83,23 @@ fn tables_compared_with(
 }
 
 // What comparing two tables gives, as numbers.
-pub fn tables_compared_numbers(compared: RowsCompared) -> SnpCpuidTablesCompared
-    ensures { result ≡ tables_compared_numbers compared }
-{
-    match compared {
-        RowsCompared::Rises => {
-            tables_compared_with(0, table::numbers::answer_numbers(Verdict::Accepted), 0)
-        }
-        RowsCompared::NoRow(leaf, subleaf) => {
-            tables_compared_with(1, table::numbers::at_leaf(0, leaf.0, subleaf), 0)
-        }
-        RowsCompared::Differs(leaf, subleaf, register) => {
-            let numbers = table::numbers::at_leaf(0, leaf.0, subleaf);
-            tables_compared_with(2, numbers, register_index(register))
-        }
-        RowsCompared::Beyond(leaf, subleaf) => {
-            tables_compared_with(3, table::numbers::at_leaf(0, leaf.0, subleaf), 0)
-        }
-        RowsCompared::MaskLacks => {
-            tables_compared_with(4, table::numbers::answer_numbers(Verdict::Accepted), 0)
+impl From<RowsCompared> for SnpCpuidTablesCompared {
+    ghost from_gives = { λ compared result. result ≡ tables_compared_numbers compared };
+
+    fn from(compared: RowsCompared) -> Self {
+        match compared {
+            RowsCompared::Rises => { tables_compared_with(0, AnswerNumbers::from(Ok(())), 0) }
+            RowsCompared::NoRow(leaf, subleaf) => {
+                tables_compared_with(1, table::numbers::at_leaf(0, leaf.0, subleaf), 0)
+            }
+            RowsCompared::Differs(leaf, subleaf, register) => {
+                let numbers = table::numbers::at_leaf(0, leaf.0, subleaf);
+                tables_compared_with(2, numbers, u32::from(register))
+            }
+            RowsCompared::Beyond(leaf, subleaf) => {
+                tables_compared_with(3, table::numbers::at_leaf(0, leaf.0, subleaf), 0)
+            }
+            RowsCompared::MaskLacks => { tables_compared_with(4, AnswerNumbers::from(Ok(())), 0) }
         }
     }
 }

@@ -8,13 +8,13 @@ ghost use Rattle.answers.specs.Answers.{processor_of, built_given, held_numbers,
 
 use buffer::Written;
 use counts::built_rows;
-use guest::{GuestFound, Processor};
-use guest_state::InUse;
-use lookup::{Found, find};
+use guest::Processor;
+use lookup::{FoundRow, find};
 use masking::PLACES;
 use memory::origins::read_origin;
 use memory::{REGISTERS, combined_mask, row_count};
-use table::{Subleaf, Verdict};
+use table::numbers::AnswerNumbers;
+use table::{Refusal, Verdict};
 use x86defs::CpuidFunction;
 
 pub mod carried_image;
@@ -128,7 +128,7 @@ pub fn processor(x2apic: u32, xcr0: u64, xss: u64, osxsave: bool) -> Processor
 pub fn built_numbers(verdict: Verdict, row_count: usize, max_extended_state: u64) -> SnpCpuidBuilt
     ensures { result ≡ built_given verdict row_count max_extended_state }
 {
-    let numbers = table::numbers::answer_numbers(verdict);
+    let numbers = AnswerNumbers::from(verdict);
     SnpCpuidBuilt {
         number: numbers.number as u32,
         leaf: numbers.leaf,
@@ -150,33 +150,36 @@ pub fn built_table_numbers(verdict: Verdict, registers: &[u32; REGISTERS]) -> Sn
 }
 
 // A row that was found as numbers, with its origin; or all zeros.
-pub fn found_numbers(found: Found) -> SnpCpuidFound
-    ensures { result ≡ found_numbers found }
-{
-    match found {
-        Found::Row(q, number) => {
-            let read = read_origin(number);
-            SnpCpuidFound {
-                found: 1,
-                eax: q.eax,
-                ebx: q.ebx,
-                ecx: q.ecx,
-                edx: q.edx,
-                origin: read.origin,
-                page: read.page,
-                entry: read.position,
+impl From<Option<FoundRow>> for SnpCpuidFound {
+    ghost from_gives = { λ found result. result ≡ found_numbers found };
+
+    fn from(found: Option<FoundRow>) -> Self {
+        match found {
+            Some(found) => {
+                let r = found.row;
+                let read = read_origin(found.origin);
+                SnpCpuidFound {
+                    found: 1,
+                    eax: r.eax,
+                    ebx: r.ebx,
+                    ecx: r.ecx,
+                    edx: r.edx,
+                    origin: read.origin,
+                    page: read.page,
+                    entry: read.position,
+                }
             }
+            None => SnpCpuidFound {
+                found: 0,
+                eax: 0,
+                ebx: 0,
+                ecx: 0,
+                edx: 0,
+                origin: 0,
+                page: 0,
+                entry: 0,
+            },
         }
-        Found::NoRow => SnpCpuidFound {
-            found: 0,
-            eax: 0,
-            ebx: 0,
-            ecx: 0,
-            edx: 0,
-            origin: 0,
-            page: 0,
-            entry: 0,
-        },
     }
 }
 
@@ -185,12 +188,12 @@ pub fn found_at(
     registers: &[u32; REGISTERS],
     origins: &[u64; PLACES],
     leaf: u32,
-    subleaf: Subleaf,
+    subleaf: Option<u32>,
     enforce_subleaf: bool,
 ) -> SnpCpuidFound
     ensures { result ≡ found_at (held_in registers.now origins.now) origins.now leaf subleaf enforce_subleaf }
 {
-    found_numbers(find(
+    SnpCpuidFound::from(find(
         registers,
         origins,
         CpuidFunction(leaf),
@@ -200,15 +203,17 @@ pub fn found_at(
 }
 
 // What a processor's guest reads, as numbers.
-pub fn guest_found_numbers(answer: GuestFound) -> SnpCpuidGuestFound
-    ensures { result ≡ guest_found_numbers answer }
-{
-    match answer {
-        GuestFound::Refused(refusal) => guest_found_with(
-            table::numbers::refusal_numbers(refusal).number as u32,
-            found_numbers(Found::NoRow),
-        ),
-        GuestFound::Looked(found) => guest_found_with(0, found_numbers(found)),
+impl From<Result<Option<FoundRow>, Refusal>> for SnpCpuidGuestFound {
+    ghost from_gives = { λ answer result. result ≡ guest_found_numbers answer };
+
+    fn from(answer: Result<Option<FoundRow>, Refusal>) -> Self {
+        match answer {
+            Err(refusal) => guest_found_with(
+                AnswerNumbers::from(refusal).number as u32,
+                SnpCpuidFound::from(None),
+            ),
+            Ok(found) => guest_found_with(0, SnpCpuidFound::from(found)),
+        }
     }
 }
 
@@ -230,18 +235,20 @@ fn guest_found_with(number: u32, f: SnpCpuidFound) -> SnpCpuidGuestFound
 }
 
 // Whether a table gives a state, as numbers.
-pub fn state_numbers(state: InUse) -> SnpCpuidState
-    ensures { result ≡ state_numbers state }
-{
-    match state {
-        InUse::Refused(refusal) => {
-            let numbers = table::numbers::refusal_numbers(refusal);
-            SnpCpuidState {
-                number: numbers.number as u32,
-                size: 0,
+impl From<Result<u32, Refusal>> for SnpCpuidState {
+    ghost from_gives = { λ state result. result ≡ state_numbers state };
+
+    fn from(state: Result<u32, Refusal>) -> Self {
+        match state {
+            Err(refusal) => {
+                let numbers = AnswerNumbers::from(refusal);
+                SnpCpuidState {
+                    number: numbers.number as u32,
+                    size: 0,
+                }
             }
+            Ok(size) => SnpCpuidState { number: 0, size },
         }
-        InUse::Compacted(size) => SnpCpuidState { number: 0, size },
     }
 }
 
@@ -286,7 +293,7 @@ pub fn table_numbers(
 pub fn first_numbers(verdict: Verdict, number: u64) -> SnpCpuidFirst
     ensures { result ≡ first_given verdict number }
 {
-    let numbers = table::numbers::answer_numbers(verdict);
+    let numbers = AnswerNumbers::from(verdict);
     let read = read_origin(number);
     SnpCpuidFirst {
         number: numbers.number as u32,
@@ -301,27 +308,29 @@ pub fn first_numbers(verdict: Verdict, number: u64) -> SnpCpuidFirst
 }
 
 // A write's answer as numbers.
-pub fn written_numbers(written: Written) -> SnpCpuidWritten
-    ensures { result ≡ written_numbers written }
-{
-    match written {
-        Written::Bytes(n) => SnpCpuidWritten {
-            number: 0,
-            leaf: 0,
-            has_subleaf: 0,
-            subleaf: 0,
-            s: 0,
-            length: n as u64,
-        },
-        Written::Refused(refusal) => {
-            let numbers = table::numbers::refusal_numbers(refusal);
-            SnpCpuidWritten {
-                number: numbers.number as u32,
-                leaf: numbers.leaf,
-                has_subleaf: numbers.has_subleaf,
-                subleaf: numbers.subleaf,
-                s: numbers.s as u32,
-                length: 0,
+impl From<Written> for SnpCpuidWritten {
+    ghost from_gives = { λ written result. result ≡ written_numbers written };
+
+    fn from(written: Written) -> Self {
+        match written {
+            Ok(n) => SnpCpuidWritten {
+                number: 0,
+                leaf: 0,
+                has_subleaf: 0,
+                subleaf: 0,
+                s: 0,
+                length: n as u64,
+            },
+            Err(refusal) => {
+                let numbers = AnswerNumbers::from(refusal);
+                SnpCpuidWritten {
+                    number: numbers.number as u32,
+                    leaf: numbers.leaf,
+                    has_subleaf: numbers.has_subleaf,
+                    subleaf: numbers.subleaf,
+                    s: numbers.s as u32,
+                    length: 0,
+                }
             }
         }
     }

@@ -2,8 +2,9 @@
 ghost use Rattle.std.specs.Prelude.{◌≡◌};
 ghost use Rattle.answers.specs.LineAnswers.{line_written_numbers, line_read_numbers};
 
-use crate::written_numbers;
-use lines::{LineRead, LineWritten};
+use crate::SnpCpuidWritten;
+use buffer::Written;
+use lines::bytes::LineDetails;
 
 #[repr(C)]
 #[derive(Clone, Copy)]
@@ -25,50 +26,54 @@ pub struct SnpCpuidLineRead {
 }
 
 // A line's answer in writing as numbers.
-pub fn line_written_numbers(answer: LineWritten) -> SnpCpuidLineWritten
-    ensures { result ≡ line_written_numbers answer }
-{
-    match answer {
-        LineWritten::Line(written) => {
-            let numbers = written_numbers(written);
-            SnpCpuidLineWritten {
-                is_line: 1,
-                number: numbers.number,
-                length: numbers.length,
+impl From<Option<Written>> for SnpCpuidLineWritten {
+    ghost from_gives = { λ answer result. result ≡ line_written_numbers answer };
+
+    fn from(answer: Option<Written>) -> Self {
+        match answer {
+            Some(written) => {
+                let numbers = SnpCpuidWritten::from(written);
+                SnpCpuidLineWritten {
+                    is_line: 1,
+                    number: numbers.number,
+                    length: numbers.length,
+                }
             }
+            None => SnpCpuidLineWritten {
+                is_line: 0,
+                number: 0,
+                length: 0,
+            },
         }
-        LineWritten::NoSuchLine => SnpCpuidLineWritten {
-            is_line: 0,
-            number: 0,
-            length: 0,
-        },
     }
 }
 
 // What a line says as numbers.
-pub fn line_read_numbers(read: LineRead) -> SnpCpuidLineRead
-    ensures { result ≡ line_read_numbers read }
-{
-    match read {
-        LineRead::Line(d) => {
-            let subleaf = d.subleaf;
-            let numbers = table::numbers::at_leaf(0, d.leaf, subleaf);
-            SnpCpuidLineRead {
-                is_line: 1,
-                number: d.number,
-                leaf: d.leaf,
-                has_subleaf: numbers.has_subleaf,
-                subleaf: numbers.subleaf,
-                s: d.s,
+impl From<Option<LineDetails>> for SnpCpuidLineRead {
+    ghost from_gives = { λ read result. result ≡ line_read_numbers read };
+
+    fn from(read: Option<LineDetails>) -> Self {
+        match read {
+            Some(d) => {
+                let subleaf = d.subleaf;
+                let numbers = table::numbers::at_leaf(0, d.leaf, subleaf);
+                SnpCpuidLineRead {
+                    is_line: 1,
+                    number: d.number,
+                    leaf: d.leaf,
+                    has_subleaf: numbers.has_subleaf,
+                    subleaf: numbers.subleaf,
+                    s: d.s,
+                }
             }
+            None => SnpCpuidLineRead {
+                is_line: 0,
+                number: 0,
+                leaf: 0,
+                has_subleaf: 0,
+                subleaf: 0,
+                s: 0,
+            },
         }
-        LineRead::NoSuchLine => SnpCpuidLineRead {
-            is_line: 0,
-            number: 0,
-            leaf: 0,
-            has_subleaf: 0,
-            subleaf: 0,
-            s: 0,
-        },
     }
 }

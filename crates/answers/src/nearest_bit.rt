@@ -2,7 +2,9 @@
 ghost use Rattle.std.specs.Prelude.{◌≡◌};
 ghost use Rattle.answers.specs.NearestAnswers.{nearest_numbers};
 
-use nearest::Nearest;
+use nearest::flips::Flip;
+use table::Refusal;
+use table::numbers::AnswerNumbers;
 
 #[repr(C)]
 #[derive(Clone, Copy)]
@@ -19,33 +21,35 @@ pub struct SnpCpuidNearest {
 }
 
 // The answer as numbers.
-pub fn nearest_numbers(answer: Nearest) -> SnpCpuidNearest
-    ensures { result ≡ nearest_numbers answer }
-{
-    match answer {
-        Nearest::Bit(flip) => SnpCpuidNearest {
-            number: 0,
-            leaf: 0,
-            has_subleaf: 0,
-            subleaf: 0,
-            s: 0,
-            entry: flip.entry,
-            page: flip.page as u64,
-            register_index: flip.register,
-            bit: flip.bit,
-        },
-        Nearest::NoBit(refusal) => {
-            let numbers = table::numbers::refusal_numbers(refusal);
-            SnpCpuidNearest {
-                number: numbers.number as u32,
-                leaf: numbers.leaf,
-                has_subleaf: numbers.has_subleaf,
-                subleaf: numbers.subleaf,
-                s: numbers.s as u32,
-                entry: 0,
-                page: 0,
-                register_index: 0,
-                bit: 0,
+impl From<Result<Flip, Refusal>> for SnpCpuidNearest {
+    ghost from_gives = { λ answer result. result ≡ nearest_numbers answer };
+
+    fn from(answer: Result<Flip, Refusal>) -> Self {
+        match answer {
+            Ok(flip) => SnpCpuidNearest {
+                number: 0,
+                leaf: 0,
+                has_subleaf: 0,
+                subleaf: 0,
+                s: 0,
+                entry: flip.entry,
+                page: flip.page as u64,
+                register_index: flip.register,
+                bit: flip.bit,
+            },
+            Err(refusal) => {
+                let numbers = AnswerNumbers::from(refusal);
+                SnpCpuidNearest {
+                    number: numbers.number as u32,
+                    leaf: numbers.leaf,
+                    has_subleaf: numbers.has_subleaf,
+                    subleaf: numbers.subleaf,
+                    s: numbers.s as u32,
+                    entry: 0,
+                    page: 0,
+                    register_index: 0,
+                    bit: 0,
+                }
             }
         }
     }

@@ -3,6 +3,7 @@ ghost use Rattle.std.specs.Prelude.{◌≡◌, ◌^◌, ◌<◌};
 ghost use Rattle.answers.specs.PoolAnswers.{pooled_given};
 
 use table::Verdict;
+use table::numbers::AnswerNumbers;
 
 #[repr(C)]
 #[derive(Clone, Copy)]
@@ -27,7 +28,7 @@ pub fn pooled_numbers(
     requires { server < 2 ^ 32 }
     ensures { result ≡ pooled_given verdict server row_count max_extended_state }
 {
-    let numbers = table::numbers::answer_numbers(verdict);
+    let numbers = AnswerNumbers::from(verdict);
     SnpCpuidPooled {
         number: numbers.number as u32,
         leaf: numbers.leaf,

@@ -1,13 +1,8 @@
 -- Laws of bits, of fields and of "at least".
-use Rattle.std.specs.Prelude.{◌≡◌, refl, Bool, true, false, ◌&&◌, ℕ, suc, ◌+◌, ◌-◌, ◌/◌, ◌%◌, ◌^◌, ◌≤◌, ◌<◌, min, max, eqb}
-use Rattle.std.proofs.Common.{sym, ap, ◌∙◌, subst, le_refl, le_trans, le_of_eq, mod-lt, zero-lt-suc, arith, eq-eqb, ne_eqb, eqb-true}
-use Rattle.std.proofs.Math.Nat.{zero-div}
-use Rattle.std.proofs.Math.Arith.{bin_ind}
-use lib.Pow.{shr-shr}
-use Rattle.std.specs.Int.Bits.{bit_and, bit_or, and_step, or_step, and_zero_l}
-use Rattle.std.proofs.lemmas.Nat.{and_shr, or_shr, and_le_r, and_mask}
-use Rattle.std.proofs.lemmas.Bool.{eqb-false}
-use Rattle.bits.specs.Bits.{bit, has, field, clear, clear_unless, Within}
+use Rattle.std.specs.Prelude.{◌≡◌, refl, Bool, true, false, ◌&&◌, ℕ, ◌+◌, ◌-◌, ◌/◌, ◌^◌, ◌≤◌}
+use Rattle.std.proofs.Common.{sym, ap, ◌∙◌, arith}
+use Rattle.std.specs.Int.Bits.{bit_and}
+use Rattle.bits.specs.Bits.{bit, has, Within}
 use Rattle.bits.specs.BitsLaws.{bit_and_lem, bit_has, bit_has_not, bit_lt, bit_shr, has_bit, has_not, zero_bit}
 
 -- a number shifted to 0 has no bit left

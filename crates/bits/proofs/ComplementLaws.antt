@@ -1,10 +1,9 @@
 -- The bits that a mask leaves of 32: a mask with more bits leaves fewer.
-use Rattle.std.specs.Prelude.{◌≡◌, refl, Bool, true, false, ℕ, zero, suc, ◌-◌, ◌*◌, ◌/◌, ◌%◌, ◌^◌, ◌≤◌, ◌<◌, ltb}
-use Rattle.std.proofs.Common.{sym, ap, ◌∙◌, arith, ltb-true, ltb-false}
+use Rattle.std.specs.Prelude.{◌≡◌, refl, Bool, true, false, ℕ, ◌-◌, ◌^◌, ◌≤◌, ◌<◌, ltb}
+use Rattle.std.proofs.Common.{arith, ltb-true, ltb-false}
 use Rattle.std.proofs.Math.Nat.{div-eq_of_lt}
-use Rattle.std.proofs.Math.Numerals.{unary_clauses}
 use Rattle.bits.specs.Bits.{bit, Within}
-use Rattle.bits.specs.BitsLaws.{bit_zero, bit_suc, within_le, has_not}
+use Rattle.bits.specs.BitsLaws.{within_le, has_not}
 use Rattle.bits.proofs.BitsLaws.{none_from}
 use Rattle.bits.specs.ComplementLaws.{complement_bit}
 

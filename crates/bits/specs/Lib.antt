@@ -10,3 +10,4 @@ pub mod ListsLaws
 pub mod InPlace
 pub mod WidthLaws
 pub mod ComplementLaws
+pub mod TestLaws

@@ -12,7 +12,7 @@ pub fn has_bit(x: u32, k: u32) -> bool
     (x >> k) & 1 == 1
 }
 
-// The same of a 64-bit mask.
+// The same of a 64-bit mask. Kept as a twin: with one function over 64 bits each caller that has a register would widen it first.
 pub fn has_bit64(x: u64, k: u32) -> bool
     requires { k < 64 }
     ensures { result ≡ has k x }

@@ -1,13 +1,11 @@
 -- Bytes at the front of a lent buffer: numbers as bytes, and what a write answers and leaves. Document 01, "Image and lookup": 4 bytes each,
 -- little-endian; 9 where the lent buffer is shorter; bytes beyond what is written stay, and a refused write changes no lent byte.
-use Rattle.std.specs.Prelude.{List, [], ◌∷◌, ◌++◌, ℕ, ◌/◌, ◌%◌, leb, length, drop}
+use Rattle.std.specs.Prelude.{List, [], ◌∷◌, ◌++◌, ℕ, ◌/◌, ◌%◌, leb, length, drop, Err, Ok}
 use Rattle.bits.specs.Choice.{pick}
 use Rattle.x86defs.specs.declared.CpuidResult.{CpuidResult}
 use Rattle.table.specs.declared.Refusal.TheVariants.{BufferTooShort}
-use Rattle.table.specs.declared.Verdict.{Verdict}
-use Rattle.table.specs.declared.Verdict.TheVariants.{Accepted, Refused as NotMade}
-use Rattle.buffer.specs.declared.Written.{Written}
-use Rattle.buffer.specs.declared.Written.TheVariants.{Bytes, Refused}
+use Rattle.buffer.specs.Written.{Written}
+use Rattle.table.specs.Verdict.{Verdict}
 
 -- a 32-bit number as four bytes, the lowest first
 abbrev pub bytes_of : ℕ → List ℕ
@@ -33,10 +31,10 @@ pub record AfterWrite : Type 0 where
 unfoldable pub write_front : List ℕ → List ℕ → AfterWrite
 write_front bytes buffer =
     pick (leb (length bytes) (length buffer))
-    (record { answer = Bytes (length bytes); buffer = bytes ++ drop (length bytes) buffer })
-    (record { answer = Refused BufferTooShort; buffer = buffer })
+    (record { answer = Ok (length bytes); buffer = bytes ++ drop (length bytes) buffer })
+    (record { answer = Err BufferTooShort; buffer = buffer })
 
 -- the refusals of what the bytes are made of come first
 abbrev pub write_verdict : Verdict → List ℕ → List ℕ → AfterWrite
-write_verdict Accepted bytes buffer = write_front bytes buffer
-write_verdict (NotMade r) bytes buffer = record { answer = Refused r; buffer = buffer }
+write_verdict (Ok _) bytes buffer = write_front bytes buffer
+write_verdict (Err r) bytes buffer = record { answer = Err r; buffer = buffer }

@@ -1,3 +1,4 @@
+pub mod Written
 pub mod Front
 pub mod FrontLaws
 pub mod WritesExactly

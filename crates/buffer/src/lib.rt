@@ -9,11 +9,7 @@ use table::Refusal;
 use x86defs::CpuidResult;
 
 // How many bytes were written, or why none was.
-#[derive(Clone, Copy)]
-pub enum Written {
-    Bytes(usize),
-    Refused(Refusal),
-}
+pub type Written = Result<usize, Refusal>;
 
 // EAX, EBX, ECX, EDX.
 pub fn put_registers(out: &mut [u8], at: usize, r: CpuidResult)
@@ -31,8 +27,5 @@ pub fn put_word(out: &mut [u8], at: usize, x: u32)
     requires { at + 4 ≤ length out.old }
     ensures { out.new ≡ sets out.old at (word_bytes x) }
 {
-    out[at] = (x % 256) as u8;
-    out[at + 1] = (x / 256 % 256) as u8;
-    out[at + 2] = (x / 65536 % 256) as u8;
-    out[at + 3] = (x / 16777216 % 256) as u8;
+    out[at..at + 4].copy_from_slice(&x.to_le_bytes());
 }

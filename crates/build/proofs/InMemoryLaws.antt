@@ -1,30 +1,22 @@
 -- Laws of lent memory: where it holds the masked first entries and where each stands, `finish_rows` leaves the answer of the pages.
-use Rattle.std.specs.Prelude.{◌≡◌, refl, true, false, List, [], ℕ}
+use Rattle.std.specs.Prelude.{◌≡◌, List, ℕ, Ok}
 use Rattle.std.proofs.Math.Path.{sym, ap, subst}
-use Rattle.std.proofs.Common.{ap₂, ◌∙◌}
+use Rattle.std.proofs.Common.{◌∙◌}
 use Rattle.table.specs.declared.Choices.{Choices}
-use Rattle.table.specs.declared.Verdict.{Verdict}
-use Rattle.table.specs.declared.Refusal.{Refusal}
-use Rattle.table.specs.declared.Refusal.TheVariants.{UnknownEdition}
-use Rattle.table.specs.declared.Verdict.TheVariants.{Accepted, Refused}
-use Rattle.table.specs.Edition.{known_edition}
 use Rattle.memory.specs.Origin.{finished_origins}
-use Rattle.memory.specs.Memory.{rows_in, Cleared}
-use Rattle.collect.proofs.FirstEntryOriginLaws.{found_rows}
-use Rattle.collect.specs.WalkedPages.{WalkedPages}
+use Rattle.memory.specs.Memory.{rows_in}
 use Rattle.finish.specs.declared.RowsBuilt.{RowsBuilt}
 use Rattle.finish.specs.RowsBuilt.{built_from}
 use Rattle.rows.specs.Finished.{Answered, Tried}
-use Rattle.rows.specs.AnsweredLaws.{cleared, cleared_whole}
-use Rattle.build.specs.declared.Built.{Built}
-use Rattle.build.specs.Built.{without_origins, not_built}
-use Rattle.build.specs.Build.{edition_verdict, rows_for, answer, EntriesIn, FrontIn, InMemory}
+use Rattle.build.specs.Built.{without_origins}
+use Rattle.build.specs.Build.{answer, FrontIn, InMemory}
 use Rattle.build.specs.BuildLaws.{located_origins}
 use Rattle.build.proofs.BuildLaws.{front_rows}
 use Rattle.build.specs.InMemoryLaws.{rows_held}
+use Rattle.table.specs.Verdict.{Verdict}
 
 -- what finishing makes of them
-module _ (c : Choices) (s w o : List ℕ) {v : Verdict} (k : FrontIn c s v w o) (z : v ≡ Accepted) {x : Verdict} {w₁ o₁ : List ℕ}
+module _ (c : Choices) (s w o : List ℕ) {v : Verdict} (k : FrontIn c s v w o) (z : v ≡ Ok tt) {x : Verdict} {w₁ o₁ : List ℕ}
     (t : Tried (built_from c.edition (rows_in w o)) w o x w₁ o₁) where
   rows_answered : built_from c.edition (rows_in w o) ≡ without_origins (answer c s)
   rows_answered = ap (built_from c.edition) (rows_held c s w o k z) ∙ sym (front_rows c s (sym k.verdict ∙ z))
@@ -32,7 +24,7 @@ module _ (c : Choices) (s w o : List ℕ) {v : Verdict} (k : FrontIn c s v w o) 
   pub finished_verdict : (answer c s).verdict ≡ x
   finished_verdict = sym (t.verdict ∙ ap (λ (b : RowsBuilt). b.verdict) rows_answered)
 
-  pub answer_in_memory : x ≡ Accepted → InMemory (answer c s) Accepted w₁ o₁
+  pub answer_in_memory : x ≡ Ok tt → InMemory (answer c s) (Ok tt) w₁ o₁
   unfolding answer
   answer_in_memory e =
       let d : Answered (without_origins (answer c s)) o x w₁ o₁ = subst (λ (b : RowsBuilt). Answered b o x w₁ o₁) rows_answered (t.accepted e) in

@@ -1,12 +1,10 @@
 -- The answer for any bytes: document 01's checks in order, then the table. c is what the caller chooses, s the list of the page bytes.
-use Rattle.std.specs.Prelude.{◌≡◌, false, List, ℕ}
+use Rattle.std.specs.Prelude.{◌≡◌, false, List, ℕ, Err, Ok}
 use Rattle.bits.specs.Lists.{tabulate}
 use Rattle.pages.specs.Entries.{counted}
 use Rattle.table.specs.declared.Refusal.TheVariants.{UnknownEdition}
 use Rattle.table.specs.declared.Choices.{Choices}
 use Rattle.table.specs.declared.Refusal.{Refusal}
-use Rattle.table.specs.declared.Verdict.{Verdict}
-use Rattle.table.specs.declared.Verdict.TheVariants.{Accepted, Refused}
 use Rattle.table.specs.Refusal.{and_then}
 use Rattle.table.specs.Edition.{known_edition}
 use Rattle.table.specs.Rows.{Rows}
@@ -22,6 +20,7 @@ use Rattle.finish.specs.RowsBuilt.{table_for}
 use Rattle.build.specs.declared.Built.{Built}
 use Rattle.collect.specs.FirstEntries.{rows_of}
 use Rattle.collect.specs.FirstEntryOrigin.{stands_at, found_origins}
+use Rattle.table.specs.Verdict.{Verdict}
 
 -- document 02, P7: "15 an edition other than 1 or 2, before 1"
 unfoldable pub edition_verdict : ℕ → Verdict
@@ -62,9 +61,9 @@ origin_at c s i = origin_of (row_in (answer c s).table i).present i (stands_at i
 -- the verdict v is u; where it accepts, the memory w, o holds the masked first entries and where each stands, else no rows
 pub record EntriesIn (u : Verdict) (c : Choices) (s : List ℕ) (v : Verdict) (w o : List ℕ) : Type 0 where
   pub verdict : v ≡ u
-  pub registers : v ≡ Accepted → w ≡ layout (λ i. (rows_for c s i).result)
-  pub stands : v ≡ Accepted → o ≡ found_origins s
-  pub refused : (r : Refusal) → v ≡ Refused r → Cleared w o
+  pub registers : v ≡ Ok tt → w ≡ layout (λ i. (rows_for c s i).result)
+  pub stands : v ≡ Ok tt → o ≡ found_origins s
+  pub refused : (r : Refusal) → v ≡ Err r → Cleared w o
 
 -- what pages give before their rows are looked at
 abbrev pub FrontIn : Choices → List ℕ → Verdict → List ℕ → List ℕ → Type 0

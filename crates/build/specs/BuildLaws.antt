@@ -1,5 +1,5 @@
 -- The answer, by its verdict and by its parts.
-use Rattle.std.specs.Prelude.{◌≡◌, refl, Bool, true, false, List, ℕ, replicate}
+use Rattle.std.specs.Prelude.{◌≡◌, Bool, false, List, ℕ, replicate}
 use Rattle.std.proofs.Common.{sym, ◌∙◌}
 use Rattle.std.proofs.Math.Path.{ap}
 use Rattle.std.proofs.lemmas.List.{length-replicate, get_or-replicate}
@@ -11,25 +11,9 @@ use Rattle.memory.specs.Origin.{is_made_here, origin_of, origin_number, finished
 use Rattle.memory.specs.Origin.Origin.{neither, made_here}
 use Rattle.memory.specs.OriginLaws.{finished_origins_lem}
 use Rattle.collect.specs.FirstEntryOrigin.{stands_at, found_origins}
-use Rattle.finish.specs.declared.RowsBuilt.{RowsBuilt}
-use Rattle.build.specs.declared.Built.{Built}
-use Rattle.table.specs.declared.Refusal.{Refusal}
-use Rattle.table.specs.declared.Refusal.TheVariants.{UnknownEdition}
-use Rattle.table.specs.declared.Choices.{Choices}
-use Rattle.table.specs.declared.Verdict.{Verdict}
-use Rattle.table.specs.declared.Verdict.TheVariants.{Accepted, Refused}
-use Rattle.table.specs.Refusal.{and_then}
 use Rattle.table.specs.declared.CpuidResults.{CpuidResults}
-use Rattle.checks.specs.Checks.{rows_verdict}
-use Rattle.checks.specs.ChecksLaws.{demanded, then_left, then_right}
-use Rattle.finish.specs.RowsBuilt.{built_from}
-use Rattle.build.specs.Built.{without_origins, not_built}
 use Rattle.table.specs.Table.{empty_table}
-use Rattle.table.specs.Rows.{Rows}
-use Rattle.table.specs.Edition.{known_edition}
-use Rattle.finish.specs.Stages.{built_by}
-use Rattle.build.specs.Build.{edition_verdict, front_verdict, rows_for, verdict_of, origins_in, answer}
-use Rattle.collect.specs.Lawful.{lawful_verdict}
+use Rattle.build.specs.Build.{origins_in}
 
 -- a table without rows has no origins, whatever stands in the pages
 pub no_origins_lem : (s : List ℕ) → replicate places 0 ≡ origins_in empty_table s

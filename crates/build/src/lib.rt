@@ -13,7 +13,7 @@ use table::edition::known_edition;
 use table::{Choices, CpuidResults, Refusal, Verdict};
 
 // The answer of the definition, specs/Build.antt: the verdict, the table, and where each row came from (document 02, P11), by the numbers of
-// `memory::origins`.
+// `memory::origins`. Kept as values beside a verdict: theorems speak of the table of a refusal, too, which has no rows.
 #[derive(Clone, Copy)]
 pub struct Built {
     pub verdict: Verdict,
@@ -35,7 +35,7 @@ pub fn rows_into(
     if known_edition(choices.edition) {
         return walk_pages(pages, choices.secure_avic, registers, origins);
     }
-    Verdict::Refused(Refusal::UnknownEdition)
+    Err(Refusal::UnknownEdition)
 }
 
 // Pages of any length, count and content, into memory that comes without rows: one table with its origins; or one refusal, and the memory is without
@@ -49,14 +49,11 @@ pub fn build_into(
     requires { Cleared registers.old origins.old }
     ensures { InMemory (answer choices pages.now) result registers.new origins.new }
 {
-    let front = rows_into(pages, choices, registers, origins);
-    if let Verdict::Refused(r) = front {
-        return Verdict::Refused(r);
-    }
+    rows_into(pages, choices, registers, origins)?;
     let verdict = finish_rows(registers, origins, choices.edition);
-    if let Verdict::Refused(r) = verdict {
+    if let Err(r) = verdict {
         clear(registers, origins);
-        return Verdict::Refused(r);
+        return Err(r);
     }
-    Verdict::Accepted
+    Ok(())
 }

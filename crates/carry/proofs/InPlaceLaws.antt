@@ -1,12 +1,11 @@
 -- Carrying in place by the code's returns and by its two stores.
-use Rattle.std.specs.Prelude.{◌≡◌, refl, Bool, true, false, ◌&&◌, ◌||◌, List, ℕ, zero, suc, ◌*◌, ◌≤◌, ◌<◌, length, get_or, set}
+use Rattle.std.specs.Prelude.{◌≡◌, refl, Bool, true, false, ◌&&◌, ◌||◌, List, ℕ, zero, suc, ◌*◌, ◌≤◌, ◌<◌, length, get_or, set, Err, Ok, Result}
 use Rattle.std.proofs.Math.Path.{sym, ap, ap₂}
 use Rattle.std.proofs.Common.{◌∙◌, subst, arith, lit<}
 use Rattle.std.proofs.Math.Dec.{eqb}
 use Rattle.std.specs.Int.Bits.{bit_or}
 use borrow.Author.Tests.{le-leb, lt-leb}
 use Rattle.bits.specs.Choice.{pick}
-use Rattle.bits.specs.ChoiceLaws.{never_both}
 use Rattle.bits.specs.Bits.{has}
 use Rattle.bits.specs.Lists.{tabulate}
 use Rattle.bits.specs.ListsLaws.{get_d_tabulate, length_tabulate, tabulate_ext}
@@ -18,10 +17,8 @@ use Rattle.table.specs.declared.CpuidResults.{CpuidResults}
 use Rattle.table.specs.declared.edition.EditionBits.{EditionBits}
 use Rattle.table.specs.declared.Refusal.{Refusal}
 use Rattle.table.specs.declared.Refusal.TheVariants.{UnknownEdition, EditionBack}
-use Rattle.table.specs.declared.Verdict.{Verdict}
-use Rattle.table.specs.declared.Verdict.TheVariants.{Accepted, Refused}
 use Rattle.table.specs.Edition.{known_edition, bits_between}
-use Rattle.table.specs.Rows.{Row, Rows}
+use Rattle.table.specs.Rows.{Row}
 use Rattle.table.specs.Table.{count_rows, row_in}
 use Rattle.memory.specs.Memory.{is_there, row_of, put_row, rows_in, layout, row_list}
 use Rattle.memory.specs.MemoryLaws.{put_length, put_is_set, known_by_rows}
@@ -33,12 +30,11 @@ use Rattle.guest_state.proofs.StateLaws.{verdict_of_state}
 use Rattle.carry.specs.declared.Carried.{Carried}
 use Rattle.carry.specs.Carry.{own_rows, without_bits, carried_at, carried_table, keeps, carry_verdict, refused_carry, carried_for, carry}
 use Rattle.carry.specs.CarryLaws.{at1, at80000001, cleared}
-use Rattle.guest_state.specs.declared.InUse.{InUse}
-use Rattle.guest_state.specs.declared.InUse.TheVariants.{Refused as NotInUse, Compacted}
 use Rattle.guest_state.specs.InUse.{read_rows, in_use}
 use Rattle.guest_state.specs.InUseLaws.{told_refused, told_given}
 use Rattle.carry.specs.CarriedInPlace.{CarriedIn}
 use Rattle.carry.specs.InPlaceLaws.{not_accepted, own_of}
+use Rattle.table.specs.Verdict.{Verdict}
 
 module _ (w o : List ℕ) where
   abbrev t : CpuidResults
@@ -110,16 +106,16 @@ module _ (w o : List ℕ) where
   -- ---- the answer
 
   module _ (from to x s : ℕ) {a b : Bool} (p : a ≡ known_edition from) (q : b ≡ known_edition to) where
-    refused_in : {r : Refusal} → carry t from to x s ≡ refused_carry r → CarriedIn (carry t from to x s) (Refused r) w o w
+    refused_in : {r : Refusal} → carry t from to x s ≡ refused_carry r → CarriedIn (carry t from to x s) (Err r) w o w
     refused_in {r} e =
-        subst (λ (c : Carried). CarriedIn c (Refused r) w o w) (sym e)
+        subst (λ (c : Carried). CarriedIn c (Err r) w o w) (sym e)
         (record { verdict = refl; registers = refl; table = λ z. absurd (not_accepted z) })
 
     unknown : (a && b) ≡ false → carry t from to x s ≡ refused_carry UnknownEdition
     unfolding carry carry_verdict
     unknown e = rw (← p, ← q, e)
 
-    pub in_unknown : (a && b) ≡ false → CarriedIn (carry t from to x s) (Refused UnknownEdition) w o w
+    pub in_unknown : (a && b) ≡ false → CarriedIn (carry t from to x s) (Err UnknownEdition) w o w
     in_unknown e = refused_in (unknown e)
 
     module _ (known : (a && b) ≡ true) where
@@ -127,15 +123,15 @@ module _ (w o : List ℕ) where
       unfolding carry carry_verdict
       back h = rw (← p, ← q, known, lt-leb from to h)
 
-      pub in_back : to < from → CarriedIn (carry t from to x s) (Refused EditionBack) w o w
+      pub in_back : to < from → CarriedIn (carry t from to x s) (Err EditionBack) w o w
       in_back h = refused_in (back h)
 
-      module _ (h : from ≤ to) {u : InUse} (e : u ≡ in_use (read_rows true w o) x s) where
+      module _ (h : from ≤ to) {u : Result ℕ Refusal} (e : u ≡ in_use (read_rows true w o) x s) where
         by_state : {v : Verdict} → state_verdict (read_rows true w o) x s ≡ v → carry t from to x s ≡ carried_for v (carried_table (bits_between from to) (keeps t from to) t)
         unfolding carry carry_verdict
         by_state f = rw (← p, ← q, known, le-leb from to h, own_verdict x s, f)
 
-        pub in_refused : {r : Refusal} → u ≡ NotInUse r → CarriedIn (carry t from to x s) (Refused r) w o w
+        pub in_refused : {r : Refusal} → u ≡ Err r → CarriedIn (carry t from to x s) (Err r) w o w
         in_refused f = refused_in (by_state (told_refused (read_rows true w o) x s e f))
 
         kept : {ymm : Bool} {d : CpuidResult} → d ≡ (read_rows true w o (Place.extended_state 0)).result → ymm ≡ has 2 d.eax
@@ -145,11 +141,11 @@ module _ (w o : List ℕ) where
             ap (λ (c : Bool). eqb from to || c)
             (k ∙ ap (λ (r : CpuidResult). has 2 r.eax) (g ∙ sym (ap (λ (r : Row). r.result) (own_row (Place.extended_state 0) (lit< tt)))))
 
-        pub in_done : {n : ℕ} {ymm : Bool} {d : CpuidResult} {bits : EditionBits} {w₁ : List ℕ} → u ≡ Compacted n → d ≡ (read_rows true w o (Place.extended_state 0)).result
+        pub in_done : {n : ℕ} {ymm : Bool} {d : CpuidResult} {bits : EditionBits} {w₁ : List ℕ} → u ≡ Ok n → d ≡ (read_rows true w o (Place.extended_state 0)).result
             → ymm ≡ has 2 d.eax → bits ≡ bits_between from to → w₁ ≡ layout (λ i. (row_in (carried_table bits (eqb from to || ymm) t) i).result)
-            → CarriedIn (carry t from to x s) Accepted w o w₁
+            → CarriedIn (carry t from to x s) (Ok tt) w o w₁
         in_done {n} {ymm} {d} {bits} {w₁} f g k q l =
-            subst (λ (c : Carried). CarriedIn c Accepted w o w₁) (sym (by_state (told_given (read_rows true w o) x s e f)))
+            subst (λ (c : Carried). CarriedIn c (Ok tt) w o w₁) (sym (by_state (told_given (read_rows true w o) x s e f)))
             (record {
               verdict = refl;
               registers = l ∙ ap₂ (λ (b : EditionBits) (c : Bool). layout (λ i. (row_in (carried_table b c t) i).result)) q (kept g k);

@@ -2,7 +2,7 @@
 -- 2 a table built otherwise gets the same three bits cleared where its own D.0.EAX lacks bit 2, and nothing else changed, absent rows reading
 -- as zeros". The three are P7's: "1.ECX bit 29 and 80000001h.ECX bits 11 (XOP) and 16 (FMA4)". From any edition to a later one they are the bits that
 -- the later one clears and the other leaves.
-use Rattle.std.specs.Prelude.{Bool, ◌&&◌, ◌||◌, ℕ, eqb, leb}
+use Rattle.std.specs.Prelude.{Bool, ◌&&◌, ◌||◌, ℕ, eqb, leb, Err, Ok}
 use Rattle.bits.specs.Choice.{pick}
 use Rattle.bits.specs.Bits.{has, clear_unless}
 use Rattle.bits.specs.Lists.{tabulate}
@@ -11,7 +11,6 @@ use Rattle.x86defs.specs.Functions.{cpuid_result}
 use Rattle.masking.specs.Kept.{places}
 use Rattle.masking.specs.Place
 use Rattle.table.specs.declared.CpuidResults.{CpuidResults}
-use Rattle.table.specs.declared.Verdict.{Verdict}
 use Rattle.table.specs.declared.edition.EditionBits.{EditionBits}
 use Rattle.table.specs.Edition.{known_edition, bits_between}
 use Rattle.table.specs.Rows.{Row, Rows}
@@ -20,8 +19,8 @@ use Rattle.checks.specs.ExtendedState.{xfem}
 use Rattle.guest_state.specs.State.{state_verdict}
 use Rattle.table.specs.declared.Refusal.{Refusal}
 use Rattle.table.specs.declared.Refusal.TheVariants.{UnknownEdition, EditionBack}
-use Rattle.table.specs.declared.Verdict.TheVariants.{Accepted, Refused}
 use Rattle.carry.specs.declared.Carried.{Carried}
+use Rattle.table.specs.Verdict.{Verdict}
 
 -- ---- the table
 
@@ -57,19 +56,19 @@ keeps t from to = eqb from to || has 2 (xfem (own_rows t))
 unfoldable pub carry_verdict : CpuidResults → ℕ → ℕ → ℕ → ℕ → Verdict
 carry_verdict t from to xcr0 xss =
     pick (known_edition from && known_edition to)
-    (pick (leb from to) (state_verdict (own_rows t) xcr0 xss) (Refused EditionBack))
-    (Refused UnknownEdition)
+    (pick (leb from to) (state_verdict (own_rows t) xcr0 xss) (Err EditionBack))
+    (Err UnknownEdition)
 
 -- the table that goes with a verdict
 abbrev pub carried_given : Verdict → CpuidResults → CpuidResults
-carried_given Accepted t = t
-carried_given (Refused r) t = empty_table
+carried_given (Ok _) t = t
+carried_given (Err r) t = empty_table
 
 abbrev pub carried_for : Verdict → CpuidResults → Carried
 carried_for v t = record { verdict = v; table = carried_given v t }
 
 abbrev pub refused_carry : Refusal → Carried
-refused_carry r = record { verdict = Refused r; table = empty_table }
+refused_carry r = record { verdict = Err r; table = empty_table }
 
 unfoldable pub carry : CpuidResults → ℕ → ℕ → ℕ → ℕ → Carried
 carry t from to xcr0 xss = carried_for (carry_verdict t from to xcr0 xss) (carried_table (bits_between from to) (keeps t from to) t)

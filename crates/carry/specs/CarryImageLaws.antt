@@ -1,22 +1,19 @@
 -- Carrying in place, by the code's returns.
-use Rattle.std.specs.Prelude.{◌≡◌, refl, Bool, true, false, List, ℕ}
+use Rattle.std.specs.Prelude.{◌≡◌, refl, Bool, true, false, List, ℕ, Err, None, Ok, Some}
 use Rattle.std.proofs.Common.{ap, ◌∙◌}
 use Rattle.table.specs.declared.CpuidResults.{CpuidResults}
 use Rattle.table.specs.declared.Refusal.{Refusal}
-use Rattle.table.specs.declared.Verdict.{Verdict}
-use Rattle.table.specs.declared.Verdict.TheVariants.{Accepted, Refused}
 use Rattle.memory.specs.Held.{held_in}
 use Rattle.buffer.specs.Front.{write_front}
 use Rattle.image.specs.Image.{image}
 use Rattle.image_read.specs.ReadImage.{read_image}
-use Rattle.carry.specs.declared.Carried.{Carried}
 use Rattle.carry.specs.Carry.{carry}
 use Rattle.carry.specs.CarriedInPlace.{CarriedIn}
-use Rattle.carry.specs.declared.in_image.CarriedImage.TheVariants.{NotAnImage, Image}
 use Rattle.carry.specs.CarryImage.{after_carry, carry_image}
+use Rattle.table.specs.Verdict.{Verdict}
 
 module _ (s : List ℕ) (from to xcr0 xss : ℕ) {b : Bool} (p : b ≡ (read_image s).is_image) where
-  pub image_none : b ≡ false → (NotAnImage ≡ (carry_image s from to xcr0 xss).answer) × (s ≡ (carry_image s from to xcr0 xss).buffer)
+  pub image_none : b ≡ false → (None ≡ (carry_image s from to xcr0 xss).answer) × (s ≡ (carry_image s from to xcr0 xss).buffer)
   unfolding carry_image
   image_none e = rw (← p, e) (refl, refl)
 
@@ -27,10 +24,10 @@ module _ (s : List ℕ) (from to xcr0 xss : ℕ) {b : Bool} (p : b ≡ (read_ima
     unfolding carry_image
     carried = rw (← p, e, read)
 
-    pub image_refused : {r : Refusal} → v ≡ Refused r
-        → (Image (Refused r) ≡ (carry_image s from to xcr0 xss).answer) × (s ≡ (carry_image s from to xcr0 xss).buffer)
+    pub image_refused : {r : Refusal} → v ≡ Err r
+        → (Some (Err r) ≡ (carry_image s from to xcr0 xss).answer) × (s ≡ (carry_image s from to xcr0 xss).buffer)
     image_refused f = rw (carried, ← q.verdict, f) (refl, refl)
 
-    pub image_written : {out : List ℕ} → v ≡ Accepted → out ≡ (write_front (image (held_in w₁ o)) s).buffer
-        → (Image Accepted ≡ (carry_image s from to xcr0 xss).answer) × (out ≡ (carry_image s from to xcr0 xss).buffer)
+    pub image_written : {out : List ℕ} → v ≡ Ok tt → out ≡ (write_front (image (held_in w₁ o)) s).buffer
+        → (Some (Ok tt) ≡ (carry_image s from to xcr0 xss).answer) × (out ≡ (carry_image s from to xcr0 xss).buffer)
     image_written f g = rw (carried, ← q.verdict, f) (refl, g ∙ ap (λ (t : CpuidResults). (write_front (image t) s).buffer) (q.table f))

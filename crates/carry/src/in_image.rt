@@ -10,16 +10,10 @@ use masking::PLACES;
 use memory::REGISTERS;
 use table::Verdict;
 
-// Whether lent bytes are a table's image, and if so, whether the table is carried.
-#[derive(Clone, Copy)]
-pub enum CarriedImage {
-    NotAnImage,
-    Image(Verdict),
-}
-
 // A table under edition `from` that is handed over as its image, taken to edition `to` in place: where it is carried, the bytes become the image of
-// the table under the edition wanted, which has as many. Any other bytes, and a table that is refused, stay as they were.
-pub fn carry_image(image: &mut [u8], from: u32, to: u32, xcr0: u64, xss: u64) -> CarriedImage
+// the table under the edition wanted, which has as many. Any other bytes, and a table that is refused, stay as they were. The answer is none if the
+// bytes are no image.
+pub fn carry_image(image: &mut [u8], from: u32, to: u32, xcr0: u64, xss: u64) -> Option<Verdict>
     ensures value { result ≡ (carry_image image.old from to xcr0 xss).answer }
     ensures image_after { image.new ≡ (carry_image image.old from to xcr0 xss).buffer }
 {
@@ -27,11 +21,11 @@ pub fn carry_image(image: &mut [u8], from: u32, to: u32, xcr0: u64, xss: u64) ->
     let mut origins: [u64; PLACES] = [0; PLACES];
     if read_image(image, &mut registers, &mut origins) {
         let verdict = carry(&mut registers, &origins, from, to, xcr0, xss);
-        if let Verdict::Refused(r) = verdict {
-            return CarriedImage::Image(Verdict::Refused(r));
+        if let Err(r) = verdict {
+            return Some(Err(r));
         }
-        write_table(&registers, &origins, image);
-        return CarriedImage::Image(Verdict::Accepted);
+        let _ = write_table(&registers, &origins, image);
+        return Some(Ok(()));
     }
-    CarriedImage::NotAnImage
+    None
 }

@@ -10,9 +10,9 @@ ghost use Rattle.memory.specs.Held.{held_in};
 ghost use Rattle.carry.specs.Carry.{without_bits, carried_table, carry};
 ghost use Rattle.carry.specs.CarriedInPlace.{CarriedIn};
 
-use guest_state::{InUse, read_row, state_in_use};
+use guest_state::{read_row, state_in_use};
 use masking::{PLACES, place};
-use memory::{REGISTERS, is_there, lengths_known, put_row, row_at};
+use memory::{REGISTERS, is_there, put_row, row_at};
 use table::edition::{EditionBits, known_edition};
 use table::{CpuidResults, Refusal, Verdict};
 use x86defs::CpuidResult;
@@ -39,15 +39,12 @@ pub fn carry(
         registers.old origins.now registers.new }
 {
     if known_edition(from) & known_edition(to) {} else {
-        return Verdict::Refused(Refusal::UnknownEdition);
+        return Err(Refusal::UnknownEdition);
     }
     if to < from {
-        return Verdict::Refused(Refusal::EditionBack);
+        return Err(Refusal::EditionBack);
     }
-    let state = state_in_use(registers, origins, true, xcr0, xss);
-    if let InUse::Refused(r) = state {
-        return Verdict::Refused(r);
-    }
+    state_in_use(registers, origins, true, xcr0, xss)?;
     let subleaf0 = read_row(registers, origins, true, place::EXTENDED_STATE_0);
     let bits = EditionBits::between(from, to);
     clear_bits(
@@ -56,7 +53,7 @@ pub fn carry(
         bits,
         (from == to) | bits::has_bit(subleaf0.eax, 2),
     );
-    Verdict::Accepted
+    Ok(())
 }
 
 // The bits cleared in rows 1 and 80000001h, unless they are kept. Nothing else changes.
@@ -69,7 +66,6 @@ fn clear_bits(
     ensures { registers.new
         ≡ layout (λ i. (row_in (carried_table bits keep (held_in registers.old origins.now)) i).result) }
 {
-    lengths_known(registers, origins);
     let has_version = origins[place::VERSION_AND_FEATURES];
     let has_extended = origins[place::EXTENDED_VERSION_AND_FEATURES];
     let version = row_at(registers, place::VERSION_AND_FEATURES);

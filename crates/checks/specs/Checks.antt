@@ -1,5 +1,5 @@
 -- Document 01, "Where each check stands", from the required leaves on: one verdict a check.
-use Rattle.std.specs.Prelude.{Bool, ℕ}
+use Rattle.std.specs.Prelude.{Bool, ℕ, Err, None, Ok, Option, Result, Some}
 use Rattle.bits.specs.Choice.{pick}
 use Rattle.bits.specs.Search.{Failing, lowest}
 use Rattle.bits.specs.Search.Failing.{at, none}
@@ -7,31 +7,26 @@ use Rattle.bits.specs.Bits.{has}
 use Rattle.x86defs.specs.declared.CpuidResult.{CpuidResult}
 use Rattle.x86defs.specs.Functions.{ExtendedStateEnumeration}
 use Rattle.x86defs.specs.ExtendedAddressSpaceSizesEbx as Sizes
-use Rattle.topology.specs.declared.Topology.{Topology}
-use Rattle.topology.specs.declared.Topology.TheVariants.{Processors, Inconsistent}
 use Rattle.topology.specs.Topology.{topology_of}
 use Rattle.masking.specs.Place
-use Rattle.table.specs.declared.Subleaf.TheVariants.{Some}
 use Rattle.table.specs.declared.Refusal.{Refusal}
 use Rattle.table.specs.declared.Refusal.TheVariants.{MissingRequiredResult, InvlpgbUnavailable, SaveAreaOverflow, TopologyInconsistent}
-use Rattle.table.specs.declared.Verdict.{Verdict}
-use Rattle.table.specs.declared.Verdict.TheVariants.{Accepted, Refused}
 use Rattle.table.specs.Refusal.{and_then}
 use Rattle.table.specs.Rows.{Rows}
 use Rattle.checks.specs.Required.{required_at, required_count, place_required}
-use Rattle.checks.specs.declared.Size.{Size}
-use Rattle.checks.specs.declared.Size.TheVariants.{Bytes, TooLarge}
 use Rattle.checks.specs.ExtendedState.{xfem, combined_mask, supplied, save_area, size_of}
 use Rattle.checks.specs.TopologyInputs.{inputs_of}
+use Rattle.table.specs.Verdict.{Verdict}
+use Rattle.topology.specs.declared.TopologyError.{TopologyError}
 
 -- refused at the first that fails, if one does
 abbrev pub refuse_at : Failing → (ℕ → Refusal) → Verdict
-refuse_at (at j) r = Refused (r j)
-refuse_at none r = Accepted
+refuse_at (at j) r = Err (r j)
+refuse_at none r = Ok tt
 
 -- accepted where the test holds
 abbrev pub refuse_unless : Bool → Refusal → Verdict
-refuse_unless ok r = pick ok Accepted (Refused r)
+refuse_unless ok r = pick ok (Ok tt) (Err r)
 
 abbrev pub missing_required : ℕ → Refusal
 missing_required j = MissingRequiredResult (required_at j).leaf (required_at j).subleaf
@@ -58,16 +53,16 @@ unfoldable pub components_verdict : Rows → Verdict
 components_verdict m = components_of m (combined_mask m)
 
 -- 5: a sum overflows
-abbrev pub size_verdict : Size → Verdict
-size_verdict (Bytes n) = Accepted
-size_verdict TooLarge = Refused SaveAreaOverflow
+abbrev pub size_verdict : Option ℕ → Verdict
+size_verdict (Some n) = Ok tt
+size_verdict None = Err SaveAreaOverflow
 
 unfoldable pub area_verdict : Rows → Verdict
 area_verdict m = size_verdict (size_of (save_area m (xfem m)))
 
-abbrev pub topology_refusal : Topology → Verdict
-topology_refusal (Processors v) = Accepted
-topology_refusal (Inconsistent e) = Refused (TopologyInconsistent e)
+abbrev pub topology_refusal : Result ℕ TopologyError → Verdict
+topology_refusal (Ok v) = Ok tt
+topology_refusal (Err e) = Err (TopologyInconsistent e)
 
 -- 6, 7, 8
 unfoldable pub topology_verdict : Rows → Verdict

@@ -1,6 +1,6 @@
 -- Document 01, "Corners of mod.rs", extended state: XFEM is D.0.EAX. XSS is D.1.ECX if D.1.EAX has both bit 1 (XSAVEC) and bit 3
 -- (XSAVES), else 0. The combined mask is XFEM or XSS. The area is the largest of 576 and EAX + EBX over subleaves from 2 up in the mask.
-use Rattle.std.specs.Prelude.{Bool, true, ◌&&◌, ℕ, zero, suc, ◌+◌, ◌^◌, max, ltb, leb}
+use Rattle.std.specs.Prelude.{Bool, true, ◌&&◌, ℕ, zero, suc, ◌+◌, ◌^◌, max, ltb, leb, None, Option, Some}
 use Rattle.std.specs.Int.Bits.{bit_or}
 use Rattle.bits.specs.Choice.{pick}
 use Rattle.bits.specs.Bits.{has}
@@ -8,8 +8,6 @@ use Rattle.x86defs.specs.declared.CpuidResult.{CpuidResult}
 use Rattle.x86defs.specs.ExtendedStateEnumerationSubleaf1Eax as Subleaf1Eax
 use Rattle.masking.specs.Place
 use Rattle.table.specs.Rows.{Rows}
-use Rattle.checks.specs.declared.Size.{Size}
-use Rattle.checks.specs.declared.Size.TheVariants.{Bytes, TooLarge}
 
 unfoldable pub xfem : Rows → ℕ
 xfem m = (m (Place.extended_state 0)).result.eax
@@ -50,5 +48,5 @@ abbrev pub save_area : Rows → ℕ → ℕ
 save_area m x = area_below m x 64
 
 -- a size as a 32-bit register has it
-unfoldable pub size_of : ℕ → Size
-size_of n = pick (ltb n (2 ^ 32)) (Bytes n) TooLarge
+unfoldable pub size_of : ℕ → Option ℕ
+size_of n = pick (ltb n (2 ^ 32)) (Some n) None

@@ -1,5 +1,5 @@
 -- Laws of the extended state: the area grows with the mask, XSS grows with its registers, and D.1.ECX ends as XSS.
-use Rattle.std.specs.Prelude.{◌≡◌, refl, Bool, true, false, ◌&&◌, ℕ, zero, suc, ◌+◌, ◌≤◌, ◌<◌, max, eqb, leb}
+use Rattle.std.specs.Prelude.{◌≡◌, refl, Bool, true, false, ◌&&◌, ℕ, zero, suc, ◌≤◌, ◌<◌, max, eqb, leb}
 use Rattle.std.proofs.Common.{sym, ap, ap₂, le_refl, arith, leb-true, eqb-true}
 use Rattle.bits.specs.Choice.{pick}
 use Rattle.bits.specs.ChoiceLaws.{never_both, and_left, and_right, and_mono}

@@ -1,14 +1,12 @@
 -- COMMON_REQUIRED_LEAVES of mod.rs, then SNP_REQUIRED_LEAVES of snp.rs, in list order.
-use Rattle.std.specs.Prelude.{List, [], ◌∷◌, ◌++◌, ℕ, get_or}
+use Rattle.std.specs.Prelude.{List, [], ◌∷◌, ◌++◌, ℕ, get_or, None, Option, Some}
 use Rattle.x86defs.specs.declared.CpuidFunction.{CpuidFunction}
 use Rattle.x86defs.specs.Functions.{VersionAndFeatures, MonitorMwait, ExtendedFeatures, ExtendedTopologyEnumeration, ExtendedStateEnumeration, ExtendedVersionAndFeatures, ExtendedBrandingString1, ExtendedBrandingString2, ExtendedBrandingString3, ExtendedL1CacheParameters, ExtendedL2CacheParameters, ExtendedPowerManagement, ExtendedAddressSpaceSizes, ExtendedSvmVersionAndFeatures, ExtendedTlb1GBIdentifiers, ExtendedOptimizationIdentifiers, CacheTopologyDefinition, ProcessorTopologyDefinition, ExtendedSevFeatures}
 use Rattle.masking.specs.Kept.{place_of}
-use Rattle.table.specs.declared.Subleaf.{Subleaf}
-use Rattle.table.specs.declared.Subleaf.TheVariants.{None, Some}
 
 pub record Required : Type 0 where
   pub leaf : CpuidFunction
-  pub subleaf : Subleaf
+  pub subleaf : Option ℕ
 
 abbrev whole : CpuidFunction → Required
 whole l = record { leaf = l; subleaf = None }
@@ -57,7 +55,7 @@ unfolding common_required_leaves snp_required_leaves
 required_at j = get_or (common_required_leaves ++ snp_required_leaves) j (whole VersionAndFeatures)
 
 -- the place where its row stands
-abbrev pub subleaf_number : Subleaf → ℕ
+abbrev pub subleaf_number : Option ℕ → ℕ
 subleaf_number None = 0
 subleaf_number (Some k) = k
 

@@ -1,11 +1,10 @@
 -- The save area, as the loop over subleaves finds it: one turn grows it, and a mask with no bit left ends it.
-use Rattle.std.specs.Prelude.{◌≡◌, refl, Bool, true, false, ◌&&◌, ℕ, zero, suc, ◌+◌, ◌-◌, ◌/◌, ◌^◌, ◌≤◌, ◌<◌, max, ltb, leb}
+use Rattle.std.specs.Prelude.{◌≡◌, refl, Bool, true, false, ◌&&◌, ℕ, zero, suc, ◌+◌, ◌-◌, ◌^◌, ◌≤◌, ◌<◌, max, ltb, leb, None, Some}
 use Rattle.std.proofs.Common.{sym, ap, ◌∙◌, inl, inr, le_refl, le_trans, le_of_eq, eq-or-lt_of_le, add-one, arith, ltb-true, ltb-false, lt-ltb, le-ltb, le-leb}
 use Rattle.std.specs.Int.Bits.{bit_and}
 use Rattle.std.specs.Int.Count.{count_trailing_zeros}
 use Rattle.bits.specs.Choice.{pick}
 use Rattle.bits.specs.Bits.{has}
-use Rattle.checks.specs.declared.Size.TheVariants.{Bytes, TooLarge}
 use Rattle.table.specs.Rows.{Rows}
 use Rattle.checks.specs.ExtendedState.{sum_at, grown, area_below, save_area, size_of}
 use Rattle.checks.specs.LowestLaws.{Left, Taken, left_taken, left_none}
@@ -36,43 +35,43 @@ area_stays m x k (suc n) h f =
 
 -- ---- the test against 2^32
 
-pub size_bytes : (a v : ℕ) → Bytes v ≡ size_of a → (v ≡ a) × (v < 2 ^ 32)
+pub size_bytes : (a v : ℕ) → Some v ≡ size_of a → (v ≡ a) × (v < 2 ^ 32)
 unfolding size_of
 size_bytes a v e = go (ltb a (2 ^ 32)) refl e
   where
-    go : (b : Bool) → ltb a (2 ^ 32) ≡ b → Bytes v ≡ pick b (Bytes a) TooLarge → (v ≡ a) × (v < 2 ^ 32)
+    go : (b : Bool) → ltb a (2 ^ 32) ≡ b → Some v ≡ pick b (Some a) None → (v ≡ a) × (v < 2 ^ 32)
     go true f e = let p : v ≡ a = cc in (p, omega (arith, ltb-true a (2 ^ 32) f))
     go false f e = absurd (let z : ◌≡◌ {A = ℕ} 0 1 = cc in omega arith)
 
-pub size_large : (a : ℕ) → TooLarge ≡ size_of a → 2 ^ 32 ≤ a
+pub size_large : (a : ℕ) → None ≡ size_of a → 2 ^ 32 ≤ a
 unfolding size_of
 size_large a e = go (ltb a (2 ^ 32)) refl e
   where
-    go : (b : Bool) → ltb a (2 ^ 32) ≡ b → TooLarge ≡ pick b (Bytes a) TooLarge → 2 ^ 32 ≤ a
+    go : (b : Bool) → ltb a (2 ^ 32) ≡ b → None ≡ pick b (Some a) None → 2 ^ 32 ≤ a
     go true f e = absurd (let z : ◌≡◌ {A = ℕ} 0 1 = cc in omega arith)
     go false f e = ltb-false a (2 ^ 32) f
 
-fits : (a : ℕ) → a < 2 ^ 32 → Bytes a ≡ size_of a
+fits : (a : ℕ) → a < 2 ^ 32 → Some a ≡ size_of a
 unfolding size_of
 fits a h = rw (lt-ltb a (2 ^ 32) h)
 
-exceeds : (a : ℕ) → 2 ^ 32 ≤ a → TooLarge ≡ size_of a
+exceeds : (a : ℕ) → 2 ^ 32 ≤ a → None ≡ size_of a
 unfolding size_of
 exceeds a h = rw (le-ltb a (2 ^ 32) h)
 
 -- ---- one subleaf
 
 module _ (n : ℕ) {used : Bool} (sum : ℕ) where
-  pub grown_over : used ≡ true → 2 ^ 32 ≤ sum → TooLarge ≡ size_of (grown n used sum)
+  pub grown_over : used ≡ true → 2 ^ 32 ≤ sum → None ≡ size_of (grown n used sum)
   grown_over e h = rw e (exceeds _ (omega arith))
 
-  pub grown_to : used ≡ true → n ≤ sum → sum < 2 ^ 32 → Bytes sum ≡ size_of (grown n used sum)
+  pub grown_to : used ≡ true → n ≤ sum → sum < 2 ^ 32 → Some sum ≡ size_of (grown n used sum)
   grown_to e l h = let m : sum ≡ max n sum = omega arith in rw (e, ← m) (fits sum h)
 
-  pub grown_within : used ≡ true → sum ≤ n → n < 2 ^ 32 → Bytes n ≡ size_of (grown n used sum)
+  pub grown_within : used ≡ true → sum ≤ n → n < 2 ^ 32 → Some n ≡ size_of (grown n used sum)
   grown_within e l h = let m : max n sum ≡ n = omega arith in rw (e, m) (fits n h)
 
-  pub grown_unused : used ≡ false → n < 2 ^ 32 → Bytes n ≡ size_of (grown n used sum)
+  pub grown_unused : used ≡ false → n < 2 ^ 32 → Some n ≡ size_of (grown n used sum)
   grown_unused e h = let m : max n 0 ≡ n = omega arith in rw (e, m) (fits n h)
 
 -- ---- the loop, at subleaf k with the area n so far
@@ -111,7 +110,7 @@ module _ (m : Rows) (x : ℕ) where
           let e : area ≡ area_below m x z = p.below ∙ sym (area_stays m x p.k z growing_taken.from growing_taken.between) in
           sym (area_next m x z two ∙ rw (growing_taken.here, ← e))
 
-      pub growing_next : {v : ℕ} → Bytes v ≡ size_of (grown area true (sum_at m z)) → Growing m x v (bit_and rest (rest - 1))
+      pub growing_next : {v : ℕ} → Some v ≡ size_of (grown area true (sum_at m z)) → Growing m x v (bit_and rest (rest - 1))
       growing_next {v} g =
           let h : (v ≡ _) × (v < 2 ^ 32) = size_bytes _ v g in
           record {
@@ -123,11 +122,11 @@ module _ (m : Rows) (x : ℕ) where
             left = growing_taken.next;
           }
 
-      pub growing_overflows : TooLarge ≡ size_of (grown area true (sum_at m z)) → TooLarge ≡ size_of (save_area m x)
+      pub growing_overflows : None ≡ size_of (grown area true (sum_at m z)) → None ≡ size_of (save_area m x)
       growing_overflows g =
           exceeds _ (le_trans (size_large _ g) (le_trans (le_of_eq more) (area_up m x (z + 1) 64 (omega (arith, growing_taken.inside)))))
 
-    pub growing_ends : rest ≡ 0 → Bytes area ≡ size_of (save_area m x)
+    pub growing_ends : rest ≡ 0 → Some area ≡ size_of (save_area m x)
     growing_ends e =
         fits area p.small
         ∙ ap size_of (p.below ∙ sym (area_stays m x p.k 64 p.high (λ j a b. left_none p.left e j a)))

@@ -1,5 +1,5 @@
 -- The loops that look for the first row that is missing: a turn passes a number, or stops there; after the last, all is accepted.
-use Rattle.std.specs.Prelude.{◌≡◌, refl, Bool, true, false, not, ◌&&◌, List, ℕ, zero, suc, ◌+◌, ◌-◌, ◌≤◌, ◌<◌, ltb}
+use Rattle.std.specs.Prelude.{◌≡◌, refl, Bool, true, false, not, ◌&&◌, List, ℕ, zero, suc, ◌+◌, ◌-◌, ◌≤◌, ◌<◌, ltb, Err, Ok}
 use Rattle.std.proofs.Common.{sym, ◌∙◌, arith, ltb-true}
 use Rattle.std.proofs.Math.Path.{ap}
 use Rattle.std.specs.Int.Bits.{bit_and}
@@ -14,14 +14,13 @@ use Rattle.masking.specs.Kept.{kept_leaves, place_of, places, slot, leaf_at, ind
 use Rattle.masking.specs.Place
 use Rattle.table.specs.declared.Refusal.{Refusal}
 use Rattle.table.specs.declared.Refusal.TheVariants.{MissingRequiredResult}
-use Rattle.table.specs.declared.Verdict.{Verdict}
-use Rattle.table.specs.declared.Verdict.TheVariants.{Accepted, Refused}
 use Rattle.table.specs.Rows.{Rows}
 use Rattle.table.specs.Numbers.{subleaf_of}
 use Rattle.checks.specs.Required.{common_required_leaves, snp_required_leaves, required_at, required_count, place_required}
 use Rattle.checks.specs.ExtendedState.{supplied}
 use Rattle.checks.specs.Checks.{refuse_at, missing_required, missing_component, components_of}
 use Rattle.checks.specs.LowestLaws.{Left, Taken, left_taken, left_none}
+use Rattle.table.specs.Verdict.{Verdict}
 
 -- refused at the first of the numbers from k up to n that fails the test
 unfoldable pub refuse_from : (ℕ → Bool) → (ℕ → Refusal) → ℕ → ℕ → Verdict
@@ -32,11 +31,11 @@ module _ (test : ℕ → Bool) (reason : ℕ → Refusal) (n k : ℕ) where
   unfolding refuse_from
   scan_passes l e = ap (λ (f : Failing). refuse_at f reason) (lowest_passes test n k l e)
 
-  pub scan_stops : k < n → test k ≡ false → refuse_from test reason n k ≡ Refused (reason k)
+  pub scan_stops : k < n → test k ≡ false → refuse_from test reason n k ≡ Err (reason k)
   unfolding refuse_from
   scan_stops l e = ap (λ (f : Failing). refuse_at f reason) (lowest_stops test n k l e)
 
-  pub scan_ends : ((j : ℕ) → k ≤ j → j < n → test j ≡ true) → refuse_from test reason n k ≡ Accepted
+  pub scan_ends : ((j : ℕ) → k ≤ j → j < n → test j ≡ true) → refuse_from test reason n k ≡ Ok tt
   unfolding refuse_from
   scan_ends f = rw (lowest_all test k (n - k) (λ j l h. f j l (omega arith)))
 
@@ -81,7 +80,7 @@ module _ (m : Rows) (x k : ℕ) {used : Bool} (h : k < 64) (e : used ≡ has k x
   pub component_passes : (used && not (m (Place.extended_state k)).present) ≡ false → components_from m x k ≡ components_from m x (k + 1)
   component_passes t = scan_passes (supplied m x) missing_component 64 k h (not_missing (has k x) (m (Place.extended_state k)).present (rw e at t))
 
-  pub component_stops : (used && not (m (Place.extended_state k)).present) ≡ true → Refused (missing_component k) ≡ components_from m x k
+  pub component_stops : (used && not (m (Place.extended_state k)).present) ≡ true → Err (missing_component k) ≡ components_from m x k
   component_stops t =
       sym (scan_stops (supplied m x) missing_component 64 k h (needed_missing (has k x) (m (Place.extended_state k)).present (rw e at t)))
 
@@ -129,8 +128,8 @@ module _ (m : Rows) (x : ℕ) where
           left = scanning_taken.next;
         }
 
-        pub scanning_stops : there ≡ false → Refused (missing_component z) ≡ components_of m x
+        pub scanning_stops : there ≡ false → Err (missing_component z) ≡ components_of m x
         scanning_stops t = component_stops m x z scanning_taken.inside (sym scanning_taken.here) (rw (sym f ∙ t)) ∙ sym here
 
-    pub scanning_ends : rest ≡ 0 → Accepted ≡ components_of m x
+    pub scanning_ends : rest ≡ 0 → (Ok tt) ≡ components_of m x
     scanning_ends e = sym (scan_ends (supplied m x) missing_component 64 d.k (λ j l u. rw (left_none d.left e j l))) ∙ sym d.from

@@ -11,19 +11,12 @@ mod extended_state;
 
 pub use extended_state::{FROM_2, max_extended_state, max_xss};
 
-// A size in bytes, or one that no 32-bit number holds.
-#[derive(Clone, Copy)]
-pub enum Size {
-    Bytes(u32),
-    TooLarge,
-}
-
 // Whether 80000008h.EBX has INVLPGB.
 pub fn validate_invlpgb(sizes: CpuidResult) -> Verdict
     ensures { result ≡ invlpgb_of sizes }
 {
     if invlpgb(sizes.ebx) {
-        return Verdict::Accepted;
+        return Ok(());
     }
-    Verdict::Refused(Refusal::InvlpgbUnavailable)
+    Err(Refusal::InvlpgbUnavailable)
 }

@@ -1,19 +1,15 @@
 -- Where first entries stand: a place has a number exactly where it has a row. So the masked first entries, laid out beside these numbers, are rows in
 -- lent memory.
-use Rattle.std.specs.Prelude.{◌≡◌, refl, Bool, true, false, not, List, [], ◌∷◌, ℕ, ◌+◌, ◌*◌, ◌^◌, ◌<◌, eqb, length, get_or}
-use Rattle.std.proofs.Common.{sym, ap, ◌∙◌, arith, ne_eqb}
-use Rattle.bits.specs.Choice.{pick}
-use Rattle.bits.specs.ListsLaws.{get_d_tabulate, length_tabulate}
-use Rattle.pages.specs.Layout.{Entry, pages_in, count_of, counts_fit}
-use Rattle.pages.specs.LayoutLaws.{counts_fit_at}
+use Rattle.std.specs.Prelude.{◌≡◌, Bool, not, List, ℕ, ◌<◌, eqb, get_or}
+use Rattle.std.proofs.Common.{sym, ap, ◌∙◌}
+use Rattle.bits.specs.ListsLaws.{get_d_tabulate}
 use Rattle.pages.specs.Entries.{counted}
 use Rattle.masking.specs.Kept.{places}
 use Rattle.memory.specs.Origin.{origin_number}
-use Rattle.memory.specs.Origin.Origin.{entry}
 use Rattle.memory.specs.Memory.{is_there, rows_in, layout}
 use Rattle.memory.proofs.MemoryLaws.{rows_laid}
-use Rattle.table.specs.Rows.{Row, row, vacant}
-use Rattle.collect.specs.FirstEntries.{place_of_entry, first_at, masked_at, mask_row, rows_of}
+use Rattle.table.specs.Rows.{Row}
+use Rattle.collect.specs.FirstEntries.{first_at, rows_of}
 use Rattle.collect.specs.FirstEntriesLaws.{row_of_place_lem, row_beyond}
 use Rattle.collect.specs.FirstEntryOrigin.{stands_at, found_origins}
 use Rattle.collect.specs.FirstEntryOriginLaws.{found_length, mask_present, stands_present}

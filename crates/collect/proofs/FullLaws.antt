@@ -1,26 +1,14 @@
 -- Laws of full leaves. Leaves that are not kept are full from the start; a full leaf stays full; a leaf whose places all have rows can be added. Each
 -- law of the leaves' numbers and places is one computed test over the 88 places.
-use Rattle.std.specs.Prelude.{◌≡◌, refl, Bool, true, false, not, ◌&&◌, ◌||◌, List, ◌≢◌, ℕ, zero, suc, ◌+◌, ◌*◌, ◌/◌, ◌%◌, ◌^◌, ◌≤◌, ◌<◌, eqb, leb, ltb, length, get_or, set}
-use Rattle.std.proofs.Common.{sym, ap, ◌∙◌, subst, mod-lt, zero-lt-suc, arith, pow_mono, eqb-true, leb-true, ltb-true, ltb-false, ne_eqb, eq-eqb}
-use Rattle.std.proofs.lemmas.Bool.{false≢true, eqb-false}
+use Rattle.std.specs.Prelude.{◌≡◌, refl, List, ◌≢◌, ℕ, zero, suc, ◌+◌, ◌*◌, ◌/◌, ◌%◌, ◌^◌, ◌≤◌, ◌<◌, get_or}
+use Rattle.std.proofs.Common.{sym, ap, ◌∙◌, subst, arith, pow_mono}
 use Rattle.std.specs.Int.Bits.{bit_and, bit_or}
-use Rattle.std.proofs.lemmas.Nat.{and_mask}
-use Rattle.bits.specs.Choice.{pick}
-use Rattle.bits.specs.ChoiceLaws.{and_left, and_right, if_holds}
-use Rattle.bits.specs.Bits.{bit, has}
-use Rattle.bits.specs.BitsLaws.{bit_lt, bit_or_lem, bit_zero, bit_suc, zero_bit, has_bit, bit_has}
-use Rattle.bits.specs.Search.{every}
-use Rattle.bits.specs.SearchLaws.{every_at}
+use Rattle.bits.specs.Bits.{bit}
+use Rattle.bits.specs.BitsLaws.{bit_lt, bit_or_lem, has_bit, bit_has}
 use Rattle.x86defs.specs.declared.CpuidFunction.{CpuidFunction}
 use Rattle.x86defs.specs.Functions.{function}
-use Rattle.masking.specs.Kept.{kept_leaves, places, place_of, slot, leaf_at}
-use Rattle.masking.specs.KeptLaws.{entry_belongs, first_place}
-use Rattle.pages.specs.declared.ParsedCpuidEntry.{ParsedCpuidEntry}
-use Rattle.pages.specs.Parsed.{counts_read}
-use Rattle.memory.specs.Memory.{is_there}
-use Rattle.memory.specs.MemoryLaws.{set_at}
-use Rattle.collect.specs.Collect.{counted_place}
-use Rattle.collect.specs.Full.{leaf_number, Full, FullLeaves, RowsFrom, HasRow, Passed, Asked}
+use Rattle.masking.specs.Kept.{places, place_of}
+use Rattle.collect.specs.Full.{leaf_number, Full, FullLeaves, HasRow}
 use Rattle.collect.specs.FullLaws.{back_from, bit_pow, number_64, number_back, number_lt}
 
 -- the bit with that number

@@ -1,6 +1,6 @@
 -- One walk over the entries: before each turn the entries that are left give what all give, rows, numbers and the first that is not clean; and the
 -- leaves whose bits are set are full.
-use Rattle.std.specs.Prelude.{◌≡◌, refl, Bool, true, false, not, List, ◌≢◌, ℕ, ◌+◌, ◌*◌, ◌≤◌, ◌<◌, eqb, length, get_or, set, replicate}
+use Rattle.std.specs.Prelude.{◌≡◌, refl, Bool, true, false, not, List, ◌≢◌, ℕ, ◌+◌, ◌*◌, ◌≤◌, ◌<◌, eqb, length, get_or, set, replicate, Err, Ok}
 use Rattle.std.proofs.Common.{sym, ap₂, ◌∙◌, subst, arith, length-set, eqb-true, eq-eqb, ne_eqb}
 use Rattle.std.proofs.Math.Path.{ap}
 use Rattle.std.proofs.lemmas.List.{length-replicate, get_or-replicate}
@@ -15,13 +15,10 @@ use Rattle.pages.specs.declared.ParsedCpuidEntry.{ParsedCpuidEntry}
 use Rattle.pages.specs.declared.CpuidPageIndex.{CpuidPageIndex}
 use Rattle.pages.specs.Layout.{entry_at, pages_in}
 use Rattle.pages.specs.Entries.{entries, counted}
-use Rattle.pages.specs.Parsed.{parsed}
 use Rattle.pages.specs.Walk.{first_index, incremented, rest}
-use Rattle.pages.specs.WalkLaws.{Valid, turn, first_valid, rest_first, rest_end}
-use Rattle.pages.specs.declared.reserved.Reserved.TheVariants.{Zero, Nonzero}
-use Rattle.pages.specs.Reserved.{clean, first_nonzero, reserved_of, all_clean}
+use Rattle.pages.specs.WalkLaws.{turn, first_valid, rest_first, rest_end}
+use Rattle.pages.specs.Reserved.{first_nonzero, reserved_of, all_clean}
 use Rattle.pages.proofs.ReservedLaws.{clean_zero}
-use Rattle.pages.specs.declared.reader.Read.TheVariants.{Unclean}
 use Rattle.pages.specs.Read.{entry_here, clean_here, read_at}
 use Rattle.pages.specs.ReadLaws.{read_unclean}
 use Rattle.masking.specs.Kept.{places}
@@ -59,7 +56,7 @@ walking_first s n e = record {
   answer = ap (first_nonzero s) (rest_first s);
 }
 
-pub walking_last : (s w o : List ℕ) (n : ℕ) (i : CpuidPageIndex) → Walking s w o n i → pages_in s ≤ i.page_index → Walked s Zero w o
+pub walking_last : (s w o : List ℕ) (n : ℕ) (i : CpuidPageIndex) → Walking s w o n i → pages_in s ≤ i.page_index → Walked s (Ok tt) w o
 unfolding first_nonzero found_origins stands_among counted
 walking_last s w o n i k h = record {
   answer = sym (ap (first_nonzero s) (rest_end s i h)) ∙ k.answer;
@@ -78,16 +75,16 @@ walking_last s w o n i k h = record {
 
 -- the answer, from what the reader finds at the first entry that is left
 turn_answer : (s w o : List ℕ) (n : ℕ) (i : CpuidPageIndex) → Walking s w o n i → i.page_index < pages_in s
-    → pick (clean_here s i) (first_nonzero s (rest s (incremented s i))) (Nonzero (entry_here s i).leaf) ≡ reserved_of s
+    → pick (clean_here s i) (first_nonzero s (rest s (incremented s i))) (Err (entry_here s i).leaf) ≡ reserved_of s
 unfolding first_nonzero entry_at
 turn_answer s w o n i k h = sym (ap (first_nonzero s) (turn s i k.valid h).taken) ∙ k.answer
 
 -- a turn at an entry that is not clean ends the walk
 pub walking_stops : (s w o : List ℕ) (n : ℕ) (i : CpuidPageIndex) → Walking s w o n i → i.page_index < pages_in s
-    → {l : CpuidFunction} → Unclean l ≡ read_at s i → Walked s (Nonzero l) w o
+    → {l : CpuidFunction} → Err l ≡ read_at s i → Walked s (Err l) w o
 walking_stops s w o n i k h {l} f =
     let (e, unclean) = read_unclean s i f in
-    let a : Nonzero l ≡ reserved_of s = ap Nonzero e ∙ sym (pick_false _ _ unclean) ∙ turn_answer s w o n i k h in
+    let a : Err l ≡ reserved_of s = ap Err e ∙ sym (pick_false _ _ unclean) ∙ turn_answer s w o n i k h in
     let no : all_clean s ≡ true → ⊥ = λ c. let z : ◌≡◌ {A = ℕ} 0 1 = cc (clean_zero s c) in omega arith in
     record { answer = a; rows = λ c. absurd (no c); stands = λ c. absurd (no c) }
 

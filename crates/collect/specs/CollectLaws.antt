@@ -1,16 +1,15 @@
 -- Collecting entry by entry: the first at a place wins.
 use Rattle.std.specs.Prelude.{◌≡◌, refl, Bool, true, false, List, [], ◌∷◌, ◌≢◌, ℕ, ◌<◌, eqb, get_or}
-use Rattle.std.proofs.Common.{sym, ap, ap₂, ◌∙◌, arith}
+use Rattle.std.proofs.Common.{sym, ap, ◌∙◌, arith}
 use borrow.Author.Tests.{eq-eqb, ne_eqb}
 use Rattle.bits.specs.Choice.{pick}
 use Rattle.bits.specs.ChoiceLaws.{pick_false}
 use Rattle.bits.specs.Lists.{keep_if}
 use Rattle.x86defs.specs.declared.CpuidResult.{CpuidResult}
-use Rattle.x86defs.specs.Functions.{cpuid_result}
 use Rattle.pages.specs.declared.ParsedCpuidEntry.{ParsedCpuidEntry}
 use Rattle.pages.specs.Layout.{Entry}
 use Rattle.pages.specs.Parsed.{parsed}
-use Rattle.pages.specs.Entries.{counts, entries, counted}
+use Rattle.pages.specs.Entries.{counts}
 use Rattle.masking.specs.Masks.{Masks, apply_mask}
 use Rattle.masking.specs.Kept.{places, place_of}
 use Rattle.masking.specs.declared.masks.KeptLeaf.{KeptLeaf}
@@ -19,11 +18,10 @@ use Rattle.masking.specs.KeptTableLaws.{masks_of_row}
 use Rattle.memory.specs.Origin.{origin_number}
 use Rattle.memory.specs.Origin.Origin.{entry}
 use Rattle.memory.specs.OriginLaws.{number_pick}
-use Rattle.table.specs.Rows.{Row, row, vacant}
-use Rattle.collect.specs.FirstEntries.{place_of_entry, first_at, words, word_row, firsts_of, set_legacy, masked_at}
-use Rattle.collect.specs.FirstEntriesLaws.{first_of_place}
+use Rattle.table.specs.Rows.{row, vacant}
+use Rattle.collect.specs.FirstEntries.{place_of_entry, first_at, set_legacy, masked_at}
 use Rattle.collect.specs.FirstEntryOrigin.{stands_at}
-use Rattle.collect.specs.Collect.{stored_at, counted_place, first_among, stands_among, Stored, to_store}
+use Rattle.collect.specs.Collect.{stored_at, counted_place, first_among, stands_among, Stored}
 
 -- ---- where an entry goes
 

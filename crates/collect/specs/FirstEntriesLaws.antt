@@ -1,12 +1,11 @@
 -- The first entry of a place wins, and entries of other places are passed over.
-use Rattle.std.specs.Prelude.{◌≡◌, Bool, true, false, List, ◌∷◌, ℕ, ◌≤◌, ◌<◌, eqb}
+use Rattle.std.specs.Prelude.{◌≡◌, Bool, List, ◌∷◌, ℕ, ◌≤◌, ◌<◌}
 use Rattle.std.proofs.Common.{eq-eqb, ne_eqb, lt-ltb, le-ltb}
-use Rattle.bits.specs.Choice.{pick}
 use Rattle.bits.specs.ChoiceLaws.{pick_true, pick_false}
 use Rattle.pages.specs.Layout.{Entry}
 use Rattle.pages.specs.Entries.{counted}
 use Rattle.masking.specs.Kept.{places}
-use Rattle.table.specs.Rows.{Row, row, vacant}
+use Rattle.table.specs.Rows.{row, vacant}
 use Rattle.collect.specs.FirstEntries.{place_of_entry, first_at, word_row, firsts_of, mask_row, rows_of}
 
 -- whatever comes after it

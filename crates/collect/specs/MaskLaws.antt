@@ -1,30 +1,15 @@
 -- First entries masked in place, one place after the other, are the masked first entries.
-use Rattle.std.specs.Prelude.{◌≡◌, refl, Bool, true, false, ◌||◌, List, ℕ, ◌*◌, ◌^◌, ◌<◌, eqb, length, get_or}
-use Rattle.std.proofs.Common.{sym, ap, ap₂, ◌∙◌, mod-eq_of_lt, lit<, eqb-true}
+use Rattle.std.specs.Prelude.{◌≡◌, Bool, ℕ, ◌^◌, ◌<◌}
+use Rattle.std.proofs.Common.{ap, ◌∙◌, mod-eq_of_lt}
 use Rattle.std.specs.Int.Bits.{bit_and, and_self, and_zero_l}
 use Rattle.std.proofs.lemmas.Nat.{and_mask, and_comm}
-use Rattle.bits.specs.Choice.{pick}
-use Rattle.bits.specs.ChoiceLaws.{pick_false}
 use Rattle.bits.specs.BitsLaws.{and_assoc}
-use Rattle.bits.specs.ListsLaws.{tabulate_ext}
 use Rattle.x86defs.specs.declared.CpuidResult.{CpuidResult}
 use Rattle.x86defs.specs.Functions.{cpuid_result}
-use Rattle.pages.specs.Entries.{counted}
-use Rattle.masking.specs.Masks.{Masks, ones, all_ones, apply_mask}
+use Rattle.masking.specs.Masks.{Masks, ones, apply_mask}
 use Rattle.masking.specs.Kept.{places, masks_at}
-use Rattle.masking.specs.declared.masks.KeptLeaf.{KeptLeaf}
-use Rattle.masking.specs.MaskTable.{table, no_row, masks_of, row_of_place}
-use Rattle.masking.specs.KeptTableLaws.{masks_of_row, is_masked, all_ones_lem}
 use Rattle.masking.specs.MasksFit.{MasksFit, masks_fit}
-use Rattle.masking.specs.Place
-use Rattle.table.specs.Rows.{Row, row, vacant}
-use Rattle.memory.specs.Memory.{row_of, put_row, is_there, rows_in, layout}
-use Rattle.memory.specs.MemoryLaws.{put_length, put_at, layout_length, layout_ext, known_by_rows}
-use Rattle.memory.proofs.MemoryLaws.{layout_row}
-use Rattle.collect.specs.FirstEntries.{first_at, words, word_row, firsts_of, masked_at, mask_row, rows_of}
-use Rattle.collect.specs.FirstEntriesLaws.{first_of_place, row_of_place_lem}
-use Rattle.collect.specs.FirstEntryOrigin.{found_origins}
-use Rattle.collect.specs.Mask.{Unmasked, Masked, legacy_row}
+use Rattle.collect.specs.FirstEntries.{words, masked_at}
 
 -- ---- a row
 

@@ -1,42 +1,24 @@
 -- One walk over the entries: before each turn the entries that are left give what all give, rows, numbers and the first that is not clean; and the
 -- leaves whose bits are set are full.
-use Rattle.std.specs.Prelude.{◌≡◌, refl, Bool, true, false, not, List, ◌≢◌, ℕ, ◌+◌, ◌*◌, ◌≤◌, ◌<◌, eqb, length, get_or, set, replicate}
-use Rattle.std.proofs.Common.{sym, ap₂, ◌∙◌, subst, arith, length-set, eqb-true, eq-eqb, ne_eqb}
-use Rattle.std.proofs.Math.Path.{ap}
-use Rattle.std.proofs.lemmas.List.{length-replicate, get_or-replicate}
-use Rattle.std.proofs.lemmas.Bool.{eqb-false}
+use Rattle.std.specs.Prelude.{◌≡◌, true, false, List, ℕ, ◌*◌, ◌<◌, length}
 use Rattle.bits.specs.Choice.{pick}
-use Rattle.bits.specs.ChoiceLaws.{never_both, pick_true, pick_false}
-use Rattle.bits.specs.ListsLaws.{tabulated, tabulate_ext}
-use Rattle.x86defs.specs.declared.CpuidFunction.{CpuidFunction}
-use Rattle.x86defs.specs.declared.CpuidResult.{CpuidResult}
 use Rattle.x86defs.specs.Functions.{cpuid_result}
 use Rattle.pages.specs.declared.ParsedCpuidEntry.{ParsedCpuidEntry}
 use Rattle.pages.specs.declared.CpuidPageIndex.{CpuidPageIndex}
-use Rattle.pages.specs.Layout.{entry_at, pages_in}
-use Rattle.pages.specs.Entries.{entries, counted}
+use Rattle.pages.specs.Layout.{pages_in}
+use Rattle.pages.specs.Entries.{entries}
 use Rattle.pages.specs.Parsed.{parsed}
-use Rattle.pages.specs.Walk.{first_index, incremented, rest}
-use Rattle.pages.specs.WalkLaws.{Valid, turn, first_valid, rest_first, rest_end}
-use Rattle.pages.specs.declared.reserved.Reserved.TheVariants.{Zero, Nonzero}
-use Rattle.pages.specs.Reserved.{clean, first_nonzero, reserved_of, all_clean}
-use Rattle.pages.proofs.ReservedLaws.{clean_zero}
-use Rattle.pages.specs.declared.reader.Read.TheVariants.{Unclean}
-use Rattle.pages.specs.Read.{entry_here, clean_here, read_at}
-use Rattle.pages.specs.ReadLaws.{read_unclean}
+use Rattle.pages.specs.Walk.{incremented, rest}
+use Rattle.pages.specs.WalkLaws.{Valid}
+use Rattle.pages.specs.Reserved.{first_nonzero, reserved_of}
+use Rattle.pages.specs.Read.{entry_here, clean_here}
 use Rattle.masking.specs.Kept.{places}
-use Rattle.table.specs.Rows.{Row}
 use Rattle.memory.specs.Origin.{origin_number}
 use Rattle.memory.specs.Origin.Origin.{entry}
-use Rattle.memory.specs.Memory.{row_of, put_row, is_there}
-use Rattle.memory.specs.MemoryLaws.{set_at, put_at, put_length, known_by_rows}
-use Rattle.collect.specs.FirstEntries.{words, firsts_of}
-use Rattle.collect.specs.FirstEntryOrigin.{found_origins}
-use Rattle.collect.specs.Collect.{stored_at, counted_place, stands_among, Stored, stored_in, to_store}
-use Rattle.collect.specs.CollectLaws.{counted_place_stored, stored}
-use Rattle.collect.specs.Walked.{Walked}
-use Rattle.collect.specs.Full.{FullLeaves, Passed}
-use Rattle.collect.specs.FullLaws.{none_kept, none_kept_full, leaves_stay}
+use Rattle.memory.specs.Memory.{is_there}
+use Rattle.collect.specs.Collect.{Stored, stored_in, to_store}
+use Rattle.collect.specs.CollectLaws.{stored}
+use Rattle.collect.specs.Full.{FullLeaves}
 
 -- a place has its row already, or gets it of the entries that are left; without a row it is all zeros
 pub record Placed (s : List ℕ) (i : CpuidPageIndex) (j : ℕ) (x : Stored) : Type 0 where

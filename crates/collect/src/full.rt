@@ -1,5 +1,5 @@
-// Full leaves, as bits of one number: no entry of them can add a row, because they are not kept or each of their places has a row. By one such bit the
-// walk passes over an entry.
+// Full leaves, as bits of one number: no entry of them can add a row, because they are not kept or each of their places has a row. By one such bit
+// the walk passes over an entry.
 ghost use Rattle.std.specs.Prelude.{◌≡◌, true, ◌+◌, ◌<◌};
 ghost use Rattle.masking.specs.Kept.{places};
 ghost use Rattle.bits.specs.Bits.{has};

@@ -22,8 +22,6 @@ use masking::masks::KeptLeaf;
 use masking::{PLACES, place};
 use memory::{REGISTERS, clear, put_row};
 use pages::ParsedCpuidEntry;
-use pages::reader::Read;
-use pages::reserved::Reserved;
 use table::{Refusal, Verdict};
 use x86defs::{CpuidFunction, CpuidResult, leaf};
 
@@ -43,18 +41,18 @@ pub fn walk_pages(
     ensures { WalkedPages secure_avic pages.now result registers.new origins.new }
 {
     if pages::bad_length(pages) {
-        return Verdict::Refused(Refusal::PagesLength);
+        return Err(Refusal::PagesLength);
     }
     if pages::counts_fit(pages) {
         let walked = collect_into(pages, registers, origins);
-        if let Reserved::Nonzero(leaf) = walked {
+        if let Err(leaf) = walked {
             clear(registers, origins);
-            return Verdict::Refused(Refusal::ReservedBytes(leaf));
+            return Err(Refusal::ReservedBytes(leaf));
         }
         mask::mask_rows(secure_avic, registers, origins);
-        return Verdict::Accepted;
+        return Ok(());
     }
-    Verdict::Refused(Refusal::PageCount)
+    Err(Refusal::PageCount)
 }
 
 // The first entry of every place as it stands and where, from pages whose counts are lawful: what the reader gives, page by page, up to the first
@@ -64,20 +62,21 @@ fn collect_into(
     pages: &[u8],
     registers: &mut [u32; REGISTERS],
     origins: &mut [u64; PLACES],
-) -> Reserved
+) -> Result<(), CpuidFunction>
     requires { (counts_fit pages.now ≡ true) × Cleared registers.old origins.old }
     ensures { Walked pages.now result registers.new origins.new }
 {
     let n = pages::page_count(pages);
     let mut index = pages::reader::start(pages);
     let mut full = full::NOT_KEPT;
+    // kept as a while: the step is not one but to the reader's next entry, which may be on a later page
     while index.page_index < n {
         let page = index.page_index;
         let count = pages::count_of(pages, page) as usize;
         loop {
             let read = pages::reader::take(pages, index);
             match read {
-                Read::Entry(entry) => {
+                Ok(entry) => {
                     let origin = memory::origins::entry_number(
                         index.page_index,
                         index.function_index,
@@ -90,13 +89,13 @@ fn collect_into(
                         break;
                     }
                 }
-                Read::Unclean(leaf) => {
-                    return Reserved::Nonzero(leaf);
+                Err(leaf) => {
+                    return Err(leaf);
                 }
             }
         }
     }
-    Reserved::Zero
+    Ok(())
 }
 
 // Adds an entry if it is the first of its place, and gives the full leaves after it. A place whose origin is 0 has no row yet.
@@ -123,7 +122,8 @@ fn add_entry(
     full
 }
 
-// The place of an entry; 88 where it has none, or where it is known to have a row: by its leaf's bit, or of leaf Dh, which is never full, by its origin.
+// The place of an entry; 88 where it has none, or where it is known to have a row: by its leaf's bit, or of leaf Dh, which is never full, by its
+// origin.
 fn asked_place(full: u64, entry: ParsedCpuidEntry, origins: &[u64; PLACES]) -> usize
     ensures { Asked full entry origins.now result }
 {
@@ -185,7 +185,8 @@ pub fn masked_at(kept: KeptLeaf, place: usize, r: CpuidResult) -> CpuidResult
     masked
 }
 
-// Whether the pages are lawful, and the origin's number of the entry: 0 where there is none.
+// Whether the pages are lawful, and the origin's number of the entry: 0 if there is none. Kept as two values: theorem `first_told` speaks of every
+// pair.
 #[derive(Clone, Copy)]
 pub struct FirstEntry {
     pub verdict: Verdict,
@@ -199,21 +200,21 @@ pub fn first_entry(pages: &[u8], leaf: CpuidFunction, subleaf: u32) -> FirstEntr
     let mut registers: [u32; REGISTERS] = [0; REGISTERS];
     let mut origins: [u64; PLACES] = [0; PLACES];
     let lawful = walk_pages(pages, false, &mut registers, &mut origins);
-    if let Verdict::Refused(r) = lawful {
+    if let Err(r) = lawful {
         return FirstEntry {
-            verdict: Verdict::Refused(r),
+            verdict: Err(r),
             origin: 0,
         };
     }
     let place = masking::place_of(leaf, subleaf);
     if place < PLACES {
         return FirstEntry {
-            verdict: Verdict::Accepted,
+            verdict: Ok(()),
             origin: origins[place],
         };
     }
     FirstEntry {
-        verdict: Verdict::Accepted,
+        verdict: Ok(()),
         origin: 0,
     }
 }

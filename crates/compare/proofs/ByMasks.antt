@@ -1,6 +1,6 @@
 -- Registers of two rows compared by masks: f has the feature bits, m those that must agree, which in tables are all others. For the masks of a kind
 -- this is the test of that kind, of registers of 32 bits; the save area of a table is tested by its size.
-use Rattle.std.specs.Prelude.{◌≡◌, refl, Bool, true, ◌&&◌, false, ℕ, ◌-◌, ◌^◌, ◌≤◌, ◌<◌, min, max, eqb, leb}
+use Rattle.std.specs.Prelude.{◌≡◌, refl, Bool, true, ◌&&◌, ℕ, ◌-◌, ◌^◌, ◌≤◌, ◌<◌, min, max, eqb, leb}
 use Rattle.std.proofs.Common.{sym, ap, ◌∙◌, ap₂, arith, eqb-true, eq-eqb}
 use Rattle.std.specs.Int.Bits.{bit_and, bit_or, and_zero_r}
 use Rattle.bits.specs.ChoiceLaws.{and_left, and_right, and_both, and_implied}
@@ -8,7 +8,7 @@ use Rattle.bits.specs.Bits.{bit, Within}
 use Rattle.bits.specs.BitsLaws.{bit_and_lem, bit_or_lem, bit_lt, bits_ext, within_of_and, and_of_within}
 use Rattle.x86defs.specs.declared.CpuidResult.{CpuidResult}
 use Rattle.table.specs.Fits.{Fits}
-use Rattle.finish.specs.Kinds.{Kind, Kinds, register_kinds, kinds_at}
+use Rattle.finish.specs.Kinds.{Kind, Kinds, kinds_at}
 use Rattle.finish.specs.Kinds.Kind.{feature, feature_but28, area, freed, other}
 use Rattle.register_masks.specs.declared.RowMasks.{RowMasks}
 use Rattle.register_masks.specs.RegisterMasks.{feature_bits, agreed_bits, masks_of}
@@ -18,10 +18,7 @@ use Rattle.rise.specs.Decide.{rises_test}
 use Rattle.compare.specs.declared.registers.RegistersRise.{RegistersRise}
 use Rattle.compare.specs.Registers.{registers_rise}
 use Rattle.bits.specs.Choice.{pick}
-use Rattle.bits.specs.Lists.{tabulate}
-use Rattle.bits.specs.ListsLaws.{tabulate_at}
-use Rattle.x86defs.specs.Functions.{cpuid_result}
-use Rattle.masking.specs.Kept.{places, kept_leaves, slot}
+use Rattle.masking.specs.Kept.{places}
 use Rattle.masking.specs.Place
 use Rattle.compare.specs.declared.search.Asked.{Asked}
 use Rattle.compare.specs.declared.search.Asked.TheVariants.{Entries, Tables}

@@ -1,27 +1,13 @@
 -- The comparison of two servers, one case for each return of the function. The rows of A's table that are asked for are its origins without those of
 -- the two rows that come from no entry.
-use Rattle.std.specs.Prelude.{◌≡◌, refl, Bool, true, false, not, ◌&&◌, ◌||◌, List, [], ◌∷◌, ℕ, zero, suc, ◌<◌, eqb, get_or, set}
+use Rattle.std.specs.Prelude.{◌≡◌, refl, List, ℕ, Err, Ok}
 use Rattle.std.proofs.Math.Path.{sym, ap}
-use Rattle.std.proofs.Common.{◌∙◌, get_or-set_other, eqb-true}
-use Rattle.std.proofs.Math.Bool.{or-true}
-use Rattle.std.proofs.lemmas.Bool.{eqb-false}
-use Rattle.bits.specs.Choice.{pick}
-use Rattle.bits.specs.Lists.{tabulate}
-use Rattle.bits.specs.ListsLaws.{tabulate_at}
-use Rattle.masking.specs.Kept.{places}
-use Rattle.masking.specs.Place.{made_here}
-use Rattle.masking.specs.Place
-use Rattle.table.specs.declared.CpuidResults.{CpuidResults}
-use Rattle.table.specs.Table.{row_in}
-use Rattle.finish.specs.Finish.{rule_at}
-use Rattle.finish.specs.Kinds.{from_entry}
-use Rattle.memory.specs.Memory.{is_there, rows_in}
-use Rattle.memory.specs.Held.{held_in, flags, flag_at}
-use Rattle.compare.specs.Compare.{asked_rows, entries_named, after_a, after_b, compared_rows, compared}
+use Rattle.std.proofs.Common.{◌∙◌}
+use Rattle.memory.specs.Memory.{rows_in}
+use Rattle.memory.specs.Held.{held_in}
+use Rattle.compare.specs.Compare.{entries_named, after_a, after_b, compared_rows, compared}
 use Rattle.table.specs.declared.Choices.{Choices}
 use Rattle.table.specs.declared.Refusal.{Refusal}
-use Rattle.table.specs.declared.Verdict.{Verdict}
-use Rattle.table.specs.declared.Verdict.TheVariants.{Accepted, Refused}
 use Rattle.build.specs.Build.{edition_verdict, front_verdict, rows_for, verdict_of, answer}
 use Rattle.checks.specs.ChecksLaws.{then_left, then_skips}
 use Rattle.collect.specs.Lawful.{lawful_verdict}
@@ -32,6 +18,7 @@ use Rattle.compare.specs.RowsComparedLaws.{rows_same}
 use Rattle.compare.specs.declared.Compared.{Compared}
 use Rattle.compare.specs.declared.Compared.TheVariants.{RefusedA, UnlawfulB}
 use Rattle.compare.specs.CompareLaws.{asked, asked_rows_lem, has_row}
+use Rattle.table.specs.Verdict.{Verdict}
 
 -- ---- the returns
 
@@ -42,20 +29,20 @@ module _ (chosen : Choices) (a b : List ℕ) where
   unfolding compared
   with_verdicts e f = rw (e, f)
 
-  pub refused_a : {r : Refusal} → (answer chosen a).verdict ≡ Refused r → RefusedA r ≡ compared chosen a b
+  pub refused_a : {r : Refusal} → (answer chosen a).verdict ≡ Err r → RefusedA r ≡ compared chosen a b
   refused_a e = sym (with_verdicts e refl)
 
-  module _ (accepted : (answer chosen a).verdict ≡ Accepted) where
+  module _ (accepted : (answer chosen a).verdict ≡ Ok tt) where
     -- the edition is known, so the way in refuses B's pages only for themselves
     pub lawful_b : {v : Verdict} → v ≡ front_verdict chosen b → lawful_verdict b ≡ v
     unfolding answer verdict_of
     lawful_b e = sym (e ∙ then_skips (then_left (edition_verdict chosen.edition) _ accepted))
 
-    pub unlawful_b : {r : Refusal} → lawful_verdict b ≡ Refused r → UnlawfulB r ≡ compared chosen a b
+    pub unlawful_b : {r : Refusal} → lawful_verdict b ≡ Err r → UnlawfulB r ≡ compared chosen a b
     unlawful_b e = sym (with_verdicts accepted e)
 
     -- the table of A is in memory w, o; v and u are the rows of A's entries and of B's
-    pub rows_compared_lem : lawful_verdict b ≡ Accepted → (w o v q u p : List ℕ)
+    pub rows_compared_lem : lawful_verdict b ≡ Ok tt → (w o v q u p : List ℕ)
         → held_in w o ≡ (answer chosen a).table → rows_in v q ≡ rows_for chosen a → rows_in u p ≡ rows_for chosen b
         → {f : RowsCompared} → f ≡ rows_compared (wanted_by Entries) (rows_in v (asked o)) (rows_in u p)
         → {r : Compared} → r ≡ entries_named f → r ≡ compared chosen a b

@@ -1,11 +1,9 @@
 -- The answer means what it says, and no other answer does.
-use Rattle.std.specs.Prelude.{◌≡◌, true, ◌&&◌, List, ℕ}
+use Rattle.std.specs.Prelude.{◌≡◌, true, ◌&&◌, List, ℕ, Err, Ok}
 use Rattle.std.proofs.Math.Path.{refl, ap}
 use Rattle.std.proofs.Common.{sym, ◌∙◌, subst, inr}
 use Rattle.bits.specs.ChoiceLaws.{and_left, and_right, and_both}
 use Rattle.table.specs.declared.Choices.{Choices}
-use Rattle.table.specs.declared.Verdict.{Verdict}
-use Rattle.table.specs.declared.Verdict.TheVariants.{Accepted, Refused}
 use Rattle.finish.specs.Finish.{rule_at}
 use Rattle.finish.specs.Kinds.{from_entry}
 use Rattle.build.specs.Build.{rows_for, answer}
@@ -23,9 +21,10 @@ use Rattle.compare.specs.RowsDecideProof.{Tested}
 use Rattle.compare.proofs.RowsDecideProof.{rows_mean, rows_exact}
 use Rattle.compare.specs.declared.Compared.{Compared}
 use Rattle.compare.specs.declared.Compared.TheVariants.{Rises, RefusedA, UnlawfulB, NoEntry, Differs}
-use Rattle.compare.specs.Compare.{asked_rows, entries_named, after_a, after_b, compared_rows, compared}
+use Rattle.compare.specs.Compare.{entries_named, after_a, after_b, compared_rows, compared}
 use Rattle.compare.proofs.CompareLaws.{with_verdicts, refused_a}
 use Rattle.compare.specs.Means.{Stand, servers, AnswerMeans, Decides}
+use Rattle.table.specs.Verdict.{Verdict}
 
 module _ (chosen : Choices) (a b : List ℕ) where
   tested : Tested (wanted_by Entries) (servers chosen a b)
@@ -64,9 +63,9 @@ module _ (chosen : Choices) (a b : List ℕ) where
     where
       go : (v : Verdict) → (answer chosen a).verdict ≡ v → (w : Verdict) → lawful_verdict b ≡ w
           → AnswerMeans chosen a b (after_a v (after_b w (compared_rows (in_table chosen a) (rows_for chosen a) (rows_for chosen b))))
-      go (Refused r) e w f = e
-      go Accepted e (Refused r) f = (e, f)
-      go Accepted e Accepted f =
+      go (Err r) e w f = e
+      go (Ok _) e (Err r) f = (e, f)
+      go (Ok _) e (Ok _) f =
           named_means (record { accepted = e; lawful = f }) rows (rows_mean (wanted_by Entries) (servers chosen a b) tested)
 
   -- where the rows are as an answer of theirs says

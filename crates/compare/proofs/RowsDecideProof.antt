@@ -2,21 +2,21 @@
 use Rattle.std.specs.Prelude.{◌≡◌, Bool, true, false}
 use Rattle.std.proofs.Math.Path.{refl, ap}
 use Rattle.std.proofs.Common.{sym, ◌∙◌, inl, inr, ⊎_elim}
-use Prim.Native.Nat.{ℕ, ◌<◌, zero-le}
+use Prim.Native.Nat.{ℕ, zero-le}
 use Rattle.bits.specs.Choice.{pick}
-use Rattle.bits.specs.ChoiceLaws.{never_both, pick_true, pick_false}
+use Rattle.bits.specs.ChoiceLaws.{pick_true, pick_false}
 use Rattle.bits.specs.Search.{Failing, lowest}
 use Rattle.bits.specs.Search.Failing.{at, none}
 use Rattle.bits.specs.SearchLaws.{Lowest, lowest_none, lowest_all, lowest_at, lowest_unique}
 use Rattle.masking.specs.Kept.{places, leaf_at}
 use Rattle.table.specs.Rows.{Rows}
-use Rattle.finish.specs.Kinds.{Kind, Registers, all_registers, kinds_at}
+use Rattle.finish.specs.Kinds.{Registers, all_registers, kinds_at}
 use Rattle.finish.specs.RegisterTestLaws.{registers_hold}
 use Rattle.compare.specs.declared.registers.Register.{Register}
 use Rattle.compare.specs.declared.registers.Register.TheVariants.{Eax, Ebx, Ecx, Edx}
 use Rattle.compare.specs.declared.search.RowsCompared.{RowsCompared}
 use Rattle.compare.specs.declared.search.RowsCompared.TheVariants.{Rises, NoRow, Differs, Beyond, MaskLacks}
-use Rattle.compare.specs.Registers.{registers_rise, first_to_fail, order, value_of, kind_of, subleaf_named}
+use Rattle.compare.specs.Registers.{registers_rise, first_to_fail, value_of, kind_of, subleaf_named}
 use Rattle.compare.specs.RegistersLaws.{is_true, is_false, register_fails, registers_before_lem, first_unique}
 use Rattle.compare.specs.RowsCompared.{Wanted, rises, place_compared, place_test, first_failing, rows_compared}
 use Rattle.compare.specs.RowsMean.{Sides, RegisterRises, PlaceRises, AtPlace, First, AllRise, RowsMean}

@@ -1,5 +1,5 @@
 -- The answer means what it says, and no other answer does.
-use Rattle.std.specs.Prelude.{◌≡◌, refl, Bool, true, false, ◌&&◌, ℕ, ◌-◌, ◌≤◌, ◌<◌, leb, ltb}
+use Rattle.std.specs.Prelude.{◌≡◌, true, ℕ, ◌-◌, ◌≤◌, ◌<◌, leb, ltb}
 use Rattle.std.proofs.Common.{sym, ◌∙◌, subst, arith}
 use Rattle.std.proofs.Math.Path.{ap}
 use Rattle.std.proofs.Math.Bool.{not}
@@ -9,14 +9,11 @@ use Rattle.bits.specs.Bits.{has}
 use Rattle.bits.specs.BitsLaws.{within_of_and, and_of_within}
 use Rattle.masking.specs.Place
 use Rattle.table.specs.declared.CpuidResults.{CpuidResults}
-use Rattle.finish.specs.Kinds.{Kind, TableAtLeast}
-use Rattle.finish.specs.Kinds.Kind.{feature, feature_but28, area, freed, other}
 use Rattle.rise.specs.Rise.{Further, TableRises}
-use Rattle.rise.specs.DecideProof.{test_rises, rises_test_lem}
 use Rattle.compare.specs.declared.search.Asked.TheVariants.{Tables}
 use Rattle.compare.specs.declared.search.RowsCompared.{RowsCompared}
 use Rattle.compare.specs.declared.search.RowsCompared.TheVariants.{Rises}
-use Rattle.compare.specs.RowsCompared.{table_test, further_test, wanted_by, compared_tables}
+use Rattle.compare.specs.RowsCompared.{further_test, wanted_by, compared_tables}
 use Rattle.compare.specs.RowsDecideProof.{Tested}
 use Rattle.compare.proofs.RowsDecideProof.{rows_mean, rows_exact}
 use Rattle.compare.specs.TablesMean.{tables, TablesAnswerMeans, DecidesTables}

@@ -1,22 +1,13 @@
 -- Registers of two rows compared by masks: f has the feature bits, m those that must agree, which in tables are all others. For the masks of a kind
 -- this is the test of that kind, of registers of 32 bits; the save area of a table is tested by its size.
-use Rattle.std.specs.Prelude.{◌≡◌, refl, Bool, true, ◌&&◌, false, ℕ, ◌-◌, ◌^◌, ◌≤◌, ◌<◌, min, max, eqb, leb}
-use Rattle.std.proofs.Common.{sym, ap, ◌∙◌, ap₂, arith, eqb-true, eq-eqb}
-use Rattle.std.specs.Int.Bits.{bit_and, bit_or, and_zero_r}
-use Rattle.bits.specs.ChoiceLaws.{and_left, and_right, and_both, and_implied}
-use Rattle.bits.specs.Bits.{bit, Within}
-use Rattle.bits.specs.BitsLaws.{bit_and_lem, bit_or_lem, bit_lt, bits_ext, within_of_and, and_of_within}
+use Rattle.std.specs.Prelude.{◌≡◌, refl, Bool, true, false, ℕ, ◌-◌, ◌^◌, ◌<◌, eqb, leb}
+use Rattle.std.specs.Int.Bits.{bit_and, bit_or}
 use Rattle.x86defs.specs.declared.CpuidResult.{CpuidResult}
-use Rattle.table.specs.Fits.{Fits}
 use Rattle.finish.specs.Kinds.{Kind, Kinds, register_kinds, kinds_at}
 use Rattle.finish.specs.Kinds.Kind.{feature, feature_but28, area, freed, other}
 use Rattle.register_masks.specs.declared.RowMasks.{RowMasks}
-use Rattle.register_masks.specs.RegisterMasks.{feature_bits, agreed_bits, masks_of}
-use Rattle.register_masks.specs.AlikeLaws.{same_truth}
-use Rattle.register_masks.specs.RegisterMaskLaws.{agree, whole, none_agreed, bit_28_agreed, all_agreed}
-use Rattle.rise.specs.Decide.{rises_test}
+use Rattle.register_masks.specs.RegisterMaskLaws.{agree}
 use Rattle.compare.specs.declared.registers.RegistersRise.{RegistersRise}
-use Rattle.compare.specs.Registers.{registers_rise}
 use Rattle.bits.specs.Choice.{pick}
 use Rattle.bits.specs.Lists.{tabulate}
 use Rattle.bits.specs.ListsLaws.{tabulate_at}
@@ -25,7 +16,6 @@ use Rattle.masking.specs.Kept.{places, kept_leaves, slot}
 use Rattle.masking.specs.Place
 use Rattle.compare.specs.declared.search.Asked.{Asked}
 use Rattle.compare.specs.declared.search.Asked.TheVariants.{Entries, Tables}
-use Rattle.compare.specs.RowsCompared.{table_test, wanted_by}
 
 -- ---- as the code has it: B's register has what A's has, in the features that A has and in the bits that must agree
 

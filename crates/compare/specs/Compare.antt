@@ -1,10 +1,8 @@
 -- May a guest of server A move to server B? The hypothesis of demand 3 (crates/rise/specs/Rise.antt), decided, or the first thing that
 -- fails: A's own refusal; then B's length, its counts, its reserved bytes; then, among the rows of A's table that come from an entry, by rising
 -- leaf and subleaf, whether B has a first counted entry, and its EAX, EBX, ECX, EDX (crates/compare/specs/RowsCompared.antt).
-use Rattle.std.specs.Prelude.{Bool, ◌&&◌, List, ℕ}
+use Rattle.std.specs.Prelude.{Bool, ◌&&◌, List, ℕ, Err, Ok}
 use Rattle.table.specs.declared.Choices.{Choices}
-use Rattle.table.specs.declared.Verdict.{Verdict}
-use Rattle.table.specs.declared.Verdict.TheVariants.{Accepted, Refused}
 use Rattle.table.specs.Rows.{Rows}
 use Rattle.finish.specs.Finish.{rule_at}
 use Rattle.finish.specs.Kinds.{from_entry}
@@ -17,6 +15,7 @@ use Rattle.compare.specs.declared.search.RowsCompared.TheVariants.{Rises as Rows
 use Rattle.compare.specs.RowsCompared.{wanted_by, rows_compared}
 use Rattle.compare.specs.declared.Compared.{Compared}
 use Rattle.compare.specs.declared.Compared.TheVariants.{Rises, RefusedA, UnlawfulB, NoEntry, Differs}
+use Rattle.table.specs.Verdict.{Verdict}
 
 -- the rows that are asked for, those of A's table that come from an entry, each as A's entry has it
 abbrev pub asked_rows : (ℕ → Bool) → Rows → Rows
@@ -34,12 +33,12 @@ unfoldable pub compared_rows : (ℕ → Bool) → Rows → Rows → Compared
 compared_rows in_a A B = entries_named (rows_compared (wanted_by Entries) (asked_rows in_a A) B)
 
 abbrev pub after_a : Verdict → Compared → Compared
-after_a Accepted c = c
-after_a (Refused r) c = RefusedA r
+after_a (Ok _) c = c
+after_a (Err r) c = RefusedA r
 
 abbrev pub after_b : Verdict → Compared → Compared
-after_b Accepted c = c
-after_b (Refused r) c = UnlawfulB r
+after_b (Ok _) c = c
+after_b (Err r) c = UnlawfulB r
 
 unfoldable pub compared : Choices → List ℕ → List ℕ → Compared
 compared chosen a b = after_a (answer chosen a).verdict (after_b (lawful_verdict b) (compared_rows (in_table chosen a) (rows_for chosen a) (rows_for chosen b)))

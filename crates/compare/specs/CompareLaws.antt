@@ -17,20 +17,7 @@ use Rattle.finish.specs.Finish.{rule_at}
 use Rattle.finish.specs.Kinds.{from_entry}
 use Rattle.memory.specs.Memory.{is_there, rows_in}
 use Rattle.memory.specs.Held.{held_in, flags, flag_at}
-use Rattle.compare.specs.Compare.{asked_rows, entries_named, after_a, after_b, compared_rows, compared}
-use Rattle.table.specs.declared.Choices.{Choices}
-use Rattle.table.specs.declared.Refusal.{Refusal}
-use Rattle.table.specs.declared.Verdict.{Verdict}
-use Rattle.table.specs.declared.Verdict.TheVariants.{Accepted, Refused}
-use Rattle.build.specs.Build.{edition_verdict, front_verdict, rows_for, verdict_of, answer}
-use Rattle.checks.specs.ChecksLaws.{then_left, then_skips}
-use Rattle.collect.specs.Lawful.{lawful_verdict}
-use Rattle.compare.specs.declared.search.Asked.TheVariants.{Entries}
-use Rattle.compare.specs.declared.search.RowsCompared.{RowsCompared}
-use Rattle.compare.specs.RowsCompared.{wanted_by, rows_compared}
-use Rattle.compare.specs.RowsComparedLaws.{rows_same}
-use Rattle.compare.specs.declared.Compared.{Compared}
-use Rattle.compare.specs.declared.Compared.TheVariants.{RefusedA, UnlawfulB}
+use Rattle.compare.specs.Compare.{asked_rows}
 
 -- whether a table has a row at a place
 abbrev pub has_row : CpuidResults → ℕ → Bool

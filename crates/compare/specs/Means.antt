@@ -1,7 +1,6 @@
 -- What each answer of a comparison says of the two page sets.
-use Rattle.std.specs.Prelude.{◌≡◌, List, ℕ}
+use Rattle.std.specs.Prelude.{◌≡◌, List, ℕ, Err, Ok}
 use Rattle.table.specs.declared.Choices.{Choices}
-use Rattle.table.specs.declared.Verdict.TheVariants.{Accepted, Refused}
 use Rattle.finish.specs.Kinds.{EntryAtLeast}
 use Rattle.build.specs.Build.{rows_for, answer}
 use Rattle.collect.specs.Lawful.{lawful_verdict}
@@ -15,8 +14,8 @@ use Rattle.compare.specs.Compare.{asked_rows}
 
 -- A is accepted and B's pages are lawful
 pub record Stand (chosen : Choices) (a b : List ℕ) : Type 0 where
-  pub accepted : (answer chosen a).verdict ≡ Accepted
-  pub lawful : lawful_verdict b ≡ Accepted
+  pub accepted : (answer chosen a).verdict ≡ Ok tt
+  pub lawful : lawful_verdict b ≡ Ok tt
 
 -- the rows of A's table that come from an entry, beside B's entries, of which there may be more
 abbrev pub servers : Choices → List ℕ → List ℕ → Sides
@@ -31,8 +30,8 @@ servers chosen a b = record {
 -- a yes says that the hypothesis of demand 3 holds, and with the theorem what B's table will have
 abbrev pub AnswerMeans : Choices → List ℕ → List ℕ → Compared → Type 0
 AnswerMeans chosen a b Rises = Hypothesis chosen a b × RiseConclusion chosen a b
-AnswerMeans chosen a b (RefusedA r) = (answer chosen a).verdict ≡ Refused r
-AnswerMeans chosen a b (UnlawfulB r) = ((answer chosen a).verdict ≡ Accepted) × (lawful_verdict b ≡ Refused r)
+AnswerMeans chosen a b (RefusedA r) = (answer chosen a).verdict ≡ Err r
+AnswerMeans chosen a b (UnlawfulB r) = ((answer chosen a).verdict ≡ Ok tt) × (lawful_verdict b ≡ Err r)
 AnswerMeans chosen a b (NoEntry leaf subleaf) = Stand chosen a b × First (servers chosen a b) (NoRow leaf subleaf)
 AnswerMeans chosen a b (Differs leaf subleaf register) = Stand chosen a b × First (servers chosen a b) (RowDiffers leaf subleaf register)
 

@@ -1,9 +1,8 @@
 -- A row's registers by name: the order in which they are compared, each one's value and kind, and the first of four tests that fails.
-use Rattle.std.specs.Prelude.{Bool, ℕ}
+use Rattle.std.specs.Prelude.{Bool, ℕ, Option}
 use Rattle.bits.specs.Choice.{pick}
 use Rattle.x86defs.specs.declared.CpuidResult.{CpuidResult}
 use Rattle.masking.specs.Kept.{indexed_at, subleaf_at}
-use Rattle.table.specs.declared.Subleaf.{Subleaf}
 use Rattle.table.specs.Numbers.{subleaf_of}
 use Rattle.finish.specs.Kinds as Definition
 use Rattle.compare.specs.declared.registers.Register.{Register}
@@ -45,5 +44,5 @@ abbrev pub first_to_fail : RegistersRise → Register
 first_to_fail t = first_by t.eax t.ebx t.ecx
 
 -- the subleaf of a place, where its row carries one
-abbrev pub subleaf_named : ℕ → Subleaf
+abbrev pub subleaf_named : ℕ → Option ℕ
 subleaf_named i = subleaf_of (indexed_at i) (subleaf_at i)

@@ -1,8 +1,8 @@
 -- The search for the first place that fails, as the loop runs: a turn passes a place or stops there; after the last place the masks decide. Of
 -- rows that are the same at every place it is the same.
-use Rattle.std.specs.Prelude.{◌≡◌, Bool, true, false, not, ◌&&◌, List, ℕ, zero, suc, ◌+◌, ◌-◌, ◌≤◌, ◌<◌, get_or}
+use Rattle.std.specs.Prelude.{◌≡◌, Bool, true, false, not, ◌&&◌, List, ℕ, zero, suc, ◌+◌, ◌-◌, ◌≤◌, ◌<◌, get_or, Option}
 use Rattle.std.proofs.Math.Path.{refl, sym, ap}
-use Rattle.std.proofs.Common.{ap₂, ◌∙◌, zero-le, le_refl, arith}
+use Rattle.std.proofs.Common.{ap₂, ◌∙◌, le_refl, arith}
 use borrow.Author.Tests.{le-leb, lt-leb, lt-ltb, le-ltb}
 use Rattle.bits.specs.Choice.{pick}
 use Rattle.bits.specs.ChoiceLaws.{pick_true, pick_false}
@@ -14,7 +14,6 @@ use Rattle.x86defs.specs.declared.CpuidResult.{CpuidResult}
 use Rattle.x86defs.specs.declared.CpuidFunction.{CpuidFunction}
 use Rattle.masking.specs.Kept.{places, leaf_at}
 use Rattle.masking.specs.Place
-use Rattle.table.specs.declared.Subleaf.{Subleaf}
 use Rattle.finish.specs.Kinds.{kinds_at}
 use Rattle.compare.specs.declared.registers.Register.{Register}
 use Rattle.compare.specs.declared.registers.RegistersRise.{RegistersRise}
@@ -23,9 +22,7 @@ use Rattle.table.specs.Rows.{Row, Rows}
 use Rattle.memory.specs.Memory.{row_of, is_there, rows_in}
 use Rattle.compare.specs.declared.search.RowsCompared.{RowsCompared}
 use Rattle.compare.specs.declared.search.RowsCompared.TheVariants.{Rises, Differs, MaskLacks}
-use Rattle.compare.specs.RowsCompared.{further_test, Wanted, rises, row_compared, place_compared, place_test, first_failing, rows_compared, wanted_by, compared_tables}
-use Rattle.memory.specs.Held.{whole_row_lem, held_in, mask_held, mask_held_lem}
-use Rattle.compare.specs.declared.search.Asked.TheVariants.{Tables}
+use Rattle.compare.specs.RowsCompared.{further_test, Wanted, rises, row_compared, place_compared, place_test, first_failing, rows_compared}
 
 abbrev pub row_with : Bool → CpuidResult → Row
 row_with p r = record { present = p; result = r }
@@ -81,7 +78,7 @@ module _ (w : Wanted) (i : ℕ) {a b : CpuidResult} {r : RegistersRise} (e : r �
   pub row_passes : all_of r ≡ true → Rises ≡ row_compared w i (row_with true a) (row_with true b)
   row_passes t = sym (pick_true _ _ (sym (ap all_of e) ∙ t))
 
-  pub row_fails : all_of r ≡ false → {l : CpuidFunction} {s : Subleaf} {q : Register} → l ≡ leaf_at i → s ≡ subleaf_named i → q ≡ first_to_fail r
+  pub row_fails : all_of r ≡ false → {l : CpuidFunction} {s : Option ℕ} {q : Register} → l ≡ leaf_at i → s ≡ subleaf_named i → q ≡ first_to_fail r
       → Differs l s q ≡ row_compared w i (row_with true a) (row_with true b)
   row_fails t f g h = (λ n. Differs (f n) (g n) ((h ∙ ap first_to_fail e) n)) ∙ sym (pick_false _ _ (sym (ap all_of e) ∙ t))
 

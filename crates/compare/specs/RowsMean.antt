@@ -1,8 +1,7 @@
 -- What is said of the rows of A beside those of B: of a place, and of the first that fails.
-use Rattle.std.specs.Prelude.{◌≡◌, true, false, ◌⊎◌, ℕ, ◌<◌}
+use Rattle.std.specs.Prelude.{◌≡◌, true, false, ◌⊎◌, ℕ, ◌<◌, Option}
 use Rattle.x86defs.specs.declared.CpuidFunction.{CpuidFunction}
 use Rattle.masking.specs.Kept.{places, leaf_at}
-use Rattle.table.specs.declared.Subleaf.{Subleaf}
 use Rattle.table.specs.Rows.{Rows}
 use Rattle.finish.specs.Kinds.{Kind, Registers, kinds_at}
 use Rattle.compare.specs.declared.registers.Register.{Register}
@@ -30,14 +29,14 @@ pub record PlaceRises (s : Sides) (i : ℕ) : Type 0 where
   pub others : (s.B i).present ≡ true → ((s.A i).present ≡ true) ⊎ s.MayStand i
 
 -- leaf and subleaf are those of place i; A has a row there, B has none
-pub record AbsentAt (s : Sides) (i : ℕ) (leaf : CpuidFunction) (subleaf : Subleaf) : Type 0 where
+pub record AbsentAt (s : Sides) (i : ℕ) (leaf : CpuidFunction) (subleaf : Option ℕ) : Type 0 where
   pub leaf_at_place : leaf ≡ leaf_at i
   pub subleaf_at_place : subleaf ≡ subleaf_named i
   pub in_a : (s.A i).present ≡ true
   pub absent : (s.B i).present ≡ false
 
 -- both have one; the register fails, and those before it do not
-pub record DiffersAt (s : Sides) (i : ℕ) (leaf : CpuidFunction) (subleaf : Subleaf) (register : Register) : Type 0 where
+pub record DiffersAt (s : Sides) (i : ℕ) (leaf : CpuidFunction) (subleaf : Option ℕ) (register : Register) : Type 0 where
   pub leaf_at_place : leaf ≡ leaf_at i
   pub subleaf_at_place : subleaf ≡ subleaf_named i
   pub in_a : (s.A i).present ≡ true
@@ -46,7 +45,7 @@ pub record DiffersAt (s : Sides) (i : ℕ) (leaf : CpuidFunction) (subleaf : Sub
   pub registers_before : (q : Register) → order q < order register → RegisterRises s i q
 
 -- B has one that A has not, and may not have it
-pub record BeyondAt (s : Sides) (i : ℕ) (leaf : CpuidFunction) (subleaf : Subleaf) : Type 0 where
+pub record BeyondAt (s : Sides) (i : ℕ) (leaf : CpuidFunction) (subleaf : Option ℕ) : Type 0 where
   pub leaf_at_place : leaf ≡ leaf_at i
   pub subleaf_at_place : subleaf ≡ subleaf_named i
   pub not_in_a : (s.A i).present ≡ false

@@ -1,24 +1,12 @@
 -- The answer means what it says, and no other answer does.
-use Rattle.std.specs.Prelude.{◌≡◌, refl, Bool, true, false, ◌&&◌, ℕ, ◌-◌, ◌≤◌, ◌<◌, leb, ltb}
-use Rattle.std.proofs.Common.{sym, ◌∙◌, subst, arith}
-use Rattle.std.proofs.Math.Path.{ap}
+use Rattle.std.specs.Prelude.{◌≡◌, refl, Bool, true, false, ℕ}
+use Rattle.std.proofs.Common.{sym}
 use Rattle.std.proofs.Math.Bool.{not}
-use borrow.Author.Tests.{eqb-true, eq-eqb, leb-true, le-leb, ltb-true, lt-ltb}
-use Rattle.bits.specs.ChoiceLaws.{and_left, and_right, and_both}
-use Rattle.bits.specs.Bits.{has}
-use Rattle.bits.specs.BitsLaws.{within_of_and, and_of_within}
-use Rattle.masking.specs.Place
-use Rattle.table.specs.declared.CpuidResults.{CpuidResults}
+use borrow.Author.Tests.{eqb-true, eq-eqb, leb-true, le-leb}
 use Rattle.finish.specs.Kinds.{Kind, TableAtLeast}
 use Rattle.finish.specs.Kinds.Kind.{feature, feature_but28, area, freed, other}
-use Rattle.rise.specs.Rise.{Further, TableRises}
 use Rattle.rise.specs.DecideProof.{test_rises, rises_test_lem}
-use Rattle.compare.specs.declared.search.Asked.TheVariants.{Tables}
-use Rattle.compare.specs.declared.search.RowsCompared.{RowsCompared}
-use Rattle.compare.specs.declared.search.RowsCompared.TheVariants.{Rises}
-use Rattle.compare.specs.RowsCompared.{table_test, further_test, wanted_by, compared_tables}
-use Rattle.compare.specs.RowsDecideProof.{Tested}
-use Rattle.compare.specs.TablesMean.{tables, TablesAnswerMeans, DecidesTables}
+use Rattle.compare.specs.RowsCompared.{table_test}
 
 -- ---- a register
 

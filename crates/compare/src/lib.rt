@@ -16,7 +16,7 @@ use build::rows_into;
 use masking::{PLACES, place};
 use memory::REGISTERS;
 use rows::finish_rows;
-use table::{Choices, Refusal, Subleaf, Verdict};
+use table::{Choices, Refusal, Verdict};
 use x86defs::CpuidFunction;
 
 // What a comparison gives: B meets the hypothesis of demand 3; A is refused; B's length or counts are not lawful or its reserved bytes not zero;
@@ -26,8 +26,8 @@ pub enum Compared {
     Rises,
     RefusedA(Refusal),
     UnlawfulB(Refusal),
-    NoEntry(CpuidFunction, Subleaf),
-    Differs(CpuidFunction, Subleaf, Register),
+    NoEntry(CpuidFunction, Option<u32>),
+    Differs(CpuidFunction, Option<u32>, Register),
 }
 
 // Whether B meets the hypothesis of demand 3 beside A under the same choices, or the first thing that fails: A's refusal, then B's length, counts
@@ -39,13 +39,13 @@ pub fn compare(a: &[u8], b: &[u8], choices: Choices) -> Compared
     let mut registers: [u32; REGISTERS] = [0; REGISTERS];
     let mut origins: [u64; PLACES] = [0; PLACES];
     let front = rows_into(a, choices, &mut registers, &mut origins);
-    if let Verdict::Refused(refusal) = front {
+    if let Err(refusal) = front {
         return Compared::RefusedA(refusal);
     }
     // A's entries, before its table takes their place: of the table only the places that have a row from an entry are asked
     let entries = registers;
     let verdict = finish_rows(&mut registers, &mut origins, choices.edition);
-    if let Verdict::Refused(refusal) = verdict {
+    if let Err(refusal) = verdict {
         return Compared::RefusedA(refusal);
     }
     origins[place::VENDOR_AND_MAX_FUNCTION] = 0;
@@ -53,7 +53,7 @@ pub fn compare(a: &[u8], b: &[u8], choices: Choices) -> Compared
     registers = [0; REGISTERS];
     let mut origins_b: [u64; PLACES] = [0; PLACES];
     let lawful = rows_into(b, choices, &mut registers, &mut origins_b);
-    if let Verdict::Refused(refusal) = lawful {
+    if let Err(refusal) = lawful {
         return Compared::UnlawfulB(refusal);
     }
     entries_named(compare_rows(Asked::Entries, &entries, &origins, &registers, &origins_b))

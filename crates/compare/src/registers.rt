@@ -1,6 +1,6 @@
 // The registers of two rows: whether each register of B's row may replace A's, by the masks of the place, and the first that may not.
 ghost use Rattle.std.specs.Prelude.{◌≡◌};
-ghost use Rattle.compare.specs.Registers.{first_to_fail};
+ghost use Rattle.compare.specs.Registers.{first_to_fail, order};
 ghost use Rattle.compare.specs.ByMasks.{passes, passes_by};
 
 use x86defs::CpuidResult;
@@ -11,6 +11,20 @@ pub enum Register {
     Ebx,
     Ecx,
     Edx,
+}
+
+// EAX to EDX as 0 to 3.
+impl From<Register> for u32 {
+    ghost from_gives = { λ register result. result ≡ order register };
+
+    fn from(register: Register) -> Self {
+        match register {
+            Register::Eax => 0,
+            Register::Ebx => 1,
+            Register::Ecx => 2,
+            Register::Edx => 3,
+        }
+    }
 }
 
 // Which registers of B's row may replace A's.
@@ -51,14 +65,14 @@ pub fn registers_rise(
 pub fn first_register(rise: RegistersRise) -> Register
     ensures { result ≡ first_to_fail rise }
 {
-    if rise.eax {
-        if rise.ebx {
-            if rise.ecx {
-                return Register::Edx;
-            }
-            return Register::Ecx;
-        }
+    if !rise.eax {
+        return Register::Eax;
+    }
+    if !rise.ebx {
         return Register::Ebx;
     }
-    Register::Eax
+    if !rise.ecx {
+        return Register::Ecx;
+    }
+    Register::Edx
 }

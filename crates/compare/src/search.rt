@@ -13,7 +13,7 @@ use crate::registers::{Register, RegistersRise, first_register, registers_rise};
 use masking::{PLACES, place};
 use memory::{REGISTERS, is_there, row_at};
 use register_masks::{RowMasks, masks_at};
-use table::{Subleaf, subleaf_of};
+use table::subleaf_of;
 use x86defs::{CpuidFunction, CpuidResult};
 
 // What is asked of two rows: what the hypothesis asks of entries, or what the conclusion has of tables with these combined masks of A and B.
@@ -28,9 +28,9 @@ pub enum Asked {
 #[derive(Clone, Copy)]
 pub enum RowsCompared {
     Rises,
-    NoRow(CpuidFunction, Subleaf),
-    Differs(CpuidFunction, Subleaf, Register),
-    Beyond(CpuidFunction, Subleaf),
+    NoRow(CpuidFunction, Option<u32>),
+    Differs(CpuidFunction, Option<u32>, Register),
+    Beyond(CpuidFunction, Option<u32>),
     MaskLacks,
 }
 
@@ -46,18 +46,13 @@ pub fn compare_rows(
     ensures { result ≡ rows_compared (wanted_by asked) (rows_in a_registers.now a_origins.now)
         (rows_in b_registers.now b_origins.now) }
 {
-    let mut place: usize = 0;
-    while place < PLACES {
-        let a_origin = a_origins[place];
-        let b_origin = b_origins[place];
-        let in_a = is_there(a_origin);
-        let in_b = is_there(b_origin);
+    for place in 0..PLACES {
+        let in_a = is_there(a_origins[place]);
+        let in_b = is_there(b_origins[place]);
         let a = row_at(a_registers, place);
         let b = row_at(b_registers, place);
         let found = compare_row(asked, place, in_a, a, in_b, b);
-        if is_yes(found) {
-            place += 1;
-        } else {
+        if !is_yes(found) {
             return found;
         }
     }
@@ -105,13 +100,7 @@ fn compare_row(
 fn is_yes(found: RowsCompared) -> bool
     ensures { result ≡ rises found }
 {
-    match found {
-        RowsCompared::Rises => true,
-        RowsCompared::NoRow(_, _) => false,
-        RowsCompared::Differs(_, _, _) => false,
-        RowsCompared::Beyond(_, _) => false,
-        RowsCompared::MaskLacks => false,
-    }
+    matches!(found, RowsCompared::Rises)
 }
 
 // Whether B's combined mask has all bits of A's: nothing is asked of entries.
@@ -205,7 +194,7 @@ fn not_features(features: CpuidResult) -> CpuidResult
 }
 
 // The subleaf of a place, where its row carries one.
-fn subleaf_named(place: usize) -> Subleaf
+fn subleaf_named(place: usize) -> Option<u32>
     requires { place < places }
     ensures { result ≡ subleaf_named place }
 {

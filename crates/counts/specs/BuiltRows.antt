@@ -1,22 +1,18 @@
 -- The row count of a built table from its verdict and its combined mask alone, so that nobody counts rows: document 01, "one for each combined bit
 -- from 2 up".
-use Rattle.std.specs.Prelude.{◌≡◌, refl, List, ℕ, ◌+◌, ◌/◌, ◌^◌, ◌<◌}
-use Rattle.std.proofs.Common.{sym, ap, ap₂, ◌∙◌}
+use Rattle.std.specs.Prelude.{◌≡◌, List, ℕ, ◌+◌, ◌/◌, ◌^◌, ◌<◌, Err, Ok}
+use Rattle.std.proofs.Common.{sym, ap, ◌∙◌}
 use Rattle.std.specs.Int.Count.{ones}
-use Rattle.table.specs.declared.Choices.{Choices}
-use Rattle.table.specs.declared.Verdict.{Verdict}
-use Rattle.table.specs.declared.Verdict.TheVariants.{Accepted, Refused}
 use Rattle.memory.specs.Held.{mask_held, mask_held_lem}
 use Rattle.build.specs.declared.Built.{Built}
-use Rattle.build.specs.Build.{answer, InMemory}
-use Rattle.build.proofs.BuildLaws.{answer_refused}
+use Rattle.build.specs.Build.{InMemory}
 use Rattle.image.specs.ComponentsLaws.{ones_sum}
 use Rattle.counts.specs.Counts.{components_in}
-use Rattle.counts.specs.CountsProof.{rows_counted}
+use Rattle.table.specs.Verdict.{Verdict}
 
 unfoldable pub built_rows : Verdict → ℕ → ℕ
-built_rows Accepted x = 26 + components_in x
-built_rows (Refused r) x = 0
+built_rows (Ok _) x = 26 + components_in x
+built_rows (Err r) x = 0
 
 -- the combined mask is read from the memory that building filled
 pub mask_in : {b : Built} {v : Verdict} {w o : List ℕ} → InMemory b v w o → mask_held w ≡ b.table.max_extended_state

@@ -1,12 +1,10 @@
 -- Document 01: "An accepted table has 17 rows without subleaf, 9 with, and one for each combined bit from 2 up: 26 to 32"; the image's
 -- "length 582 + 25 for each combined bit from 2 up"; "a single page is never accepted".
-use Rattle.std.specs.Prelude.{◌≡◌, List, ℕ, ◌+◌, ◌*◌, ◌≤◌, ◌<◌, length, get_or}
+use Rattle.std.specs.Prelude.{◌≡◌, List, ℕ, ◌+◌, ◌*◌, ◌≤◌, length, Ok}
 use Rattle.bits.specs.Lists.{sum_to, one}
 use Rattle.bits.specs.Bits.{has, Within}
 use Rattle.pages.specs.Layout.{page_size}
-use Rattle.masking.specs.Kept.{places, leaf_at, subleaf_at}
 use Rattle.table.specs.declared.Choices.{Choices}
-use Rattle.table.specs.declared.Verdict.TheVariants.{Accepted}
 use Rattle.build.specs.Build.{answer}
 use Rattle.image.specs.Image.{image}
 
@@ -22,7 +20,7 @@ pub record Counted (chosen : Choices) (s : List ℕ) : Type 0 where
   pub mask : Within (answer chosen s).table.max_extended_state 0x18E7
 
 abbrev pub RowsCounted : Type 0
-RowsCounted = (chosen : Choices) (s : List ℕ) → (answer chosen s).verdict ≡ Accepted → Counted chosen s
+RowsCounted = (chosen : Choices) (s : List ℕ) → (answer chosen s).verdict ≡ Ok tt → Counted chosen s
 
 abbrev pub SinglePageRefused : Type 0
-SinglePageRefused = (chosen : Choices) (s : List ℕ) → length s ≡ page_size → (answer chosen s).verdict ≡ Accepted → ⊥
+SinglePageRefused = (chosen : Choices) (s : List ℕ) → length s ≡ page_size → (answer chosen s).verdict ≡ Ok tt → ⊥

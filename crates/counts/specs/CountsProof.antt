@@ -1,16 +1,13 @@
 -- The proofs of the statements of Counts.
-use Rattle.std.specs.Prelude.{◌≡◌, List, ℕ, ◌≤◌, ◌<◌, length}
+use Rattle.std.specs.Prelude.{◌≡◌, ℕ, ◌<◌}
 use Rattle.std.proofs.Common.{arith}
 use Rattle.masking.specs.Kept.{places}
-use Rattle.table.specs.declared.Choices.{Choices}
-use Rattle.table.specs.declared.Verdict.TheVariants.{Accepted}
 use Rattle.table.specs.Rows.{Rows}
 use Rattle.checks.specs.ExtendedState.{combined_mask}
 use Rattle.finish.specs.Finish.{finished}
 use Rattle.table.specs.Table.{table_of}
 use Rattle.build.specs.Build.{rows_for, answer}
-use Rattle.image.specs.Image.{image}
-use Rattle.counts.specs.Counts.{Counted, RowsCounted, SinglePageRefused}
+use Rattle.counts.specs.Counts.{RowsCounted, SinglePageRefused}
 use Rattle.image.specs.RowsPresent.{stands, row_stands}
 use Rattle.image.specs.AcceptedLaws.{rows_pass, accepted_table}
 use Rattle.counts.specs.Sizes.{rows_count, bytes_count}

@@ -15,7 +15,7 @@ pub fn built_rows(verdict: Verdict, mask: u64) -> usize
     ensures { result ≡ built_rows verdict mask }
 {
     match verdict {
-        Verdict::Accepted => ALWAYS + u64::count_ones(mask >> 2) as usize,
-        Verdict::Refused(_r) => 0,
+        Ok(()) => ALWAYS + u64::count_ones(mask >> 2) as usize,
+        Err(_r) => 0,
     }
 }

@@ -1,12 +1,9 @@
 -- Examples: page sets with entries added, byte by byte. Two stay accepted, one stays refused by 8; the last turns from refused by 3 to accepted.
-use Rattle.std.specs.Prelude.{◌≡◌, List, ◌++◌, ℕ, take, drop}
+use Rattle.std.specs.Prelude.{◌≡◌, List, ◌++◌, ℕ, take, drop, Err, Some}
 use Rattle.std.proofs.Common.{ap, lit≤}
 use Rattle.x86defs.specs.Functions.{ExtendedStateEnumeration}
 use Rattle.topology.specs.declared.TopologyError.TheVariants.{ThreadsPerUnit}
-use Rattle.table.specs.declared.Subleaf.TheVariants.{Some}
 use Rattle.table.specs.declared.Refusal.TheVariants.{MissingRequiredResult, TopologyInconsistent}
-use Rattle.table.specs.declared.Verdict.{Verdict}
-use Rattle.table.specs.declared.Verdict.TheVariants.{Refused}
 use Rattle.build.specs.Build.{answer}
 use Rattle.rise.specs.Added.{Added}
 use Rattle.rise.proofs.AddedProof.{added_same}
@@ -17,6 +14,7 @@ use Rattle.page_sets.specs.Pass.{passed_lawful}
 use Rattle.page_sets.specs.PassLaws.{lawful_passed, verdict_passed}
 use Rattle.page_sets.specs.Evaluation.{first_edition, passed}
 use Rattle.examples.specs.Computed.{server_a_accepted}
+use Rattle.table.specs.Verdict.{Verdict}
 
 -- server A's page 0, and its D.0 and D.1, then D.2
 abbrev page0 : List ℕ
@@ -77,7 +75,7 @@ two_threads = threaded ++ page 3 (states ++ avx)
 unfoldable pub one_thread_later : List ℕ
 one_thread_later = threaded ++ page 4 (states ++ avx ++ entry 0x8000001E 0 0 0 0 0)
 
-pub threads_refused : (answer first_edition two_threads).verdict ≡ Refused (TopologyInconsistent ThreadsPerUnit)
+pub threads_refused : (answer first_edition two_threads).verdict ≡ Err (TopologyInconsistent ThreadsPerUnit)
 unfolding passed two_threads
 threads_refused = verdict_passed first_edition two_threads
 
@@ -97,7 +95,7 @@ threads_same_lem = added_same first_edition two_threads one_thread_later threads
 unfoldable pub without_d2 : List ℕ
 without_d2 = page0 ++ page 2 states
 
-pub without_refused : (answer first_edition without_d2).verdict ≡ Refused (MissingRequiredResult ExtendedStateEnumeration (Some 2))
+pub without_refused : (answer first_edition without_d2).verdict ≡ Err (MissingRequiredResult ExtendedStateEnumeration (Some 2))
 unfolding passed without_d2
 without_refused = verdict_passed first_edition without_d2
 

@@ -1,7 +1,6 @@
 -- Examples: two servers that differ in bit 28 of 1.EDX alone, by computation.
-use Rattle.std.specs.Prelude.{◌≡◌, List, ◌++◌, ℕ}
+use Rattle.std.specs.Prelude.{◌≡◌, List, ◌++◌, ℕ, Err}
 use Rattle.table.specs.declared.Refusal.TheVariants.{PoolDiffers}
-use Rattle.table.specs.declared.Verdict.TheVariants.{Refused}
 use Rattle.page_sets.specs.Evaluation.{first_edition}
 use Rattle.page_sets.specs.PageSets.{entry, page, required_entries, server_a}
 use Rattle.pool.specs.Pool.{pooled}
@@ -15,6 +14,6 @@ server_m =
     ++ page 3 (entry 0xD 0 0x7 0x340 0x340 0 ++ entry 0xD 1 0x7 0x340 0 0 ++ entry 0xD 2 0x100 0x240 0 0)
 
 -- 19: bit 28 of 1.EDX, which is no feature
-pub a_and_m : (pooled first_edition (server_a ++ server_m) two).verdict ≡ Refused PoolDiffers
+pub a_and_m : (pooled first_edition (server_a ++ server_m) two).verdict ≡ Err PoolDiffers
 unfolding pool_opened server_a server_m
 a_and_m = pool_passed first_edition (server_a ++ server_m) two

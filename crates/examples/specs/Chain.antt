@@ -1,12 +1,11 @@
 -- Examples. Three servers, each with more state than the one before, and the move from the first to the last that composing gives. And a server with
 -- s = 8: the list of topologies (P14) ends at 7.
-use Rattle.std.specs.Prelude.{◌≡◌, refl, List, [], ◌∷◌, ℕ}
+use Rattle.std.specs.Prelude.{◌≡◌, refl, List, [], ◌∷◌, ℕ, Ok}
 use Rattle.std.proofs.Common.{ap}
 use Rattle.x86defs.specs.declared.CpuidResult.{CpuidResult}
 use Rattle.x86defs.specs.Functions.{cpuid_result}
 use Rattle.masking.specs.Place
 use Rattle.table.specs.declared.CpuidResults.{CpuidResults}
-use Rattle.table.specs.declared.Verdict.TheVariants.{Accepted}
 use Rattle.table.specs.Table.{row_in}
 use Rattle.build.specs.Build.{rows_for, answer}
 use Rattle.checks.specs.TopologyInputs.{inputs_of}
@@ -22,7 +21,7 @@ use Rattle.examples.specs.Computed.{server_b_rises}
 
 -- ---- servers W, A and B
 
-pub w_accepted : (answer first_edition server_w).verdict ≡ Accepted
+pub w_accepted : (answer first_edition server_w).verdict ≡ Ok tt
 unfolding passed server_w
 w_accepted = verdict_passed first_edition server_w
 
@@ -43,7 +42,7 @@ w_to_b = rises_compose first_edition server_w server_a server_b w_to_a server_b_
 unfoldable pub eight : List ℕ
 eight = with_first (entry 0x80000008 0 0x3030 0x111ED21F 0x8000 0x10007)
 
-pub eight_accepted : (answer first_edition eight).verdict ≡ Accepted
+pub eight_accepted : (answer first_edition eight).verdict ≡ Ok tt
 unfolding passed eight
 eight_accepted = verdict_passed first_edition eight
 

@@ -1,9 +1,8 @@
 -- Examples: a pair of page sets for each answer of a comparison.
-use Rattle.std.specs.Prelude.{◌≡◌, refl, []}
+use Rattle.std.specs.Prelude.{◌≡◌, refl, [], None, Some}
 use Rattle.std.proofs.Common.{sym}
 use Rattle.x86defs.specs.Functions.{VersionAndFeatures, ExtendedStateEnumeration}
 use Rattle.pages.specs.Layout.{bad_length}
-use Rattle.table.specs.declared.Subleaf.TheVariants.{None, Some}
 use Rattle.table.specs.declared.Refusal.TheVariants.{PagesLength, SaveAreaOverflow}
 use Rattle.collect.proofs.LawfulLaws.{lawful_bad_length}
 use Rattle.compare.specs.declared.registers.Register.TheVariants.{Ecx}

@@ -1,9 +1,8 @@
 -- Examples: the guest of a processor with x87 and SSE state on servers W, A and B, and the rise from W's table to B's that composing gives.
-use Rattle.std.specs.Prelude.{◌≡◌, true, List, ℕ}
+use Rattle.std.specs.Prelude.{◌≡◌, true, List, ℕ, Ok}
 use Rattle.std.proofs.Common.{ap, ◌∙◌}
 use Rattle.bits.specs.ChoiceLaws.{never_both}
 use Rattle.table.specs.declared.CpuidResults.{CpuidResults}
-use Rattle.table.specs.declared.Verdict.TheVariants.{Accepted}
 use Rattle.table.specs.Table.{rows_of_table}
 use Rattle.build.specs.Build.{answer}
 use Rattle.page_sets.specs.PageSets.{server_a, server_b, server_w}
@@ -31,9 +30,9 @@ risen : {a : CpuidResults} {g : GuestAnswer} → compacts_in a ≡ true → Gues
 risen c (given e t) = t
 risen c (too_large d e) = absurd (never_both c d)
 
-module _ (s : List ℕ) (accepted : (answer first_edition s).verdict ≡ Accepted) (state : state_verdict (rows_of_table (built first_edition s)) 0x3 0 ≡ Accepted)
+module _ (s : List ℕ) (accepted : (answer first_edition s).verdict ≡ Ok tt) (state : state_verdict (rows_of_table (built first_edition s)) 0x3 0 ≡ Ok tt)
     (compacts : compacts_in (guest_table (built first_edition s) view_w) ≡ true) where
-  is_given : (guest_pages first_edition s view_w).verdict ≡ Accepted
+  is_given : (guest_pages first_edition s view_w).verdict ≡ Ok tt
   is_given = seen_verdict first_edition s view_w accepted state
 
   compacts_seen : compacts_in (guest_pages first_edition s view_w).table ≡ true
@@ -41,7 +40,7 @@ module _ (s : List ℕ) (accepted : (answer first_edition s).verdict ≡ Accepte
       ap compacts_in (given_guest first_edition s view_w accepted is_given ∙ ap (λ (t : CpuidResults). guest_table t view_w) (answer_table first_edition s accepted))
       ∙ compacts
 
-state_w : state_verdict (rows_of_table (built first_edition server_w)) 0x3 0 ≡ Accepted
+state_w : state_verdict (rows_of_table (built first_edition server_w)) 0x3 0 ≡ Ok tt
 unfolding viewed server_w
 state_w = state_passed first_edition server_w 0x3 0
 
@@ -49,7 +48,7 @@ compacts_w : compacts_in (guest_table (built first_edition server_w) view_w) ≡
 unfolding viewed server_w
 compacts_w = ap (λ (t : CpuidResults). compacts_in (guest_table t view_w)) (built_passed first_edition server_w)
 
-state_a_lem : state_verdict (rows_of_table (built first_edition server_a)) 0x3 0 ≡ Accepted
+state_a_lem : state_verdict (rows_of_table (built first_edition server_a)) 0x3 0 ≡ Ok tt
 unfolding viewed server_a
 state_a_lem = state_passed first_edition server_a 0x3 0
 

@@ -1,11 +1,9 @@
 -- Examples: a whole page set that is accepted, and a pair for each outcome of demand 3, all by computation.
-use Rattle.std.specs.Prelude.{◌≡◌, refl, [], ◌∷◌, length}
+use Rattle.std.specs.Prelude.{◌≡◌, refl, [], ◌∷◌, length, Err, Ok, Some}
 use Rattle.std.proofs.Common.{ap, ap₂}
 use Rattle.x86defs.specs.Functions.{ExtendedStateEnumeration}
 use Rattle.table.specs.declared.CpuidResults.{CpuidResults}
-use Rattle.table.specs.declared.Subleaf.TheVariants.{Some}
 use Rattle.table.specs.declared.Refusal.TheVariants.{MissingRequiredResult, SaveAreaOverflow}
-use Rattle.table.specs.declared.Verdict.TheVariants.{Accepted, Refused}
 use Rattle.build.specs.Build.{answer}
 use Rattle.rise.specs.Rise.{RiseHypothesis}
 use Rattle.page_sets.specs.PageSets.{server_a, server_b, server_without_d12, server_with_large_d6}
@@ -18,7 +16,7 @@ pub server_a_length : length server_a ≡ 8192
 unfolding server_a
 server_a_length = refl
 
-pub server_a_accepted : (answer first_edition server_a).verdict ≡ Accepted
+pub server_a_accepted : (answer first_edition server_a).verdict ≡ Ok tt
 unfolding passed server_a
 server_a_accepted = verdict_passed first_edition server_a
 
@@ -31,7 +29,7 @@ pub server_b_rises : RiseHypothesis first_edition server_a server_b
 unfolding passed passed_compared server_a server_b
 server_b_rises = rises_passed first_edition server_a server_b server_a_accepted (lawful_passed server_b) refl
 
-pub server_b_accepted : (answer first_edition server_b).verdict ≡ Accepted
+pub server_b_accepted : (answer first_edition server_b).verdict ≡ Ok tt
 unfolding passed server_b
 server_b_accepted = verdict_passed first_edition server_b
 
@@ -46,7 +44,7 @@ pub without_rises : RiseHypothesis first_edition server_a server_without_d12
 unfolding passed passed_compared server_a server_without_d12
 without_rises = rises_passed first_edition server_a server_without_d12 server_a_accepted (lawful_passed server_without_d12) refl
 
-pub without_refused : (answer first_edition server_without_d12).verdict ≡ Refused (MissingRequiredResult ExtendedStateEnumeration (Some 12))
+pub without_refused : (answer first_edition server_without_d12).verdict ≡ Err (MissingRequiredResult ExtendedStateEnumeration (Some 12))
 unfolding passed server_without_d12
 without_refused = verdict_passed first_edition server_without_d12
 
@@ -55,6 +53,6 @@ pub large_rises : RiseHypothesis first_edition server_a server_with_large_d6
 unfolding passed passed_compared server_a server_with_large_d6
 large_rises = rises_passed first_edition server_a server_with_large_d6 server_a_accepted (lawful_passed server_with_large_d6) refl
 
-pub large_refused : (answer first_edition server_with_large_d6).verdict ≡ Refused SaveAreaOverflow
+pub large_refused : (answer first_edition server_with_large_d6).verdict ≡ Err SaveAreaOverflow
 unfolding passed server_with_large_d6
 large_refused = verdict_passed first_edition server_with_large_d6

@@ -1,8 +1,7 @@
 -- Examples: the exception of the guest's rise. Server A's D.1.EAX has neither bit 1 nor bit 3, and its guests read 0 in D.1.EBX; B has
 -- bit 1, and refuses the same view by 14, or gives a size.
-use Rattle.std.specs.Prelude.{◌≡◌, refl, false, List, [], ◌∷◌, ◌++◌, ℕ}
+use Rattle.std.specs.Prelude.{◌≡◌, refl, false, List, [], ◌∷◌, ◌++◌, ℕ, Err, Ok}
 use Rattle.table.specs.declared.Refusal.TheVariants.{CompactSizeTooLarge}
-use Rattle.table.specs.declared.Verdict.TheVariants.{Accepted, Refused}
 use Rattle.table.specs.Table.{rows_of_table}
 use Rattle.build.specs.Build.{answer}
 use Rattle.rise.specs.Rise.{RiseHypothesis}
@@ -30,11 +29,11 @@ plain = server 0x1
 unfoldable pub compacting : List ℕ
 compacting = server 0x3
 
-pub plain_accepted : (answer first_edition plain).verdict ≡ Accepted
+pub plain_accepted : (answer first_edition plain).verdict ≡ Ok tt
 unfolding viewed plain
 plain_accepted = verdict_passed first_edition plain
 
-pub compacting_accepted : (answer first_edition compacting).verdict ≡ Accepted
+pub compacting_accepted : (answer first_edition compacting).verdict ≡ Ok tt
 unfolding viewed compacting
 compacting_accepted = verdict_passed first_edition compacting
 
@@ -43,7 +42,7 @@ unfolding viewed passed_compared plain compacting
 plain_to_compacting = rises_passed first_edition plain compacting plain_accepted (lawful_passed compacting) refl
 
 -- D.0.EBX is FFFFFFFFh, the largest; D.1.EBX is 0 on A, and on B 576 more than 32 bits hold
-plain_state : state_verdict (rows_of_table (built first_edition plain)) 0x7 0 ≡ Accepted
+plain_state : state_verdict (rows_of_table (built first_edition plain)) 0x7 0 ≡ Ok tt
 unfolding viewed plain
 plain_state = state_passed first_edition plain 0x7 0
 
@@ -51,24 +50,24 @@ plain_shown : figures (guest_table (built first_edition plain) view_a) ≡ 0x450
 unfolding viewed plain
 plain_shown = figures_passed first_edition plain view_a
 
-compacting_state : state_verdict (rows_of_table (built first_edition compacting)) 0x7 0 ≡ Refused CompactSizeTooLarge
+compacting_state : state_verdict (rows_of_table (built first_edition compacting)) 0x7 0 ≡ Err CompactSizeTooLarge
 unfolding viewed compacting
 compacting_state = state_passed first_edition compacting 0x7 0
 
-pub plain_given : (guest_pages first_edition plain view_a).verdict ≡ Accepted
+pub plain_given : (guest_pages first_edition plain view_a).verdict ≡ Ok tt
 plain_given = seen_verdict first_edition plain view_a plain_accepted plain_state
 
 pub plain_figures : figures (guest_pages first_edition plain view_a).table ≡ 0x45010000 ∷ 0xBED83203 ∷ 0x12345 ∷ 0x12345 ∷ 0xFFFFFFFF ∷ 0 ∷ []
 plain_figures = seen_figures first_edition plain view_a plain_accepted plain_state plain_shown
 
-pub compacting_refused : (guest_pages first_edition compacting view_a).verdict ≡ Refused CompactSizeTooLarge
+pub compacting_refused : (guest_pages first_edition compacting view_a).verdict ≡ Err CompactSizeTooLarge
 compacting_refused = seen_verdict first_edition compacting view_a compacting_accepted compacting_state
 
 pub plain_outcome : GuestOutcome (guest_pages first_edition plain view_a).table (guest_pages first_edition compacting view_a)
 plain_outcome = guest_rise first_edition plain compacting view_a plain_to_compacting compacting_accepted plain_given
 
 -- without D.2, B's D.1.EBX is a size where A's is 0
-compacting_less_state : state_verdict (rows_of_table (built first_edition compacting)) 0x3 0 ≡ Accepted
+compacting_less_state : state_verdict (rows_of_table (built first_edition compacting)) 0x3 0 ≡ Ok tt
 unfolding viewed compacting
 compacting_less_state = state_passed first_edition compacting 0x3 0
 

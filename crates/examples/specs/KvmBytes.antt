@@ -1,11 +1,9 @@
 -- Lists for and from KVM as bytes: rows of server A's list that have a subleaf, flag 1; and a list of two rows read into any buffer with room.
-use Rattle.std.specs.Prelude.{◌≡◌, refl, List, [], ◌∷◌, ◌++◌, ℕ, ◌≤◌, length, take, drop}
+use Rattle.std.specs.Prelude.{◌≡◌, refl, List, [], ◌∷◌, ◌++◌, ℕ, ◌≤◌, length, take, drop, Ok}
 use Rattle.std.proofs.Common.{ap, arith, le-leb}
 use Rattle.bits.specs.Lists.{tabulate, keep_if}
 use Rattle.table.specs.declared.CpuidResults.{CpuidResults}
-use Rattle.table.specs.declared.Verdict.TheVariants.{Accepted}
 use Rattle.build.specs.Build.{answer}
-use Rattle.buffer.specs.declared.Written.TheVariants.{Bytes}
 use Rattle.buffer.specs.Front.{write_front}
 use Rattle.kvm_list.specs.Words.{bytes_of_words}
 use Rattle.kvm_list.specs.Format.{all_words, list_bytes, row_at, rows_listed}
@@ -37,7 +35,7 @@ row_of_d_2 = ap (λ (t : CpuidResults). take 40 (drop 328 (list_of t))) (table_p
 
 -- ---- the list of two rows of crates/kvm_import/specs/TwoRows.antt
 
-two_lawful : list_verdict two_rows ≡ Accepted
+two_lawful : list_verdict two_rows ≡ Ok tt
 unfolding list_verdict bad_list_length fields_lawful all_lawful rows_fit rows_listed row_at rows_on0 rows_on1 tabulate keep_if
 two_lawful = refl
 
@@ -46,12 +44,12 @@ two_long = refl
 
 -- bytes that fit, at the front
 whole : (bytes buffer : List ℕ) (n : ℕ) → length bytes ≡ n → n ≤ length buffer
-    → write_front bytes buffer ≡ record { answer = Bytes n; buffer = bytes ++ drop n buffer }
+    → write_front bytes buffer ≡ record { answer = Ok n; buffer = bytes ++ drop n buffer }
 unfolding write_front
 whole bytes buffer n e l = let h : length bytes ≤ length buffer = omega arith in rw (le-leb (length bytes) (length buffer) h, e)
 
 -- into any buffer that has room: these two pages, and lent bytes beyond them as they were
 pub two_rows_read : (buffer : List ℕ) → 8192 ≤ length buffer
-    → read_list two_rows buffer ≡ record { answer = Bytes 8192; buffer = (page0 ++ page1) ++ drop 8192 buffer }
+    → read_list two_rows buffer ≡ record { answer = Ok 8192; buffer = (page0 ++ page1) ++ drop 8192 buffer }
 unfolding read_list
 two_rows_read buffer h = rw (two_lawful, two_pages) (whole (page0 ++ page1) buffer 8192 two_long h)

@@ -1,12 +1,11 @@
 -- Lists for and from KVM, by computation: the head and the first row of server A's list, and a list for each answer of reading.
-use Rattle.std.specs.Prelude.{◌≡◌, refl, true, false, ◌&&◌, List, [], ◌∷◌, ℕ, ◌<◌, eqb, length, replicate, take}
+use Rattle.std.specs.Prelude.{◌≡◌, refl, true, false, ◌&&◌, List, [], ◌∷◌, ℕ, ◌<◌, eqb, length, replicate, take, Err, Ok}
 use Rattle.std.proofs.Common.{sym, ap, subst, lit<}
 use Rattle.bits.specs.Lists.{tabulate, keep_if}
 use Rattle.x86defs.specs.Functions.{cpuid_result}
 use Rattle.table.specs.declared.CpuidResults.{CpuidResults}
 use Rattle.table.specs.declared.Refusal.TheVariants.{ListLength, ListRows, ListFields, BufferTooShort}
 use Rattle.build.specs.Build.{answer}
-use Rattle.buffer.specs.declared.Written.TheVariants.{Bytes, Refused}
 use Rattle.buffer.specs.Front.{write_front}
 use Rattle.kvm_list.specs.Words.{bytes_of_words}
 use Rattle.kvm_list.specs.Format.{ListRow, all_words, list_bytes, rows_listed, zero_word}
@@ -31,12 +30,12 @@ abbrev pub listed : List ℕ → List ℕ
 listed words = bytes_of_words words
 
 -- a count of FFFFFFFFh with no row
-pub wrapped_count : (read_list (listed (0xFFFFFFFF ∷ 0 ∷ [])) []).answer ≡ Refused ListLength
+pub wrapped_count : (read_list (listed (0xFFFFFFFF ∷ 0 ∷ [])) []).answer ≡ Err ListLength
 unfolding bytes_of_words read_list list_verdict bad_list_length
 wrapped_count = refl
 
 -- the head's second word is not zero
-pub head_not_zero : (read_list (listed (0 ∷ 1 ∷ [])) []).answer ≡ Refused ListFields
+pub head_not_zero : (read_list (listed (0 ∷ 1 ∷ [])) []).answer ≡ Err ListFields
 unfolding bytes_of_words read_list list_verdict bad_list_length fields_lawful
 head_not_zero = refl
 
@@ -56,14 +55,14 @@ rows65_many : 64 < length (rows_on0 (rows_listed (list_bytes rows65)))
 unfolding rows_on0 keep_if
 rows65_many = subst (λ (rs : List ListRow). 64 < length (rows_on0 rs)) (sym (list_rows_lem rows65 (lit< tt))) (lit< tt)
 
-pub sixty_five : (read_list (list_bytes (replicate 65 (plain_row 5 0 0 (cpuid_result 0 0 0 0)))) []).answer ≡ Refused ListRows
+pub sixty_five : (read_list (list_bytes (replicate 65 (plain_row 5 0 0 (cpuid_result 0 0 0 0)))) []).answer ≡ Err ListRows
 sixty_five = sym (read_11_0 (list_bytes rows65) [] rows65_length rows65_fields rows65_many).0
 
 -- no row: refused where nothing is lent, else two pages without an entry
-pub nothing_lent : (read_list (listed (0 ∷ 0 ∷ [])) []).answer ≡ Refused BufferTooShort
+pub nothing_lent : (read_list (listed (0 ∷ 0 ∷ [])) []).answer ≡ Err BufferTooShort
 unfolding bytes_of_words read_list write_front list_verdict bad_list_length fields_lawful all_lawful rows_fit rows_listed rows_on0 rows_on1 tabulate keep_if pages_of page_words entries_words
 nothing_lent = refl
 
-pub empty_list : (read_list (listed (0 ∷ 0 ∷ [])) (replicate 8192 0xA5)).answer ≡ Bytes 8192
+pub empty_list : (read_list (listed (0 ∷ 0 ∷ [])) (replicate 8192 0xA5)).answer ≡ Ok 8192
 unfolding bytes_of_words read_list write_front list_verdict bad_list_length fields_lawful all_lawful rows_fit rows_listed rows_on0 rows_on1 tabulate keep_if pages_of page_words entries_words
 empty_list = refl

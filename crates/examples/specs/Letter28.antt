@@ -1,12 +1,11 @@
 -- An example of the greatest table by the letter: two servers without bit 28 of 1.EDX, which is no feature, and server A's table, which has it.
 -- Its feature bits and mask lie within both servers', and so it has none beyond the pool's; with bit 28 it would not lie within.
-use Rattle.std.specs.Prelude.{◌≡◌, refl, true, ◌++◌, ℕ, zero, suc, ◌≤◌}
+use Rattle.std.specs.Prelude.{◌≡◌, refl, true, ◌++◌, ℕ, zero, suc, ◌≤◌, Ok}
 use Rattle.std.proofs.Common.{sym, subst₂, arith, lit<}
 use Rattle.bits.specs.Bits.{bit, Within}
 use Rattle.masking.specs.Kept.{kept_leaves, slot}
 use Rattle.masking.specs.Place
 use Rattle.table.specs.declared.CpuidResults.{CpuidResults}
-use Rattle.table.specs.declared.Verdict.TheVariants.{Accepted}
 use Rattle.table.specs.Table.{row_in}
 use Rattle.finish.specs.Kinds.{register_kinds, kinds_at}
 use Rattle.finish.specs.Kinds.Kind.{feature}
@@ -29,11 +28,11 @@ use Rattle.examples.specs.Bit28.{server_m}
 
 -- ---- two servers without bit 28, and A's table
 
-pub m_and_m : (pooled first_edition (server_m ++ server_m) two).verdict ≡ Accepted
+pub m_and_m : (pooled first_edition (server_m ++ server_m) two).verdict ≡ Ok tt
 unfolding pool_opened server_m
 m_and_m = pool_passed first_edition (server_m ++ server_m) two
 
-a_accepted : (answer first_edition server_a).verdict ≡ Accepted
+a_accepted : (answer first_edition server_a).verdict ≡ Ok tt
 unfolding pool_opened server_a
 a_accepted = verdict_passed first_edition server_a
 

@@ -1,13 +1,12 @@
 -- Examples: two servers that one processor's guest cannot tell apart, though their tables differ; the save areas of server B's guest with all of its
 -- state; a guest's life on servers W, A and B and then in edition 2; and one in which carrying loses its three bits.
-use Rattle.std.specs.Prelude.{◌≡◌, true, List, [], ◌∷◌, ℕ, ◌≤◌, length}
+use Rattle.std.specs.Prelude.{◌≡◌, true, List, [], ◌∷◌, ℕ, ◌≤◌, length, Ok}
 use Rattle.std.proofs.Common.{sym, ap, ◌∙◌}
 use Rattle.bits.specs.Lists.{tabulate}
 use Rattle.bits.specs.ListsLaws.{tabulate_at}
 use Rattle.masking.specs.Kept.{places}
 use Rattle.masking.specs.Place
 use Rattle.table.specs.declared.CpuidResults.{CpuidResults}
-use Rattle.table.specs.declared.Verdict.TheVariants.{Accepted}
 use Rattle.table.specs.Rows.{Row}
 use Rattle.table.specs.Table.{row_in, rows_of_table}
 use Rattle.build.specs.Build.{answer}
@@ -50,15 +49,15 @@ use Rattle.examples.specs.Views.{view_a, a_given}
 unfoldable pub server_a_elsewhere : List ℕ
 server_a_elsewhere = with_first (entry 1 0 0xA00F11 0x7F010000 0x36D83203 0x178BFBFF)
 
-elsewhere_accepted : (answer first_edition server_a_elsewhere).verdict ≡ Accepted
+elsewhere_accepted : (answer first_edition server_a_elsewhere).verdict ≡ Ok tt
 unfolding passed server_a_elsewhere
 elsewhere_accepted = verdict_passed first_edition server_a_elsewhere
 
-state_elsewhere : state_verdict (rows_of_table (built first_edition server_a_elsewhere)) 0x7 0 ≡ Accepted
+state_elsewhere : state_verdict (rows_of_table (built first_edition server_a_elsewhere)) 0x7 0 ≡ Ok tt
 unfolding viewed server_a_elsewhere
 state_elsewhere = state_passed first_edition server_a_elsewhere 0x7 0
 
-pub elsewhere_given : (guest_pages first_edition server_a_elsewhere view_a).verdict ≡ Accepted
+pub elsewhere_given : (guest_pages first_edition server_a_elsewhere view_a).verdict ≡ Ok tt
 elsewhere_given = seen_verdict first_edition server_a_elsewhere view_a elsewhere_accepted state_elsewhere
 
 -- 1.EBX and 1.ECX of the two tables
@@ -97,11 +96,11 @@ alike_agree = (views_tell_tables first_edition first_edition server_a server_a_e
 abbrev pub view_b : Processor
 view_b = processor 1 0xE7 0x1800 true
 
-state_b_lem : state_verdict (rows_of_table (built first_edition server_b)) 0xE7 0x1800 ≡ Accepted
+state_b_lem : state_verdict (rows_of_table (built first_edition server_b)) 0xE7 0x1800 ≡ Ok tt
 unfolding viewed server_b
 state_b_lem = state_passed first_edition server_b 0xE7 0x1800
 
-pub b_given : (guest_pages first_edition server_b view_b).verdict ≡ Accepted
+pub b_given : (guest_pages first_edition server_b view_b).verdict ≡ Ok tt
 b_given = seen_verdict first_edition server_b view_b server_b_accepted state_b_lem
 
 compacts_b : compacts_in (guest_table (built first_edition server_b) view_b) ≡ true
@@ -123,19 +122,19 @@ b_compacted =
 abbrev pub view_w : Processor
 view_w = processor 1 0x3 0 true
 
-state_w : state_verdict (rows_of_table (built first_edition server_w)) 0x3 0 ≡ Accepted
+state_w : state_verdict (rows_of_table (built first_edition server_w)) 0x3 0 ≡ Ok tt
 unfolding viewed server_w
 state_w = state_passed first_edition server_w 0x3 0
 
-state_on_b : state_verdict (rows_of_table (built first_edition server_b)) 0x3 0 ≡ Accepted
+state_on_b : state_verdict (rows_of_table (built first_edition server_b)) 0x3 0 ≡ Ok tt
 unfolding viewed server_b
 state_on_b = state_passed first_edition server_b 0x3 0
 
-may_move : (a b : List ℕ) → RiseHypothesis first_edition a b → (answer first_edition b).verdict ≡ Accepted
+may_move : (a b : List ℕ) → RiseHypothesis first_edition a b → (answer first_edition b).verdict ≡ Ok tt
     → compared_tables (answer first_edition a).table (answer first_edition b).table ≡ Rises
 may_move a b r e = (decides _ _).complete ((demand_3 first_edition a b r).table e)
 
-carried_on_b : (carry (answer first_edition server_b).table 1 2 0x3 0).verdict ≡ Accepted
+carried_on_b : (carry (answer first_edition server_b).table 1 2 0x3 0).verdict ≡ Ok tt
 carried_on_b =
     (moves_to_second first_edition server_b 0x3 0 server_b_accepted).verdict
     ∙ ap (λ (t : CpuidResults). state_verdict (rows_of_table t) 0x3 0) (answer_table first_edition server_b server_b_accepted)
@@ -144,7 +143,7 @@ carried_on_b =
 pub long_life : Life (answer first_edition server_w).table (carry (answer first_edition server_b).table 1 2 0x3 0).table
 long_life = moves (may_move server_w server_a w_to_a server_a_accepted) (moves (may_move server_a server_b server_b_rises server_b_accepted) (carries 1 2 0x3 0 carried_on_b starts))
 
-carried_whole : (s : List ℕ) → (answer first_edition s).verdict ≡ Accepted → (x : ℕ) → (carry (answer first_edition s).table 1 2 x 0).verdict ≡ Accepted
+carried_whole : (s : List ℕ) → (answer first_edition s).verdict ≡ Ok tt → (x : ℕ) → (carry (answer first_edition s).table 1 2 x 0).verdict ≡ Ok tt
     → length (carry (answer first_edition s).table 1 2 x 0).table.present ≤ places
 carried_whole s a x e = rw (CarriedLaws.given (answer first_edition s).table 1 2 x 0 e) (built_sound first_edition s a).whole
 
@@ -156,7 +155,7 @@ long_life_shows =
 
 -- ---- a life in which bits are lost: the server without YMM state, whose entries have F16C, XOP and FMA4 (WithoutYmmMoved.antt has the figures)
 
-state_running : state_verdict (rows_of_table (built first_edition without_ymm)) 0x3 0 ≡ Accepted
+state_running : state_verdict (rows_of_table (built first_edition without_ymm)) 0x3 0 ≡ Ok tt
 unfolding viewed without_ymm
 state_running = state_passed first_edition without_ymm 0x3 0
 

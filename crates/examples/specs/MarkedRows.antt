@@ -1,18 +1,16 @@
 -- Document 01, "Rows to prove": the fourteen marked rows as one table; edition 1 is document 01's.
-use Rattle.std.specs.Prelude.{◌≡◌, refl, Bool, false, List, [], ◌∷◌, ℕ, eqb}
+use Rattle.std.specs.Prelude.{◌≡◌, refl, Bool, false, List, [], ◌∷◌, ℕ, eqb, Err, Ok, Result}
 use Rattle.bits.specs.Choice.{pick}
 use Rattle.x86defs.specs.Functions.{cpuid_result}
-use Rattle.topology.specs.declared.Topology.{Topology}
-use Rattle.topology.specs.declared.Topology.TheVariants.{Processors, Inconsistent}
 use Rattle.topology.specs.Topology.{inputs, topology_of, core_level}
 use Rattle.masking.specs.Place
-use Rattle.table.specs.declared.Verdict.{Verdict}
-use Rattle.table.specs.declared.Verdict.TheVariants.{Accepted, Refused}
 use Rattle.table.specs.Refusal.{details, topology_details}
 use Rattle.table.specs.Rows.{Rows, row, vacant}
 use Rattle.checks.specs.Checks.{area_verdict}
 use Rattle.finish.specs.Finish.{finished}
 use Rattle.page_sets.specs.Evaluation.{opened}
+use Rattle.table.specs.Verdict.{Verdict}
+use Rattle.topology.specs.declared.TopologyError.{TopologyError}
 
 -- what a marked row tells
 pub data Shown : Type 0 where
@@ -25,9 +23,9 @@ pub data Shown : Type 0 where
   -- D.1.ECX, and whether D.11 is there
   supervisor : ℕ → Bool → Shown
 
-shown_topology : Topology → Shown
-shown_topology (Processors v) = core (core_level v).eax (core_level v).ebx
-shown_topology (Inconsistent e) = refusal (topology_details e).number
+shown_topology : Result ℕ TopologyError → Shown
+shown_topology (Ok v) = core (core_level v).eax (core_level v).ebx
+shown_topology (Err e) = refusal (topology_details e).number
 
 -- T: s, nc, lps, mt, t
 T : ℕ → ℕ → ℕ → ℕ → ℕ → Shown
@@ -42,8 +40,8 @@ state_rows xfem xsaves xss eax ebx i =
     (pick (eqb i (Place.extended_state 2)) (row (cpuid_result eax ebx 0 0)) (pick (eqb i (Place.extended_state 11)) (row (cpuid_result 16 0 1 0)) vacant)))
 
 shown_area : Verdict → Rows → Shown
-shown_area Accepted m = area (finished 1 m (Place.extended_state 0)).result.ecx
-shown_area (Refused r) m = refusal (details r).number
+shown_area (Ok _) m = area (finished 1 m (Place.extended_state 0)).result.ecx
+shown_area (Err r) m = refusal (details r).number
 
 -- X: XFEM, and D.2's EAX and EBX
 X : ℕ → ℕ → ℕ → Shown

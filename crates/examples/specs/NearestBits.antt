@@ -1,5 +1,5 @@
 -- Examples: a page set for each answer of the nearest bit that matters (document 02, P13), by computation.
-use Rattle.std.specs.Prelude.{◌≡◌, refl, true, false, List, [], ◌∷◌, ◌++◌, ◌≢◌, ℕ, ◌<◌, replicate, drop}
+use Rattle.std.specs.Prelude.{◌≡◌, refl, true, false, List, [], ◌∷◌, ◌++◌, ◌≢◌, ℕ, ◌<◌, replicate, drop, Err, Ok, Some}
 use Rattle.std.proofs.Common.{sym, ap, ◌∙◌, subst, arith, lit<}
 use Rattle.bits.specs.ChoiceLaws.{never_both}
 use Rattle.x86defs.specs.Functions.{function, cpuid_result, ExtendedStateEnumeration}
@@ -9,10 +9,7 @@ use Rattle.pages.specs.Entries.{entries}
 use Rattle.masking.specs.Masks.{apply_mask}
 use Rattle.masking.specs.Kept.{masks_at}
 use Rattle.masking.specs.Place
-use Rattle.table.specs.declared.Subleaf.TheVariants.{Some}
 use Rattle.table.specs.declared.Refusal.TheVariants.{PagesLength, PageCount, MissingRequiredResult, InvlpgbUnavailable, UnknownEdition, ReservedBytes, NothingDecides}
-use Rattle.table.specs.declared.Verdict.{Verdict}
-use Rattle.table.specs.declared.Verdict.TheVariants.{Accepted, Refused}
 use Rattle.table.specs.Edition.{known_edition}
 use Rattle.checks.specs.Checks.{required_verdict}
 use Rattle.collect.specs.Collect.{stored_at, first_among}
@@ -22,7 +19,6 @@ use Rattle.nearest.specs.Flips.{flip, flipped, flips}
 use Rattle.nearest.specs.OneBit.{bit_in, one_bit}
 use Rattle.nearest.specs.SameVerdict.{same_result, same_rows, same_table, same_numbers, same_answer}
 use Rattle.nearest.specs.Changes.{changes}
-use Rattle.nearest.specs.declared.Nearest.TheVariants.{Bit, NoBit}
 use Rattle.nearest.specs.Nearest.{first_that, unless_refused, nearest}
 use Rattle.nearest_exactly.specs.NearestExactly.{MissesRequired}
 use Rattle.nearest_exactly.proofs.TwentyExactly.{twenty_exactly}
@@ -35,27 +31,28 @@ use Rattle.page_sets.specs.Pass.{entry_in, on_pages_in}
 use Rattle.page_sets.specs.PassLaws.{entries_passed, lawful_passed, rows_passed, verdict_passed}
 use Rattle.page_sets.specs.Evaluation.{first_edition, evaluated, passed}
 use Rattle.examples.specs.NearestPassed.{changes_passed, nearest_first}
+use Rattle.table.specs.Verdict.{Verdict}
 
 -- 15, before 1
-pub no_edition : nearest (under_edition 3) [] ≡ NoBit UnknownEdition
+pub no_edition : nearest (under_edition 3) [] ≡ Err UnknownEdition
 unfolding evaluated nearest
 no_edition = refl
 
-pub no_pages : nearest first_edition [] ≡ NoBit PagesLength
+pub no_pages : nearest first_edition [] ≡ Err PagesLength
 unfolding evaluated nearest
 no_pages = refl
 
-pub large_count : nearest first_edition (page 65 []) ≡ NoBit PageCount
+pub large_count : nearest first_edition (page 65 []) ≡ Err PageCount
 unfolding evaluated nearest
 large_count = refl
 
 -- one entry, of zeros but for its leaf and a reserved byte
-pub unclean_entry : nearest first_edition (page 1 (word 0x40000000 ++ replicate 43 0 ++ (1 ∷ []))) ≡ NoBit (ReservedBytes (function 0x40000000))
+pub unclean_entry : nearest first_edition (page 1 (word 0x40000000 ++ replicate 43 0 ++ (1 ∷ []))) ≡ Err (ReservedBytes (function 0x40000000))
 unfolding evaluated nearest
 unclean_entry = refl
 
 -- an accepted set: bit 0 of 1.EAX, its first entry's first bit, is in the table
-server_a_flipped : (answer first_edition (flipped server_a (flip 0 0 0 0))).verdict ≡ Accepted
+server_a_flipped : (answer first_edition (flipped server_a (flip 0 0 0 0))).verdict ≡ Ok tt
 unfolding passed server_a flipped
 server_a_flipped = verdict_passed first_edition (flipped server_a (flip 0 0 0 0))
 
@@ -67,7 +64,7 @@ server_a_entries : entries server_a ≡ entry_in 0 0 (drop entries_at server_a) 
 unfolding passed server_a
 server_a_entries = entries_passed server_a
 
-pub server_a_nearest : nearest first_edition server_a ≡ Bit (flip 0 0 0 0)
+pub server_a_nearest : nearest first_edition server_a ≡ Ok (flip 0 0 0 0)
 unfolding passed server_a
 server_a_nearest =
     nearest_first first_edition server_a (entry_in 0 0 (drop entries_at server_a)) (drop 1 (on_pages_in 0 2 server_a)) server_a_entries (lawful_passed server_a)
@@ -85,22 +82,22 @@ only_leaf5_bytes : are_bytes only_leaf5 ≡ true
 unfolding only_leaf5 are_bytes
 only_leaf5_bytes = refl
 
-pub only_leaf5_nearest : nearest first_edition only_leaf5 ≡ NoBit NothingDecides
+pub only_leaf5_nearest : nearest first_edition only_leaf5 ≡ Err NothingDecides
 only_leaf5_nearest = (twenty_exactly first_edition only_leaf5 (bytes_at only_leaf5 only_leaf5_bytes)).1 only_leaf5_misses
 
 -- server A without the D.2 that its mask needs: building gives 3, for a subleaf that is in neither list, and some bit decides
 unfoldable pub without_d2 : List ℕ
 without_d2 = first_page 0x3ED83203 0x219C07A9 0x3F ++ page 2 (entry 0xD 0 0x7 0x340 0x340 0 ++ entry 0xD 1 0x7 0x340 0 0)
 
-pub without_d2_refused_lem : (answer first_edition without_d2).verdict ≡ Refused (MissingRequiredResult ExtendedStateEnumeration (Some 2))
+pub without_d2_refused_lem : (answer first_edition without_d2).verdict ≡ Err (MissingRequiredResult ExtendedStateEnumeration (Some 2))
 unfolding passed without_d2
 without_d2_refused_lem = verdict_passed first_edition without_d2
 
-without_d2_lawful : lawful_verdict without_d2 ≡ Accepted
+without_d2_lawful : lawful_verdict without_d2 ≡ Ok tt
 unfolding passed without_d2
 without_d2_lawful = lawful_passed without_d2
 
-without_d2_required : required_verdict (rows_for first_edition without_d2) ≡ Accepted
+without_d2_required : required_verdict (rows_for first_edition without_d2) ≡ Ok tt
 unfolding passed without_d2
 without_d2_required = ap required_verdict (rows_passed false without_d2)
 
@@ -108,7 +105,7 @@ without_d2_bytes : are_bytes without_d2 ≡ true
 unfolding without_d2 are_bytes
 without_d2_bytes = refl
 
-pub without_d2_nearest : nearest first_edition without_d2 ≢ NoBit NothingDecides
+pub without_d2_nearest : nearest first_edition without_d2 ≢ Err NothingDecides
 unfolding known_edition nearest edition_verdict
 without_d2_nearest e =
     some_decides first_edition without_d2 (bytes_at without_d2 without_d2_bytes) refl without_d2_lawful without_d2_required
@@ -119,7 +116,7 @@ unfoldable pub no_invlpgb : List ℕ
 no_invlpgb =
     page 23 (entry 0x80000008 0 0x3030 0x111ED217 0 0x10007 ++ required_entries 0x3ED83203 0x219C07A9 0x3F) ++ page 3 (state_entries 0x7 0x7 0)
 
-pub no_invlpgb_refused_lem : (answer first_edition no_invlpgb).verdict ≡ Refused InvlpgbUnavailable
+pub no_invlpgb_refused_lem : (answer first_edition no_invlpgb).verdict ≡ Err InvlpgbUnavailable
 unfolding passed no_invlpgb
 no_invlpgb_refused_lem = verdict_passed first_edition no_invlpgb
 
@@ -136,7 +133,7 @@ no_invlpgb_nearest_lem = refused_by_4 first_edition no_invlpgb (bytes_at no_invl
 unfoldable pub leaf1_twice : List ℕ
 leaf1_twice = page 2 (entry 1 0 0xA00F11 0x10000 0x3ED83203 0x178BFBFF ++ entry 1 0 0xA00F12 0x10000 0x3ED83203 0x178BFBFF)
 
-leaf1_twice_lawful : lawful_verdict leaf1_twice ≡ Accepted
+leaf1_twice_lawful : lawful_verdict leaf1_twice ≡ Ok tt
 unfolding passed leaf1_twice
 leaf1_twice_lawful = lawful_passed leaf1_twice
 

@@ -1,6 +1,6 @@
 -- Examples of P13's order: a page set whose first entry, on page 0, decides nothing, and whose nearest bit stands on page 1; and one whose nearest
 -- bit stands in the second entry of its page.
-use Rattle.std.specs.Prelude.{◌≡◌, refl, Bool, true, false, ℕ, zero, suc, ◌/◌, ◌%◌, ◌<◌, drop}
+use Rattle.std.specs.Prelude.{◌≡◌, refl, Bool, true, false, ℕ, zero, suc, ◌/◌, ◌%◌, ◌<◌, drop, Ok}
 use Rattle.std.proofs.Math.Path.{ap₂}
 use Rattle.std.proofs.Common.{◌∙◌, arith, lit<}
 use mathlib.Core.List.{List, [], ◌∷◌, ◌++◌}
@@ -11,8 +11,6 @@ use Rattle.pages.specs.Layout.{Entry, entry_at, entries_at, page_size, entry_siz
 use Rattle.pages.specs.Entries.{entries}
 use Rattle.masking.specs.Kept.{places}
 use Rattle.table.specs.declared.Choices.{Choices}
-use Rattle.table.specs.declared.Verdict.{Verdict}
-use Rattle.table.specs.declared.Verdict.TheVariants.{Accepted}
 use Rattle.table.specs.Edition.{known_edition}
 use Rattle.collect.specs.Collect.{stored_at}
 use Rattle.build.specs.Build.{edition_verdict, front_verdict, answer}
@@ -21,7 +19,6 @@ use Rattle.nearest.specs.declared.flips.Flip.{Flip}
 use Rattle.nearest.specs.Flips.{flip, flipped, flips_of, flips_in, flips}
 use Rattle.nearest.specs.SameVerdict.{same_result, same_rows, same_table, same_numbers, same_answer}
 use Rattle.nearest.specs.Changes.{changes}
-use Rattle.nearest.specs.declared.Nearest.TheVariants.{Bit}
 use Rattle.nearest.specs.Nearest.{first_that, unless_refused, nearest}
 use Rattle.nearest_exactly.specs.OutsideLaws.{Among, not_first}
 use Rattle.page_sets.specs.PageSets.{entry, page, required_entries, state_entries, with_first}
@@ -29,6 +26,7 @@ use Rattle.page_sets.specs.Pass.{entry_in, on_pages_in}
 use Rattle.page_sets.specs.PassLaws.{entries_passed, lawful_passed, verdict_passed}
 use Rattle.page_sets.specs.Evaluation.{first_edition, evaluated, passed}
 use Rattle.examples.specs.NearestPassed.{changes_passed}
+use Rattle.table.specs.Verdict.{Verdict}
 
 -- ---- an entry whose 128 flips change nothing is passed over
 
@@ -39,9 +37,9 @@ skipped test zero g after h = refl
 skipped test (suc n) g after h = pick_false _ _ (h 0 (omega arith)) ∙ skipped test n (λ i. g (suc i)) after (λ i l. h (suc i) (omega arith))
 
 module _ (c : Choices) (s : List ℕ) where
-  nearest_second : (d e : Entry) (es : List Entry) → entries s ≡ d ∷ e ∷ es → front_verdict c s ≡ Accepted
+  nearest_second : (d e : Entry) (es : List Entry) → entries s ≡ d ∷ e ∷ es → front_verdict c s ≡ Ok tt
       → ((r k : ℕ) → r < 4 → k < 32 → changes c s (flip d.page d.position r k) ≡ false)
-      → changes c s (flip e.page e.position 0 0) ≡ true → nearest c s ≡ Bit (flip e.page e.position 0 0)
+      → changes c s (flip e.page e.position 0 0) ≡ true → nearest c s ≡ Ok (flip e.page e.position 0 0)
   unfolding nearest flips flips_in flips_of
   nearest_second d e es p v n h =
       ap₂ (λ (x : Verdict) (l : List Entry). unless_refused x (first_that (changes c s) (flips_in l))) v p
@@ -49,11 +47,11 @@ module _ (c : Choices) (s : List ℕ) where
       (λ i l. n (i / 32) (i % 32) (omega arith) (omega arith))
       ∙ at_once
     where
-      at_once : first_that (changes c s) (flips_in (e ∷ es)) ≡ Bit (flip e.page e.position 0 0)
+      at_once : first_that (changes c s) (flips_in (e ∷ es)) ≡ Ok (flip e.page e.position 0 0)
       at_once = unfold first_that tabulate in pick_true _ _ h
 
 -- a first entry that goes to no place decides nothing
-first_nothing : (s : List ℕ) → are_bytes s ≡ true → 0 < pages_in s → lawful_verdict s ≡ Accepted → (after : List Entry)
+first_nothing : (s : List ℕ) → are_bytes s ≡ true → 0 < pages_in s → lawful_verdict s ≡ Ok tt → (after : List Entry)
     → entries s ≡ entry_at s 0 0 ∷ after → stored_at (entry_at s 0 0) ≡ places
     → (r k : ℕ) → r < 4 → k < 32 → changes first_edition s (flip 0 0 r k) ≡ false
 first_nothing s bytes one lawful after order stored r k l u = not_first first_edition s 0 0 r k among (λ i f. omega (arith, f.place, f.here, stored))
@@ -73,11 +71,11 @@ first_nothing s bytes one lawful after order stored r k l u = not_first first_ed
 unfoldable pub page_set : List ℕ
 page_set = page 1 (entry 0x40000000 0 1 2 3 4) ++ page 25 (required_entries 0x3ED83203 0x219C07A9 0x3F ++ state_entries 0x7 0x7 0)
 
-pub page_accepted : (answer first_edition page_set).verdict ≡ Accepted
+pub page_accepted : (answer first_edition page_set).verdict ≡ Ok tt
 unfolding passed page_set
 page_accepted = verdict_passed first_edition page_set
 
-page_flipped : (answer first_edition (flipped page_set (flip 1 0 0 0))).verdict ≡ Accepted
+page_flipped : (answer first_edition (flipped page_set (flip 1 0 0 0))).verdict ≡ Ok tt
 unfolding passed page_set flipped
 page_flipped = verdict_passed first_edition (flipped page_set (flip 1 0 0 0))
 
@@ -85,7 +83,7 @@ page_changes : changes first_edition page_set (flip 1 0 0 0) ≡ true
 unfolding passed page_set flipped same_answer same_numbers same_table same_rows same_result
 page_changes = changes_passed first_edition page_set (flip 1 0 0 0) page_flipped (verdict_passed first_edition page_set)
 
-page_lawful : lawful_verdict page_set ≡ Accepted
+page_lawful : lawful_verdict page_set ≡ Ok tt
 unfolding passed page_set
 page_lawful = lawful_passed page_set
 
@@ -117,7 +115,7 @@ page_nothing r k l u =
     first_nothing page_set page_bytes_lem (omega (arith, page_two)) page_lawful (page_entry ∷ page_after) page_entries page_stored r k l u
 
 -- 1.EAX bit 0, in the first entry of page 1
-pub page_decides : nearest first_edition page_set ≡ Bit (flip 1 0 0 0)
+pub page_decides : nearest first_edition page_set ≡ Ok (flip 1 0 0 0)
 unfolding entry_at edition_verdict known_edition
 page_decides = nearest_second first_edition page_set (entry_at page_set 0 0) page_entry page_after page_entries page_lawful page_nothing page_changes
 
@@ -126,11 +124,11 @@ page_decides = nearest_second first_edition page_set (entry_at page_set 0 0) pag
 unfoldable pub entry_set : List ℕ
 entry_set = with_first (entry 0xD 0 0x7 0x340 0x340 0)
 
-pub entry_accepted : (answer first_edition entry_set).verdict ≡ Accepted
+pub entry_accepted : (answer first_edition entry_set).verdict ≡ Ok tt
 unfolding passed entry_set
 entry_accepted = verdict_passed first_edition entry_set
 
-entry_flipped : (answer first_edition (flipped entry_set (flip 0 1 0 0))).verdict ≡ Accepted
+entry_flipped : (answer first_edition (flipped entry_set (flip 0 1 0 0))).verdict ≡ Ok tt
 unfolding passed entry_set flipped
 entry_flipped = verdict_passed first_edition (flipped entry_set (flip 0 1 0 0))
 
@@ -138,7 +136,7 @@ entry_changes : changes first_edition entry_set (flip 0 1 0 0) ≡ true
 unfolding passed entry_set flipped same_answer same_numbers same_table same_rows same_result
 entry_changes = changes_passed first_edition entry_set (flip 0 1 0 0) entry_flipped (verdict_passed first_edition entry_set)
 
-entry_lawful : lawful_verdict entry_set ≡ Accepted
+entry_lawful : lawful_verdict entry_set ≡ Ok tt
 unfolding passed entry_set
 entry_lawful = lawful_passed entry_set
 
@@ -170,6 +168,6 @@ entry_nothing r k l u =
     first_nothing entry_set entry_bytes_lem (omega (arith, entry_two)) entry_lawful (entry_entry ∷ entry_after) entry_entries entry_stored r k l u
 
 -- 1.EAX bit 0, in the second entry of page 0
-pub entry_decides : nearest first_edition entry_set ≡ Bit (flip 0 1 0 0)
+pub entry_decides : nearest first_edition entry_set ≡ Ok (flip 0 1 0 0)
 unfolding entry_at edition_verdict known_edition
 entry_decides = nearest_second first_edition entry_set (entry_at entry_set 0 0) entry_entry entry_after entry_entries entry_lawful entry_nothing entry_changes

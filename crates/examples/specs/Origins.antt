@@ -1,13 +1,12 @@
 -- Where rows came from, of a page set written byte by byte: page 0 begins with a D.0 that does not count there and ends with a second leaf 1; page 1
 -- has the subleaves of leaf Dh.
-use Rattle.std.specs.Prelude.{◌≡◌, refl, true, false, List, ◌++◌, ℕ, ◌<◌}
+use Rattle.std.specs.Prelude.{◌≡◌, refl, true, false, List, ◌++◌, ℕ, ◌<◌, Ok}
 use Rattle.std.proofs.Common.{ap, ◌∙◌, lit<}
 use Rattle.bits.specs.Lists.{keep_if}
 use Rattle.bits.specs.ChoiceLaws.{pick_true, pick_false}
 use Rattle.pages.specs.Entries.{counted}
 use Rattle.masking.specs.Kept.{places}
 use Rattle.masking.specs.Place
-use Rattle.table.specs.declared.Verdict.TheVariants.{Accepted}
 use Rattle.table.specs.Rows.{Row}
 use Rattle.memory.specs.Origin.{Origin, is_made_here, origin_of}
 use Rattle.memory.specs.Origin.Origin.{made_here, entry}
@@ -28,7 +27,7 @@ repeated =
     page 24 (entry_bytes 0xD 0 0xFF 0 0 0 ++ required_entries 0x3ED83203 0x219C07A9 0x3F ++ entry_bytes 1 0 0xFFFFFFFF 0xFFFFFFFF 0 0)
     ++ page 3 (state_entries 0x7 0x7 0)
 
-pub repeated_accepted : (answer first_edition repeated).verdict ≡ Accepted
+pub repeated_accepted : (answer first_edition repeated).verdict ≡ Ok tt
 unfolding passed repeated
 repeated_accepted = verdict_passed first_edition repeated
 

@@ -1,10 +1,9 @@
 -- Example pools that meet the hypotheses of the pool theorems.
-use Rattle.std.specs.Prelude.{◌≡◌, refl, Bool, true, false, List, [], ◌∷◌, ◌++◌, ℕ, zero, suc, ◌-◌, ◌≤◌, eqb}
+use Rattle.std.specs.Prelude.{◌≡◌, refl, Bool, true, false, List, [], ◌∷◌, ◌++◌, ℕ, zero, suc, ◌-◌, ◌≤◌, eqb, Ok}
 use Rattle.std.proofs.Common.{sym, ap, ◌∙◌, subst, subst₂, arith, lit≤, eqb-true}
 use Rattle.std.proofs.lemmas.Bool.{eqb-false}
 use Rattle.bits.specs.Choice.{pick}
 use Rattle.table.specs.declared.Refusal.TheVariants.{PagesLength}
-use Rattle.table.specs.declared.Verdict.TheVariants.{Accepted}
 use Rattle.build.specs.Build.{answer}
 use Rattle.page_sets.specs.Pass.{passed_table}
 use Rattle.page_sets.specs.PassLaws.{verdict_passed, table_passed}
@@ -125,7 +124,7 @@ of_another_order =
 
 -- ---- W's table has none beyond A's nor its own, and so none beyond the pool's of both
 
-w_accepted : (answer first_edition server_w).verdict ≡ Accepted
+w_accepted : (answer first_edition server_w).verdict ≡ Ok tt
 unfolding pool_opened server_w
 w_accepted = verdict_passed first_edition server_w
 

@@ -4,7 +4,6 @@ use Rattle.std.proofs.Math.Path.{ap, ap₂, fun_ext}
 use Rattle.bits.specs.Search.{Failing, lowest}
 use Rattle.table.specs.declared.Choices.{Choices}
 use Rattle.table.specs.declared.Refusal.TheVariants.{PoolDiffers}
-use Rattle.table.specs.declared.Verdict.{Verdict}
 use Rattle.table.specs.Refusal.{and_then}
 use Rattle.table.specs.Rows.{Rows}
 use Rattle.checks.specs.Checks.{refuse_unless}
@@ -16,6 +15,7 @@ use Rattle.register_masks.specs.Alike.{all_have, alike_to, all_alike}
 use Rattle.pool.specs.Sets.{set_start, set_at, last_of, lawful_sets, sets_verdict}
 use Rattle.pool.specs.Servers.{is_accepted, first_refused, refused_by, servers_verdict, number_of, server_verdict, server_rows}
 use Rattle.pool.specs.Pool.{alike_verdict, pool_verdict, server_for, server_named, pooled}
+use Rattle.table.specs.Verdict.{Verdict}
 
 -- the first server that is refused, by the servers' verdicts
 abbrev first_of : List ℕ → (ℕ → Verdict) → Failing

@@ -1,10 +1,9 @@
 -- The comparison of two page sets, and with it the hypothesis of demand 3, of entries that are read in one pass.
-use Rattle.std.specs.Prelude.{◌≡◌, List, ℕ}
+use Rattle.std.specs.Prelude.{◌≡◌, List, ℕ, Ok}
 use Rattle.std.proofs.Math.Path.{ap, ap₂}
 use Rattle.std.proofs.Common.{◌∙◌, subst}
 use Rattle.table.specs.declared.Choices.{Choices}
 use Rattle.table.specs.declared.CpuidResults.{CpuidResults}
-use Rattle.table.specs.declared.Verdict.TheVariants.{Accepted}
 use Rattle.table.specs.Rows.{Rows}
 use Rattle.build.specs.Build.{rows_for, answer}
 use Rattle.collect.specs.Lawful.{lawful_verdict}
@@ -25,7 +24,7 @@ unfolding compared_rows rows_compared
 passed_compared c a b = compared_rows (has_row (passed_table c a)) (passed_for c a) (passed_for c b)
 
 -- where A is accepted and B lawful
-module _ (c : Choices) (a b : List ℕ) (accepted : (answer c a).verdict ≡ Accepted) (lawful : lawful_verdict b ≡ Accepted) where
+module _ (c : Choices) (a b : List ℕ) (accepted : (answer c a).verdict ≡ Ok tt) (lawful : lawful_verdict b ≡ Ok tt) where
   pub compared_passed : compared c a b ≡ passed_compared c a b
   unfolding passed_compared
   compared_passed =

@@ -1,12 +1,10 @@
 -- What a guest of an accepted page set sees, from its first entries: the verdict and the figures without building anew.
-use Rattle.std.specs.Prelude.{◌≡◌, Bool, List, [], ◌∷◌, ℕ}
+use Rattle.std.specs.Prelude.{◌≡◌, Bool, List, [], ◌∷◌, ℕ, Ok}
 use Rattle.std.proofs.Common.{ap, ◌∙◌}
 use Rattle.bits.specs.Bits.{clear}
 use Rattle.masking.specs.Place
 use Rattle.table.specs.declared.Choices.{Choices}
 use Rattle.table.specs.declared.CpuidResults.{CpuidResults}
-use Rattle.table.specs.declared.Verdict.{Verdict}
-use Rattle.table.specs.declared.Verdict.TheVariants.{Accepted}
 use Rattle.table.specs.Rows.{Rows}
 use Rattle.table.specs.Table.{table_of, row_in, rows_of_table}
 use Rattle.checks.specs.ExtendedState.{combined_mask}
@@ -22,6 +20,7 @@ use Rattle.guest.specs.declared.Processor.{Processor}
 use Rattle.guest.specs.Guest.{number_seen, osxsave_seen, guest_table}
 use Rattle.guest.specs.GuestPages.{guest_pages}
 use Rattle.guest.proofs.GuestPagesLaws.{guest_verdict, given_guest}
+use Rattle.table.specs.Verdict.{Verdict}
 
 -- with every definition open
 unfoldable pub viewed : Choices → List ℕ → Verdict
@@ -58,12 +57,12 @@ module _ (chosen : Choices) (s : List ℕ) where
   pub figures_passed : (v : Processor) → figures (guest_table (built chosen s) v) ≡ figures (guest_table (passed_table chosen s) v)
   figures_passed v = ap (λ (t : CpuidResults). figures (guest_table t v)) built_passed
 
-module _ (chosen : Choices) (s : List ℕ) (v : Processor) (accepted : (answer chosen s).verdict ≡ Accepted) where
+module _ (chosen : Choices) (s : List ℕ) (v : Processor) (accepted : (answer chosen s).verdict ≡ Ok tt) where
   pub seen_verdict : {w : Verdict} → state_verdict (rows_of_table (built chosen s)) v.xcr0 v.xss ≡ w → (guest_pages chosen s v).verdict ≡ w
   seen_verdict e =
       guest_verdict chosen s v accepted ∙ ap (λ (t : CpuidResults). state_verdict (rows_of_table t) v.xcr0 v.xss) (answer_table chosen s accepted) ∙ e
 
-  pub seen_figures : {l : List ℕ} → state_verdict (rows_of_table (built chosen s)) v.xcr0 v.xss ≡ Accepted → figures (guest_table (built chosen s) v) ≡ l
+  pub seen_figures : {l : List ℕ} → state_verdict (rows_of_table (built chosen s)) v.xcr0 v.xss ≡ Ok tt → figures (guest_table (built chosen s) v) ≡ l
       → figures (guest_pages chosen s v).table ≡ l
   seen_figures e f =
       ap figures (given_guest chosen s v accepted (seen_verdict e) ∙ ap (λ (t : CpuidResults). guest_table t v) (answer_table chosen s accepted)) ∙ f

@@ -1,15 +1,13 @@
 -- Examples: whole page sets with five given inputs, by computation. Three processors with two threads a unit and 128 are listed; nc = 255 with
 -- s = 0, whose lps would be 256, is not.
-use Rattle.std.specs.Prelude.{◌≡◌, refl, false, List, [], ◌∷◌, ◌++◌, ℕ, ◌+◌, ◌*◌, ◌^◌, ◌<◌}
+use Rattle.std.specs.Prelude.{◌≡◌, refl, false, List, [], ◌∷◌, ◌++◌, ℕ, ◌+◌, ◌*◌, ◌^◌, ◌<◌, Err, Ok}
 use Rattle.std.proofs.Common.{sym, ap, ap₂, ◌∙◌, lit<}
 use Rattle.std.proofs.lemmas.Bool.{false≢true}
 use Rattle.x86defs.specs.declared.CpuidResult.{CpuidResult}
 use Rattle.x86defs.specs.Functions.{cpuid_result}
-use Rattle.topology.specs.declared.Topology.TheVariants.{Processors}
 use Rattle.topology.specs.declared.TopologyError.TheVariants.{ProcessorCount}
 use Rattle.topology.specs.Topology.{Inputs, inputs, topology_of, threads_in, processors, least_power, shift_of, thread_level, core_level}
 use Rattle.table.specs.declared.Refusal.TheVariants.{TopologyInconsistent}
-use Rattle.table.specs.declared.Verdict.TheVariants.{Accepted, Refused}
 use Rattle.table.specs.Rows.{Row}
 use Rattle.checks.specs.TopologyInputs.{inputs_of}
 use Rattle.build.specs.Build.{answer}
@@ -44,10 +42,10 @@ levels_of s = Chain.levels_of (answer first_edition s).table
 
 -- an accepted set with s up to 7: its inputs are listed, and its B.0 and B.1 are those of its inputs
 module _ (s : List ℕ) (i : Inputs) (e : inputs_for first_edition s ≡ i) where
-  listed : i.s < 8 → (answer first_edition s).verdict ≡ Accepted → In i accepted_inputs
+  listed : i.s < 8 → (answer first_edition s).verdict ≡ Ok tt → In i accepted_inputs
   listed h a = rw e at (((builds_listed first_edition s).accepted (rw e h)).0 a).1
 
-  levels : {v : ℕ} → In i accepted_inputs → (answer first_edition s).verdict ≡ Accepted → topology_of i ≡ Processors v
+  levels : {v : ℕ} → In i accepted_inputs → (answer first_edition s).verdict ≡ Ok tt → topology_of i ≡ Ok v
       → levels_of s ≡ thread_level i.t ∷ core_level v ∷ []
   levels p a o =
       let l = (builds_listed first_edition s).levels a (rw e p) in
@@ -68,7 +66,7 @@ pub three_inputs : inputs_for first_edition three_processors ≡ three
 unfolding passed three_processors
 three_inputs = inputs_passed three_processors
 
-pub three_accepted : (answer first_edition three_processors).verdict ≡ Accepted
+pub three_accepted : (answer first_edition three_processors).verdict ≡ Ok tt
 unfolding passed three_processors
 three_accepted = verdict_passed first_edition three_processors
 
@@ -91,7 +89,7 @@ pub largest_inputs : inputs_for first_edition largest_server ≡ largest
 unfolding passed largest_server
 largest_inputs = inputs_passed largest_server
 
-pub largest_accepted : (answer first_edition largest_server).verdict ≡ Accepted
+pub largest_accepted : (answer first_edition largest_server).verdict ≡ Ok tt
 unfolding passed largest_server
 largest_accepted = verdict_passed first_edition largest_server
 
@@ -114,7 +112,7 @@ pub wrapped_inputs : inputs_for first_edition wrapped_server ≡ wrapped
 unfolding passed wrapped_server
 wrapped_inputs = inputs_passed wrapped_server
 
-pub wrapped_refused : (answer first_edition wrapped_server).verdict ≡ Refused (TopologyInconsistent (ProcessorCount 0))
+pub wrapped_refused : (answer first_edition wrapped_server).verdict ≡ Err (TopologyInconsistent (ProcessorCount 0))
 unfolding passed wrapped_server
 wrapped_refused = verdict_passed first_edition wrapped_server
 

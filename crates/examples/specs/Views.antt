@@ -1,12 +1,11 @@
 -- Examples: a view for each answer, and a pair of servers whose guests' tables rise, all by computation.
-use Rattle.std.specs.Prelude.{◌≡◌, true, false, [], ◌∷◌}
+use Rattle.std.specs.Prelude.{◌≡◌, true, false, [], ◌∷◌, Err, Ok}
 use Rattle.std.proofs.Common.{ap, ◌∙◌}
 use Rattle.x86defs.specs.declared.CpuidResult.{CpuidResult}
 use Rattle.x86defs.specs.Functions.{cpuid_result}
 use Rattle.masking.specs.Place
 use Rattle.table.specs.declared.CpuidResults.{CpuidResults}
 use Rattle.table.specs.declared.Refusal.TheVariants.{SaveAreaOverflow, StateBeyondTable}
-use Rattle.table.specs.declared.Verdict.TheVariants.{Accepted, Refused}
 use Rattle.table.specs.Table.{row_in, rows_of_table}
 use Rattle.rise.specs.RiseProof.{answer_table}
 use Rattle.page_sets.specs.PageSets.{server_a, server_b, server_with_large_d6}
@@ -26,7 +25,7 @@ use Rattle.examples.specs.SeenExamples.{viewed, processor, built, figures, built
 abbrev pub view_a : Processor
 view_a = processor 0x12345 0x7 0 true
 
-state_a : state_verdict (rows_of_table (built first_edition server_a)) 0x7 0 ≡ Accepted
+state_a : state_verdict (rows_of_table (built first_edition server_a)) 0x7 0 ≡ Ok tt
 unfolding viewed server_a
 state_a = state_passed first_edition server_a 0x7 0
 
@@ -34,7 +33,7 @@ figures_a : figures (guest_table (built first_edition server_a) view_a) ≡ 0x45
 unfolding viewed server_a
 figures_a = figures_passed first_edition server_a view_a
 
-pub a_given : (guest_pages first_edition server_a view_a).verdict ≡ Accepted
+pub a_given : (guest_pages first_edition server_a view_a).verdict ≡ Ok tt
 a_given = seen_verdict first_edition server_a view_a server_a_accepted state_a
 
 pub a_figures : figures (guest_pages first_edition server_a view_a).table ≡ 0x45010000 ∷ 0xBED83203 ∷ 0x12345 ∷ 0x12345 ∷ 832 ∷ 832 ∷ []
@@ -61,25 +60,25 @@ beyond : state_verdict (rows_of_table (built first_edition server_a)) 0x6 0
     ∷ state_verdict (rows_of_table (built first_edition server_a)) 0xE7 0
     ∷ state_verdict (rows_of_table (built first_edition server_a)) 0x7 0x800
     ∷ []
-    ≡ Refused StateBeyondTable ∷ Refused StateBeyondTable ∷ Refused StateBeyondTable ∷ []
+    ≡ Err StateBeyondTable ∷ Err StateBeyondTable ∷ Err StateBeyondTable ∷ []
 unfolding viewed server_a
 beyond =
     ap (λ (t : CpuidResults). state_verdict (rows_of_table t) 0x6 0 ∷ state_verdict (rows_of_table t) 0xE7 0 ∷ state_verdict (rows_of_table t) 0x7 0x800 ∷ [])
     (built_passed first_edition server_a)
 
-beyond_high : state_verdict (rows_of_table (built first_edition server_a)) 0x100000007 0 ≡ Refused StateBeyondTable
+beyond_high : state_verdict (rows_of_table (built first_edition server_a)) 0x100000007 0 ≡ Err StateBeyondTable
 unfolding viewed server_a
 beyond_high = state_passed first_edition server_a 0x100000007 0
 
-pub a_beyond : (guest_pages first_edition server_a (processor 0 0x100000007 0 true)).verdict ≡ Refused StateBeyondTable
+pub a_beyond : (guest_pages first_edition server_a (processor 0 0x100000007 0 true)).verdict ≡ Err StateBeyondTable
 a_beyond = seen_verdict first_edition server_a (processor 0 0x100000007 0 true) server_a_accepted beyond_high
 
 -- bit 1 is not asked: XCR0 1 is given
-without_sse : state_verdict (rows_of_table (built first_edition server_a)) 0x1 0 ≡ Accepted
+without_sse : state_verdict (rows_of_table (built first_edition server_a)) 0x1 0 ≡ Ok tt
 unfolding viewed server_a
 without_sse = state_passed first_edition server_a 0x1 0
 
-pub a_without_sse : (guest_pages first_edition server_a (processor 0 0x1 0 false)).verdict ≡ Accepted
+pub a_without_sse : (guest_pages first_edition server_a (processor 0 0x1 0 false)).verdict ≡ Ok tt
 a_without_sse = seen_verdict first_edition server_a (processor 0 0x1 0 false) server_a_accepted without_sse
 
 -- ---- building's refusals come first
@@ -92,7 +91,7 @@ unbuilt = building_first first_edition server_with_large_d6 (processor 0 0 0 tru
 pub a_to_b : GuestOutcome (guest_pages first_edition server_a view_a).table (guest_pages first_edition server_b view_a)
 a_to_b = guest_rise first_edition server_a server_b view_a server_b_rises server_b_accepted a_given
 
-state_b : state_verdict (rows_of_table (built first_edition server_b)) 0xE7 0x1800 ≡ Accepted
+state_b : state_verdict (rows_of_table (built first_edition server_b)) 0xE7 0x1800 ≡ Ok tt
 unfolding viewed server_b
 state_b = state_passed first_edition server_b 0xE7 0x1800
 

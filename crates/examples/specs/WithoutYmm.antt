@@ -1,12 +1,11 @@
 -- Examples: a server without YMM state (XFEM 3) whose entries have F16C, XOP and FMA4, under both editions, by computation.
-use Rattle.std.specs.Prelude.{◌≡◌, refl, List, [], ◌∷◌, ◌++◌, ℕ}
+use Rattle.std.specs.Prelude.{◌≡◌, refl, List, [], ◌∷◌, ◌++◌, ℕ, Err, Ok}
 use Rattle.std.proofs.Common.{ap, subst₂, arith, lit<}
 use Rattle.bits.specs.Bits.{bit, Within}
 use Rattle.masking.specs.Place
 use Rattle.table.specs.declared.Choices.{Choices}
 use Rattle.table.specs.declared.CpuidResults.{CpuidResults}
 use Rattle.table.specs.declared.Refusal.TheVariants.{UnknownEdition}
-use Rattle.table.specs.declared.Verdict.TheVariants.{Accepted, Refused}
 use Rattle.table.specs.Edition.{known_edition}
 use Rattle.table.specs.Table.{row_in}
 use Rattle.build.specs.Build.{edition_verdict, under_edition, verdict_of, answer}
@@ -26,11 +25,11 @@ without_ymm =
     page 23 (entry 0x80000001 0 0xA00F11 0x40000000 0x410BF3 0x2FD3FBFF ++ required_entries 0x3ED83203 0x219C07A9 0x3F)
     ++ page 2 (entry 0xD 0 0x3 0x340 0x340 0 ++ entry 0xD 1 0x7 0x340 0 0)
 
-pub first_accepted : (answer first_edition without_ymm).verdict ≡ Accepted
+pub first_accepted : (answer first_edition without_ymm).verdict ≡ Ok tt
 unfolding passed without_ymm
 first_accepted = verdict_passed first_edition without_ymm
 
-pub second_accepted : (answer second without_ymm).verdict ≡ Accepted
+pub second_accepted : (answer second without_ymm).verdict ≡ Ok tt
 unfolding passed without_ymm
 second_accepted = verdict_passed second without_ymm
 
@@ -65,6 +64,6 @@ not_from_first t =
     f16c_gone (u.registers Place.version_and_features (lit< tt) refl).ecx
 
 -- there is no edition 3, also of no pages at all
-pub unknown_refused : (answer (under_edition 3) []).verdict ≡ Refused UnknownEdition
+pub unknown_refused : (answer (under_edition 3) []).verdict ≡ Err UnknownEdition
 unfolding answer verdict_of edition_verdict known_edition
 unknown_refused = refl

@@ -20,6 +20,6 @@ pub fn fingerprint(registers: &[u32; REGISTERS], origins: &[u64; PLACES], digest
 {
     let mut bytes = [0u8; ROOM];
     let n = image_length(origins);
-    write_table(registers, origins, &mut bytes);
+    let _ = write_table(registers, origins, &mut bytes);
     sha256(&bytes[..n], digest);
 }

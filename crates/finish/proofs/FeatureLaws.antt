@@ -1,15 +1,12 @@
 -- Joins by and go through every rule on feature registers: what a rule makes of the and of two registers, under the and of what is
 -- enabled, is the and of what it makes of each. "At least" follows, by one argument for all registers.
-use Rattle.std.specs.Prelude.{◌≡◌, Bool, true, false, ◌&&◌, ℕ, ◌-◌, ◌^◌}
+use Rattle.std.specs.Prelude.{◌≡◌, ℕ}
 use Rattle.std.proofs.Math.Path.{refl, ap}
-use Rattle.std.proofs.Common.{sym, ap₂, ◌∙◌}
+use Rattle.std.proofs.Common.{◌∙◌}
 use Rattle.std.specs.Int.Bits.{bit_and, bit_or}
-use Rattle.bits.specs.ChoiceLaws.{and_implied, and_swap}
-use Rattle.bits.specs.Bits.{has, mask_of, clear, clear_unless, Within}
-use Rattle.bits.specs.BitsLaws.{or_and, and_of_within, within_of_and, within_refl, within_eq, within_and, within_or, clear_unless_and}
-use Rattle.bits.proofs.BitsLaws.{has_and}
-use Rattle.table.specs.Edition.{joined_from, bits_between}
-use Rattle.finish.specs.Finish.{Enabled, YmmClears, edition1, ymm_clears, has_ymm, has_avx512, has_cet, version_ecx, features_ebx, features_ecx, features_edx, extended_version_ecx, extended_version_edx, address_sizes_ebx, hypervisor_present, ibrs_and_stibp, btc_no}
+use Rattle.bits.specs.Bits.{clear_unless}
+use Rattle.bits.specs.BitsLaws.{or_and}
+use Rattle.finish.specs.Finish.{Enabled, YmmClears, has_ymm, version_ecx, features_ebx, features_ecx, extended_version_ecx, hypervisor_present}
 use Rattle.finish.specs.FeatureLaws.{avx512_splits, both_enable, cet_splits, clear_and, tsc_aux_splits, ymm_splits}
 
 -- ---- each register

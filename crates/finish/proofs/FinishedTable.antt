@@ -1,17 +1,15 @@
 -- The finished rows as a list of stores: subleaves dropped, then ten rows at their places. Equal to the definition's rows place by place,
 -- since every required row is there.
-use Rattle.std.specs.Prelude.{◌≡◌, refl, Bool, true, false, List, ℕ, ◌<◌, set}
+use Rattle.std.specs.Prelude.{◌≡◌, refl, Bool, true, false, List, ℕ, ◌<◌, set, Ok}
 use Rattle.std.proofs.Common.{sym, ap₂, ◌∙◌}
 use Rattle.std.proofs.Math.Path.{ap}
 use Rattle.std.specs.Int.Bits.{bit_or}
 use Rattle.bits.specs.Choice.{pick}
-use Rattle.bits.specs.Lists.{tabulate, one}
+use Rattle.bits.specs.Lists.{tabulate}
 use Rattle.bits.specs.ListsLaws.{tabulate_ext}
 use Rattle.x86defs.specs.declared.CpuidResult.{CpuidResult}
-use Rattle.topology.specs.Topology.{thread_level, core_level}
 use Rattle.masking.specs.Kept.{places}
 use Rattle.masking.specs.Place
-use Rattle.table.specs.declared.Verdict.TheVariants.{Accepted}
 use Rattle.table.specs.Rows.{Row, Rows}
 use Rattle.checks.specs.ExtendedState.{xfem, xss, combined_mask}
 use Rattle.checks.specs.TopologyInputs.{inputs_of}
@@ -70,7 +68,7 @@ stored_results c p r = refl
 
 -- ---- of rows that passed the check of required leaves
 
-module _ (n : ℕ) (m : Rows) (h : required_verdict m ≡ Accepted) where
+module _ (n : ℕ) (m : Rows) (h : required_verdict m ≡ Ok tt) where
   abbrev p : ℕ → Bool
   p i = (m i).present
 

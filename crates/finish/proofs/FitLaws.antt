@@ -1,16 +1,11 @@
 -- Finished registers fit 32 bits where the masked ones do.
-use Rattle.std.specs.Prelude.{Bool, true, false, ℕ, ◌^◌, ◌<◌, eqb}
+use Rattle.std.specs.Prelude.{Bool, true, false, ℕ}
 use Rattle.std.proofs.Common.{lit<}
 use Rattle.bits.specs.Choice.{pick}
-use Rattle.bits.specs.Bits.{mask_of}
-use Rattle.bits.specs.WidthLaws.{or_fits, clear_fits}
 use Rattle.x86defs.specs.declared.CpuidResult.{CpuidResult}
-use Rattle.x86defs.specs.Functions.{AmdMaximum, ExtendedAmdMaximum}
 use Rattle.table.specs.Rows.{Rows, row, vacant}
 use Rattle.table.specs.Fits.{Fits}
-use Rattle.finish.specs.Finish.{Made, Needed, Rule, Settings, Enabled, rule_at, settings, make_row, change_row, finish, remains, finished, version_ecx, features_ebx, features_ecx, features_edx, extended_version_ecx, extended_version_edx, address_sizes_ebx, unless_no_xss, hypervisor_present, btc_no}
-use Rattle.finish.specs.Finish.Made.{vendor_and_max_function, extended_max_function}
-use Rattle.finish.specs.Finish.Needed.{version_and_features, extended_features, thread_level_row, core_level_row, extended_state0, extended_state1, extended_version_and_features, extended_address_space_sizes, untouched}
+use Rattle.finish.specs.Finish.{Rule, Settings, rule_at, settings, finish, remains, finished}
 use Rattle.finish.specs.Finish.Rule.{made, needed, component}
 use Rattle.finish.specs.FitLaws.{SettingsFit, change_fits, make_fits}
 

@@ -1,26 +1,16 @@
 -- The meet of two row sets, for the pool of servers: feature registers by and, all else from the first. Then what is enabled, the
 -- combined mask and every feature register of the finished rows are the and of the two sets'.
-use Rattle.std.specs.Prelude.{◌≡◌, refl, Bool, true, false, ◌&&◌, ℕ, ◌≤◌, ◌<◌, min, max, eqb}
-use Rattle.std.proofs.Common.{sym, ap, ap₂, ◌∙◌, arith, eqb-true}
-use Rattle.std.specs.Int.Bits.{bit_and, bit_or, and_zero_l, and_zero_r}
-use Rattle.std.proofs.lemmas.Bool.{eqb-false}
-use Rattle.bits.specs.Choice.{pick}
-use Rattle.bits.specs.ChoiceLaws.{and_swap}
-use Rattle.bits.specs.Bits.{bit, has, Within}
-use Rattle.bits.specs.BitsLaws.{bit_and_lem, bit_or_lem, bits_ext, zero_bit}
-use Rattle.bits.proofs.BitsLaws.{has_and}
+use Rattle.std.specs.Prelude.{◌≡◌, refl, ℕ, ◌<◌}
+use Rattle.std.proofs.Common.{sym, ap, ap₂, ◌∙◌}
+use Rattle.std.specs.Int.Bits.{bit_and}
 use Rattle.x86defs.specs.declared.CpuidResult.{CpuidResult}
-use Rattle.x86defs.specs.Functions.{cpuid_result}
-use Rattle.masking.specs.Kept.{places, kept_leaves, slot}
-use Rattle.masking.specs.Place
-use Rattle.table.specs.Rows.{Row, Rows}
-use Rattle.checks.specs.ExtendedState.{xfem, xss, combined_mask}
-use Rattle.finish.specs.Finish.{Made, Needed, Rule, Enabled, Settings, rule_at, enabled_by, finish, unless_no_xss}
+use Rattle.masking.specs.Kept.{places}
+use Rattle.table.specs.Rows.{Rows}
+use Rattle.finish.specs.Finish.{Rule, Enabled, Settings, rule_at, finish}
 use Rattle.finish.specs.Finish.Needed.{version_and_features, extended_features, thread_level_row, core_level_row, extended_state0, extended_state1, extended_version_and_features, extended_address_space_sizes, untouched}
 use Rattle.finish.specs.Finish.Rule.{made, needed, component}
-use Rattle.finish.specs.Kinds.{Kind, Kinds, register_kinds, kinds_at}
-use Rattle.finish.specs.Kinds.Kind.{feature, feature_but28, area, freed, other}
-use Rattle.finish.specs.RuleKinds.{kept, kinds_of, kinds_at_lem}
+use Rattle.finish.specs.Kinds.{Kinds, kinds_at}
+use Rattle.finish.specs.RuleKinds.{kinds_of, kinds_at_lem}
 use Rattle.finish.specs.FeatureLaws.{both_enable, features_edx_and, extended_version_edx_and, address_sizes_ebx_and}
 use Rattle.finish.proofs.FeatureLaws.{version_ecx_and, features_ebx_and, features_ecx_and, extended_version_ecx_and}
 use Rattle.finish.specs.MeetLaws.{EndsAsXss, FeaturesMeet, kept_meet, meet_results, meet_rows}

@@ -1,15 +1,12 @@
 -- Which rows remain in a table, place by place, from which entries were there.
-use Rattle.std.specs.Prelude.{◌≡◌, refl, Bool, true, false, ◌&&◌, ℕ, ◌≤◌, ◌<◌}
+use Rattle.std.specs.Prelude.{◌≡◌, Bool, true, false, ◌&&◌, ℕ, ◌≤◌, ◌<◌}
 use Rattle.std.proofs.Common.{sym, ap, ◌∙◌, subst}
-use Rattle.bits.specs.Choice.{pick}
 use Rattle.bits.specs.ChoiceLaws.{never_both, and_right, pick_true, pick_false}
-use Rattle.bits.specs.Lists.{tabulate}
 use Rattle.bits.specs.ListsLaws.{tabulate_at}
 use Rattle.bits.specs.Bits.{has}
-use Rattle.x86defs.specs.declared.CpuidResult.{CpuidResult}
 use Rattle.masking.specs.Kept.{places}
 use Rattle.masking.specs.Place
-use Rattle.table.specs.Rows.{Row, Rows, row, vacant}
+use Rattle.table.specs.Rows.{Rows}
 use Rattle.checks.specs.ExtendedState.{combined_mask}
 use Rattle.finish.specs.Finish.{Rule, Settings, rule_at, enabled_by, settings, finish, remains, finished}
 use Rattle.finish.specs.Kinds.{from_entry}

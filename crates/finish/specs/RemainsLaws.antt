@@ -1,20 +1,14 @@
 -- Which rows remain in a table, place by place, from which entries were there.
-use Rattle.std.specs.Prelude.{◌≡◌, refl, Bool, true, false, ◌&&◌, ℕ, ◌≤◌, ◌<◌}
-use Rattle.std.proofs.Common.{sym, ap, ◌∙◌, subst}
+use Rattle.std.specs.Prelude.{◌≡◌, refl, Bool, true, false, ℕ}
 use Rattle.bits.specs.Choice.{pick}
-use Rattle.bits.specs.ChoiceLaws.{never_both, and_right, pick_true, pick_false}
+use Rattle.bits.specs.ChoiceLaws.{never_both}
 use Rattle.bits.specs.Lists.{tabulate}
-use Rattle.bits.specs.ListsLaws.{tabulate_at}
-use Rattle.bits.specs.Bits.{has}
 use Rattle.x86defs.specs.declared.CpuidResult.{CpuidResult}
 use Rattle.masking.specs.Kept.{places}
-use Rattle.masking.specs.Place
-use Rattle.table.specs.Rows.{Row, Rows, row, vacant}
-use Rattle.checks.specs.ExtendedState.{combined_mask}
-use Rattle.finish.specs.Finish.{Rule, Settings, rule_at, enabled_by, settings, finish, remains, finished}
+use Rattle.table.specs.Rows.{Rows, row, vacant}
+use Rattle.finish.specs.Finish.{Settings, rule_at, settings, remains, finished}
 use Rattle.finish.specs.Kinds.{from_entry}
-use Rattle.finish.specs.PlaceLaws.{always, component_rule, Sort, sort}
-use Rattle.finish.specs.PlaceLaws.Sort.{made, required, subleaf}
+use Rattle.finish.specs.PlaceLaws.{always}
 
 present_picked : (b : Bool) (r : CpuidResult) → (pick b (row r) vacant).present ≡ b
 present_picked true r = refl

@@ -1,17 +1,16 @@
 -- The stages of `finish_rows`: the answer from a check on.
-use Rattle.std.specs.Prelude.{ℕ}
+use Rattle.std.specs.Prelude.{ℕ, Err}
 use Rattle.table.specs.declared.Refusal.{Refusal}
-use Rattle.table.specs.declared.Verdict.{Verdict}
-use Rattle.table.specs.declared.Verdict.TheVariants.{Refused}
 use Rattle.table.specs.Refusal.{and_then}
 use Rattle.table.specs.Rows.{Rows}
 use Rattle.checks.specs.Checks.{invlpgb_verdict, components_verdict, area_verdict, topology_verdict}
 use Rattle.table.specs.Table.{empty_table}
 use Rattle.finish.specs.declared.RowsBuilt.{RowsBuilt}
 use Rattle.finish.specs.RowsBuilt.{table_for}
+use Rattle.table.specs.Verdict.{Verdict}
 
 abbrev pub refused_built : Refusal → RowsBuilt
-refused_built r = record { verdict = Refused r; table = empty_table }
+refused_built r = record { verdict = Err r; table = empty_table }
 
 -- the answer that goes with a verdict on masked first entries, under edition n
 abbrev pub built_by : ℕ → Verdict → Rows → RowsBuilt

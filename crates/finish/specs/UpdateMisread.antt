@@ -5,7 +5,7 @@ use Rattle.bits.specs.Bits.{bit, has, field, mask_of, clear, clear_unless}
 use Rattle.x86defs.specs.Functions.{cpuid_result}
 use Rattle.masking.specs.Place
 use Rattle.topology.specs.Topology.{topology_of, threads_in, least_power, shift_of}
-use Rattle.table.specs.Rows.{Row, Rows, row, vacant}
+use Rattle.table.specs.Rows.{Rows, row, vacant}
 use Rattle.checks.specs.ExtendedState.{xfem, xss, area_below}
 use Rattle.checks.specs.TopologyInputs.{inputs_of}
 use Rattle.table.specs.Edition.{joined_from, bits_between}

@@ -1,7 +1,7 @@
 -- Row D.1: its ECX ends as XSS, and its EDX is masked to 0, so that the one exception of document 01, "should the mask leave D.1.EDX any
 -- bit", never arises. It is the only row under its rule.
-use Rattle.std.specs.Prelude.{◌≡◌, refl, Bool, true, false, ℕ, ◌<◌, eqb}
-use Rattle.std.proofs.Common.{sym, ap, subst, eqb-true}
+use Rattle.std.specs.Prelude.{◌≡◌, refl, Bool, true, ℕ, ◌<◌, eqb}
+use Rattle.std.proofs.Common.{ap, eqb-true}
 use Rattle.bits.specs.Choice.{pick}
 use Rattle.bits.specs.ChoiceLaws.{if_holds}
 use Rattle.bits.specs.Search.{every}

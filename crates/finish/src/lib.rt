@@ -6,7 +6,8 @@ use table::{CpuidResults, Verdict};
 
 pub mod features;
 
-// The result of building from the rows: accepted with their table, or refused with an empty one.
+// The result of building from the rows: accepted with their table, or refused with an empty one. Kept as two values: document 01 has the table of a
+// refusal, too, all zeros.
 #[derive(Clone, Copy)]
 pub struct RowsBuilt {
     pub verdict: Verdict,

@@ -1,5 +1,5 @@
 -- The guest's whole table in memory: the five stores are those of the definition, and count and mask stay.
-use Rattle.std.specs.Prelude.{◌≡◌, refl, Bool, true, false, List, ℕ, ◌*◌, ◌<◌, length, get_or, set, replicate}
+use Rattle.std.specs.Prelude.{◌≡◌, refl, Bool, false, List, ℕ, ◌<◌, get_or, set, replicate, Err, Ok, Result}
 use Rattle.std.proofs.Common.{sym, ◌∙◌, subst, arith, lit<}
 use Rattle.std.proofs.Math.Path.{ap, ap₂}
 use Rattle.std.specs.Int.Bits.{bit_or}
@@ -11,7 +11,6 @@ use Rattle.masking.specs.Kept.{places}
 use Rattle.masking.specs.Place
 use Rattle.table.specs.declared.CpuidResults.{CpuidResults}
 use Rattle.table.specs.declared.Refusal.{Refusal}
-use Rattle.table.specs.declared.Verdict.TheVariants.{Accepted, Refused}
 use Rattle.table.specs.Rows.{Row, Rows}
 use Rattle.table.specs.Table.{count_rows, row_in}
 use Rattle.memory.specs.Memory.{is_there, row_of, rows_in, row_list}
@@ -20,8 +19,6 @@ use Rattle.memory.specs.Held.{held_in, whole_row_lem, whole_ext}
 use Rattle.checks.specs.ExtendedState.{xss_of, xfem, xss, combined_mask}
 use Rattle.rows.specs.Checked.{registers_in}
 use Rattle.rows.specs.AnsweredLaws.{cleared_whole}
-use Rattle.guest_state.specs.declared.InUse.{InUse}
-use Rattle.guest_state.specs.declared.InUse.TheVariants.{Refused as NotInUse, Compacted}
 use Rattle.guest_state.specs.State.{save_register}
 use Rattle.guest_state.specs.InUse.{read_rows, in_use}
 use Rattle.guest_state.specs.InUseLaws.{told_refused, told_given}
@@ -81,15 +78,15 @@ module _ (w o : List ℕ) (v : Processor) where
 
   -- ---- by the state in use
 
-  module _ {u : InUse} (e : u ≡ in_use (read_rows false w o) v.xcr0 v.xss) where
-    pub into_refused : {r : Refusal} {w₁ o₁ : List ℕ} → u ≡ NotInUse r → w₁ ≡ replicate 352 0 → o₁ ≡ replicate 88 0
-        → SeenIn (guest_answer t v) o (Refused r) w₁ o₁
+  module _ {u : Result ℕ Refusal} (e : u ≡ in_use (read_rows false w o) v.xcr0 v.xss) where
+    pub into_refused : {r : Refusal} {w₁ o₁ : List ℕ} → u ≡ Err r → w₁ ≡ replicate 352 0 → o₁ ≡ replicate 88 0
+        → SeenIn (guest_answer t v) o (Err r) w₁ o₁
     into_refused {r} {w₁} {o₁} f p q =
-        subst (λ (g : GuestAnswer). SeenIn g o (Refused r) w₁ o₁)
+        subst (λ (g : GuestAnswer). SeenIn g o (Err r) w₁ o₁)
         (sym (by_verdict w o v e (told_refused (read_rows false w o) v.xcr0 v.xss e f)))
         (record { verdict = refl; table = cleared_whole p q; origins = λ a. let z : ◌≡◌ {A = ℕ} 0 1 = cc a in absurd (omega arith) })
 
-    pub into_given : {n : ℕ} {w₁ : List ℕ} → u ≡ Compacted n → held_in w₁ o ≡ table_with t v n → SeenIn (guest_answer t v) o Accepted w₁ o
+    pub into_given : {n : ℕ} {w₁ : List ℕ} → u ≡ Ok n → held_in w₁ o ≡ table_with t v n → SeenIn (guest_answer t v) o (Ok tt) w₁ o
     into_given {n} {w₁} f q =
-        subst (λ (g : GuestAnswer). SeenIn g o Accepted w₁ o) (sym (by_verdict w o v e (told_given (read_rows false w o) v.xcr0 v.xss e f)))
+        subst (λ (g : GuestAnswer). SeenIn g o (Ok tt) w₁ o) (sym (by_verdict w o v e (told_given (read_rows false w o) v.xcr0 v.xss e f)))
         (record { verdict = refl; table = q ∙ table_kept w o v e f; origins = λ a. refl })

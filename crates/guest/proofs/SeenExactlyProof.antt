@@ -1,22 +1,12 @@
 -- What a guest sees differs from the table exactly as SeenExactly.antt says.
-use Rattle.std.specs.Prelude.{◌≡◌, refl, Bool, true, false, ◌&&◌, ◌≢◌, ℕ, ◌+◌, ◌-◌, ◌*◌, ◌/◌, ◌%◌, ◌^◌, ◌<◌, eqb}
-use Rattle.std.proofs.Common.{sym, ap, ◌∙◌, arith, lit<, eqb-true}
-use Rattle.std.specs.Int.Bits.{bit_and, bit_or}
-use Rattle.std.proofs.lemmas.Nat.{and_mask}
-use Rattle.bits.specs.Choice.{pick}
-use Rattle.bits.specs.ChoiceLaws.{and_left, and_right}
-use Rattle.bits.specs.Search.{every}
-use Rattle.bits.specs.SearchLaws.{every_at}
-use Rattle.bits.specs.Bits.{bit, has, clear}
-use Rattle.bits.specs.BitsLaws.{bit_lt, bit_and_lem, bit_or_lem, bit_shr}
-use Rattle.x86defs.specs.declared.CpuidResult.{CpuidResult}
+use Rattle.std.specs.Prelude.{refl}
+use Rattle.std.proofs.Common.{lit<}
 use Rattle.masking.specs.Place
 use Rattle.table.specs.declared.CpuidResults.{CpuidResults}
 use Rattle.table.specs.Table.{row_in}
 use Rattle.guest.specs.declared.Processor.{Processor}
-use Rattle.guest.specs.Guest.{number_seen, osxsave_seen, version_seen}
 use Rattle.guest.proofs.SeenLaws.{seen_there, elsewhere, absent_stays}
-use Rattle.guest.specs.SeenExactly.{NumberBits, OsxsaveBit, SeenExactly}
+use Rattle.guest.specs.SeenExactly.{SeenExactly}
 use Rattle.guest.specs.SeenExactlyProof.{number_bits, osxsave_bit, version_eax}
 
 -- ---- the statement

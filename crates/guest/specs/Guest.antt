@@ -1,5 +1,5 @@
 -- Document 02, P3, "What one processor's guest sees": the guest's whole table, from the paravisor's.
-use Rattle.std.specs.Prelude.{Bool, ◌&&◌, ℕ, ◌+◌, ◌*◌, ◌%◌, ◌^◌, eqb}
+use Rattle.std.specs.Prelude.{Bool, ◌&&◌, ℕ, ◌+◌, ◌*◌, ◌%◌, ◌^◌, eqb, Err, Ok}
 use Rattle.std.specs.Int.Bits.{bit_or}
 use Rattle.bits.specs.Choice.{pick}
 use Rattle.bits.specs.Bits.{has, clear}
@@ -12,13 +12,12 @@ use Rattle.masking.specs.Kept.{places}
 use Rattle.masking.specs.Place
 use Rattle.table.specs.declared.CpuidResults.{CpuidResults}
 use Rattle.table.specs.declared.Refusal.{Refusal}
-use Rattle.table.specs.declared.Verdict.{Verdict}
-use Rattle.table.specs.declared.Verdict.TheVariants.{Accepted, Refused}
 use Rattle.table.specs.Rows.{Row}
 use Rattle.table.specs.Table.{empty_table, rows_of_table}
 use Rattle.guest.specs.declared.Processor.{Processor}
 use Rattle.guest.specs.declared.GuestAnswer.{GuestAnswer}
 use Rattle.guest_state.specs.State.{save_register, compact_register, state_verdict}
+use Rattle.table.specs.Verdict.{Verdict}
 
 -- ---- the registers that differ
 
@@ -66,12 +65,12 @@ guest_table t v = record {
 }
 
 abbrev pub refused_answer : Refusal → GuestAnswer
-refused_answer r = record { verdict = Refused r; table = empty_table }
+refused_answer r = record { verdict = Err r; table = empty_table }
 
 -- the table that goes with a verdict
 abbrev pub table_given : Verdict → CpuidResults → Processor → CpuidResults
-table_given Accepted t v = guest_table t v
-table_given (Refused r) t v = empty_table
+table_given (Ok _) t v = guest_table t v
+table_given (Err r) t v = empty_table
 
 abbrev pub answer_for : Verdict → CpuidResults → Processor → GuestAnswer
 answer_for w t v = record { verdict = w; table = table_given w t v }

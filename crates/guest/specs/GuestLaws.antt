@@ -1,19 +1,15 @@
 -- The guest's table as the code stores it.
-use Rattle.std.specs.Prelude.{◌≡◌, refl, List, ℕ, ◌+◌, ◌*◌, ◌%◌, ◌^◌, length, set}
-use Rattle.std.proofs.Common.{ap, ◌∙◌, mod-lt, arith, pow_pos}
+use Rattle.std.specs.Prelude.{◌≡◌, refl, List, ℕ, ◌+◌, ◌*◌, ◌%◌, ◌^◌, set}
+use Rattle.std.proofs.Common.{◌∙◌, mod-lt, arith, pow_pos}
 use Rattle.std.specs.Int.Bits.{bit_and, bit_or, or_shifted_r}
 use Rattle.std.proofs.lemmas.Nat.{and_mask}
 use Rattle.bits.specs.Choice.{pick}
 use Rattle.bits.specs.Lists.{tabulate}
-use Rattle.bits.specs.ListsLaws.{tabulated}
 use Rattle.x86defs.specs.declared.CpuidResult.{CpuidResult}
-use Rattle.x86defs.specs.Functions.{cpuid_result}
 use Rattle.masking.specs.Kept.{places}
-use Rattle.table.specs.declared.CpuidResults.{CpuidResults}
 use Rattle.table.specs.Rows.{Row, Rows}
-use Rattle.table.specs.Table.{row_in, rows_of_table}
 use Rattle.guest.specs.declared.Processor.{Processor}
-use Rattle.guest.specs.Guest.{version_seen, level_seen, size_seen, seen_at}
+use Rattle.guest.specs.Guest.{seen_at}
 
 -- ---- leaf 1 EBX by masks and a shift
 

@@ -2,7 +2,6 @@
 use Rattle.std.specs.Prelude.{List, ℕ}
 use Rattle.table.specs.declared.Choices.{Choices}
 use Rattle.table.specs.declared.CpuidResults.{CpuidResults}
-use Rattle.table.specs.declared.Verdict.{Verdict}
 use Rattle.table.specs.Refusal.{and_then}
 use Rattle.table.specs.Table.{rows_of_table}
 use Rattle.build.specs.declared.Built.{Built}
@@ -13,6 +12,7 @@ use Rattle.guest_state.specs.State.{state_verdict}
 use Rattle.guest.specs.declared.Processor.{Processor}
 use Rattle.guest.specs.declared.GuestAnswer.{GuestAnswer}
 use Rattle.guest.specs.Guest.{answer_for}
+use Rattle.table.specs.Verdict.{Verdict}
 
 -- of what building gave
 abbrev pub guest_by : Verdict → CpuidResults → Processor → GuestAnswer

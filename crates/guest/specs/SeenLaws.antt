@@ -1,16 +1,12 @@
 -- The guest's table, row by row: five rows differ where they are there, and no other.
-use Rattle.std.specs.Prelude.{◌≡◌, refl, Bool, true, false, ◌&&◌, ℕ, ◌<◌, eqb}
-use Rattle.std.proofs.Common.{ap, ◌∙◌, ne_eqb}
+use Rattle.std.specs.Prelude.{◌≡◌, ℕ, ◌<◌}
 use Rattle.bits.specs.ListsLaws.{get_d_tabulate}
 use Rattle.x86defs.specs.Functions.{cpuid_result}
 use Rattle.masking.specs.Kept.{places}
-use Rattle.masking.specs.Place
 use Rattle.table.specs.declared.CpuidResults.{CpuidResults}
-use Rattle.table.specs.Rows.{row}
-use Rattle.table.specs.Table.{row_in, rows_of_table}
-use Rattle.guest_state.specs.State.{save_register, compact_register}
+use Rattle.table.specs.Table.{row_in}
 use Rattle.guest.specs.declared.Processor.{Processor}
-use Rattle.guest.specs.Guest.{seen_at, seen_in, guest_table}
+use Rattle.guest.specs.Guest.{seen_in, guest_table}
 
 pub seen_row : (t : CpuidResults) (v : Processor) (i : ℕ) → i < places → (row_in (guest_table t v) i).result ≡ seen_in t v i
 seen_row t v i l = get_d_tabulate places (seen_in t v) i (cpuid_result 0 0 0 0) l

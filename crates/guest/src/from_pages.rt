@@ -24,10 +24,7 @@ pub fn guest_pages(
         (answer choices pages.now).origins result registers.new origins.new }
 {
     clear(registers, origins);
-    let verdict = build_into(pages, choices, registers, origins);
-    if let Verdict::Refused(r) = verdict {
-        return Verdict::Refused(r);
-    }
+    build_into(pages, choices, registers, origins)?;
     guest_table(registers, origins, processor)
 }
 
@@ -43,9 +40,6 @@ pub fn write_guest_image(
 {
     let mut registers: [u32; REGISTERS] = [0; REGISTERS];
     let mut origins: [u64; PLACES] = [0; PLACES];
-    let verdict = guest_pages(pages, choices, processor, &mut registers, &mut origins);
-    if let Verdict::Refused(r) = verdict {
-        return Written::Refused(r);
-    }
+    guest_pages(pages, choices, processor, &mut registers, &mut origins)?;
     write_table(&registers, &origins, out)
 }

@@ -1,23 +1,22 @@
 // What one processor's guest sees, of pages or of a table in lent memory: one row, the guest's table or its image, or a refusal.
 #![tactic(auto)]
 
-ghost use Rattle.std.specs.Prelude.{◌≡◌, Bool, true};
+ghost use Rattle.std.specs.Prelude.{◌≡◌, Bool, true, Option, ℕ};
 ghost use Rattle.bits.specs.Choice.{pick};
 ghost use Rattle.table.specs.Rows.{row};
 ghost use Rattle.memory.specs.Held.{held_in};
 ghost use Rattle.x86defs.specs.declared.CpuidFunction.{CpuidFunction};
-ghost use Rattle.table.specs.declared.Subleaf.{Subleaf};
 ghost use Rattle.lookup.specs.Lookup.{place_asked, at_place, is_place, found};
 ghost use Rattle.rows.specs.Checked.{registers_in};
 ghost use Rattle.guest_state.specs.State.{save_register};
 ghost use Rattle.guest.specs.Guest.{osxsave_seen, version_seen, level_seen, size_seen, seen_at, guest_answer};
 ghost use Rattle.guest.specs.Seen.{table_with, guest_found_in, SeenIn};
 
-use guest_state::{InUse, save_register, state_in_use};
-use lookup::{Found, PlaceAsked, place_asked};
+use guest_state::{save_register, state_in_use};
+use lookup::{FoundRow, place_asked};
 use masking::{PLACES, place};
-use memory::{REGISTERS, clear, is_there, lengths_known, put_row, row_at};
-use table::{CpuidResults, Refusal, Subleaf, Verdict};
+use memory::{REGISTERS, clear, is_there, put_row, row_at};
+use table::{CpuidResults, Refusal, Verdict};
 use x86defs::{CpuidFunction, CpuidResult};
 
 pub mod from_pages;
@@ -36,40 +35,28 @@ pub struct Processor {
     pub osxsave: bool,
 }
 
-// Accepted with the guest's table, or refused with an empty one.
+// Accepted with the guest's table, or refused with an empty one. Kept as two values: theorems speak of the table of a refusal, too.
 #[derive(Clone, Copy)]
 pub struct GuestAnswer {
     pub verdict: Verdict,
     pub table: CpuidResults,
 }
 
-// Refused by 13 or 14, or what the lookup found.
-#[derive(Clone, Copy)]
-pub enum GuestFound {
-    Refused(Refusal),
-    Looked(Found),
-}
-
-// What the guest of a processor reads: the verdict on its state, then the row that is asked for, as it sees it.
+// What the guest of a processor reads: refusal 13 or 14 on its state, or the row that is asked for, as it sees it.
 pub fn guest_find(
     registers: &[u32; REGISTERS],
     origins: &[u64; PLACES],
     processor: Processor,
     leaf: CpuidFunction,
-    subleaf: Subleaf,
+    subleaf: Option<u32>,
     enforce_subleaf: bool,
-) -> GuestFound
+) -> Result<Option<FoundRow>, Refusal>
     ensures { result ≡ guest_found_in (guest_answer (held_in registers.now origins.now) processor)
         origins.now leaf subleaf enforce_subleaf }
 {
-    let state = state_in_use(registers, origins, false, processor.xcr0, processor.xss);
-    match state {
-        InUse::Refused(r) => GuestFound::Refused(r),
-        InUse::Compacted(size) => {
-            let asked = place_asked(leaf, subleaf, enforce_subleaf);
-            GuestFound::Looked(seen_row(registers, origins, processor, size, asked))
-        }
-    }
+    let size = state_in_use(registers, origins, false, processor.xcr0, processor.xss)?;
+    let asked = place_asked(leaf, subleaf, enforce_subleaf);
+    Ok(seen_row(registers, origins, processor, size, asked))
 }
 
 // The row as the guest sees it where D.1.EBX is `size`, for a caller that kept the size which `state_in_use` gave when XCR0 or XSS last changed:
@@ -80,9 +67,9 @@ pub fn find_kept(
     processor: Processor,
     size: u32,
     leaf: CpuidFunction,
-    subleaf: Subleaf,
+    subleaf: Option<u32>,
     enforce_subleaf: bool,
-) -> Found
+) -> Option<FoundRow>
     ensures { result ≡ found (table_with (held_in registers.now origins.now) processor size)
         origins.now leaf subleaf enforce_subleaf }
 {
@@ -97,23 +84,22 @@ fn seen_row(
     origins: &[u64; PLACES],
     processor: Processor,
     size: u32,
-    asked: PlaceAsked,
-) -> Found
+    asked: Option<usize>,
+) -> Option<FoundRow>
     requires { is_place asked ≡ true }
-    ensures { (l : CpuidFunction) (sub : Subleaf) (enforce : Bool) → asked ≡ at_place (place_asked l sub enforce)
+    ensures { (l : CpuidFunction) (sub : Option ℕ) (enforce : Bool) → asked ≡ at_place (place_asked l sub enforce)
         → result ≡ found (table_with (held_in registers.now origins.now) processor size) origins.now l sub enforce }
 {
-    match asked {
-        PlaceAsked::At(i) => {
-            let origin = origins[i];
-            if is_there(origin) {
-                let r = row_at(registers, i);
-                return Found::Row(seen_at(registers, processor, size, i, r), origin);
-            }
-            Found::NoRow
-        }
-        PlaceAsked::Nowhere => Found::NoRow,
+    let place = asked?;
+    let origin = origins[place];
+    if is_there(origin) {
+        let r = row_at(registers, place);
+        return Some(FoundRow {
+            row: seen_at(registers, processor, size, place, r),
+            origin,
+        });
     }
+    None
 }
 
 // The row of a place as the guest sees it: five differ. Most places stand after these, and one comparison tells them.
@@ -150,13 +136,13 @@ pub fn guest_table(
 {
     let state = state_in_use(registers, origins, false, processor.xcr0, processor.xss);
     match state {
-        InUse::Refused(r) => {
+        Err(r) => {
             clear(registers, origins);
-            Verdict::Refused(r)
+            Err(r)
         }
-        InUse::Compacted(size) => {
+        Ok(size) => {
             put_seen(registers, origins, processor, size);
-            Verdict::Accepted
+            Ok(())
         }
     }
 }
@@ -171,7 +157,6 @@ fn put_seen(
     ensures { held_in registers.new origins.now
         ≡ table_with (held_in registers.old origins.now) processor size }
 {
-    lengths_known(registers, origins);
     let area = save_register(registers, processor.xcr0);
     let version = row_at(registers, place::VERSION_AND_FEATURES);
     let threads = row_at(registers, place::THREAD_LEVEL);

@@ -1,5 +1,5 @@
 -- A life's steps together: along a life tables rise from what carrying the first one gives, and views as tables do.
-use Rattle.std.specs.Prelude.{◌≡◌, Bool, ◌&&◌, not, List, ◌≢◌, ℕ, ◌-◌, ◌^◌, ◌≤◌, ◌<◌, eqb, ltb, length}
+use Rattle.std.specs.Prelude.{◌≡◌, Bool, ◌&&◌, not, List, ◌≢◌, ℕ, ◌-◌, ◌^◌, ◌≤◌, ◌<◌, eqb, ltb, length, None, Ok, Option, Some}
 use Rattle.std.proofs.Math.Path.{refl, sym, ap}
 use Rattle.std.proofs.Common.{◌∙◌, subst, le_of_eq, arith, lit<}
 use Rattle.std.proofs.Math.Bool.{true, false}
@@ -19,9 +19,6 @@ use Rattle.masking.specs.Kept.{places}
 use Rattle.masking.specs.Place
 use Rattle.table.specs.declared.CpuidResults.{CpuidResults}
 use Rattle.table.specs.declared.edition.EditionBits.{EditionBits}
-use Rattle.table.specs.declared.Subleaf.{Subleaf}
-use Rattle.table.specs.declared.Verdict.{Verdict}
-use Rattle.table.specs.declared.Verdict.TheVariants.{Accepted}
 use Rattle.table.specs.Edition.{joined_from, bits_between, later_bits}
 use Rattle.table.specs.EditionLaws.{Inside, inside_itself, between_later}
 use Rattle.table.specs.Rows.{Row, row}
@@ -31,7 +28,6 @@ use Rattle.finish.specs.Kinds.Kind.{feature, feature_but28, area, freed, other}
 use Rattle.memory.specs.Memory.{rows_in}
 use Rattle.memory.specs.Held.{held_in}
 use Rattle.build.specs.Build.{answer}
-use Rattle.lookup.specs.declared.LeafResult.TheVariants.{Some as Found, None as Nothing}
 use Rattle.lookup.specs.Lookup.{lookup, place_asked, row_result}
 use Rattle.lookup.proofs.LookupLaws.{lookup_at}
 use Rattle.rise.specs.Rise.{TableRises}
@@ -66,6 +62,7 @@ use Rattle.guest_life.specs.Life.Life.{starts, moves, carries}
 use Rattle.guest_life.specs.Life.LifeOutcome.{given, too_large}
 use Rattle.guest_life.specs.LifeProof.{answer_verdict, both, given_table, guest_whole, held_whole, kept_whole, latest_mono, same_sym, same_trans}
 use Rattle.guest_life.proofs.LifeRises.{latest_carried, life_rises}
+use Rattle.table.specs.Verdict.{Verdict}
 
 -- ---- the bits of the editions
 
@@ -259,10 +256,10 @@ module _ (t : CpuidResults) (v : Processor) (p : Sound t) where
 
     -- ---- questions
 
-    found_row : (r : Row) (x : CpuidResult) → row_result r ≡ Found x → (r.present ≡ true) × (r.result ≡ x)
+    found_row : (r : Row) (x : CpuidResult) → row_result r ≡ Some x → (r.present ≡ true) × (r.result ≡ x)
     found_row r x e = go r.present e
       where
-        go : (b : Bool) → pick b (Found r.result) Nothing ≡ Found x → (b ≡ true) × (r.result ≡ x)
+        go : (b : Bool) → pick b (Some r.result) None ≡ Some x → (b ≡ true) × (r.result ≡ x)
         go true f = (refl, cc)
         go false f = absurd (let z : ◌≡◌ {A = ℕ} 0 1 = cc in omega arith)
 
@@ -275,7 +272,7 @@ module _ (t : CpuidResults) (v : Processor) (p : Sound t) where
             let k : length t.present ≤ i = omega (arith, p.whole, ltb-false i places f) in
             absurd (never_both e (get_or-eq_default t.present false k))
 
-    asked_at : (leaf : CpuidFunction) (sub : Subleaf) (enforce : Bool) (r : CpuidResult) → lookup G leaf sub enforce ≡ Found r
+    asked_at : (leaf : CpuidFunction) (sub : Option ℕ) (enforce : Bool) (r : CpuidResult) → lookup G leaf sub enforce ≡ Some r
         → AskedShown (lost_bit y) G h leaf sub enforce r
     asked_at leaf sub enforce r e =
         let i : ℕ = place_asked leaf sub enforce in
@@ -306,8 +303,8 @@ module _ (t : CpuidResults) (v : Processor) (p : Sound t) where
 
 -- any table that is sound
 module _ (t w : CpuidResults) (life : Life t w) (v : Processor) (p : Sound t) (whole : length w.present ≤ places)
-    (isGiven : state_verdict (rows_of_table t) v.xcr0 v.xss ≡ Accepted) where
-  given_c : state_verdict (rows_of_table (latest t)) v.xcr0 v.xss ≡ Accepted
+    (isGiven : state_verdict (rows_of_table t) v.xcr0 v.xss ≡ Ok tt) where
+  given_c : state_verdict (rows_of_table (latest t)) v.xcr0 v.xss ≡ Ok tt
   given_c = sym (verdict_agrees t (latest t) v.xcr0 v.xss (states_latest t v p)) ∙ isGiven
 
   pub life_outcome : LifeOutcome (lost_bit (own_ymm t)) (guest_table t v) (guest_answer w v)
@@ -352,7 +349,7 @@ life_comes_back t u out back =
 -- ---- lives that end where they began
 
 module _ (t u : CpuidResults) (v : Processor) (p : Sound t) (same : SameRows t u)
-    (isGiven : state_verdict (rows_of_table t) v.xcr0 v.xss ≡ Accepted) where
+    (isGiven : state_verdict (rows_of_table t) v.xcr0 v.xss ≡ Ok tt) where
   allows : Allowed (rows_of_table t) v.xcr0 v.xss
   allows = given_allowed (rows_of_table t) v.xcr0 v.xss isGiven
 
@@ -366,7 +363,7 @@ module _ (t u : CpuidResults) (v : Processor) (p : Sound t) (same : SameRows t u
         (p.supplied.components k l h (in_mask_lem t v p allows k (has_bit k (bit_or v.xcr0 v.xss) e)));
   }
 
-  given_u : state_verdict (rows_of_table u) v.xcr0 v.xss ≡ Accepted
+  given_u : state_verdict (rows_of_table u) v.xcr0 v.xss ≡ Ok tt
   given_u = sym (verdict_agrees t u v.xcr0 v.xss states_same) ∙ isGiven
 
   same_seen : SameRows (guest_table t v) (guest_table u v)
@@ -381,7 +378,7 @@ module _ (t u : CpuidResults) (v : Processor) (p : Sound t) (same : SameRows t u
         mask = same.mask;
       }
 
-  pub end_given : (guest_answer u v).verdict ≡ Accepted
+  pub end_given : (guest_answer u v).verdict ≡ Ok tt
   end_given = answer_verdict u v ∙ given_u
 
   pub end_seen : SameRows (guest_table t v) (guest_answer u v).table

@@ -19,9 +19,6 @@ use Rattle.masking.specs.Kept.{places}
 use Rattle.masking.specs.Place
 use Rattle.table.specs.declared.CpuidResults.{CpuidResults}
 use Rattle.table.specs.declared.edition.EditionBits.{EditionBits}
-use Rattle.table.specs.declared.Subleaf.{Subleaf}
-use Rattle.table.specs.declared.Verdict.{Verdict}
-use Rattle.table.specs.declared.Verdict.TheVariants.{Accepted}
 use Rattle.table.specs.Edition.{joined_from, bits_between, later_bits}
 use Rattle.table.specs.EditionLaws.{Inside, inside_itself, between_later}
 use Rattle.table.specs.Rows.{Row, row}
@@ -31,7 +28,6 @@ use Rattle.finish.specs.Kinds.Kind.{feature, feature_but28, area, freed, other}
 use Rattle.memory.specs.Memory.{rows_in}
 use Rattle.memory.specs.Held.{held_in}
 use Rattle.build.specs.Build.{answer}
-use Rattle.lookup.specs.declared.LeafResult.TheVariants.{Some as Found, None as Nothing}
 use Rattle.lookup.specs.Lookup.{lookup, place_asked, row_result}
 use Rattle.lookup.proofs.LookupLaws.{lookup_at}
 use Rattle.rise.specs.Rise.{TableRises}
@@ -65,6 +61,7 @@ use Rattle.guest_life.specs.Life.{Life, three_bits, lost_bit, StillShown, RowSho
 use Rattle.guest_life.specs.Life.Life.{starts, moves, carries}
 use Rattle.guest_life.specs.Life.LifeOutcome.{given, too_large}
 use Rattle.guest_life.specs.LifeProof.{answer_verdict, both, given_table, guest_whole, held_whole, kept_whole, latest_mono, same_sym, same_trans}
+use Rattle.table.specs.Verdict.{Verdict}
 
 -- a table that is carried, whether its bits are kept or not
 pub latest_carried : (bits : EditionBits) → Inside bits later_bits → (b : Bool) (t : CpuidResults) → (own_ymm t ≡ true → b ≡ true)

@@ -1,5 +1,5 @@
 -- The sizes that a guest reads suffice, and are the same on a server that its own rises to.
-use Rattle.std.specs.Prelude.{◌≡◌, refl, Bool, ◌&&◌, List}
+use Rattle.std.specs.Prelude.{◌≡◌, refl, Bool, ◌&&◌, List, Ok}
 use Rattle.std.proofs.Common.{sym, ap, ◌∙◌, subst}
 use Rattle.std.proofs.Math.Bool.{true, false}
 use Prim.Native.Nat.{ℕ, suc, ◌-◌, ◌^◌, ◌≤◌, ◌<◌, min}
@@ -16,7 +16,6 @@ use Rattle.x86defs.specs.declared.CpuidResult.{CpuidResult}
 use Rattle.masking.specs.Place
 use Rattle.table.specs.declared.Choices.{Choices}
 use Rattle.table.specs.declared.CpuidResults.{CpuidResults}
-use Rattle.table.specs.declared.Verdict.TheVariants.{Accepted}
 use Rattle.table.specs.Rows.{Rows}
 use Rattle.table.specs.Table.{row_in, rows_of_table}
 use Rattle.checks.specs.ExtendedState.{xfem, xss, combined_mask, save_area}
@@ -47,8 +46,8 @@ use Rattle.guest_life.specs.SaveAreasProof.{below_32, compacted_form, component_
 
 -- ---- page sets
 
-module _ (chosen : Choices) (s : List ℕ) (v : Processor) (g : (guest_pages chosen s v).verdict ≡ Accepted) where
-  pub accepted_of_lem : (answer chosen s).verdict ≡ Accepted
+module _ (chosen : Choices) (s : List ℕ) (v : Processor) (g : (guest_pages chosen s v).verdict ≡ Ok tt) where
+  pub accepted_of_lem : (answer chosen s).verdict ≡ Ok tt
   accepted_of_lem = ((guest_exactly chosen s v).given.0 g).0
 
   pub allowed_of : Allowed (rows_of_table (answer chosen s).table) v.xcr0 v.xss

@@ -1,5 +1,5 @@
 -- Equal views are those of tables that agree but where views replace, and the other way round.
-use Rattle.std.specs.Prelude.{◌≡◌, refl, Bool, true, false, ◌&&◌, ◌≢◌, ℕ, ◌+◌, ◌-◌, ◌^◌, ◌≤◌, ◌<◌, eqb, ltb}
+use Rattle.std.specs.Prelude.{◌≡◌, refl, Bool, true, false, ◌&&◌, ◌≢◌, ℕ, ◌+◌, ◌-◌, ◌^◌, ◌≤◌, ◌<◌, eqb, ltb, Ok}
 use Rattle.std.proofs.Math.Path.{sym, ap, ap₂}
 use Rattle.std.proofs.Common.{◌∙◌, arith, lit<, eqb-true, ltb-true, ltb-false}
 use Rattle.std.specs.Int.Bits.{bit_or, bit_and}
@@ -13,7 +13,6 @@ use Rattle.x86defs.specs.declared.CpuidResult.{CpuidResult}
 use Rattle.masking.specs.Kept.{places}
 use Rattle.masking.specs.Place
 use Rattle.table.specs.declared.CpuidResults.{CpuidResults}
-use Rattle.table.specs.declared.Verdict.TheVariants.{Accepted}
 use Rattle.table.specs.Rows.{Row, Rows}
 use Rattle.table.specs.Table.{count_rows, row_in, rows_of_table}
 use Rattle.checks.specs.ExtendedState.{xfem, xss, combined_mask}
@@ -238,8 +237,8 @@ module _ (t u : CpuidResults) (v : Processor) (p : Sound t) (q : Sound u) where
 
 pub views_tell_tables : ViewsTell
 views_tell_tables chosen other a b v e f =
-    let x : (answer chosen a).verdict ≡ Accepted = ((guest_exactly chosen a v).given.0 e).0 in
-    let y : (answer other b).verdict ≡ Accepted = ((guest_exactly other b v).given.0 f).0 in
+    let x : (answer chosen a).verdict ≡ (Ok tt) = ((guest_exactly chosen a v).given.0 e).0 in
+    let y : (answer other b).verdict ≡ (Ok tt) = ((guest_exactly other b v).given.0 f).0 in
     let p = built_sound chosen a x in
     let q = built_sound other b y in
     let g = given_guest chosen a v x e in

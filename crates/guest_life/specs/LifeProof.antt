@@ -1,5 +1,5 @@
 -- A life's steps together: along a life tables rise from what carrying the first one gives, and views as tables do.
-use Rattle.std.specs.Prelude.{◌≡◌, Bool, ◌&&◌, not, List, ◌≢◌, ℕ, ◌-◌, ◌^◌, ◌≤◌, ◌<◌, eqb, ltb, length}
+use Rattle.std.specs.Prelude.{◌≡◌, Bool, ◌&&◌, not, List, ◌≢◌, ℕ, ◌-◌, ◌^◌, ◌≤◌, ◌<◌, eqb, ltb, length, Ok}
 use Rattle.std.proofs.Math.Path.{refl, sym, ap}
 use Rattle.std.proofs.Common.{◌∙◌, subst, le_of_eq, arith, lit<}
 use Rattle.std.proofs.Math.Bool.{true, false}
@@ -19,9 +19,6 @@ use Rattle.masking.specs.Kept.{places}
 use Rattle.masking.specs.Place
 use Rattle.table.specs.declared.CpuidResults.{CpuidResults}
 use Rattle.table.specs.declared.edition.EditionBits.{EditionBits}
-use Rattle.table.specs.declared.Subleaf.{Subleaf}
-use Rattle.table.specs.declared.Verdict.{Verdict}
-use Rattle.table.specs.declared.Verdict.TheVariants.{Accepted}
 use Rattle.table.specs.Edition.{joined_from, bits_between, later_bits}
 use Rattle.table.specs.EditionLaws.{Inside, inside_itself, between_later}
 use Rattle.table.specs.Rows.{Row, row}
@@ -31,7 +28,6 @@ use Rattle.finish.specs.Kinds.Kind.{feature, feature_but28, area, freed, other}
 use Rattle.memory.specs.Memory.{rows_in}
 use Rattle.memory.specs.Held.{held_in}
 use Rattle.build.specs.Build.{answer}
-use Rattle.lookup.specs.declared.LeafResult.TheVariants.{Some as Found, None as Nothing}
 use Rattle.lookup.specs.Lookup.{lookup, place_asked, row_result}
 use Rattle.lookup.proofs.LookupLaws.{lookup_at}
 use Rattle.rise.specs.Rise.{TableRises}
@@ -63,6 +59,7 @@ use Rattle.guest_life.specs.SaveAreasProof.{in_mask_lem}
 use Rattle.guest_life.specs.Life.{Life, three_bits, lost_bit, StillShown, RowShown, AskedShown, ViewLasts, LifeOutcome, LifeShows, KeptLifeShows, LifeComesBack, EndsSeeTheSame, LivesSeeTheSame}
 use Rattle.guest_life.specs.Life.Life.{starts, moves, carries}
 use Rattle.guest_life.specs.Life.LifeOutcome.{given, too_large}
+use Rattle.table.specs.Verdict.{Verdict}
 
 -- ---- tables
 
@@ -72,7 +69,7 @@ latest_mono t u r = carried_mono later_bits (own_ymm t) (own_ymm u) t u (ymm_mon
 
 -- ---- the view of a table whose state is given
 
-pub given_table : (w : CpuidResults) (v : Processor) → state_verdict (rows_of_table w) v.xcr0 v.xss ≡ Accepted → (guest_answer w v).table ≡ guest_table w v
+pub given_table : (w : CpuidResults) (v : Processor) → state_verdict (rows_of_table w) v.xcr0 v.xss ≡ Ok tt → (guest_answer w v).table ≡ guest_table w v
 unfolding guest_answer
 given_table w v e = ap (λ (q : Verdict). table_given q w v) e
 
@@ -81,7 +78,7 @@ unfolding guest_answer
 answer_verdict w v = refl
 
 -- a guest's table has as many places as the table
-pub guest_whole : (w : CpuidResults) (v : Processor) → length w.present ≤ places → (guest_answer w v).verdict ≡ Accepted
+pub guest_whole : (w : CpuidResults) (v : Processor) → length w.present ≤ places → (guest_answer w v).verdict ≡ Ok tt
     → length (guest_answer w v).table.present ≤ places
 guest_whole w v l e = rw (given_table w v (sym (answer_verdict w v) ∙ e)) l
 

@@ -3,14 +3,13 @@
 -- bytes, and these within D.0.ECX; in the compacted form the components of XCR0 or XSS stand one after the other, apart from each other, behind the
 -- 576 bytes of the legacy region and the header, each on a multiple of 64 where its ECX has bit 1, and all within D.1.EBX bytes. On a server B that
 -- A rises to, the components, D.0.EBX and D.1.EBX are the same, so that an area laid out on A is laid out for B.
-use Rattle.std.specs.Prelude.{◌≡◌, true, List, ℕ, ◌+◌, ◌%◌, ◌≤◌, ◌<◌}
+use Rattle.std.specs.Prelude.{◌≡◌, true, List, ℕ, ◌+◌, ◌%◌, ◌≤◌, ◌<◌, Ok}
 use Rattle.std.specs.Int.Bits.{bit_or}
 use Rattle.bits.specs.Bits.{bit}
 use Rattle.x86defs.specs.declared.CpuidResult.{CpuidResult}
 use Rattle.masking.specs.Place
 use Rattle.table.specs.declared.Choices.{Choices}
 use Rattle.table.specs.declared.CpuidResults.{CpuidResults}
-use Rattle.table.specs.declared.Verdict.TheVariants.{Accepted}
 use Rattle.table.specs.Table.{row_in}
 use Rattle.build.specs.Build.{answer}
 use Rattle.rise.specs.Rise.{RiseHypothesis}
@@ -39,7 +38,7 @@ pub record CompactedForm (g : CpuidResults) (x : ℕ) : Type 0 where
   pub inside : (k : ℕ) → 2 ≤ k → bit k x ≡ 1 → start k + (subleaf g k).eax ≤ (subleaf g 1).ebx
 
 abbrev pub SaveAreas : Type 0
-SaveAreas = (chosen : Choices) (s : List ℕ) (v : Processor) → (guest_pages chosen s v).verdict ≡ Accepted
+SaveAreas = (chosen : Choices) (s : List ℕ) (v : Processor) → (guest_pages chosen s v).verdict ≡ Ok tt
     → StandardForm (guest_pages chosen s v).table v.xcr0
     × (compacts_in (guest_pages chosen s v).table ≡ true → CompactedForm (guest_pages chosen s v).table (bit_or v.xcr0 v.xss))
 
@@ -51,6 +50,6 @@ pub record SameAreas (g h : CpuidResults) (x : ℕ) : Type 0 where
 
 -- B's view is given wherever A's D.1.EAX has bit 1 or bit 3 (`guest_rise_whole`)
 abbrev pub AreasStay : Type 0
-AreasStay = (chosen : Choices) (a b : List ℕ) (v : Processor) → RiseHypothesis chosen a b → (answer chosen b).verdict ≡ Accepted
-    → (guest_pages chosen a v).verdict ≡ Accepted → (guest_pages chosen b v).verdict ≡ Accepted
+AreasStay = (chosen : Choices) (a b : List ℕ) (v : Processor) → RiseHypothesis chosen a b → (answer chosen b).verdict ≡ Ok tt
+    → (guest_pages chosen a v).verdict ≡ Ok tt → (guest_pages chosen b v).verdict ≡ Ok tt
     → SameAreas (guest_pages chosen a v).table (guest_pages chosen b v).table (bit_or v.xcr0 v.xss)

@@ -1,5 +1,5 @@
 -- What every accepted page set's table has, as far as a guest's life asks for it.
-use Rattle.std.specs.Prelude.{◌≡◌, Bool, List, ℕ, ◌+◌, ◌≤◌, ◌<◌, eqb, length}
+use Rattle.std.specs.Prelude.{◌≡◌, Bool, List, ℕ, ◌+◌, ◌≤◌, ◌<◌, eqb, length, Ok}
 use Rattle.std.proofs.Math.Path.{refl, sym, ap}
 use Rattle.std.proofs.Common.{◌∙◌, le_of_eq, arith, lit<}
 use Rattle.std.proofs.Math.Bool.{true, false}
@@ -14,7 +14,6 @@ use Rattle.masking.specs.Kept.{places}
 use Rattle.masking.specs.Place
 use Rattle.table.specs.declared.Choices.{Choices}
 use Rattle.table.specs.declared.CpuidResults.{CpuidResults}
-use Rattle.table.specs.declared.Verdict.TheVariants.{Accepted}
 use Rattle.table.specs.Rows.{Row, Rows}
 use Rattle.table.specs.Table.{count_rows, row_in, rows_of_table}
 use Rattle.checks.specs.ExtendedState.{xfem, combined_mask, save_area, sum_at}
@@ -42,7 +41,7 @@ pub record Sound (t : CpuidResults) : Type 0 where
   pub count : t.row_count ≡ count_rows (rows_of_table t)
   pub mask : t.max_extended_state ≡ combined_mask (rows_of_table t)
 
-module _ (chosen : Choices) (s : List ℕ) (e : (answer chosen s).verdict ≡ Accepted) where
+module _ (chosen : Choices) (s : List ℕ) (e : (answer chosen s).verdict ≡ Ok tt) where
   abbrev m : Rows
   m = rows_for chosen s
 

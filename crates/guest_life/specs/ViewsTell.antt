@@ -1,14 +1,13 @@
 -- What a check inside a running guest establishes. A processor's whole views (document 02, P3) of two accepted page sets' tables are equal row for
 -- row if and only if the tables agree in every register but those that the view replaces: 1.EBX bits 24 to 31, 1.ECX bit 27, D.0.EBX and D.1.EBX. EDX
 -- of B.0 and B.1, which the view replaces too, is 0 in both.
-use Rattle.std.specs.Prelude.{◌≡◌, List, ◌↔◌, ◌≢◌, ℕ, ◌<◌}
+use Rattle.std.specs.Prelude.{◌≡◌, List, ◌↔◌, ◌≢◌, ℕ, ◌<◌, Ok}
 use Rattle.bits.specs.Bits.{bit}
 use Rattle.x86defs.specs.declared.CpuidResult.{CpuidResult}
 use Rattle.masking.specs.Kept.{places}
 use Rattle.masking.specs.Place
 use Rattle.table.specs.declared.Choices.{Choices}
 use Rattle.table.specs.declared.CpuidResults.{CpuidResults}
-use Rattle.table.specs.declared.Verdict.TheVariants.{Accepted}
 use Rattle.table.specs.Table.{row_in}
 use Rattle.build.specs.Build.{answer}
 use Rattle.guest.specs.declared.Processor.{Processor}
@@ -43,10 +42,10 @@ SameView a b = (i : ℕ) → i < places → row_in a i ≡ row_in b i
 
 abbrev pub ViewsTell : Type 0
 ViewsTell = (chosen other : Choices) (a b : List ℕ) (v : Processor)
-    → (guest_pages chosen a v).verdict ≡ Accepted → (guest_pages other b v).verdict ≡ Accepted
+    → (guest_pages chosen a v).verdict ≡ Ok tt → (guest_pages other b v).verdict ≡ Ok tt
     → SameView (guest_pages chosen a v).table (guest_pages other b v).table ↔ TablesAgree (answer chosen a).table (answer other b).table
 
 -- and where they agree, a state that the one gives the other gives too
 abbrev pub AgreeGives : Type 0
-AgreeGives = (chosen other : Choices) (a b : List ℕ) (v : Processor) → (answer chosen a).verdict ≡ Accepted → (answer other b).verdict ≡ Accepted
+AgreeGives = (chosen other : Choices) (a b : List ℕ) (v : Processor) → (answer chosen a).verdict ≡ Ok tt → (answer other b).verdict ≡ Ok tt
     → TablesAgree (answer chosen a).table (answer other b).table → (guest_pages chosen a v).verdict ≡ (guest_pages other b v).verdict

@@ -1,13 +1,11 @@
 -- Refusals of what a guest sees, from pages: building's first, then 13 and 14, each if and only if its condition holds.
-use Rattle.std.specs.Prelude.{◌≡◌, List, ◌↔◌, ℕ, ◌≤◌, ◌<◌}
+use Rattle.std.specs.Prelude.{◌≡◌, List, ◌↔◌, ℕ, ◌≤◌, ◌<◌, Err, Ok}
 use Rattle.std.proofs.Math.Path.{refl}
 use Rattle.std.proofs.Common.{sym, ap, ◌∙◌, subst}
 use Rattle.bits.specs.ChoiceLaws.{impossible}
 use Rattle.table.specs.declared.Choices.{Choices}
 use Rattle.table.specs.declared.Refusal.{Refusal}
 use Rattle.table.specs.declared.Refusal.TheVariants.{BufferTooShort, StateBeyondTable, CompactSizeTooLarge}
-use Rattle.table.specs.declared.Verdict.{Verdict}
-use Rattle.table.specs.declared.Verdict.TheVariants.{Accepted, Refused}
 use Rattle.table.specs.Refusal.{details}
 use Rattle.table.specs.Rows.{Rows}
 use Rattle.table.specs.Table.{empty_table, rows_of_table}
@@ -26,6 +24,7 @@ use Rattle.guest_rise.specs.StateExactly.{Allowed, SizeFault, StateAnswers}
 use Rattle.guest_rise.proofs.StateExactlyProof.{state_answers}
 use Rattle.guest_rise.specs.StateExactly.StateAnswers.{beyond, large, given}
 use Rattle.guest_rise.specs.GuestExactly.{GuestExactly, table_rows}
+use Rattle.table.specs.Verdict.{Verdict}
 
 -- ---- the proof
 
@@ -33,25 +32,25 @@ module _ (chosen : Choices) (s : List ℕ) (v : Processor) where
   abbrev g : GuestAnswer
   g = guest_pages chosen s v
 
-  unbuilt : (q : Refusal) → (answer chosen s).verdict ≡ Refused q → GuestExactly chosen s v
+  unbuilt : (q : Refusal) → (answer chosen s).verdict ≡ Err q → GuestExactly chosen s v
   unbuilt q e =
       let o : g ≡ refused_answer q = building_first chosen s v q e in
       record {
         built = building_first chosen s v;
-        beyond = (λ p. absurd (let same : q ≡ StateBeyondTable = cc in not_built_lem chosen s StateBeyondTable refl (e ∙ ap Refused same)), λ p. impossible (cc));
-        large = (λ p. absurd (let same : q ≡ CompactSizeTooLarge = cc in not_built_lem chosen s CompactSizeTooLarge refl (e ∙ ap Refused same)), λ p. impossible (cc));
+        beyond = (λ p. absurd (let same : q ≡ StateBeyondTable = cc in not_built_lem chosen s StateBeyondTable refl (e ∙ ap Err same)), λ p. impossible (cc));
+        large = (λ p. absurd (let same : q ≡ CompactSizeTooLarge = cc in not_built_lem chosen s CompactSizeTooLarge refl (e ∙ ap Err same)), λ p. impossible (cc));
         given = (λ p. impossible (cc), λ p. impossible (cc));
         empty = λ r p. ap (λ (a : GuestAnswer). a.table) o;
         table = λ p. impossible (cc);
       }
 
   -- 13 and 14 are the table's
-  answers : (answer chosen s).verdict ≡ Accepted → StateAnswers (table_rows chosen s) v.xcr0 v.xss g.verdict
+  answers : (answer chosen s).verdict ≡ Ok tt → StateAnswers (table_rows chosen s) v.xcr0 v.xss g.verdict
   answers e =
       subst (StateAnswers (table_rows chosen s) v.xcr0 v.xss) (sym (guest_verdict chosen s v e))
       (state_answers (table_rows chosen s) v.xcr0 v.xss)
 
-  on_table : (answer chosen s).verdict ≡ Accepted → StateAnswers (table_rows chosen s) v.xcr0 v.xss g.verdict → GuestExactly chosen s v
+  on_table : (answer chosen s).verdict ≡ Ok tt → StateAnswers (table_rows chosen s) v.xcr0 v.xss g.verdict → GuestExactly chosen s v
   on_table e (beyond f o) = record {
     built = building_first chosen s v;
     beyond = (λ p. (e, f), λ p. o);
@@ -81,19 +80,19 @@ module _ (chosen : Choices) (s : List ℕ) (v : Processor) where
   guest_exactly = go (answer chosen s).verdict refl
     where
       go : (w : Verdict) → (answer chosen s).verdict ≡ w → GuestExactly chosen s v
-      go (Refused q) e = unbuilt q e
-      go Accepted e = on_table e (answers e)
+      go (Err q) e = unbuilt q e
+      go (Ok _) e = on_table e (answers e)
 
   -- none of them is 9, which comes after all
-  not_short : g.verdict ≡ Refused BufferTooShort → ⊥
+  not_short : g.verdict ≡ Err BufferTooShort → ⊥
   not_short p = go (answer chosen s).verdict refl
     where
       go : (w : Verdict) → (answer chosen s).verdict ≡ w → ⊥
-      go (Refused q) e =
+      go (Err q) e =
           let o : g ≡ refused_answer q = building_first chosen s v q e in
           let same : q ≡ BufferTooShort = cc in
-          not_built_lem chosen s BufferTooShort refl (e ∙ ap Refused same)
-      go Accepted e = state (answers e)
+          not_built_lem chosen s BufferTooShort refl (e ∙ ap Err same)
+      go (Ok _) e = state (answers e)
         where
           state : StateAnswers (table_rows chosen s) v.xcr0 v.xss g.verdict → ⊥
           state (beyond f o) = impossible (cc)

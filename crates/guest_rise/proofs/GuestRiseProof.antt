@@ -1,5 +1,5 @@
 -- The headline statements of P3, over page bytes.
-use Rattle.std.specs.Prelude.{◌≡◌, List, ℕ, ◌-◌, ◌^◌, ◌<◌, min}
+use Rattle.std.specs.Prelude.{◌≡◌, List, ℕ, ◌-◌, ◌^◌, ◌<◌, min, Ok}
 use Rattle.std.proofs.Math.Path.{refl, ap}
 use Rattle.std.proofs.Common.{sym, ◌∙◌, subst₂, arith, lit<}
 use Rattle.std.proofs.Math.Bool.{true}
@@ -7,7 +7,6 @@ use Rattle.x86defs.specs.declared.CpuidResult.{CpuidResult}
 use Rattle.masking.specs.Place
 use Rattle.table.specs.declared.Choices.{Choices}
 use Rattle.table.specs.declared.CpuidResults.{CpuidResults}
-use Rattle.table.specs.declared.Verdict.TheVariants.{Accepted}
 use Rattle.table.specs.Table.{row_in, rows_of_table}
 use Rattle.checks.specs.ExtendedState.{save_area}
 use Rattle.build.specs.Build.{answer}
@@ -27,15 +26,15 @@ use Rattle.guest_rise.proofs.GuestTablesRise.{table_outcome, table_compacts}
 
 -- ---- the rise
 
-module _ (chosen : Choices) (a b : List ℕ) (v : Processor) (rises : RiseHypothesis chosen a b) (acceptedB : (answer chosen b).verdict ≡ Accepted)
-    (isGiven : (guest_pages chosen a v).verdict ≡ Accepted) where
+module _ (chosen : Choices) (a b : List ℕ) (v : Processor) (rises : RiseHypothesis chosen a b) (acceptedB : (answer chosen b).verdict ≡ Ok tt)
+    (isGiven : (guest_pages chosen a v).verdict ≡ Ok tt) where
   abbrev t : CpuidResults
   t = (answer chosen a).table
 
   tables : TableRises t (answer chosen b).table
   tables = (demand_3 chosen a b rises).table acceptedB
 
-  given_a : state_verdict (rows_of_table t) v.xcr0 v.xss ≡ Accepted
+  given_a : state_verdict (rows_of_table t) v.xcr0 v.xss ≡ Ok tt
   given_a = sym (guest_verdict chosen a v rises.accepted) ∙ isGiven
 
   allowed_a : Allowed (rows_of_table t) v.xcr0 v.xss
@@ -49,9 +48,9 @@ module _ (chosen : Choices) (a b : List ℕ) (v : Processor) (rises : RiseHypoth
 
   -- where A's D.1.EAX has either bit: given, and the whole of demand 3's comparison, D.0.EBX and D.1.EBX equal in it
   pub guest_rise_whole : compacts_in t ≡ true
-      → ((guest_pages chosen b v).verdict ≡ Accepted) × TableRises (guest_pages chosen a v).table (guest_pages chosen b v).table
+      → ((guest_pages chosen b v).verdict ≡ Ok tt) × TableRises (guest_pages chosen a v).table (guest_pages chosen b v).table
   guest_rise_whole c =
-      subst₂ (λ (g h : GuestAnswer). (h.verdict ≡ Accepted) × TableRises g.table h.table)
+      subst₂ (λ (g h : GuestAnswer). (h.verdict ≡ Ok tt) × TableRises g.table h.table)
       (sym (accepted_guest chosen a v rises.accepted)) (sym (accepted_guest chosen b v acceptedB))
       (table_compacts t (answer chosen b).table v tables (built_supplied chosen a rises.accepted) allowed_a given_a c)
 
@@ -60,8 +59,8 @@ guest_rise = outcome
 
 -- ---- D.0.EBX of a built table is the size itself, and never passes 32 bits
 
-module _ (chosen : Choices) (s : List ℕ) (v : Processor) (accepted : (answer chosen s).verdict ≡ Accepted)
-    (isGiven : (guest_pages chosen s v).verdict ≡ Accepted) where
+module _ (chosen : Choices) (s : List ℕ) (v : Processor) (accepted : (answer chosen s).verdict ≡ Ok tt)
+    (isGiven : (guest_pages chosen s v).verdict ≡ Ok tt) where
   abbrev w : CpuidResults
   w = (answer chosen s).table
 

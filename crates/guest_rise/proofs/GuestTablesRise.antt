@@ -1,5 +1,5 @@
 -- The rise of guest answers, of any two tables that rise and of which the first has the rows that its masks name.
-use Rattle.std.specs.Prelude.{◌≡◌, Bool, ◌⊎◌}
+use Rattle.std.specs.Prelude.{◌≡◌, Bool, ◌⊎◌, Ok}
 use Rattle.std.proofs.Math.Path.{refl, sym, ap}
 use Rattle.std.proofs.Common.{◌∙◌, subst, subst₂, inl, inr, ⊎_elim, arith, lit<}
 use Rattle.std.proofs.Math.Bool.{true, false}
@@ -12,8 +12,6 @@ use Rattle.bits.proofs.BitsLaws.{has_mono}
 use Rattle.x86defs.specs.declared.CpuidResult.{CpuidResult}
 use Rattle.masking.specs.Place
 use Rattle.table.specs.declared.CpuidResults.{CpuidResults}
-use Rattle.table.specs.declared.Verdict.{Verdict}
-use Rattle.table.specs.declared.Verdict.TheVariants.{Accepted}
 use Rattle.table.specs.Rows.{Rows}
 use Rattle.table.specs.Table.{row_in, rows_of_table}
 use Rattle.checks.specs.ExtendedState.{xfem, combined_mask, save_area}
@@ -37,6 +35,7 @@ use Rattle.guest_rise.specs.StateExactly.StateAnswers.{beyond, large}
 use Rattle.guest_rise.specs.StateExactly.StateAnswers.{given as accepted}
 use Rattle.guest_rise.specs.BuiltState.{Supplied}
 use Rattle.guest_rise.specs.SeenRises.{state0_eax, state1_eax, state1_ecx, state1_edx, seen_rises}
+use Rattle.table.specs.Verdict.{Verdict}
 
 module _ (t u : CpuidResults) (v : Processor) (rises : TableRises t u) (supplied : Supplied t) (allows : Allowed (rows_of_table t) v.xcr0 v.xss) where
   abbrev T : Rows
@@ -141,11 +140,11 @@ module _ (t u : CpuidResults) (v : Processor) (rises : TableRises t u) (supplied
 
   -- ---- the answers
 
-  given_table : (w : CpuidResults) → state_verdict (rows_of_table w) v.xcr0 v.xss ≡ Accepted → (guest_answer w v).table ≡ guest_table w v
+  given_table : (w : CpuidResults) → state_verdict (rows_of_table w) v.xcr0 v.xss ≡ Ok tt → (guest_answer w v).table ≡ guest_table w v
   unfolding guest_answer
   given_table w e = ap (λ (q : Verdict). table_given q w v) e
 
-  module _ (isGiven : state_verdict T v.xcr0 v.xss ≡ Accepted) where
+  module _ (isGiven : state_verdict T v.xcr0 v.xss ≡ Ok tt) where
     -- a size that is too large for U is too large for T, if T compacts
     no_fault : compacts_in t ≡ true → SizeFault U v.xcr0 v.xss → ⊥
     no_fault e f =
@@ -164,7 +163,7 @@ module _ (t u : CpuidResults) (v : Processor) (rises : TableRises t u) (supplied
 
     -- where T compacts: given, and all of what tables compare
     pub table_compacts : compacts_in t ≡ true
-        → ((guest_answer u v).verdict ≡ Accepted) × TableRises (guest_answer t v).table (guest_answer u v).table
+        → ((guest_answer u v).verdict ≡ Ok tt) × TableRises (guest_answer t v).table (guest_answer u v).table
     unfolding guest_answer
     table_compacts c = go (state_answers U v.xcr0 v.xss)
       where
@@ -177,7 +176,7 @@ module _ (t u : CpuidResults) (v : Processor) (rises : TableRises t u) (supplied
         }
 
         go : StateAnswers U v.xcr0 v.xss (state_verdict U v.xcr0 v.xss)
-            → ((guest_answer u v).verdict ≡ Accepted) × TableRises (guest_answer t v).table (guest_answer u v).table
+            → ((guest_answer u v).verdict ≡ Ok tt) × TableRises (guest_answer t v).table (guest_answer u v).table
         go (beyond f e) = absurd (f allows_too)
         go (large h f e) = absurd (no_fault c f)
         go (accepted h f e) = (e, subst₂ TableRises (sym (given_table t isGiven)) (sym (given_table u e)) whole)

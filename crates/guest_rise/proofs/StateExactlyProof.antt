@@ -1,5 +1,5 @@
 -- Refusals 13 and 14 are given exactly as StateExactly.antt says.
-use Rattle.std.specs.Prelude.{◌≡◌, Bool, ◌||◌, ℕ, ◌^◌, ltb}
+use Rattle.std.specs.Prelude.{◌≡◌, Bool, ◌||◌, ℕ, ◌^◌, ltb, Ok}
 use Rattle.std.proofs.Math.Path.{refl}
 use Rattle.std.proofs.Math.Bool.{true, false}
 use Rattle.std.proofs.Common.{inl, inr, arith}
@@ -11,7 +11,6 @@ use Rattle.bits.specs.BitsLaws.{has_bit, bit_has, within_of_and, and_of_within}
 use Rattle.bits.proofs.BitsLaws.{has_mono}
 use Rattle.masking.specs.Place
 use Rattle.table.specs.declared.Refusal.TheVariants.{StateBeyondTable, CompactSizeTooLarge}
-use Rattle.table.specs.declared.Verdict.TheVariants.{Accepted}
 use Rattle.table.specs.Refusal.{and_then}
 use Rattle.table.specs.Rows.{Rows}
 use Rattle.checks.specs.Checks.{refuse_unless}
@@ -48,7 +47,7 @@ module _ (m : Rows) (x s : ℕ) where
       go false e = beyond (λ h. never_both (allowed_test m x s h) e) refl
 
   -- a given view allows its states, and has no size that is too large
-  pub given_allowed : state_verdict m x s ≡ Accepted → Allowed m x s
+  pub given_allowed : state_verdict m x s ≡ Ok tt → Allowed m x s
   given_allowed g = go state_answers
     where
       go : StateAnswers m x s (state_verdict m x s) → Allowed m x s
@@ -56,7 +55,7 @@ module _ (m : Rows) (x s : ℕ) where
       go (large h f e) = h
       go (given h f e) = h
 
-  pub given_fits : state_verdict m x s ≡ Accepted → SizeFault m x s → ⊥
+  pub given_fits : state_verdict m x s ≡ Ok tt → SizeFault m x s → ⊥
   given_fits g = go state_answers
     where
       go : StateAnswers m x s (state_verdict m x s) → SizeFault m x s → ⊥

@@ -1,5 +1,5 @@
 -- What an accepted page set's table has for a guest: the subleaves of its masks are there, and no sum over XCR0 passes 32 bits.
-use Rattle.std.specs.Prelude.{◌≡◌, true, List, ℕ, ◌+◌, ◌-◌, ◌^◌, ◌≤◌, ◌<◌}
+use Rattle.std.specs.Prelude.{◌≡◌, true, List, ℕ, ◌+◌, ◌-◌, ◌^◌, ◌≤◌, ◌<◌, Ok}
 use Rattle.std.proofs.Common.{sym, ap, ◌∙◌, arith}
 use Rattle.bits.specs.ChoiceLaws.{and_both}
 use Rattle.bits.specs.Bits.{has, Within}
@@ -9,7 +9,6 @@ use Rattle.x86defs.specs.declared.CpuidResult.{CpuidResult}
 use Rattle.masking.specs.Kept.{places}
 use Rattle.masking.specs.Place
 use Rattle.table.specs.declared.Choices.{Choices}
-use Rattle.table.specs.declared.Verdict.TheVariants.{Accepted}
 use Rattle.table.specs.Rows.{Row, Rows}
 use Rattle.checks.specs.ExtendedState.{xfem, combined_mask, save_area}
 use Rattle.checks.specs.ExtendedStateLaws.{area_mono, in_combined}
@@ -28,7 +27,7 @@ pub record Supplied (t : CpuidResults) : Type 0 where
   pub required : (i : ℕ) → i < places → always (rule_at i) ≡ true → (row_in t i).present ≡ true
   pub components : (k : ℕ) → 2 ≤ k → k < 64 → has k (combined_mask (rows_of_table t)) ≡ true → (row_in t (Place.extended_state k)).present ≡ true
 
-module _ (chosen : Choices) (s : List ℕ) (e : (answer chosen s).verdict ≡ Accepted) where
+module _ (chosen : Choices) (s : List ℕ) (e : (answer chosen s).verdict ≡ Ok tt) where
   abbrev m : Rows
   m = rows_for chosen s
 

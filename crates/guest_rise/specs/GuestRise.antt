@@ -1,6 +1,6 @@
 -- Document 02, P3: "The rise from server A to server B is wanted for guest answers with the same number, XCR0, XSS and OSXSAVE too,
 -- except that where A's D.1.EBX is 0 for want of both bits, B's may be any size or refused by 14."
-use Rattle.std.specs.Prelude.{◌≡◌, Bool, true, false, List, ◌⊎◌, ℕ, ◌<◌}
+use Rattle.std.specs.Prelude.{◌≡◌, Bool, true, false, List, ◌⊎◌, ℕ, ◌<◌, Err, Ok}
 use Rattle.bits.specs.Bits.{Within}
 use Rattle.masking.specs.Kept.{places}
 use Rattle.masking.specs.Place
@@ -8,7 +8,6 @@ use Rattle.x86defs.specs.declared.CpuidResult.{CpuidResult}
 use Rattle.table.specs.declared.Choices.{Choices}
 use Rattle.table.specs.declared.CpuidResults.{CpuidResults}
 use Rattle.table.specs.declared.Refusal.TheVariants.{CompactSizeTooLarge}
-use Rattle.table.specs.declared.Verdict.TheVariants.{Accepted, Refused}
 use Rattle.table.specs.Table.{row_in}
 use Rattle.finish.specs.Kinds.{TableAtLeast, Registers, kinds_at}
 use Rattle.build.specs.Build.{answer}
@@ -40,10 +39,10 @@ pub record GuestTableRises (a b : CpuidResults) : Type 0 where
 
 -- B's answer g, beside A's guest table
 pub data GuestOutcome (a : CpuidResults) (g : GuestAnswer) : Type 0 where
-  given : g.verdict ≡ Accepted → GuestTableRises a g.table → GuestOutcome a g
+  given : g.verdict ≡ Ok tt → GuestTableRises a g.table → GuestOutcome a g
   -- 14, only where A's D.1.EAX has neither bit
-  too_large : compacts_in a ≡ false → g.verdict ≡ Refused CompactSizeTooLarge → GuestOutcome a g
+  too_large : compacts_in a ≡ false → g.verdict ≡ Err CompactSizeTooLarge → GuestOutcome a g
 
 abbrev pub GuestRise : Type 0
-GuestRise = (chosen : Choices) (a b : List ℕ) (v : Processor) → RiseHypothesis chosen a b → (answer chosen b).verdict ≡ Accepted
-    → (guest_pages chosen a v).verdict ≡ Accepted → GuestOutcome (guest_pages chosen a v).table (guest_pages chosen b v)
+GuestRise = (chosen : Choices) (a b : List ℕ) (v : Processor) → RiseHypothesis chosen a b → (answer chosen b).verdict ≡ Ok tt
+    → (guest_pages chosen a v).verdict ≡ Ok tt → GuestOutcome (guest_pages chosen a v).table (guest_pages chosen b v)

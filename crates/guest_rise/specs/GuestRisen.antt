@@ -2,13 +2,11 @@
 -- and OSXSAVE too, except that where A's D.1.EBX is 0 for want of both bits, B's may be any size or refused by 14." From a guest that A gives its
 -- table, B's answer is one of four, as B's own rows decide: refused by 3 or by 5, as demand 3 has it and for its reasons; refused by 14, only where
 -- A's D.1.EAX has neither bit; or given, and the guest's table rises from A's. 13 never stands in the way.
-use Rattle.std.specs.Prelude.{◌≡◌, false, List, ℕ}
+use Rattle.std.specs.Prelude.{◌≡◌, false, List, ℕ, Ok, Some}
 use Rattle.x86defs.specs.Functions.{ExtendedStateEnumeration}
 use Rattle.table.specs.declared.Choices.{Choices}
 use Rattle.table.specs.declared.CpuidResults.{CpuidResults}
-use Rattle.table.specs.declared.Subleaf.TheVariants.{Some}
 use Rattle.table.specs.declared.Refusal.TheVariants.{MissingRequiredResult, SaveAreaOverflow, CompactSizeTooLarge}
-use Rattle.table.specs.declared.Verdict.TheVariants.{Accepted}
 use Rattle.table.specs.Rows.{Rows}
 use Rattle.build.specs.Build.{rows_for}
 use Rattle.refusals.specs.Conditions.{Lacking, ComponentFault, AreaFault}
@@ -24,8 +22,8 @@ pub data GuestRisen (m : Rows) (a : CpuidResults) (g : GuestAnswer) : Type 0 whe
   missing : (k : ℕ) → ComponentFault m k → g ≡ refused_answer (MissingRequiredResult ExtendedStateEnumeration (Some k)) → GuestRisen m a g
   overflow : ((k : ℕ) → Lacking m k → ⊥) → AreaFault m → g ≡ refused_answer SaveAreaOverflow → GuestRisen m a g
   too_large : ((k : ℕ) → Lacking m k → ⊥) → (AreaFault m → ⊥) → compacts_in a ≡ false → g ≡ refused_answer CompactSizeTooLarge → GuestRisen m a g
-  given : ((k : ℕ) → Lacking m k → ⊥) → (AreaFault m → ⊥) → g.verdict ≡ Accepted → GuestTableRises a g.table → GuestRisen m a g
+  given : ((k : ℕ) → Lacking m k → ⊥) → (AreaFault m → ⊥) → g.verdict ≡ Ok tt → GuestTableRises a g.table → GuestRisen m a g
 
 abbrev pub GuestRiseAll : Type 0
-GuestRiseAll = (chosen : Choices) (a b : List ℕ) (v : Processor) → RiseHypothesis chosen a b → (guest_pages chosen a v).verdict ≡ Accepted
+GuestRiseAll = (chosen : Choices) (a b : List ℕ) (v : Processor) → RiseHypothesis chosen a b → (guest_pages chosen a v).verdict ≡ Ok tt
     → GuestRisen (rows_for chosen b) (guest_pages chosen a v).table (guest_pages chosen b v)

@@ -1,14 +1,13 @@
 -- Refusals 13 and 14 of rows in document 02's words: each is given exactly where it says, and the view is given exactly where neither is.
-use Rattle.std.specs.Prelude.{◌≡◌, ◌⊎◌, ℕ, ◌^◌, ◌≤◌}
+use Rattle.std.specs.Prelude.{◌≡◌, ◌⊎◌, ℕ, ◌^◌, ◌≤◌, Err, Ok}
 use Rattle.std.specs.Int.Bits.{bit_or}
 use Rattle.bits.specs.Bits.{bit, Within}
 use Rattle.masking.specs.Place
 use Rattle.table.specs.declared.Refusal.TheVariants.{StateBeyondTable, CompactSizeTooLarge}
-use Rattle.table.specs.declared.Verdict.{Verdict}
-use Rattle.table.specs.declared.Verdict.TheVariants.{Accepted, Refused}
 use Rattle.table.specs.Rows.{Rows}
 use Rattle.checks.specs.ExtendedState.{xfem, xss as maxXss}
 use Rattle.guest_state.specs.Compact.{compact_size}
+use Rattle.table.specs.Verdict.{Verdict}
 
 -- 13 is not given: XCR0 x has bit 0 and none beyond XFEM; XSS s has none beyond the table's
 pub record Allowed (m : Rows) (x s : ℕ) : Type 0 where
@@ -27,6 +26,6 @@ pub record SizeFault (m : Rows) (x s : ℕ) : Type 0 where
 
 -- each verdict with all that it says; the three exclude each other
 pub data StateAnswers (m : Rows) (x s : ℕ) (w : Verdict) : Type 0 where
-  beyond : (Allowed m x s → ⊥) → w ≡ Refused StateBeyondTable → StateAnswers m x s w
-  large : Allowed m x s → SizeFault m x s → w ≡ Refused CompactSizeTooLarge → StateAnswers m x s w
-  given : Allowed m x s → (SizeFault m x s → ⊥) → w ≡ Accepted → StateAnswers m x s w
+  beyond : (Allowed m x s → ⊥) → w ≡ Err StateBeyondTable → StateAnswers m x s w
+  large : Allowed m x s → SizeFault m x s → w ≡ Err CompactSizeTooLarge → StateAnswers m x s w
+  given : Allowed m x s → (SizeFault m x s → ⊥) → w ≡ Ok tt → StateAnswers m x s w

@@ -11,7 +11,6 @@ use Rattle.bits.specs.BitsLaws.{has_bit, bit_has, within_of_and, and_of_within}
 use Rattle.bits.proofs.BitsLaws.{has_mono}
 use Rattle.masking.specs.Place
 use Rattle.table.specs.declared.Refusal.TheVariants.{StateBeyondTable, CompactSizeTooLarge}
-use Rattle.table.specs.declared.Verdict.TheVariants.{Accepted}
 use Rattle.table.specs.Refusal.{and_then}
 use Rattle.table.specs.Rows.{Rows}
 use Rattle.checks.specs.Checks.{refuse_unless}

@@ -1,15 +1,14 @@
 -- Laws of the compacted size: what one subleaf adds, the loop's turns, and that only the subleaves of the mask matter.
-use Rattle.std.specs.Prelude.{◌≡◌, refl, Bool, true, false, ◌&&◌, ℕ, zero, suc, ◌+◌, ◌-◌, ◌*◌, ◌^◌, ◌≤◌, ◌<◌, leb}
-use Rattle.std.proofs.Common.{sym, ap, ◌∙◌, inl, inr, eq-or-lt_of_le, add-one, arith, leb-true, le-leb}
+use Rattle.std.specs.Prelude.{◌≡◌, refl, Bool, true, false, ◌&&◌, ℕ, zero, suc, ◌+◌, ◌-◌, ◌^◌, ◌≤◌, ◌<◌, leb}
+use Rattle.std.proofs.Common.{sym, ap, ◌∙◌, inl, inr, eq-or-lt_of_le, arith, leb-true}
 use Rattle.std.specs.Int.Bits.{bit_and}
 use Rattle.std.specs.Int.Count.{count_trailing_zeros}
 use Rattle.bits.specs.ChoiceLaws.{and_left, and_right}
 use Rattle.bits.specs.Bits.{has}
-use Rattle.x86defs.specs.declared.CpuidResult.{CpuidResult}
 use Rattle.masking.specs.Place
 use Rattle.table.specs.Rows.{Rows}
 use Rattle.checks.specs.LowestLaws.{Left, Taken, left_taken, left_none}
-use Rattle.guest_state.specs.Compact.{raised, component_start, placed, compact_below, compact_size}
+use Rattle.guest_state.specs.Compact.{placed, compact_below, compact_size}
 use Rattle.guest_state.specs.CompactLaws.{Placing, compact_next, compact_starts, placed_same, placed_unused}
 
 -- no bit from k up to n: nothing is added
@@ -31,9 +30,6 @@ module _ (m : Rows) (x : ℕ) where
   placing_starts l = record { k = 2; low = omega arith; high = omega arith; area = compact_starts m x; most = omega arith; left = l }
 
   module _ {size rest : ℕ} (p : Placing m x size rest) where
-    pub placing_small : size < 2 ^ 40
-    placing_small = omega (arith, p.most, p.high)
-
     pub placing_taken : ¬ (rest ≡ 0) → Taken x rest p.k (count_trailing_zeros 64 rest)
     placing_taken e = left_taken p.left e
 

@@ -1,23 +1,16 @@
 -- The state in use by the code's returns, and that it is the verdict on the table that the memory holds.
-use Rattle.std.specs.Prelude.{◌≡◌, refl, Bool, true, false, List, ℕ, ◌<◌, get_or}
-use Rattle.std.proofs.Math.Path.{sym, ap}
-use Rattle.std.proofs.Common.{◌∙◌, arith}
-use Rattle.x86defs.specs.declared.CpuidResult.{CpuidResult}
-use Rattle.x86defs.specs.Functions.{cpuid_result}
+use Rattle.std.specs.Prelude.{◌≡◌, false, List, ℕ, ◌<◌}
+use Rattle.std.proofs.Math.Path.{ap}
+use Rattle.std.proofs.Common.{arith}
 use Rattle.masking.specs.Place
-use Rattle.table.specs.declared.Refusal.{Refusal}
-use Rattle.table.specs.declared.Verdict.{Verdict}
-use Rattle.table.specs.declared.Verdict.TheVariants.{Accepted, Refused}
-use Rattle.table.specs.Rows.{Row, Rows}
+use Rattle.table.specs.Rows.{Row}
 use Rattle.table.specs.Table as Tables
-use Rattle.memory.specs.Memory.{is_there, row_of, rows_in}
+use Rattle.memory.specs.Memory.{rows_in}
 use Rattle.memory.specs.Held.{held_in, whole_row_lem}
 use Rattle.guest_state.specs.State.{save_register, compact_register, state_verdict}
 use Rattle.guest_state.proofs.StateLaws.{save_of_state, compact_of_state, verdict_of_state}
 use Rattle.rows.specs.Checked.{registers_in}
-use Rattle.guest_state.specs.declared.InUse.{InUse}
-use Rattle.guest_state.specs.declared.InUse.TheVariants.{Refused as NotGiven, Compacted}
-use Rattle.guest_state.specs.InUse.{read_rows, in_use_by, in_use}
+use Rattle.guest_state.specs.InUse.{read_rows}
 
 -- ---- the table that the memory holds: verdict and sizes need no length of the memory
 

@@ -1,28 +1,21 @@
 -- Verdict and sizes, one case for each return of the function; and that they are of leaf Dh's registers alone, so that tables
 -- that differ elsewhere give a guest the same.
-use Rattle.std.specs.Prelude.{◌≡◌, Bool, true, false, ◌&&◌, ltb}
+use Rattle.std.specs.Prelude.{◌≡◌, ◌&&◌, ltb}
 use Rattle.std.proofs.Math.Path.{sym, ap, ap₂}
-use Rattle.std.proofs.Common.{◌∙◌, arith, lit<}
+use Rattle.std.proofs.Common.{arith, lit<}
 use Prim.Native.Nat.{ℕ, ◌+◌, ◌-◌, ◌^◌, ◌≤◌, ◌<◌, min}
 use Rattle.std.specs.Int.Bits.{bit_or}
-use borrow.Author.Tests.{lt-ltb, le-ltb, ltb-true}
 use Rattle.bits.specs.Choice.{pick}
 use Rattle.bits.specs.Bits.{has}
 use Rattle.bits.specs.BitsLaws.{within_refl}
 use Rattle.x86defs.specs.declared.CpuidResult.{CpuidResult}
 use Rattle.masking.specs.Place
 use Rattle.table.specs.declared.Refusal.TheVariants.{StateBeyondTable, CompactSizeTooLarge}
-use Rattle.table.specs.declared.Verdict.{Verdict}
-use Rattle.table.specs.declared.Verdict.TheVariants.{Accepted, Refused}
 use Rattle.table.specs.Refusal.{and_then}
 use Rattle.table.specs.Rows.{Rows}
-use Rattle.checks.specs.declared.Size.{Size}
-use Rattle.checks.specs.declared.Size.TheVariants.{Bytes, TooLarge}
 use Rattle.checks.specs.Checks.{refuse_unless}
-use Rattle.checks.specs.ChecksLaws.{then_right, demanded}
-use Rattle.checks.specs.ExtendedState.{xfem, xss as maxXss, save_area, size_of}
+use Rattle.checks.specs.ExtendedState.{xfem, xss as maxXss, save_area}
 use Rattle.checks.specs.ExtendedStateLaws.{area_mono}
-use Rattle.checks.specs.SaveAreaLaws.{size_bytes, size_large}
 use Rattle.guest_state.proofs.CompactLaws.{compact_same}
 use Rattle.guest_state.specs.State.{allowed, compacts, save_register, compact_register, allowed_verdict, compact_verdict, state_verdict}
 

@@ -1,15 +1,12 @@
 -- Laws of the compacted size: what one subleaf adds, the loop's turns, and that only the subleaves of the mask matter.
-use Rattle.std.specs.Prelude.{◌≡◌, refl, Bool, true, false, ◌&&◌, ℕ, zero, suc, ◌+◌, ◌-◌, ◌*◌, ◌^◌, ◌≤◌, ◌<◌, leb}
-use Rattle.std.proofs.Common.{sym, ap, ◌∙◌, inl, inr, eq-or-lt_of_le, add-one, arith, leb-true, le-leb}
-use Rattle.std.specs.Int.Bits.{bit_and}
-use Rattle.std.specs.Int.Count.{count_trailing_zeros}
-use Rattle.bits.specs.ChoiceLaws.{and_left, and_right}
+use Rattle.std.specs.Prelude.{◌≡◌, refl, Bool, true, false, ℕ, ◌+◌, ◌*◌, ◌^◌, ◌≤◌}
+use Rattle.std.proofs.Common.{ap, ◌∙◌, add-one, le-leb}
 use Rattle.bits.specs.Bits.{has}
 use Rattle.x86defs.specs.declared.CpuidResult.{CpuidResult}
 use Rattle.masking.specs.Place
 use Rattle.table.specs.Rows.{Rows}
-use Rattle.checks.specs.LowestLaws.{Left, Taken, left_taken, left_none}
-use Rattle.guest_state.specs.Compact.{raised, component_start, placed, compact_below, compact_size}
+use Rattle.checks.specs.LowestLaws.{Left}
+use Rattle.guest_state.specs.Compact.{raised, component_start, placed, compact_below}
 
 -- ---- one subleaf
 

@@ -8,12 +8,12 @@ use Rattle.x86defs.specs.ExtendedStateEnumerationSubleaf1Eax as Subleaf1Eax
 use Rattle.x86defs.specs.ExtendedStateEnumerationSubleaf1Eax.ExtendedStateEnumerationSubleaf1Eax.{xsave_c, xsave_s}
 use Rattle.masking.specs.Place
 use Rattle.table.specs.declared.Refusal.TheVariants.{StateBeyondTable, CompactSizeTooLarge}
-use Rattle.table.specs.declared.Verdict.{Verdict}
 use Rattle.table.specs.Refusal.{and_then}
 use Rattle.table.specs.Rows.{Rows}
 use Rattle.checks.specs.Checks.{refuse_unless}
 use Rattle.checks.specs.ExtendedState.{xfem, xss as maxXss, save_area}
 use Rattle.guest_state.specs.Compact.{compact_size}
+use Rattle.table.specs.Verdict.{Verdict}
 
 -- ---- the two sizes
 

@@ -9,7 +9,7 @@ ghost use Rattle.guest_state.specs.Compact.{placed, compact_size};
 ghost use Rattle.guest_state.specs.State.{within_test, allowed, compact_register, save_register};
 ghost use Rattle.guest_state.specs.InUse.{read_rows, in_use};
 
-use checks::{FROM_2, Size, max_xss};
+use checks::{FROM_2, max_xss};
 use masking::{PLACES, place};
 use memory::{REGISTERS, is_there, row_at};
 use rows::checked::xsave_size;
@@ -22,21 +22,14 @@ const HEADER_END: u64 = 576;
 // The largest number that a register holds.
 const LARGEST: u64 = 0xFFFFFFFF;
 
-// Refused by 13 or 14, or allowed, with the compacted size (D.1.EBX).
-#[derive(Clone, Copy)]
-pub enum InUse {
-    Refused(Refusal),
-    Compacted(u32),
-}
-
-// Whether the memory's own rows of leaf Dh allow XCR0 and XSS, and the compacted size. An absent row may be read as zeros.
+// The compacted size (D.1.EBX), if the memory's own rows of leaf Dh allow XCR0 and XSS; else refusal 13 or 14. An absent row may be read as zeros.
 pub fn state_in_use(
     registers: &[u32; REGISTERS],
     origins: &[u64; PLACES],
     absent_as_zero: bool,
     xcr0: u64,
     xss: u64,
-) -> InUse
+) -> Result<u32, Refusal>
     ensures { result ≡ in_use (read_rows absent_as_zero registers.now origins.now) xcr0 xss }
 {
     let subleaf0 = read_row(registers, origins, absent_as_zero, place::EXTENDED_STATE_0);
@@ -44,11 +37,11 @@ pub fn state_in_use(
     if is_allowed(subleaf0.eax, max_xss(subleaf1), xcr0, xss) {
         let size = compact_register(registers, origins, absent_as_zero, xcr0, xss);
         if size > LARGEST {
-            return InUse::Refused(Refusal::CompactSizeTooLarge);
+            return Err(Refusal::CompactSizeTooLarge);
         }
-        return InUse::Compacted(size as u32);
+        return Ok(size as u32);
     }
-    InUse::Refused(Refusal::StateBeyondTable)
+    Err(Refusal::StateBeyondTable)
 }
 
 // Whether XCR0 has bit 0, and XCR0 and XSS only bits that the table has.
@@ -122,6 +115,7 @@ fn compact_size(
 {
     let mut size: u64 = HEADER_END;
     let mut rest = mask & FROM_2;
+    // kept as a while: the step is not one but the place of the next set bit
     while rest != 0 {
         let place = place::EXTENDED_STATE_0 + u64::trailing_zeros(rest) as usize;
         let subleaf = read_row(registers, origins, absent_as_zero, place);
@@ -147,9 +141,5 @@ fn place_component(subleaf: CpuidResult, size: u64) -> u64
 pub fn save_register(registers: &[u32; REGISTERS], xcr0: u64) -> u32
     ensures { result ≡ save_register (registers_in registers.now) xcr0 }
 {
-    let size = xsave_size(registers, xcr0);
-    match size {
-        Size::Bytes(bytes) => bytes,
-        Size::TooLarge => 0xFFFFFFFF,
-    }
+    xsave_size(registers, xcr0).unwrap_or(0xFFFFFFFF)
 }

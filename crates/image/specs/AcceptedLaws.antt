@@ -1,5 +1,5 @@
 -- The image of a table that was built from pages: its combined mask tells which components have a row, and how many bytes the image has.
-use Rattle.std.specs.Prelude.{◌≡◌, false, List, ℕ, ◌+◌, ◌-◌, ◌*◌, ◌/◌, ◌^◌, ◌≤◌, ◌<◌, length, get_or}
+use Rattle.std.specs.Prelude.{◌≡◌, false, List, ℕ, ◌+◌, ◌-◌, ◌*◌, ◌/◌, ◌^◌, ◌≤◌, ◌<◌, length, get_or, Ok}
 use Rattle.std.proofs.Common.{sym, ◌∙◌, arith}
 use Rattle.std.proofs.Math.Path.{ap}
 use Rattle.std.specs.Int.Count.{ones}
@@ -10,8 +10,6 @@ use Rattle.masking.specs.Kept.{places}
 use Rattle.masking.specs.Place
 use Rattle.table.specs.declared.Choices.{Choices}
 use Rattle.table.specs.declared.CpuidResults.{CpuidResults}
-use Rattle.table.specs.declared.Verdict.{Verdict}
-use Rattle.table.specs.declared.Verdict.TheVariants.{Accepted}
 use Rattle.table.specs.Table.{table_of}
 use Rattle.checks.specs.ExtendedState.{combined_mask}
 use Rattle.checks.specs.ChecksLaws.{then_right, AllPass, all_pass}
@@ -26,6 +24,7 @@ use Rattle.image.specs.Components.{Components}
 use Rattle.image.specs.ComponentsLaws.{ones_sum}
 use Rattle.image.specs.LengthLaws.{image_length}
 use Rattle.image.specs.RowsPresent.{stands, component_stands, row_stands}
+use Rattle.table.specs.Verdict.{Verdict}
 
 -- ---- a table whose rows are those that stand under x
 
@@ -64,17 +63,17 @@ module _ (t : CpuidResults) (x : ℕ) (standing : (i : ℕ) → i < places → g
 
 -- ---- the table that building gives
 
-pub rows_pass : (chosen : Choices) (s : List ℕ) → (answer chosen s).verdict ≡ Accepted → AllPass (rows_for chosen s)
+pub rows_pass : (chosen : Choices) (s : List ℕ) → (answer chosen s).verdict ≡ Ok tt → AllPass (rows_for chosen s)
 unfolding answer verdict_of
 rows_pass chosen s e = all_pass (rows_for chosen s) (then_right (lawful_verdict s) _ (then_right (edition_verdict chosen.edition) _ e))
 
-pub accepted_table : (chosen : Choices) (s : List ℕ) → (answer chosen s).verdict ≡ Accepted
+pub accepted_table : (chosen : Choices) (s : List ℕ) → (answer chosen s).verdict ≡ Ok tt
     → (answer chosen s).table ≡ table_of (finished chosen.edition (rows_for chosen s)) (combined_mask (rows_for chosen s))
 unfolding answer
 accepted_table chosen s e = ap (λ (v : Verdict). table_for chosen.edition v (rows_for chosen s)) e
 
 -- its rows, by its mask alone
-pub accepted_stands : (chosen : Choices) (s : List ℕ) → (answer chosen s).verdict ≡ Accepted → (i : ℕ) → i < places
+pub accepted_stands : (chosen : Choices) (s : List ℕ) → (answer chosen s).verdict ≡ Ok tt → (i : ℕ) → i < places
     → get_or (answer chosen s).table.present i false ≡ stands (answer chosen s).table.max_extended_state i
 accepted_stands chosen s e i h =
     rw (accepted_table chosen s e)
@@ -82,7 +81,7 @@ accepted_stands chosen s e i h =
     ∙ row_stands chosen.edition (rows_for chosen s) (rows_pass chosen s e) i h)
 
 -- the same in the memory that building filled, where x is the mask that it holds
-module _ (chosen : Choices) (s : List ℕ) {v : Verdict} {w o : List ℕ} (k : InMemory (answer chosen s) v w o) (accepted : v ≡ Accepted)
+module _ (chosen : Choices) (s : List ℕ) {v : Verdict} {w o : List ℕ} (k : InMemory (answer chosen s) v w o) (accepted : v ≡ Ok tt)
     {x : ℕ} (mask : x ≡ mask_held w) where
   stands_held : (i : ℕ) → i < places → get_or (held_in w o).present i false ≡ stands x i
   stands_held i h =

@@ -1,6 +1,6 @@
 -- A word of the components that have a row: gathered bit by bit from the memory, and counted by its ones.
 use Rattle.std.specs.Prelude.{◌≡◌, refl, Bool, true, false, List, ℕ, zero, suc, ◌+◌, ◌-◌, ◌*◌, ◌/◌, ◌^◌, ◌≤◌, ◌<◌, get_or}
-use Rattle.std.proofs.Common.{sym, ap, ap₂, ◌∙◌, arith, pow_mono}
+use Rattle.std.proofs.Common.{sym, ap, ap₂, ◌∙◌, arith}
 use mir.Val.{bool_byte}
 use Rattle.std.specs.Int.Count.{ones, ones_step}
 use Rattle.std.proofs.lemmas.Nat.{ones-le}
@@ -11,7 +11,6 @@ use Rattle.bits.specs.BitsLaws.{bit_zero, bit_suc, bit_shr, has_bit, has_not, bi
 use Rattle.masking.specs.Place
 use Rattle.memory.specs.Memory.{is_there}
 use Rattle.memory.specs.Held.{byte_le}
-use Rattle.image.specs.Components.{Components}
 use Rattle.image.specs.Sums.{sum_front}
 
 -- ---- a word gathered from the highest bit down
@@ -27,13 +26,6 @@ one_bit_lem k n = go (has k n) refl
 pub record Gathered (o : List ℕ) (k x : ℕ) : Type 0 where
   pub bits : (j : ℕ) → k + j < 64 → has j x ≡ is_there (get_or o (Place.extended_state (k + j)) 0)
   pub fits : x < 2 ^ (64 - k)
-
-pub gathered_none : (o : List ℕ) → Gathered o 64 0
-gathered_none o = record { bits = λ j h. absurd (omega arith); fits = omega arith }
-
--- there is room for one more bit
-pub gathered_room : {o : List ℕ} {k x : ℕ} → Gathered o k x → 0 < k → x < 2 ^ 63
-gathered_room {o} {k} g h = let l : 64 - k ≤ 63 = omega arith in omega (arith, g.fits, pow_mono l)
 
 module _ (x : ℕ) (b : Bool) where
   last : has 0 (2 * x + bool_byte b) ≡ b
@@ -61,9 +53,6 @@ gathered_next {o} {k} {x} {b} g low high e = record { bits = bits; fits = fits }
 
     fits : 2 * x + bool_byte b < 2 ^ (64 - (k - 1))
     fits = let q : 64 - (k - 1) ≡ suc (64 - k) = omega arith in rw q (omega (arith, g.fits, byte_le b))
-
-pub gathered_all : {o : List ℕ} {x : ℕ} → Gathered o 0 x → Components o x
-gathered_all {o} g = record { there = λ k low high. let q : 0 + k ≡ k = omega arith in sym (rw q at (g.bits k (omega arith))) }
 
 -- ---- its ones
 

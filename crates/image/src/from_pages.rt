@@ -19,10 +19,7 @@ pub fn write_image(pages: &[u8], choices: Choices, out: &mut [u8]) -> Written
 {
     let mut registers: [u32; REGISTERS] = [0; REGISTERS];
     let mut origins: [u64; PLACES] = [0; PLACES];
-    let verdict = build_into(pages, choices, &mut registers, &mut origins);
-    if let Verdict::Refused(r) = verdict {
-        return Written::Refused(r);
-    }
+    build_into(pages, choices, &mut registers, &mut origins)?;
     let mask = combined_mask(&registers);
     let n = LEAST + 25 * u64::count_ones(mask >> 2) as usize;
     write_rows(&registers, &origins, mask, n, out)

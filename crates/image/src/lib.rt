@@ -3,7 +3,6 @@
 #![tactic(auto)]
 
 ghost use Rattle.std.specs.Prelude.{◌≡◌, List, ℕ, ◌+◌, ◌≤◌, length};
-ghost use Rattle.bits.specs.Lists.{one};
 ghost use Rattle.masking.specs.Kept.{places};
 ghost use Rattle.memory.specs.Held.{held_in, flags};
 ghost use Rattle.image.specs.Image.{image};
@@ -54,9 +53,7 @@ pub fn components_there(origins: &[u64; PLACES]) -> u64
     ensures { Components origins.now result }
 {
     let mut components: u64 = 0;
-    let mut k: usize = 64;
-    while k > 0 {
-        k -= 1;
+    for k in (0..64).rev() {
         let origin = origins[place::EXTENDED_STATE_0 + k];
         components = 2 * components + is_there(origin) as u64;
     }
@@ -69,18 +66,8 @@ pub fn rows_among(origins: &[u64; PLACES], first: usize, end: usize) -> u8
     ensures { (result ≡ rows_among (flags origins.now) first end) × (result + first ≤ end) }
 {
     let mut n = 0;
-    let mut i = first;
-    while i < end {
-        let origin = origins[i];
-        n += one(is_there(origin));
-        i += 1;
+    for i in first..end {
+        n += u8::from(is_there(origins[i]));
     }
     n
-}
-
-// 1 where the test holds, else 0.
-fn one(b: bool) -> u8
-    ensures { (result ≡ one b) × (result ≤ 1) }
-{
-    if b { 1 } else { 0 }
 }

@@ -51,10 +51,10 @@ pub fn write_rows(
         × (out.new ≡ (write_front (image (held_in registers.now origins.now)) out.old).buffer) }
 {
     if out.len() < n {
-        return Written::Refused(Refusal::BufferTooShort);
+        return Err(Refusal::BufferTooShort);
     }
     put_rows(registers, origins, components, out);
-    Written::Bytes(n)
+    Ok(n)
 }
 
 // Writes the rows one after another, run by run: each run is a constant, and so are the leaf and the place of each row but those of the components.
@@ -94,13 +94,11 @@ fn put_run(
         out.old from run.first out.new result (run.first + run.count) }
 {
     let mut at = from;
-    let mut k: u32 = 0;
-    while k < run.count {
+    for k in 0..run.count {
         let place = run.first + k as usize;
         let origin = origins[place];
         let r = row_at(registers, place);
         at = put_place(out, at, run, k, is_there(origin), r);
-        k += 1;
     }
     at
 }
@@ -120,6 +118,7 @@ fn put_components(
 {
     let mut at = from;
     let mut rest = components & FROM_2;
+    // kept as a while: the step is not one but the place of the next set bit
     while rest != 0 {
         let subleaf = u64::trailing_zeros(rest);
         let r = row_at(registers, place::EXTENDED_STATE_0 + subleaf as usize);

@@ -1,7 +1,7 @@
 -- An image read back. Document 01, "Image and lookup": byte 1, then leaf, EAX, EBX, ECX, EDX (4 bytes each, little-endian) for a row without
 -- subleaf; byte 2, leaf, subleaf and the four for one with. Document 02, P1: "Rows of the image shall ascend by leaf as an unsigned number,
 -- then by subleaf." So reading goes through the places in this order: the next bytes are the place's row, or the place has none.
-use Rattle.std.specs.Prelude.{Bool, ◌&&◌, List, ℕ, zero, suc, ◌+◌, eqb, leb, length, get_or, drop}
+use Rattle.std.specs.Prelude.{Bool, ◌&&◌, List, ℕ, zero, suc, eqb, leb, length, get_or, drop}
 use Rattle.bits.specs.Choice.{pick}
 use Rattle.pages.specs.Layout.{word_at, registers_at}
 use Rattle.masking.specs.Kept.{places, leaf_at, indexed_at, subleaf_at}

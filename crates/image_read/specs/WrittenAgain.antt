@@ -11,14 +11,12 @@ use Rattle.std.proofs.Math.Seq.{get_or-drop}
 use borrow.Author.Tests.{leb-true, eqb-true}
 use Rattle.bits.specs.Choice.{pick}
 use Rattle.bits.specs.ChoiceLaws.{and_left, and_right}
-use Rattle.bits.specs.ListsLaws.{get_d_tabulate}
-use Rattle.x86defs.specs.Functions.{cpuid_result}
 use Rattle.pages.specs.Layout.{word_at, registers_at}
 use Rattle.masking.specs.Kept.{places, leaf_at, indexed_at, subleaf_at}
 use Rattle.table.specs.declared.CpuidResults.{CpuidResults}
-use Rattle.table.specs.Rows.{Row, Rows, row, vacant}
+use Rattle.table.specs.Rows.{Row, row, vacant}
 use Rattle.table.specs.TableLaws.{table_row}
-use Rattle.table.specs.Table.{table_of, row_in}
+use Rattle.table.specs.Table.{table_of}
 use Rattle.table.specs.Fits.{Fits}
 use Rattle.buffer.specs.Front.{bytes_of, result_bytes}
 use Rattle.image.specs.Image.{row_bytes, place_bytes, image}

@@ -1,13 +1,16 @@
 // Reads an image into lent memory: the rows of the table whose image the bytes are, or none where they are no image.
 #![tactic(auto)]
 
-ghost use Rattle.std.specs.Prelude.{◌≡◌, ◌+◌, ◌^◌, ◌≤◌, ◌<◌, length, drop};
+ghost use Rattle.std.specs.Prelude.{◌≡◌, true, ◌+◌, ◌^◌, ◌≤◌, ◌<◌, length, drop};
 ghost use Rattle.bits.specs.Choice.{pick};
+ghost use Rattle.masking.specs.Runs.{lawful_run};
 ghost use Rattle.memory.specs.Held.{held_in};
 ghost use Rattle.image_read.specs.ReadImage.{opens, read_image};
 ghost use Rattle.image_read.specs.ReadIn.{FoundIn, ReadIn};
 ghost use Rattle.image_read.specs.ImageRuns.{run_begins};
+ghost use Rattle.image_read.specs.ReadingLaws.{Reading};
 
+use masking::run::RUNS;
 use masking::{PLACES, Run};
 use memory::origins::NOT_KNOWN;
 use memory::{REGISTERS, clear, put_row};
@@ -20,7 +23,7 @@ const WHOLE_ROW: usize = 21;
 
 const INDEXED_ROW: usize = 25;
 
-// Whether bytes are an image, and of which table; an empty one where they are none.
+// Whether bytes are an image, and of which table; an empty one if they are none. Kept as two values: theorems speak of the empty table, too.
 #[derive(Clone, Copy)]
 pub struct ReadImage {
     pub is_image: bool,
@@ -51,19 +54,31 @@ fn read_rows(bytes: &[u8], registers: &mut [u32; REGISTERS], origins: &mut [u64;
 {
     clear(registers, origins);
     let mut at = 0;
-    let mut i = 0;
-    while i < PLACES {
-        let run = masking::run_at(i);
-        let first = run.first;
-        let end = first + run.count as usize;
-        while i < end {
-            if row_begins(bytes, at, run, (i - first) as u32) {
-                let length = row_length(run.indexed);
-                put_row(registers, i, registers_at(bytes, at + length - 16));
-                origins[i] = NOT_KNOWN;
-                at += length;
-            }
-            i += 1;
+    for run in &RUNS {
+        at = read_run(bytes, *run, registers, origins, at);
+    }
+    at
+}
+
+// Reads the rows of a run's places, from index `from` on, and gives the index after them.
+fn read_run(
+    bytes: &[u8],
+    run: Run,
+    registers: &mut [u32; REGISTERS],
+    origins: &mut [u64; PLACES],
+    from: usize,
+) -> usize
+    requires { (lawful_run run ≡ true) × Reading bytes.now from run.first registers.old origins.old }
+    ensures { Reading bytes.now result (run.first + run.count) registers.new origins.new }
+{
+    let mut at = from;
+    for k in 0..run.count {
+        if row_begins(bytes, at, run, k) {
+            let length = row_length(run.indexed);
+            let place = run.first + k as usize;
+            put_row(registers, place, registers_at(bytes, at + length - 16));
+            origins[place] = NOT_KNOWN;
+            at += length;
         }
     }
     at

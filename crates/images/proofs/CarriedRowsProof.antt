@@ -17,8 +17,6 @@ use Rattle.x86defs.specs.Functions.{cpuid_result}
 use Rattle.masking.specs.Kept.{places}
 use Rattle.masking.specs.Place
 use Rattle.table.specs.declared.CpuidResults.{CpuidResults}
-use Rattle.table.specs.declared.Verdict.{Verdict}
-use Rattle.table.specs.declared.Verdict.TheVariants.{Accepted, Refused}
 use Rattle.table.specs.Edition.{joined_from, bits_between}
 use Rattle.table.specs.Rows.{Row}
 use Rattle.table.specs.Table.{table_of, empty_table, row_in}
@@ -31,6 +29,7 @@ use Rattle.carry.specs.CarryImage.{carry_image}
 use Rattle.images.specs.CarriedLaws.{given, carry_keeps, carries_in_place}
 use Rattle.images.specs.CarriedRows.{own_ymm, BitsGone, RowGone, of_version, of_extended, CarriesRows, StaysWithin}
 use Rattle.images.specs.CarriedRowsProof.{extended_gone, own_keeps, version_gone}
+use Rattle.table.specs.Verdict.{Verdict}
 
 module _ (keep : Bool) (t : CpuidResults) where
   carried_at_lem : (i : ℕ) → i < places → (row_in (carried_table (bits_between 1 2) keep t) i).result ≡ carried_at (bits_between 1 2) keep i (row_in t i)

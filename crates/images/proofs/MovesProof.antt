@@ -1,5 +1,5 @@
 -- The proof of `MovesToSecond`: an accepted table has zeros where it has no row, so carrying clears what P7's editions differ in.
-use Rattle.std.specs.Prelude.{◌≡◌, refl, true, false, ◌&&◌, List, ℕ, ◌<◌, eqb, length}
+use Rattle.std.specs.Prelude.{◌≡◌, refl, true, false, ◌&&◌, List, ℕ, ◌<◌, eqb, length, Ok, Some}
 use Rattle.std.proofs.Common.{sym, ◌∙◌, arith, lit<, ext_get_or, ne_eqb}
 use Rattle.std.proofs.Math.Path.{ap}
 use Rattle.std.proofs.Math.Bool.{Bool}
@@ -12,7 +12,6 @@ use Rattle.masking.specs.Kept.{places}
 use Rattle.masking.specs.Place
 use Rattle.table.specs.declared.Choices.{Choices}
 use Rattle.table.specs.declared.CpuidResults.{CpuidResults}
-use Rattle.table.specs.declared.Verdict.TheVariants.{Accepted}
 use Rattle.table.specs.Rows.{Row, vacant}
 use Rattle.table.specs.Edition.{f16c, xop_and_fma4, known_edition, joined_from, bits_between}
 use Rattle.table.specs.Table.{row_in, rows_of_table}
@@ -30,14 +29,13 @@ use Rattle.images.specs.ImagesProof.{accepted_plain}
 use Rattle.rise.specs.Second as Second
 use Rattle.rise.proofs.SecondLaws.{zero_clears}
 use Rattle.rise.proofs.SecondProof.{second_edition}
-use Rattle.table.specs.declared.Verdict.{Verdict}
 use Rattle.carry.specs.Carry.{own_rows, without_bits, carried_at, carried_table, keeps, carry_verdict, carried_given, carry}
-use Rattle.carry.specs.declared.in_image.CarriedImage.TheVariants.{Image}
 use Rattle.carry.specs.CarryImage.{carry_image}
 use Rattle.images.specs.CarriedLaws.{carries_in_place}
 use Rattle.images.specs.ImageBytesLaws.{image_bytes}
 use Rattle.images.proofs.ReadBackProof.{built_reads_back}
 use Rattle.images.specs.Moves.{table_under, MovesToSecond}
+use Rattle.table.specs.Verdict.{Verdict}
 
 -- ---- rows that are zeros where they are absent
 
@@ -109,7 +107,7 @@ same_table_lem a b lp lr np nr rows count mask =
     ext_get_or (cpuid_result 0 0 0 0) a.results b.results lr (λ i h. ap (λ (r : Row). r.result) (rows i (omega arith))) in
     λ k. record { present = p k; results = q k; row_count = count k; max_extended_state = mask k }
 
-module _ (chosen : Choices) (s : List ℕ) (e : (answer (with_edition chosen 1) s).verdict ≡ Accepted) where
+module _ (chosen : Choices) (s : List ℕ) (e : (answer (with_edition chosen 1) s).verdict ≡ Ok tt) where
   abbrev a : CpuidResults
   a = table_under 1 chosen s
 
@@ -123,13 +121,13 @@ module _ (chosen : Choices) (s : List ℕ) (e : (answer (with_edition chosen 1) 
   second = (second_edition chosen s).table e
 
   -- a table of the code's: 88 flags, 88 registers
-  present_places : (n : ℕ) → (answer (with_edition chosen n) s).verdict ≡ Accepted → length (table_under n chosen s).present ≡ places
+  present_places : (n : ℕ) → (answer (with_edition chosen n) s).verdict ≡ Ok tt → length (table_under n chosen s).present ≡ places
   present_places n f = ap (λ (t : CpuidResults). length t.present) (answer_table (with_edition chosen n) s f) ∙ length_tabulate places _
 
-  results_places : (n : ℕ) → (answer (with_edition chosen n) s).verdict ≡ Accepted → length (table_under n chosen s).results ≡ places
+  results_places : (n : ℕ) → (answer (with_edition chosen n) s).verdict ≡ Ok tt → length (table_under n chosen s).results ≡ places
   results_places n f = ap (λ (t : CpuidResults). length t.results) (answer_table (with_edition chosen n) s f) ∙ length_tabulate places _
 
-  accepted : (answer (with_edition chosen 2) s).verdict ≡ Accepted
+  accepted : (answer (with_edition chosen 2) s).verdict ≡ Ok tt
   accepted = (second_edition chosen s).verdict ∙ e
 
   carried_second : carried_table (bits_between 1 2) (Second.has_ymm_state a) a ≡ b
@@ -156,18 +154,18 @@ module _ (chosen : Choices) (s : List ℕ) (e : (answer (with_edition chosen 1) 
     unfolding carry carry_verdict known_edition
     moved_verdict = (own_verdict a plain xcr0 xss)
 
-    moved_table : (carry a 1 2 xcr0 xss).verdict ≡ Accepted → (carry a 1 2 xcr0 xss).table ≡ b
+    moved_table : (carry a 1 2 xcr0 xss).verdict ≡ Ok tt → (carry a 1 2 xcr0 xss).table ≡ b
     unfolding carry
     moved_table f =
         ap (λ (v : Verdict). carried_given v (carried_table (bits_between 1 2) (keeps a 1 2) a)) f
         ∙ ap (λ (keep : Bool). carried_table (bits_between 1 2) keep a) (keeps_ymm a plain)
         ∙ carried_second
 
-    moved_answer : (carry_image (image a) 1 2 xcr0 xss).answer ≡ Image (carry a 1 2 xcr0 xss).verdict
+    moved_answer : (carry_image (image a) 1 2 xcr0 xss).answer ≡ Some (carry a 1 2 xcr0 xss).verdict
     unfolding carry_image
     moved_answer = rw (built_reads_back (with_edition chosen 1) s e)
 
-    moved_bytes : (carry a 1 2 xcr0 xss).verdict ≡ Accepted → (carry_image (image a) 1 2 xcr0 xss).buffer ≡ image b
+    moved_bytes : (carry a 1 2 xcr0 xss).verdict ≡ Ok tt → (carry_image (image a) 1 2 xcr0 xss).buffer ≡ image b
     moved_bytes f =
         let back = built_reads_back (with_edition chosen 1) s e in
         let same : (read_image (image a)).table ≡ a = ap (λ (r : ReadImage). r.table) back in

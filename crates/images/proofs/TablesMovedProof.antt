@@ -1,9 +1,8 @@
 -- The comparison of pages and that of memory, and an image written from memory and read back.
-use Rattle.std.specs.Prelude.{◌≡◌, refl, Bool, false, List, ℕ, ◌+◌, ◌*◌, ◌<◌, get_or}
+use Rattle.std.specs.Prelude.{◌≡◌, refl, Bool, false, List, ℕ, ◌+◌, ◌*◌, ◌<◌, get_or, Ok}
 use Rattle.std.proofs.Common.{sym, ap, ap₂, ◌∙◌, subst}
 use Rattle.masking.specs.Kept.{places}
 use Rattle.table.specs.declared.Choices.{Choices}
-use Rattle.table.specs.declared.Verdict.TheVariants.{Accepted}
 use Rattle.table.specs.Rows.{Row}
 use Rattle.table.specs.Fits.{Fits}
 use Rattle.memory.specs.Memory.{row_of, is_there, rows_in}
@@ -29,7 +28,7 @@ use Rattle.images.specs.TablesMoved.{CompareAgrees, ImagesAgree, PlainIn, Back, 
 use Rattle.images.specs.TablesMovedProof.{accepted_a, plain_in, tables_rise}
 
 -- an image of a built table gives it back
-read_built : (chosen : Choices) (s : List ℕ) → (answer chosen s).verdict ≡ Accepted → {r : Bool} {w o : List ℕ}
+read_built : (chosen : Choices) (s : List ℕ) → (answer chosen s).verdict ≡ Ok tt → {r : Bool} {w o : List ℕ}
     → ReadIn (image (answer chosen s).table) r w o → held_in w o ≡ (answer chosen s).table
 read_built chosen s e h = read_held h ∙ ap (λ (r : ReadImage). r.table) (built_reads_back chosen s e)
 

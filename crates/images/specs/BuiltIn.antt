@@ -1,5 +1,5 @@
 -- Every accepted page set has its table in memory: a row is there where its origin is not 0, and count and mask follow from the rows.
-use Rattle.std.specs.Prelude.{◌≡◌, refl, Bool, true, false, List, ℕ, ◌+◌, ◌*◌, ◌<◌, get_or}
+use Rattle.std.specs.Prelude.{◌≡◌, refl, Bool, true, false, List, ℕ, ◌+◌, ◌*◌, ◌<◌, get_or, Ok}
 use Rattle.std.proofs.Common.{sym, ap, ◌∙◌, arith, ne_eqb}
 use Rattle.bits.specs.ChoiceLaws.{never_both}
 use Rattle.bits.specs.ListsLaws.{get_d_tabulate}
@@ -7,7 +7,6 @@ use Rattle.masking.specs.Kept.{places}
 use Rattle.pages.specs.Entries.{counted}
 use Rattle.table.specs.declared.Choices.{Choices}
 use Rattle.table.specs.declared.CpuidResults.{CpuidResults}
-use Rattle.table.specs.declared.Verdict.TheVariants.{Accepted}
 use Rattle.table.specs.Table as Tables
 use Rattle.table.specs.TableLaws.{table_ext}
 use Rattle.memory.specs.Origin.{Origin, origin_of, origin_number}
@@ -29,7 +28,7 @@ origin_there made_here n = refl
 origin_there not_known n = refl
 origin_there (entry p q) n = rw (ne_eqb (4 + 64 * p + q) 0 (λ z. omega arith))
 
-module _ (chosen : Choices) (s : List ℕ) (e : (answer chosen s).verdict ≡ Accepted) where
+module _ (chosen : Choices) (s : List ℕ) (e : (answer chosen s).verdict ≡ Ok tt) where
   abbrev t : CpuidResults
   t = (answer chosen s).table
 

@@ -1,6 +1,6 @@
 -- The proofs of `CarryKeeps` and `CarriesInPlace`: kept bits change nothing, two rows alone may change, and the length of an image is told by
 -- which rows are there.
-use Rattle.std.specs.Prelude.{◌≡◌, refl, Bool, true, false, ◌&&◌, List, ℕ, ◌<◌, eqb, length}
+use Rattle.std.specs.Prelude.{◌≡◌, refl, Bool, true, false, ◌&&◌, List, ℕ, ◌<◌, eqb, length, Ok}
 use Rattle.std.proofs.Common.{sym, ◌∙◌, append-nil, le_refl, arith, le-leb, ne_eqb}
 use Rattle.std.proofs.Math.Path.{ap}
 use Rattle.std.proofs.Math.Seq.{drop-length}
@@ -22,12 +22,11 @@ use Rattle.image.specs.LengthLaws.{image_length}
 use Rattle.guest_state.proofs.StateLaws.{save_of_state, compact_of_state}
 use Rattle.image_read.specs.ReadImage.{read_image}
 use Rattle.image_read.specs.WrittenAgain.{read_has_image}
-use Rattle.table.specs.declared.Verdict.{Verdict}
-use Rattle.table.specs.declared.Verdict.TheVariants.{Accepted}
 use Rattle.carry.specs.Carry.{carried_at, carried_table, keeps, carried_given, carry}
 use Rattle.carry.specs.CarryLaws.{kept_within}
 use Rattle.carry.specs.CarryImage.{carry_image}
 use Rattle.images.specs.Carried.{CarryKeeps, CarriesInPlace}
+use Rattle.table.specs.Verdict.{Verdict}
 
 -- ---- within one edition
 
@@ -69,7 +68,7 @@ module _ (bits : EditionBits) (keep : Bool) (t : CpuidResults) where
 
 -- ---- the table that is given
 
-module _ (t : CpuidResults) (from to xcr0 xss : ℕ) (e : (carry t from to xcr0 xss).verdict ≡ Accepted) where
+module _ (t : CpuidResults) (from to xcr0 xss : ℕ) (e : (carry t from to xcr0 xss).verdict ≡ Ok tt) where
   pub given : (carry t from to xcr0 xss).table ≡ carried_table (bits_between from to) (keeps t from to) t
   unfolding carry
   given = ap (λ (v : Verdict). carried_given v (carried_table (bits_between from to) (keeps t from to) t)) e
@@ -97,7 +96,7 @@ unfolding write_front
 written_over l s e = rw (e, le-leb (length s) (length s) (le_refl (length s)), drop-length s, append-nil l)
 
 bytes_given_lem : (s : List ℕ) (from to xcr0 xss : ℕ) → (read_image s).is_image ≡ true
-    → (carry (read_image s).table from to xcr0 xss).verdict ≡ Accepted
+    → (carry (read_image s).table from to xcr0 xss).verdict ≡ Ok tt
     → (carry_image s from to xcr0 xss).buffer ≡ (write_front (image (carry (read_image s).table from to xcr0 xss).table) s).buffer
 unfolding carry_image
 bytes_given_lem s from to xcr0 xss f e = rw (f, e)

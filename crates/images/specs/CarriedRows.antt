@@ -1,7 +1,7 @@
 -- Document 02, P8: "From 1 to 2 a table built otherwise gets the same three bits cleared where its own D.0.EAX lacks bit 2, and nothing else changed,
 -- absent rows reading as zeros". Of any table, row by row and bit by bit. And in place: within one edition no lent byte changes, whatever is
 -- answered.
-use Rattle.std.specs.Prelude.{◌≡◌, Bool, true, false, ◌||◌, List, ◌≢◌, ℕ, ◌<◌, eqb}
+use Rattle.std.specs.Prelude.{◌≡◌, Bool, true, false, ◌||◌, List, ◌≢◌, ℕ, ◌<◌, eqb, Ok}
 use Rattle.bits.specs.Choice.{pick}
 use Rattle.bits.specs.Bits.{bit, has}
 use Rattle.x86defs.specs.declared.CpuidResult.{CpuidResult}
@@ -10,7 +10,6 @@ use Rattle.pages.specs.Bytes.{AreBytes}
 use Rattle.masking.specs.Kept.{places}
 use Rattle.masking.specs.Place
 use Rattle.table.specs.declared.CpuidResults.{CpuidResults}
-use Rattle.table.specs.declared.Verdict.TheVariants.{Accepted}
 use Rattle.table.specs.Table.{row_in}
 use Rattle.carry.specs.Carry.{carry}
 use Rattle.carry.specs.CarryImage.{carry_image}
@@ -50,7 +49,7 @@ pub record CarriedRows (t u : CpuidResults) : Type 0 where
   pub absent : (i : ℕ) → i < places → (row_in t i).present ≡ false → row_in u i ≡ row_in t i
 
 abbrev pub CarriesRows : Type 0
-CarriesRows = (t : CpuidResults) (xcr0 xss : ℕ) → (carry t 1 2 xcr0 xss).verdict ≡ Accepted → CarriedRows t (carry t 1 2 xcr0 xss).table
+CarriesRows = (t : CpuidResults) (xcr0 xss : ℕ) → (carry t 1 2 xcr0 xss).verdict ≡ Ok tt → CarriedRows t (carry t 1 2 xcr0 xss).table
 
 -- in place, within one edition: any lent bytes, an image or not, refused or not, stay
 abbrev pub StaysWithin : Type 0

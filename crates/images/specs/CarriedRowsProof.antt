@@ -1,5 +1,5 @@
 -- A carried table's rows are as CarriedRows.antt says, bit by bit.
-use Rattle.std.specs.Prelude.{◌≡◌, Bool, ◌&&◌, List, ◌≢◌, eqb, length}
+use Rattle.std.specs.Prelude.{◌≡◌, Bool, ◌&&◌, List, ◌≢◌, eqb, length, Err, Ok}
 use Rattle.std.proofs.Math.Path.{refl}
 use Rattle.std.proofs.Common.{ap, ◌∙◌, lit<, eqb-true, ne_eqb}
 use Rattle.std.proofs.Math.Bool.{true, false}
@@ -17,8 +17,6 @@ use Rattle.x86defs.specs.Functions.{cpuid_result}
 use Rattle.masking.specs.Kept.{places}
 use Rattle.masking.specs.Place
 use Rattle.table.specs.declared.CpuidResults.{CpuidResults}
-use Rattle.table.specs.declared.Verdict.{Verdict}
-use Rattle.table.specs.declared.Verdict.TheVariants.{Accepted, Refused}
 use Rattle.table.specs.Edition.{joined_from, bits_between}
 use Rattle.table.specs.Rows.{Row}
 use Rattle.table.specs.Table.{table_of, empty_table, row_in}
@@ -30,6 +28,7 @@ use Rattle.carry.specs.Carry.{carried_at, carried_table, keeps, carry}
 use Rattle.carry.specs.CarryImage.{carry_image}
 use Rattle.images.specs.CarriedLaws.{given, carry_keeps, carries_in_place}
 use Rattle.images.specs.CarriedRows.{own_ymm, BitsGone, RowGone, of_version, of_extended, CarriesRows, StaysWithin}
+use Rattle.table.specs.Verdict.{Verdict}
 
 -- ---- the statement
 
@@ -86,7 +85,7 @@ not_carried : (s : List ℕ) (from to xcr0 xss : ℕ) → (read_image s).is_imag
 unfolding carry_image
 not_carried s from to xcr0 xss e = rw e
 
-refused_carry_lem : (s : List ℕ) (from to xcr0 xss : ℕ) {r : _} → (carry (read_image s).table from to xcr0 xss).verdict ≡ Refused r
+refused_carry_lem : (s : List ℕ) (from to xcr0 xss : ℕ) {r : _} → (carry (read_image s).table from to xcr0 xss).verdict ≡ Err r
     → (read_image s).is_image ≡ true → (carry_image s from to xcr0 xss).buffer ≡ s
 unfolding carry_image
 refused_carry_lem s from to xcr0 xss e f = rw (f, e)
@@ -97,8 +96,8 @@ stays_within s n xcr0 xss bytes = go (read_image s).is_image refl (carry (read_i
     go : (b : Bool) → (read_image s).is_image ≡ b → (v : Verdict) → (carry (read_image s).table n n xcr0 xss).verdict ≡ v
         → (carry_image s n n xcr0 xss).buffer ≡ s
     go false e v f = not_carried s n n xcr0 xss e
-    go true e (Refused r) f = refused_carry_lem s n n xcr0 xss f e
-    go true e Accepted f =
+    go true e (Err r) f = refused_carry_lem s n n xcr0 xss f e
+    go true e (Ok _) f =
         (carries_in_place s n n xcr0 xss bytes e f).0
         ∙ ap image ((carry_keeps (read_image s).table n n xcr0 xss (read_places s) f).same refl)
         ∙ read_has_image s bytes e

@@ -1,12 +1,11 @@
 -- Each answer of carrying is given exactly as CarryExactly.antt says.
-use Rattle.std.specs.Prelude.{◌≡◌, refl, Bool, true, false, ◌&&◌, ℕ, ◌≤◌, ◌<◌, leb}
+use Rattle.std.specs.Prelude.{◌≡◌, refl, Bool, true, false, ◌&&◌, ℕ, ◌≤◌, ◌<◌, leb, Err, Ok}
 use Rattle.std.proofs.Math.Path.{ap}
 use Rattle.std.proofs.Common.{◌∙◌, inl, inr, arith, leb-true, leb-false}
 use Rattle.bits.specs.Choice.{pick}
 use Rattle.bits.specs.ChoiceLaws.{impossible}
 use Rattle.table.specs.declared.CpuidResults.{CpuidResults}
 use Rattle.table.specs.declared.Refusal.TheVariants.{StateBeyondTable, CompactSizeTooLarge}
-use Rattle.table.specs.declared.Verdict.{Verdict}
 use Rattle.table.specs.Edition.{editions, known_edition, bits_between}
 use Rattle.table.specs.Table.{empty_table}
 use Rattle.guest_state.specs.State.{state_verdict}
@@ -16,9 +15,9 @@ use Rattle.guest_rise.proofs.StateExactlyProof.{state_answers}
 use Rattle.guest_rise.specs.StateExactly.StateAnswers.{beyond, large, given}
 use Rattle.table.specs.declared.Refusal.{Refusal}
 use Rattle.table.specs.declared.Refusal.TheVariants.{UnknownEdition, EditionBack}
-use Rattle.table.specs.declared.Verdict.TheVariants.{Accepted, Refused}
 use Rattle.carry.specs.Carry.{own_rows, carried_table, keeps, carry_verdict, carried_given, carry}
 use Rattle.images.specs.CarryExactly.{EitherFault, Back, Forward, CarryExactly}
+use Rattle.table.specs.Verdict.{Verdict}
 
 -- ---- the proof
 
@@ -38,8 +37,8 @@ which n = go (leb 1 n) refl (leb n editions) refl
 
 -- the verdict by both editions, where the state's is v
 data Editions (from to : ℕ) (v : Verdict) (w : Verdict) : Type 0 where
-  unknown : EitherFault from to → w ≡ Refused UnknownEdition → Editions from to v w
-  back : Back from to → w ≡ Refused EditionBack → Editions from to v w
+  unknown : EitherFault from to → w ≡ Err UnknownEdition → Editions from to v w
+  back : Back from to → w ≡ Err EditionBack → Editions from to v w
   forward : Forward from to → w ≡ v → Editions from to v w
 
 by_editions : (t : CpuidResults) (from to xcr0 xss : ℕ) → Editions from to (state_verdict (own_rows t) xcr0 xss) (carry t from to xcr0 xss).verdict
@@ -50,7 +49,7 @@ by_editions t from to xcr0 xss = go (which from) (which to)
     v = state_verdict (own_rows t) xcr0 xss
 
     ordered : (b : Bool) → leb from to ≡ b → 1 ≤ from → from ≤ editions → 1 ≤ to → to ≤ editions
-        → Editions from to v (pick b v (Refused EditionBack))
+        → Editions from to v (pick b v (Err EditionBack))
     ordered true e p q r s = forward (p, leb-true from to e, s) refl
     ordered false e p q r s = back (r, leb-false from to e, q) refl
 
@@ -76,7 +75,7 @@ back_forward : {from to : ℕ} → Back from to → Forward from to → ⊥
 back_forward (p, q, r) (u, v, w) = omega arith
 
 module _ (t : CpuidResults) (from to xcr0 xss : ℕ) where
-  empty_table_lem : (r : Refusal) → (carry t from to xcr0 xss).verdict ≡ Refused r → (carry t from to xcr0 xss).table ≡ empty_table
+  empty_table_lem : (r : Refusal) → (carry t from to xcr0 xss).verdict ≡ Err r → (carry t from to xcr0 xss).table ≡ empty_table
   unfolding carry
   empty_table_lem r e = ap (λ (v : Verdict). carried_given v (carried_table (bits_between from to) (keeps t from to) t)) e
 
@@ -102,7 +101,7 @@ module _ (t : CpuidResults) (from to xcr0 xss : ℕ) where
         empty = empty_table_lem;
       }
       go (forward f e) (beyond h g) =
-          let o : (carry t from to xcr0 xss).verdict ≡ Refused StateBeyondTable = e ∙ g in
+          let o : (carry t from to xcr0 xss).verdict ≡ Err StateBeyondTable = e ∙ g in
           record {
             unknown = (λ p. impossible (cc), λ q. absurd (fault_forward q f));
             back = (λ p. impossible (cc), λ q. absurd (back_forward q f));
@@ -112,7 +111,7 @@ module _ (t : CpuidResults) (from to xcr0 xss : ℕ) where
             empty = empty_table_lem;
           }
       go (forward f e) (large h k g) =
-          let o : (carry t from to xcr0 xss).verdict ≡ Refused CompactSizeTooLarge = e ∙ g in
+          let o : (carry t from to xcr0 xss).verdict ≡ Err CompactSizeTooLarge = e ∙ g in
           record {
             unknown = (λ p. impossible (cc), λ q. absurd (fault_forward q f));
             back = (λ p. impossible (cc), λ q. absurd (back_forward q f));
@@ -122,7 +121,7 @@ module _ (t : CpuidResults) (from to xcr0 xss : ℕ) where
             empty = empty_table_lem;
           }
       go (forward f e) (given h k g) =
-          let o : (carry t from to xcr0 xss).verdict ≡ Accepted = e ∙ g in
+          let o : (carry t from to xcr0 xss).verdict ≡ (Ok tt) = e ∙ g in
           record {
             unknown = (λ p. impossible (cc), λ q. absurd (fault_forward q f));
             back = (λ p. impossible (cc), λ q. absurd (back_forward q f));

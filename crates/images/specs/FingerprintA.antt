@@ -1,10 +1,9 @@
 -- Server A's fingerprint, from its page bytes: its image, byte for byte, and the SHA-256 of that. tests/unit/test_model_fingerprint.py holds both
 -- against the model and sha256sum.
-use Rattle.std.specs.Prelude.{◌≡◌, refl, List, [], ◌∷◌, ℕ}
+use Rattle.std.specs.Prelude.{◌≡◌, refl, List, [], ◌∷◌, ℕ, Ok}
 use Rattle.std.proofs.Common.{ap, ◌∙◌}
 use Rattle.bits.specs.Lists.{tabulate}
 use Rattle.table.specs.declared.CpuidResults.{CpuidResults}
-use Rattle.table.specs.declared.Verdict.TheVariants.{Accepted}
 use Rattle.table.specs.Order.{row_order}
 use Rattle.build.specs.Build.{answer}
 use Rattle.image.specs.Image.{image_in, image}
@@ -55,7 +54,7 @@ digest_a =
     0x8c ∷ 0x7c ∷ 0x5c ∷ 0x05 ∷ 0x98 ∷ 0x4c ∷ 0x68 ∷ 0x61 ∷ 0xbd ∷ 0x78 ∷ 0xa1 ∷ 0x18 ∷ 0x3f ∷ 0x0e ∷ 0xdf ∷ 0x65 ∷
     0x78 ∷ 0x09 ∷ 0x2c ∷ 0xbf ∷ 0x2e ∷ 0xca ∷ 0xdd ∷ 0x04 ∷ 0x47 ∷ 0xae ∷ 0x75 ∷ 0x16 ∷ 0xa0 ∷ 0xc5 ∷ 0x31 ∷ 0x11 ∷ []
 
-accepted : (answer first_edition server_a).verdict ≡ Accepted
+accepted : (answer first_edition server_a).verdict ≡ Ok tt
 unfolding passed server_a
 accepted = verdict_passed first_edition server_a ∙ refl
 

@@ -1,9 +1,8 @@
 -- What a fingerprint tells: equal tables have one fingerprint, and tables with one fingerprint are equal, or their images are a collision of SHA-256.
-use Rattle.std.specs.Prelude.{◌≡◌, List, ◌⊎◌, ℕ, ◌<◌}
+use Rattle.std.specs.Prelude.{◌≡◌, List, ◌⊎◌, ℕ, ◌<◌, Ok}
 use Rattle.masking.specs.Kept.{places}
 use Rattle.table.specs.declared.Choices.{Choices}
 use Rattle.table.specs.declared.CpuidResults.{CpuidResults}
-use Rattle.table.specs.declared.Verdict.TheVariants.{Accepted}
 use Rattle.table.specs.Table.{row_in}
 use Rattle.build.specs.Build.{answer}
 use Rattle.image.specs.Image.{image}
@@ -28,6 +27,6 @@ FingerprintRows = (t u : CpuidResults) → Plain t → Plain u → fingerprint t
 
 -- of two accepted page sets, each under a choice of its own: rows and combined mask
 abbrev pub FingerprintTable : Type 0
-FingerprintTable = (chosen chosen' : Choices) (s s' : List ℕ) → (answer chosen s).verdict ≡ Accepted → (answer chosen' s').verdict ≡ Accepted
+FingerprintTable = (chosen chosen' : Choices) (s s' : List ℕ) → (answer chosen s).verdict ≡ Ok tt → (answer chosen' s').verdict ≡ Ok tt
     → fingerprint (answer chosen s).table ≡ fingerprint (answer chosen' s').table
     → SameTable (answer chosen s).table (answer chosen' s').table ⊎ Collision (image (answer chosen s).table) (image (answer chosen' s').table)

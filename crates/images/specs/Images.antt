@@ -1,12 +1,11 @@
 -- Document 02, P1: "Rows of the image shall ascend by leaf as an unsigned number, then by subleaf. The leaf order is no longer free, so equal
 -- tables now mean equal images."
-use Rattle.std.specs.Prelude.{◌≡◌, Bool, true, List, [], ◌∷◌, ◌++◌, ◌↔◌, ℕ, ◌<◌}
+use Rattle.std.specs.Prelude.{◌≡◌, Bool, true, List, [], ◌∷◌, ◌++◌, ◌↔◌, ℕ, ◌<◌, Ok}
 use Rattle.bits.specs.Lists.{keep_if}
 use Rattle.bits.specs.Ascending.{Ascending}
 use Rattle.masking.specs.Kept.{places}
 use Rattle.table.specs.declared.Choices.{Choices}
 use Rattle.table.specs.declared.CpuidResults.{CpuidResults}
-use Rattle.table.specs.declared.Verdict.TheVariants.{Accepted}
 use Rattle.table.specs.Table.{row_in}
 use Rattle.table.specs.Order.{Precedes, row_order}
 use Rattle.build.specs.Build.{answer}
@@ -32,5 +31,5 @@ pub record SameTable (t u : CpuidResults) : Type 0 where
 
 -- of two accepted page sets, each under a choice of its own
 abbrev pub EqualImages : Type 0
-EqualImages = (chosen chosen' : Choices) (s s' : List ℕ) → (answer chosen s).verdict ≡ Accepted → (answer chosen' s').verdict ≡ Accepted
+EqualImages = (chosen chosen' : Choices) (s s' : List ℕ) → (answer chosen s).verdict ≡ Ok tt → (answer chosen' s').verdict ≡ Ok tt
     → (image (answer chosen s).table ≡ image (answer chosen' s').table) ↔ SameTable (answer chosen s).table (answer chosen' s').table

@@ -1,5 +1,5 @@
 -- The proof of `EqualImages`: accepted tables are plain, so their images tell their rows, and the rows of Dh tell the combined mask.
-use Rattle.std.specs.Prelude.{◌≡◌, refl, Bool, true, false, ◌&&◌, List, ℕ, ◌<◌, eqb}
+use Rattle.std.specs.Prelude.{◌≡◌, refl, Bool, true, false, ◌&&◌, List, ℕ, ◌<◌, eqb, Ok}
 use Rattle.std.proofs.Common.{sym, ap, ap₂, ◌∙◌, subst}
 use Rattle.std.proofs.Math.Dec.{lit<}
 use Rattle.std.specs.Int.Bits.{bit_or}
@@ -12,7 +12,6 @@ use Rattle.masking.specs.Kept.{places}
 use Rattle.masking.specs.Place
 use Rattle.table.specs.declared.Choices.{Choices}
 use Rattle.table.specs.declared.CpuidResults.{CpuidResults}
-use Rattle.table.specs.declared.Verdict.TheVariants.{Accepted}
 use Rattle.table.specs.Rows.{Row, Rows, vacant}
 use Rattle.table.specs.Table.{row_in, rows_of_table}
 use Rattle.table.specs.Fits.{Fits}
@@ -36,7 +35,7 @@ threads_fit t = go (eqb t 1)
     go true = record { eax = lit< tt; ebx = lit< tt; ecx = lit< tt; edx = lit< tt }
     go false = record { eax = lit< tt; ebx = lit< tt; ecx = lit< tt; edx = lit< tt }
 
-module _ (chosen : Choices) (s : List ℕ) (e : (answer chosen s).verdict ≡ Accepted) where
+module _ (chosen : Choices) (s : List ℕ) (e : (answer chosen s).verdict ≡ Ok tt) where
   abbrev m : Rows
   m = rows_for chosen s
 

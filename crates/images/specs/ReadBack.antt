@@ -1,11 +1,10 @@
 -- A table handed over as its image, and got back: reading the image of a table gives its rows, of a built one the whole table, and nothing
 -- else is taken for an image.
-use Rattle.std.specs.Prelude.{◌≡◌, true, List, ◌↔◌, ℕ, ◌<◌}
+use Rattle.std.specs.Prelude.{◌≡◌, true, List, ◌↔◌, ℕ, ◌<◌, Ok}
 use Rattle.pages.specs.Bytes.{AreBytes}
 use Rattle.masking.specs.Kept.{places}
 use Rattle.table.specs.declared.Choices.{Choices}
 use Rattle.table.specs.declared.CpuidResults.{CpuidResults}
-use Rattle.table.specs.declared.Verdict.TheVariants.{Accepted}
 use Rattle.table.specs.Table.{table_of, row_in, rows_of_table}
 use Rattle.checks.specs.ExtendedState.{combined_mask}
 use Rattle.build.specs.Build.{answer}
@@ -25,7 +24,7 @@ ImageReadsBack = (t : CpuidResults) → Plain t → ReadsBack t
 
 -- of an accepted page set's table nothing is lost
 abbrev pub BuiltReadsBack : Type 0
-BuiltReadsBack = (chosen : Choices) (s : List ℕ) → (answer chosen s).verdict ≡ Accepted
+BuiltReadsBack = (chosen : Choices) (s : List ℕ) → (answer chosen s).verdict ≡ Ok tt
     → read_image (image (answer chosen s).table) ≡ record { is_image = true; table = (answer chosen s).table }
 
 -- bytes are read if and only if they are the image of such a table

@@ -1,11 +1,9 @@
 -- Tables in memory beside pages and images: what is compared, written and read there is what the definitions of pages and images say.
-use Rattle.std.specs.Prelude.{◌≡◌, Bool, true, false, List, ℕ, ◌*◌, ◌^◌, ◌<◌, length, get_or}
+use Rattle.std.specs.Prelude.{◌≡◌, Bool, true, false, List, ℕ, ◌*◌, ◌^◌, ◌<◌, length, get_or, Ok}
 use Rattle.bits.specs.Choice.{pick}
 use Rattle.x86defs.specs.Functions.{cpuid_result}
 use Rattle.masking.specs.Kept.{places}
 use Rattle.table.specs.declared.Choices.{Choices}
-use Rattle.table.specs.declared.Verdict.{Verdict}
-use Rattle.table.specs.declared.Verdict.TheVariants.{Accepted}
 use Rattle.table.specs.Rows.{vacant}
 use Rattle.memory.specs.Memory.{row_of, is_there, rows_in}
 use Rattle.memory.specs.Held.{held_in}
@@ -16,16 +14,17 @@ use Rattle.compare.specs.Compare.{compared}
 use Rattle.image_read.specs.ReadIn.{ReadIn}
 use Rattle.compare.specs.declared.search.RowsCompared.TheVariants.{Rises, MaskLacks}
 use Rattle.compare.specs.RowsCompared.{compared_tables}
+use Rattle.table.specs.Verdict.{Verdict}
 
 -- where the comparison of pages says yes and B is accepted, the comparison of the two memories says yes
 abbrev pub CompareAgrees : Type 0
-CompareAgrees = (chosen : Choices) (a b : List ℕ) → compared chosen a b ≡ PagesRise → (answer chosen b).verdict ≡ Accepted
+CompareAgrees = (chosen : Choices) (a b : List ℕ) → compared chosen a b ≡ PagesRise → (answer chosen b).verdict ≡ Ok tt
     → (x y : Verdict) (v o w q : List ℕ) → InMemory (answer chosen a) x v o → InMemory (answer chosen b) y w q
     → compared_tables (held_in v o) (held_in w q) ≡ Rises
 
 -- the same of memories into which the two tables' images were read
 abbrev pub ImagesAgree : Type 0
-ImagesAgree = (chosen : Choices) (a b : List ℕ) → compared chosen a b ≡ PagesRise → (answer chosen b).verdict ≡ Accepted
+ImagesAgree = (chosen : Choices) (a b : List ℕ) → compared chosen a b ≡ PagesRise → (answer chosen b).verdict ≡ Ok tt
     → (x y : Bool) (v o w q : List ℕ) → ReadIn (image (answer chosen a).table) x v o → ReadIn (image (answer chosen b).table) y w q
     → compared_tables (held_in v o) (held_in w q) ≡ Rises
 
@@ -54,7 +53,7 @@ AnyBack = (w o : List ℕ) → ((k : ℕ) → get_or w k 0 < 2 ^ 32) → (r : Bo
 
 -- of an accepted page set's memory nothing else is asked
 abbrev pub BuiltBack : Type 0
-BuiltBack = (chosen : Choices) (s : List ℕ) → (answer chosen s).verdict ≡ Accepted → (x : Verdict) (w o : List ℕ) → InMemory (answer chosen s) x w o
+BuiltBack = (chosen : Choices) (s : List ℕ) → (answer chosen s).verdict ≡ Ok tt → (x : Verdict) (w o : List ℕ) → InMemory (answer chosen s) x w o
     → (r : Bool) (v q : List ℕ) → ReadIn (image (held_in w o)) r v q → Back w o r v q
 
 -- where A's absent rows are zeros the masks are never what fails: the rows say it before

@@ -1,9 +1,8 @@
 -- The comparison of pages and that of memory, and an image written from memory and read back.
-use Rattle.std.specs.Prelude.{◌≡◌, refl, Bool, false, List, ℕ, ◌+◌, ◌*◌, ◌<◌, get_or}
+use Rattle.std.specs.Prelude.{◌≡◌, refl, Bool, false, List, ℕ, ◌+◌, ◌*◌, ◌<◌, get_or, Ok}
 use Rattle.std.proofs.Common.{sym, ap, ap₂, ◌∙◌, subst}
 use Rattle.masking.specs.Kept.{places}
 use Rattle.table.specs.declared.Choices.{Choices}
-use Rattle.table.specs.declared.Verdict.TheVariants.{Accepted}
 use Rattle.table.specs.Rows.{Row}
 use Rattle.table.specs.Fits.{Fits}
 use Rattle.memory.specs.Memory.{row_of, is_there, rows_in}
@@ -28,11 +27,11 @@ use Rattle.images.specs.TablesMoved.{CompareAgrees, ImagesAgree, PlainIn, Back, 
 
 -- ---- pages
 
-module _ (chosen : Choices) (a b : List ℕ) (y : compared chosen a b ≡ PagesRise) (e : (answer chosen b).verdict ≡ Accepted) where
+module _ (chosen : Choices) (a b : List ℕ) (y : compared chosen a b ≡ PagesRise) (e : (answer chosen b).verdict ≡ Ok tt) where
   means : PagesMean.AnswerMeans chosen a b PagesRise
   means = subst (PagesMean.AnswerMeans chosen a b) y (PagesDecided.decides chosen a b).means
 
-  pub accepted_a : (answer chosen a).verdict ≡ Accepted
+  pub accepted_a : (answer chosen a).verdict ≡ Ok tt
   accepted_a = means.0.accepted
 
   pub tables_rise : compared_tables (answer chosen a).table (answer chosen b).table ≡ Rises

@@ -1,26 +1,12 @@
 -- One row of a list as it is written, and the row that a run gives a place.
-use Rattle.std.specs.Prelude.{◌≡◌, refl, Bool, List, [], ◌++◌, ℕ, ◌+◌, ◌-◌, ◌≤◌, ◌<◌, replicate}
-use Rattle.std.proofs.Common.{ap, ◌∙◌}
-use Rattle.std.proofs.Math.Bool.{true, false}
-use native.Mathlib.Omega.{arith}
-use Rattle.std.proofs.Math.ListN.{length}
-use Rattle.std.proofs.lemmas.List.Edits.{sets}
-use Rattle.bits.specs.Choice.{pick}
-use Rattle.x86defs.specs.declared.CpuidFunction.{CpuidFunction}
-use Rattle.x86defs.specs.declared.CpuidResult.{CpuidResult}
-use Rattle.x86defs.specs.Functions.{function}
+use Rattle.std.specs.Prelude.{◌≡◌, ℕ, ◌+◌, ◌-◌, ◌≤◌, ◌<◌}
+use Rattle.std.proofs.Math.Bool.{true}
 use Rattle.masking.specs.declared.run.Run.{Run}
-use Rattle.masking.specs.Kept.{leaf_at, indexed_at, subleaf_at}
 use Rattle.masking.specs.Runs.{lawful_run}
 use Rattle.masking.specs.RunLaws.{indexed_in_run, leaf_in_run, subleaf_in_run}
 use Rattle.table.specs.declared.CpuidResults.{CpuidResults}
 use Rattle.table.specs.Table.{row_in}
-use Rattle.buffer.specs.Front.{word_bytes, register_bytes}
-use Rattle.kvm_list.specs.Words.{bytes_of_words}
-use Rattle.kvm_list.specs.Format.{row_words}
-use Rattle.kvm_list.specs.StoresLaws.{five_pieces, word_length, registers_length}
-use Rattle.kvm_export.specs.Export.{list_row}
-use Rattle.kvm_export.specs.ExportPieces.{row_bytes, run_row}
+use Rattle.kvm_export.specs.ExportPieces.{run_row}
 use Rattle.kvm_export.specs.RunRowLaws.{place_bytes, stands_row}
 
 pub run_row_lem : (t : CpuidResults) (g : Run) → lawful_run g ≡ true → (i : ℕ) → g.first ≤ i → i < g.first + g.count

@@ -1,25 +1,20 @@
 -- The rows that are left from place i on, how many rows there are, and the whole list.
-use Rattle.std.specs.Prelude.{◌≡◌, refl, Bool, true, false, List, [], ◌∷◌, ◌++◌, ℕ, zero, suc, ◌+◌, ◌-◌, ◌*◌, ◌≤◌, ◌<◌, length, get_or}
-use Rattle.std.proofs.Common.{sym, ap, ◌∙◌, add-one, arith, length-append}
-use Rattle.std.proofs.lemmas.List.Edits.{sets}
+use Rattle.std.specs.Prelude.{◌≡◌, refl, Bool, true, false, [], ◌∷◌, ◌++◌, ℕ, zero, suc, ◌+◌, ◌-◌, ◌*◌, ◌<◌, length, get_or}
+use Rattle.std.proofs.Common.{sym, ap, ◌∙◌, add-one, arith}
 use Rattle.bits.specs.Choice.{pick}
 use Rattle.bits.specs.Lists.{one}
 use Rattle.masking.specs.Kept.{places}
 use Rattle.table.specs.declared.CpuidResults.{CpuidResults}
 use Rattle.table.specs.Table.{row_in}
 use Rattle.buffer.specs.Front.{word_bytes}
-use Rattle.masking.specs.declared.run.Run.{Run}
-use Rattle.masking.specs.Runs.{lawful_run}
-use Rattle.masking.specs.RunLaws.{run_end}
 use Rattle.image.specs.ImagePieces.{rows_among}
-use Rattle.image.specs.LengthLaws.{among_none, among_more}
+use Rattle.image.specs.LengthLaws.{among_more}
 use Rattle.kvm_list.specs.Words.{bytes_of_words}
-use Rattle.kvm_list.specs.WordsLaws.{length_bytes, bytes_append}
+use Rattle.kvm_list.specs.WordsLaws.{bytes_append}
 use Rattle.kvm_list.specs.Format.{row_words, all_words, list_bytes}
-use Rattle.kvm_list.specs.FormatLaws.{length_all, list_length_lem}
-use Rattle.kvm_list.specs.StoresLaws.{sets_join, word_length}
+use Rattle.kvm_list.specs.FormatLaws.{list_length_lem}
 use Rattle.kvm_export.specs.Export.{list_row, rows_from, list_rows, list_of}
-use Rattle.kvm_export.specs.ExportPieces.{run_row, rows_left}
+use Rattle.kvm_export.specs.ExportPieces.{rows_left}
 use Rattle.kvm_export.specs.RunRowLaws.{place_bytes}
 
 -- ---- the rows that are left

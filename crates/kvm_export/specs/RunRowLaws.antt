@@ -1,5 +1,5 @@
 -- One row of a list as it is written, and the row that a run gives a place.
-use Rattle.std.specs.Prelude.{◌≡◌, refl, Bool, List, [], ◌++◌, ℕ, ◌+◌, ◌-◌, ◌≤◌, ◌<◌, replicate}
+use Rattle.std.specs.Prelude.{◌≡◌, refl, Bool, List, [], ◌++◌, ℕ, ◌+◌, ◌-◌, replicate}
 use Rattle.std.proofs.Common.{ap, ◌∙◌}
 use Rattle.std.proofs.Math.Bool.{true, false}
 use native.Mathlib.Omega.{arith}
@@ -11,8 +11,6 @@ use Rattle.x86defs.specs.declared.CpuidResult.{CpuidResult}
 use Rattle.x86defs.specs.Functions.{function}
 use Rattle.masking.specs.declared.run.Run.{Run}
 use Rattle.masking.specs.Kept.{leaf_at, indexed_at, subleaf_at}
-use Rattle.masking.specs.Runs.{lawful_run}
-use Rattle.masking.specs.RunLaws.{indexed_in_run, leaf_in_run, subleaf_in_run}
 use Rattle.table.specs.declared.CpuidResults.{CpuidResults}
 use Rattle.table.specs.Table.{row_in}
 use Rattle.buffer.specs.Front.{word_bytes, register_bytes}

@@ -1,10 +1,12 @@
 // Writes a table as a list for KVM into a lent buffer, from pages or from a table in lent memory. A refusal leaves the buffer as it was.
 #![tactic(auto)]
 
-ghost use Rattle.std.specs.Prelude.{◌≡◌, ◌+◌, ◌^◌, ◌≤◌, ◌<◌, length};
+ghost use Rattle.std.specs.Prelude.{◌≡◌, true, ◌+◌, ◌^◌, ◌≤◌, ◌<◌, length};
 ghost use Rattle.std.proofs.lemmas.List.Edits.{sets};
 ghost use Rattle.memory.specs.Held.{held_in};
 ghost use Rattle.buffer.specs.Front.{write_front};
+ghost use Rattle.buffer.specs.OnwardLaws.{Onward};
+ghost use Rattle.masking.specs.Runs.{lawful_run};
 ghost use Rattle.kvm_export.specs.Export.{list_of, write_list};
 ghost use Rattle.kvm_export.specs.ExportPieces.{row_bytes, run_row, rows_left};
 
@@ -12,6 +14,7 @@ use buffer::{Written, put_registers, put_word};
 use build::build_into;
 use image::rows_among;
 use kvm_list::{HEAD_SIZE, ROW_SIZE, put_zeros};
+use masking::run::RUNS;
 use masking::{PLACES, Run};
 use memory::{REGISTERS, is_there, row_at};
 use table::{Choices, Refusal, Verdict};
@@ -24,10 +27,7 @@ pub fn write_list(pages: &[u8], choices: Choices, out: &mut [u8]) -> Written
 {
     let mut registers: [u32; REGISTERS] = [0; REGISTERS];
     let mut origins: [u64; PLACES] = [0; PLACES];
-    let verdict = build_into(pages, choices, &mut registers, &mut origins);
-    if let Verdict::Refused(r) = verdict {
-        return Written::Refused(r);
-    }
+    build_into(pages, choices, &mut registers, &mut origins)?;
     write_table(&registers, &origins, out)
 }
 
@@ -39,12 +39,12 @@ pub fn write_table(registers: &[u32; REGISTERS], origins: &[u64; PLACES], out: &
     let n = rows_among(origins, 0, PLACES) as usize;
     let size = HEAD_SIZE + ROW_SIZE * n;
     if out.len() < size {
-        return Written::Refused(Refusal::BufferTooShort);
+        return Err(Refusal::BufferTooShort);
     }
     put_word(out, 0, n as u32);
     put_word(out, 4, 0);
     put_rows(registers, origins, out);
-    Written::Bytes(size)
+    Ok(size)
 }
 
 // Writes the rows of a table one after another, after the head, run by run, so that the leaf is at hand.
@@ -53,18 +53,31 @@ fn put_rows(registers: &[u32; REGISTERS], origins: &[u64; PLACES], out: &mut [u8
     ensures { out.new ≡ sets out.old 8 (rows_left (held_in registers.now origins.now) 0) }
 {
     let mut at = HEAD_SIZE;
-    let mut i = 0;
-    while i < PLACES {
-        let run = masking::run_at(i);
-        let first = run.first;
-        let end = first + run.count as usize;
-        while i < end {
-            let origin = origins[i];
-            let r = row_at(registers, i);
-            at = put_place(out, at, run, (i - first) as u32, is_there(origin), r);
-            i += 1;
-        }
+    for run in &RUNS {
+        at = put_run(registers, origins, *run, out, at);
     }
+}
+
+// Writes the rows of a run's places, from index `from` on, and gives the index after them.
+fn put_run(
+    registers: &[u32; REGISTERS],
+    origins: &[u64; PLACES],
+    run: Run,
+    out: &mut [u8],
+    from: usize,
+) -> usize
+    requires { (lawful_run run ≡ true) × (from + length (rows_left (held_in registers.now origins.now) run.first) ≤ length out.old) }
+    ensures { Onward (rows_left (held_in registers.now origins.now))
+        out.old from run.first out.new result (run.first + run.count) }
+{
+    let mut at = from;
+    for k in 0..run.count {
+        let place = run.first + k as usize;
+        let origin = origins[place];
+        let r = row_at(registers, place);
+        at = put_place(out, at, run, k, is_there(origin), r);
+    }
+    at
 }
 
 // Writes the row of the `k`-th place of a run, if it is there, and gives the index after it.

@@ -1,5 +1,5 @@
 -- Entries as they are stored, one after another, each on its page.
-use Rattle.std.specs.Prelude.{◌≡◌, refl, Bool, true, false, ℕ, suc, ◌+◌, ◌-◌, ◌*◌, ◌≤◌, ◌<◌, length, replicate}
+use Rattle.std.specs.Prelude.{◌≡◌, refl, Bool, true, false, ℕ, ◌+◌, ◌-◌, ◌*◌, ◌≤◌, ◌<◌, length, replicate}
 use Rattle.std.proofs.Common.{sym, ◌∙◌, arith, length-append}
 use Rattle.std.proofs.Math.Path.{ap}
 use mathlib.Core.List.{List, [], ◌∷◌, ◌++◌}
@@ -8,18 +8,13 @@ use Rattle.std.proofs.Math.Seq.{length-sets}
 use Rattle.bits.specs.Choice.{pick}
 use Rattle.bits.specs.Lists.{one}
 use Rattle.x86defs.specs.declared.CpuidResult.{CpuidResult}
-use Rattle.x86defs.specs.Functions.{cpuid_result}
 use Rattle.pages.specs.Layout.{word_at, registers_at}
 use Rattle.buffer.specs.Front.{word_bytes, register_bytes}
-use Rattle.buffer.specs.FrontLaws.{sets_append}
-use Rattle.kvm_list.specs.Words.{bytes_of_words}
-use Rattle.kvm_list.specs.WordsLaws.{bytes_append}
 use Rattle.kvm_list.specs.Format.{ListRow, row_count, row_at, rows_listed}
 use Rattle.kvm_list.specs.StoresLaws.{sets_join, sets_swap, word_length, registers_length, five_pieces}
 use Rattle.kvm_import.specs.ListChecks.{is_extended_state, rows_on0, rows_on1}
 use Rattle.kvm_import.specs.ListRowLaws.{row_leaf, row_index}
 use Rattle.kvm_import.specs.RowsLeftLaws.{list_rows_left, on1_cons, on0_cons, on1_none, on0_none, left_all, left_more, left_none, on_either_in, on_either_left, extended_more}
-use Rattle.kvm_import.specs.ListPages.{entry_words, entries_words}
 use Rattle.kvm_import.specs.ImportPieces.{entry_bytes, entries_bytes, entry_index, entered}
 use Rattle.kvm_import.specs.ListEntriesLaws.{Entering, entries_cons, entries_none, entry_length, entry_pieces, row_registers}
 

@@ -1,5 +1,5 @@
 -- The two pages piece by piece, as they are written. Each piece is kept opaque, so that a contract shows one list and not its bytes.
-use Rattle.std.specs.Prelude.{Bool, List, [], ◌++◌, ℕ, ◌+◌, ◌*◌, length, replicate}
+use Rattle.std.specs.Prelude.{Bool, List, ◌++◌, ℕ, ◌+◌, ◌*◌, replicate}
 use Rattle.std.proofs.lemmas.List.Edits.{sets}
 use Rattle.bits.specs.Choice.{pick}
 use Rattle.buffer.specs.Front.{word_bytes}

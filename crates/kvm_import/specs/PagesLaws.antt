@@ -1,17 +1,15 @@
 -- The two pages as they are stored: the counts, the entries and the zeros after them; and how long they are.
-use Rattle.std.specs.Prelude.{◌≡◌, refl, List, [], ◌++◌, ℕ, ◌+◌, ◌-◌, ◌*◌, ◌≤◌, length, replicate}
-use Rattle.std.proofs.Common.{sym, ap, ap₂, ◌∙◌, append_assoc, arith, length-append}
-use Rattle.std.proofs.lemmas.List.{length-replicate}
+use Rattle.std.specs.Prelude.{◌≡◌, refl, List, ◌++◌, ℕ, ◌+◌, ◌-◌, ◌*◌, length, replicate}
+use Rattle.std.proofs.Common.{sym, ap, ◌∙◌, append_assoc, arith, length-append}
 use Rattle.std.proofs.lemmas.List.Edits.{sets}
-use Rattle.pages.specs.Layout.{most_entries}
 use Rattle.buffer.specs.Front.{word_bytes}
 use Rattle.kvm_list.specs.Words.{bytes_of_words}
-use Rattle.kvm_list.specs.WordsLaws.{length_bytes, bytes_append, zero_words}
+use Rattle.kvm_list.specs.WordsLaws.{bytes_append, zero_words}
 use Rattle.kvm_list.specs.Format.{ListRow}
 use Rattle.kvm_list.specs.StoresLaws.{sets_join, sets_swap, word_length}
 use Rattle.kvm_import.specs.ListChecks.{rows_on0, rows_on1}
 use Rattle.kvm_import.specs.ListPages.{entries_words, page_words, pages_of}
-use Rattle.kvm_import.specs.ImportPieces.{count_bytes, entries_bytes, page_bytes, entered}
+use Rattle.kvm_import.specs.ImportPieces.{count_bytes, entries_bytes, page_bytes}
 
 pub pages_split : (rs : List ListRow) → pages_of rs ≡ page_bytes (rows_on0 rs) ++ page_bytes (rows_on1 rs)
 unfolding pages_of page_bytes

@@ -1,6 +1,6 @@
 -- The rows that are left from row q on: what a loop over a list has still to do.
-use Rattle.std.specs.Prelude.{◌≡◌, refl, Bool, true, false, not, ◌&&◌, eqb, length}
-use Rattle.std.proofs.Common.{sym, ◌∙◌}
+use Rattle.std.specs.Prelude.{◌≡◌, refl, Bool, true, false, ◌&&◌, length}
+use Rattle.std.proofs.Common.{◌∙◌}
 use Rattle.std.proofs.Math.Path.{ap, ap₂, fun_ext}
 use mathlib.Core.List.{List, [], ◌∷◌}
 use Prim.Native.Nat.{ℕ, suc, ◌+◌, ◌-◌, ◌≤◌, ◌<◌}
@@ -47,6 +47,8 @@ on_either (r ∷ rs) = go (is_extended_state r) refl (on_either rs)
         → length (rows_on0 (r ∷ rs)) + length (rows_on1 (r ∷ rs)) ≡ suc (length rs)
     go true e h = omega (arith, ap length (on0_cons r rs e), ap length (on1_cons r rs e))
     go false e h = omega (arith, ap length (on0_cons r rs e), ap length (on1_cons r rs e))
+
+-- ---- a count of tests
 
 -- ---- from row to row
 

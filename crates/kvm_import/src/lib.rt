@@ -21,23 +21,19 @@ pub fn read_list(list: &[u8], out: &mut [u8]) -> Written
     ensures out_after { out.new ≡ (read_list list.now out.old).buffer }
 {
     if bad_list_length(list) {
-        return Written::Refused(Refusal::ListLength);
+        return Err(Refusal::ListLength);
     }
-    let checked = check_rows(list);
-    if checked.lawful {
-        let extended = checked.extended;
-        let others = row_count(list) - extended;
-        if others > MOST_ENTRIES {
-            return Written::Refused(Refusal::ListRows);
-        }
-        if extended > MOST_ENTRIES {
-            return Written::Refused(Refusal::ListRows);
-        }
-        if out.len() < 2 * PAGE_SIZE {
-            return Written::Refused(Refusal::BufferTooShort);
-        }
-        put_pages(list, others, extended, out);
-        return Written::Bytes(2 * PAGE_SIZE);
+    let extended = check_rows(list).ok_or(Refusal::ListFields)?;
+    let others = row_count(list) - extended;
+    if others > MOST_ENTRIES {
+        return Err(Refusal::ListRows);
     }
-    Written::Refused(Refusal::ListFields)
+    if extended > MOST_ENTRIES {
+        return Err(Refusal::ListRows);
+    }
+    if out.len() < 2 * PAGE_SIZE {
+        return Err(Refusal::BufferTooShort);
+    }
+    put_pages(list, others, extended, out);
+    Ok(2 * PAGE_SIZE)
 }

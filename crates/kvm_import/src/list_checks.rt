@@ -1,18 +1,10 @@
 // What a list of KVM may be refused for: whether its length and its fields are lawful, and how many of its rows are of leaf Dh.
-ghost use Rattle.std.specs.Prelude.{◌≡◌, true, ◌+◌, ◌*◌, ◌≤◌, ◌<◌, length};
-ghost use Rattle.bits.specs.Lists.{one};
+ghost use Rattle.std.specs.Prelude.{◌≡◌, ◌+◌, ◌*◌, ◌≤◌, ◌<◌, length, is_some, IfSome};
 ghost use Rattle.kvm_list.specs.Format.{row_count, row_at, rows_listed};
 ghost use Rattle.kvm_import.specs.ListChecks.{bad_list_length, is_row_lawful, fields_lawful, is_extended_state, rows_on1};
 
 use kvm_list::{HEAD_SIZE, ROW_SIZE};
 use pages::word_at;
-
-// Whether each row's flag and padding, and the head's zero word, are as they must be; and how many rows are of leaf Dh, if they are.
-#[derive(Clone, Copy)]
-pub struct Checked {
-    pub lawful: bool,
-    pub extended: usize,
-}
 
 // 10: shorter than its head, or not as long as its count says.
 pub fn bad_list_length(list: &[u8]) -> bool
@@ -32,35 +24,23 @@ pub fn row_count(list: &[u8]) -> usize
     word_at(list, 0) as usize
 }
 
-// 12 where not lawful: the head's zero word, and each row's flag and padding. The rows of leaf Dh are counted on the way.
-pub fn check_rows(list: &[u8]) -> Checked
+// How many rows are of leaf Dh. None is refusal 12: the head's zero word, or a row's flag or padding, is not lawful.
+pub fn check_rows(list: &[u8]) -> Option<usize>
     requires { length list.now ≡ 8 + 40 * row_count list.now }
-    ensures { (result.lawful ≡ fields_lawful list.now) × (result.lawful ≡ true → result.extended ≡ length (rows_on1 (rows_listed list.now))) }
+    ensures lawful { is_some result ≡ fields_lawful list.now }
+    ensures extended { IfSome result (λ n. n ≡ length (rows_on1 (rows_listed list.now))) }
 {
     if word_at(list, 4) != 0 {
-        return Checked {
-            lawful: false,
-            extended: 0,
-        };
+        return None;
     }
-    let count = row_count(list);
     let mut extended = 0;
-    let mut q = 0;
-    while q < count {
-        if row_lawful(list, q) {
-            extended += one(is_extended_state(list, q));
-            q += 1;
-        } else {
-            return Checked {
-                lawful: false,
-                extended: 0,
-            };
+    for q in 0..row_count(list) {
+        if !row_lawful(list, q) {
+            return None;
         }
+        extended += usize::from(is_extended_state(list, q));
     }
-    Checked {
-        lawful: true,
-        extended,
-    }
+    Some(extended)
 }
 
 // Whether the flag of row `q` is 0 or 1 and its padding 0.
@@ -87,11 +67,4 @@ pub fn is_extended_state(list: &[u8], q: usize) -> bool
     ensures { result ≡ is_extended_state (row_at list.now q) }
 {
     word_at(list, HEAD_SIZE + ROW_SIZE * q) == 0xD
-}
-
-// 1 where the test holds, else 0.
-pub fn one(b: bool) -> usize
-    ensures { (result ≡ one b) × (result ≤ 1) }
-{
-    if b { 1 } else { 0 }
 }

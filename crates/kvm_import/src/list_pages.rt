@@ -6,7 +6,7 @@ ghost use Rattle.kvm_import.specs.ListChecks.{rows_on0, rows_on1};
 ghost use Rattle.kvm_import.specs.ListPages.{pages_of};
 ghost use Rattle.kvm_import.specs.ImportPieces.{count_bytes, entry_bytes, entry_index, entered};
 
-use crate::list_checks::{is_extended_state, one, row_count};
+use crate::list_checks::{is_extended_state, row_count};
 use buffer::{put_registers, put_word};
 use kvm_list::{HEAD_SIZE, ROW_SIZE, put_zeros};
 use pages::{ENTRIES_AT, ENTRY_SIZE, PAGE_SIZE, registers_at, word_at};
@@ -41,15 +41,12 @@ fn put_entries(list: &[u8], out: &mut [u8])
     requires { (length list.now ≡ 8 + 40 * row_count list.now) × (length (rows_on0 (rows_listed list.now)) ≤ 64) × (length (rows_on1 (rows_listed list.now)) ≤ 64) × (8192 ≤ length out.old) }
     ensures { out.new ≡ entered out.old 16 4112 (rows_listed list.now) }
 {
-    let count = row_count(list);
     let mut extended = 0;
-    let mut q = 0;
-    while q < count {
+    for q in 0..row_count(list) {
         let here = is_extended_state(list, q);
         let at = entry_index(here, q - extended, extended);
         put_entry(list, q, out, at);
-        extended += one(here);
-        q += 1;
+        extended += usize::from(here);
     }
 }
 

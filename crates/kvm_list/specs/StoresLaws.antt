@@ -1,19 +1,11 @@
--- Stores: zeros one after another; stores that stand apart change places, and stores that follow one another join.
-use Rattle.std.specs.Prelude.{◌≡◌, refl, List, [], ◌∷◌, ◌++◌, ℕ, suc, ◌+◌, ◌-◌, ◌≤◌, ◌<◌, length, set, replicate}
-use Rattle.std.proofs.Common.{ap, ◌∙◌, add-one, arith, length-append}
+-- Stores: stores that stand apart change places, and stores that follow one another join.
+use Rattle.std.specs.Prelude.{◌≡◌, refl, List, [], ◌∷◌, ◌++◌, ℕ, suc, ◌+◌, ◌≤◌, ◌<◌, length, set}
+use Rattle.std.proofs.Common.{ap, ◌∙◌, arith, length-append}
 use Rattle.std.proofs.lemmas.List.{set_comm}
 use Rattle.std.proofs.lemmas.List.Edits.{sets}
 use Rattle.x86defs.specs.declared.CpuidResult.{CpuidResult}
 use Rattle.buffer.specs.Front.{word_bytes, register_bytes}
 use Rattle.buffer.specs.FrontLaws.{sets_append}
-
-pub clear_more : (out : List ℕ) (i end : ℕ) → i < end → sets (set out i 0) (i + 1) (replicate (end - (i + 1)) 0) ≡ sets out i (replicate (end - i) 0)
-clear_more out i end h =
-    let e : end - i ≡ suc (end - (i + 1)) = omega arith in
-    rw (e, add-one)
-
-pub clear_none : (out : List ℕ) (i end : ℕ) → end ≤ i → sets out i (replicate (end - i) 0) ≡ out
-clear_none out i end h = let e : end - i ≡ 0 = omega arith in rw e
 
 pub sets_join : (l : List ℕ) (i : ℕ) (xs ys : List ℕ) (j : ℕ) → j ≡ i + length xs → sets (sets l i xs) j ys ≡ sets l i (xs ++ ys)
 sets_join l i xs ys j e = ap (λ (k : ℕ). sets (sets l i xs) k ys) e ∙ sets_append xs ys l i

@@ -15,9 +15,5 @@ pub fn put_zeros(out: &mut [u8], from: usize, end: usize)
     requires { (from ≤ end) × (end ≤ length out.old) }
     ensures { out.new ≡ sets out.old from (replicate (end - from) 0) }
 {
-    let mut i = from;
-    while i < end {
-        out[i] = 0;
-        i += 1;
-    }
+    out[from..end].fill(0);
 }

@@ -1,10 +1,9 @@
 -- The paper's equations, register by register, determine the table of an accepted page set.
-use Rattle.std.specs.Prelude.{◌≡◌, refl, List, [], ◌∷◌, map, ◌↔◌, ℕ}
+use Rattle.std.specs.Prelude.{◌≡◌, refl, List, [], ◌∷◌, map, ◌↔◌, ℕ, Ok}
 use Rattle.std.proofs.Common.{sym, ap, ◌∙◌, subst}
 use Rattle.x86defs.specs.declared.CpuidResult.{CpuidResult}
 use Rattle.table.specs.declared.Choices.{Choices}
 use Rattle.table.specs.declared.CpuidResults.{CpuidResults}
-use Rattle.table.specs.declared.Verdict.TheVariants.{Accepted}
 use Rattle.build.specs.Build.{answer}
 use Rattle.letter.specs.Paper.{Line, Equations, lines_of, combined_of, table_with}
 use Rattle.letter.proofs.TableProof.{table_by_figures}
@@ -29,7 +28,7 @@ module _ (chosen : Choices) (s : List ℕ) where
       (e.ecx ∙ sym holds.ecx) (e.edx ∙ sym holds.edx) in
       λ k. record { present = e.present k; results = same k; row_count = e.rows k; max_extended_state = e.mask k }
 
-  pub determined : (answer chosen s).verdict ≡ Accepted → (t : CpuidResults) → Equations chosen s t ↔ (t ≡ (answer chosen s).table)
+  pub determined : (answer chosen s).verdict ≡ Ok tt → (t : CpuidResults) → Equations chosen s t ↔ (t ≡ (answer chosen s).table)
   determined a t = (
     λ e. whole t e ∙ sym (table_by_figures chosen s a),
     λ q. subst (Equations chosen s) (sym (q ∙ table_by_figures chosen s a)) holds,

@@ -12,7 +12,6 @@ use Rattle.x86defs.specs.Functions.{AmdMaximum, ExtendedAmdMaximum}
 use Rattle.x86defs.specs.Fields.{fields_mask}
 use Rattle.masking.specs.Masks as Masks
 use Rattle.masking.specs.Kept.{kept_leaves, place_of, slot}
-use Rattle.table.specs.declared.Subleaf.{Subleaf}
 use Rattle.table.specs.Edition.{known_edition, joined_from, bits_between}
 use Rattle.table.proofs.EditionLaws.{each_edition}
 use Rattle.table.specs.Rows.{Rows, row, vacant}

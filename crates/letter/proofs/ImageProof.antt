@@ -1,5 +1,5 @@
 -- The image of an accepted page set, what a write of it leaves and the program's bytes are the paper's.
-use Rattle.std.specs.Prelude.{◌≡◌, Bool, ℕ, eqb, leb, length}
+use Rattle.std.specs.Prelude.{◌≡◌, Bool, ℕ, eqb, leb, length, Err, Ok}
 use Rattle.std.proofs.Math.Path.{refl, ap}
 use Rattle.std.proofs.Common.{◌∙◌}
 use mathlib.Core.List.{List, [], ◌∷◌, ◌++◌}
@@ -8,13 +8,9 @@ use Rattle.bits.specs.Lists.{tabulate}
 use Rattle.x86defs.specs.declared.CpuidResult.{CpuidResult}
 use Rattle.masking.specs.Kept.{kept_leaves, slot, leaf_at}
 use Rattle.table.specs.declared.Choices.{Choices}
-use Rattle.table.specs.declared.Subleaf.{Subleaf}
-use Rattle.table.specs.declared.Subleaf.TheVariants.{None, Some}
 use Rattle.table.specs.declared.CpuidResults.{CpuidResults}
 use Rattle.table.specs.declared.Refusal.{Refusal}
 use Rattle.table.specs.declared.Refusal.TheVariants.{PagesLength, PageCount, MissingRequiredResult, InvlpgbUnavailable, SaveAreaOverflow, TopologyInconsistent, BufferTooShort, ListLength, ListRows, ListFields, StateBeyondTable, CompactSizeTooLarge, UnknownEdition, EditionBack, ReservedBytes, PoolSets, PoolDiffers, NothingDecides}
-use Rattle.table.specs.declared.Verdict.{Verdict}
-use Rattle.table.specs.declared.Verdict.TheVariants.{Accepted, Refused}
 use Rattle.topology.specs.declared.TopologyError.TheVariants.{Hyperthreading, ProcessorCount, ThreadsPerUnit}
 use Rattle.table.specs.Refusal.{Details, details}
 use Rattle.table.specs.Rows.{Rows}
@@ -30,14 +26,15 @@ use Rattle.letter.specs.Names.{sub_at}
 use Rattle.letter.proofs.TableProof.{table_by_figures}
 use Rattle.letter.proofs.VerdictProof.{verdict_by_figures}
 use Rattle.letter.specs.ImageProof.{image_told, lines_told, refusal_bytes_lem, told}
+use Rattle.table.specs.Verdict.{Verdict}
 
 -- ---- of page bytes
 
 module _ (chosen : Choices) (s : List ℕ) where
-  pub rows_by_figures : (answer chosen s).verdict ≡ Accepted → told (row_in (answer chosen s).table) ≡ lines_of chosen s
+  pub rows_by_figures : (answer chosen s).verdict ≡ Ok tt → told (row_in (answer chosen s).table) ≡ lines_of chosen s
   rows_by_figures e = ap (λ (t : CpuidResults). told (row_in t)) (table_by_figures chosen s e) ∙ lines_told chosen.edition chosen.secure_avic (entry_of s) (combined_of chosen s)
 
-  pub image_by_figures : (answer chosen s).verdict ≡ Accepted → image (answer chosen s).table ≡ written (lines_of chosen s)
+  pub image_by_figures : (answer chosen s).verdict ≡ Ok tt → image (answer chosen s).table ≡ written (lines_of chosen s)
   image_by_figures e = image_told (answer chosen s).table ∙ ap written (rows_by_figures e)
 
   pub write_by_figures : (buffer : List ℕ) → write chosen s buffer ≡ wrote (verdict chosen s) (written (lines_of chosen s)) buffer
@@ -47,8 +44,8 @@ module _ (chosen : Choices) (s : List ℕ) where
     where
       go : (v : Verdict) → (answer chosen s).verdict ≡ v
           → write_verdict v (image (answer chosen s).table) buffer ≡ wrote v (written (lines_of chosen s)) buffer
-      go Accepted e = ap (λ (b : List ℕ). write_front b buffer) (image_by_figures e)
-      go (Refused r) e = refl
+      go (Ok _) e = ap (λ (b : List ℕ). write_front b buffer) (image_by_figures e)
+      go (Err r) e = refl
 
 pub program_by_figures : (s : List ℕ) → output s ≡ program s
 unfolding output
@@ -58,5 +55,5 @@ program_by_figures s =
   where
     go : (v : Verdict) → (answer programs s).verdict ≡ v
         → output_for v (image (answer programs s).table) ≡ answer_bytes v (written (lines_of programs s))
-    go Accepted e = image_by_figures programs s e
-    go (Refused r) e = refusal_bytes_lem r []
+    go (Ok _) e = image_by_figures programs s e
+    go (Err r) e = refusal_bytes_lem r []

@@ -1,11 +1,10 @@
 -- Rows, bytes and mask of an accepted page set, counted by the paper's combined mask.
-use Rattle.std.specs.Prelude.{◌≡◌, List, ℕ, ◌+◌, ◌*◌, length}
+use Rattle.std.specs.Prelude.{◌≡◌, List, ℕ, ◌+◌, ◌*◌, length, Ok}
 use Rattle.std.proofs.Math.Path.{ap}
 use Rattle.std.proofs.Common.{◌∙◌, subst}
 use Rattle.bits.specs.Bits.{Within}
 use Rattle.table.specs.declared.Choices.{Choices}
 use Rattle.table.specs.declared.CpuidResults.{CpuidResults}
-use Rattle.table.specs.declared.Verdict.TheVariants.{Accepted}
 use Rattle.build.specs.Build.{answer}
 use Rattle.image.specs.Image.{image}
 use Rattle.counts.specs.Counts.{components_in}
@@ -13,7 +12,7 @@ use Rattle.counts.specs.CountsProof.{rows_counted}
 use Rattle.letter.specs.Paper.{combined_of, further_bits}
 use Rattle.letter.proofs.TableProof.{table_by_figures}
 
-module _ (chosen : Choices) (s : List ℕ) (e : (answer chosen s).verdict ≡ Accepted) where
+module _ (chosen : Choices) (s : List ℕ) (e : (answer chosen s).verdict ≡ Ok tt) where
   mask : (answer chosen s).table.max_extended_state ≡ combined_of chosen s
   mask = ap (λ (t : CpuidResults). t.max_extended_state) (table_by_figures chosen s e)
 

@@ -1,5 +1,5 @@
 -- The table of any page bytes is the paper's, and the lookup is the paper's search through its rows.
-use Rattle.std.specs.Prelude.{◌≡◌, Bool, ◌&&◌, List, eqb, ltb, length}
+use Rattle.std.specs.Prelude.{◌≡◌, Bool, ◌&&◌, List, eqb, ltb, length, Err, None, Ok, Option, Some}
 use Rattle.std.proofs.Math.Path.{refl, sym, ap, ap₂}
 use Rattle.std.proofs.Common.{◌∙◌, le_of_eq, arith}
 use Rattle.std.proofs.Math.Bool.{true, false}
@@ -18,13 +18,8 @@ use Rattle.masking.specs.Place
 use Rattle.masking.specs.Place.{made_here}
 use Rattle.masking.specs.KeptLaws.{place_of_slot, Belongs, entry_belongs}
 use Rattle.table.specs.declared.Choices.{Choices}
-use Rattle.table.specs.declared.Subleaf.{Subleaf}
-use Rattle.table.specs.declared.Subleaf.TheVariants.{None, Some}
 use Rattle.table.specs.declared.CpuidResults.{CpuidResults}
-use Rattle.table.specs.declared.Verdict.{Verdict}
-use Rattle.table.specs.declared.Verdict.TheVariants.{Accepted, Refused}
 use Rattle.table.specs.Table.{row_in}
-use Rattle.lookup.specs.declared.LeafResult.TheVariants.{None as Nothing}
 use Rattle.lookup.specs.Lookup.{with_subleaves, place_whole, place_asked, row_result, lookup}
 use Rattle.lookup.proofs.LookupLaws.{lookup_at, empty_finds_nothing}
 use Rattle.build.specs.Build.{answer}
@@ -37,6 +32,7 @@ use Rattle.letter.proofs.TableProof.{table_by_figures}
 use Rattle.letter.proofs.VerdictProof.{verdict_by_figures}
 use Rattle.letter.proofs.ImageProof.{rows_by_figures}
 use Rattle.letter.specs.LookupProof.{find_at}
+use Rattle.table.specs.Verdict.{Verdict}
 
 -- ---- which row is asked for
 
@@ -57,7 +53,7 @@ module _ (l : ℕ) (enforce : Bool) (i : ℕ) (h : i < 88) where
   leaf_same q = ap function (sym (eqb-true _ _ q))
 
   -- asked, so it is the place
-  to : (k : Subleaf) → asked l k enforce (sub_at i) (leaf_at i).0 ≡ true → place_asked (function l) k enforce ≡ i
+  to : (k : Option ℕ) → asked l k enforce (sub_at i) (leaf_at i).0 ≡ true → place_asked (function l) k enforce ≡ i
   unfolding place_asked
   to None = go (indexed_at i) refl
     where
@@ -79,7 +75,7 @@ module _ (l : ℕ) (enforce : Bool) (i : ℕ) (h : i < 88) where
       go false false w q = pick_false _ _ (with_is w (leaf_same (and_left _ _ q))) ∙ whole_place w (leaf_same (and_left _ _ q))
 
   -- the place, so it is asked
-  from : (k : Subleaf) → place_asked (function l) k enforce ≡ i → asked l k enforce (sub_at i) (leaf_at i).0 ≡ true
+  from : (k : Option ℕ) → place_asked (function l) k enforce ≡ i → asked l k enforce (sub_at i) (leaf_at i).0 ≡ true
   unfolding place_asked
   from None = go (with_subleaves (function l)) refl
     where
@@ -104,7 +100,7 @@ module _ (l : ℕ) (enforce : Bool) (i : ℕ) (h : i < 88) where
           ap (λ (b : Bool). asked l (Some j) false (pick b (Some (subleaf_at i)) None) (leaf_at i).0) (indexed_is w f)
           ∙ and_both (same_leaf f) refl
 
-  pub same_test : (k : Subleaf) → asked l k enforce (sub_at i) (leaf_at i).0 ≡ eqb i (place_asked (function l) k enforce)
+  pub same_test : (k : Option ℕ) → asked l k enforce (sub_at i) (leaf_at i).0 ≡ eqb i (place_asked (function l) k enforce)
   same_test k = go (asked l k enforce (sub_at i) (leaf_at i).0) (eqb i (place_asked (function l) k enforce)) refl refl
     where
       go : (a b : Bool) → asked l k enforce (sub_at i) (leaf_at i).0 ≡ a → eqb i (place_asked (function l) k enforce) ≡ b → a ≡ b
@@ -115,7 +111,7 @@ module _ (l : ℕ) (enforce : Bool) (i : ℕ) (h : i < 88) where
 
 -- ---- the lookup
 
-pub lookup_told : (t : CpuidResults) → length t.present ≤ 88 → (l : ℕ) (k : Subleaf) (enforce : Bool)
+pub lookup_told : (t : CpuidResults) → length t.present ≤ 88 → (l : ℕ) (k : Option ℕ) (enforce : Bool)
     → lookup t (function l) k enforce ≡ find (told (row_in t)) l k enforce
 lookup_told t whole l k enforce =
     sym (lookup_at t whole (function l) k enforce p refl)
@@ -125,7 +121,7 @@ lookup_told t whole l k enforce =
     p : ℕ
     p = place_asked (function l) k enforce
 
-    go : (b : Bool) → ltb p 88 ≡ b → row_result (row_in t p) ≡ pick b (row_result (row_in t p)) Nothing
+    go : (b : Bool) → ltb p 88 ≡ b → row_result (row_in t p) ≡ pick b (row_result (row_in t p)) None
     go true e = refl
     go false e =
         let past : length t.present ≤ p = omega (arith, whole, ltb-false p 88 e) in
@@ -140,23 +136,23 @@ module _ (chosen : Choices) (s : List ℕ) where
       ∙ ap (λ (v : Verdict). table_after v (table_with (combined_of chosen s) (lines_of chosen s))) (verdict_by_figures chosen s)
     where
       go : (v : Verdict) → (answer chosen s).verdict ≡ v → (answer chosen s).table ≡ table_after v (table_with (combined_of chosen s) (lines_of chosen s))
-      go Accepted e = table_by_figures chosen s e
-      go (Refused r) e = (builds_exactly chosen s).empty r e
+      go (Ok _) e = table_by_figures chosen s e
+      go (Err r) e = (builds_exactly chosen s).empty r e
 
   rows_88 : length (table_with (combined_of chosen s) (lines_of chosen s)).present ≡ 88
   unfolding tabulate
   rows_88 = refl
 
-  pub lookup_by_the_letter : (l : ℕ) (k : Subleaf) (enforce : Bool)
+  pub lookup_by_the_letter : (l : ℕ) (k : Option ℕ) (enforce : Bool)
       → lookup (answer chosen s).table (function l) k enforce ≡ find_after (verdict chosen s) (lines_of chosen s) l k enforce
   lookup_by_the_letter l k enforce =
       go (answer chosen s).verdict refl ∙ ap (λ (v : Verdict). find_after v (lines_of chosen s) l k enforce) (verdict_by_figures chosen s)
     where
       go : (v : Verdict) → (answer chosen s).verdict ≡ v
           → lookup (answer chosen s).table (function l) k enforce ≡ find_after v (lines_of chosen s) l k enforce
-      go Accepted e =
+      go (Ok _) e =
           lookup_told (answer chosen s).table
           (le_of_eq (ap (λ (t : CpuidResults). length t.present) (table_by_figures chosen s e) ∙ rows_88)) l k enforce
           ∙ ap (λ (r : List Line). find r l k enforce) (rows_by_figures chosen s e)
-      go (Refused r) e =
+      go (Err r) e =
           ap (λ (t : CpuidResults). lookup t (function l) k enforce) ((builds_exactly chosen s).empty r e) ∙ empty_finds_nothing (function l) k enforce

@@ -1,5 +1,5 @@
 -- The table of an accepted page set is the paper's.
-use Rattle.std.specs.Prelude.{◌≡◌, Bool, List, map, ℕ, eqb, ltb, get_or}
+use Rattle.std.specs.Prelude.{◌≡◌, Bool, List, map, ℕ, eqb, ltb, get_or, Ok, Option}
 use Rattle.std.proofs.Math.Path.{refl, sym, ap, fun_ext}
 use Rattle.std.proofs.Common.{ap₂, ◌∙◌, eq-eqb, ne_eqb, le-ltb}
 use Rattle.std.proofs.Math.Bool.{true, false}
@@ -15,17 +15,12 @@ use Rattle.pages.specs.Layout.{Entry}
 use Rattle.pages.specs.Entries.{counted}
 use Rattle.masking.specs.Masks as Masks
 use Rattle.masking.specs.Kept.{kept_leaves, place_of, slot, places}
-use Rattle.table.specs.declared.Subleaf.{Subleaf}
 use Rattle.table.specs.declared.Choices.{Choices}
-use Rattle.table.specs.declared.Verdict.{Verdict}
-use Rattle.table.specs.declared.Verdict.TheVariants.{Accepted}
 use Rattle.table.specs.declared.Refusal.TheVariants.{UnknownEdition}
 use Rattle.table.specs.Edition.{known_edition}
 use Rattle.table.specs.Rows.{Row, Rows, row, vacant}
 use Rattle.table.specs.Table.{table_of, count_rows}
 use Rattle.table.specs.TableLaws.{table_ext}
-use Rattle.topology.specs.declared.Topology.{Topology}
-use Rattle.topology.specs.declared.Topology.TheVariants.{Processors, Inconsistent}
 use Rattle.topology.specs.Topology.{Inputs, topology_of, processors}
 use Rattle.checks.specs.ExtendedState as State
 use Rattle.checks.specs.TopologyInputs.{inputs_of}
@@ -52,6 +47,7 @@ use Rattle.letter.proofs.Figures as FiguresLaws
 use Rattle.letter.specs.CountedProof.{counted_same}
 use Rattle.letter.proofs.FirstProof.{kept_first, told_first, kept_told}
 use Rattle.letter.specs.TableProof.{accepts, count_said}
+use Rattle.table.specs.Verdict.{Verdict}
 
 -- ---- entries by place, entries by leaf and subleaf
 
@@ -59,10 +55,10 @@ module _ (es : List Entry) where
   abbrev by_place : ℕ → CpuidResult
   by_place i = (first_at i es).result
 
-  abbrev by_leaf : ℕ → Subleaf → CpuidResult
+  abbrev by_leaf : ℕ → Option ℕ → CpuidResult
   by_leaf l k = (first es l k).result
 
-  abbrev at : (ℕ → CpuidResult) → ℕ → Subleaf → CpuidResult
+  abbrev at : (ℕ → CpuidResult) → ℕ → Option ℕ → CpuidResult
   at g l k = g (place_for l k)
 
   module _ (n : ℕ) (avic : Bool) where
@@ -78,7 +74,7 @@ module _ (es : List Entry) where
     lines_same = lines_kept ∙ ap (λ (g : ℕ → Row). lines n avic (at (λ i. (g i).result))) (kept_told es) ∙ lines_told
 
     -- the combined mask
-    abbrev mask : (ℕ → Subleaf → CpuidResult) → ℕ
+    abbrev mask : (ℕ → Option ℕ → CpuidResult) → ℕ
     mask e = Paper.combined (Paper.masked avic e)
 
     mask_kept : mask (at by_place) ≡ mask (at (λ i. (kept_first es i).result))
@@ -94,14 +90,14 @@ module _ (es : List Entry) where
 
 -- ---- a table of rows at the 88 places, written out
 
-places_whole : (n : ℕ) (avic : Bool) (e : ℕ → Subleaf → CpuidResult) (x : ℕ)
+places_whole : (n : ℕ) (avic : Bool) (e : ℕ → Option ℕ → CpuidResult) (x : ℕ)
     → table_of (λ i. get_or (map (λ (l : Line). l.row) (lines n avic e)) i vacant) x ≡ table_with x (lines n avic e)
 unfolding tabulate count_rows sum_to
 places_whole n avic e x = refl
 
 -- ---- an accepted page set
 
-module _ (chosen : Choices) (s : List ℕ) (accepted : (answer chosen s).verdict ≡ Accepted) where
+module _ (chosen : Choices) (s : List ℕ) (accepted : (answer chosen s).verdict ≡ Ok tt) where
   abbrev avic : Bool
   avic = chosen.secure_avic
 
@@ -112,7 +108,7 @@ module _ (chosen : Choices) (s : List ℕ) (accepted : (answer chosen s).verdict
   g = by_place (counted s)
 
   -- the first entries as masked
-  abbrev masked : ℕ → Subleaf → CpuidResult
+  abbrev masked : ℕ → Option ℕ → CpuidResult
   masked = Paper.masked avic (at (counted s) g)
 
   -- the masked first entries, with a row at every place
@@ -133,7 +129,7 @@ module _ (chosen : Choices) (s : List ℕ) (accepted : (answer chosen s).verdict
       at' i true false h = absurd (never_both h refl)
       at' i false p h = absurd (never_both h refl)
 
-  rows_accepted : rows_verdict (rows_for chosen s) ≡ Accepted
+  rows_accepted : rows_verdict (rows_for chosen s) ≡ Ok tt
   rows_accepted = accepted_rows chosen s accepted
 
   known : known_edition chosen.edition ≡ true
@@ -143,10 +139,10 @@ module _ (chosen : Choices) (s : List ℕ) (accepted : (answer chosen s).verdict
   covered : Covered (rows_verdict (rows_for chosen s))
   covered = rw rows_accepted tt
 
-  full_accepted : rows_verdict full ≡ Accepted
+  full_accepted : rows_verdict full ≡ Ok tt
   full_accepted = verdict_same (rows_for chosen s) full keeps covered ∙ rows_accepted
 
-  of_built : (m : Rows) → rows_verdict m ≡ Accepted → (built_from chosen.edition m).table ≡ table_of (finished chosen.edition m) (State.combined_mask m)
+  of_built : (m : Rows) → rows_verdict m ≡ Ok tt → (built_from chosen.edition m).table ≡ table_of (finished chosen.edition m) (State.combined_mask m)
   unfolding built_from
   of_built m e = ap (λ (v : Verdict). table_for chosen.edition v m) e
 

@@ -1,5 +1,5 @@
 -- The verdict of any page bytes is the paper's.
-use Rattle.std.specs.Prelude.{◌≡◌, Bool, ◌&&◌, ◌||◌, List, [], ◌∷◌, eqb, ltb, leb}
+use Rattle.std.specs.Prelude.{◌≡◌, Bool, ◌&&◌, ◌||◌, List, [], ◌∷◌, eqb, ltb, leb, Err, None, Ok, Option, Some}
 use Rattle.std.proofs.Math.Path.{refl, sym, ap, ap₂, fun_ext}
 use Rattle.std.proofs.Common.{◌∙◌, le_antisymm, arith, lit<, eqb-true, leb-true}
 use Rattle.std.proofs.Math.Bool.{true, false}
@@ -17,25 +17,18 @@ use Rattle.x86defs.specs.Fields.{fields_mask}
 use Rattle.pages.specs.Layout.{Entry, bad_length, counts_fit}
 use Rattle.pages.specs.Entries as Entries
 use Rattle.pages.specs.Reserved.{eight_zeros, first_nonzero, reserved_of}
-use Rattle.pages.specs.declared.reserved.Reserved.TheVariants.{Nonzero}
 use Rattle.masking.specs.Masks as Masks
 use Rattle.masking.specs.Kept.{kept_leaves, place_of, slot}
 use Rattle.masking.specs.Place
-use Rattle.table.specs.declared.Subleaf.{Subleaf}
-use Rattle.table.specs.declared.Subleaf.TheVariants.{None}
 use Rattle.table.specs.declared.Choices.{Choices}
 use Rattle.table.specs.declared.Refusal.{Refusal}
 use Rattle.table.specs.declared.Refusal.TheVariants.{UnknownEdition, TopologyInconsistent, InvlpgbUnavailable, SaveAreaOverflow, ReservedBytes}
-use Rattle.table.specs.declared.Verdict.{Verdict}
-use Rattle.table.specs.declared.Verdict.TheVariants.{Accepted, Refused}
 use Rattle.table.specs.Edition.{known_edition}
 use Rattle.table.specs.Refusal.{and_then}
 use Rattle.table.specs.Rows.{Row, Rows, row, vacant}
-use Rattle.topology.specs.declared.Topology.TheVariants.{Processors, Inconsistent}
 use Rattle.topology.specs.declared.TopologyError.TheVariants.{Hyperthreading, ProcessorCount, ThreadsPerUnit}
 use Rattle.topology.specs.Topology.{Inputs, topology_of, threads_in}
 use Rattle.checks.specs.Required.{common_required_leaves, snp_required_leaves, required_at, required_count, place_required}
-use Rattle.checks.specs.declared.Size.TheVariants.{Bytes, TooLarge}
 use Rattle.checks.specs.ExtendedState as State
 use Rattle.checks.specs.ExtendedStateLaws.{area_mono, in_combined}
 use Rattle.checks.specs.TopologyInputs.{inputs_of}
@@ -50,11 +43,12 @@ use Rattle.letter.specs.Names.{place_for}
 use Rattle.letter.proofs.FirstProof.{kept_first, told_first, kept_told}
 use Rattle.letter.specs.CountedProof.{entries_same, counted_same}
 use Rattle.letter.specs.VerdictProof.{chain, lowest_chain, then_assoc, then_is, then_three}
+use Rattle.table.specs.Verdict.{Verdict}
 
 -- the same once the first accepts
-then_both : (u v w : Verdict) → (u ≡ Accepted → v ≡ w) → and_then u v ≡ u then w
-then_both Accepted v w f = f refl
-then_both (Refused r) v w f = refl
+then_both : (u v w : Verdict) → (u ≡ Ok tt → v ≡ w) → and_then u v ≡ u then w
+then_both (Ok _) v w f = f refl
+then_both (Err r) v w f = refl
 
 -- ---- the topology
 
@@ -65,23 +59,23 @@ topology_same i =
     (leb (i.nc + 1) (2 ^ i.s) && eqb i.lps (2 ^ i.s)) (eqb i.mt 1)
   where
     threads : ℕ → Verdict
-    threads v = pick (ltb 1 i.t || leb v i.t) (Refused (TopologyInconsistent ThreadsPerUnit)) Accepted
+    threads v = pick (ltb 1 i.t || leb v i.t) (Err (TopologyInconsistent ThreadsPerUnit)) (Ok tt)
 
     last : (v : ℕ) → topology_refusal (threads_in v i.t) ≡ threads v
     last v = at (ltb 1 i.t || leb v i.t)
       where
-        at : (b : Bool) → topology_refusal (pick b (Inconsistent ThreadsPerUnit) (Processors v))
-            ≡ pick b (Refused (TopologyInconsistent ThreadsPerUnit)) Accepted
+        at : (b : Bool) → topology_refusal (pick b (Err ThreadsPerUnit) (Ok v))
+            ≡ pick b (Err (TopologyInconsistent ThreadsPerUnit)) (Ok tt)
         at true = refl
         at false = refl
 
     go : (a m c d f g h : Bool)
         → topology_refusal
         (pick a
-        (pick m (pick c (threads_in 1 i.t) (Inconsistent (Hyperthreading i.s)))
-        (pick d (threads_in i.lps i.t) (Inconsistent (ProcessorCount i.s))))
+        (pick m (pick c (threads_in 1 i.t) (Err (Hyperthreading i.s)))
+        (pick d (threads_in i.lps i.t) (Err (ProcessorCount i.s))))
         (pick f
-        (pick g (pick h (threads_in (2 ^ i.s) i.t) (Inconsistent (Hyperthreading i.s))) (Inconsistent (ProcessorCount i.s)))
+        (pick g (pick h (threads_in (2 ^ i.s) i.t) (Err (Hyperthreading i.s))) (Err (ProcessorCount i.s)))
         (threads_in (2 ^ i.s) i.t)))
         ≡ pick a
         (pick m (pick c (threads 1) (Paper.hyperthreading i.s)) (pick d (threads i.lps) (Paper.processor_count i.s)))
@@ -108,7 +102,7 @@ module _ (avic : Bool) (s : List ℕ) where
   abbrev B : Rows
   B i = pick (ltb i 88) (record { present = (first_at i es).present; result = masked_at avic i (first_at i es).result }) vacant
 
-  abbrev f : ℕ → Subleaf → Row
+  abbrev f : ℕ → Option ℕ → Row
   f l k = first_at (place_for l k) es
 
   present_same : (i : ℕ) → (A i).present ≡ (B i).present
@@ -138,7 +132,7 @@ module _ (avic : Bool) (s : List ℕ) where
       lowest_chain _ _ 0 required_count
       ∙ ap (λ (p : ℕ → Bool). chain (λ j. p (place_required j)) missing_required 0 required_count) (fun_ext present_same)
 
-  module _ (found : required_verdict A ≡ Accepted) where
+  module _ (found : required_verdict A ≡ Ok tt) where
     at_required : (j : ℕ) → j < required_count → A (place_required j) ≡ B (place_required j)
     at_required j l = same_where (place_required j) (required_present A found j l)
 
@@ -184,7 +178,7 @@ module _ (avic : Bool) (s : List ℕ) where
         ap₂ (λ (x : ℕ) (p : ℕ → Bool). refuse_at (lowest (λ k. pick (has k x) (p (6 + k)) true) 2 62) missing_component) mask_same
         (fun_ext present_same)
 
-    module _ (supplies : components_verdict A ≡ Accepted) where
+    module _ (supplies : components_verdict A ≡ Ok tt) where
       sums_same : (k : ℕ) → 2 ≤ k → k < 64 → has k (State.xfem A) ≡ true → State.sum_at A k ≡ State.sum_at B k
       sums_same k l u h =
           ap (λ (r : Row). r.result.eax + r.result.ebx) (same_where (6 + k) (component_present A supplies k l u (in_combined A k h)))
@@ -199,7 +193,7 @@ module _ (avic : Bool) (s : List ℕ) where
 
   -- ---- computed to the paper's figures
 
-  invlpgb_figures : invlpgb_verdict B ≡ pick (has 3 (Paper.as_masked avic f 0x80000008 None).ebx) Accepted (Refused InvlpgbUnavailable)
+  invlpgb_figures : invlpgb_verdict B ≡ pick (has 3 (Paper.as_masked avic f 0x80000008 None).ebx) (Ok tt) (Err InvlpgbUnavailable)
   unfolding invlpgb_verdict place_of kept_leaves slot Masks.extended_address_space_sizes mask_of
   invlpgb_figures = refl
 
@@ -211,11 +205,11 @@ module _ (avic : Bool) (s : List ℕ) where
   unfolding components_verdict components_of State.combined_mask State.xfem State.xss place_of kept_leaves slot Masks.extended_state0 Masks.extended_state1 mask_of legacy_features components
   components_figures = lowest_chain _ _ 2 62
 
-  area_figures : area_verdict B ≡ pick (ltb (area (Paper.as_masked avic f) 62) 4294967296) Accepted (Refused SaveAreaOverflow)
+  area_figures : area_verdict B ≡ pick (ltb (area (Paper.as_masked avic f) 62) 4294967296) (Ok tt) (Err SaveAreaOverflow)
   unfolding area_verdict State.area_below State.xfem State.size_of place_of kept_leaves slot Masks.extended_state0 mask_of legacy_features area
   area_figures = go (ltb (area (Paper.as_masked avic f) 62) 4294967296)
     where
-      go : (b : Bool) → size_verdict (pick b (Bytes (area (Paper.as_masked avic f) 62)) TooLarge) ≡ pick b Accepted (Refused SaveAreaOverflow)
+      go : (b : Bool) → size_verdict (pick b (Some (area (Paper.as_masked avic f) 62)) None) ≡ pick b (Ok tt) (Err SaveAreaOverflow)
       go true = refl
       go false = refl
 
@@ -224,7 +218,7 @@ module _ (avic : Bool) (s : List ℕ) where
   topology_figures = topology_same _
 
   -- a chain of checks, each the same once those before it accept
-  chain_same : (u u' v v' : Verdict) → u ≡ u' → (u ≡ Accepted → v ≡ v') → and_then u v ≡ u' then v'
+  chain_same : (u u' v v' : Verdict) → u ≡ u' → (u ≡ Ok tt → v ≡ v') → and_then u v ≡ u' then v'
   chain_same u u' v v' p q = then_both u v v' q ∙ ap (λ (w : Verdict). w then v') p
 
   pub rows_verdict_same : rows_verdict A ≡ Paper.rows_verdict avic f
@@ -248,7 +242,7 @@ module _ (avic : Bool) (es : List Entry) where
   verdict_told = refl
 
   -- the required leaves and the two state masks by themselves
-  abbrev read : (ℕ → Subleaf → Row) → Verdict × ℕ × ℕ
+  abbrev read : (ℕ → Option ℕ → Row) → Verdict × ℕ × ℕ
   read g = (first_missing avic g required, Paper.xfem (Paper.as_masked avic g), Paper.combined (Paper.as_masked avic g))
 
   read_kept : read (λ l k. first_at (place_for l k) es) ≡ read (λ l k. kept_first es (place_for l k))
@@ -267,7 +261,7 @@ module _ (avic : Bool) (es : List Entry) where
 
 -- ---- XFEM and the combined mask of any page bytes that have the required leaves, also where they are refused
 
-module _ (avic : Bool) (s : List ℕ) (found : first_missing avic (first (Paper.counted s)) required ≡ Accepted) where
+module _ (avic : Bool) (s : List ℕ) (found : first_missing avic (first (Paper.counted s)) required ≡ Ok tt) where
   abbrev three : Verdict × ℕ × ℕ
   three = read avic (Entries.counted s) (first (Paper.counted s))
 
@@ -277,7 +271,7 @@ module _ (avic : Bool) (s : List ℕ) (found : first_missing avic (first (Paper.
   pub own_masks : (State.xfem (rows_of avic s) ≡ Paper.xfem (Paper.masked avic (Paper.entry_of s)))
       × (State.combined_mask (rows_of avic s) ≡ Paper.combined (Paper.masked avic (Paper.entry_of s)))
   own_masks =
-      let there : required_verdict (rows_of avic s) ≡ Accepted = required_same avic s ∙ ap (λ (p : Verdict × ℕ × ℕ). p.0) told_three ∙ found in (
+      let there : required_verdict (rows_of avic s) ≡ (Ok tt) = required_same avic s ∙ ap (λ (p : Verdict × ℕ × ℕ). p.0) told_three ∙ found in (
         xfem_same avic s there ∙ (masks_figures avic s).0 ∙ ap (λ (p : Verdict × ℕ × ℕ). p.1) told_three,
         mask_same avic s there ∙ (masks_figures avic s).1 ∙ ap (λ (p : Verdict × ℕ × ℕ). p.2) told_three,
       )
@@ -290,7 +284,7 @@ unclean_same s [] = refl
 unclean_same s (e ∷ es) = go (eight_zeros s (4096 * e.page + 16 + 48 * e.position + 40)) (unclean_same s es)
   where
     go : (b : Bool) → clean_verdict (first_nonzero s es) ≡ first_unclean s es
-        → clean_verdict (pick b (first_nonzero s es) (Nonzero e.leaf)) ≡ pick b (first_unclean s es) (Refused (ReservedBytes e.leaf))
+        → clean_verdict (pick b (first_nonzero s es) (Err e.leaf)) ≡ pick b (first_unclean s es) (Err (ReservedBytes e.leaf))
     go true h = h
     go false h = refl
 

@@ -4,7 +4,6 @@ use Rattle.std.proofs.Common.{sym, ap, ◌∙◌, subst}
 use Rattle.x86defs.specs.declared.CpuidResult.{CpuidResult}
 use Rattle.table.specs.declared.Choices.{Choices}
 use Rattle.table.specs.declared.CpuidResults.{CpuidResults}
-use Rattle.table.specs.declared.Verdict.TheVariants.{Accepted}
 use Rattle.build.specs.Build.{answer}
 use Rattle.letter.specs.Paper.{Line, Equations, lines_of, combined_of, table_with}
 

@@ -1,5 +1,5 @@
 -- The finished rows of any first entries, computed to the paper's figures.
-use Rattle.std.specs.Prelude.{◌≡◌, Bool, ◌&&◌, map, ℕ, eqb, ltb}
+use Rattle.std.specs.Prelude.{◌≡◌, Bool, ◌&&◌, map, ℕ, eqb, ltb, Option}
 use Rattle.std.proofs.Math.Path.{refl}
 use Rattle.std.proofs.Math.Bool.{true, false}
 use Rattle.std.proofs.Common.{eqb-true}
@@ -12,7 +12,6 @@ use Rattle.x86defs.specs.Functions.{AmdMaximum, ExtendedAmdMaximum}
 use Rattle.x86defs.specs.Fields.{fields_mask}
 use Rattle.masking.specs.Masks as Masks
 use Rattle.masking.specs.Kept.{kept_leaves, place_of, slot}
-use Rattle.table.specs.declared.Subleaf.{Subleaf}
 use Rattle.table.specs.Edition.{known_edition, joined_from, bits_between}
 use Rattle.table.proofs.EditionLaws.{each_edition}
 use Rattle.table.specs.Rows.{Rows, row, vacant}
@@ -36,7 +35,7 @@ said_test n =
 -- ---- the rows
 
 module _ (g : ℕ → CpuidResult) where
-  abbrev pub e : ℕ → Subleaf → CpuidResult
+  abbrev pub e : ℕ → Option ℕ → CpuidResult
   e l k = g (place_for l k)
 
   abbrev pub m : Bool → Rows

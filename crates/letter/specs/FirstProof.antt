@@ -13,7 +13,6 @@ use Rattle.x86defs.specs.Functions.{function}
 use Rattle.masking.specs.Kept.{kept_leaves, place_of, slot, leaf_at, subleaf_at, indexed_at}
 use Rattle.masking.specs.Place.{made_here}
 use Rattle.masking.specs.KeptLaws.{place_of_slot, Belongs, entry_belongs}
-use Rattle.table.specs.declared.Subleaf.TheVariants.{None, Some}
 use Rattle.table.specs.Rows.{Row, vacant}
 use Rattle.collect.specs.FirstEntries.{first_at, place_of_entry}
 use Rattle.letter.specs.Paper.{first, is_of}

@@ -1,5 +1,5 @@
 -- The table of any page bytes is the paper's, and the lookup is the paper's search through its rows.
-use Rattle.std.specs.Prelude.{◌≡◌, Bool, ◌&&◌, List, eqb, ltb, length}
+use Rattle.std.specs.Prelude.{◌≡◌, Bool, ◌&&◌, List, eqb, ltb, length, None, Option}
 use Rattle.std.proofs.Math.Path.{refl, sym, ap, ap₂}
 use Rattle.std.proofs.Common.{◌∙◌, le_of_eq, arith}
 use Rattle.std.proofs.Math.Bool.{true, false}
@@ -18,13 +18,8 @@ use Rattle.masking.specs.Place
 use Rattle.masking.specs.Place.{made_here}
 use Rattle.masking.specs.KeptLaws.{place_of_slot, Belongs, entry_belongs}
 use Rattle.table.specs.declared.Choices.{Choices}
-use Rattle.table.specs.declared.Subleaf.{Subleaf}
-use Rattle.table.specs.declared.Subleaf.TheVariants.{None, Some}
 use Rattle.table.specs.declared.CpuidResults.{CpuidResults}
-use Rattle.table.specs.declared.Verdict.{Verdict}
-use Rattle.table.specs.declared.Verdict.TheVariants.{Accepted, Refused}
 use Rattle.table.specs.Table.{row_in}
-use Rattle.lookup.specs.declared.LeafResult.TheVariants.{None as Nothing}
 use Rattle.lookup.specs.Lookup.{with_subleaves, place_whole, place_asked, row_result, lookup}
 use Rattle.lookup.proofs.LookupLaws.{lookup_at, empty_finds_nothing}
 use Rattle.build.specs.Build.{answer}
@@ -32,6 +27,7 @@ use Rattle.refusals.proofs.ExactlyProof.{builds_exactly}
 use Rattle.letter.specs.Paper.{Line, asked, find, find_after, lines_of, combined_of, table_with, table_after, table, verdict}
 use Rattle.letter.specs.Names.{sub_at}
 use Rattle.letter.specs.ImageProof.{told}
+use Rattle.table.specs.Verdict.{Verdict}
 
 -- ---- a search whose test holds at one place
 
@@ -49,16 +45,16 @@ ltb_suc a b = go (ltb a b) refl
     go true e = lt-ltb (suc a) (suc b) (omega (arith, ltb-true a b e))
     go false e = le-ltb (suc a) (suc b) (omega (arith, ltb-false a b e))
 
-module _ (l : ℕ) (k : Subleaf) (enforce : Bool) where
+module _ (l : ℕ) (k : Option ℕ) (enforce : Bool) where
   pub find_at : (n p : ℕ) (g : ℕ → Line) → ((i : ℕ) → i < n → asked l k enforce (g i).subleaf (g i).leaf ≡ eqb i p)
-      → find (tabulate n g) l k enforce ≡ pick (ltb p n) (row_result (g p).row) Nothing
+      → find (tabulate n g) l k enforce ≡ pick (ltb p n) (row_result (g p).row) None
   unfolding tabulate
   find_at zero p g h = sym (pick_false _ _ (le-ltb p 0 (omega arith)))
   find_at (suc n) zero g h = pick_true _ _ (h 0 (omega arith)) ∙ sym (pick_true _ _ (lt-ltb 0 (suc n) (omega arith)))
   find_at (suc n) (suc p) g h =
       pick_false _ _ (h 0 (omega arith) ∙ ne_eqb 0 (suc p) (λ q. omega arith))
       ∙ find_at n p (λ i. g (suc i)) (λ i q. h (suc i) (omega arith) ∙ eqb_suc i p)
-      ∙ ap (λ (b : Bool). pick b (row_result (g (suc p)).row) Nothing) (sym (ltb_suc p n))
+      ∙ ap (λ (b : Bool). pick b (row_result (g (suc p)).row) None) (sym (ltb_suc p n))
 
 -- ---- the tests, computed
 

@@ -2,7 +2,7 @@
 -- the rest reads through it; then the paper's order. No figure is taken from another definition by its name: what is imported are words (a row, a
 -- bit, a choice by a test), which docs/REVIEW.md lists and counts. crates/theorems/specs/Document01.antt has the theorems: the code's answers are
 -- these. Where document 02 changes a rule, its request is quoted beside it.
-use Rattle.std.specs.Prelude.{◌≡◌, Bool, true, false, not, ◌&&◌, ◌||◌, List, [], ◌∷◌, ◌++◌, map, ℕ, zero, suc, ◌+◌, ◌-◌, ◌*◌, ◌/◌, ◌%◌, ◌^◌, max, eqb, ltb, leb, length, get_or, drop, replicate}
+use Rattle.std.specs.Prelude.{◌≡◌, Bool, true, false, not, ◌&&◌, ◌||◌, List, [], ◌∷◌, ◌++◌, map, ℕ, zero, suc, ◌+◌, ◌-◌, ◌*◌, ◌/◌, ◌%◌, ◌^◌, max, eqb, ltb, leb, length, get_or, drop, replicate, Err, None, Ok, Option, Some}
 use Rattle.std.specs.Int.Bits.{bit_and, bit_or}
 use Rattle.bits.specs.Choice.{pick}
 use Rattle.bits.specs.Lists.{tabulate, keep_if, sum_to, one}
@@ -13,22 +13,16 @@ use Rattle.x86defs.specs.Functions.{function, cpuid_result}
 use Rattle.pages.specs.Layout.{Entry}
 use Rattle.topology.specs.Topology.{Inputs}
 use Rattle.topology.specs.declared.TopologyError.TheVariants.{Hyperthreading, ProcessorCount, ThreadsPerUnit}
-use Rattle.table.specs.declared.Subleaf.{Subleaf}
-use Rattle.table.specs.declared.Subleaf.TheVariants.{None, Some}
 use Rattle.table.specs.declared.Refusal.{Refusal}
 use Rattle.table.specs.declared.Refusal.TheVariants.{PagesLength, PageCount, MissingRequiredResult, InvlpgbUnavailable, SaveAreaOverflow, TopologyInconsistent, BufferTooShort, ListLength, ListRows, ListFields, StateBeyondTable, CompactSizeTooLarge, UnknownEdition, EditionBack, ReservedBytes, PoolSets, PoolDiffers, NothingDecides}
-use Rattle.table.specs.declared.Verdict.{Verdict}
-use Rattle.table.specs.declared.Verdict.TheVariants.{Accepted, Refused}
 use Rattle.table.specs.declared.Choices.{Choices}
 use Rattle.table.specs.declared.CpuidResults.{CpuidResults}
 use Rattle.table.specs.Rows.{Row, row, vacant}
 use Rattle.table.specs.Refusal.{Details}
-use Rattle.buffer.specs.declared.Written.TheVariants.{Bytes, Refused as NotWritten}
 use Rattle.buffer.specs.Front.{AfterWrite}
 use Rattle.finish.specs.Kinds.{Kinds, kinds}
 use Rattle.finish.specs.Kinds.Kind.{feature, feature_but28, area as save_area, freed, other}
-use Rattle.lookup.specs.declared.LeafResult.{LeafResult}
-use Rattle.lookup.specs.declared.LeafResult.TheVariants.{Some as Found, None as Nothing}
+use Rattle.table.specs.Verdict.{Verdict}
 
 -- ======== "Page bytes (SEV-SNP Firmware ABI)"
 
@@ -85,7 +79,7 @@ length_lawful s = not (eqb (length s) 0 || not (eqb (length s % 4096) 0))
 
 -- "Topology inputs: s = 80000008h.ECX bits 12-15, nc = its bits 0-7, lps = 1.EBX bits 16-23, mt = 1.EDX bit 28, t = 8000001Eh.EBX bits 8-15. All are
 -- read after masking." m has the first entries as masked, by leaf and subleaf.
-abbrev pub given : (ℕ → Subleaf → CpuidResult) → Inputs
+abbrev pub given : (ℕ → Option ℕ → CpuidResult) → Inputs
 given m = record {
   s = (m 0x80000008 None).ecx / 2 ^ 12 % 2 ^ 4;
   nc = (m 0x80000008 None).ecx / 2 ^ 0 % 2 ^ 8;
@@ -96,14 +90,14 @@ given m = record {
 
 -- refusals 6 and 7, which name s
 abbrev pub hyperthreading : ℕ → Verdict
-hyperthreading s = Refused (TopologyInconsistent (Hyperthreading s))
+hyperthreading s = Err (TopologyInconsistent (Hyperthreading s))
 
 abbrev pub processor_count : ℕ → Verdict
-processor_count s = Refused (TopologyInconsistent (ProcessorCount s))
+processor_count s = Err (TopologyInconsistent (ProcessorCount s))
 
 -- "t above 1, or t at least v: refusal 8."
 abbrev threads : ℕ → ℕ → Verdict
-threads v t = pick (ltb 1 t || leb v t) (Refused (TopologyInconsistent ThreadsPerUnit)) Accepted
+threads v t = pick (ltb 1 t || leb v t) (Err (TopologyInconsistent ThreadsPerUnit)) (Ok tt)
 
 -- "s = 0, mt = 0: nc must be 0 and lps at most 1, else 6; v = 1. s = 0, mt = 1: lps must equal nc + 1, else 7; v = lps."
 -- "s = 1 to 7: v = 2^s; nc + 1 at most v and lps = v, else 7; then mt = 1, else 6. s = 8 to 15: v = 2^s and nothing is compared."
@@ -143,11 +137,11 @@ level_b1 v = cpuid_result (least_from v 0 32) v 0x201 0
 
 -- "The first counted, kept entry of a leaf and subleaf wins. A leaf without subleaves takes its first entry for any ECX_IN." Demand 3's section says
 -- the same: "A counted entry stands below its page's count and, for leaf Dh, on page 1; pages and positions in order give the first."
-abbrev pub is_of : ℕ → Subleaf → Entry → Bool
+abbrev pub is_of : ℕ → Option ℕ → Entry → Bool
 is_of l None e = eqb e.leaf.0 l
 is_of l (Some k) e = eqb e.leaf.0 l && eqb e.subleaf k
 
-unfoldable pub first : List Entry → ℕ → Subleaf → Row
+unfoldable pub first : List Entry → ℕ → Option ℕ → Row
 first [] l k = vacant
 first (e ∷ es) l k = pick (is_of l k e) (row e.registers) (first es l k)
 
@@ -170,7 +164,7 @@ abbrev pub extended_clears : ℕ → ℕ
 extended_clears n = pick (eqb n 2) (2 ^ 11 + 2 ^ 16) 0
 
 -- m has the first entries as masked, by leaf and subleaf
-module _ (m : ℕ → Subleaf → CpuidResult) where
+module _ (m : ℕ → Option ℕ → CpuidResult) where
   -- "D.0.EAX gets bits 0 and 1 set after masking. XFEM is then D.0.EAX."
   abbrev pub xfem : ℕ
   xfem = bit_or (m 0xD (Some 0)).eax (2 ^ 0 + 2 ^ 1)
@@ -252,10 +246,10 @@ module _ (m : ℕ → Subleaf → CpuidResult) where
 -- a kept leaf, its subleaf or none, and the masks of EAX, EBX, ECX and EDX
 pub record Mask : Type 0 where
   pub leaf : ℕ
-  pub subleaf : Subleaf
+  pub subleaf : Option ℕ
   pub masks : CpuidResult
 
-abbrev mask : ℕ → Subleaf → CpuidResult → Mask
+abbrev mask : ℕ → Option ℕ → CpuidResult → Mask
 mask l k r = record { leaf = l; subleaf = k; masks = r }
 
 -- all 32 bits of a register
@@ -298,35 +292,35 @@ kept avic =
     ∷ mask 0x8000001F None (cpuid_result (0x27F + pick avic (2 ^ 26) 0) 0xFFFF all all)
     ∷ []
 
-abbrev same_subleaf : Subleaf → Subleaf → Bool
+abbrev same_subleaf : Option ℕ → Option ℕ → Bool
 same_subleaf None None = true
 same_subleaf None (Some k) = false
 same_subleaf (Some j) None = false
 same_subleaf (Some j) (Some k) = eqb j k
 
 -- the masks of a leaf and subleaf; 0, where there are none, is never asked for
-abbrev masks_in : List Mask → ℕ → Subleaf → CpuidResult
+abbrev masks_in : List Mask → ℕ → Option ℕ → CpuidResult
 masks_in [] l k = cpuid_result 0 0 0 0
 masks_in (x ∷ xs) l k = pick (eqb x.leaf l && same_subleaf x.subleaf k) x.masks (masks_in xs l k)
 
 -- D.2 to D.63: every bit
-abbrev pub from_d2 : ℕ → Subleaf → Bool
+abbrev pub from_d2 : ℕ → Option ℕ → Bool
 from_d2 l None = false
 from_d2 l (Some k) = eqb l 0xD && (leb 2 k && leb k 63)
 
 -- whether a leaf and subleaf are kept: D.2 to D.63 and those of the list
-abbrev listed : List Mask → ℕ → Subleaf → Bool
+abbrev listed : List Mask → ℕ → Option ℕ → Bool
 listed [] l k = false
 listed (x ∷ xs) l k = (eqb x.leaf l && same_subleaf x.subleaf k) || listed xs l k
 
-abbrev pub is_kept : ℕ → Subleaf → Bool
+abbrev pub is_kept : ℕ → Option ℕ → Bool
 is_kept l k = from_d2 l k || listed (kept false) l k
 
-abbrev pub masks_of : Bool → ℕ → Subleaf → CpuidResult
+abbrev pub masks_of : Bool → ℕ → Option ℕ → CpuidResult
 masks_of avic l k = pick (from_d2 l k) (cpuid_result all all all all) (masks_in (kept avic) l k)
 
 -- "Each kept register is joined with its mask by and." e has the first counted entries, by leaf and subleaf.
-abbrev pub masked : Bool → (ℕ → Subleaf → CpuidResult) → ℕ → Subleaf → CpuidResult
+abbrev pub masked : Bool → (ℕ → Option ℕ → CpuidResult) → ℕ → Option ℕ → CpuidResult
 masked avic e l k = joined bit_and (e l k) (masks_of avic l k)
 
 -- ======== The table: "An accepted table has 17 rows without subleaf, 9 with, and one for each combined bit from 2 up: 26 to 32."
@@ -334,14 +328,14 @@ masked avic e l k = joined bit_and (e l k) (masks_of avic l k)
 -- a row of the table: its leaf, its subleaf or none, whether it is there, and its registers
 pub record Line : Type 0 where
   pub leaf : ℕ
-  pub subleaf : Subleaf
+  pub subleaf : Option ℕ
   pub row : Row
 
-abbrev line : ℕ → Subleaf → CpuidResult → Line
+abbrev line : ℕ → Option ℕ → CpuidResult → Line
 line l k r = record { leaf = l; subleaf = k; row = row r }
 
 -- the rows by rising leaf and subleaf, as document 02's P1 wants them; v is the number of processors, `there` says which of D.2 to D.63 stay
-module _ (n : ℕ) (m : ℕ → Subleaf → CpuidResult) where
+module _ (n : ℕ) (m : ℕ → Option ℕ → CpuidResult) where
   abbrev pub lines_with : ℕ → (ℕ → Bool) → List Line
   lines_with v there =
       line 0x0 None (made_here 0xD)
@@ -374,11 +368,11 @@ module _ (n : ℕ) (m : ℕ → Subleaf → CpuidResult) where
       ∷ []
 
 -- of the first counted entries e
-abbrev pub lines : ℕ → Bool → (ℕ → Subleaf → CpuidResult) → List Line
+abbrev pub lines : ℕ → Bool → (ℕ → Option ℕ → CpuidResult) → List Line
 lines n avic e = lines_with n (masked avic e) (processors (given (masked avic e))) (stays (masked avic e))
 
 -- of page bytes, under what the caller chooses: the first entries, the rows and the combined mask
-abbrev pub entry_of : List ℕ → ℕ → Subleaf → CpuidResult
+abbrev pub entry_of : List ℕ → ℕ → Option ℕ → CpuidResult
 entry_of s l k = (first (counted s) l k).result
 
 abbrev pub lines_of : Choices → List ℕ → List Line
@@ -388,7 +382,7 @@ abbrev pub combined_of : Choices → List ℕ → ℕ
 combined_of chosen s = combined (masked chosen.secure_avic (entry_of s))
 
 -- a row without subleaf
-abbrev pub without : Subleaf → Bool
+abbrev pub without : Option ℕ → Bool
 without None = true
 without (Some k) = false
 
@@ -425,18 +419,18 @@ pub record Equations (chosen : Choices) (s : List ℕ) (t : CpuidResults) : Type
 -- "Place, in order": the first check that fails decides
 infixr 5 ◌then◌
 abbrev pub ◌then◌ : Verdict → Verdict → Verdict
-◌then◌ Accepted v = v
-◌then◌ (Refused r) v = Refused r
+◌then◌ (Ok tt) v = v
+◌then◌ (Err r) v = Err r
 
 abbrev given_unless : Bool → Refusal → Verdict
-given_unless ok r = pick ok Accepted (Refused r)
+given_unless ok r = pick ok (Ok tt) (Err r)
 
 -- a leaf and its subleaf or none
 pub record Name : Type 0 where
   pub leaf : ℕ
-  pub subleaf : Subleaf
+  pub subleaf : Option ℕ
 
-abbrev pub name : ℕ → Subleaf → Name
+abbrev pub name : ℕ → Option ℕ → Name
 name l k = record { leaf = l; subleaf = k }
 
 -- 3: "`COMMON_REQUIRED_LEAVES`, then `SNP_REQUIRED_LEAVES`, in list order"
@@ -469,23 +463,23 @@ required =
     ∷ []
 
 -- f: the first counted entry of a leaf and subleaf, if there is one
-module _ (avic : Bool) (f : ℕ → Subleaf → Row) where
+module _ (avic : Bool) (f : ℕ → Option ℕ → Row) where
   -- as masked
-  abbrev pub as_masked : ℕ → Subleaf → CpuidResult
+  abbrev pub as_masked : ℕ → Option ℕ → CpuidResult
   as_masked = masked avic (λ l k. (f l k).result)
 
   -- 3: "no such row; names leaf and subleaf"
   abbrev pub first_missing : List Name → Verdict
-  first_missing [] = Accepted
-  first_missing (n ∷ ns) = pick (f n.leaf n.subleaf).present (first_missing ns) (Refused (MissingRequiredResult (function n.leaf) n.subleaf))
+  first_missing [] = Ok tt
+  first_missing (n ∷ ns) = pick (f n.leaf n.subleaf).present (first_missing ns) (Err (MissingRequiredResult (function n.leaf) n.subleaf))
 
   -- 3: "extended state, ascending", "a needed D subleaf is absent": the n subleaves from k on. "Refusal 3 names the lowest needed subleaf without an
   -- entry; 5 is given where none is missing and a masked EAX + EBX over B's XFEM from 2 up is too large." (demand 3's section)
   unfoldable pub components : ℕ → ℕ → Verdict
-  components k zero = Accepted
+  components k zero = Ok tt
   components k (suc n) =
       pick (pick (stays as_masked k) (f 0xD (Some k)).present true) (components (suc k) n)
-      (Refused (MissingRequiredResult (function 0xD) (Some k)))
+      (Err (MissingRequiredResult (function 0xD) (Some k)))
 
   -- 3; 4, "after these", "80000008h.EBX bit 3 (INVLPGB) clear"; 3; 5, "area size", "a sum overflows"; 6, 7, 8, "topology, as above", "6
   -- `Hyperthreading`, 7 `ProcessorCount`, both with s; 8 `ThreadsPerUnit`"
@@ -499,8 +493,8 @@ module _ (avic : Bool) (f : ℕ → Subleaf → Row) where
 
 -- 17, document 02, P10: "naming leaf EAX_IN with no subleaf, first in page and entry order, after 2 and before 3"
 unfoldable pub first_unclean : List ℕ → List Entry → Verdict
-first_unclean s [] = Accepted
-first_unclean s (e ∷ es) = pick (clean s e) (first_unclean s es) (Refused (ReservedBytes e.leaf))
+first_unclean s [] = Ok tt
+first_unclean s (e ∷ es) = pick (clean s e) (first_unclean s es) (Err (ReservedBytes e.leaf))
 
 -- 15, document 02, P7: "an edition other than 1 or 2, before 1"; 1, "length", "0, or not a multiple of 4,096"; 2, "counts", "some page's count is
 -- above 64"; 17; 3 to 8
@@ -513,7 +507,7 @@ verdict chosen s =
     then rows_verdict chosen.secure_avic (first (counted s)))))
 
 -- "A refusal carries leaf, subleaf or none, and s; those not named are 0 or none." Numbers from 10 up are document 02's.
-abbrev numbered : ℕ → ℕ → Subleaf → ℕ → Details
+abbrev numbered : ℕ → ℕ → Option ℕ → ℕ → Details
 numbered n l k s = record { number = n; leaf = l; subleaf = k; s = s }
 
 abbrev pub carried : Refusal → Details
@@ -540,8 +534,8 @@ carried NothingDecides = numbered 20 0 None 0
 
 -- "Its table has row count 0, all rows zero and mask 0."
 abbrev pub table_after : Verdict → CpuidResults → CpuidResults
-table_after Accepted t = t
-table_after (Refused r) t =
+table_after (Ok _) t = t
+table_after (Err r) t =
     record { present = replicate 88 false; results = replicate 88 (cpuid_result 0 0 0 0); row_count = 0; max_extended_state = 0 }
 
 abbrev pub table : Choices → List ℕ → CpuidResults
@@ -560,10 +554,10 @@ lawful s = given_unless (length_lawful s) PagesLength then (given_unless (counts
 -- the kinds of EAX, EBX, ECX and EDX of a row
 pub record Kinded : Type 0 where
   pub leaf : ℕ
-  pub subleaf : Subleaf
+  pub subleaf : Option ℕ
   pub kinds : Kinds
 
-abbrev kinded : ℕ → Subleaf → Kinds → Kinded
+abbrev kinded : ℕ → Option ℕ → Kinds → Kinded
 kinded l k t = record { leaf = l; subleaf = k; kinds = t }
 
 -- "1.ECX; 1.EDX but bit 28; 7.0.EBX, ECX, EDX; 80000001h.ECX, EDX; 80000008h.EBX; D.0.EAX; D.1.EAX, ECX; 8000001Ah.EAX; 8000001Fh.EAX. The combined
@@ -607,7 +601,7 @@ little n = n % 256 ∷ n / 256 % 256 ∷ n / 65536 % 256 ∷ n / 16777216 % 256 
 
 -- "Added here: byte 1, then leaf, EAX, EBX, ECX, EDX (4 bytes each, little-endian) for a row without subleaf; byte 2, leaf, subleaf and the four for
 -- one with."
-abbrev row_bytes : ℕ → Subleaf → CpuidResult → List ℕ
+abbrev row_bytes : ℕ → Option ℕ → CpuidResult → List ℕ
 row_bytes l None r = 1 ∷ little l ++ little r.eax ++ little r.ebx ++ little r.ecx ++ little r.edx
 row_bytes l (Some k) r = 2 ∷ little l ++ little k ++ little r.eax ++ little r.ebx ++ little r.ecx ++ little r.edx
 
@@ -623,29 +617,29 @@ written (l ∷ ls) = line_bytes l ++ written ls
 -- "Length 582 + 25 for each combined bit from 2 up, which a successful write returns. Bytes beyond it stay." "Writing starts from pages and gives
 -- building's refusals before 9." 9: "writing", "lent buffer shorter than the image"; "a refused write changes no lent byte" (demand 1)
 abbrev pub wrote : Verdict → List ℕ → List ℕ → AfterWrite
-wrote Accepted bytes buffer =
+wrote (Ok _) bytes buffer =
     pick (leb (length bytes) (length buffer))
-    (record { answer = Bytes (length bytes); buffer = bytes ++ drop (length bytes) buffer })
-    (record { answer = NotWritten BufferTooShort; buffer = buffer })
-wrote (Refused r) bytes buffer = record { answer = NotWritten r; buffer = buffer }
+    (record { answer = Ok (length bytes); buffer = bytes ++ drop (length bytes) buffer })
+    (record { answer = Err BufferTooShort; buffer = buffer })
+wrote (Err r) bytes buffer = record { answer = Err r; buffer = buffer }
 
 -- "Lookup answers as `leaf_result_ref`, enforcing or not; in a refused table it finds nothing.": a row without subleaf where the caller names none or
 -- does not enforce, one with where the caller names it
-abbrev pub asked : ℕ → Subleaf → Bool → Subleaf → ℕ → Bool
+abbrev pub asked : ℕ → Option ℕ → Bool → Option ℕ → ℕ → Bool
 asked l None enforce None k = eqb k l
 asked l (Some j) enforce None k = eqb k l && not enforce
 asked l None enforce (Some h) k = false
 asked l (Some j) enforce (Some h) k = eqb k l && eqb j h
 
-abbrev pub find : List Line → ℕ → Subleaf → Bool → LeafResult
-find [] l k enforce = Nothing
-find (r ∷ rs) l k enforce = pick (asked l k enforce r.subleaf r.leaf) (pick r.row.present (Found r.row.result) Nothing) (find rs l k enforce)
+abbrev pub find : List Line → ℕ → Option ℕ → Bool → Option CpuidResult
+find [] l k enforce = None
+find (r ∷ rs) l k enforce = pick (asked l k enforce r.subleaf r.leaf) (pick r.row.present (Some r.row.result) None) (find rs l k enforce)
 
-abbrev pub find_after : Verdict → List Line → ℕ → Subleaf → Bool → LeafResult
-find_after Accepted rs l k enforce = find rs l k enforce
-find_after (Refused r) rs l k enforce = Nothing
+abbrev pub find_after : Verdict → List Line → ℕ → Option ℕ → Bool → Option CpuidResult
+find_after (Ok _) rs l k enforce = find rs l k enforce
+find_after (Err r) rs l k enforce = None
 
-abbrev pub subleaf_or : Subleaf → ℕ
+abbrev pub subleaf_or : Option ℕ → ℕ
 subleaf_or None = 0xFFFFFFFF
 subleaf_or (Some k) = k
 
@@ -655,8 +649,8 @@ abbrev refusal_bytes : Details → List ℕ
 refusal_bytes d = 3 ∷ d.number ∷ little d.leaf ++ little (subleaf_or d.subleaf) ++ (d.s ∷ [])
 
 abbrev pub answer_bytes : Verdict → List ℕ → List ℕ
-answer_bytes Accepted bytes = bytes
-answer_bytes (Refused r) bytes = refusal_bytes (carried r)
+answer_bytes (Ok _) bytes = bytes
+answer_bytes (Err r) bytes = refusal_bytes (carried r)
 
 abbrev pub programs : Choices
 programs = record { secure_avic = false; edition = 1 }

@@ -1,5 +1,5 @@
 -- The registers that demand 3 compares, by leaf and subleaf, and what is kept of the rest: computed.
-use Rattle.std.specs.Prelude.{◌≡◌, refl, Bool, true, false, not, ◌&&◌, ◌||◌, [], ◌∷◌, map, ℕ}
+use Rattle.std.specs.Prelude.{◌≡◌, refl, Bool, true, false, not, ◌&&◌, ◌||◌, [], ◌∷◌, map, ℕ, None, Option}
 use Rattle.bits.specs.Choice.{pick}
 use Rattle.bits.specs.Bits.{field_mask, mask_of}
 use Rattle.bits.specs.Lists.{tabulate, keep_if}
@@ -8,8 +8,6 @@ use Rattle.x86defs.specs.Functions.{cpuid_result}
 use Rattle.x86defs.specs.Fields.{fields_mask}
 use Rattle.masking.specs.Masks as Masks
 use Rattle.masking.specs.Kept.{kept_leaves, slot, leaf_at, masks_at}
-use Rattle.table.specs.declared.Subleaf.{Subleaf}
-use Rattle.table.specs.declared.Subleaf.TheVariants.{None}
 use Rattle.table.specs.Rows.{Row, vacant}
 use Rattle.finish.specs.Finish.{rule_at}
 use Rattle.finish.specs.Kinds.{kinds_at, register_kinds, from_entry}
@@ -31,7 +29,7 @@ unfolding tabulate slot kept_leaves Masks.version_and_features Masks.extended_fe
 masks_same true = refl
 masks_same false = refl
 
-pub rows_with_and_without : (n : ℕ) (avic : Bool) (e : ℕ → Subleaf → CpuidResult)
+pub rows_with_and_without : (n : ℕ) (avic : Bool) (e : ℕ → Option ℕ → CpuidResult)
     → count_from 0 (λ l. without l.subleaf && l.row.present) (lines n avic e)
     ∷ count_from 0 (λ l. not (without l.subleaf || from_d2 l.leaf l.subleaf) && l.row.present) (lines n avic e)
     ∷ count_from 0 (λ l. from_d2 l.leaf l.subleaf) (lines n avic e)
@@ -41,11 +39,11 @@ unfolding tabulate
 rows_with_and_without n avic e = refl
 
 -- "All others are filtered."
-pub rows_filtered : (n : ℕ) (avic : Bool) (e : ℕ → Subleaf → CpuidResult)
+pub rows_filtered : (n : ℕ) (avic : Bool) (e : ℕ → Option ℕ → CpuidResult)
     → lines n avic (λ l k. pick (is_kept l k) (e l k) (cpuid_result 0 0 0 0)) ≡ lines n avic e
 unfolding tabulate area
 rows_filtered n avic e = refl
 
-pub verdict_filtered : (avic : Bool) (f : ℕ → Subleaf → Row) → rows_verdict avic (λ l k. pick (is_kept l k) (f l k) vacant) ≡ rows_verdict avic f
+pub verdict_filtered : (avic : Bool) (f : ℕ → Option ℕ → Row) → rows_verdict avic (λ l k. pick (is_kept l k) (f l k) vacant) ≡ rows_verdict avic f
 unfolding components area
 verdict_filtered avic f = refl

@@ -1,5 +1,5 @@
 -- The table of an accepted page set is the paper's.
-use Rattle.std.specs.Prelude.{◌≡◌, Bool, List, map, ℕ, eqb, ltb, get_or}
+use Rattle.std.specs.Prelude.{◌≡◌, Bool, List, map, ℕ, eqb, ltb, get_or, Err, Ok, Result}
 use Rattle.std.proofs.Math.Path.{refl, sym, ap, fun_ext}
 use Rattle.std.proofs.Common.{ap₂, ◌∙◌, eq-eqb, ne_eqb, le-ltb}
 use Rattle.std.proofs.Math.Bool.{true, false}
@@ -15,17 +15,12 @@ use Rattle.pages.specs.Layout.{Entry}
 use Rattle.pages.specs.Entries.{counted}
 use Rattle.masking.specs.Masks as Masks
 use Rattle.masking.specs.Kept.{kept_leaves, place_of, slot, places}
-use Rattle.table.specs.declared.Subleaf.{Subleaf}
 use Rattle.table.specs.declared.Choices.{Choices}
-use Rattle.table.specs.declared.Verdict.{Verdict}
-use Rattle.table.specs.declared.Verdict.TheVariants.{Accepted}
 use Rattle.table.specs.declared.Refusal.TheVariants.{UnknownEdition}
 use Rattle.table.specs.Edition.{known_edition}
 use Rattle.table.specs.Rows.{Row, Rows, row, vacant}
 use Rattle.table.specs.Table.{table_of, count_rows}
 use Rattle.table.specs.TableLaws.{table_ext}
-use Rattle.topology.specs.declared.Topology.{Topology}
-use Rattle.topology.specs.declared.Topology.TheVariants.{Processors, Inconsistent}
 use Rattle.topology.specs.Topology.{Inputs, topology_of, processors}
 use Rattle.checks.specs.ExtendedState as State
 use Rattle.checks.specs.TopologyInputs.{inputs_of}
@@ -49,12 +44,14 @@ use Rattle.letter.specs.Paper as Paper
 use Rattle.letter.specs.Names.{place_for}
 use Rattle.letter.specs.Figures as Figures
 use Rattle.letter.specs.CountedProof.{counted_same}
+use Rattle.table.specs.Verdict.{Verdict}
+use Rattle.topology.specs.declared.TopologyError.{TopologyError}
 
 -- ---- v
 
-pub accepts : (o : Topology) → topology_refusal o ≡ Accepted → o ≡ Processors (processors o)
-accepts (Processors v) e = refl
-accepts (Inconsistent x) e = cc
+pub accepts : (o : Result ℕ TopologyError) → topology_refusal o ≡ Ok tt → o ≡ Ok (processors o)
+accepts (Ok v) e = refl
+accepts (Err x) e = cc
 
 pub count_said : (i : Inputs) (v : ℕ) → CountOf i v → v ≡ Paper.processors i
 count_said i v (one a b c) = c ∙ sym (pick_true _ _ (eq-eqb _ _ a) ∙ pick_true _ _ (eq-eqb _ _ b))

@@ -1,5 +1,5 @@
 -- The verdict of any page bytes is the paper's.
-use Rattle.std.specs.Prelude.{◌≡◌, Bool, ◌&&◌, ◌||◌, List, [], ◌∷◌, eqb, ltb, leb}
+use Rattle.std.specs.Prelude.{◌≡◌, Bool, ◌&&◌, ◌||◌, List, [], ◌∷◌, eqb, ltb, leb, Err, Ok}
 use Rattle.std.proofs.Math.Path.{refl, sym, ap, ap₂, fun_ext}
 use Rattle.std.proofs.Common.{◌∙◌, le_antisymm, arith, lit<, eqb-true, leb-true}
 use Rattle.std.proofs.Math.Bool.{true, false}
@@ -17,25 +17,18 @@ use Rattle.x86defs.specs.Fields.{fields_mask}
 use Rattle.pages.specs.Layout.{Entry, bad_length, counts_fit}
 use Rattle.pages.specs.Entries as Entries
 use Rattle.pages.specs.Reserved.{eight_zeros, first_nonzero, reserved_of}
-use Rattle.pages.specs.declared.reserved.Reserved.TheVariants.{Nonzero}
 use Rattle.masking.specs.Masks as Masks
 use Rattle.masking.specs.Kept.{kept_leaves, place_of, slot}
 use Rattle.masking.specs.Place
-use Rattle.table.specs.declared.Subleaf.{Subleaf}
-use Rattle.table.specs.declared.Subleaf.TheVariants.{None}
 use Rattle.table.specs.declared.Choices.{Choices}
 use Rattle.table.specs.declared.Refusal.{Refusal}
 use Rattle.table.specs.declared.Refusal.TheVariants.{UnknownEdition, TopologyInconsistent, InvlpgbUnavailable, SaveAreaOverflow, ReservedBytes}
-use Rattle.table.specs.declared.Verdict.{Verdict}
-use Rattle.table.specs.declared.Verdict.TheVariants.{Accepted, Refused}
 use Rattle.table.specs.Edition.{known_edition}
 use Rattle.table.specs.Refusal.{and_then}
 use Rattle.table.specs.Rows.{Row, Rows, row, vacant}
-use Rattle.topology.specs.declared.Topology.TheVariants.{Processors, Inconsistent}
 use Rattle.topology.specs.declared.TopologyError.TheVariants.{Hyperthreading, ProcessorCount, ThreadsPerUnit}
 use Rattle.topology.specs.Topology.{Inputs, topology_of, threads_in}
 use Rattle.checks.specs.Required.{common_required_leaves, snp_required_leaves, required_at, required_count, place_required}
-use Rattle.checks.specs.declared.Size.TheVariants.{Bytes, TooLarge}
 use Rattle.checks.specs.ExtendedState as State
 use Rattle.checks.specs.ExtendedStateLaws.{area_mono, in_combined}
 use Rattle.checks.specs.TopologyInputs.{inputs_of}
@@ -48,17 +41,18 @@ use Rattle.letter.specs.Paper.{first, ◌then◌, area, topology, required, firs
 use Rattle.letter.specs.Paper as Paper
 use Rattle.letter.specs.Names.{place_for}
 use Rattle.letter.specs.CountedProof.{entries_same, counted_same}
+use Rattle.table.specs.Verdict.{Verdict}
 
 -- ---- words
 
 pub then_is : (u v : Verdict) → and_then u v ≡ u then v
-then_is Accepted v = refl
-then_is (Refused r) v = refl
+then_is (Ok _) v = refl
+then_is (Err r) v = refl
 
 -- a search, as a chain of choices
 abbrev pub chain : (ℕ → Bool) → (ℕ → Refusal) → ℕ → ℕ → Verdict
-chain test r k zero = Accepted
-chain test r k (suc n) = pick (test k) (chain test r (suc k) n) (Refused (r k))
+chain test r k zero = Ok tt
+chain test r k (suc n) = pick (test k) (chain test r (suc k) n) (Err (r k))
 
 pub lowest_chain : (test : ℕ → Bool) (r : ℕ → Refusal) (k n : ℕ) → refuse_at (lowest test k n) r ≡ chain test r k n
 unfolding lowest
@@ -66,16 +60,16 @@ lowest_chain test r k zero = refl
 lowest_chain test r k (suc n) = go (test k) (lowest_chain test r (suc k) n)
   where
     go : (b : Bool) → refuse_at (lowest test (suc k) n) r ≡ chain test r (suc k) n
-        → refuse_at (pick b (lowest test (suc k) n) (stop k)) r ≡ pick b (chain test r (suc k) n) (Refused (r k))
+        → refuse_at (pick b (lowest test (suc k) n) (stop k)) r ≡ pick b (chain test r (suc k) n) (Err (r k))
     go true e = e
     go false e = refl
 
 pub then_assoc : (u v w x : Verdict) → and_then (and_then u (and_then v w)) x ≡ u then (v then (w then x))
-then_assoc Accepted Accepted w x = then_is w x
-then_assoc Accepted (Refused r) w x = refl
-then_assoc (Refused r) v w x = refl
+then_assoc (Ok _) (Ok _) w x = then_is w x
+then_assoc (Ok _) (Err r) w x = refl
+then_assoc (Err r) v w x = refl
 
 -- 1, 2 and 17 by themselves
 pub then_three : (u v w : Verdict) → and_then u (and_then v w) ≡ u then (v then w)
-then_three Accepted v w = then_is v w
-then_three (Refused r) v w = refl
+then_three (Ok _) v w = then_is v w
+then_three (Err r) v w = refl

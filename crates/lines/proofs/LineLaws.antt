@@ -1,19 +1,12 @@
 -- How long a line is, and a line stored piece by piece.
-use Rattle.std.specs.Prelude.{◌≡◌, refl, Bool, true, false, List, ◌++◌, ℕ, zero, suc, ◌+◌, ◌≤◌, eqb, leb, length}
-use Rattle.std.proofs.Common.{◌∙◌, arith, length-append, ne_eqb}
-use Rattle.std.proofs.lemmas.List.Edits.{sets}
-use Rattle.std.proofs.lemmas.Bool.{lt-leb}
-use Rattle.bits.specs.Choice.{pick}
-use Rattle.table.specs.declared.Subleaf.{Subleaf}
-use Rattle.table.specs.declared.Subleaf.TheVariants.{None, Some}
-use Rattle.buffer.specs.FrontLaws.{sets_append}
+use Rattle.std.specs.Prelude.{refl, ◌≤◌, length}
+use Rattle.std.proofs.Common.{arith}
 use Rattle.lines.specs.declared.bytes.LineDetails.{LineDetails}
-use Rattle.lines.specs.declared.bytes.names.Named.{Named}
-use Rattle.lines.specs.Digits.{width, decimal}
-use Rattle.lines.specs.DigitsLaws.{length_digits, width_le}
+use Rattle.lines.specs.Digits.{width}
+use Rattle.lines.specs.DigitsLaws.{length_digits}
 use Rattle.lines.specs.NumbersInUse.{names}
 use Rattle.lines.proofs.NumbersInUseLaws.{room_few}
-use Rattle.lines.specs.Line.{leaf_field, subleaf_field, s_field, fields_as, fields, line}
+use Rattle.lines.specs.Line.{line}
 use Rattle.lines.specs.LineLaws.{length_fields, length_leaf, length_parts, length_s, length_subleaf}
 
 pub at_most_22 : (d : LineDetails) → length (line d) ≤ 22

@@ -1,25 +1,20 @@
 -- Document 02, P6: every line is read back and nothing else is read, "different refusals, details included, give different lines, and no line
 -- begins another", and every refusal that is given has a line.
-use Rattle.std.specs.Prelude.{◌≡◌, refl, Bool, true, false, ◌&&◌, ◌||◌, List, [], ◌∷◌, ◌++◌, ℕ, ◌≤◌, eqb, leb, length, take}
-use Rattle.std.proofs.Common.{sym, ap, ◌∙◌, append_assoc, append-nil, arith, eqb-true, le-leb, leb-true, leb-false}
+use Rattle.std.specs.Prelude.{◌≡◌, refl, Bool, true, false, ◌&&◌, List, [], ◌++◌, ℕ, ◌≤◌, leb, length, take, Err, None, Ok, Some}
+use Rattle.std.proofs.Common.{sym, ap, ◌∙◌, append-nil, arith, leb-true, leb-false}
 use Rattle.std.proofs.lemmas.List.Edits.{sets}
 use Rattle.bits.specs.Choice.{pick}
 use Rattle.bits.specs.ChoiceLaws.{and_left, and_right, and_both}
-use Rattle.table.specs.declared.Subleaf.{Subleaf}
-use Rattle.table.specs.declared.Subleaf.TheVariants.{None, Some}
 use Rattle.table.specs.declared.Refusal.{Refusal}
 use Rattle.table.specs.declared.Refusal.TheVariants.{BufferTooShort}
-use Rattle.table.specs.Refusal.{Details, details}
-use Rattle.buffer.specs.declared.Written.TheVariants.{Bytes, Refused}
+use Rattle.table.specs.Refusal.{details}
 use Rattle.lines.specs.declared.bytes.LineDetails.{LineDetails}
 use Rattle.lines.specs.declared.bytes.names.Named.{Named}
-use Rattle.lines.specs.declared.LineRead.TheVariants.{Line, NoSuchLine}
-use Rattle.lines.specs.declared.LineWritten.TheVariants.{Line as Answered, NoSuchLine as NotWritten}
-use Rattle.lines.specs.Digits.{width, decimal}
-use Rattle.lines.specs.DigitsLaws.{AtLeast, none, next, at_least_append, digits_at_least}
+use Rattle.lines.specs.Digits.{width}
+use Rattle.lines.specs.DigitsLaws.{AtLeast, at_least_append, digits_at_least}
 use Rattle.lines.specs.NumbersInUse.{names}
 use Rattle.lines.proofs.NumbersNamedProof.{sets_named}
-use Rattle.lines.specs.Line.{newline, space, LineFits, most_s, leaf_field, subleaf_field, s_field, fields_as, fields, writable, line}
+use Rattle.lines.specs.Line.{LineFits, most_s, fields_as, fields, writable, line}
 use Rattle.lines.specs.WriteLine.{AfterLine, leaves, write_line}
 use Rattle.lines.specs.WriteLineLaws.{write_none, write_short, write_whole, front}
 use Rattle.lines.specs.ReadLine.{guess, same_bytes, read_line}
@@ -28,15 +23,15 @@ use Rattle.lines.proofs.ReadLineLaws.{guess_written}
 use Rattle.lines.specs.LinePromises.{LineOf, body, leaf_above, line_body, line_details, one_end, s_above, s_taken, subleaf_above}
 
 -- every line is read back
-pub read_written : (d : LineDetails) → LineFits d → writable d ≡ true → read_line (line d) ≡ Line d
+pub read_written : (d : LineDetails) → LineFits d → writable d ≡ true → read_line (line d) ≡ Some d
 unfolding read_line
 read_written d f h = rw (guess_written d f h, h, same_refl (line d))
 
-pub only_written_read : (l : List ℕ) (d : LineDetails) → read_line l ≡ Line d → LineOf l d
+pub only_written_read : (l : List ℕ) (d : LineDetails) → read_line l ≡ Some d → LineOf l d
 unfolding read_line
 only_written_read l d e = go (writable (guess l) && same_bytes (line (guess l)) l) refl e
   where
-    go : (b : Bool) → (writable (guess l) && same_bytes (line (guess l)) l) ≡ b → pick b (Line (guess l)) NoSuchLine ≡ Line d → LineOf l d
+    go : (b : Bool) → (writable (guess l) && same_bytes (line (guess l)) l) ≡ b → pick b (Some (guess l)) None ≡ Some d → LineOf l d
     go true p q =
         let g : guess l ≡ d = cc in
         rw (← g)
@@ -48,38 +43,38 @@ only_written_read l d e = go (writable (guess l) && same_bytes (line (guess l)) 
     go false p q = let z : ◌≡◌ {A = ℕ} 0 1 = cc in absurd (omega arith)
 
 -- so the reader gives d for exactly the line of d
-pub line_read : (l : List ℕ) (d : LineDetails) → LineOf l d → read_line l ≡ Line d
+pub line_read : (l : List ℕ) (d : LineDetails) → LineOf l d → read_line l ≡ Some d
 line_read l d h = ap read_line h.same ∙ read_written d h.fits h.is_writable
 
 -- what was written into any lent buffer is read back from its front
 pub write_then_read : (d : LineDetails) (buffer left : List ℕ) (n : ℕ)
-    → LineFits d → write_line d buffer ≡ leaves (Answered (Bytes n)) left → read_line (take n left) ≡ Line d
+    → LineFits d → write_line d buffer ≡ leaves (Some (Ok n)) left → read_line (take n left) ≡ Some d
 write_then_read d buffer left n f e = go (writable d) refl (leb (length (line d)) (length buffer)) refl
   where
-    go : (w : Bool) → writable d ≡ w → (r : Bool) → leb (length (line d)) (length buffer) ≡ r → read_line (take n left) ≡ Line d
+    go : (w : Bool) → writable d ≡ w → (r : Bool) → leb (length (line d)) (length buffer) ≡ r → read_line (take n left) ≡ Some d
     go true p true q =
         let room = leb-true (length (line d)) (length buffer) q in
         let x = sym (write_whole d buffer p room) ∙ e in
-        let a : Answered (Bytes (length (line d))) ≡ Answered (Bytes n) = ap (λ (o : AfterLine). o.answer) x in
+        let a : Some (Ok (length (line d))) ≡ Some (Ok n) = ap (λ (o : AfterLine). o.answer) x in
         let b : sets buffer 0 (line d) ≡ left = ap (λ (o : AfterLine). o.buffer) x in
         let m : length (line d) ≡ n = cc in
         ap read_line (front (line d) buffer (sym b) (sym m) (omega arith)) ∙ read_written d f p
     go true p false q =
         let x = sym (write_short d buffer p (leb-false (length (line d)) (length buffer) q)) ∙ e in
-        let a : Answered (Refused BufferTooShort) ≡ Answered (Bytes n) = ap (λ (o : AfterLine). o.answer) x in
+        let a : Some (Err BufferTooShort) ≡ Some (Ok n) = ap (λ (o : AfterLine). o.answer) x in
         let z : ◌≡◌ {A = ℕ} 0 1 = cc in
         absurd (omega arith)
     go false p r q =
         let x = sym (write_none d buffer p) ∙ e in
-        let a : NotWritten ≡ Answered (Bytes n) = ap (λ (o : AfterLine). o.answer) x in
+        let a : None ≡ Some (Ok n) = ap (λ (o : AfterLine). o.answer) x in
         let z : ◌≡◌ {A = ℕ} 0 1 = cc in
         absurd (omega arith)
 
 -- different refusals have different lines
 pub lines_differ : (d e : LineDetails) → LineFits d → LineFits e → writable d ≡ true → writable e ≡ true → line d ≡ line e → d ≡ e
 lines_differ d e f g h k q =
-    let a : read_line (line d) ≡ Line d = read_written d f h in
-    let b : read_line (line e) ≡ Line e = read_written e g k in
+    let a : read_line (line d) ≡ Some d = read_written d f h in
+    let b : read_line (line e) ≡ Some e = read_written e g k in
     cc
 
 fields_above : (k : Named) (d : LineDetails) → AtLeast 32 (fields_as k d)

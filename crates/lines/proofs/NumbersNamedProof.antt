@@ -1,18 +1,11 @@
 -- The table of numbers names exactly what the refusals set.
-use Rattle.std.specs.Prelude.{◌≡◌, refl, Bool, true, false, ◌&&◌, ◌||◌, not, ◌≢◌, ℕ, eqb, ltb, length}
-use Rattle.std.proofs.Common.{ap, subst, eqb-true, ltb-true, ltb-false, eq-eqb}
-use Rattle.std.proofs.lemmas.Bool.{false≢true}
+use Rattle.std.specs.Prelude.{◌≡◌, refl, Bool, true, false, ◌&&◌, ◌||◌, not, ℕ, eqb, ltb, length}
+use Rattle.std.proofs.Common.{subst, eqb-true, ltb-true, ltb-false}
 use Rattle.bits.specs.Choice.{pick}
-use Rattle.bits.specs.ChoiceLaws.{never_both, and_left, and_right, if_holds}
-use Rattle.bits.specs.Search.{every}
+use Rattle.bits.specs.ChoiceLaws.{and_left, and_right, if_holds}
 use Rattle.bits.specs.SearchLaws.{every_at}
-use Rattle.topology.specs.declared.TopologyError.TheVariants.{Hyperthreading, ProcessorCount, ThreadsPerUnit}
-use Rattle.table.specs.declared.Subleaf.{Subleaf}
-use Rattle.table.specs.declared.Subleaf.TheVariants.{None, Some}
 use Rattle.table.specs.declared.Refusal.{Refusal}
-use Rattle.table.specs.declared.Refusal.TheVariants.{PagesLength, PageCount, MissingRequiredResult, InvlpgbUnavailable, SaveAreaOverflow, TopologyInconsistent, BufferTooShort, ListLength, ListRows, ListFields, StateBeyondTable, CompactSizeTooLarge, UnknownEdition, EditionBack, ReservedBytes, PoolSets, PoolDiffers, NothingDecides}
-use Rattle.table.specs.Refusal.{Details, details, refusal_with}
-use Rattle.lines.specs.declared.bytes.names.Named.{Named}
+use Rattle.table.specs.Refusal.{details}
 use Rattle.lines.specs.NumbersInUse.{rows, names}
 use Rattle.lines.specs.NumbersInUseLaws.{beyond}
 use Rattle.lines.specs.Line.{is_none}

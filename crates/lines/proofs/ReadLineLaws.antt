@@ -1,22 +1,17 @@
 -- The details of a line, as they are read, and as they are after the writer.
-use Rattle.std.specs.Prelude.{◌≡◌, Bool, ◌&&◌, ◌||◌, not, List, [], ◌∷◌, ◌++◌, ℕ, ◌+◌, ◌^◌, ◌≤◌, ◌<◌, eqb, leb, length, drop}
+use Rattle.std.specs.Prelude.{◌≡◌, Bool, ◌&&◌, ◌||◌, List, ◌∷◌, ◌++◌, ℕ, ◌^◌, ◌<◌, eqb, leb, None, Some}
 use Rattle.std.proofs.Math.Path.{refl}
-use Rattle.std.proofs.Common.{sym, ap, ◌∙◌, append_assoc, arith, drop_of_length-le, drop-cons, eqb-true, eq-eqb, leb-true}
+use Rattle.std.proofs.Common.{sym, ◌∙◌, append_assoc, arith, eqb-true}
 use Rattle.std.proofs.Math.Bool.{true, false}
 use Rattle.bits.specs.Choice.{pick}
-use Rattle.bits.specs.ChoiceLaws.{never_both, and_left, and_right, and_both}
-use Rattle.lines.specs.Digits.{width, decimal, hex}
-use Rattle.lines.specs.Field.{field_from, after}
-use Rattle.lines.specs.FieldLaws.{decimal_read, hex_read, after_number, field_fits}
-use Rattle.table.specs.declared.Subleaf.{Subleaf}
-use Rattle.table.specs.declared.Subleaf.TheVariants.{None, Some}
-use Rattle.table.specs.Numbers.{subleaf_or0}
+use Rattle.bits.specs.ChoiceLaws.{and_left, and_right}
+use Rattle.lines.specs.Digits.{hex}
+use Rattle.lines.specs.FieldLaws.{hex_read, after_number}
 use Rattle.lines.specs.declared.bytes.LineDetails.{LineDetails}
 use Rattle.lines.specs.NumbersInUse.{names}
 use Rattle.lines.proofs.NumbersInUseLaws.{used_below, subleaf_or_s}
-use Rattle.lines.specs.Line.{newline, space, is_none, most_s, LineFits, writable, subleaf_field, s_field, fields, line}
-use Rattle.lines.specs.declared.LineRead.TheVariants.{Line, NoSuchLine}
-use Rattle.lines.specs.ReadLine.{field_if, after_if, subleaf_in, subleaf_if, guess_as, guess, same_bytes, read_line}
+use Rattle.lines.specs.Line.{space, is_none, most_s, LineFits, writable, fields, line}
+use Rattle.lines.specs.ReadLine.{guess, same_bytes, read_line}
 use Rattle.lines.specs.ReadLineLaws.{Rest, guess_line, rest_read, same_details, same_eq, same_refl}
 
 -- the fields are read back, with a leaf and without
@@ -66,18 +61,18 @@ guess_written d f h =
 -- ---- the answer, by the tests that decide
 
 module _ (l : List ℕ) {d : LineDetails} (g : d ≡ guess l) where
-  pub read_none : writable d ≡ false → NoSuchLine ≡ read_line l
+  pub read_none : writable d ≡ false → None ≡ read_line l
   unfolding read_line
   read_none e = rw (← g, e)
 
-  pub read_same : writable d ≡ true → line d ≡ l → Line d ≡ read_line l
+  pub read_same : writable d ≡ true → line d ≡ l → Some d ≡ read_line l
   unfolding read_line
   read_same e q = rw (← g, e, ← q, same_refl (line d))
 
-  pub read_other : writable d ≡ true → (line d ≡ l → ⊥) → NoSuchLine ≡ read_line l
+  pub read_other : writable d ≡ true → (line d ≡ l → ⊥) → None ≡ read_line l
   unfolding read_line
   read_other e q = go (same_bytes (line d) l) refl
     where
-      go : (b : Bool) → same_bytes (line d) l ≡ b → NoSuchLine ≡ read_line l
+      go : (b : Bool) → same_bytes (line d) l ≡ b → None ≡ read_line l
       go true p = absurd (q (same_eq (line d) l p))
       go false p = rw (← g, e, p)

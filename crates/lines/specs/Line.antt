@@ -1,9 +1,7 @@
 -- Document 02, P6: "Write each refusal as one line of ASCII ending in a newline: the number in decimal, then, each after one space and only where
 -- that number names it, the leaf in eight hexadecimal capitals, the subleaf and s in decimal. A subleaf of none is left out."
-use Rattle.std.specs.Prelude.{Bool, true, false, ◌&&◌, ◌||◌, List, [], ◌∷◌, ◌++◌, ℕ, ◌^◌, ◌<◌, eqb, leb}
+use Rattle.std.specs.Prelude.{Bool, true, false, ◌&&◌, ◌||◌, List, [], ◌∷◌, ◌++◌, ℕ, ◌^◌, ◌<◌, eqb, leb, None, Option, Some}
 use Rattle.bits.specs.Choice.{pick}
-use Rattle.table.specs.declared.Subleaf.{Subleaf}
-use Rattle.table.specs.declared.Subleaf.TheVariants.{None, Some}
 use Rattle.table.specs.Numbers.{subleaf_or0}
 use Rattle.lines.specs.declared.bytes.LineDetails.{LineDetails}
 use Rattle.lines.specs.declared.bytes.names.Named.{Named}
@@ -23,11 +21,11 @@ spaced n = space ∷ decimal n
 abbrev pub leaf_field : Bool → ℕ → List ℕ
 leaf_field named leaf = pick named (space ∷ hex leaf) []
 
-abbrev given : Subleaf → List ℕ
+abbrev given : Option ℕ → List ℕ
 given None = []
 given (Some k) = spaced k
 
-abbrev pub subleaf_field : Bool → Subleaf → List ℕ
+abbrev pub subleaf_field : Bool → Option ℕ → List ℕ
 subleaf_field named subleaf = pick named (given subleaf) []
 
 abbrev pub s_field : Bool → ℕ → List ℕ
@@ -44,7 +42,7 @@ line d = decimal d.number ++ (fields d ++ (newline ∷ []))
 
 -- ---- which details have a line: not "a number not in use or a set detail that it doesn't name", and "any s of 8 bits"
 
-abbrev pub is_none : Subleaf → Bool
+abbrev pub is_none : Option ℕ → Bool
 is_none None = true
 is_none (Some k) = false
 

@@ -1,18 +1,14 @@
 -- Each answer of the writer of lines holds under exactly its condition, and a line is writable exactly where its details can be named.
-use Rattle.std.specs.Prelude.{◌≡◌, refl, Bool, true, false, ◌&&◌, ◌||◌, List, ◌++◌, ◌↔◌, ◌≢◌, ℕ, ◌≤◌, ◌<◌, eqb, leb, length, drop}
+use Rattle.std.specs.Prelude.{◌≡◌, refl, Bool, true, false, ◌&&◌, ◌||◌, List, ◌++◌, ◌↔◌, ◌≢◌, ℕ, ◌≤◌, ◌<◌, eqb, leb, length, drop, Err, None, Ok, Option, Some}
 use Rattle.std.proofs.Common.{arith, leb-true, leb-false, eqb-true, eq-eqb, le-leb}
 use Rattle.bits.specs.Choice.{pick}
 use Rattle.bits.specs.ChoiceLaws.{never_both, and_left, and_right, and_both, impossible}
-use Rattle.table.specs.declared.Subleaf.{Subleaf}
-use Rattle.table.specs.declared.Subleaf.TheVariants.{None, Some}
 use Rattle.table.specs.declared.Refusal.TheVariants.{BufferTooShort}
-use Rattle.buffer.specs.declared.Written.TheVariants.{Bytes, Refused}
 use Rattle.buffer.specs.Front.{write_front}
 use Rattle.lines.specs.declared.bytes.LineDetails.{LineDetails}
 use Rattle.lines.specs.declared.bytes.names.Named.{Named}
 use Rattle.lines.specs.NumbersInUse.{names}
 use Rattle.lines.specs.Line.{is_none, most_s, writable_as, writable, line}
-use Rattle.lines.specs.declared.LineWritten.TheVariants.{Line, NoSuchLine}
 use Rattle.lines.specs.WriteLine.{AfterLine, write_line}
 use Rattle.lines.specs.LineExactly.{LineExactly, Nameable}
 
@@ -22,7 +18,7 @@ exactly_at d buffer w made = go (writable d) refl (leb (length (line d)) (length
   where
     go : (b : Bool) → writable d ≡ b → (l : Bool) → leb (length (line d)) (length buffer) ≡ l → LineExactly d buffer w
     go false e l q =
-        let o : w ≡ record { answer = NoSuchLine; buffer = buffer } = rw (made, e) in
+        let o : w ≡ record { answer = None; buffer = buffer } = rw (made, e) in
         record {
           none = (λ p. e, λ p. cc);
           short = (λ p. impossible (cc), λ p. absurd (never_both p.0 e));
@@ -33,7 +29,7 @@ exactly_at d buffer w made = go (writable d) refl (leb (length (line d)) (length
           beyond = λ n p. cc;
         }
     go true e true q =
-        let o : w ≡ record { answer = Line (Bytes (length (line d))); buffer = line d ++ drop (length (line d)) buffer } = rw (made, e, q) in
+        let o : w ≡ record { answer = Some (Ok (length (line d))); buffer = line d ++ drop (length (line d)) buffer } = rw (made, e, q) in
         let fits : length (line d) ≤ length buffer = leb-true _ _ q in
         record {
           none = (λ p. impossible (cc), λ p. absurd (never_both e p));
@@ -45,7 +41,7 @@ exactly_at d buffer w made = go (writable d) refl (leb (length (line d)) (length
           beyond = λ n p. cc;
         }
     go true e false q =
-        let o : w ≡ record { answer = Line (Refused BufferTooShort); buffer = buffer } = rw (made, e, q) in
+        let o : w ≡ record { answer = Some (Err BufferTooShort); buffer = buffer } = rw (made, e, q) in
         let over : length buffer < length (line d) = leb-false _ _ q in
         record {
           none = (λ p. impossible (cc), λ p. absurd (never_both e p));
@@ -71,12 +67,12 @@ named_leaf false n h = go (eqb n 0) refl
     go true e = refl
     go false e = h (λ z. never_both (eq-eqb n 0 z) e)
 
-named_subleaf : (a : Bool) (k : Subleaf) → ((j : ℕ) → k ≡ Some j → a ≡ true) → (a || is_none k) ≡ true
+named_subleaf : (a : Bool) (k : Option ℕ) → ((j : ℕ) → k ≡ Some j → a ≡ true) → (a || is_none k) ≡ true
 named_subleaf true k h = refl
 named_subleaf false None h = refl
 named_subleaf false (Some j) h = h j refl
 
-subleaf_named_lem : (a : Bool) (k : Subleaf) → (a || is_none k) ≡ true → (j : ℕ) → k ≡ Some j → a ≡ true
+subleaf_named_lem : (a : Bool) (k : Option ℕ) → (a || is_none k) ≡ true → (j : ℕ) → k ≡ Some j → a ≡ true
 subleaf_named_lem true k e j p = refl
 subleaf_named_lem false None e j p = cc
 subleaf_named_lem false (Some i) e j p = e

@@ -1,11 +1,8 @@
 -- How long a line is, and a line stored piece by piece.
-use Rattle.std.specs.Prelude.{◌≡◌, refl, Bool, true, false, List, ◌++◌, ℕ, zero, suc, ◌+◌, ◌≤◌, eqb, leb, length}
-use Rattle.std.proofs.Common.{◌∙◌, arith, length-append, ne_eqb}
+use Rattle.std.specs.Prelude.{◌≡◌, refl, Bool, true, false, List, ◌++◌, ℕ, ◌+◌, ◌≤◌, length, None, Option, Some}
+use Rattle.std.proofs.Common.{◌∙◌, arith, length-append}
 use Rattle.std.proofs.lemmas.List.Edits.{sets}
-use Rattle.std.proofs.lemmas.Bool.{lt-leb}
 use Rattle.bits.specs.Choice.{pick}
-use Rattle.table.specs.declared.Subleaf.{Subleaf}
-use Rattle.table.specs.declared.Subleaf.TheVariants.{None, Some}
 use Rattle.buffer.specs.FrontLaws.{sets_append}
 use Rattle.lines.specs.declared.bytes.LineDetails.{LineDetails}
 use Rattle.lines.specs.declared.bytes.names.Named.{Named}
@@ -23,7 +20,7 @@ length_leaf false leaf = refl
 pub length_leaf_named : {b : Bool} (leaf : ℕ) → b ≡ true → length (leaf_field b leaf) ≡ 9
 length_leaf_named leaf e = rw e (length_leaf true leaf)
 
-pub length_subleaf : (b : Bool) (k : Subleaf) → length (subleaf_field b k) ≤ pick b 11 0
+pub length_subleaf : (b : Bool) (k : Option ℕ) → length (subleaf_field b k) ≤ pick b 11 0
 length_subleaf true None = omega arith
 length_subleaf true (Some k) = omega (arith, length_digits 10 (width k) k, width_le k)
 length_subleaf false k = omega arith
@@ -45,11 +42,6 @@ module _ (d : LineDetails) {k : Named} (e : k ≡ names d.number) where
 pub length_parts : (d : LineDetails) → length (line d) ≡ length (decimal d.number) + length (fields d) + 1
 unfolding line
 length_parts d = simp length-append (omega arith)
-
--- s where it is not named
-pub zero_leb : (s : ℕ) → eqb s 0 ≡ leb s 0
-zero_leb zero = refl
-zero_leb (suc s) = rw (ne_eqb (suc s) 0 (λ q. omega arith), lt-leb (suc s) 0 (omega arith))
 
 -- ---- stores one after another
 

@@ -1,28 +1,13 @@
 -- Document 02, P6: every line is read back and nothing else is read, "different refusals, details included, give different lines, and no line
 -- begins another", and every refusal that is given has a line.
-use Rattle.std.specs.Prelude.{◌≡◌, refl, Bool, true, false, ◌&&◌, ◌||◌, List, [], ◌∷◌, ◌++◌, ℕ, ◌≤◌, eqb, leb, length, take}
-use Rattle.std.proofs.Common.{sym, ap, ◌∙◌, append_assoc, append-nil, arith, eqb-true, le-leb, leb-true, leb-false}
-use Rattle.std.proofs.lemmas.List.Edits.{sets}
+use Rattle.std.specs.Prelude.{◌≡◌, Bool, true, false, ◌||◌, List, ◌∷◌, ◌++◌, ℕ, ◌≤◌, eqb, leb, None, Option, Some}
+use Rattle.std.proofs.Common.{append_assoc, arith, eqb-true, le-leb}
 use Rattle.bits.specs.Choice.{pick}
-use Rattle.bits.specs.ChoiceLaws.{and_left, and_right, and_both}
-use Rattle.table.specs.declared.Subleaf.{Subleaf}
-use Rattle.table.specs.declared.Subleaf.TheVariants.{None, Some}
-use Rattle.table.specs.declared.Refusal.{Refusal}
-use Rattle.table.specs.declared.Refusal.TheVariants.{BufferTooShort}
-use Rattle.table.specs.Refusal.{Details, details}
-use Rattle.buffer.specs.declared.Written.TheVariants.{Bytes, Refused}
+use Rattle.table.specs.Refusal.{Details}
 use Rattle.lines.specs.declared.bytes.LineDetails.{LineDetails}
-use Rattle.lines.specs.declared.bytes.names.Named.{Named}
-use Rattle.lines.specs.declared.LineRead.TheVariants.{Line, NoSuchLine}
-use Rattle.lines.specs.declared.LineWritten.TheVariants.{Line as Answered, NoSuchLine as NotWritten}
 use Rattle.lines.specs.Digits.{width, decimal}
-use Rattle.lines.specs.DigitsLaws.{AtLeast, none, next, at_least_append, digits_at_least}
-use Rattle.lines.specs.NumbersInUse.{names}
-use Rattle.lines.specs.Line.{newline, space, LineFits, most_s, leaf_field, subleaf_field, s_field, fields_as, fields, writable, line}
-use Rattle.lines.specs.WriteLine.{AfterLine, leaves, write_line}
-use Rattle.lines.specs.WriteLineLaws.{write_none, write_short, write_whole, front}
-use Rattle.lines.specs.ReadLine.{guess, same_bytes, read_line}
-use Rattle.lines.specs.ReadLineLaws.{same_refl, same_eq, guess_fits}
+use Rattle.lines.specs.DigitsLaws.{AtLeast, none, next, digits_at_least}
+use Rattle.lines.specs.Line.{newline, space, LineFits, most_s, leaf_field, subleaf_field, s_field, fields, writable, line}
 
 -- what is read is a line: the one that is written for what it says
 pub record LineOf (l : List ℕ) (d : LineDetails) : Type 0 where
@@ -36,7 +21,7 @@ pub leaf_above : (b : Bool) (leaf : ℕ) → AtLeast 32 (leaf_field b leaf)
 leaf_above true leaf = next {b = space} (omega arith) (digits_at_least 32 16 8 leaf (omega arith))
 leaf_above false leaf = none
 
-pub subleaf_above : (b : Bool) (k : Subleaf) → AtLeast 32 (subleaf_field b k)
+pub subleaf_above : (b : Bool) (k : Option ℕ) → AtLeast 32 (subleaf_field b k)
 subleaf_above true None = none
 subleaf_above true (Some k) = next {b = space} (omega arith) (digits_at_least 32 10 (width k) k (omega arith))
 subleaf_above false k = none

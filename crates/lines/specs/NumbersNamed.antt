@@ -1,7 +1,6 @@
 -- The table of numbers (NumbersInUse.antt) against the refusals (crates/table/specs/Refusal.antt): a number is in use exactly
 -- where a refusal has it, and names a leaf, a subleaf or s exactly where some refusal with that number sets one.
-use Rattle.std.specs.Prelude.{◌≡◌, true, ◌↔◌, ◌≢◌, ℕ}
-use Rattle.table.specs.declared.Subleaf.TheVariants.{Some}
+use Rattle.std.specs.Prelude.{◌≡◌, true, ◌↔◌, ◌≢◌, ℕ, Some}
 use Rattle.table.specs.declared.Refusal.{Refusal}
 use Rattle.table.specs.Refusal.{details}
 use Rattle.lines.specs.NumbersInUse.{names}

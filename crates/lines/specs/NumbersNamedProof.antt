@@ -1,22 +1,17 @@
 -- The table of numbers names exactly what the refusals set.
-use Rattle.std.specs.Prelude.{◌≡◌, refl, Bool, true, false, ◌&&◌, ◌||◌, not, ◌≢◌, ℕ, eqb, ltb, length}
-use Rattle.std.proofs.Common.{ap, subst, eqb-true, ltb-true, ltb-false, eq-eqb}
+use Rattle.std.specs.Prelude.{◌≡◌, refl, Bool, true, false, ◌&&◌, ◌||◌, not, ◌≢◌, ℕ, eqb, length, None, Option, Some}
+use Rattle.std.proofs.Common.{ap, eqb-true, eq-eqb}
 use Rattle.std.proofs.lemmas.Bool.{false≢true}
 use Rattle.bits.specs.Choice.{pick}
-use Rattle.bits.specs.ChoiceLaws.{never_both, and_left, and_right, if_holds}
+use Rattle.bits.specs.ChoiceLaws.{never_both}
 use Rattle.bits.specs.Search.{every}
-use Rattle.bits.specs.SearchLaws.{every_at}
 use Rattle.topology.specs.declared.TopologyError.TheVariants.{Hyperthreading, ProcessorCount, ThreadsPerUnit}
-use Rattle.table.specs.declared.Subleaf.{Subleaf}
-use Rattle.table.specs.declared.Subleaf.TheVariants.{None, Some}
 use Rattle.table.specs.declared.Refusal.{Refusal}
 use Rattle.table.specs.declared.Refusal.TheVariants.{PagesLength, PageCount, MissingRequiredResult, InvlpgbUnavailable, SaveAreaOverflow, TopologyInconsistent, BufferTooShort, ListLength, ListRows, ListFields, StateBeyondTable, CompactSizeTooLarge, UnknownEdition, EditionBack, ReservedBytes, PoolSets, PoolDiffers, NothingDecides}
 use Rattle.table.specs.Refusal.{Details, details, refusal_with}
 use Rattle.lines.specs.declared.bytes.names.Named.{Named}
 use Rattle.lines.specs.NumbersInUse.{rows, names}
-use Rattle.lines.specs.NumbersInUseLaws.{beyond}
 use Rattle.lines.specs.Line.{is_none}
-use Rattle.lines.specs.NumbersNamed.{NamesExactly}
 
 -- ---- what a refusal sets, its number names
 
@@ -57,7 +52,7 @@ pub set_named : (named : Bool) (x : ℕ) → (named || eqb x 0) ≡ true → x �
 set_named true x e h = refl
 set_named false x e h = absurd (h (eqb-true x 0 e))
 
-pub some_named : (named : Bool) (k : Subleaf) (j : ℕ) → (named || is_none k) ≡ true → k ≡ Some j → named ≡ true
+pub some_named : (named : Bool) (k : Option ℕ) (j : ℕ) → (named || is_none k) ≡ true → k ≡ Some j → named ≡ true
 some_named true k j e h = refl
 some_named false k j e h = absurd (never_both e (ap is_none h))
 
@@ -85,6 +80,6 @@ not_zero x e z = go (eqb x 0) (eq-eqb x 0 z) e
     go true p q = false≢true q
     go false p q = false≢true p
 
-pub some_subleaf : (k : Subleaf) → not (is_none k) ≡ true → (j : ℕ) × (k ≡ Some j)
+pub some_subleaf : (k : Option ℕ) → not (is_none k) ≡ true → (j : ℕ) × (k ≡ Some j)
 some_subleaf None e = absurd (false≢true e)
 some_subleaf (Some j) e = (j, refl)

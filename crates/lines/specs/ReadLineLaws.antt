@@ -1,29 +1,23 @@
 -- The details of a line, as they are read, and as they are after the writer.
-use Rattle.std.specs.Prelude.{◌≡◌, Bool, ◌&&◌, ◌||◌, not, List, [], ◌∷◌, ◌++◌, ℕ, ◌+◌, ◌^◌, ◌≤◌, ◌<◌, eqb, leb, length, drop}
+use Rattle.std.specs.Prelude.{◌≡◌, Bool, ◌&&◌, ◌||◌, not, List, [], ◌∷◌, ◌++◌, ℕ, ◌^◌, ◌<◌, eqb, leb, length, drop, None, Option, Some}
 use Rattle.std.proofs.Math.Path.{refl}
-use Rattle.std.proofs.Common.{sym, ap, ◌∙◌, append_assoc, arith, drop_of_length-le, drop-cons, eqb-true, eq-eqb, leb-true}
+use Rattle.std.proofs.Common.{ap, ◌∙◌, arith, drop-cons, eqb-true, eq-eqb, leb-true}
 use Rattle.std.proofs.Math.Bool.{true, false}
 use Rattle.bits.specs.Choice.{pick}
 use Rattle.bits.specs.ChoiceLaws.{never_both, and_left, and_right, and_both}
-use Rattle.lines.specs.Digits.{width, decimal, hex}
+use Rattle.lines.specs.Digits.{width, decimal}
 use Rattle.lines.specs.Field.{field_from, after}
-use Rattle.lines.specs.FieldLaws.{decimal_read, hex_read, after_number, field_fits}
-use Rattle.table.specs.declared.Subleaf.{Subleaf}
-use Rattle.table.specs.declared.Subleaf.TheVariants.{None, Some}
+use Rattle.lines.specs.FieldLaws.{decimal_read, after_number, field_fits}
 use Rattle.table.specs.Numbers.{subleaf_or0}
 use Rattle.lines.specs.declared.bytes.LineDetails.{LineDetails}
 use Rattle.lines.specs.NumbersInUse.{names}
-use Rattle.lines.specs.Line.{newline, space, is_none, most_s, LineFits, writable, subleaf_field, s_field, fields, line}
-use Rattle.lines.specs.declared.LineRead.TheVariants.{Line, NoSuchLine}
-use Rattle.lines.specs.ReadLine.{field_if, after_if, subleaf_in, subleaf_if, guess_as, guess, same_bytes, read_line}
+use Rattle.lines.specs.Line.{newline, space, is_none, most_s, LineFits, subleaf_field, s_field, fields, line}
+use Rattle.lines.specs.ReadLine.{field_if, after_if, subleaf_in, subleaf_if, guess_as, guess, same_bytes}
 
 -- ---- index by index
 
 pub subleaf_some : (s : List ℕ) (i : ℕ) → i < length s → Some (field_from 10 0 (drop i s)) ≡ subleaf_in (drop i s)
 subleaf_some s i h = rw (drop-cons s i 0 h)
-
-pub subleaf_none : (s : List ℕ) (i : ℕ) → length s ≤ i → None ≡ subleaf_in (drop i s)
-subleaf_none s i h = rw (drop_of_length-le s h)
 
 -- ---- bytes that are the same
 
@@ -43,7 +37,7 @@ same_eq (a ∷ l) (b ∷ k) e =
     cc
 
 -- no subleaf is set
-none_set : (k : Subleaf) → is_none k ≡ true → None ≡ k
+none_set : (k : Option ℕ) → is_none k ≡ true → None ≡ k
 none_set None h = refl
 none_set (Some k) h = absurd (never_both h refl)
 
@@ -54,7 +48,7 @@ subleaf_snoc [] x = refl
 subleaf_snoc (a ∷ l) x = refl
 
 -- what stands after the leaf begins with a separator, and subleaf and s are read back from behind it
-pub record Rest (subleaf s : Bool) (k : Subleaf) (n : ℕ) : Type 0 where
+pub record Rest (subleaf s : Bool) (k : Option ℕ) (n : ℕ) : Type 0 where
   pub separator : ℕ
   pub behind : List ℕ
   pub below : separator < 48
@@ -62,7 +56,7 @@ pub record Rest (subleaf s : Bool) (k : Subleaf) (n : ℕ) : Type 0 where
   pub subleaf_back : subleaf_if subleaf behind ≡ k
   pub s_back : field_if s 10 behind ≡ n
 
-pub rest_read : (b c : Bool) (k : Subleaf) (n : ℕ)
+pub rest_read : (b c : Bool) (k : Option ℕ) (n : ℕ)
     → not (b && c) ≡ true → (b || is_none k) ≡ true → leb n (pick c most_s 0) ≡ true → subleaf_or0 k < 2 ^ 32 → Rest b c k n
 rest_read true true k n e p q h = absurd (never_both e refl)
 rest_read true false None n e p q h =
@@ -94,7 +88,7 @@ pub guess_line : (d : LineDetails) (x : ℕ) (t : List ℕ)
 unfolding guess line
 guess_line d x t l h e = rw (e, decimal_read d.number x t h l, after_number 10 (width d.number) d.number x t l)
 
-pub same_details : (d : LineDetails) {leaf s : ℕ} {subleaf : Subleaf}
+pub same_details : (d : LineDetails) {leaf s : ℕ} {subleaf : Option ℕ}
     → leaf ≡ d.leaf → subleaf ≡ d.subleaf → s ≡ d.s → record { number = d.number; leaf = leaf; subleaf = subleaf; s = s } ≡ d
 same_details d p q r = rw (p, q, r)
 

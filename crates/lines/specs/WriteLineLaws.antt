@@ -1,26 +1,24 @@
 -- What is answered and stored, by the test that decides.
-use Rattle.std.specs.Prelude.{◌≡◌, true, false, List, ℕ, ◌+◌, ◌≤◌, ◌<◌, length, take, drop}
+use Rattle.std.specs.Prelude.{◌≡◌, true, false, List, ℕ, ◌+◌, ◌≤◌, ◌<◌, length, take, drop, Err, None, Ok, Some}
 use Rattle.std.proofs.Common.{sym, arith, take_at}
 use Rattle.std.proofs.lemmas.List.Edits.{sets, sets-eq}
 use Rattle.table.specs.declared.Refusal.TheVariants.{BufferTooShort}
-use Rattle.buffer.specs.declared.Written.TheVariants.{Bytes, Refused}
 use Rattle.buffer.specs.FrontLaws.{front_short, front_whole}
 use Rattle.lines.specs.declared.bytes.LineDetails.{LineDetails}
 use Rattle.lines.specs.Line.{writable, line}
-use Rattle.lines.specs.declared.LineWritten.TheVariants.{Line, NoSuchLine}
 use Rattle.lines.specs.WriteLine.{leaves, write_line}
 
 module _ (d : LineDetails) (buffer : List ℕ) where
-  pub write_none : writable d ≡ false → write_line d buffer ≡ leaves NoSuchLine buffer
+  pub write_none : writable d ≡ false → write_line d buffer ≡ leaves None buffer
   unfolding write_line
   write_none e = rw e
 
-  pub write_short : writable d ≡ true → length buffer < length (line d) → write_line d buffer ≡ leaves (Line (Refused BufferTooShort)) buffer
+  pub write_short : writable d ≡ true → length buffer < length (line d) → write_line d buffer ≡ leaves (Some (Err BufferTooShort)) buffer
   unfolding write_line
   write_short e h = rw (e, front_short (line d) buffer h)
 
   pub write_whole : writable d ≡ true → length (line d) ≤ length buffer
-      → write_line d buffer ≡ leaves (Line (Bytes (length (line d)))) (sets buffer 0 (line d))
+      → write_line d buffer ≡ leaves (Some (Ok (length (line d)))) (sets buffer 0 (line d))
   unfolding write_line
   write_whole e h = rw (e, front_whole (line d) buffer h)
 

@@ -1,5 +1,4 @@
 // A refusal's line as bytes: stores the line of a number and its details into bytes that have room.
-use table::Subleaf;
 
 pub mod names;
 pub mod put;
@@ -9,6 +8,6 @@ pub mod put;
 pub struct LineDetails {
     pub number: u32,
     pub leaf: u32,
-    pub subleaf: Subleaf,
+    pub subleaf: Option<u32>,
     pub s: u32,
 }

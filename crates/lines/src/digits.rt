@@ -1,7 +1,6 @@
 // Numbers in ASCII: stores a number's digits into lent bytes, and reads the number that digits stand for.
 ghost use Rattle.std.specs.Prelude.{◌≡◌, ◌+◌, ◌≤◌, ◌<◌, length, drop};
 ghost use Rattle.std.proofs.lemmas.List.Edits.{sets};
-ghost use Rattle.bits.specs.Lists.{one};
 ghost use Rattle.lines.specs.Digits.{capital, digits, width, decimal, more};
 ghost use Rattle.lines.specs.Field.{field_from, after};
 
@@ -27,10 +26,8 @@ pub fn put_digits(out: &mut [u8], at: usize, count: usize, base: u32, n: u32)
     requires { (at + count ≤ length out.old) × (1 < base) × (base ≤ 16) }
     ensures { out.new ≡ sets out.old at (digits base count n) }
 {
-    let mut left = count;
     let mut rest = n;
-    while left > 0 {
-        left -= 1;
+    for left in (0..count).rev() {
         out[at + left] = capital(rest % base);
         rest /= base;
     }
@@ -48,22 +45,15 @@ fn capital(d: u32) -> u8
 fn width_of(n: u32) -> usize
     ensures { (result ≡ width n) × (result ≤ 10) }
 {
-    1 + one(n >= 10)
-        + one(n >= 100)
-        + one(n >= 1000)
-        + one(n >= 10000)
-        + one(n >= 100000)
-        + one(n >= 1000000)
-        + one(n >= 10000000)
-        + one(n >= 100000000)
-        + one(n >= 1000000000)
-}
-
-// 1 where the test holds, else 0.
-fn one(b: bool) -> usize
-    ensures { (result ≡ one b) × (result ≤ 1) }
-{
-    if b { 1 } else { 0 }
+    1 + usize::from(n >= 10)
+        + usize::from(n >= 100)
+        + usize::from(n >= 1000)
+        + usize::from(n >= 10000)
+        + usize::from(n >= 100000)
+        + usize::from(n >= 1000000)
+        + usize::from(n >= 10000000)
+        + usize::from(n >= 100000000)
+        + usize::from(n >= 1000000000)
 }
 
 // The number in a base whose digits start at an index, cut to 32 bits, up to a byte below '0'.
@@ -73,8 +63,7 @@ pub fn field_at(line: &[u8], from: usize, base: u64) -> Field
     ensures line_value { drop result.next line.now ≡ after (drop from line.now) }
 {
     let mut n: u32 = 0;
-    let mut i = from;
-    while i < line.len() {
+    for i in from..line.len() {
         let b = line[i];
         if b < b'0' {
             return Field {
@@ -83,9 +72,11 @@ pub fn field_at(line: &[u8], from: usize, base: u64) -> Field
             };
         }
         n = more(n, base, b);
-        i += 1;
     }
-    Field { value: n, next: i }
+    Field {
+        value: n,
+        next: line.len(),
+    }
 }
 
 // One digit more.

@@ -5,7 +5,6 @@ ghost use Rattle.lines.specs.ReadLine.{field_if, after_if, subleaf_in, subleaf_i
 use crate::bytes::LineDetails;
 use crate::bytes::names::names_of;
 use crate::digits::{Field, field_at};
-use table::Subleaf;
 
 // The number, and the details that it names.
 pub fn guess_details(line: &[u8]) -> LineDetails
@@ -39,21 +38,21 @@ fn field_if(line: &[u8], at: usize, named: bool, base: u64) -> Field
 }
 
 // The subleaf, where it is named and anything is left.
-fn subleaf_if(line: &[u8], at: usize, named: bool) -> Subleaf
+fn subleaf_if(line: &[u8], at: usize, named: bool) -> Option<u32>
     ensures { result ≡ subleaf_if named (drop at line.now) }
 {
     if named {
         return subleaf_at(line, at);
     }
-    Subleaf::None
+    None
 }
 
-fn subleaf_at(line: &[u8], at: usize) -> Subleaf
+fn subleaf_at(line: &[u8], at: usize) -> Option<u32>
     ensures { result ≡ subleaf_in (drop at line.now) }
 {
     if at < line.len() {
         let subleaf = field_at(line, at, 10);
-        return Subleaf::Some(subleaf.value);
+        return Some(subleaf.value);
     }
-    Subleaf::None
+    None
 }

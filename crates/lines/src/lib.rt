@@ -13,7 +13,7 @@ use crate::bytes::names::names_of;
 use crate::bytes::put::put_line;
 use buffer::Written;
 use guess::guess_details;
-use table::{Refusal, Subleaf};
+use table::Refusal;
 
 pub mod bytes;
 mod digits;
@@ -25,39 +25,27 @@ const LONGEST: usize = 22;
 // The greatest s: it has 8 bits.
 const MOST_S: u32 = 255;
 
-// What writing answers: how many bytes or 9; or that there is no such line.
-#[derive(Clone, Copy)]
-pub enum LineWritten {
-    Line(Written),
-    NoSuchLine,
-}
-
-// What a line says, or that there is no such line.
-#[derive(Clone, Copy)]
-pub enum LineRead {
-    Line(LineDetails),
-    NoSuchLine,
-}
-
-// Writes a line at the front of a lent buffer. A local array has room for every line and tells how long this one is.
-pub fn write_line(d: LineDetails, out: &mut [u8]) -> LineWritten
+// Writes a line at the front of a lent buffer: how many bytes, or 9; none if there is no such line. A local array has room for every line and tells
+// how long this one is.
+pub fn write_line(d: LineDetails, out: &mut [u8]) -> Option<Written>
     ensures value { result ≡ (write_line d out.old).answer }
     ensures out_after { out.new ≡ (write_line d out.old).buffer }
 {
-    if is_writable(d) {
-        let mut bytes = [0u8; LONGEST];
-        let n = put_line(d, &mut bytes);
-        if out.len() < n {
-            return LineWritten::Line(Written::Refused(Refusal::BufferTooShort));
-        }
-        put_line(d, out);
-        return LineWritten::Line(Written::Bytes(n));
+    if !is_writable(d) {
+        return None;
     }
-    LineWritten::NoSuchLine
+    let mut bytes = [0u8; LONGEST];
+    let n = put_line(d, &mut bytes);
+    if out.len() < n {
+        return Some(Err(Refusal::BufferTooShort));
+    }
+    put_line(d, out);
+    Some(Ok(n))
 }
 
-// What the bytes say, if they are a line, the whole of them: the line of what they seem to say is written and compared.
-pub fn read_line(line: &[u8]) -> LineRead
+// What the bytes say, if they are a line, the whole of them; none if there is no such line. The line of what they seem to say is written and
+// compared.
+pub fn read_line(line: &[u8]) -> Option<LineDetails>
     ensures { result ≡ read_line line.now }
 {
     let d = guess_details(line);
@@ -65,11 +53,10 @@ pub fn read_line(line: &[u8]) -> LineRead
         let mut bytes = [0u8; LONGEST];
         let n = put_line(d, &mut bytes);
         if check::same(&bytes[..n], line) {
-            return LineRead::Line(d);
+            return Some(d);
         }
-        return LineRead::NoSuchLine;
     }
-    LineRead::NoSuchLine
+    None
 }
 
 // Whether the number is in use and names every detail that is set, and s has 8 bits.
@@ -93,15 +80,15 @@ fn may_have_leaf(named: bool, leaf: u32) -> bool
     leaf == 0
 }
 
-fn may_have_subleaf(named: bool, subleaf: Subleaf) -> bool
+fn may_have_subleaf(named: bool, subleaf: Option<u32>) -> bool
     ensures { result ≡ (named || is_none subleaf) }
 {
     if named {
         return true;
     }
     match subleaf {
-        Subleaf::None => true,
-        Subleaf::Some(_) => false,
+        None => true,
+        Some(_) => false,
     }
 }
 

@@ -1,9 +1,9 @@
 -- Laws for the proof of `place_asked`: the places of a leaf with subleaves, and the place of one without.
-use Rattle.std.specs.Prelude.{◌≡◌, Bool, true, false, not, ◌&&◌, ◌≢◌, ℕ, ◌+◌, ◌-◌, ◌^◌, ◌≤◌, ◌<◌, eqb, ltb, leb}
+use Rattle.std.specs.Prelude.{◌≡◌, Bool, true, false, not, ◌&&◌, ◌≢◌, ℕ, ◌+◌, ◌-◌, ◌^◌, ◌≤◌, ◌<◌, eqb, ltb, leb, None, Option, Some}
 use Rattle.std.proofs.Math.Path.{refl}
 use Rattle.std.proofs.Common.{sym, ap, ◌∙◌, arith, eqb-true, ne_eqb, le-leb, ltb-true, ltb-false, lt-ltb}
 use Rattle.bits.specs.Choice.{pick}
-use Rattle.bits.specs.ChoiceLaws.{pick_true, pick_false}
+use Rattle.bits.specs.ChoiceLaws.{pick_true}
 use Rattle.bits.specs.Lists.{tabulate}
 use Rattle.x86defs.specs.declared.CpuidFunction.{CpuidFunction}
 use Rattle.x86defs.specs.Functions.{function}
@@ -11,54 +11,51 @@ use Rattle.masking.specs.Kept.{kept_leaves, places, place_of}
 use Rattle.masking.specs.Place
 use Rattle.masking.specs.RunLaws.{on_run}
 use Rattle.masking.specs.PlaceOfLaws.{all_end_by, filtered_from, subleaf_run}
-use Rattle.table.specs.declared.Subleaf.TheVariants.{Some}
 use Rattle.lookup.specs.declared.Span.{Span}
-use Rattle.lookup.specs.declared.PlaceAsked.{PlaceAsked}
-use Rattle.lookup.specs.declared.PlaceAsked.TheVariants.{At, Nowhere}
 use Rattle.lookup.specs.Lookup.{with_subleaves, place_whole, place_alone, span_of, place_asked, at_place, is_place}
 
 -- ---- a place as code has it
 
-pub at_below : {i p : ℕ} → i ≡ p → i < places → At i ≡ at_place p
+pub at_below : {i p : ℕ} → i ≡ p → i < places → Some i ≡ at_place p
 at_below {i} {p} e h = rw (← e, lt-ltb i places h)
 
-pub at_past : {p : ℕ} → places ≡ p → Nowhere ≡ at_place p
+pub at_past : {p : ℕ} → places ≡ p → None ≡ at_place p
 at_past e = rw (← e)
 
 -- the number again, and whether there is one
-abbrev place_in : PlaceAsked → ℕ
-place_in (At i) = i
-place_in Nowhere = places
+abbrev place_in : Option ℕ → ℕ
+place_in (Some i) = i
+place_in None = places
 
-abbrev somewhere : PlaceAsked → Bool
-somewhere (At i) = true
-somewhere Nowhere = false
+abbrev somewhere : Option ℕ → Bool
+somewhere (Some i) = true
+somewhere None = false
 
-module _ {a : PlaceAsked} (p : ℕ) (e : a ≡ at_place p) where
+module _ {a : Option ℕ} (p : ℕ) (e : a ≡ at_place p) where
   somewhere_below : somewhere a ≡ ltb p places
   somewhere_below = ap somewhere e ∙ go (ltb p places)
     where
-      go : (b : Bool) → somewhere (pick b (At p) Nowhere) ≡ b
+      go : (b : Bool) → somewhere (pick b (Some p) None) ≡ b
       go true = refl
       go false = refl
 
-  asked_below : {i : ℕ} → a ≡ At i → p < places
+  asked_below : {i : ℕ} → a ≡ Some i → p < places
   asked_below f = ltb-true p places (sym somewhere_below ∙ ap somewhere f)
 
-  pub asked_place : {i : ℕ} → a ≡ At i → i ≡ p
-  asked_place f = sym (ap place_in f) ∙ ap place_in (e ∙ pick_true (At p) Nowhere (lt-ltb p places (asked_below f)))
+  pub asked_place : {i : ℕ} → a ≡ Some i → i ≡ p
+  asked_place f = sym (ap place_in f) ∙ ap place_in (e ∙ pick_true (Some p) None (lt-ltb p places (asked_below f)))
 
-  pub asked_inside : {i : ℕ} → a ≡ At i → i < places
+  pub asked_inside : {i : ℕ} → a ≡ Some i → i < places
   asked_inside f = rw (asked_place f) (asked_below f)
 
   pub asked_is_place : is_place a ≡ true
   asked_is_place = ap is_place e ∙ go (ltb p places) refl
     where
-      go : (b : Bool) → ltb p places ≡ b → is_place (pick b (At p) Nowhere) ≡ true
+      go : (b : Bool) → ltb p places ≡ b → is_place (pick b (Some p) None) ≡ true
       go true f = f
       go false f = refl
 
-  pub asked_past : a ≡ Nowhere → places ≤ p
+  pub asked_past : a ≡ None → places ≤ p
   asked_past f = ltb-false p places (sym somewhere_below ∙ ap somewhere f)
 
 -- ---- a leaf with subleaves

@@ -1,14 +1,13 @@
 -- The leaves with subleaves are those of the table of kept leaves; a lookup is one read, of the place that is asked for.
-use Rattle.std.specs.Prelude.{◌≡◌, Bool, ◌&&◌, ℕ, ◌≤◌, ◌<◌, length, replicate}
+use Rattle.std.specs.Prelude.{◌≡◌, Bool, ◌&&◌, ℕ, ◌≤◌, ◌<◌, length, replicate, None, Some}
 use Rattle.std.proofs.Math.Path.{refl, sym}
-use Rattle.std.proofs.Common.{ap, ◌∙◌, le_of_eq, arith}
+use Rattle.std.proofs.Common.{ap, ◌∙◌, arith}
 use Rattle.std.proofs.Math.Bool.{true, false}
 use Rattle.std.proofs.Math.Dec.{ltb}
 use Rattle.std.proofs.lemmas.List.{length-replicate, get_or-replicate}
 use Rattle.std.proofs.Math.ListN.{get_or-eq_default}
 use borrow.Author.Tests.{eqb-true, ltb-true, ltb-false}
 use Rattle.bits.specs.Choice.{pick}
-use Rattle.bits.specs.ChoiceLaws.{pick_false}
 use Rattle.bits.specs.Lists.{tabulate}
 use Rattle.bits.specs.ListsLaws.{tabulate_at}
 use Rattle.x86defs.specs.declared.CpuidFunction.{CpuidFunction}
@@ -16,10 +15,7 @@ use Rattle.x86defs.specs.Functions.{function, same_function, ExtendedFeatures, E
 use Rattle.masking.specs.Kept.{kept_leaves, places, place_of, slot, leaf_at, indexed_at}
 use Rattle.masking.specs.KeptLaws.{entry_belongs}
 use Rattle.table.specs.declared.CpuidResults.{CpuidResults}
-use Rattle.table.specs.declared.Subleaf.{Subleaf}
-use Rattle.table.specs.declared.Subleaf.TheVariants.{None, Some}
 use Rattle.table.specs.Table.{row_in, empty_table}
-use Rattle.lookup.specs.declared.LeafResult.TheVariants.{None as Nothing}
 use Rattle.lookup.specs.Lookup.{with_subleaves, place_whole, place_asked, row_result, lookup}
 
 -- ---- the leaves with subleaves are those of the table of kept leaves
@@ -61,12 +57,12 @@ module _ (l : CpuidFunction) where
 -- ---- the place that is asked for
 
 -- without a subleaf and with one, where past the last place there is no row
-module _ (t : CpuidResults) (past : row_result (row_in t places) ≡ Nothing) (l : CpuidFunction) where
+module _ (t : CpuidResults) (past : row_result (row_in t places) ≡ None) (l : CpuidFunction) where
   pub asked_whole : (enforce : Bool) → lookup t l None enforce ≡ row_result (row_in t (place_asked l None enforce))
   unfolding lookup place_asked
   asked_whole enforce = go (with_subleaves l)
     where
-      go : (b : Bool) → pick b Nothing (row_result (row_in t (place_whole l))) ≡ row_result (row_in t (pick b places (place_whole l)))
+      go : (b : Bool) → pick b None (row_result (row_in t (place_whole l))) ≡ row_result (row_in t (pick b places (place_whole l)))
       go true = sym past
       go false = refl
 
@@ -74,7 +70,7 @@ module _ (t : CpuidResults) (past : row_result (row_in t places) ≡ Nothing) (l
   unfolding lookup place_asked
   asked_within k enforce = go (with_subleaves l) enforce
     where
-      go : (b c : Bool) → pick b (row_result (row_in t (place_of l k))) (pick c Nothing (row_result (row_in t (place_whole l))))
+      go : (b c : Bool) → pick b (row_result (row_in t (place_of l k))) (pick c None (row_result (row_in t (place_whole l))))
           ≡ row_result (row_in t (pick b (place_of l k) (pick c places (place_whole l))))
       go true c = refl
       go false true = sym past

@@ -10,21 +10,13 @@ ghost use Rattle.lookup.specs.Lookup.{at_place, span_of, place_alone, place_aske
 
 use masking::{PLACES, place, run};
 use memory::{REGISTERS, is_there, row_at};
-use table::Subleaf;
 use x86defs::{CpuidFunction, CpuidResult, leaf};
-
-// What `leaf_result_ref` gives.
-#[derive(Clone, Copy)]
-pub enum LeafResult {
-    Some(CpuidResult),
-    None,
-}
 
 // A row that is found, with the number of where it came from.
 #[derive(Clone, Copy)]
-pub enum Found {
-    Row(CpuidResult, u64),
-    NoRow,
+pub struct FoundRow {
+    pub row: CpuidResult,
+    pub origin: u64,
 }
 
 // The row of a leaf, with or without a subleaf, in memory of any content. A leaf without subleaves is found under any subleaf, unless the caller
@@ -33,43 +25,38 @@ pub fn find(
     registers: &[u32; REGISTERS],
     origins: &[u64; PLACES],
     leaf: CpuidFunction,
-    subleaf: Subleaf,
+    subleaf: Option<u32>,
     enforce_subleaf: bool,
-) -> Found
+) -> Option<FoundRow>
     ensures { result ≡ found (held_in registers.now origins.now) origins.now leaf subleaf enforce_subleaf }
 {
-    let asked = place_asked(leaf, subleaf, enforce_subleaf);
-    match asked {
-        PlaceAsked::At(i) => {
-            let origin = origins[i];
-            if is_there(origin) {
-                return Found::Row(row_at(registers, i), origin);
-            }
-            Found::NoRow
-        }
-        PlaceAsked::Nowhere => Found::NoRow,
+    let place = place_asked(leaf, subleaf, enforce_subleaf)?;
+    let origin = origins[place];
+    if is_there(origin) {
+        return Some(FoundRow {
+            row: row_at(registers, place),
+            origin,
+        });
     }
+    None
 }
 
-// The place that a question asks for, or that it has no answer.
-#[derive(Clone, Copy)]
-pub enum PlaceAsked {
-    At(usize),
-    Nowhere,
-}
-
-// The place that is asked for. It is kept small, so that the compiler puts it into each function that looks up; and it gives no number for a
-// question without an answer, which each of them would compare again.
-pub fn place_asked(leaf: CpuidFunction, subleaf: Subleaf, enforce_subleaf: bool) -> PlaceAsked
+// The place that is asked for; none if the question has no answer. It is kept small, so that the compiler puts it into each function that looks up;
+// and it gives no number for a question without an answer, which each of them would compare again.
+pub fn place_asked(
+    leaf: CpuidFunction,
+    subleaf: Option<u32>,
+    enforce_subleaf: bool,
+) -> Option<usize>
     ensures { result ≡ at_place (place_asked leaf subleaf enforce_subleaf) }
 {
-    if let Subleaf::Some(k) = subleaf {
+    if let Some(k) = subleaf {
         let span = span_of(leaf);
         if span.count != 0 {
             return place_within(span, k);
         }
         if enforce_subleaf {
-            return PlaceAsked::Nowhere;
+            return None;
         }
     }
     place_alone(leaf)
@@ -109,52 +96,52 @@ fn span_of(leaf: CpuidFunction) -> Span
 }
 
 // The place of a subleaf.
-fn place_within(span: Span, subleaf: u32) -> PlaceAsked
+fn place_within(span: Span, subleaf: u32) -> Option<usize>
     requires { span.first + span.count ≤ places }
     ensures { result ≡ at_place (pick (ltb subleaf span.count) (span.first + subleaf) places) }
 {
     if subleaf < span.count {
-        return PlaceAsked::At(span.first + subleaf as usize);
+        return Some(span.first + subleaf as usize);
     }
-    PlaceAsked::Nowhere
+    None
 }
 
 // The place of a leaf without subleaves, the two made here included; nowhere for a leaf with subleaves, and where no table has it.
-fn place_alone(leaf: CpuidFunction) -> PlaceAsked
+fn place_alone(leaf: CpuidFunction) -> Option<usize>
     ensures { result ≡ at_place (place_alone leaf) }
 {
     let n = leaf.0;
     if n < leaf::EXTENDED_MAX_FUNCTION {
         if n <= leaf::VERSION_AND_FEATURES {
-            return PlaceAsked::At(n as usize);
+            return Some(n as usize);
         }
         if n == leaf::MONITOR_MWAIT {
-            return PlaceAsked::At(place::MONITOR_MWAIT);
+            return Some(place::MONITOR_MWAIT);
         }
-        return PlaceAsked::Nowhere;
+        return None;
     }
     if n <= leaf::EXTENDED_ADDRESS_SPACE_SIZES {
-        return PlaceAsked::At(run::EXTENDED.first + (n - leaf::EXTENDED_MAX_FUNCTION) as usize);
+        return Some(run::EXTENDED.first + (n - leaf::EXTENDED_MAX_FUNCTION) as usize);
     }
     if n < leaf::EXTENDED_TLB1GB_IDENTIFIERS {
         if n == leaf::EXTENDED_SVM_VERSION_AND_FEATURES {
-            return PlaceAsked::At(place::EXTENDED_SVM_VERSION_AND_FEATURES);
+            return Some(place::EXTENDED_SVM_VERSION_AND_FEATURES);
         }
-        return PlaceAsked::Nowhere;
+        return None;
     }
     if n < leaf::PROCESSOR_TOPOLOGY_DEFINITION {
         if n <= leaf::EXTENDED_OPTIMIZATION_IDENTIFIERS {
-            return PlaceAsked::At(
+            return Some(
                 run::TLB_AND_OPTIMIZATION.first + (n - leaf::EXTENDED_TLB1GB_IDENTIFIERS) as usize,
             );
         }
-        return PlaceAsked::Nowhere;
+        return None;
     }
     if n <= leaf::EXTENDED_SEV_FEATURES {
-        return PlaceAsked::At(
+        return Some(
             run::PROCESSOR_TOPOLOGY_AND_SEV.first
                 + (n - leaf::PROCESSOR_TOPOLOGY_DEFINITION) as usize,
         );
     }
-    PlaceAsked::Nowhere
+    None
 }

@@ -5,6 +5,7 @@ pub mod MasksLaws
 pub mod KeptLaws
 pub mod Runs
 pub mod RunLaws
+pub mod RunOrderLaws
 pub mod PlaceOfLaws
 pub mod MasksFit
 pub mod MaskTable

@@ -121,8 +121,7 @@ pub fn indexed_at(place: usize) -> bool
     requires { place < places }
     ensures { result ≡ indexed_at place }
 {
-    let run = run_at(place);
-    run.indexed
+    run_at(place).indexed
 }
 
 // The subleaf of a place; 0 if its row carries none.

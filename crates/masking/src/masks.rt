@@ -73,7 +73,7 @@ fn row_from(run: Run, place: usize, last: usize) -> usize
     ensures { result ≡ min (run.row + (place - run.first)) last }
 {
     let row = run.row + (place - run.first);
-    if row < last { row } else { last }
+    row.min(last)
 }
 
 // The bitwise and of each register with its mask.

@@ -105,3 +105,17 @@ pub const PROCESSOR_TOPOLOGY_AND_SEV: Run = Run {
     row: 21,
     last_row: 22,
 };
+
+// All runs in their order, for a walk over the places.
+pub const RUNS: [Run; 10] = [
+    BASIC,
+    MONITOR_MWAIT,
+    EXTENDED_FEATURES,
+    EXTENDED_TOPOLOGY,
+    EXTENDED_STATE,
+    EXTENDED,
+    SVM,
+    TLB_AND_OPTIMIZATION,
+    CACHE_TOPOLOGY,
+    PROCESSOR_TOPOLOGY_AND_SEV,
+];

@@ -1,17 +1,15 @@
 -- Registers in a flat list: storing a row changes that row alone, and rows laid out are read back.
-use Rattle.std.specs.Prelude.{◌≡◌, refl, Bool, true, false, List, ℕ, zero, suc, ◌+◌, ◌*◌, ◌/◌, ◌%◌, ◌≤◌, ◌<◌, eqb, ltb, length, get_or, set}
-use Rattle.std.proofs.Common.{sym, ap, ◌∙◌, arith, length-set, get_or-set_same, get_or-set_other, eqb-true, ltb-true, ltb-false}
+use Rattle.std.specs.Prelude.{◌≡◌, refl, Bool, true, false, List, ℕ, ◌+◌, ◌*◌, ◌≤◌, ◌<◌, ltb, length, get_or}
+use Rattle.std.proofs.Common.{sym, ap, ◌∙◌, arith, ltb-true, ltb-false}
 use Rattle.std.proofs.Math.Path.{fun_ext}
 use Rattle.std.proofs.Math.ListN.{get_or-eq_default}
-use Rattle.std.proofs.lemmas.Bool.{eqb-false}
-use Rattle.bits.specs.Choice.{pick}
 use Rattle.bits.specs.Lists.{tabulate}
-use Rattle.bits.specs.ListsLaws.{tabulated, get_d_tabulate, length_tabulate, tabulate_ext, tabulate_at}
+use Rattle.bits.specs.ListsLaws.{tabulate_ext}
 use Rattle.x86defs.specs.declared.CpuidResult.{CpuidResult}
 use Rattle.x86defs.specs.Functions.{cpuid_result}
 use Rattle.masking.specs.Kept.{places}
 use Rattle.table.specs.Rows.{Rows, vacant}
-use Rattle.memory.specs.Memory.{row_of, put_row, is_there, rows_in, register_of, layout, row_list}
+use Rattle.memory.specs.Memory.{row_of, is_there, rows_in, layout, row_list}
 use Rattle.memory.specs.MemoryLaws.{layout_at, layout_length}
 
 -- is read back row by row

@@ -14,7 +14,8 @@ const ENTRIES_FROM: u64 = 4;
 
 const MOST_ENTRIES: u64 = 64;
 
-// An origin read back from its number: 0 none, 1 made here, 2 an entry, with the entry's page and its position there, 3 not known.
+// An origin read back from its number: 0 none, 1 made here, 2 an entry, with the entry's page and its position there, 3 not known. Kept as numbers:
+// C is given them as they stand.
 #[derive(Clone, Copy)]
 pub struct OriginRead {
     pub origin: u32,

@@ -1,23 +1,20 @@
 -- What a flip changes, at the 88 rows: nothing where they stay, and else what building from the changed rows changes.
-use Rattle.std.specs.Prelude.{◌≡◌, refl, Bool, true, false, List, ◌∷◌, ◌++◌, ℕ, ◌<◌}
+use Rattle.std.specs.Prelude.{◌≡◌, refl, true, false, List, ◌∷◌, ◌++◌, ℕ, ◌<◌, Ok}
 use Rattle.std.proofs.Common.{sym, ◌∙◌}
 use Rattle.std.proofs.Math.Path.{ap}
 use Rattle.std.proofs.Math.Bool.{not}
-use Rattle.pages.specs.Layout.{Entry, entry_at, bad_length, counts_fit}
+use Rattle.pages.specs.Layout.{Entry, entry_at, counts_fit}
 use Rattle.pages.specs.Entries.{entries}
 use Rattle.masking.specs.Kept.{places}
 use Rattle.table.specs.declared.Choices.{Choices}
-use Rattle.table.specs.declared.Refusal.TheVariants.{PagesLength}
-use Rattle.table.specs.declared.Verdict.TheVariants.{Accepted}
 use Rattle.table.specs.Edition.{known_edition}
 use Rattle.table.specs.Rows.{Rows, row}
 use Rattle.checks.specs.Checks.{rows_verdict}
-use Rattle.checks.specs.ChecksLaws.{then_left, demanded}
 use Rattle.collect.specs.FirstEntries.{masked_at}
 use Rattle.collect.specs.Collect.{stored_at, first_among}
 use Rattle.finish.specs.RowsBuilt.{table_for}
-use Rattle.build.specs.Build.{edition_verdict, rows_for, verdict_of, answer}
-use Rattle.collect.specs.Lawful.{length_verdict, lawful_verdict}
+use Rattle.build.specs.Build.{rows_for}
+use Rattle.collect.specs.Lawful.{lawful_verdict}
 use Rattle.collect.proofs.LawfulLaws.{lawful_counts, lawful_clean, clean_lawful}
 use Rattle.nearest.specs.Flips.{flip, flipped}
 use Rattle.nearest.specs.OneBit.{one_bit, xor_result}
@@ -39,14 +36,14 @@ from_equal n {m} {o} e = answer_same (ap rows_verdict e) (λ k. table_for n (row
 -- ---- a flip of an entry
 
 module _ (c : Choices) (s : List ℕ) (p q r k : ℕ) (h : Inside s p q r k) (known : known_edition c.edition ≡ true)
-    (lawful : lawful_verdict s ≡ Accepted) (done es : List Entry) (here : entries s ≡ done ++ entry_at s p q ∷ es) where
+    (lawful : lawful_verdict s ≡ Ok tt) (done es : List Entry) (here : entries s ≡ done ++ entry_at s p q ∷ es) where
   abbrev m : Rows
   m = rows_for c s
 
   fit : counts_fit s ≡ true
   fit = lawful_counts s lawful
 
-  stays_lawful : lawful_verdict (flipped s (flip p q r k)) ≡ Accepted
+  stays_lawful : lawful_verdict (flipped s (flip p q r k)) ≡ Ok tt
   stays_lawful =
       clean_lawful (flipped s (flip p q r k)) (length_lawful_lem s p q r k h (lawful_length s lawful)) (counts_lawful_lem s p q r k h fit)
       (stays_clean s p q r k h fit (lawful_clean s lawful))

@@ -1,18 +1,13 @@
 -- Of two accepted sets that differ at one place, the finished row there decides: finishing keeps in a row all that other rows depend on, so that the
 -- same finished row leaves all others the same.
-use Rattle.std.specs.Prelude.{◌≡◌, Bool, true, false, ◌&&◌, ℕ, ◌+◌, ◌≤◌, ◌<◌, eqb}
+use Rattle.std.specs.Prelude.{◌≡◌, Bool, true, false, ℕ, ◌+◌, ◌≤◌, ◌<◌, eqb, Ok}
 use Rattle.std.proofs.Math.Path.{refl, ap, fun_ext}
 use Rattle.std.proofs.Common.{sym, ◌∙◌, arith, eqb-true}
 use Rattle.std.specs.Int.Bits.{bit_or}
 use Rattle.std.proofs.lemmas.Bool.{eqb-false}
-use Rattle.bits.specs.Choice.{pick}
-use Rattle.bits.specs.ChoiceLaws.{never_both, and_both, and_right, pick_twice}
 use Rattle.bits.specs.Bits.{has, bit}
 use Rattle.bits.specs.BitsLaws.{within_refl}
-use Rattle.bits.specs.ListsLaws.{get_d_tabulate}
-use Rattle.bits.specs.SearchLaws.{every_at}
 use Rattle.x86defs.specs.declared.CpuidResult.{CpuidResult}
-use Rattle.x86defs.specs.Functions.{cpuid_result}
 use Rattle.x86defs.specs.Fields.{cut}
 use Rattle.x86defs.specs.Fields.Field.{nc, apic_core_id_size, lps_per_package, threads_per_compute_unit}
 use Rattle.x86defs.specs.VersionAndFeaturesEdx
@@ -20,27 +15,24 @@ use Rattle.x86defs.specs.ExtendedSevFeaturesEax as Sev
 use Rattle.topology.specs.Topology.{inputs, topology_of, processors, thread_level, core_level}
 use Rattle.masking.specs.Kept.{places}
 use Rattle.masking.specs.Place
-use Rattle.table.specs.declared.Verdict.{Verdict}
-use Rattle.table.specs.declared.Verdict.TheVariants.{Accepted}
 use Rattle.table.specs.Rows.{Row, Rows}
-use Rattle.table.specs.Table.{table_of, row_in}
+use Rattle.table.specs.Table.{table_of}
 use Rattle.checks.specs.ExtendedState.{xfem, xss_of, xss, combined_mask, sum_at, save_area}
-use Rattle.checks.specs.ExtendedStateLaws.{area_mono, in_combined, xsaves_ecx}
+use Rattle.checks.specs.ExtendedStateLaws.{area_mono, in_combined}
 use Rattle.checks.specs.TopologyInputs.{inputs_of}
 use Rattle.checks.specs.Checks.{rows_verdict}
-use Rattle.finish.specs.Finish.{Needed, Rule, Settings, rule_at, change_row, finish, finish_row, remains, enabled_by, ymm_clears, unless_no_xss, settings, finished}
-use Rattle.finish.specs.Finish.Needed.{version_and_features, extended_state0, extended_state1, extended_address_space_sizes, untouched}
+use Rattle.finish.specs.Finish.{Needed, Settings, rule_at, change_row, finish_row, remains, enabled_by, ymm_clears, settings, finished}
+use Rattle.finish.specs.Finish.Needed.{version_and_features, extended_state0, extended_address_space_sizes, untouched}
 use Rattle.finish.specs.Finish.Rule.{needed}
-use Rattle.finish.specs.PlaceLaws.{component_rule}
 use Rattle.finish.specs.RemainsLaws.{finished_present}
-use Rattle.finish.proofs.RemainsLaws.{finished_result, component_finished}
 use Rattle.finish.specs.RowsBuilt.{table_for}
-use Rattle.nearest.specs.SameVerdict.{agree, same_result, is_same_row, same_rows, same_table, same_verdict, same_answer, same_from}
+use Rattle.nearest.specs.SameVerdict.{same_result, same_from}
 use Rattle.nearest.specs.SameLaws.{result_equal}
 use Rattle.nearest.proofs.SameLaws.{answer_same}
 use Rattle.nearest.specs.WithRow.{with_row}
 use Rattle.nearest.specs.WithRowLaws.{put_other, put_present}
 use Rattle.nearest.specs.FinishedRowLaws.{component_kept, finished_differs, needed_kept, xss_kept}
+use Rattle.table.specs.Verdict.{Verdict}
 
 -- ---- the same finished row
 
@@ -143,15 +135,15 @@ module _ (n i : ℕ) (x : CpuidResult) (m : Rows) (present : (m i).present ≡ t
       go j true e = let q : j ≡ i = eqb-true j i e in ap (finished n o) q ∙ row_same ∙ sym (ap (finished n m) q)
       go j false e = unfold finished in λ k. finish_row (settings_same k) (rule_at j) (put_other i x m j (eqb-false j i e) k)
 
-  keeps_finished : rows_verdict o ≡ Accepted → rows_verdict m ≡ Accepted → same_from n o m ≡ true
+  keeps_finished : rows_verdict o ≡ Ok tt → rows_verdict m ≡ Ok tt → same_from n o m ≡ true
   keeps_finished a b =
       answer_same (a ∙ sym b)
       (ap (λ (v : Verdict). table_for n v o) a ∙ (λ k. table_of (finished_same k) (mask_same k)) ∙ sym (ap (λ (v : Verdict). table_for n v m) b))
 
 -- ---- so the row decides
 
-pub row_decides : (n i : ℕ) (x : CpuidResult) (m : Rows) → i < places → (m i).present ≡ true → rows_verdict (with_row i x m) ≡ Accepted
-    → rows_verdict m ≡ Accepted → same_result (finished n (with_row i x m) i).result (finished n m i).result ≡ same_from n (with_row i x m) m
+pub row_decides : (n i : ℕ) (x : CpuidResult) (m : Rows) → i < places → (m i).present ≡ true → rows_verdict (with_row i x m) ≡ Ok tt
+    → rows_verdict m ≡ Ok tt → same_result (finished n (with_row i x m) i).result (finished n m i).result ≡ same_from n (with_row i x m) m
 row_decides n i x m l p a b = go (same_result (finished n (with_row i x m) i).result (finished n m i).result) refl
   where
     go : (c : Bool) → same_result (finished n (with_row i x m) i).result (finished n m i).result ≡ c → c ≡ same_from n (with_row i x m) m

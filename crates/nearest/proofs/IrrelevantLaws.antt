@@ -1,5 +1,5 @@
 -- At a irrelevant place no row changes the answer.
-use Rattle.std.specs.Prelude.{◌≡◌, Bool, ◌||◌, ◌≢◌, leb}
+use Rattle.std.specs.Prelude.{◌≡◌, Bool, ◌||◌, ◌≢◌, leb, Err, Ok}
 use Rattle.std.proofs.Math.Path.{refl, ap, fun_ext}
 use Rattle.std.proofs.Common.{sym, ◌∙◌, arith}
 use Rattle.std.proofs.Math.Bool.{true, false, not}
@@ -12,8 +12,6 @@ use Rattle.bits.specs.Bits.{has}
 use Rattle.x86defs.specs.declared.CpuidResult.{CpuidResult}
 use Rattle.masking.specs.Place
 use Rattle.table.specs.declared.Refusal.{Refusal}
-use Rattle.table.specs.declared.Verdict.{Verdict}
-use Rattle.table.specs.declared.Verdict.TheVariants.{Accepted, Refused}
 use Rattle.table.specs.Rows.{Row, Rows, row, vacant}
 use Rattle.table.specs.Table.{table_of}
 use Rattle.checks.specs.ExtendedState.{combined_mask}
@@ -28,9 +26,10 @@ use Rattle.nearest.specs.WithRowLaws.{put_other, required_same}
 use Rattle.nearest.specs.Irrelevant.{refuses, is_component, is_level, is_read, irrelevant_at, irrelevant}
 use Rattle.nearest.specs.FlippedReadLaws.{Unread, mask_same, verdict_same, settings_same}
 use Rattle.nearest.specs.IrrelevantLaws.{or_left, or_right}
+use Rattle.table.specs.Verdict.{Verdict}
 
 -- a refused answer has an empty table, whatever the rows
-refused_same : (n : ℕ) (m o : Rows) (r : Refusal) → rows_verdict m ≡ Refused r → rows_verdict o ≡ Refused r → same_from n o m ≡ true
+refused_same : (n : ℕ) (m o : Rows) (r : Refusal) → rows_verdict m ≡ Err r → rows_verdict o ≡ Err r → same_from n o m ≡ true
 refused_same n m o r e f =
     answer_same (f ∙ sym e) (ap (λ (v : Verdict). table_for n v o) f ∙ sym (ap (λ (v : Verdict). table_for n v m) e))
 
@@ -40,22 +39,22 @@ module _ (n i : ℕ) (x : CpuidResult) (m : Rows) (present : (m i).present ≡ t
 
   -- ---- a required leaf is missing
 
-  required_irrelevant : (r : Refusal) → required_verdict m ≡ Refused r → same_from n o m ≡ true
+  required_irrelevant : (r : Refusal) → required_verdict m ≡ Err r → same_from n o m ≡ true
   required_irrelevant r e = refused_same n m o r (found m e) (found o (required_same i x m present ∙ e))
     where
-      found : (m : Rows) → required_verdict m ≡ Refused r → rows_verdict m ≡ Refused r
+      found : (m : Rows) → required_verdict m ≡ Err r → rows_verdict m ≡ Err r
       found m f = unfold rows_verdict in rw f
 
   -- ---- INVLPGB is clear
 
-  invlpgb_irrelevant : (r : Refusal) → required_verdict m ≡ Accepted → invlpgb_verdict m ≡ Refused r → i ≢ Place.extended_address_space_sizes
+  invlpgb_irrelevant : (r : Refusal) → required_verdict m ≡ Ok tt → invlpgb_verdict m ≡ Err r → i ≢ Place.extended_address_space_sizes
       → same_from n o m ≡ true
   invlpgb_irrelevant r e f d =
       refused_same n m o r (found m e f)
       (found o (required_same i x m present ∙ e)
       (unfold invlpgb_verdict in ap (λ (q : Row). invlpgb_of q.result) (put_other i x m Place.extended_address_space_sizes (λ z. d (sym z))) ∙ f))
     where
-      found : (m : Rows) → required_verdict m ≡ Accepted → invlpgb_verdict m ≡ Refused r → rows_verdict m ≡ Refused r
+      found : (m : Rows) → required_verdict m ≡ Ok tt → invlpgb_verdict m ≡ Err r → rows_verdict m ≡ Err r
       found m g h = unfold rows_verdict in rw (g, h)
 
   -- ---- the place is not read
@@ -64,8 +63,8 @@ module _ (n i : ℕ) (x : CpuidResult) (m : Rows) (present : (m i).present ≡ t
   unread_refused u e = go (rows_verdict m) refl e
     where
       go : (v : Verdict) → rows_verdict m ≡ v → refuses v ≡ true → same_from n o m ≡ true
-      go Accepted f g = absurd (never_both g refl)
-      go (Refused r) f g = refused_same n m o r f (verdict_same i x m present u ∙ f)
+      go (Ok _) f g = absurd (never_both g refl)
+      go (Err r) f g = refused_same n m o r f (verdict_same i x m present u ∙ f)
 
   -- a row that is not read and ends as it did
   module _ (u : Unread m i) (sev : Place.extended_sev_features ≢ i)
@@ -80,8 +79,8 @@ module _ (n i : ℕ) (x : CpuidResult) (m : Rows) (present : (m i).present ≡ t
         go j false f = refl
 
     table_same : (v : Verdict) → table_for n v o ≡ table_for n v m
-    table_same Accepted = λ k. table_of (finished_same k) (mask_same i x m present u k)
-    table_same (Refused r) = refl
+    table_same (Ok _) = λ k. table_of (finished_same k) (mask_same i x m present u k)
+    table_same (Err r) = refl
 
     unread_finished : same_from n o m ≡ true
     unread_finished =
@@ -195,6 +194,6 @@ module _ (n i : ℕ) (x : CpuidResult) (m : Rows) (present : (m i).present ≡ t
           (pick (refuses w) (not (eqb i Place.extended_address_space_sizes)) (irrelevant_at (refuses (rows_verdict m)) (combined_mask m) i))
           ≡ true
           → same_from n o m ≡ true
-      go (Refused r) w f g e = required_irrelevant r f
-      go Accepted (Refused r) f g e = invlpgb_irrelevant r f g (differs (eqb i Place.extended_address_space_sizes) refl e)
-      go Accepted Accepted f g e = at_irrelevant e
+      go (Err r) w f g e = required_irrelevant r f
+      go (Ok _) (Err r) f g e = invlpgb_irrelevant r f g (differs (eqb i Place.extended_address_space_sizes) refl e)
+      go (Ok _) (Ok _) f g e = at_irrelevant e

@@ -1,10 +1,9 @@
 -- The search, entry by entry: the 128 flips of an entry are searched, or passed over together.
-use Rattle.std.specs.Prelude.{◌≡◌, Bool, false, ℕ, zero, suc, ◌+◌, ◌/◌, ◌%◌, ◌≤◌, ◌<◌, eqb, length, get_or, set, replicate}
+use Rattle.std.specs.Prelude.{◌≡◌, Bool, false, ℕ, zero, suc, ◌+◌, ◌/◌, ◌%◌, ◌≤◌, ◌<◌, eqb, length, get_or, set, Err, None, Ok, Option, Some}
 use Rattle.std.proofs.Math.Path.{refl, sym, ap}
 use Rattle.std.proofs.Common.{◌∙◌, arith, length-set, get_or-set_same, get_or-set_other, eqb-true, eq-eqb, ne_eqb}
 use Rattle.std.proofs.Math.Bool.{true, not}
 use mathlib.Core.List.{List, [], ◌∷◌, ◌++◌, append_assoc}
-use Rattle.std.proofs.lemmas.List.{get_or-replicate, length-replicate}
 use Rattle.std.proofs.lemmas.Bool.{eqb-false}
 use Rattle.bits.specs.Choice.{pick}
 use Rattle.bits.specs.ChoiceLaws.{never_both}
@@ -16,14 +15,12 @@ use Rattle.x86defs.specs.declared.CpuidFunction.{CpuidFunction}
 use Rattle.x86defs.specs.declared.CpuidResult.{CpuidResult}
 use Rattle.pages.specs.declared.CpuidPageIndex.{CpuidPageIndex}
 use Rattle.pages.specs.declared.ParsedCpuidEntry.{ParsedCpuidEntry}
-use Rattle.pages.specs.Layout.{Entry, entry_at, pages_in, most_entries}
-use Rattle.pages.specs.LayoutLaws.{counts_fit_at}
+use Rattle.pages.specs.Layout.{Entry, entry_at, pages_in}
 use Rattle.pages.specs.Entries.{entries}
 use Rattle.pages.specs.Parsed.{parsed}
 use Rattle.pages.specs.ReservedLaws.{clean_at}
-use Rattle.pages.specs.Walk.{first_index, incremented, rest}
-use Rattle.pages.specs.WalkLaws.{Valid, Turn, turn, first_valid, rest_first, rest_end}
-use Rattle.pages.specs.declared.reader.Read.TheVariants as Read
+use Rattle.pages.specs.Walk.{incremented, rest}
+use Rattle.pages.specs.WalkLaws.{Turn, turn}
 use Rattle.pages.specs.Read.{entry_here, clean_here, read_at}
 use Rattle.pages.specs.ReadLaws.{read_entry, read_unclean}
 use Rattle.masking.specs.Kept.{places}
@@ -32,8 +29,6 @@ use Rattle.masking.specs.declared.masks.KeptLeaf.{KeptLeaf}
 use Rattle.masking.specs.MaskTable as Kept
 use Rattle.masking.specs.MaskTable.{no_row, masks_of, row_of_place}
 use Rattle.table.specs.declared.Choices.{Choices}
-use Rattle.table.specs.declared.Refusal.TheVariants.{NothingDecides}
-use Rattle.table.specs.declared.Verdict.TheVariants.{Accepted}
 use Rattle.table.specs.Edition.{known_edition}
 use Rattle.table.specs.Rows.{Row, Rows, row, vacant}
 use Rattle.collect.specs.FirstEntries.{set_legacy, masked_at}
@@ -51,10 +46,6 @@ use Rattle.nearest.specs.Changes.{changes}
 use Rattle.nearest.specs.WithRow.{with_row}
 use Rattle.nearest.specs.FlippedRowLaws.{first_append, taken_row}
 use Rattle.nearest.proofs.ChangesLaws.{changes_nothing, changes_row}
-use Rattle.nearest.specs.declared.search.decisive.Decisive.{Decisive}
-use Rattle.nearest.specs.declared.search.decisive.Decisive.TheVariants.{Number, NoNumber}
-use Rattle.nearest.specs.declared.Nearest.{Nearest}
-use Rattle.nearest.specs.declared.Nearest.TheVariants.{Bit, NoBit}
 use Rattle.nearest.specs.Nearest.{first_that}
 use Rattle.nearest.specs.BitLaws.{keeps, bit_found, first_bit}
 use Rattle.nearest.specs.NearestSearchLaws.{AtEntry, Searching, flip_number, lowest_ext, not_not, position_fits, when_found}
@@ -68,7 +59,7 @@ first_run test g f k (suc m) fs h =
     let ih = first_run test g (λ j. f (suc j)) (suc k) m fs (λ j. h (suc j) ∙ ap g (let z : k + suc j ≡ suc k + j = omega arith in z)) in
     rw (e, ih) (go (test (g k)))
   where
-    go : (b : Bool) → pick b (Bit (g k)) (when_found g (lowest (λ n. not (test (g n))) (suc k) m) (first_that test fs))
+    go : (b : Bool) → pick b (Ok (g k)) (when_found g (lowest (λ n. not (test (g n))) (suc k) m) (first_that test fs))
         ≡ when_found g (pick (not b) (lowest (λ n. not (test (g n))) (suc k) m) (at k)) (first_that test fs)
     go true = refl
     go false = refl
@@ -82,7 +73,7 @@ search_entry test e es =
 -- ---- one turn
 
 module _ (c : Choices) (s : List ℕ) (bytes : (n : ℕ) → get_or s n 0 < 256) (known : known_edition c.edition ≡ true)
-    (lawful : lawful_verdict s ≡ Accepted) (seen : List Bool)
+    (lawful : lawful_verdict s ≡ Ok tt) (seen : List Bool)
     (i : CpuidPageIndex) (w : Searching c s seen i) (h : i.page_index < pages_in s) where
   abbrev p : ℕ
   p = i.page_index
@@ -173,14 +164,14 @@ module _ (c : Choices) (s : List ℕ) (bytes : (n : ℕ) → get_or s n 0 < 256)
         ∙ ap (λ (x : CpuidResult). same_from c.edition (with_row place x (rows_for c s)) (rows_for c s))
         (sym (masks (xor_result e.registers (one_bit (n / 32) (n % 32))))))
 
-    pub search_none : first_bit c.edition (rows_for c s) kept place e.registers ≡ NoNumber
+    pub search_none : first_bit c.edition (rows_for c s) kept place e.registers ≡ None
         → Searching c s (set seen place true) (incremented s i)
     unfolding first_bit
     search_none f =
         onward (length-set seen place true ∙ w.whole) (λ j l. mark j (eqb j place) refl)
         (agrees ∙ found (lowest (keeps c.edition (rows_for c s) kept place e.registers) 0 128) f)
       where
-        found : (x : Failing) → bit_found x ≡ NoNumber → x ≡ none
+        found : (x : Failing) → bit_found x ≡ None → x ≡ none
         found (at n) g = cc
         found none g = refl
 
@@ -195,15 +186,15 @@ module _ (c : Choices) (s : List ℕ) (bytes : (n : ℕ) → get_or s n 0 < 256)
             pick_mark true = refl
             pick_mark false = refl
 
-    pub search_found : (n : ℕ) → first_bit c.edition (rows_for c s) kept place e.registers ≡ Number n
-        → Bit (flip p q (n / 32) (n % 32)) ≡ first_that (changes c s) (flips s)
+    pub search_found : (n : ℕ) → first_bit c.edition (rows_for c s) kept place e.registers ≡ Some n
+        → Ok (flip p q (n / 32) (n % 32)) ≡ first_that (changes c s) (flips s)
     unfolding first_bit
     search_found n f =
         sym (from_here
         ∙ ap (λ (x : Failing). when_found (λ n. flip p q (n / 32) (n % 32)) x (first_that (changes c s) (flips_in (rest s (incremented s i)))))
         (agrees ∙ found (lowest (keeps c.edition (rows_for c s) kept place e.registers) 0 128) f))
       where
-        found : (x : Failing) → bit_found x ≡ Number n → x ≡ at n
+        found : (x : Failing) → bit_found x ≡ Some n → x ≡ at n
         found (at m) g = cc
         found none g = cc
 
@@ -245,27 +236,27 @@ module _ {c : Choices} {s : List ℕ} {seen : List Bool} {i : CpuidPageIndex} {e
     entry_not_kept f = passes (not_kept seen at_place f)
 
     -- the first entry of its place; b is what the code finds at the collected rows
-    module _ (small : place < places) (new : get_or seen place false ≡ false) {m : Rows} {kept : List KeptLeaf} {row : ℕ} {b : Decisive}
+    module _ (small : place < places) (new : get_or seen place false ≡ false) {m : Rows} {kept : List KeptLeaf} {row : ℕ} {b : Option ℕ}
         (rows : m ≡ rows_for c s) (table : kept ≡ Kept.table c.secure_avic) (masks : row ≡ row_of_place place)
         (bit : b ≡ first_bit c.edition m (get_or kept row no_row) place e.result) where
       bit_here : first_bit c.edition (rows_for c s) (get_or kept row no_row) place (entry_here s i).registers ≡ b
       bit_here =
           sym (bit ∙ (λ k. first_bit c.edition (rows k) (get_or kept row no_row) place (ap (λ (p : ParsedCpuidEntry). p.result) given.0 k)))
 
-      pub entry_none : b ≡ NoNumber → Searching c s (set seen place true) (incremented s i)
+      pub entry_none : b ≡ None → Searching c s (set seen place true) (incremented s i)
       entry_none f =
           search_none c s bytes a.known a.lawful seen i a.searching a.inside place small (sym at_place) new
           (get_or kept row no_row) (λ x. row_masks c.secure_avic place row kept x table masks) (bit_here ∙ f)
 
-      pub entry_decides : {n : ℕ} → b ≡ Number n
-          → Bit (flip i.page_index i.function_index (n / 32) (n % 32)) ≡ first_that (changes c s) (flips s)
+      pub entry_decides : {n : ℕ} → b ≡ Some n
+          → Ok (flip i.page_index i.function_index (n / 32) (n % 32)) ≡ first_that (changes c s) (flips s)
       entry_decides {n} f =
           search_found c s bytes a.known a.lawful seen i a.searching a.inside place small (sym at_place) new
           (get_or kept row no_row) (λ x. row_masks c.secure_avic place row kept x table masks) n (bit_here ∙ f)
 
 -- lawful pages have no unclean entry
-pub no_unclean : {c : Choices} {s : List ℕ} {seen : List Bool} {i : CpuidPageIndex} {l : CpuidFunction} → lawful_verdict s ≡ Accepted
-    → Searching c s seen i → i.page_index < pages_in s → Read.Unclean l ≡ read_at s i → ⊥
+pub no_unclean : {c : Choices} {s : List ℕ} {seen : List Bool} {i : CpuidPageIndex} {l : CpuidFunction} → lawful_verdict s ≡ Ok tt
+    → Searching c s seen i → i.page_index < pages_in s → Err l ≡ read_at s i → ⊥
 no_unclean {c} {s} {seen} {i} e w h f =
     never_both (clean_at s (lawful_clean s e) i.page_index i.function_index h (turn s i w.valid h).below)
     (read_unclean s i f).1

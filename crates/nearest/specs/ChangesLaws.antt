@@ -1,33 +1,15 @@
 -- What a flip changes, at the 88 rows: nothing where they stay, and else what building from the changed rows changes.
-use Rattle.std.specs.Prelude.{◌≡◌, refl, Bool, true, false, List, ◌∷◌, ◌++◌, ℕ, ◌<◌}
-use Rattle.std.proofs.Common.{sym, ◌∙◌}
-use Rattle.std.proofs.Math.Path.{ap}
+use Rattle.std.specs.Prelude.{◌≡◌, refl, Bool, true, false, List, ℕ, Ok}
 use Rattle.std.proofs.Math.Bool.{not}
-use Rattle.pages.specs.Layout.{Entry, entry_at, bad_length, counts_fit}
-use Rattle.pages.specs.Entries.{entries}
-use Rattle.masking.specs.Kept.{places}
+use Rattle.pages.specs.Layout.{bad_length}
 use Rattle.table.specs.declared.Choices.{Choices}
 use Rattle.table.specs.declared.Refusal.TheVariants.{PagesLength}
-use Rattle.table.specs.declared.Verdict.TheVariants.{Accepted}
 use Rattle.table.specs.Edition.{known_edition}
-use Rattle.table.specs.Rows.{Rows, row}
 use Rattle.checks.specs.Checks.{rows_verdict}
 use Rattle.checks.specs.ChecksLaws.{then_left, demanded}
-use Rattle.collect.specs.FirstEntries.{masked_at}
-use Rattle.collect.specs.Collect.{stored_at, first_among}
 use Rattle.finish.specs.RowsBuilt.{table_for}
 use Rattle.build.specs.Build.{edition_verdict, rows_for, verdict_of, answer}
 use Rattle.collect.specs.Lawful.{length_verdict, lawful_verdict}
-use Rattle.collect.proofs.LawfulLaws.{lawful_counts, lawful_clean, clean_lawful}
-use Rattle.nearest.specs.Flips.{flip, flipped}
-use Rattle.nearest.specs.OneBit.{one_bit, xor_result}
-use Rattle.nearest.specs.FlippedEntryLaws.{Inside}
-use Rattle.nearest.specs.CleanLaws.{length_lawful_lem, counts_lawful_lem, stays_clean}
-use Rattle.nearest.specs.SameVerdict.{same_answer, same_from}
-use Rattle.nearest.specs.Changes.{changes}
-use Rattle.nearest.specs.WithRow.{with_row}
-use Rattle.nearest.specs.WithRowLaws.{put_same}
-use Rattle.nearest.specs.FlippedRowLaws.{flip_passed, taken_row, flip_put}
 
 -- ---- the answer of lawful pages
 
@@ -35,11 +17,11 @@ not_false : (b : Bool) → not b ≡ true → b ≡ false
 not_false true e = cc
 not_false false e = refl
 
-pub lawful_length : (s : List ℕ) → lawful_verdict s ≡ Accepted → bad_length s ≡ false
+pub lawful_length : (s : List ℕ) → lawful_verdict s ≡ Ok tt → bad_length s ≡ false
 unfolding lawful_verdict length_verdict
 lawful_length s e = not_false (bad_length s) (demanded (not (bad_length s)) PagesLength (then_left (length_verdict s) _ e))
 
-module _ (c : Choices) (s : List ℕ) (k : known_edition c.edition ≡ true) (l : lawful_verdict s ≡ Accepted) where
+module _ (c : Choices) (s : List ℕ) (k : known_edition c.edition ≡ true) (l : lawful_verdict s ≡ Ok tt) where
   pub lawful_verdict_lem : (answer c s).verdict ≡ rows_verdict (rows_for c s)
   unfolding answer verdict_of edition_verdict
   lawful_verdict_lem = rw (k, l)

@@ -1,44 +1,29 @@
 -- Of two accepted sets that differ at one place, the finished row there decides: finishing keeps in a row all that other rows depend on, so that the
 -- same finished row leaves all others the same.
-use Rattle.std.specs.Prelude.{◌≡◌, Bool, true, false, ◌&&◌, ℕ, ◌+◌, ◌≤◌, ◌<◌, eqb}
-use Rattle.std.proofs.Math.Path.{refl, ap, fun_ext}
-use Rattle.std.proofs.Common.{sym, ◌∙◌, arith, eqb-true}
-use Rattle.std.specs.Int.Bits.{bit_or}
-use Rattle.std.proofs.lemmas.Bool.{eqb-false}
+use Rattle.std.specs.Prelude.{◌≡◌, Bool, true, false, ◌&&◌, ℕ, ◌≤◌, ◌<◌, eqb, Ok}
+use Rattle.std.proofs.Math.Path.{refl, ap}
+use Rattle.std.proofs.Common.{sym, ◌∙◌}
 use Rattle.bits.specs.Choice.{pick}
 use Rattle.bits.specs.ChoiceLaws.{never_both, and_both, and_right, pick_twice}
-use Rattle.bits.specs.Bits.{has, bit}
-use Rattle.bits.specs.BitsLaws.{within_refl}
+use Rattle.bits.specs.Bits.{has}
 use Rattle.bits.specs.ListsLaws.{get_d_tabulate}
 use Rattle.bits.specs.SearchLaws.{every_at}
-use Rattle.x86defs.specs.declared.CpuidResult.{CpuidResult}
 use Rattle.x86defs.specs.Functions.{cpuid_result}
-use Rattle.x86defs.specs.Fields.{cut}
-use Rattle.x86defs.specs.Fields.Field.{nc, apic_core_id_size, lps_per_package, threads_per_compute_unit}
-use Rattle.x86defs.specs.VersionAndFeaturesEdx
-use Rattle.x86defs.specs.ExtendedSevFeaturesEax as Sev
-use Rattle.topology.specs.Topology.{inputs, topology_of, processors, thread_level, core_level}
 use Rattle.masking.specs.Kept.{places}
 use Rattle.masking.specs.Place
-use Rattle.table.specs.declared.Verdict.{Verdict}
-use Rattle.table.specs.declared.Verdict.TheVariants.{Accepted}
-use Rattle.table.specs.Rows.{Row, Rows}
+use Rattle.table.specs.Rows.{Rows}
 use Rattle.table.specs.Table.{table_of, row_in}
-use Rattle.checks.specs.ExtendedState.{xfem, xss_of, xss, combined_mask, sum_at, save_area}
-use Rattle.checks.specs.ExtendedStateLaws.{area_mono, in_combined, xsaves_ecx}
-use Rattle.checks.specs.TopologyInputs.{inputs_of}
+use Rattle.checks.specs.ExtendedState.{xss_of, xss, combined_mask}
+use Rattle.checks.specs.ExtendedStateLaws.{xsaves_ecx}
 use Rattle.checks.specs.Checks.{rows_verdict}
-use Rattle.finish.specs.Finish.{Needed, Rule, Settings, rule_at, change_row, finish, finish_row, remains, enabled_by, ymm_clears, unless_no_xss, settings, finished}
-use Rattle.finish.specs.Finish.Needed.{version_and_features, extended_state0, extended_state1, extended_address_space_sizes, untouched}
+use Rattle.finish.specs.Finish.{Needed, Rule, rule_at, change_row, finish, remains, enabled_by, unless_no_xss, settings, finished}
+use Rattle.finish.specs.Finish.Needed.{extended_state1}
 use Rattle.finish.specs.Finish.Rule.{needed}
 use Rattle.finish.specs.PlaceLaws.{component_rule}
 use Rattle.finish.specs.RemainsLaws.{finished_present}
 use Rattle.finish.proofs.RemainsLaws.{finished_result, component_finished}
 use Rattle.finish.specs.RowsBuilt.{table_for}
 use Rattle.nearest.specs.SameVerdict.{agree, same_result, is_same_row, same_rows, same_table, same_verdict, same_answer, same_from}
-use Rattle.nearest.specs.SameLaws.{result_equal}
-use Rattle.nearest.specs.WithRow.{with_row}
-use Rattle.nearest.specs.WithRowLaws.{put_other, put_present}
 
 -- ---- what finishing keeps of a row that is there
 
@@ -68,7 +53,7 @@ module _ (n : ℕ) (m : Rows) where
 -- ---- another finished row
 
 pub finished_differs : (n i : ℕ) (q m : Rows) → i < places → same_result (finished n q i).result (finished n m i).result ≡ false
-    → rows_verdict q ≡ Accepted → rows_verdict m ≡ Accepted → false ≡ same_from n q m
+    → rows_verdict q ≡ Ok tt → rows_verdict m ≡ Ok tt → false ≡ same_from n q m
 unfolding same_answer same_table same_rows
 finished_differs n i q m l f a b = go (same_from n q m) refl
   where
@@ -76,7 +61,7 @@ finished_differs n i q m l f a b = go (same_from n q m) refl
     go true e =
         let t = table_of (finished n q) (combined_mask q) in
         let u = table_of (finished n m) (combined_mask m) in
-        let h : same_table t u ≡ true = and_right (same_verdict Accepted Accepted) _
+        let h : same_table t u ≡ true = and_right (same_verdict (Ok tt) (Ok tt)) _
         (sym (λ k. same_answer (a k) (table_for n (a k) q) (b k) (table_for n (b k) m)) ∙ e) in
         let r : is_same_row (row_in t i) (row_in u i) ≡ true =
         every_at (λ j. is_same_row (row_in t j) (row_in u j)) places

@@ -1,20 +1,19 @@
 -- Places whose registers decide nothing, whatever row stands there: where a required leaf is missing, all; where INVLPGB is clear, all but
 -- 80000008h's; else B.0 and B.1, which are made here, D subleaves that the combined mask lacks and, in a refused set, each place that no check reads.
-use Rattle.std.specs.Prelude.{Bool, true, false, not, ◌&&◌, ◌||◌, ℕ, ◌-◌, eqb, ltb, leb}
+use Rattle.std.specs.Prelude.{Bool, true, false, not, ◌&&◌, ◌||◌, ℕ, ◌-◌, eqb, ltb, leb, Err, Ok}
 use Rattle.bits.specs.Choice.{pick}
 use Rattle.bits.specs.Bits.{has}
 use Rattle.masking.specs.Place
-use Rattle.table.specs.declared.Verdict.{Verdict}
-use Rattle.table.specs.declared.Verdict.TheVariants.{Accepted, Refused}
 use Rattle.table.specs.Rows.{Rows}
 use Rattle.checks.specs.ExtendedState.{combined_mask}
 use Rattle.checks.specs.Checks.{required_verdict, invlpgb_verdict, rows_verdict}
 use Rattle.rows.specs.Checked.{checked_rows, verdict_of}
 use Rattle.nearest.specs.declared.search.irrelevant.Unflipped.{Unflipped}
+use Rattle.table.specs.Verdict.{Verdict}
 
 abbrev pub refuses : Verdict → Bool
-refuses Accepted = false
-refuses (Refused r) = true
+refuses (Ok _) = false
+refuses (Err r) = true
 
 -- D.2 to D.63
 abbrev pub is_component : ℕ → Bool

@@ -1,21 +1,19 @@
 -- The answer, one case for each return of the function: 15, 1, 2 or 17, or what is found.
-use Rattle.std.specs.Prelude.{◌≡◌, List, ℕ}
+use Rattle.std.specs.Prelude.{◌≡◌, List, ℕ, Err, Ok}
 use Rattle.std.proofs.Math.Path.{ap}
 use Rattle.table.specs.declared.Choices.{Choices}
 use Rattle.table.specs.declared.Refusal.{Refusal}
-use Rattle.table.specs.declared.Verdict.{Verdict}
-use Rattle.table.specs.declared.Verdict.TheVariants.{Accepted, Refused}
 use Rattle.build.specs.Build.{front_verdict}
 use Rattle.nearest.specs.Flips.{flips}
 use Rattle.nearest.specs.Changes.{changes}
-use Rattle.nearest.specs.declared.Nearest.TheVariants.{NoBit}
 use Rattle.nearest.specs.Nearest.{first_that, unless_refused, nearest}
+use Rattle.table.specs.Verdict.{Verdict}
 
 module _ (c : Choices) (s : List ℕ) where
-  pub front_refuses : {r : Refusal} → front_verdict c s ≡ Refused r → nearest c s ≡ NoBit r
+  pub front_refuses : {r : Refusal} → front_verdict c s ≡ Err r → nearest c s ≡ Err r
   unfolding nearest
   front_refuses e = ap (λ (v : Verdict). unless_refused v (first_that (changes c s) (flips s))) e
 
-  pub searched : front_verdict c s ≡ Accepted → nearest c s ≡ first_that (changes c s) (flips s)
+  pub searched : front_verdict c s ≡ Ok tt → nearest c s ≡ first_that (changes c s) (flips s)
   unfolding nearest
   searched e = ap (λ (v : Verdict). unless_refused v (first_that (changes c s) (flips s))) e

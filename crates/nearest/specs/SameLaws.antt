@@ -6,11 +6,9 @@ use Rattle.bits.specs.Search.{every}
 use Rattle.x86defs.specs.declared.CpuidResult.{CpuidResult}
 use Rattle.masking.specs.Kept.{places}
 use Rattle.table.specs.declared.CpuidResults.{CpuidResults}
-use Rattle.table.specs.declared.Verdict.{Verdict}
 use Rattle.table.specs.Table.{row_in}
 use Rattle.table.specs.declared.numbers.AnswerNumbers.{AnswerNumbers}
-use Rattle.table.specs.Numbers.{numbers_of}
-use Rattle.nearest.specs.SameVerdict.{agree, same_result, same_rows, same_table, same_numbers, same_answer}
+use Rattle.nearest.specs.SameVerdict.{agree, same_result, same_rows, same_table, same_numbers}
 
 -- ---- an answer is the same as itself
 

@@ -5,13 +5,13 @@ use Rattle.bits.specs.Search.{every}
 use Rattle.x86defs.specs.declared.CpuidResult.{CpuidResult}
 use Rattle.masking.specs.Kept.{places}
 use Rattle.table.specs.declared.CpuidResults.{CpuidResults}
-use Rattle.table.specs.declared.Verdict.{Verdict}
 use Rattle.table.specs.Rows.{Row, Rows}
 use Rattle.table.specs.Table.{row_in}
 use Rattle.checks.specs.Checks.{rows_verdict}
 use Rattle.finish.specs.RowsBuilt.{table_for}
 use Rattle.table.specs.declared.numbers.AnswerNumbers.{AnswerNumbers}
 use Rattle.table.specs.Numbers.{numbers_of}
+use Rattle.table.specs.Verdict.{Verdict}
 
 abbrev pub agree : Bool → Bool → Bool
 agree true b = b

@@ -1,5 +1,5 @@
 -- `irrelevant`, one case for each return of the function.
-use Rattle.std.specs.Prelude.{◌≡◌, Bool, not, ℕ, ◌-◌, ◌≤◌, ◌<◌, eqb, leb}
+use Rattle.std.specs.Prelude.{◌≡◌, Bool, not, ℕ, ◌-◌, ◌≤◌, ◌<◌, eqb, leb, Err, Ok}
 use Rattle.std.proofs.Math.Path.{refl}
 use Rattle.std.proofs.Math.Bool.{true, false}
 use Rattle.std.proofs.Common.{ltb-true, leb-true}
@@ -8,21 +8,20 @@ use Rattle.bits.specs.ChoiceLaws.{never_both, and_left, and_right}
 use Rattle.bits.specs.Bits.{has}
 use Rattle.masking.specs.Place
 use Rattle.table.specs.declared.Refusal.{Refusal}
-use Rattle.table.specs.declared.Verdict.{Verdict}
-use Rattle.table.specs.declared.Verdict.TheVariants.{Accepted, Refused}
 use Rattle.table.specs.Rows.{Rows}
 use Rattle.checks.specs.ExtendedState.{combined_mask}
 use Rattle.checks.specs.Checks.{required_verdict, invlpgb_verdict, rows_verdict}
 use Rattle.rows.specs.Checked.{checked_rows}
 use Rattle.rows.specs.CheckedLaws.{verdict_of_lem}
 use Rattle.nearest.specs.Irrelevant.{refuses, is_component, is_level, is_read, irrelevant_at, irrelevant, unflipped_in, irrelevant_by}
+use Rattle.table.specs.Verdict.{Verdict}
 
 module _ (m : Rows) (i : ℕ) where
-  pub irrelevant_missing : {r : Refusal} → required_verdict m ≡ Refused r → true ≡ irrelevant m i
+  pub irrelevant_missing : {r : Refusal} → required_verdict m ≡ Err r → true ≡ irrelevant m i
   unfolding irrelevant
   irrelevant_missing e = rw e
 
-  pub irrelevant_clear : {r : Refusal} → required_verdict m ≡ Accepted → invlpgb_verdict m ≡ Refused r
+  pub irrelevant_clear : {r : Refusal} → required_verdict m ≡ Ok tt → invlpgb_verdict m ≡ Err r
       → not (eqb i Place.extended_address_space_sizes) ≡ irrelevant m i
   unfolding irrelevant
   irrelevant_clear e f = rw (e, f)
@@ -33,7 +32,7 @@ module _ (m : Rows) (i : ℕ) where
   irrelevant_found = rw (verdict_of_lem (rows_verdict m) m)
 
   -- where a place is relevant, the required leaves are there
-  pub relevant_required : irrelevant m i ≡ false → required_verdict m ≡ Accepted
+  pub relevant_required : irrelevant m i ≡ false → required_verdict m ≡ Ok tt
   unfolding irrelevant
   relevant_required = go (required_verdict m)
     where
@@ -41,9 +40,9 @@ module _ (m : Rows) (i : ℕ) where
           (pick (refuses (invlpgb_verdict m)) (not (eqb i Place.extended_address_space_sizes))
           (irrelevant_at (refuses (rows_verdict m)) (combined_mask m) i))
           ≡ false
-          → v ≡ Accepted
-      go Accepted e = refl
-      go (Refused r) e = absurd (never_both refl e)
+          → v ≡ Ok tt
+      go (Ok _) e = refl
+      go (Err r) e = absurd (never_both refl e)
 
 module _ (i : ℕ) where
   -- the bounds of a component

@@ -4,7 +4,8 @@ ghost use Rattle.nearest.specs.OneBit.{one_bit, xor_result};
 
 use x86defs::CpuidResult;
 
-// One result bit: page, entry, register (0 to 3: EAX, EBX, ECX, EDX) and bit.
+// One result bit: page, entry, register (0 to 3: EAX, EBX, ECX, EDX) and bit. The register is kept as a number: an entry's 128 bits are numbered,
+// 32 a register.
 #[derive(Clone, Copy)]
 pub struct Flip {
     pub page: usize,

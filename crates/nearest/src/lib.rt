@@ -11,34 +11,23 @@ ghost use Rattle.nearest.specs.Changes.{changes};
 ghost use Rattle.nearest.specs.Nearest.{chosen, first_that, nearest};
 
 use crate::flips::Flip;
-use crate::search::decisive::{Decisive, first_bit};
+use crate::search::decisive::first_bit;
 use crate::search::irrelevant::check_unflipped;
 use build::rows_into;
 use masking::PLACES;
 use memory::REGISTERS;
-use pages::reader::Read;
 use table::{Choices, Refusal, Verdict};
 
 pub mod flips;
 pub mod search;
 
-// The first bit that matters, or why none is named.
-#[derive(Clone, Copy)]
-pub enum Nearest {
-    Bit(Flip),
-    NoBit(Refusal),
-}
-
-// The first single flip of a result bit that changes the table, the refusal or its details.
-pub fn nearest_bit(pages: &[u8], choices: Choices) -> Nearest
+// The first single flip of a result bit that changes the table, the refusal or its details; or why none is named.
+pub fn nearest_bit(pages: &[u8], choices: Choices) -> Result<Flip, Refusal>
     ensures { result ≡ nearest choices pages.now }
 {
     let mut registers: [u32; REGISTERS] = [0; REGISTERS];
     let mut origins: [u64; PLACES] = [0; PLACES];
-    let front = rows_into(pages, choices, &mut registers, &mut origins);
-    if let Verdict::Refused(r) = front {
-        return Nearest::NoBit(r);
-    }
+    rows_into(pages, choices, &mut registers, &mut origins)?;
     search_flips(
         pages,
         choices.secure_avic,
@@ -56,8 +45,8 @@ fn search_flips(
     edition: u32,
     registers: &[u32; REGISTERS],
     origins: &[u64; PLACES],
-) -> Nearest
-    requires { (known_edition edition ≡ true) × (lawful_verdict pages.now ≡ Verdict.Accepted)
+) -> Result<Flip, Refusal>
+    requires { (known_edition edition ≡ true) × (lawful_verdict pages.now ≡ Ok tt)
         × (rows_in registers.now origins.now ≡ rows_of secure_avic pages.now) }
     ensures { result ≡ first_that (changes (chosen secure_avic edition) pages.now) (flips pages.now) }
 {
@@ -66,10 +55,11 @@ fn search_flips(
     let n = pages::page_count(pages);
     let mut seen = [false; PLACES];
     let mut index = pages::reader::start(pages);
+    // kept as a while: the step is not one but to the reader's next entry, which may be on a later page
     while index.page_index < n {
         let read = pages::reader::take(pages, index);
         match read {
-            Read::Entry(entry) => {
+            Ok(entry) => {
                 let place = collect::counted_place(entry);
                 if place < PLACES {
                     if seen[place] {} else {
@@ -78,9 +68,9 @@ fn search_flips(
                         let bit = first_bit(
                             registers, origins, edition, found, kept[row], place, x,
                         );
-                        if let Decisive::Number(b) = bit {
+                        if let Some(b) = bit {
                             let position = index.function_index as u32;
-                            return Nearest::Bit(Flip {
+                            return Ok(Flip {
                                 page: index.page_index,
                                 entry: position,
                                 register: b / 32,
@@ -94,10 +84,10 @@ fn search_flips(
                 let next = pages::reader::step(pages, index, count);
                 index = next;
             }
-            Read::Unclean(leaf) => {
-                return Nearest::NoBit(Refusal::ReservedBytes(leaf));
+            Err(leaf) => {
+                return Err(Refusal::ReservedBytes(leaf));
             }
         }
     }
-    Nearest::NoBit(Refusal::NothingDecides)
+    Err(Refusal::NothingDecides)
 }

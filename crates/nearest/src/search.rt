@@ -13,42 +13,18 @@ pub mod irrelevant;
 pub fn same_verdict(v: Verdict, w: Verdict) -> bool
     ensures { result ≡ same_verdict v w }
 {
-    same_numbers(
-        table::numbers::answer_numbers(v),
-        table::numbers::answer_numbers(w),
-    )
+    same_numbers(AnswerNumbers::from(v), AnswerNumbers::from(w))
 }
 
 fn same_numbers(a: AnswerNumbers, b: AnswerNumbers) -> bool
     ensures { result ≡ same_numbers a b }
 {
-    if a.number != b.number {
-        return false;
-    }
-    if a.leaf != b.leaf {
-        return false;
-    }
-    if a.has_subleaf != b.has_subleaf {
-        return false;
-    }
-    if a.subleaf != b.subleaf {
-        return false;
-    }
-    a.s == b.s
+    a == b
 }
 
 // Whether four registers are the same.
 pub fn same_result(a: CpuidResult, b: CpuidResult) -> bool
     ensures { result ≡ same_result a b }
 {
-    if a.eax != b.eax {
-        return false;
-    }
-    if a.ebx != b.ebx {
-        return false;
-    }
-    if a.ecx != b.ecx {
-        return false;
-    }
-    a.edx == b.edx
+    a == b
 }

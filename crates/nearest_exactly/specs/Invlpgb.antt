@@ -1,5 +1,5 @@
 -- Wherever the required leaves are there, the flip of 80000008h.EBX bit 3, INVLPGB, changes the answer: only that check gives number 4.
-use Rattle.std.specs.Prelude.{◌≡◌, refl, Bool, true, false, not, ◌&&◌, ℕ, ◌/◌, ◌%◌, ◌^◌, ◌<◌, eqb}
+use Rattle.std.specs.Prelude.{◌≡◌, refl, Bool, true, false, not, ◌&&◌, ℕ, ◌/◌, ◌%◌, ◌^◌, ◌<◌, eqb, Err, None, Ok, Option, Result, Some}
 use Rattle.std.proofs.Common.{sym, ap, ap₂, ◌∙◌, arith, eqb-true}
 use Rattle.std.specs.Int.Bits.{bit_xor}
 use Rattle.bits.specs.ChoiceLaws.{and_left}
@@ -11,20 +11,14 @@ use Rattle.bits.specs.BitsLaws.{bit_has, bit_has_not, has_bit, has_not}
 use Rattle.bits.proofs.BitsLaws.{has_and}
 use Rattle.x86defs.specs.declared.CpuidResult.{CpuidResult}
 use Rattle.x86defs.specs.Fields.{fields_mask}
-use Rattle.topology.specs.declared.Topology.{Topology}
-use Rattle.topology.specs.declared.Topology.TheVariants.{Processors, Inconsistent}
 use Rattle.topology.specs.declared.TopologyError.TheVariants.{Hyperthreading, ProcessorCount, ThreadsPerUnit}
 use Rattle.topology.specs.Topology.{topology_of}
 use Rattle.masking.specs.Masks.{extended_address_space_sizes}
 use Rattle.masking.specs.Kept.{kept_leaves, slot, masks_at}
 use Rattle.masking.specs.Place
-use Rattle.table.specs.declared.Verdict.{Verdict}
 use Rattle.table.specs.declared.Refusal.TheVariants.{InvlpgbUnavailable}
-use Rattle.table.specs.declared.Verdict.TheVariants.{Accepted, Refused}
 use Rattle.table.specs.Refusal.{and_then}
 use Rattle.table.specs.Rows.{Row, Rows, row}
-use Rattle.checks.specs.declared.Size.{Size}
-use Rattle.checks.specs.declared.Size.TheVariants.{Bytes, TooLarge}
 use Rattle.checks.specs.ExtendedState.{combined_mask, supplied, save_area, xfem, size_of}
 use Rattle.checks.specs.TopologyInputs.{inputs_of}
 use Rattle.checks.specs.Checks.{refuse_at, missing_component, size_verdict, topology_refusal, required_verdict, invlpgb_verdict, components_of, components_verdict, area_verdict, topology_verdict, rows_verdict}
@@ -37,38 +31,40 @@ use Rattle.nearest.proofs.SameLaws.{answer_same}
 use Rattle.nearest.specs.WithRow.{with_row}
 use Rattle.nearest.specs.WithRowLaws.{required_same}
 use Rattle.nearest.specs.FlippedMaskLaws.{bit_xor_lem}
+use Rattle.table.specs.Verdict.{Verdict}
+use Rattle.topology.specs.declared.TopologyError.{TopologyError}
 
 abbrev number : Verdict → ℕ
 number v = (numbers_of v).number
 
 -- ---- refusal 4 is given by one check alone
 
-from_topology : (t : Topology) → number (topology_refusal t) ≡ 4 → ⊥
-from_topology (Processors v) e = omega arith
-from_topology (Inconsistent (Hyperthreading s)) e = omega arith
-from_topology (Inconsistent (ProcessorCount s)) e = omega arith
-from_topology (Inconsistent ThreadsPerUnit) e = omega arith
+from_topology : (t : Result ℕ TopologyError) → number (topology_refusal t) ≡ 4 → ⊥
+from_topology (Ok v) e = omega arith
+from_topology (Err (Hyperthreading s)) e = omega arith
+from_topology (Err (ProcessorCount s)) e = omega arith
+from_topology (Err ThreadsPerUnit) e = omega arith
 
 from_components_lem : (m : Rows) → number (and_then (components_verdict m) (and_then (area_verdict m) (topology_verdict m))) ≡ 4 → ⊥
 unfolding components_verdict components_of area_verdict topology_verdict
 from_components_lem m = go (lowest (supplied m (combined_mask m)) 2 62) (size_of (save_area m (xfem m)))
   where
-    go : (f : Failing) (z : Size)
+    go : (f : Failing) (z : Option ℕ)
         → number (and_then (refuse_at f missing_component) (and_then (size_verdict z) (topology_refusal (topology_of (inputs_of m))))) ≡ 4 → ⊥
     go (at j) z e = omega arith
-    go none TooLarge e = omega arith
-    go none (Bytes n) e = from_topology (topology_of (inputs_of m)) e
+    go none None e = omega arith
+    go none (Some n) e = from_topology (topology_of (inputs_of m)) e
 
 -- ---- INVLPGB decides wherever the required leaves are there
 
 abbrev pub invlpgb : Rows → Bool
 invlpgb m = has 3 (m Place.extended_address_space_sizes).result.ebx
 
-four : (m : Rows) → required_verdict m ≡ Accepted → invlpgb m ≡ false → number (rows_verdict m) ≡ 4
+four : (m : Rows) → required_verdict m ≡ Ok tt → invlpgb m ≡ false → number (rows_verdict m) ≡ 4
 unfolding rows_verdict invlpgb_verdict
 four m e f = rw (e, f)
 
-pub not_four : (m : Rows) → required_verdict m ≡ Accepted → invlpgb m ≡ true → number (rows_verdict m) ≡ 4 → ⊥
+pub not_four : (m : Rows) → required_verdict m ≡ Ok tt → invlpgb m ≡ true → number (rows_verdict m) ≡ 4 → ⊥
 unfolding rows_verdict invlpgb_verdict
 not_four m e f = rw (e, f) (from_components_lem m)
 
@@ -76,7 +72,7 @@ same_number : (n : ℕ) (o m : Rows) → same_from n o m ≡ true → number (ro
 unfolding same_answer same_numbers
 same_number n o m e = eqb-true _ _ (and_left _ _ (and_left _ _ e))
 
-invlpgb_decides : (n : ℕ) (m o : Rows) → required_verdict m ≡ Accepted → required_verdict o ≡ Accepted → invlpgb o ≡ not (invlpgb m)
+invlpgb_decides : (n : ℕ) (m o : Rows) → required_verdict m ≡ Ok tt → required_verdict o ≡ Ok tt → invlpgb o ≡ not (invlpgb m)
     → same_from n o m ≡ false
 invlpgb_decides n m o e f g = go (same_from n o m) refl (invlpgb m) refl
   where
@@ -114,7 +110,7 @@ flip_35 avic x =
     go true = refl
     go false = refl
 
-pub invlpgb_flip : (avic : Bool) (n : ℕ) (m : Rows) (x : CpuidResult) → required_verdict m ≡ Accepted
+pub invlpgb_flip : (avic : Bool) (n : ℕ) (m : Rows) (x : CpuidResult) → required_verdict m ≡ Ok tt
     → m Place.extended_address_space_sizes ≡ row (masked_at avic Place.extended_address_space_sizes x)
     → same_from n (with_row Place.extended_address_space_sizes (masked_at avic Place.extended_address_space_sizes (xor_result x (one_bit 1 3))) m) m ≡ false
 unfolding with_row
@@ -150,12 +146,12 @@ flip_below avic x j l =
     ∙ sym (has_and 3 x.ebx _)
 
 -- rows without INVLPGB have the same answer, whatever else stands in that row
-pub clear_same : (n : ℕ) (m o : Rows) → required_verdict m ≡ Accepted → required_verdict o ≡ Accepted → invlpgb m ≡ false → invlpgb o ≡ false
+pub clear_same : (n : ℕ) (m o : Rows) → required_verdict m ≡ Ok tt → required_verdict o ≡ Ok tt → invlpgb m ≡ false → invlpgb o ≡ false
     → same_from n o m ≡ true
 clear_same n m o e f g h =
-    let u : rows_verdict o ≡ Refused InvlpgbUnavailable = refused o f h in
-    let v : rows_verdict m ≡ Refused InvlpgbUnavailable = refused m e g in
+    let u : rows_verdict o ≡ Err InvlpgbUnavailable = refused o f h in
+    let v : rows_verdict m ≡ Err InvlpgbUnavailable = refused m e g in
     answer_same (u ∙ sym v) (ap (λ (w : Verdict). table_for n w o) u ∙ sym (ap (λ (w : Verdict). table_for n w m) v))
   where
-    refused : (m : Rows) → required_verdict m ≡ Accepted → invlpgb m ≡ false → rows_verdict m ≡ Refused InvlpgbUnavailable
+    refused : (m : Rows) → required_verdict m ≡ Ok tt → invlpgb m ≡ false → rows_verdict m ≡ Err InvlpgbUnavailable
     refused m p q = unfold rows_verdict invlpgb_verdict in rw (p, q)

@@ -1,5 +1,5 @@
 -- A flip changes nothing exactly where verdict and table of the two answers are equal.
-use Rattle.std.specs.Prelude.{◌≡◌, refl, Bool, true, false, not, List, ◌↔◌, ℕ, ◌<◌, eqb, length, get_or}
+use Rattle.std.specs.Prelude.{◌≡◌, refl, Bool, true, false, not, List, ◌↔◌, ℕ, ◌<◌, eqb, length, get_or, Err, None, Ok, Option, Some}
 use Rattle.std.proofs.Common.{sym, ap, ◌∙◌, eqb-true, ne_eqb}
 use Rattle.std.proofs.lemmas.List.{length-replicate}
 use Rattle.bits.specs.Choice.{pick}
@@ -10,13 +10,9 @@ use Rattle.x86defs.specs.Functions.{cpuid_result}
 use Rattle.masking.specs.Kept.{places}
 use Rattle.table.specs.declared.Choices.{Choices}
 use Rattle.table.specs.declared.CpuidResults.{CpuidResults}
-use Rattle.table.specs.declared.Subleaf.{Subleaf}
-use Rattle.table.specs.declared.Subleaf.TheVariants.{None, Some}
 use Rattle.table.specs.Refusal.{Details, details, refusal_with}
 use Rattle.table.specs.RefusalLaws.{refusal_told}
 use Rattle.table.proofs.RefusalLaws.{refusal_numbered}
-use Rattle.table.specs.declared.Verdict.{Verdict}
-use Rattle.table.specs.declared.Verdict.TheVariants.{Accepted, Refused}
 use Rattle.table.specs.Rows.{Rows}
 use Rattle.table.specs.Table.{row_in}
 use Rattle.finish.specs.RowsBuilt.{table_for}
@@ -30,10 +26,11 @@ use Rattle.nearest.specs.SameLaws.{agree_equal, result_equal}
 use Rattle.nearest.proofs.SameLaws.{answer_same}
 use Rattle.nearest.specs.Changes.{changes}
 use Rattle.nearest_exactly.specs.Meaning.{Unchanged}
+use Rattle.table.specs.Verdict.{Verdict}
 
 -- ---- a verdict is known by its numbers
 
-subleaf_from : ℕ → ℕ → Subleaf
+subleaf_from : ℕ → ℕ → Option ℕ
 subleaf_from flag k = pick (eqb flag 0) None (Some k)
 
 details_from : AnswerNumbers → Details
@@ -43,20 +40,20 @@ details_told : (d : Details) → details_from (detail_numbers d) ≡ d
 unfolding details_from subleaf_from
 details_told d = λ i. record { number = d.number; leaf = d.leaf; subleaf = go d.subleaf i; s = d.s }
   where
-    go : (k : Subleaf) → subleaf_from (named k) (subleaf_or0 k) ≡ k
+    go : (k : Option ℕ) → subleaf_from (named k) (subleaf_or0 k) ≡ k
     go None = refl
     go (Some k) = refl
 
 verdict_from : AnswerNumbers → Verdict
-verdict_from a = pick (eqb a.number 0) Accepted (Refused (refusal_with (details_from a)))
+verdict_from a = pick (eqb a.number 0) (Ok tt) (Err (refusal_with (details_from a)))
 
 known_by_numbers : (v : Verdict) → verdict_from (numbers_of v) ≡ v
 unfolding verdict_from
-known_by_numbers Accepted = refl
-known_by_numbers (Refused r) =
-    pick_false Accepted (Refused (refusal_with (details_from (detail_numbers (details r))))) (ne_eqb (details r).number 0 (refusal_numbered r))
-    ∙ ap (λ (d : Details). Refused (refusal_with d)) (details_told (details r))
-    ∙ ap Refused (refusal_told r)
+known_by_numbers (Ok _) = refl
+known_by_numbers (Err r) =
+    pick_false (Ok tt) (Err (refusal_with (details_from (detail_numbers (details r))))) (ne_eqb (details r).number 0 (refusal_numbered r))
+    ∙ ap (λ (d : Details). Err (refusal_with d)) (details_told (details r))
+    ∙ ap Err (refusal_told r)
 
 numbers_equal : (a b : AnswerNumbers) → same_numbers a b ≡ true → a ≡ b
 unfolding same_numbers
@@ -100,8 +97,8 @@ table_equal t u w x e =
     }
 
 table_whole : (n : ℕ) (v : Verdict) (m : Rows) → Whole (table_for n v m)
-table_whole n Accepted m = record { present = length_tabulate places _; results = length_tabulate places _ }
-table_whole n (Refused r) m = record { present = length-replicate places false; results = length-replicate places (cpuid_result 0 0 0 0) }
+table_whole n (Ok _) m = record { present = length_tabulate places _; results = length_tabulate places _ }
+table_whole n (Err r) m = record { present = length-replicate places false; results = length-replicate places (cpuid_result 0 0 0 0) }
 
 -- ---- the two answers
 

@@ -1,5 +1,5 @@
 -- Where the search ends: no flip changes anything exactly where a leaf of the two required lists is missing.
-use Rattle.std.specs.Prelude.{◌≡◌, Bool, true, not, ◌⊎◌, ◌≢◌, ℕ, zero, suc, ◌/◌, ◌%◌, ◌≤◌, ◌<◌, eqb, ltb, length, set, replicate}
+use Rattle.std.specs.Prelude.{◌≡◌, Bool, true, not, ◌⊎◌, ◌≢◌, ℕ, zero, suc, ◌/◌, ◌%◌, ◌≤◌, ◌<◌, eqb, ltb, length, set, replicate, Err, None, Ok, Option, Result, Some}
 use Rattle.std.proofs.Math.Path.{refl, ap}
 use Rattle.std.proofs.Common.{sym, ◌∙◌, inl, inr, arith, length-set, get_or-set_other, eqb-true, ne_eqb, ltb-true, ltb-false}
 use Rattle.std.proofs.Math.Bool.{false}
@@ -25,7 +25,6 @@ use Rattle.masking.specs.MaskTable.{table, no_row, masks_of, row_of_place}
 use Rattle.table.specs.declared.Choices.{Choices}
 use Rattle.table.specs.declared.Refusal.{Refusal}
 use Rattle.table.specs.declared.Refusal.TheVariants.{InvlpgbUnavailable, NothingDecides}
-use Rattle.table.specs.declared.Verdict.TheVariants.{Accepted, Refused}
 use Rattle.table.specs.Edition.{known_edition}
 use Rattle.table.specs.Rows.{Row, Rows, row}
 use Rattle.checks.specs.Required.{common_required_leaves, snp_required_leaves, required_at, place_required}
@@ -46,16 +45,13 @@ use Rattle.nearest.specs.WithRowLaws.{required_same}
 use Rattle.nearest.specs.FlippedRowLaws.{rows_present, taken_row}
 use Rattle.nearest.specs.Irrelevant.{irrelevant}
 use Rattle.nearest.specs.SearchReturnLaws.{irrelevant_missing, irrelevant_clear}
-use Rattle.nearest.specs.declared.search.decisive.Decisive.{Decisive}
-use Rattle.nearest.specs.declared.search.decisive.Decisive.TheVariants.{Number, NoNumber}
 use Rattle.nearest.specs.BitLaws.{keeps, bit_found, first_bit}
 use Rattle.nearest.proofs.BitLaws.{bit_irrelevant}
-use Rattle.nearest.specs.declared.Nearest.{Nearest}
-use Rattle.nearest.specs.declared.Nearest.TheVariants.{Bit, NoBit}
 use Rattle.nearest.specs.Nearest.{first_that}
 use Rattle.nearest.specs.NearestSearchLaws.{Searching, searching_first, searching_last}
 use Rattle.nearest.proofs.NearestSearchLaws.{search_passes, search_none, search_found, seen_taken, not_kept, here, inside}
 use Rattle.nearest_exactly.specs.Invlpgb.{invlpgb, invlpgb_flip, flip_below, clear_same}
+use Rattle.nearest.specs.declared.flips.Flip.{Flip}
 
 -- the lowest number that fails a test is the one that is searched
 lowest_is : (test : ℕ → Bool) (k n j : ℕ) → Lowest test k n j → lowest test k n ≡ at j
@@ -66,14 +62,14 @@ lowest_is test k n j w = go (lowest test k n) refl
     go none e = absurd (never_both (lowest_none test k n e j w.from w.below) w.fails)
 
 module _ (c : Choices) (s : List ℕ) (bytes : (n : ℕ) → get_or s n 0 < 256) (known : known_edition c.edition ≡ true)
-    (lawful : lawful_verdict s ≡ Accepted) where
+    (lawful : lawful_verdict s ≡ Ok tt) where
   abbrev avic : Bool
   avic = c.secure_avic
 
   abbrev m : Rows
   m = rows_for c s
 
-  abbrev found : Nearest
+  abbrev found : Result Flip Refusal
   found = first_that (changes c s) (flips s)
 
   abbrev kept : ℕ → KeptLeaf
@@ -82,7 +78,7 @@ module _ (c : Choices) (s : List ℕ) (bytes : (n : ℕ) → get_or s n 0 < 256)
   abbrev entry : CpuidPageIndex → Entry
   entry i = entry_at s i.page_index i.function_index
 
-  abbrev bit_at : ℕ → CpuidPageIndex → Decisive
+  abbrev bit_at : ℕ → CpuidPageIndex → Option ℕ
   bit_at place i = first_bit c.edition m (kept place) place (entry i).registers
 
   -- an entry that is the first of its place
@@ -107,7 +103,7 @@ module _ (c : Choices) (s : List ℕ) (bytes : (n : ℕ) → get_or s n 0 < 256)
   module _ (P : Type 0) (Q : List Bool → Type 0)
       (last : (seen : List Bool) (i : CpuidPageIndex) → Searching c s seen i → pages_in s ≤ i.page_index → Q seen → P)
       (fresh : (seen : List Bool) (i : CpuidPageIndex) (place : ℕ) → Fresh seen i place → Q seen
-      → ((bit_at place i ≡ NoNumber) × Q (set seen place true)) ⊎ P) where
+      → ((bit_at place i ≡ None) × Q (set seen place true)) ⊎ P) where
     one_turn : (n : ℕ) → ((seen : List Bool) (i : CpuidPageIndex) → Searching c s seen i → length (rest s i) ≤ n → Q seen → P)
         → (seen : List Bool) (i : CpuidPageIndex) → Searching c s seen i → length (rest s i) ≤ suc n → i.page_index < pages_in s → Q seen → P
     one_turn n ih seen i w l h q = go (ltb place places) (get_or seen place false) refl refl
@@ -144,9 +140,9 @@ module _ (c : Choices) (s : List ℕ) (bytes : (n : ℕ) → get_or s n 0 < 256)
 
   -- ---- where one is missing, no flip changes anything
 
-  pub nothing_decides : (r : Refusal) → required_verdict m ≡ Refused r → found ≡ NoBit NothingDecides
+  pub nothing_decides : (r : Refusal) → required_verdict m ≡ Err r → found ≡ Err NothingDecides
   nothing_decides r e =
-      sym (walk (NoBit NothingDecides ≡ found) (λ seen. length seen ≡ places) (λ seen i w l q. searching_last c s seen i w l)
+      sym (walk (Err NothingDecides ≡ found) (λ seen. length seen ≡ places) (λ seen i w l q. searching_last c s seen i w l)
       (λ seen i place f q. inl (
         sym (bit_irrelevant c.edition m (kept place) place _ (ap (λ (x : Row). x.present) (fresh_row seen i place f)) (missing place)),
         length-set seen place true ∙ q,
@@ -161,7 +157,7 @@ module _ (c : Choices) (s : List ℕ) (bytes : (n : ℕ) → get_or s n 0 < 256)
   abbrev sizes : ℕ
   sizes = Place.extended_address_space_sizes
 
-  required_there : required_verdict m ≡ Accepted → (m sizes).present ≡ true
+  required_there : required_verdict m ≡ Ok tt → (m sizes).present ≡ true
   unfolding place_required required_at common_required_leaves snp_required_leaves place_of kept_leaves
   required_there e = required_present m e 9 (omega arith)
 
@@ -173,36 +169,36 @@ module _ (c : Choices) (s : List ℕ) (bytes : (n : ℕ) → get_or s n 0 < 256)
       (sym (w.split ∙ ap (λ (x : List Entry). w.done ++ x) (rest_end s i l) ∙ append-nil w.done))
       ∙ sym (rows_present avic s sizes (omega arith))
 
-  pub some_decides : required_verdict m ≡ Accepted → found ≡ NoBit NothingDecides → ⊥
+  pub some_decides : required_verdict m ≡ Ok tt → found ≡ Err NothingDecides → ⊥
   unfolding keeps first_bit
   some_decides e None-found =
       walk ⊥ (λ seen. get_or seen sizes false ≡ false) (λ seen i w l q. never_both (all_seen seen i w l ∙ required_there e) q) fresh
       (length (rest s (first_index s))) (replicate places false) (first_index s) (searching_first c s) (omega arith)
       (get_or-replicate places sizes false false (omega arith))
     where
-      keeps_35 : (seen : List Bool) (i : CpuidPageIndex) → Fresh seen i sizes → bit_at sizes i ≡ NoNumber → ⊥
+      keeps_35 : (seen : List Bool) (i : CpuidPageIndex) → Fresh seen i sizes → bit_at sizes i ≡ None → ⊥
       keeps_35 seen i f b =
           never_both
           (lowest_none (keeps c.edition m (kept sizes) sizes (entry i).registers) 0 128 (none_of_lem _ b) 35 (omega arith) (omega arith))
           (ap (λ (y : CpuidResult). same_from c.edition (with_row sizes y m) m) (masks sizes (xor_result (entry i).registers (one_bit 1 3)))
           ∙ invlpgb_flip avic c.edition m (entry i).registers e (fresh_row seen i sizes f))
         where
-          none_of_lem : (x : Failing) → bit_found x ≡ NoNumber → x ≡ none
+          none_of_lem : (x : Failing) → bit_found x ≡ None → x ≡ none
           none_of_lem (at n) g = cc
           none_of_lem none g = refl
 
       fresh : (seen : List Bool) (i : CpuidPageIndex) (place : ℕ) → Fresh seen i place → get_or seen sizes false ≡ false
-          → ((bit_at place i ≡ NoNumber) × (get_or (set seen place true) sizes false ≡ false)) ⊎ ⊥
+          → ((bit_at place i ≡ None) × (get_or (set seen place true) sizes false ≡ false)) ⊎ ⊥
       fresh seen i place f q = go (bit_at place i) refl (eqb sizes place) refl
         where
-          go : (b : Decisive) → bit_at place i ≡ b → (d : Bool) → eqb sizes place ≡ d
-              → ((bit_at place i ≡ NoNumber) × (get_or (set seen place true) sizes false ≡ false)) ⊎ ⊥
-          go (Number n) g d h =
+          go : (b : Option ℕ) → bit_at place i ≡ b → (d : Bool) → eqb sizes place ≡ d
+              → ((bit_at place i ≡ None) × (get_or (set seen place true) sizes false ≡ false)) ⊎ ⊥
+          go (Some n) g d h =
               let z = search_found c s bytes known lawful seen i f.searching f.on place f.small
               f.at f.new (kept place) (masks place) n g in
               let y : ◌≡◌ {A = ℕ} 0 1 = cc in absurd (omega arith)
-          go NoNumber g true h = let p : sizes ≡ place = eqb-true sizes place h in inr (keeps_35 seen i (rw p f) (rw p g))
-          go NoNumber g false h = inl (g, get_or-set_other seen place sizes true false (eqb-false sizes place h) ∙ q)
+          go None g true h = let p : sizes ≡ place = eqb-true sizes place h in inr (keeps_35 seen i (rw p f) (rw p g))
+          go None g false h = inl (g, get_or-set_other seen place sizes true false (eqb-false sizes place h) ∙ q)
 
   -- ---- without INVLPGB its own bit is the first that decides
 
@@ -210,7 +206,7 @@ module _ (c : Choices) (s : List ℕ) (bytes : (n : ℕ) → get_or s n 0 < 256)
   flipped_row j i = masked_at avic sizes (xor_result (entry i).registers (one_bit (j / 32) (j % 32)))
 
   -- bit 35 of the entry's 128, EBX bit 3
-  first_35 : required_verdict m ≡ Accepted → invlpgb m ≡ false → (seen : List Bool) (i : CpuidPageIndex) → Fresh seen i sizes → bit_at sizes i ≡ Number 35
+  first_35 : required_verdict m ≡ Ok tt → invlpgb m ≡ false → (seen : List Bool) (i : CpuidPageIndex) → Fresh seen i sizes → bit_at sizes i ≡ Some 35
   unfolding first_bit keeps with_row
   first_35 e g seen i f =
       ap bit_found (lowest_is (keeps c.edition m (kept sizes) sizes (entry i).registers) 0 128 35 (record {
@@ -230,17 +226,17 @@ module _ (c : Choices) (s : List ℕ) (bytes : (n : ℕ) → get_or s n 0 < 256)
       at_row j =
           ap (λ (y : CpuidResult). same_from c.edition (with_row sizes y m) m) (masks sizes (xor_result (entry i).registers (one_bit (j / 32) (j % 32))))
 
-  pub without_invlpgb : required_verdict m ≡ Accepted → invlpgb m ≡ false
-      → (p : ℕ) × (q : ℕ) × (stored_at (entry_at s p q) ≡ sizes) × (found ≡ Bit (flip p q 1 3))
+  pub without_invlpgb : required_verdict m ≡ Ok tt → invlpgb m ≡ false
+      → (p : ℕ) × (q : ℕ) × (stored_at (entry_at s p q) ≡ sizes) × (found ≡ Ok (flip p q 1 3))
   without_invlpgb e g =
       walk Found (λ seen. get_or seen sizes false ≡ false) (λ seen i w l q. absurd (never_both (all_seen seen i w l ∙ required_there e) q)) fresh
       (length (rest s (first_index s))) (replicate places false) (first_index s) (searching_first c s) (omega arith)
       (get_or-replicate places sizes false false (omega arith))
     where
       Found : Type 0
-      Found = (p : ℕ) × (q : ℕ) × (stored_at (entry_at s p q) ≡ sizes) × (found ≡ Bit (flip p q 1 3))
+      Found = (p : ℕ) × (q : ℕ) × (stored_at (entry_at s p q) ≡ sizes) × (found ≡ Ok (flip p q 1 3))
 
-      clear : invlpgb_verdict m ≡ Refused InvlpgbUnavailable
+      clear : invlpgb_verdict m ≡ Err InvlpgbUnavailable
       clear = unfold invlpgb_verdict in rw g
 
       decides : (seen : List Bool) (i : CpuidPageIndex) → Fresh seen i sizes → Found
@@ -253,10 +249,10 @@ module _ (c : Choices) (s : List ℕ) (bytes : (n : ℕ) → get_or s n 0 < 256)
       )
 
       fresh : (seen : List Bool) (i : CpuidPageIndex) (place : ℕ) → Fresh seen i place → get_or seen sizes false ≡ false
-          → ((bit_at place i ≡ NoNumber) × (get_or (set seen place true) sizes false ≡ false)) ⊎ Found
+          → ((bit_at place i ≡ None) × (get_or (set seen place true) sizes false ≡ false)) ⊎ Found
       fresh seen i place f q = go (eqb sizes place) refl
         where
-          go : (d : Bool) → eqb sizes place ≡ d → ((bit_at place i ≡ NoNumber) × (get_or (set seen place true) sizes false ≡ false)) ⊎ Found
+          go : (d : Bool) → eqb sizes place ≡ d → ((bit_at place i ≡ None) × (get_or (set seen place true) sizes false ≡ false)) ⊎ Found
           go true h = let p : sizes ≡ place = eqb-true sizes place h in inr (decides seen i (rw p f))
           go false h =
               let n : sizes ≢ place = eqb-false sizes place h in

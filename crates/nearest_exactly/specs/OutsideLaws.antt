@@ -1,12 +1,11 @@
 -- P13's law: flips outside the counted first entries, or outside the masks, change nothing.
-use Rattle.std.specs.Prelude.{◌≡◌, true, false, List, ◌∷◌, ◌++◌, ℕ, ◌<◌}
+use Rattle.std.specs.Prelude.{◌≡◌, true, false, List, ◌∷◌, ◌++◌, ℕ, ◌<◌, Ok}
 use Rattle.x86defs.specs.Functions.{cpuid_result}
 use Rattle.pages.specs.Layout.{Entry, entry_at}
 use Rattle.pages.specs.Entries.{entries}
 use Rattle.masking.specs.Masks.{apply_mask}
 use Rattle.masking.specs.Kept.{places, masks_at}
 use Rattle.table.specs.declared.Choices.{Choices}
-use Rattle.table.specs.declared.Verdict.TheVariants.{Accepted}
 use Rattle.table.specs.Edition.{known_edition}
 use Rattle.collect.specs.Collect.{stored_at, first_among}
 use Rattle.collect.specs.Lawful.{lawful_verdict}
@@ -21,7 +20,7 @@ use Rattle.nearest.specs.FlippedMaskLaws.{masked_out}
 pub record Among (c : Choices) (s : List ℕ) (p q r k : ℕ) : Type 0 where
   pub inside : Inside s p q r k
   pub known : known_edition c.edition ≡ true
-  pub lawful : lawful_verdict s ≡ Accepted
+  pub lawful : lawful_verdict s ≡ Ok tt
   pub before : List Entry
   pub after : List Entry
   pub order : entries s ≡ before ++ entry_at s p q ∷ after

@@ -19,7 +19,6 @@ use Rattle.finish.specs.Kinds.{register_kinds, kinds_at}
 use Rattle.finish.specs.Finish.{finished, settings, enabled_by, ymm_clears, edition1, version_ecx, features_ebx, features_ecx, features_edx, extended_version_ecx, extended_version_edx, address_sizes_ebx, unless_no_xss, avx512_features_ebx, avx512_features_ecx, avx512_features_edx, cet_ss, rd_pid, rdtscp, ibrs_and_stibp, btc_no, hypervisor_present}
 use Rattle.checks.specs.Checks.{required_verdict, invlpgb_verdict, components_of, components_verdict, area_verdict, topology_verdict, rows_verdict}
 use Rattle.table.specs.declared.Choices.{Choices}
-use Rattle.table.specs.declared.Verdict.{Verdict}
 use Rattle.table.specs.Edition.{known_edition, joined_from, bits_between}
 use Rattle.table.specs.Rows.{Rows}
 use Rattle.table.specs.Table.{count_rows}
@@ -30,6 +29,7 @@ use Rattle.collect.specs.FirstEntryOrigin.{stands_at}
 use Rattle.build.specs.Build.{edition_verdict, under_edition, verdict_of, origins_in, answer}
 use Rattle.collect.specs.Lawful.{length_verdict, counts_verdict, reserved_verdict, lawful_verdict}
 use Rattle.page_sets.specs.Pass.{on_page_in, on_pages_in, unclean_on_page, unclean_in, passed_lawful, placed_entry, placed_entries, first_placed, passed_entries, passed_rows, passed_verdict}
+use Rattle.table.specs.Verdict.{Verdict}
 
 -- what the examples choose: secure AVIC off, edition 1
 abbrev pub first_edition : Choices

@@ -1,21 +1,18 @@
 -- Page bytes read in one pass from front to back: what is lawful of them, and their masked first entries. What was read is dropped, where the
 -- definitions count each offset from the first byte, and an entry is placed_entries once, where they search the table of kept leaves for each place
 -- anew; PassLaws.antt shows that the two agree.
-use Rattle.std.specs.Prelude.{Bool, List, [], ◌∷◌, ◌++◌, ℕ, zero, suc, ◌*◌, eqb, ltb, leb, drop}
+use Rattle.std.specs.Prelude.{Bool, List, [], ◌∷◌, ◌++◌, ℕ, zero, suc, ◌*◌, eqb, ltb, leb, drop, Err, Ok, Result}
 use Rattle.bits.specs.Choice.{pick}
 use Rattle.bits.specs.Search.{every}
 use Rattle.x86defs.specs.declared.CpuidResult.{CpuidResult}
 use Rattle.x86defs.specs.Functions.{function, cpuid_result}
 use Rattle.pages.specs.Layout.{Entry, page_size, entry_size, entries_at, most_entries, word_at, pages_in}
 use Rattle.pages.specs.Entries.{counts}
-use Rattle.pages.specs.declared.reserved.Reserved.{Reserved}
-use Rattle.pages.specs.declared.reserved.Reserved.TheVariants.{Zero, Nonzero}
 use Rattle.pages.specs.Reserved.{reserved_at, eight_zeros}
 use Rattle.masking.specs.Kept.{places}
 use Rattle.table.specs.declared.Choices.{Choices}
 use Rattle.table.specs.declared.CpuidResults.{CpuidResults}
 use Rattle.table.specs.declared.Refusal.TheVariants.{PageCount}
-use Rattle.table.specs.declared.Verdict.{Verdict}
 use Rattle.table.specs.Refusal.{and_then}
 use Rattle.table.specs.Rows.{Row, Rows, row, vacant}
 use Rattle.table.specs.Table.{table_of}
@@ -25,6 +22,8 @@ use Rattle.finish.specs.Finish.{finished}
 use Rattle.collect.specs.FirstEntries.{place_of_entry, masked_at}
 use Rattle.build.specs.Build.{edition_verdict}
 use Rattle.collect.specs.Lawful.{length_verdict, clean_verdict}
+use Rattle.table.specs.Verdict.{Verdict}
+use Rattle.x86defs.specs.declared.CpuidFunction.{CpuidFunction}
 
 -- ---- entries: r is what is left of the bytes
 
@@ -51,13 +50,13 @@ on_pages_in p (suc n) r = on_page_in p 0 (word_at r 0) (drop entries_at r) ++ on
 -- ---- lawfulness
 
 -- the leaf of the first of n entries that are not clean, or what is found after them
-unfoldable pub unclean_on_page : Reserved → ℕ → List ℕ → Reserved
+unfoldable pub unclean_on_page : Result Unit CpuidFunction → ℕ → List ℕ → Result Unit CpuidFunction
 unclean_on_page after zero r = after
-unclean_on_page after (suc n) r = pick (eight_zeros r reserved_at) (unclean_on_page after n (drop entry_size r)) (Nonzero (function (word_at r 0)))
+unclean_on_page after (suc n) r = pick (eight_zeros r reserved_at) (unclean_on_page after n (drop entry_size r)) (Err (function (word_at r 0)))
 
 -- the same of n pages
-unfoldable pub unclean_in : ℕ → List ℕ → Reserved
-unclean_in zero r = Zero
+unfoldable pub unclean_in : ℕ → List ℕ → Result Unit CpuidFunction
+unclean_in zero r = Ok tt
 unclean_in (suc n) r = unclean_on_page (unclean_in n (drop page_size r)) (word_at r 0) (drop entries_at r)
 
 -- whether no count of n pages is above 64

@@ -1,5 +1,5 @@
 -- One pass over page bytes gives what the definitions give: the entries, the rows, and the verdict.
-use Rattle.std.specs.Prelude.{◌≡◌, Bool, true, false, ltb, get_or, drop}
+use Rattle.std.specs.Prelude.{◌≡◌, Bool, true, false, ltb, get_or, drop, Err, Ok, Result}
 use Rattle.std.proofs.Math.Path.{refl, ap, ap₂, fun_ext}
 use Rattle.std.proofs.Common.{sym, ◌∙◌, arith, get_or-drop, drop-drop, eqb-true}
 use mathlib.Core.List.{List, [], ◌∷◌, ◌++◌}
@@ -11,14 +11,10 @@ use Rattle.bits.specs.Search.{every}
 use Rattle.x86defs.specs.Functions.{function}
 use Rattle.pages.specs.Layout.{Entry, page_size, entry_size, entries_at, most_entries, word_at, pages_in, count_of, entry_start, entry_at, counts_fit}
 use Rattle.pages.specs.Entries.{on_page, on_pages, entries, counts, counted}
-use Rattle.pages.specs.declared.reserved.Reserved.{Reserved}
-use Rattle.pages.specs.declared.reserved.Reserved.TheVariants.{Nonzero}
 use Rattle.pages.specs.Reserved.{reserved_at, eight_zeros, first_nonzero, reserved_of}
 use Rattle.masking.specs.Kept.{places}
 use Rattle.table.specs.declared.Choices.{Choices}
 use Rattle.table.specs.declared.Refusal.TheVariants.{PageCount}
-use Rattle.table.specs.declared.Verdict.{Verdict}
-use Rattle.table.specs.declared.Verdict.TheVariants.{Accepted}
 use Rattle.table.specs.Refusal.{and_then}
 use Rattle.table.specs.Rows.{Row, Rows, row, vacant}
 use Rattle.checks.specs.Checks.{refuse_unless, rows_verdict}
@@ -27,6 +23,8 @@ use Rattle.finish.specs.RowsBuilt.{table_for}
 use Rattle.build.specs.Build.{edition_verdict, verdict_of, answer}
 use Rattle.collect.specs.Lawful.{length_verdict, counts_verdict, clean_verdict, reserved_verdict, lawful_verdict}
 use Rattle.page_sets.specs.Pass.{entry_in, on_page_in, on_pages_in, unclean_on_page, unclean_in, passed_lawful, placed_entry, placed_entries, first_placed, passed_entries, passed_rows, passed_verdict, passed_table}
+use Rattle.table.specs.Verdict.{Verdict}
+use Rattle.x86defs.specs.declared.CpuidFunction.{CpuidFunction}
 
 module _ (s : List ℕ) where
   -- ---- offsets
@@ -93,9 +91,9 @@ module _ (s : List ℕ) where
   unfolding first_nonzero on_page entry_at unclean_on_page
   unclean_on_page_lem p q zero es = refl
   unclean_on_page_lem p q (suc n) es =
-      ap₂ (λ (b : Bool) (o : ℕ). pick b (first_nonzero s (on_page s p (suc q) n ++ es)) (Nonzero (function o)))
+      ap₂ (λ (b : Bool) (o : ℕ). pick b (first_nonzero s (on_page s p (suc q) n ++ es)) (Err (function o)))
       (zeros_dropped (entry_start p q) reserved_at) (word_first (entry_start p q))
-      ∙ ap (λ (x : Reserved). pick (eight_zeros (drop (entry_start p q) s) reserved_at) x (Nonzero (function (word_at (drop (entry_start p q) s) 0))))
+      ∙ ap (λ (x : Result Unit CpuidFunction). pick (eight_zeros (drop (entry_start p q) s) reserved_at) x (Err (function (word_at (drop (entry_start p q) s) 0))))
       (unclean_on_page_lem p (suc q) n es ∙ ap (unclean_on_page (first_nonzero s es) n) (sym (next_entry p q)))
 
   unclean_in_lem : (p n : ℕ) → first_nonzero s (on_pages s p n) ≡ unclean_in n (drop (page_size * p) s)
@@ -104,13 +102,13 @@ module _ (s : List ℕ) where
   unclean_in_lem p (suc n) =
       unclean_on_page_lem p 0 (count_of s p) (on_pages s (suc p) n)
       ∙ ap₂ (unclean_on_page (first_nonzero s (on_pages s (suc p) n))) (word_first (page_size * p)) (sym (first_entry p))
-      ∙ ap (λ (x : Reserved). unclean_on_page x (word_at (drop (page_size * p) s) 0) (drop entries_at (drop (page_size * p) s)))
+      ∙ ap (λ (x : Result Unit CpuidFunction). unclean_on_page x (word_at (drop (page_size * p) s) 0) (drop entries_at (drop (page_size * p) s)))
       (unclean_in_lem (suc p) n ∙ ap (unclean_in n) (sym (next_page p)))
 
   pub lawful_passed : lawful_verdict s ≡ passed_lawful s
   unfolding lawful_verdict counts_verdict reserved_verdict counts_fit reserved_of entries passed_lawful
   lawful_passed =
-      ap₂ (λ (f : ℕ → ℕ) (x : Reserved). and_then (length_verdict s)
+      ap₂ (λ (f : ℕ → ℕ) (x : Result Unit CpuidFunction). and_then (length_verdict s)
       (and_then (refuse_unless (every (λ p. leb (f p) most_entries) (pages_in s)) PageCount) (clean_verdict x)))
       (fun_ext (λ p. word_first (page_size * p))) (unclean_in_lem 0 (pages_in s))
 
@@ -148,6 +146,6 @@ module _ (c : Choices) (s : List ℕ) where
       ap₂ (λ (v : Verdict) (m : Rows). and_then (edition_verdict c.edition) (and_then v (rows_verdict m)))
       (lawful_passed s) (rows_passed c.secure_avic s)
 
-  pub table_passed : (answer c s).verdict ≡ Accepted → (answer c s).table ≡ passed_table c s
+  pub table_passed : (answer c s).verdict ≡ Ok tt → (answer c s).table ≡ passed_table c s
   unfolding answer
   table_passed e = ap₂ (table_for c.edition) e (rows_passed c.secure_avic s)

@@ -1,11 +1,12 @@
--- Counts, page by page.
+-- Counts, page by page, and the registers of an entry.
 use Rattle.std.specs.Prelude.{◌≡◌, refl, Bool, true, false, List, ℕ, ◌+◌, ◌≤◌, ◌<◌, leb}
-use Rattle.std.proofs.Common.{add-one, le-leb, leb-true}
+use Rattle.std.proofs.Common.{add-one, arith, le-leb, leb-true}
 use Rattle.std.proofs.lemmas.Bool.{lt-leb}
 use Rattle.bits.specs.ChoiceLaws.{never_both, and_both}
 use Rattle.bits.specs.Search.{every}
 use Rattle.bits.specs.SearchLaws.{every_at}
-use Rattle.pages.specs.Layout.{most_entries, pages_in, count_of, counts_fit}
+use Rattle.x86defs.specs.Functions.{cpuid_result}
+use Rattle.pages.specs.Layout.{most_entries, word_at, registers_at, pages_in, count_of, counts_fit}
 
 -- whether the count of page p is lawful
 abbrev count_fits : List ℕ → ℕ → Bool
@@ -39,3 +40,13 @@ counts_fit_not s p l h = go (every (count_fits s) (pages_in s)) refl
     go : (b : Bool) → every (count_fits s) (pages_in s) ≡ b → b ≡ false
     go true e = absurd (never_both (every_at (count_fits s) (pages_in s) e p l) (lt-leb _ _ h))
     go false e = refl
+
+-- the registers of an entry that begins at offset o
+pub registers_of_entry : (s : List ℕ) (o : ℕ)
+    → registers_at s (o + 24) ≡ cpuid_result (word_at s (o + 24)) (word_at s (o + 28)) (word_at s (o + 32)) (word_at s (o + 36))
+unfolding registers_at
+registers_of_entry s o =
+    let ebx : o + 24 + 4 ≡ o + 28 = omega arith in
+    let ecx : o + 24 + 8 ≡ o + 32 = omega arith in
+    let edx : o + 24 + 12 ≡ o + 36 = omega arith in
+    rw (ebx, ecx, edx)

@@ -1,6 +1,6 @@
 -- A new reader gives every entry of the pages, each once and in order, and of each it says whether it counts; of clean pages each is clean.
 use Rattle.std.proofs.Math.Path.{◌≡◌, sym, ap}
-use Rattle.std.specs.Prelude.{refl, Bool, List, [], ◌∷◌, map, ℕ, zero, suc, ◌≤◌, ◌<◌, ltb, length}
+use Rattle.std.specs.Prelude.{refl, Bool, List, [], ◌∷◌, map, ℕ, zero, suc, ◌≤◌, ◌<◌, ltb, length, Err, Ok}
 use Rattle.std.proofs.Common.{◌∙◌, arith, ltb-true, ltb-false}
 use Rattle.std.proofs.Math.Bool.{true, false}
 use Rattle.bits.specs.Choice.{pick}
@@ -11,12 +11,10 @@ use Rattle.pages.specs.declared.CpuidPageIndex.{CpuidPageIndex}
 use Rattle.pages.specs.declared.ParsedCpuidEntry.{ParsedCpuidEntry}
 use Rattle.pages.specs.Layout.{Entry as PageEntry, pages_in, most_entries, entry_at}
 use Rattle.pages.specs.LayoutLaws.{counts_fit_at}
-use Rattle.pages.specs.Entries.{entries, counts, counted}
+use Rattle.pages.specs.Entries.{counts}
 use Rattle.pages.specs.Parsed.{parsed, counts_read}
-use Rattle.pages.specs.Walk.{incremented, rest, first_index}
-use Rattle.pages.specs.WalkLaws.{Valid, Turn, turn, first_valid, rest_first, rest_end}
-use Rattle.pages.specs.Reserved.{clean, all_clean}
-use Rattle.pages.specs.declared.reader.Read.TheVariants.{Entry, Unclean}
+use Rattle.pages.specs.Walk.{incremented, rest}
+use Rattle.pages.specs.WalkLaws.{Valid, Turn, turn, rest_end}
 use Rattle.pages.specs.Read.{Readable, entry_here, clean_here, read_at, given}
 
 -- where a reader may read, the entry stands on its page
@@ -25,30 +23,30 @@ readable_within {s} {i} r = let h = r.inside.page in (h, omega (arith, counts_fi
 
 -- by each answer of the code
 module _ (s : List ℕ) (i : CpuidPageIndex) where
-  pub clean_read : {e : ParsedCpuidEntry} → e ≡ parsed (entry_here s i) → clean_here s i ≡ true → Entry e ≡ read_at s i
+  pub clean_read : {e : ParsedCpuidEntry} → e ≡ parsed (entry_here s i) → clean_here s i ≡ true → Ok e ≡ read_at s i
   unfolding read_at
-  clean_read p c = ap (λ (x : ParsedCpuidEntry). Entry x) p ∙ sym (pick_true _ _ c)
+  clean_read p c = ap (λ (x : ParsedCpuidEntry). Ok x) p ∙ sym (pick_true _ _ c)
 
-  pub unclean_read : {e : ParsedCpuidEntry} → e ≡ parsed (entry_here s i) → clean_here s i ≡ false → Unclean e.leaf ≡ read_at s i
+  pub unclean_read : {e : ParsedCpuidEntry} → e ≡ parsed (entry_here s i) → clean_here s i ≡ false → Err e.leaf ≡ read_at s i
   unfolding read_at
-  unclean_read p c = ap (λ (x : ParsedCpuidEntry). Unclean x.leaf) p ∙ sym (pick_false _ _ c)
+  unclean_read p c = ap (λ (x : ParsedCpuidEntry). Err x.leaf) p ∙ sym (pick_false _ _ c)
 
 -- an entry that it gives is the one there, and its reserved bytes are zero; a leaf that it gives is that of the one there, where one of these bytes
 -- is not
 module _ (s : List ℕ) (i : CpuidPageIndex) where
-  pub read_entry : {e : ParsedCpuidEntry} → Entry e ≡ read_at s i → (e ≡ parsed (entry_here s i)) × (clean_here s i ≡ true)
+  pub read_entry : {e : ParsedCpuidEntry} → Ok e ≡ read_at s i → (e ≡ parsed (entry_here s i)) × (clean_here s i ≡ true)
   unfolding read_at
   read_entry {e} f = go (clean_here s i) f
     where
-      go : (b : Bool) → Entry e ≡ pick b (Entry (parsed (entry_here s i))) (Unclean (entry_here s i).leaf) → (e ≡ parsed (entry_here s i)) × (b ≡ true)
+      go : (b : Bool) → Ok e ≡ pick b (Ok (parsed (entry_here s i))) (Err (entry_here s i).leaf) → (e ≡ parsed (entry_here s i)) × (b ≡ true)
       go true g = (cc, refl)
       go false g = let z : ◌≡◌ {A = ℕ} 0 1 = cc in absurd (omega arith)
 
-  pub read_unclean : {l : CpuidFunction} → Unclean l ≡ read_at s i → (l ≡ (entry_here s i).leaf) × (clean_here s i ≡ false)
+  pub read_unclean : {l : CpuidFunction} → Err l ≡ read_at s i → (l ≡ (entry_here s i).leaf) × (clean_here s i ≡ false)
   unfolding read_at
   read_unclean {l} f = go (clean_here s i) f
     where
-      go : (b : Bool) → Unclean l ≡ pick b (Entry (parsed (entry_here s i))) (Unclean (entry_here s i).leaf) → (l ≡ (entry_here s i).leaf) × (b ≡ false)
+      go : (b : Bool) → Err l ≡ pick b (Ok (parsed (entry_here s i))) (Err (entry_here s i).leaf) → (l ≡ (entry_here s i).leaf) × (b ≡ false)
       go true g = let z : ◌≡◌ {A = ℕ} 0 1 = cc in absurd (omega arith)
       go false g = (cc, refl)
 

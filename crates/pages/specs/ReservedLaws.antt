@@ -1,5 +1,5 @@
 -- Clean pages by page and position, and that what `reserved_of` names is the first entry that is not clean.
-use Rattle.std.specs.Prelude.{◌≡◌, Bool, true, false, List, [], ◌∷◌, ◌++◌}
+use Rattle.std.specs.Prelude.{◌≡◌, Bool, true, false, List, [], ◌∷◌, ◌++◌, Err, Ok}
 use Rattle.std.proofs.Math.Path.{refl}
 use Rattle.std.proofs.Common.{ap, ◌∙◌, le_refl, eq-or-lt_of_le, arith}
 use Rattle.std.proofs.Math.Logic.{inl, inr}
@@ -7,13 +7,9 @@ use Prim.Native.Nat.{ℕ, zero, suc, ◌+◌, ◌≤◌, ◌<◌}
 use Rattle.bits.specs.Choice.{pick}
 use Rattle.bits.specs.ChoiceLaws.{never_both}
 use Rattle.bits.specs.Lists.{keep_if}
-use Rattle.bits.specs.Search.{Failing, lowest}
-use Rattle.bits.specs.Search.Failing.{at, none}
-use Rattle.bits.specs.SearchLaws.{every_at, every_fails, Lowest, lowest_at, lowest_none}
-use Rattle.x86defs.specs.declared.CpuidFunction.{CpuidFunction}
+use Rattle.bits.specs.SearchLaws.{every_at, every_fails, Lowest}
 use Rattle.pages.specs.Layout.{Entry, entry_at, pages_in, count_of}
 use Rattle.pages.specs.Entries.{on_page, on_pages, entries}
-use Rattle.pages.specs.declared.reserved.Reserved.TheVariants.{Zero, Nonzero}
 use Rattle.pages.specs.Reserved.{is_clean_at, clean, first_nonzero, reserved_of, page_clean, all_clean}
 
 -- ---- by page and position
@@ -54,7 +50,7 @@ module _ (s : List ℕ) where
   page_passed p q zero es f = refl
   page_passed p q (suc n) es f = rw (f q (le_refl q) (omega arith)) (page_passed p (suc q) n es (λ j l h. f j (omega arith) (omega arith)))
 
-  page_stops : (p q n j : ℕ) (es : List Entry) → Lowest (is_clean_at s p) q n j → first_nonzero s (on_page s p q n ++ es) ≡ Nonzero (entry_at s p j).leaf
+  page_stops : (p q n j : ℕ) (es : List Entry) → Lowest (is_clean_at s p) q n j → first_nonzero s (on_page s p q n ++ es) ≡ Err (entry_at s p j).leaf
   unfolding first_nonzero on_page entry_at
   page_stops p q zero j es l = absurd (omega arith)
   page_stops p q (suc n) j es l =
@@ -65,7 +61,7 @@ module _ (s : List ℕ) where
             (record { from = h; below = omega arith; fails = l.fails; before = λ i k u. l.before i (omega arith) u }))
       ]
 
-  pub pages_passed : (p n : ℕ) → ((i j : ℕ) → p ≤ i → i < p + n → j < count_of s i → is_clean_at s i j ≡ true) → first_nonzero s (on_pages s p n) ≡ Zero
+  pub pages_passed : (p n : ℕ) → ((i j : ℕ) → p ≤ i → i < p + n → j < count_of s i → is_clean_at s i j ≡ true) → first_nonzero s (on_pages s p n) ≡ Ok tt
   unfolding first_nonzero on_pages
   pages_passed p zero f = refl
   pages_passed p (suc n) f =
@@ -73,7 +69,7 @@ module _ (s : List ℕ) where
       ∙ pages_passed (suc p) n (λ i j l h. f i j (omega arith) (omega arith))
 
   pages_stop : (p n i j : ℕ) → p ≤ i → i < p + n → j < count_of s i → is_clean_at s i j ≡ false → CleanBefore s i j
-      → first_nonzero s (on_pages s p n) ≡ Nonzero (entry_at s i j).leaf
+      → first_nonzero s (on_pages s p n) ≡ Err (entry_at s i j).leaf
   unfolding on_pages
   pages_stop p zero i j l h k u b = absurd (omega arith)
   pages_stop p (suc n) i j l h k u b =
@@ -85,7 +81,7 @@ module _ (s : List ℕ) where
             ∙ pages_stop (suc p) n i j g (omega arith) k u b
       ]
 
-pub unclean_named : (s : List ℕ) (p q : ℕ) → FirstUnclean s p q → reserved_of s ≡ Nonzero (entry_at s p q).leaf
+pub unclean_named : (s : List ℕ) (p q : ℕ) → FirstUnclean s p q → reserved_of s ≡ Err (entry_at s p q).leaf
 unfolding reserved_of entries
 unclean_named s p q u = pages_stop s 0 (pages_in s) p q (omega arith) (omega (arith, u.page)) u.position u.unclean u.before
 
@@ -96,12 +92,12 @@ pub data Cleanness (s : List ℕ) : Type 0 where
 
 -- ---- the entries of clean pages
 
-pub kept_of_zero : (s : List ℕ) (es : List Entry) → first_nonzero s es ≡ Zero → keep_if (clean s) es ≡ es
+pub kept_of_zero : (s : List ℕ) (es : List Entry) → first_nonzero s es ≡ Ok tt → keep_if (clean s) es ≡ es
 unfolding first_nonzero keep_if
 kept_of_zero s [] e = refl
 kept_of_zero s (x ∷ es) e = go (kept_of_zero s es) (clean s x) e
   where
-    go : (first_nonzero s es ≡ Zero → keep_if (clean s) es ≡ es) → (b : Bool) → pick b (first_nonzero s es) (Nonzero x.leaf) ≡ Zero
+    go : (first_nonzero s es ≡ Ok tt → keep_if (clean s) es ≡ es) → (b : Bool) → pick b (first_nonzero s es) (Err x.leaf) ≡ Ok tt
         → pick b (x ∷ keep_if (clean s) es) (keep_if (clean s) es) ≡ x ∷ es
     go ih true f = ap (x ∷◌) (ih f)
     go ih false f = let z : ◌≡◌ {A = ℕ} 0 1 = cc in absurd (omega arith)

@@ -1,8 +1,10 @@
--- Eight zeros, byte by byte, as two words, and as one number.
+-- Eight zeros, byte by byte, as two words, and as the two joined by or.
 use Rattle.std.specs.Prelude.{◌≡◌, refl, Bool, true, false, List, ◌≢◌, ℕ, ◌+◌, ◌*◌, ◌<◌, get_or}
 use Rattle.std.proofs.Math.Path.{sym}
 use Rattle.std.proofs.Common.{ap, ◌∙◌, arith, lit<}
 use Rattle.std.proofs.Math.Dec.{eqb}
+use Rattle.std.specs.Int.Bits.{bit_or, or_zero_l}
+use Rattle.std.proofs.lemmas.Nat.{le_or_l, le_or_r}
 use borrow.Author.Tests.{eqb-true, eqb-false, eq-eqb, ne_eqb}
 use Rattle.bits.specs.ChoiceLaws.{never_both, and_both}
 use Rattle.bits.specs.SearchLaws.{every_at, every_fails}
@@ -65,13 +67,18 @@ module _ (s : List ℕ) (o : ℕ) where
         word_of_lem 4 ∙ omega (arith, b 4 (lit< tt), b 5 (lit< tt), b 6 (lit< tt), b 7 (lit< tt)),
       )
 
-  -- the two as one number
-  pub zeros_by_number : eqb (word_at s o + 4294967296 * word_at s (o + 4)) 0 ≡ eight_zeros s o
-  zeros_by_number = go (eight_zeros s o) refl
+  -- the two joined by or
+  pub zeros_by_or : eqb (bit_or (word_at s o) (word_at s (o + 4))) 0 ≡ eight_zeros s o
+  zeros_by_or = go (eight_zeros s o) refl
     where
-      number : ℕ
-      number = word_at s o + 4294967296 * word_at s (o + 4)
+      low : ℕ
+      low = word_at s o
 
-      go : (b : Bool) → eight_zeros s o ≡ b → eqb number 0 ≡ b
-      go true e = let (l, h) = words_of_zeros e in eq-eqb number 0 (omega arith)
-      go false e = ne_eqb number 0 (λ z. never_both (zeros_of_words (omega arith) (omega arith)) e)
+      high : ℕ
+      high = word_at s (o + 4)
+
+      go : (b : Bool) → eight_zeros s o ≡ b → eqb (bit_or low high) 0 ≡ b
+      go true e = let (l, h) = words_of_zeros e in eq-eqb (bit_or low high) 0 (ap (λ x. bit_or x high) l ∙ or_zero_l high ∙ h)
+      go false e =
+          ne_eqb (bit_or low high) 0
+          (λ z. never_both (zeros_of_words (omega (arith, le_or_l low high)) (omega (arith, le_or_r low high))) e)

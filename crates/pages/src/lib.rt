@@ -1,8 +1,8 @@
-// The CPUID pages of the SEV-SNP firmware: their counts, the entry at an index, and whether its reserved bytes are zero. `reader` reads the entries one
-// by one, as the source's reader does.
+// The CPUID pages of the SEV-SNP firmware: their counts, the entry at an index, and whether its reserved bytes are zero. `reader` reads the entries
+// one by one, as the source's reader does.
 #![tactic(auto)]
 
-ghost use Rattle.std.specs.Prelude.{◌≡◌, ◌+◌, ◌≤◌, ◌<◌, length, get_or};
+ghost use Rattle.std.specs.Prelude.{◌≡◌, ◌+◌, ◌≤◌, ◌<◌, length};
 ghost use Rattle.pages.specs.Layout.{word_at, registers_at, pages_in, count_of, bad_length, counts_fit, entry_at, most_entries};
 ghost use Rattle.pages.specs.Parsed.{parsed};
 
@@ -40,10 +40,7 @@ pub fn word_at(pages: &[u8], o: usize) -> u32
     requires { o + 4 ≤ length pages.now }
     ensures { result ≡ word_at pages.now o }
 {
-    byte(pages, o)
-        + 256 * byte(pages, o + 1)
-        + 65536 * byte(pages, o + 2)
-        + 16777216 * byte(pages, o + 3)
+    u32::from_le_bytes([pages[o], pages[o + 1], pages[o + 2], pages[o + 3]])
 }
 
 // The four registers at `o`: EAX, EBX, ECX, EDX.
@@ -78,10 +75,7 @@ pub fn count_of(pages: &[u8], p: usize) -> u32
 pub fn bad_length(pages: &[u8]) -> bool
     ensures { result ≡ bad_length pages.now }
 {
-    if pages.len() == 0 {
-        return true;
-    }
-    pages.len() % PAGE_SIZE != 0
+    pages.is_empty() || pages.len() % PAGE_SIZE != 0
 }
 
 // Whether no count is above 64; where one is, that is refusal 2. Bytes after the last whole page are not read.
@@ -107,19 +101,6 @@ pub fn entry_at(pages: &[u8], index: CpuidPageIndex) -> ParsedCpuidEntry
         page: index.page_index,
         leaf: CpuidFunction(word_at(pages, o)),
         subleaf: word_at(pages, o + 4),
-        result: CpuidResult {
-            eax: word_at(pages, o + 24),
-            ebx: word_at(pages, o + 28),
-            ecx: word_at(pages, o + 32),
-            edx: word_at(pages, o + 36),
-        },
+        result: registers_at(pages, o + 24),
     }
-}
-
-// The byte at `i`.
-fn byte(s: &[u8], i: usize) -> u32
-    requires { i < length s.now }
-    ensures { (result ≡ get_or s.now i 0) × (result < 256) }
-{
-    s[i] as u32
 }

@@ -16,13 +16,6 @@ pub struct SnpCpuidIterator<'a> {
     pub index: CpuidPageIndex,
 }
 
-// What the reader gives where it stands: an entry whose reserved bytes are zero, or the leaf of an entry where one of these bytes is not zero.
-#[derive(Clone, Copy)]
-pub enum Read {
-    Entry(ParsedCpuidEntry),
-    Unclean(CpuidFunction),
-}
-
 // A reader at the first entry of the pages.
 pub fn new<'a>(cpuid_pages: &'a [u8]) -> SnpCpuidIterator<'a>
     ensures { (result.cpuid_pages ≡ cpuid_pages.entry) × (result.index ≡ first_index cpuid_pages.now) }
@@ -50,16 +43,16 @@ pub fn start(pages: &[u8]) -> CpuidPageIndex
 }
 
 // The entry at an index, with the promise that its reserved bytes are zero; or its leaf, where one of them is not.
-pub fn take(pages: &[u8], index: CpuidPageIndex) -> Read
+pub fn take(pages: &[u8], index: CpuidPageIndex) -> Result<ParsedCpuidEntry, CpuidFunction>
     requires { Readable pages.now index }
     ensures { result ≡ read_at pages.now index }
 {
     let entry = crate::entry_at(pages, index);
     if crate::reserved::clean_at(pages, index) {
-        return Read::Entry(entry);
+        return Ok(entry);
     }
     let leaf = entry.leaf;
-    Read::Unclean(leaf)
+    Err(leaf)
 }
 
 // Where a reader that stands at `index`, on a page with this count, stands next: its index is lent to `increment`. A caller reads the count once for

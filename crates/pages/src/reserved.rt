@@ -4,16 +4,8 @@ ghost use Rattle.pages.specs.Layout.{pages_in, most_entries};
 ghost use Rattle.pages.specs.Reserved.{eight_zeros, is_clean_at};
 
 use crate::{CpuidPageIndex, ENTRIES_AT, ENTRY_SIZE, PAGE_SIZE, word_at};
-use x86defs::CpuidFunction;
 
 const RESERVED: usize = 40;
-
-// All reserved bytes are zero, or the leaf of the first entry with a nonzero one.
-#[derive(Clone, Copy)]
-pub enum Reserved {
-    Zero,
-    Nonzero(CpuidFunction),
-}
 
 // Whether the reserved bytes of the entry at an index are zero.
 pub fn clean_at(pages: &[u8], index: CpuidPageIndex) -> bool
@@ -29,5 +21,5 @@ fn eight_zeros(pages: &[u8], o: usize) -> bool
     requires { o + 8 ≤ length pages.now }
     ensures { result ≡ eight_zeros pages.now o }
 {
-    word_at(pages, o) as u64 + 4294967296 * word_at(pages, o + 4) as u64 == 0
+    (word_at(pages, o) | word_at(pages, o + 4)) == 0
 }

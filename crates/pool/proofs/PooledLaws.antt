@@ -1,5 +1,5 @@
 -- The answer to a pool, one case for each return of the function.
-use Rattle.std.specs.Prelude.{◌≡◌, Bool, true, false, ◌&&◌, List, ℕ, zero, suc, ◌-◌, ◌^◌, ◌≤◌, ◌<◌, get_or}
+use Rattle.std.specs.Prelude.{◌≡◌, Bool, true, false, ◌&&◌, List, ℕ, zero, suc, ◌-◌, ◌^◌, ◌≤◌, ◌<◌, get_or, Err, Ok}
 use Rattle.std.proofs.Math.Path.{refl, sym, ap, ap₂}
 use Rattle.std.proofs.Common.{◌∙◌, subst, lit<}
 use native.Mathlib.Omega.{arith}
@@ -8,31 +8,23 @@ use Rattle.bits.specs.Choice.{pick}
 use Rattle.bits.specs.ChoiceLaws.{never_both}
 use Rattle.bits.specs.Search.{Failing, every, lowest}
 use Rattle.bits.specs.Search.Failing.{at, none}
-use Rattle.bits.specs.SearchLaws.{Lowest, lowest_none, lowest_all, lowest_at, lowest_stops}
-use Rattle.bits.specs.Bits.{Within, mask_of}
-use Rattle.bits.specs.BitsLaws.{within_trans, within_of_and, within_zero, and_within_right}
+use Rattle.bits.specs.SearchLaws.{lowest_none, lowest_all, lowest_at, lowest_stops}
 use Rattle.bits.specs.ListsLaws.{get_d_tabulate}
-use Rattle.masking.specs.Masks.{extended_state0, extended_state1}
-use Rattle.masking.specs.Kept.{places, kept_leaves, slot}
-use Rattle.masking.specs.Place
+use Rattle.masking.specs.Kept.{places}
 use Rattle.table.specs.declared.Choices.{Choices}
 use Rattle.table.specs.declared.CpuidResults.{CpuidResults}
 use Rattle.table.specs.declared.Refusal.{Refusal}
 use Rattle.table.specs.declared.Refusal.TheVariants.{PoolSets, PoolDiffers}
-use Rattle.table.specs.declared.Verdict.{Verdict}
-use Rattle.table.specs.declared.Verdict.TheVariants.{Accepted, Refused}
 use Rattle.table.specs.Refusal.{and_then}
 use Rattle.table.specs.Rows.{Rows}
 use Rattle.table.specs.Table.{table_of, empty_table}
 use Rattle.memory.specs.Memory.{is_there, rows_in}
 use Rattle.memory.specs.Held.{flag_at}
-use Rattle.checks.specs.ExtendedState.{xss, combined_mask}
+use Rattle.checks.specs.ExtendedState.{combined_mask}
 use Rattle.checks.specs.Checks.{rows_verdict}
 use Rattle.checks.specs.ChecksLaws.{then_left, then_right, demanded}
 use Rattle.finish.specs.Finish.{finished}
-use Rattle.finish.specs.MeetLaws.{MaskedState}
 use Rattle.memory.specs.Origin.{finished_origins}
-use Rattle.collect.specs.FirstEntries.{rows_of}
 use Rattle.collect.specs.FirstEntryOrigin.{found_origins}
 use Rattle.finish.specs.declared.RowsBuilt.{RowsBuilt}
 use Rattle.finish.specs.RowsBuilt.{table_for, built_from}
@@ -40,7 +32,6 @@ use Rattle.build.specs.Build.{edition_verdict, verdict_of, origins_in, answer}
 use Rattle.collect.specs.Lawful.{lawful_verdict}
 use Rattle.build.specs.BuildLaws.{no_origins_lem, located_origins}
 use Rattle.rows.specs.Finished.{Answered, Tried}
-use Rattle.counts.specs.Mask.{register_within, xfem_within, xss_within}
 use Rattle.register_masks.specs.Join.{pool}
 use Rattle.register_masks.specs.Alike.{all_have, alike_to, all_alike}
 use Rattle.register_masks.specs.PoolLaws.{Servers}
@@ -57,6 +48,7 @@ use Rattle.pool.specs.Pool.{alike_verdict, pool_verdict, server_for, server_name
 use Rattle.pool.specs.PoolIn.{PoolIn, pool_in}
 use Rattle.pool.specs.JoinedRows.{joined_rows}
 use Rattle.pool.specs.PooledLaws.{is_accepted_lem, masked_state}
+use Rattle.table.specs.Verdict.{Verdict}
 
 -- the same test at every place
 every_same : (p q : ℕ → Bool) (n : ℕ) → ((i : ℕ) → i < n → p i ≡ q i) → every p n ≡ every q n
@@ -74,23 +66,23 @@ module _ (c : Choices) (pages lengths : List ℕ) where
   test k = is_accepted (server_verdict c pages lengths k)
 
   -- none is refused
-  pub none_refused : servers_verdict c pages lengths ≡ Accepted → first_refused c pages lengths ≡ none
+  pub none_refused : servers_verdict c pages lengths ≡ Ok tt → first_refused c pages lengths ≡ none
   unfolding servers_verdict first_refused
   none_refused e = go (first_refused c pages lengths) refl e
     where
-      go : (x : Failing) → first_refused c pages lengths ≡ x → refused_by x (server_verdict c pages lengths) ≡ Accepted → first_refused c pages lengths ≡ none
+      go : (x : Failing) → first_refused c pages lengths ≡ x → refused_by x (server_verdict c pages lengths) ≡ Ok tt → first_refused c pages lengths ≡ none
       go (at k) p q = absurd (never_both (ap is_accepted q) (lowest_at test 0 (length lengths) k p).fails)
       go none p q = p
 
-  pub each_accepted : servers_verdict c pages lengths ≡ Accepted → (k : ℕ) → k < length lengths → server_verdict c pages lengths k ≡ Accepted
+  pub each_accepted : servers_verdict c pages lengths ≡ Ok tt → (k : ℕ) → k < length lengths → server_verdict c pages lengths k ≡ Ok tt
   unfolding first_refused
   each_accepted e k l = is_accepted_lem _ (lowest_none test 0 (length lengths) (none_refused e) k (omega arith) (omega arith))
 
-  pub server_accepted : (k : ℕ) → server_verdict c pages lengths k ≡ Accepted → rows_verdict (f k) ≡ Accepted
+  pub server_accepted : (k : ℕ) → server_verdict c pages lengths k ≡ Ok tt → rows_verdict (f k) ≡ Ok tt
   unfolding answer verdict_of
   server_accepted k e = then_right (lawful_verdict (set_at pages lengths k)) _ (then_right (edition_verdict c.edition) _ e)
 
-  pub servers_of : ((k : ℕ) → k ≤ n → server_verdict c pages lengths k ≡ Accepted) → Servers f n
+  pub servers_of : ((k : ℕ) → k ≤ n → server_verdict c pages lengths k ≡ Ok tt) → Servers f n
   servers_of h = record {
     accepted = λ k l. server_accepted k (h k l);
     masked = λ k l. masked_state c.secure_avic (set_at pages lengths k);
@@ -108,7 +100,7 @@ module _ (c : Choices) (pages lengths : List ℕ) where
   pooled_with_lem {v} {k} e p = rw (e, p)
 
   -- where the sets are lawful and no server is refused, 19 decides
-  pub pooled_alike : lawful_sets pages lengths ≡ true → ((k : ℕ) → k < length lengths → server_verdict c pages lengths k ≡ Accepted)
+  pub pooled_alike : lawful_sets pages lengths ≡ true → ((k : ℕ) → k < length lengths → server_verdict c pages lengths k ≡ Ok tt)
       → pooled c pages lengths ≡ pooled_by (alike_verdict c pages lengths) 0 (table_for c.edition (alike_verdict c pages lengths) (pool_rows c pages lengths))
   unfolding first_refused pool_verdict sets_verdict servers_verdict server_named
   pooled_alike lawful each =
@@ -118,26 +110,26 @@ module _ (c : Choices) (pages lengths : List ℕ) where
       pooled_with_lem v s
 
   -- an accepted pool passes every check
-  pub passes_sets : pool_verdict c pages lengths ≡ Accepted → lawful_sets pages lengths ≡ true
+  pub passes_sets : pool_verdict c pages lengths ≡ Ok tt → lawful_sets pages lengths ≡ true
   unfolding pool_verdict sets_verdict
   passes_sets e = demanded (lawful_sets pages lengths) PoolSets (then_left (sets_verdict pages lengths) _ e)
 
-  pub passes_servers : pool_verdict c pages lengths ≡ Accepted → servers_verdict c pages lengths ≡ Accepted
+  pub passes_servers : pool_verdict c pages lengths ≡ Ok tt → servers_verdict c pages lengths ≡ Ok tt
   unfolding pool_verdict
   passes_servers e = then_left (servers_verdict c pages lengths) _ (then_right (sets_verdict pages lengths) _ e)
 
-  pub passes_alike : pool_verdict c pages lengths ≡ Accepted → all_alike c.edition f n ≡ true
+  pub passes_alike : pool_verdict c pages lengths ≡ Ok tt → all_alike c.edition f n ≡ true
   unfolding pool_verdict alike_verdict
   passes_alike e =
       demanded (all_alike c.edition f n) PoolDiffers
       (then_right (servers_verdict c pages lengths) _ (then_right (sets_verdict pages lengths) _ e))
 
   -- a refusal, case by case
-  refused_with : {r : Refusal} {k : ℕ} → pool_verdict c pages lengths ≡ Refused r → server_named c pages lengths ≡ k
+  refused_with : {r : Refusal} {k : ℕ} → pool_verdict c pages lengths ≡ Err r → server_named c pages lengths ≡ k
       → refused_pool r k ≡ pooled c pages lengths
   refused_with {r} {k} e p =
-      ap (λ (o : List ℕ). record { verdict = Refused r; server = k; table = empty_table; origins = o }) (no_origins_lem (set_at pages lengths 0))
-      ∙ sym (pooled_with_lem {v = Refused r} e p)
+      ap (λ (o : List ℕ). record { verdict = Err r; server = k; table = empty_table; origins = o }) (no_origins_lem (set_at pages lengths 0))
+      ∙ sym (pooled_with_lem {v = Err r} e p)
 
   pub pooled_sets : lawful_sets pages lengths ≡ false → refused_pool PoolSets 0 ≡ pooled c pages lengths
   pooled_sets e = refused_with (unfold pool_verdict sets_verdict in rw e) (unfold server_named sets_verdict in rw e)
@@ -152,7 +144,7 @@ module _ (c : Choices) (pages lengths : List ℕ) where
     unfolding pool_verdict sets_verdict
     server_with e = rw (lawful, e)
 
-    pub pooled_first : {r : Refusal} → server_verdict c pages lengths 0 ≡ Refused r → refused_pool r 0 ≡ pooled c pages lengths
+    pub pooled_first : {r : Refusal} → server_verdict c pages lengths 0 ≡ Err r → refused_pool r 0 ≡ pooled c pages lengths
     unfolding servers_verdict first_refused
     pooled_first e =
         let whole : length lengths ≡ length lengths - 0 = omega arith in
@@ -164,15 +156,15 @@ module _ (c : Choices) (pages lengths : List ℕ) where
       joined_verdict : servers_verdict c pages lengths ≡ q.verdict
       joined_verdict = sym (ap (λ (x : Joined). x.verdict) j.answer)
 
-      pub pooled_server : {r : Refusal} → q.verdict ≡ Refused r → refused_pool r q.server ≡ pooled c pages lengths
+      pub pooled_server : {r : Refusal} → q.verdict ≡ Err r → refused_pool r q.server ≡ pooled c pages lengths
       pooled_server e =
           refused_with (server_with (joined_verdict ∙ e))
           (named (first_refused c pages lengths) refl ∙ sym (ap (λ (x : Joined). x.server) j.answer))
 
       -- all are accepted: o are the first server's origins, and v, w₁ and o₁ what finishing leaves
-      module _ (passed : q.verdict ≡ Accepted) {o : List ℕ} (stands : o ≡ found_origins (set_at pages lengths 0)) {v : Verdict} {w₁ o₁ : List ℕ}
+      module _ (passed : q.verdict ≡ Ok tt) {o : List ℕ} (stands : o ≡ found_origins (set_at pages lengths 0)) {v : Verdict} {w₁ o₁ : List ℕ}
           (b : Tried (built_from c.edition (rows_in w o)) w o v w₁ o₁) where
-        all_accepted : servers_verdict c pages lengths ≡ Accepted
+        all_accepted : servers_verdict c pages lengths ≡ Ok tt
         all_accepted = joined_verdict ∙ passed
 
         all_joined : first_refused c pages lengths ≡ none
@@ -189,13 +181,13 @@ module _ (c : Choices) (pages lengths : List ℕ) where
         abbrev table : CpuidResults
         table = table_of (finished c.edition (pool f n)) (combined_mask (pool f n))
 
-        built : built_from c.edition (rows_in w o) ≡ record { verdict = Accepted; table = table }
+        built : built_from c.edition (rows_in w o) ≡ record { verdict = (Ok tt); table = table }
         unfolding built_from
         built =
             ap (built_from c.edition) rows
             ∙ ap (λ (x : Verdict). record { verdict = x; table = table_for c.edition x (pool f n) }) (pool_accepted f n servers)
 
-        answered : Answered (record { verdict = Accepted; table = table }) o v w₁ o₁
+        answered : Answered (record { verdict = (Ok tt); table = table }) o v w₁ o₁
         answered =
             subst (λ (x : RowsBuilt). Answered x o v w₁ o₁) built (b.accepted (b.verdict ∙ ap (λ (x : RowsBuilt). x.verdict) built))
 
@@ -218,9 +210,9 @@ module _ (c : Choices) (pages lengths : List ℕ) where
         alike_found = every_same _ _ places (λ i l. ap₂ (λ (a b : Bool). pick a b true) (asked_all i l) (alike_at i l))
 
         module _ {a : Bool} (found : a ≡ alike_where o₁ q.alike) where
-          alike_verdict_lem : {b : Bool} → a ≡ b → pool_verdict c pages lengths ≡ pick b Accepted (Refused PoolDiffers)
+          alike_verdict_lem : {b : Bool} → a ≡ b → pool_verdict c pages lengths ≡ pick b (Ok tt) (Err PoolDiffers)
           unfolding alike_verdict
-          alike_verdict_lem h = server_with all_accepted ∙ ap (λ (x : Bool). pick x Accepted (Refused PoolDiffers)) (sym alike_found ∙ sym found ∙ h)
+          alike_verdict_lem h = server_with all_accepted ∙ ap (λ (x : Bool). pick x (Ok tt) (Err PoolDiffers)) (sym alike_found ∙ sym found ∙ h)
 
           none_named : server_named c pages lengths ≡ 0
           none_named = named none all_joined
@@ -230,7 +222,7 @@ module _ (c : Choices) (pages lengths : List ℕ) where
 
           pub pooled_accepted : a ≡ true → PoolIn (pooled c pages lengths) (record { verdict = v; server = 0 }) w₁ o₁
           pooled_accepted h =
-              pool_in {p = pooled_by Accepted 0 table} (sym (pooled_with_lem (alike_verdict_lem h) none_named))
+              pool_in {p = pooled_by (Ok tt) 0 table} (sym (pooled_with_lem (alike_verdict_lem h) none_named))
               (record {
                 verdict = answered.verdict;
                 server = refl;
@@ -245,7 +237,7 @@ unfolding pooled server_named sets_verdict first_refused
 server_below c pages lengths = go (lawful_sets pages lengths) refl (first_refused c pages lengths) refl
   where
     go : (b : Bool) → lawful_sets pages lengths ≡ b → (x : Failing) → first_refused c pages lengths ≡ x
-        → server_for (pick b Accepted (Refused PoolSets)) (number_of x) < 2 ^ 32
+        → server_for (pick b (Ok tt) (Err PoolSets)) (number_of x) < 2 ^ 32
     go false e x p = lit< tt
     go true e none p = lit< tt
     go true e (at k) p =

@@ -1,9 +1,8 @@
 -- Where sets stand: each of lawful ones lies in the slice, and the part that the code cuts out of it is the server's set.
-use Rattle.std.specs.Prelude.{◌≡◌, refl, Bool, true, false, ◌&&◌, List, ℕ, zero, suc, ◌+◌, ◌-◌, ◌≤◌, ◌<◌, eqb, leb, length, get_or, take, drop}
-use Rattle.std.proofs.Common.{sym, ap, ◌∙◌, inl, inr, le_trans, le_of_eq, eq-or-lt_of_le, add-one, arith}
+use Rattle.std.specs.Prelude.{◌≡◌, refl, Bool, true, false, List, ℕ, ◌+◌, ◌-◌, ◌≤◌, ◌<◌, eqb, leb, length, get_or, take, drop}
+use Rattle.std.proofs.Common.{sym, ap, ◌∙◌, arith}
 use borrow.Author.Tests.{leb-true, eqb-true, eqb-false, eq-eqb, ne_eqb, le-leb, lt-leb}
 use Rattle.bits.specs.ChoiceLaws.{and_left, and_right}
-use Rattle.bits.specs.Lists.{sum_to}
 use Rattle.pool.specs.Sets.{set_start, set_at, most_sets, lawful_sets}
 use Rattle.pool.specs.SetsLaws.{set_of, start_first, start_next, start_up}
 

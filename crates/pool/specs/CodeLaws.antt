@@ -1,12 +1,12 @@
 -- The code of the join: its loops go place by place.
-use Rattle.std.specs.Prelude.{◌≡◌, Bool, ◌&&◌, List, ℕ, ◌+◌, ◌*◌, ◌≤◌, ◌<◌, length, get_or, set}
+use Rattle.std.specs.Prelude.{◌≡◌, ◌↔◌, Bool, ◌&&◌, List, ℕ, ◌+◌, ◌*◌, ◌≤◌, ◌<◌, length, get_or, set}
 use Rattle.std.proofs.Math.Path.{refl, sym}
-use Rattle.std.proofs.Common.{ap, ap₂, ◌∙◌, le_refl, add-one, arith}
+use Rattle.std.proofs.Common.{ap, ap₂, ◌∙◌, le_refl, arith}
 use Rattle.std.proofs.Math.Bool.{true, false}
 use Rattle.bits.specs.Choice.{pick}
-use Rattle.bits.specs.ChoiceLaws.{and_both, never_both}
+use Rattle.bits.specs.ChoiceLaws.{never_both}
 use Rattle.bits.specs.Search.{every}
-use Rattle.bits.specs.SearchLaws.{every_at}
+use Rattle.bits.specs.SearchLaws.{every_at, every_fails}
 use Rattle.bits.specs.ListsLaws.{length_tabulate, get_d_tabulate}
 use Rattle.bits.specs.InPlace.{UpTo, up_to_next, up_to_end}
 use Rattle.x86defs.specs.declared.CpuidResult.{CpuidResult}
@@ -60,29 +60,17 @@ module _ (w u : List ℕ) (alike : List Bool) where
     flags = up_to_end n h d.flags;
   }
 
--- ---- whether every place that has a row is alike, in the terms of a loop that counts up and stops at the first that is not
+-- ---- whether every place that has a row is alike, from what the code says where it asks place by place
 
 module _ (o : List ℕ) (alike : List Bool) where
   abbrev test : ℕ → Bool
   test i = pick (is_there (get_or o i 0)) (get_or alike i false) true
 
-  abbrev pub AlikeBelow : ℕ → Type 0
-  AlikeBelow i = every test i ≡ true
-
-  pub where_starts : AlikeBelow 0
-  where_starts = refl
-
-  pub where_next : (i : ℕ) → AlikeBelow i → test i ≡ true → AlikeBelow (i + 1)
-  where_next i e f = rw (add-one, every) (and_both f e)
-
-  pub where_stops : (i : ℕ) → i < places → test i ≡ false → false ≡ alike_where o alike
+  pub where_every : {r : Bool} → ((r ≡ true) ↔ ((i : ℕ) → i < places → test i ≡ true)) → r ≡ alike_where o alike
   unfolding alike_where
-  where_stops i l e = go (every test places) refl
+  where_every {r} h = go (every test places) r refl refl
     where
-      go : (b : Bool) → every test places ≡ b → false ≡ every test places
-      go true f = absurd (never_both (every_at test places f i l) e)
-      go false f = sym f
-
-  pub where_ends : (i : ℕ) → i ≡ places → AlikeBelow i → true ≡ alike_where o alike
-  unfolding alike_where
-  where_ends i e f = sym (ap (every test) (sym e) ∙ f)
+      go : (b q : Bool) → every test places ≡ b → r ≡ q → r ≡ every test places
+      go true q e f = h.1 (every_at test places e) ∙ sym e
+      go false true e f = let x = every_fails test places e in absurd (never_both (h.0 f x.0 x.1) x.2)
+      go false false e f = f ∙ sym e

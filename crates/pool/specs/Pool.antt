@@ -1,14 +1,12 @@
 -- Document 02, P12: "takes the servers' page sets .. under one edition and one secure-AVIC choice, joins the feature registers of their first
 -- entries by and, keeps all else from the first, origins included, and builds a table"; "18 .. first; then any server's own refusal in server
 -- order; then 19".
-use Rattle.std.specs.Prelude.{List, ℕ, replicate}
+use Rattle.std.specs.Prelude.{List, ℕ, replicate, Err, Ok}
 use Rattle.masking.specs.Kept.{places}
 use Rattle.table.specs.declared.Choices.{Choices}
 use Rattle.table.specs.declared.CpuidResults.{CpuidResults}
 use Rattle.table.specs.declared.Refusal.{Refusal}
 use Rattle.table.specs.declared.Refusal.TheVariants.{PoolDiffers}
-use Rattle.table.specs.declared.Verdict.{Verdict}
-use Rattle.table.specs.declared.Verdict.TheVariants.{Accepted, Refused}
 use Rattle.table.specs.Refusal.{and_then}
 use Rattle.table.specs.Table.{empty_table}
 use Rattle.checks.specs.Checks.{refuse_unless}
@@ -18,6 +16,7 @@ use Rattle.register_masks.specs.Alike.{all_alike}
 use Rattle.pool.specs.Sets.{set_at, last_of, sets_verdict}
 use Rattle.pool.specs.Servers.{server_rows, first_refused, servers_verdict, number_of, pool_rows}
 use Rattle.pool.specs.declared.Pooled.{Pooled}
+use Rattle.table.specs.Verdict.{Verdict}
 
 -- 19
 unfoldable pub alike_verdict : Choices → List ℕ → List ℕ → Verdict
@@ -28,8 +27,8 @@ pool_verdict c pages lengths = and_then (sets_verdict pages lengths) (and_then (
 
 -- the server whose own refusal it is; else 0
 abbrev pub server_for : Verdict → ℕ → ℕ
-server_for Accepted k = k
-server_for (Refused r) k = 0
+server_for (Ok _) k = k
+server_for (Err r) k = 0
 
 unfoldable pub server_named : Choices → List ℕ → List ℕ → ℕ
 server_named c pages lengths = server_for (sets_verdict pages lengths) (number_of (first_refused c pages lengths))
@@ -49,4 +48,4 @@ pooled c pages lengths = record {
 
 -- a refused pool has no rows, and so no origins
 abbrev pub refused_pool : Refusal → ℕ → Pooled
-refused_pool r k = record { verdict = Refused r; server = k; table = empty_table; origins = replicate places 0 }
+refused_pool r k = record { verdict = Err r; server = k; table = empty_table; origins = replicate places 0 }

@@ -1,8 +1,7 @@
 -- The answer to a pool in lent memory.
-use Rattle.std.specs.Prelude.{◌≡◌, refl, List, [], ℕ, replicate}
+use Rattle.std.specs.Prelude.{◌≡◌, refl, List, [], ℕ, replicate, Err}
 use Rattle.std.proofs.Common.{subst}
 use Rattle.table.specs.declared.Refusal.{Refusal}
-use Rattle.table.specs.declared.Verdict.TheVariants.{Refused}
 use Rattle.table.specs.Table.{row_in}
 use Rattle.memory.specs.Memory.{layout}
 use Rattle.memory.specs.Held.{held_in}
@@ -25,7 +24,7 @@ pool_in {p} {q} {v} {w} {o} e d = subst (λ (x : Pooled). PoolIn x v w o) e d
 
 -- a refusal, and cleared memory
 pub refused_in : (r : Refusal) (k : ℕ) {w o : List ℕ} → w ≡ replicate 352 0 → o ≡ replicate 88 0
-    → PoolIn (refused_pool r k) (record { verdict = Refused r; server = k }) w o
+    → PoolIn (refused_pool r k) (record { verdict = Err r; server = k }) w o
 refused_in r k e f = record {
   verdict = refl;
   server = refl;

@@ -1,17 +1,16 @@
 -- Document 02, P12: "then any server's own refusal in server order". Each server by itself, all of them joined, and what the code's loop over them
 -- gives.
-use Rattle.std.specs.Prelude.{◌≡◌, Bool, true, false, List, ℕ, ◌-◌, length}
+use Rattle.std.specs.Prelude.{◌≡◌, Bool, true, false, List, ℕ, ◌-◌, length, Err, Ok}
 use Rattle.bits.specs.Search.{Failing, lowest}
 use Rattle.bits.specs.Search.Failing.{at, none}
 use Rattle.table.specs.declared.Choices.{Choices}
-use Rattle.table.specs.declared.Verdict.{Verdict}
-use Rattle.table.specs.declared.Verdict.TheVariants.{Accepted, Refused}
 use Rattle.table.specs.Rows.{Rows}
 use Rattle.build.specs.Build.{rows_for, answer}
 use Rattle.register_masks.specs.Join.{pool}
 use Rattle.pool.specs.PoolJoinLaws.{registers_of, alike_flags}
 use Rattle.pool.specs.declared.sets.Joined.{Joined}
 use Rattle.pool.specs.Sets.{set_at, last_of}
+use Rattle.table.specs.Verdict.{Verdict}
 
 -- ---- each server by itself
 
@@ -23,8 +22,8 @@ abbrev pub server_rows : Choices → List ℕ → List ℕ → ℕ → Rows
 server_rows c pages lengths k = rows_for c (set_at pages lengths k)
 
 abbrev pub is_accepted : Verdict → Bool
-is_accepted Accepted = true
-is_accepted (Refused r) = false
+is_accepted (Ok _) = true
+is_accepted (Err r) = false
 
 -- "any server's own refusal in server order": the first server that is refused; an edition other than 1 or 2 refuses the first of all
 unfoldable pub first_refused : Choices → List ℕ → List ℕ → Failing
@@ -32,7 +31,7 @@ first_refused c pages lengths = lowest (λ k. is_accepted (server_verdict c page
 
 abbrev pub refused_by : Failing → (ℕ → Verdict) → Verdict
 refused_by (at k) v = v k
-refused_by none v = Accepted
+refused_by none v = Ok tt
 
 unfoldable pub servers_verdict : Choices → List ℕ → List ℕ → Verdict
 servers_verdict c pages lengths = refused_by (first_refused c pages lengths) (server_verdict c pages lengths)

@@ -1,5 +1,5 @@
 -- The code's steps: the servers after the first, one a turn.
-use Rattle.std.specs.Prelude.{◌≡◌, refl, Bool, true, List, ℕ, suc, ◌+◌, ◌*◌, ◌-◌, ◌≤◌, ◌<◌, replicate}
+use Rattle.std.specs.Prelude.{◌≡◌, refl, Bool, true, List, ℕ, suc, ◌+◌, ◌*◌, ◌-◌, ◌≤◌, ◌<◌, replicate, Err, Ok}
 use Rattle.std.proofs.Common.{sym, ◌∙◌}
 use Rattle.std.proofs.Math.Path.{ap}
 use native.Mathlib.Omega.{arith}
@@ -10,8 +10,6 @@ use Rattle.bits.specs.SearchLaws.{lowest_passes, lowest_stops, lowest_ends}
 use Rattle.masking.specs.Kept.{places}
 use Rattle.table.specs.declared.Choices.{Choices}
 use Rattle.table.specs.declared.Refusal.{Refusal}
-use Rattle.table.specs.declared.Verdict.{Verdict}
-use Rattle.table.specs.declared.Verdict.TheVariants.{Accepted, Refused}
 use Rattle.table.specs.Rows.{Rows}
 use Rattle.memory.specs.MemoryLaws.{layout_length}
 use Rattle.build.specs.Build.{rows_for, answer}
@@ -22,6 +20,7 @@ use Rattle.pool.specs.PoolJoinLaws.{registers_of, alike_flags, flags_first, regi
 use Rattle.pool.specs.Server.{ServerIn}
 use Rattle.pool.specs.Sets.{set_at}
 use Rattle.pool.specs.Servers.{server_verdict, server_rows, is_accepted, first_refused, refused_by, servers_verdict, number_of, joined_to, JoinsRest}
+use Rattle.table.specs.Verdict.{Verdict}
 
 -- of a part of the slice that is server k's set
 module _ (c : Choices) (pages lengths : List ℕ) (k : ℕ) {s w o : List ℕ} {v : Verdict} (part : s ≡ set_at pages lengths k)
@@ -29,10 +28,10 @@ module _ (c : Choices) (pages lengths : List ℕ) (k : ℕ) {s w o : List ℕ} {
   pub part_verdict : {x : Verdict} → v ≡ x → server_verdict c pages lengths k ≡ x
   part_verdict p = sym (e.verdict ∙ ap (λ (t : List ℕ). (answer c t).verdict) part) ∙ p
 
-  pub part_rows : v ≡ Accepted → w ≡ registers_of (server_rows c pages lengths k)
+  pub part_rows : v ≡ Ok tt → w ≡ registers_of (server_rows c pages lengths k)
   part_rows p = e.registers p ∙ ap (λ (t : List ℕ). registers_of (rows_for c t)) part
 
-  pub part_stands : v ≡ Accepted → o ≡ found_origins (set_at pages lengths k)
+  pub part_stands : v ≡ Ok tt → o ≡ found_origins (set_at pages lengths k)
   part_stands p = e.stands p ∙ ap found_origins part
 
 -- ---- the servers after the first
@@ -50,7 +49,7 @@ module _ (c : Choices) (pages lengths : List ℕ) where
     pub rows : w ≡ registers_of (pool f (k - 1))
     pub flags : alike ≡ alike_flags f (k - 1)
 
-  pub joining_starts : 2 ≤ length lengths → server_verdict c pages lengths 0 ≡ Accepted → {w : List ℕ} → w ≡ registers_of (f 0)
+  pub joining_starts : 2 ≤ length lengths → server_verdict c pages lengths 0 ≡ Ok tt → {w : List ℕ} → w ≡ registers_of (f 0)
       → {alike : List Bool} → alike ≡ replicate places true → Joining 1 w alike
   unfolding first_refused pool
   joining_starts l e r a =
@@ -65,7 +64,7 @@ module _ (c : Choices) (pages lengths : List ℕ) where
   joining_length {k} j = ap length j.rows ∙ layout_length (λ i. (pool f (k - 1) i).result)
 
   -- u are the registers of server k
-  pub joining_next : (k : ℕ) {w u v : List ℕ} {alike found : List Bool} → 1 ≤ k → k < length lengths → server_verdict c pages lengths k ≡ Accepted
+  pub joining_next : (k : ℕ) {w u v : List ℕ} {alike found : List Bool} → 1 ≤ k → k < length lengths → server_verdict c pages lengths k ≡ Ok tt
       → u ≡ registers_of (f k) → Joins w u alike v found → Joining k w alike → Joining (k + 1) v found
   joining_next k {w} {u} l h e q b j =
       let s : k ≡ suc (k - 1) = omega arith in
@@ -91,14 +90,14 @@ module _ (c : Choices) (pages lengths : List ℕ) where
       }
 
   -- server k is refused
-  pub joining_refuses : (k : ℕ) {w : List ℕ} {alike : List Bool} {r : Refusal} → k < length lengths → server_verdict c pages lengths k ≡ Refused r
-      → Joining k w alike → JoinsRest c pages lengths (record { verdict = Refused r; server = k; alike = alike }) w
+  pub joining_refuses : (k : ℕ) {w : List ℕ} {alike : List Bool} {r : Refusal} → k < length lengths → server_verdict c pages lengths k ≡ Err r
+      → Joining k w alike → JoinsRest c pages lengths (record { verdict = Err r; server = k; alike = alike }) w
   joining_refuses k l e j =
       joins {x = at k} (j.passed ∙ lowest_stops test (length lengths) k l (ap is_accepted e)) (sym e) j.rows j.flags
 
   -- all servers pass
   pub joining_ends : (k : ℕ) {w : List ℕ} {alike : List Bool} → k ≡ length lengths → Joining k w alike
-      → JoinsRest c pages lengths (record { verdict = Accepted; server = 0; alike = alike }) w
+      → JoinsRest c pages lengths (record { verdict = (Ok tt); server = 0; alike = alike }) w
   joining_ends k e j =
-      joins {x = none} {v = Accepted} (j.passed ∙ lowest_ends test (length lengths) k (omega arith)) refl
+      joins {x = none} {v = (Ok tt)} (j.passed ∙ lowest_ends test (length lengths) k (omega arith)) refl
       (j.rows ∙ ap (λ (n : ℕ). registers_of (pool f (n - 1))) e) (j.flags ∙ ap (λ (n : ℕ). alike_flags f (n - 1)) e)

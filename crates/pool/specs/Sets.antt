@@ -2,8 +2,8 @@
 use Rattle.std.specs.Prelude.{Bool, ◌&&◌, List, ℕ, ◌-◌, eqb, leb, length, get_or, take, drop}
 use Rattle.bits.specs.Lists.{sum_to}
 use Rattle.table.specs.declared.Refusal.TheVariants.{PoolSets}
-use Rattle.table.specs.declared.Verdict.{Verdict}
 use Rattle.checks.specs.Checks.{refuse_unless}
+use Rattle.table.specs.Verdict.{Verdict}
 
 -- where set k begins: the sum of the lengths before it, over unbounded numbers
 unfoldable pub set_start : List ℕ → ℕ → ℕ

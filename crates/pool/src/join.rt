@@ -49,15 +49,13 @@ pub fn with_server(
     ensures { Joins registers.old other.now alike registers.new result }
 {
     let mut out = alike;
-    let mut place: usize = 0;
-    while place < PLACES {
+    for place in 0..PLACES {
         let masks = masks_at(place);
         let a = row_at(registers, place);
         let b = row_at(other, place);
         let before = alike[place];
         out[place] = before & same_row(masks, a, b);
         put_row(registers, place, join_row(masks, a, b));
-        place += 1;
     }
     out
 }
@@ -83,14 +81,8 @@ fn alike_where(asked: bool, alike: bool) -> bool
 pub fn all_alike(origins: &[u64; PLACES], alike: [bool; PLACES]) -> bool
     ensures { result ≡ alike_where origins.now alike }
 {
-    let mut place: usize = 0;
-    while place < PLACES {
-        let origin = origins[place];
-        if alike_where(is_there(origin), alike[place]) {
-            place += 1;
-        } else {
-            return false;
-        }
-    }
-    true
+    origins
+        .iter()
+        .zip(alike.iter())
+        .all(|(origin, alike)| alike_where(is_there(*origin), *alike))
 }

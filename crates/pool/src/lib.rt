@@ -20,7 +20,8 @@ mod sets;
 pub mod write;
 
 // What pooling gives, as specs/Pool.antt has it: accepted with its table and where each row stood in the first server's pages, or refused with an
-// empty one. `server` is the number, from 0, of the server whose own refusal it is, else 0.
+// empty one. `server` is the number, from 0, of the server whose own refusal it is, else 0. Kept as values beside a verdict: theorems speak
+// of the table of a refusal, too.
 #[derive(Clone, Copy)]
 pub struct Pooled {
     pub verdict: Verdict,
@@ -47,7 +48,7 @@ fn refuse(
 {
     clear(registers, origins);
     PoolVerdict {
-        verdict: Verdict::Refused(r),
+        verdict: Err(r),
         server,
     }
 }
@@ -66,12 +67,12 @@ fn pool_servers(
 {
     let end = lengths[0] as usize;
     let first = server_into(&pages[0..end], choices, registers, origins);
-    if let Verdict::Refused(r) = first {
+    if let Err(r) = first {
         return refuse(registers, origins, r, 0);
     }
     let joined = join_rest(pages, lengths, choices, registers);
     let verdict = joined.verdict;
-    if let Verdict::Refused(r) = verdict {
+    if let Err(r) = verdict {
         return refuse(registers, origins, r, joined.server);
     }
     let built = finish_rows(registers, origins, choices.edition);

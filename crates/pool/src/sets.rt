@@ -37,14 +37,12 @@ pub fn sets_fit(pages: &[u8], lengths: &[u64]) -> bool
         return false;
     }
     let mut left = pages.len();
-    let mut k: usize = 0;
-    while k < n {
-        let length = lengths[k] as usize;
+    for length in lengths {
+        let length = *length as usize;
         if length > left {
             return false;
         }
-        left = left - length;
-        k = k + 1;
+        left -= length;
     }
     left == 0
 }
@@ -57,22 +55,20 @@ pub fn join_rest(
     choices: Choices,
     registers: &mut [u32; REGISTERS],
 ) -> Joined
-    requires { (lawful_sets pages.now lengths.now ≡ true) × (server_verdict choices pages.now lengths.now 0 ≡ Verdict.Accepted)
+    requires { (lawful_sets pages.now lengths.now ≡ true) × (server_verdict choices pages.now lengths.now 0 ≡ Ok tt)
         × (registers.old ≡ registers_of (server_rows choices pages.now lengths.now 0)) }
     ensures { JoinsRest choices pages.now lengths.now result registers.new }
 {
-    let n = lengths.len();
     let mut other: [u32; REGISTERS] = [0; REGISTERS];
     let mut stands: [u64; PLACES] = [0; PLACES];
     let mut start = lengths[0] as usize;
     let mut alike = all_places();
-    let mut k: usize = 1;
-    while k < n {
+    for k in 1..lengths.len() {
         let end = start + lengths[k] as usize;
         let verdict = server_into(&pages[start..end], choices, &mut other, &mut stands);
-        if let Verdict::Refused(r) = verdict {
+        if let Err(r) = verdict {
             return Joined {
-                verdict: Verdict::Refused(r),
+                verdict: Err(r),
                 server: k,
                 alike,
             };
@@ -80,10 +76,9 @@ pub fn join_rest(
         let found = with_server(registers, &other, alike);
         alike = found;
         start = end;
-        k += 1;
     }
     Joined {
-        verdict: Verdict::Accepted,
+        verdict: Ok(()),
         server: 0,
         alike,
     }

@@ -17,9 +17,6 @@ pub fn write_pool_image(pages: &[u8], lengths: &[u64], choices: Choices, out: &m
     let mut registers: [u32; REGISTERS] = [0; REGISTERS];
     let mut origins: [u64; PLACES] = [0; PLACES];
     let pooled = pool_into(pages, lengths, choices, &mut registers, &mut origins);
-    let verdict = pooled.verdict;
-    if let Verdict::Refused(r) = verdict {
-        return Written::Refused(r);
-    }
+    pooled.verdict?;
     write_table(&registers, &origins, out)
 }

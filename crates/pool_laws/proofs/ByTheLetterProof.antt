@@ -1,12 +1,11 @@
 -- A pool's table is the greatest by the letter, and a server more adds nothing, as ByTheLetter.antt says.
-use Rattle.std.specs.Prelude.{◌≡◌, List, ℕ, zero, suc, ◌≤◌}
+use Rattle.std.specs.Prelude.{◌≡◌, List, ℕ, zero, suc, ◌≤◌, Ok}
 use Rattle.std.proofs.Common.{sym, le_refl, arith}
 use Rattle.bits.specs.Bits.{bit}
 use Rattle.bits.specs.BitsLaws.{bit_and_lem, within_trans, within_eq}
 use Rattle.x86defs.specs.declared.CpuidResult.{CpuidResult}
 use Rattle.table.specs.declared.Choices.{Choices}
 use Rattle.table.specs.declared.CpuidResults.{CpuidResults}
-use Rattle.table.specs.declared.Verdict.TheVariants.{Accepted}
 use Rattle.table.specs.Table.{row_in}
 use Rattle.finish.specs.Kinds.{Kind, Kinds, Registers, kinds_at}
 use Rattle.finish.specs.Kinds.Kind.{feature, feature_but28, area, freed, other}
@@ -21,7 +20,7 @@ use Rattle.pool_laws.proofs.PoolProof.{one_more}
 use Rattle.pool_laws.specs.ByTheLetter.{FeatureBits, NoFeatureBeyond, GreatestByTheLetter, OneMoreByTheLetter}
 use Rattle.pool_laws.specs.ByTheLetterProof.{all_greatest, by_the_letter}
 
-pub greatest_by_the_letter : (c : Choices) (pages lengths : List ℕ) → (pooled c pages lengths).verdict ≡ Accepted → GreatestByTheLetter c pages lengths
+pub greatest_by_the_letter : (c : Choices) (pages lengths : List ℕ) → (pooled c pages lengths).verdict ≡ Ok tt → GreatestByTheLetter c pages lengths
 greatest_by_the_letter c pages lengths accepted t h =
     let r : PoolRight c pages lengths = pool_right c pages lengths accepted in
     record {

@@ -9,8 +9,6 @@ use Rattle.masking.specs.Kept.{places}
 use Rattle.table.specs.TableLaws.{table_row}
 use Rattle.table.specs.declared.Choices.{Choices}
 use Rattle.table.specs.declared.CpuidResults.{CpuidResults}
-use Rattle.table.specs.declared.Verdict.{Verdict}
-use Rattle.table.specs.declared.Verdict.TheVariants.{Accepted}
 use Rattle.table.specs.Rows.{Row, Rows}
 use Rattle.table.specs.Table.{table_of, row_in}
 use Rattle.checks.specs.ExtendedState.{combined_mask}
@@ -38,6 +36,7 @@ use Rattle.pool.proofs.PooledLaws.{servers_of, each_accepted, passes_sets, passe
 use Rattle.pool_laws.specs.RowsPool.{pool_rises, pool_further, PoolAmong, no_row_more, no_mask_bit_more, no_feature_more}
 use Rattle.pool_laws.specs.PoolRight.{server_table, pool_table, PoolRight, NoneBeyond, Greatest, SetsAmong, NothingMore, OneMore}
 use Rattle.pool_laws.specs.PoolProof.{alike, edition, pool_max, pool_row, servers}
+use Rattle.table.specs.Verdict.{Verdict}
 
 pub one_more : OneMore
 one_more c pages lengths more moreLengths m ok ok₂ =

@@ -1,12 +1,11 @@
 -- Document 02, P12, by the letter: "a table whose feature bits and mask lie within every server's has none beyond the pool's". Document 01's feature
 -- registers have "1.EDX but bit 28", so that bit is asked of no table here, and nothing is said of it: a table that has it beside servers that have
 -- not is held to the pool all the same. (`Greatest`, PoolRight.antt, asks it of 1.EDX whole and says it of 1.EDX whole.) Of one server more likewise.
-use Rattle.std.specs.Prelude.{◌≡◌, true, List, ◌≢◌, ℕ, ◌≤◌, ◌<◌}
+use Rattle.std.specs.Prelude.{◌≡◌, true, List, ◌≢◌, ℕ, ◌≤◌, ◌<◌, Ok}
 use Rattle.bits.specs.Bits.{bit, Within}
 use Rattle.masking.specs.Kept.{places}
 use Rattle.table.specs.declared.Choices.{Choices}
 use Rattle.table.specs.declared.CpuidResults.{CpuidResults}
-use Rattle.table.specs.declared.Verdict.TheVariants.{Accepted}
 use Rattle.table.specs.Table.{row_in}
 use Rattle.finish.specs.Kinds.{Kind, Registers, kinds_at}
 use Rattle.finish.specs.Kinds.Kind.{feature, feature_but28, area, freed, other}
@@ -37,6 +36,6 @@ GreatestByTheLetter c pages lengths =
 
 abbrev pub OneMoreByTheLetter : Type 0
 OneMoreByTheLetter = (c : Choices) (pages lengths more moreLengths : List ℕ) → SetsAmong pages lengths more moreLengths
-    → (pooled c pages lengths).verdict ≡ Accepted → (pooled c more moreLengths).verdict ≡ Accepted
+    → (pooled c pages lengths).verdict ≡ Ok tt → (pooled c more moreLengths).verdict ≡ Ok tt
     → NoFeatureBeyond (pool_table c more moreLengths) (pool_table c pages lengths)
     × ((i : ℕ) → i < places → (row_in (pool_table c more moreLengths) i).present ≡ true → (row_in (pool_table c pages lengths) i).present ≡ true)

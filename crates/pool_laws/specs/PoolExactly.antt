@@ -1,12 +1,11 @@
 -- Document 02, P12: "Answers: 18 fewer than 2 or more than 16 sets, or lengths that don't sum to the slice, first; then any server's own refusal in
 -- server order; then 19 where rows that all tables have, B.0 and B.1 apart, differ elsewhere than in feature registers or D.0.ECX, by masked entry."
 -- Each is given if and only if its condition holds and no earlier one does. 15 is every server's own (P7: "before 1"), and so the first's.
-use Rattle.std.specs.Prelude.{◌≡◌, true, List, ◌↔◌, ◌⊎◌, ◌≢◌, ℕ, ◌≤◌, ◌<◌, length}
+use Rattle.std.specs.Prelude.{◌≡◌, true, List, ◌↔◌, ◌⊎◌, ◌≢◌, ℕ, ◌≤◌, ◌<◌, length, Err, Ok}
 use Rattle.masking.specs.Kept.{places}
 use Rattle.table.specs.declared.Choices.{Choices}
 use Rattle.table.specs.declared.Refusal.{Refusal}
 use Rattle.table.specs.declared.Refusal.TheVariants.{UnknownEdition, PoolSets, PoolDiffers}
-use Rattle.table.specs.declared.Verdict.TheVariants.{Accepted, Refused}
 use Rattle.table.specs.Table.{empty_table, row_in}
 use Rattle.finish.specs.Kinds.{Registers, kinds_at}
 use Rattle.build.specs.Build.{rows_for}
@@ -28,7 +27,7 @@ pub data SetsFault (pages lengths : List ℕ) : Type 0 where
 pub record ServerFault (c : Choices) (pages lengths : List ℕ) (k : ℕ) (r : Refusal) : Type 0 where
   pub listed : k < length lengths
   pub fault : FirstFault c (set_at pages lengths k) r
-  pub before : (j : ℕ) → j < k → server_verdict c pages lengths j ≡ Accepted
+  pub before : (j : ℕ) → j < k → server_verdict c pages lengths j ≡ Ok tt
 
 -- 19: all tables have the row of a place, and a server's masked entry there differs from the first's elsewhere than in features or the save area
 pub record DifferFault (c : Choices) (pages lengths : List ℕ) : Type 0 where
@@ -41,20 +40,20 @@ pub record DifferFault (c : Choices) (pages lengths : List ℕ) : Type 0 where
 
 -- every server is accepted by itself
 abbrev pub AllAccepted : Choices → List ℕ → List ℕ → Type 0
-AllAccepted c pages lengths = (k : ℕ) → k < length lengths → server_verdict c pages lengths k ≡ Accepted
+AllAccepted c pages lengths = (k : ℕ) → k < length lengths → server_verdict c pages lengths k ≡ Ok tt
 
 pub record PoolExactly (c : Choices) (pages lengths : List ℕ) : Type 0 where
-  pub sets : ((pooled c pages lengths).verdict ≡ Refused PoolSets) ↔ SetsFault pages lengths
-  pub unknown : ((pooled c pages lengths).verdict ≡ Refused UnknownEdition) ↔ ((SetsFault pages lengths → ⊥) × EditionFault c.edition)
+  pub sets : ((pooled c pages lengths).verdict ≡ Err PoolSets) ↔ SetsFault pages lengths
+  pub unknown : ((pooled c pages lengths).verdict ≡ Err UnknownEdition) ↔ ((SetsFault pages lengths → ⊥) × EditionFault c.edition)
   -- a server's own refusal r, which names it: r is neither 18 nor 19, which building never gives
   pub server : (r : Refusal) → r ≢ PoolSets → r ≢ PoolDiffers → (k : ℕ)
-      → (((pooled c pages lengths).verdict ≡ Refused r) × ((pooled c pages lengths).server ≡ k))
+      → (((pooled c pages lengths).verdict ≡ Err r) × ((pooled c pages lengths).server ≡ k))
       ↔ ((SetsFault pages lengths → ⊥) × ServerFault c pages lengths k r)
-  pub differs : ((pooled c pages lengths).verdict ≡ Refused PoolDiffers)
+  pub differs : ((pooled c pages lengths).verdict ≡ Err PoolDiffers)
       ↔ ((SetsFault pages lengths → ⊥) × AllAccepted c pages lengths × DifferFault c pages lengths)
-  pub accepted : ((pooled c pages lengths).verdict ≡ Accepted)
+  pub accepted : ((pooled c pages lengths).verdict ≡ Ok tt)
       ↔ ((SetsFault pages lengths → ⊥) × AllAccepted c pages lengths × (DifferFault c pages lengths → ⊥))
   -- where it is no server's own, none is named; a refused pool has no row
-  pub unnamed : ((pooled c pages lengths).verdict ≡ Refused PoolSets) ⊎ (((pooled c pages lengths).verdict ≡ Refused PoolDiffers)
-      ⊎ ((pooled c pages lengths).verdict ≡ Accepted)) → (pooled c pages lengths).server ≡ 0
-  pub empty : (r : Refusal) → (pooled c pages lengths).verdict ≡ Refused r → pool_table c pages lengths ≡ empty_table
+  pub unnamed : ((pooled c pages lengths).verdict ≡ Err PoolSets) ⊎ (((pooled c pages lengths).verdict ≡ Err PoolDiffers)
+      ⊎ ((pooled c pages lengths).verdict ≡ Ok tt)) → (pooled c pages lengths).server ≡ 0
+  pub empty : (r : Refusal) → (pooled c pages lengths).verdict ≡ Err r → pool_table c pages lengths ≡ empty_table

@@ -1,5 +1,5 @@
 -- The proof that each answer of a pool is given exactly under its condition: the answer is one of four outcomes, and these exclude each other.
-use Rattle.std.specs.Prelude.{◌≡◌, Bool, ◌&&◌, List, ◌↔◌, ◌⊎◌, ◌≢◌, ℕ, zero, suc, ◌-◌, ◌≤◌, ◌<◌, eqb, leb, length}
+use Rattle.std.specs.Prelude.{◌≡◌, Bool, ◌&&◌, List, ◌↔◌, ◌⊎◌, ◌≢◌, ℕ, zero, suc, ◌-◌, ◌≤◌, ◌<◌, eqb, leb, length, Err, Ok}
 use Rattle.std.proofs.Math.Path.{refl, sym, ap}
 use Rattle.std.proofs.Common.{◌∙◌, subst, inl, inr, le_refl, arith, leb-true, leb-false, eqb-true}
 use Rattle.std.proofs.Math.Bool.{true, false}
@@ -13,8 +13,6 @@ use Rattle.masking.specs.Kept.{places}
 use Rattle.table.specs.declared.Choices.{Choices}
 use Rattle.table.specs.declared.Refusal.{Refusal}
 use Rattle.table.specs.declared.Refusal.TheVariants.{UnknownEdition, PoolSets, PoolDiffers}
-use Rattle.table.specs.declared.Verdict.{Verdict}
-use Rattle.table.specs.declared.Verdict.TheVariants.{Accepted, Refused}
 use Rattle.table.specs.Refusal.{and_then}
 use Rattle.table.specs.Rows.{Row, Rows}
 use Rattle.table.specs.Table.{empty_table, row_in}
@@ -39,6 +37,7 @@ use Rattle.pool.specs.PooledLaws.{is_accepted_lem}
 use Rattle.pool_laws.specs.PoolRight.{server_table}
 use Rattle.pool_laws.specs.PoolExactly.{SetsFault, ServerFault, DifferFault, AllAccepted, PoolExactly}
 use Rattle.pool_laws.specs.PoolExactly.SetsFault.{few, many, sum}
+use Rattle.table.specs.Verdict.{Verdict}
 
 -- ---- 18
 
@@ -75,16 +74,16 @@ all_fails p (suc n) e = go (all_fails p n) (all_to p n) refl (p (suc n)) refl e
 -- ---- the four outcomes
 
 data Outcome (c : Choices) (pages lengths : List ℕ) (v : Verdict) (s : ℕ) : Type 0 where
-  sets : SetsFault pages lengths → v ≡ Refused PoolSets → s ≡ 0 → Outcome c pages lengths v s
-  server : (SetsFault pages lengths → ⊥) → (k : ℕ) (r : Refusal) → ServerFault c pages lengths k r → v ≡ Refused r → s ≡ k → Outcome c pages lengths v s
-  differs : (SetsFault pages lengths → ⊥) → AllAccepted c pages lengths → DifferFault c pages lengths → v ≡ Refused PoolDiffers → s ≡ 0
+  sets : SetsFault pages lengths → v ≡ Err PoolSets → s ≡ 0 → Outcome c pages lengths v s
+  server : (SetsFault pages lengths → ⊥) → (k : ℕ) (r : Refusal) → ServerFault c pages lengths k r → v ≡ Err r → s ≡ k → Outcome c pages lengths v s
+  differs : (SetsFault pages lengths → ⊥) → AllAccepted c pages lengths → DifferFault c pages lengths → v ≡ Err PoolDiffers → s ≡ 0
       → Outcome c pages lengths v s
-  accepted : (SetsFault pages lengths → ⊥) → AllAccepted c pages lengths → (DifferFault c pages lengths → ⊥) → v ≡ Accepted → s ≡ 0
+  accepted : (SetsFault pages lengths → ⊥) → AllAccepted c pages lengths → (DifferFault c pages lengths → ⊥) → v ≡ Ok tt → s ≡ 0
       → Outcome c pages lengths v s
 
-is_refused : (v : Verdict) → is_accepted v ≡ false → (r : Refusal) × (v ≡ Refused r)
-is_refused Accepted e = absurd (never_both refl e)
-is_refused (Refused r) e = (r, refl)
+is_refused : (v : Verdict) → is_accepted v ≡ false → (r : Refusal) × (v ≡ Err r)
+is_refused (Ok _) e = absurd (never_both refl e)
+is_refused (Err r) e = (r, refl)
 
 module _ (c : Choices) (pages lengths : List ℕ) where
   abbrev f : ℕ → Rows
@@ -155,10 +154,10 @@ module _ (c : Choices) (pages lengths : List ℕ) where
 
   -- ---- they exclude each other
 
-  refused_by_lem : {k : ℕ} {r : Refusal} → ServerFault c pages lengths k r → server_verdict c pages lengths k ≡ Refused r
+  refused_by_lem : {k : ℕ} {r : Refusal} → ServerFault c pages lengths k r → server_verdict c pages lengths k ≡ Err r
   refused_by_lem {k} {r} s = ((builds_exactly c (set_at pages lengths k)).refused r).1 s.fault
 
-  not_accepted : {k : ℕ} {r : Refusal} → ServerFault c pages lengths k r → server_verdict c pages lengths k ≡ Accepted → ⊥
+  not_accepted : {k : ℕ} {r : Refusal} → ServerFault c pages lengths k r → server_verdict c pages lengths k ≡ Ok tt → ⊥
   not_accepted {k} {r} s e = let q = refused_by_lem s in impossible (cc)
 
   same_server : {k j : ℕ} {r q : Refusal} → ServerFault c pages lengths k r → ServerFault c pages lengths j q → (k ≡ j) × (r ≡ q)
@@ -166,7 +165,7 @@ module _ (c : Choices) (pages lengths : List ℕ) where
       let a : ¬ (k < j) = λ l. not_accepted s (t.before k l) in
       let b : ¬ (j < k) = λ l. not_accepted t (s.before j l) in
       let e : k ≡ j = omega arith in
-      let v : server_verdict c pages lengths j ≡ Refused r = subst (λ (i : ℕ). server_verdict c pages lengths i ≡ Refused r) e (refused_by_lem s) in
+      let v : server_verdict c pages lengths j ≡ Err r = subst (λ (i : ℕ). server_verdict c pages lengths i ≡ Err r) e (refused_by_lem s) in
       let w = refused_by_lem t in
       (e, cc (v, w))
 
@@ -178,7 +177,7 @@ module _ (c : Choices) (pages lengths : List ℕ) where
   no_19 {k} s = not_built_lem c (set_at pages lengths k) PoolDiffers refl (refused_by_lem s)
 
   -- 15 is given exactly where the edition is not known
-  edition_of : (s : List ℕ) → ((answer c s).verdict ≡ Refused UnknownEdition) ↔ EditionFault c.edition
+  edition_of : (s : List ℕ) → ((answer c s).verdict ≡ Err UnknownEdition) ↔ EditionFault c.edition
   edition_of s = (
     λ e. let g : FirstFault c s UnknownEdition = ((builds_exactly c s).refused UnknownEdition).0 e in by_check g.check g.fault,
     λ e. ((builds_exactly c s).refused UnknownEdition).1 (record { check = edition; fault = (e, refl); first = λ k q l g. absurd (omega arith) }),
@@ -199,7 +198,7 @@ module _ (c : Choices) (pages lengths : List ℕ) where
 
   first_edition_lem : {k : ℕ} {r : Refusal} → EditionFault c.edition → ServerFault c pages lengths k r → r ≡ UnknownEdition
   first_edition_lem {k} {r} e s =
-      let v : server_verdict c pages lengths k ≡ Refused UnknownEdition = (edition_of (set_at pages lengths k)).1 e in
+      let v : server_verdict c pages lengths k ≡ Err UnknownEdition = (edition_of (set_at pages lengths k)).1 e in
       let w = refused_by_lem s in cc (v, w)
 
   known : EditionFault c.edition → 2 ≤ length lengths → AllAccepted c pages lengths → ⊥
@@ -212,7 +211,7 @@ module _ (c : Choices) (pages lengths : List ℕ) where
       go true e = leb-true 2 (length lengths) e
       go false e = absurd (held (few (omega (arith, leb-false 2 (length lengths) e))))
 
-  empty_table_lem : (r : Refusal) → (pooled c pages lengths).verdict ≡ Refused r → (pooled c pages lengths).table ≡ empty_table
+  empty_table_lem : (r : Refusal) → (pooled c pages lengths).verdict ≡ Err r → (pooled c pages lengths).table ≡ empty_table
   unfolding pooled
   empty_table_lem r e = ap (λ (v : Verdict). table_for c.edition v (pool_rows c pages lengths)) e
 
@@ -235,8 +234,8 @@ module _ (c : Choices) (pages lengths : List ℕ) where
       go (server held k r w e s) = record {
         sets = (λ p. absurd (no_18 (let z : r ≡ PoolSets = cc (e, p) in subst (ServerFault c pages lengths k) z w)), λ q. absurd (held q));
         unknown = (
-          λ p. (held, let z : r ≡ UnknownEdition = cc (e, p) in (edition_of (set_at pages lengths k)).0 (refused_by_lem w ∙ ap Refused z)),
-          λ q. e ∙ ap Refused (first_edition_lem q.1 w),
+          λ p. (held, let z : r ≡ UnknownEdition = cc (e, p) in (edition_of (set_at pages lengths k)).0 (refused_by_lem w ∙ ap Err z)),
+          λ q. e ∙ ap Err (first_edition_lem q.1 w),
         );
         server = λ q a b j. (
           λ p. (
@@ -244,7 +243,7 @@ module _ (c : Choices) (pages lengths : List ℕ) where
             let z : r ≡ q = let y = p.0 in cc (e, y) in
                 let i : k ≡ j = sym s ∙ p.1 in subst (λ (x : ℕ). ServerFault c pages lengths x q) i (subst (ServerFault c pages lengths k) z w),
           ),
-          λ g. let z = same_server w g.1 in (e ∙ ap Refused z.1, s ∙ z.0),
+          λ g. let z = same_server w g.1 in (e ∙ ap Err z.1, s ∙ z.0),
         );
         differs = (
           λ p. absurd (no_19 (let z : r ≡ PoolDiffers = cc (e, p) in subst (ServerFault c pages lengths k) z w)),
@@ -255,7 +254,7 @@ module _ (c : Choices) (pages lengths : List ℕ) where
         empty = empty_table_lem;
       }
         where
-          unnamed : (v ≡ Refused PoolSets) ⊎ ((v ≡ Refused PoolDiffers) ⊎ (v ≡ Accepted)) → (pooled c pages lengths).server ≡ 0
+          unnamed : (v ≡ Err PoolSets) ⊎ ((v ≡ Err PoolDiffers) ⊎ (v ≡ Ok tt)) → (pooled c pages lengths).server ≡ 0
           unnamed (inl p) = absurd (no_18 (let z : r ≡ PoolSets = cc (e, p) in subst (ServerFault c pages lengths k) z w))
           unnamed (inr (inl p)) = absurd (no_19 (let z : r ≡ PoolDiffers = cc (e, p) in subst (ServerFault c pages lengths k) z w))
           unnamed (inr (inr p)) = impossible (cc)

@@ -1,6 +1,6 @@
 -- The order of the servers beyond the first does not matter: two pools with the same first server, each of whose servers are the other's, join to the
 -- same rows, and 19 is due in both or in neither.
-use Rattle.std.specs.Prelude.{◌≡◌, refl, Bool, true, false, List, eqb, length}
+use Rattle.std.specs.Prelude.{◌≡◌, refl, Bool, true, false, List, eqb, length, Err, Ok}
 use Rattle.std.proofs.Common.{sym, ◌∙◌, subst, inl, inr, arith, eqb-true}
 use Rattle.std.proofs.Math.Path.{ap, ap₂, fun_ext}
 use Prim.Native.Nat.{ℕ, zero, suc, ◌-◌, ◌≤◌, ◌<◌, ◌^◌}
@@ -15,8 +15,6 @@ use Rattle.masking.specs.Kept.{places}
 use Rattle.table.specs.declared.Choices.{Choices}
 use Rattle.table.specs.declared.CpuidResults.{CpuidResults}
 use Rattle.table.specs.declared.Refusal.TheVariants.{PoolDiffers}
-use Rattle.table.specs.declared.Verdict.{Verdict}
-use Rattle.table.specs.declared.Verdict.TheVariants.{Accepted, Refused}
 use Rattle.table.specs.Rows.{Row, Rows}
 use Rattle.finish.specs.Finish.{finished}
 use Rattle.finish.specs.Kinds.{Kind, Kinds, Registers, kinds_at}
@@ -36,6 +34,7 @@ use Rattle.pool.specs.Pool.{alike_verdict}
 use Rattle.pool.proofs.PooledLaws.{pooled_by, pooled_alike}
 use Rattle.pool_laws.specs.RowsPool.{PoolAmong}
 use Rattle.pool_laws.specs.PoolRight.{SetsAmong, OrderFree}
+use Rattle.table.specs.Verdict.{Verdict}
 
 -- ---- a joined register, said without the order
 
@@ -172,11 +171,11 @@ order_free c pages lengths again againLengths lawful lawful₂ first to back eac
     let b : PoolAmong g m f n = record { place = back.place; below = back.below; same = λ k l. ap (rows_for c) (back.same k l) } in
     let two = at_least_two pages lengths lawful in
     let two₂ = at_least_two again againLengths lawful₂ in
-    let each₂ : (k : ℕ) → k < length againLengths → server_verdict c again againLengths k ≡ Accepted = λ k l.
+    let each₂ : (k : ℕ) → k < length againLengths → server_verdict c again againLengths k ≡ (Ok tt) = λ k l.
     let u : k ≤ last_of againLengths = omega arith in
     ap (λ (s : List ℕ). (answer c s).verdict) (sym (back.same k u)) ∙ each (back.place k u) (omega (arith, back.below k u)) in
     let v : alike_verdict c pages lengths ≡ alike_verdict c again againLengths =
-    ap (λ (x : Bool). pick x Accepted (Refused PoolDiffers)) (alike_same f n g m e t b c.edition) in
+    ap (λ (x : Bool). pick x (Ok tt) (Err PoolDiffers)) (alike_same f n g m e t b c.edition) in
     let r : pool_rows c pages lengths ≡ pool_rows c again againLengths = rows_same f n g m e t b in
     let x : Verdict = alike_verdict c again againLengths in
     let w : CpuidResults = table_for c.edition x (pool_rows c again againLengths) in

@@ -1,5 +1,5 @@
 -- The pool over page bytes: what an accepted pool's table is beside its servers' tables, the greatest lower bound, and one server more.
-use Rattle.std.specs.Prelude.{◌≡◌, refl, Bool, true, false, List, ◌⊎◌, ℕ, ◌-◌, ◌≤◌, ◌<◌, length, get_or}
+use Rattle.std.specs.Prelude.{◌≡◌, refl, Bool, true, false, List, ◌⊎◌, ℕ, ◌-◌, ◌≤◌, ◌<◌, length, get_or, Ok}
 use Rattle.std.proofs.Common.{sym, ◌∙◌, subst, subst₂, inl, inr, ⊎_elim, arith}
 use Rattle.std.proofs.Math.Path.{ap}
 use Rattle.bits.specs.ListsLaws.{get_d_tabulate}
@@ -9,8 +9,6 @@ use Rattle.masking.specs.Kept.{places}
 use Rattle.table.specs.TableLaws.{table_row}
 use Rattle.table.specs.declared.Choices.{Choices}
 use Rattle.table.specs.declared.CpuidResults.{CpuidResults}
-use Rattle.table.specs.declared.Verdict.{Verdict}
-use Rattle.table.specs.declared.Verdict.TheVariants.{Accepted}
 use Rattle.table.specs.Rows.{Row, Rows}
 use Rattle.table.specs.Table.{table_of, row_in}
 use Rattle.checks.specs.ExtendedState.{combined_mask}
@@ -37,8 +35,9 @@ use Rattle.pool.specs.Pool.{pool_verdict, pooled}
 use Rattle.pool.proofs.PooledLaws.{servers_of, each_accepted, passes_sets, passes_servers, passes_alike}
 use Rattle.pool_laws.specs.RowsPool.{pool_rises, pool_further, PoolAmong, no_row_more, no_mask_bit_more, no_feature_more}
 use Rattle.pool_laws.specs.PoolRight.{server_table, pool_table, PoolRight, NoneBeyond, Greatest, SetsAmong, NothingMore, OneMore}
+use Rattle.table.specs.Verdict.{Verdict}
 
-module _ (c : Choices) (pages lengths : List ℕ) (accepted : (pooled c pages lengths).verdict ≡ Accepted) where
+module _ (c : Choices) (pages lengths : List ℕ) (accepted : (pooled c pages lengths).verdict ≡ Ok tt) where
   abbrev f : ℕ → Rows
   f = server_rows c pages lengths
 
@@ -48,11 +47,11 @@ module _ (c : Choices) (pages lengths : List ℕ) (accepted : (pooled c pages le
   abbrev pub edition : ℕ
   edition = c.edition
 
-  verdict : pool_verdict c pages lengths ≡ Accepted
+  verdict : pool_verdict c pages lengths ≡ Ok tt
   unfolding pooled
   verdict = accepted
 
-  each_server : (k : ℕ) → k ≤ n → server_verdict c pages lengths k ≡ Accepted
+  each_server : (k : ℕ) → k ≤ n → server_verdict c pages lengths k ≡ Ok tt
   each_server k l =
       each_accepted c pages lengths (passes_servers c pages lengths verdict) k
       (omega (arith, at_least_two pages lengths (passes_sets c pages lengths verdict)))

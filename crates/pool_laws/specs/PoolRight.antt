@@ -1,12 +1,11 @@
 -- Document 02, P12: "On feature registers and combined mask it equals the and of the servers' tables, its leaf Dh subleaves are those that all have,
 -- and a table whose feature bits and mask lie within every server's has none beyond the pool's. Joining one server more, where that isn't refused,
 -- never adds a feature bit or a row." Under any edition and secure-AVIC choice, the same for all servers.
-use Rattle.std.specs.Prelude.{◌≡◌, true, false, List, ℕ, ◌≤◌, ◌<◌, length, get_or}
+use Rattle.std.specs.Prelude.{◌≡◌, true, false, List, ℕ, ◌≤◌, ◌<◌, length, get_or, Ok}
 use Rattle.bits.specs.Bits.{Within}
 use Rattle.masking.specs.Kept.{places}
 use Rattle.table.specs.declared.Choices.{Choices}
 use Rattle.table.specs.declared.CpuidResults.{CpuidResults}
-use Rattle.table.specs.declared.Verdict.TheVariants.{Accepted}
 use Rattle.table.specs.Table.{row_in}
 use Rattle.finish.specs.Kinds.{Registers, kinds_at}
 use Rattle.build.specs.Build.{answer}
@@ -28,7 +27,7 @@ pool_table c pages lengths = (pooled c pages lengths).table
 
 pub record PoolRight (c : Choices) (pages lengths : List ℕ) : Type 0 where
   -- each server is accepted by itself
-  pub each : (k : ℕ) → k ≤ last_of lengths → server_verdict c pages lengths k ≡ Accepted
+  pub each : (k : ℕ) → k ≤ last_of lengths → server_verdict c pages lengths k ≡ Ok tt
   -- its rows, Dh subleaves among them, are those that all tables have
   pub rows : (i : ℕ) → i < places
       → (row_in (pool_table c pages lengths) i).present ≡ all_to (λ k. (row_in (server_table c pages lengths k) i).present) (last_of lengths)
@@ -70,7 +69,7 @@ pub record NothingMore (t u : CpuidResults) : Type 0 where
 -- where both pools are accepted: 19 can be lifted by a further server, and a refused pool has no row at all
 abbrev pub OneMore : Type 0
 OneMore = (c : Choices) (pages lengths more moreLengths : List ℕ) → SetsAmong pages lengths more moreLengths
-    → (pooled c pages lengths).verdict ≡ Accepted → (pooled c more moreLengths).verdict ≡ Accepted
+    → (pooled c pages lengths).verdict ≡ Ok tt → (pooled c more moreLengths).verdict ≡ Ok tt
     → NothingMore (pool_table c pages lengths) (pool_table c more moreLengths)
 
 -- ---- the order of the servers beyond the first
@@ -79,4 +78,4 @@ OneMore = (c : Choices) (pages lengths more moreLengths : List ℕ) → SetsAmon
 abbrev pub OrderFree : Type 0
 OrderFree = (c : Choices) (pages lengths again againLengths : List ℕ) → lawful_sets pages lengths ≡ true → lawful_sets again againLengths ≡ true
     → set_at pages lengths 0 ≡ set_at again againLengths 0 → SetsAmong pages lengths again againLengths → SetsAmong again againLengths pages lengths
-    → ((k : ℕ) → k < length lengths → server_verdict c pages lengths k ≡ Accepted) → pooled c pages lengths ≡ pooled c again againLengths
+    → ((k : ℕ) → k < length lengths → server_verdict c pages lengths k ≡ Ok tt) → pooled c pages lengths ≡ pooled c again againLengths

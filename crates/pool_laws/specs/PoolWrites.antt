@@ -1,9 +1,8 @@
 -- The image of a pool's table: 9 exactly where the buffer is shorter, after the pool's refusals; every lent byte.
-use Rattle.std.specs.Prelude.{◌≡◌, refl, List, ℕ}
+use Rattle.std.specs.Prelude.{◌≡◌, refl, List, ℕ, Err}
 use Rattle.bits.specs.ChoiceLaws.{impossible}
 use Rattle.table.specs.declared.Choices.{Choices}
 use Rattle.table.specs.declared.Refusal.TheVariants.{BufferTooShort}
-use Rattle.table.specs.declared.Verdict.TheVariants.{Refused}
 use Rattle.buffer.specs.WritesExactly.{FrontExactly}
 use Rattle.buffer.specs.WritesExactlyProof.{front_exactly}
 use Rattle.image.specs.Image.{image}
@@ -15,7 +14,7 @@ use Rattle.pool_laws.specs.PoolExactly.{ServerFault}
 use Rattle.pool_laws.specs.PoolExactlyProof.{pool_exactly}
 
 -- a pool is never refused by 9: that would be a server's own
-never_short : (c : Choices) (pages lengths : List ℕ) → (pooled c pages lengths).verdict ≡ Refused BufferTooShort → ⊥
+never_short : (c : Choices) (pages lengths : List ℕ) → (pooled c pages lengths).verdict ≡ Err BufferTooShort → ⊥
 never_short c pages lengths e =
     let k : ℕ = (pooled c pages lengths).server in
     let f : ServerFault c pages lengths k BufferTooShort =

@@ -7,7 +7,7 @@ ghost use Rattle.program.specs.Output.{output};
 ghost use Rattle.program.specs.ProgramBytes.{code_of, number_bytes};
 ghost use Rattle.program.specs.ProgramFits.{room};
 
-use buffer::Written;
+use buffer::{Written, put_word};
 use build::build_into;
 use image::write::write_table;
 use masking::PLACES;
@@ -33,11 +33,7 @@ pub fn put_output(input: &[u8], out: &mut [u8; ROOM]) -> usize
     ensures value { (result ≡ length (output input.now)) × (out.new ≡ output input.now ++ drop result out.old) }
     ensures kept { length out.new ≡ room }
 {
-    let written = write_output(input, out);
-    match written {
-        Written::Bytes(n) => n,
-        Written::Refused(_) => 0,
-    }
+    write_output(input, out).unwrap_or(0)
 }
 
 // Document 01's bytes for an input of any length, at the front of a lent buffer that has room for them.
@@ -51,8 +47,8 @@ pub fn write_output(input: &[u8], out: &mut [u8]) -> Written
     let mut registers: [u32; REGISTERS] = [0; REGISTERS];
     let mut origins: [u64; PLACES] = [0; PLACES];
     let verdict = build_into(input, CHOICES, &mut registers, &mut origins);
-    if let Verdict::Refused(refusal) = verdict {
-        return put_refusal(table::numbers::refusal_numbers(refusal), out);
+    if let Err(refusal) = verdict {
+        return put_refusal(AnswerNumbers::from(refusal), out);
     }
     write_table(&registers, &origins, out)
 }
@@ -62,10 +58,10 @@ fn put_too_long(out: &mut [u8]) -> Written
     ensures { (result ≡ (write_front (4 ∷ []) out.old).answer) × (out.new ≡ (write_front (4 ∷ []) out.old).buffer) }
 {
     if out.len() < 1 {
-        return Written::Refused(Refusal::BufferTooShort);
+        return Err(Refusal::BufferTooShort);
     }
     out[0] = 4;
-    Written::Bytes(1)
+    Ok(1)
 }
 
 // Byte 3, the number, leaf, subleaf (none FFFFFFFFh), s.
@@ -74,22 +70,14 @@ fn put_refusal(numbers: AnswerNumbers, out: &mut [u8]) -> Written
         × (out.new ≡ (write_front (number_bytes numbers) out.old).buffer) }
 {
     if out.len() < REFUSAL_BYTES {
-        return Written::Refused(Refusal::BufferTooShort);
+        return Err(Refusal::BufferTooShort);
     }
-    let leaf = numbers.leaf;
-    let subleaf = subleaf_code(numbers);
     out[0] = 3;
     out[1] = numbers.number;
-    out[2] = (leaf % 256) as u8;
-    out[3] = (leaf / 256 % 256) as u8;
-    out[4] = (leaf / 65536 % 256) as u8;
-    out[5] = (leaf / 16777216 % 256) as u8;
-    out[6] = (subleaf % 256) as u8;
-    out[7] = (subleaf / 256 % 256) as u8;
-    out[8] = (subleaf / 65536 % 256) as u8;
-    out[9] = (subleaf / 16777216 % 256) as u8;
+    put_word(out, 2, numbers.leaf);
+    put_word(out, 6, subleaf_code(numbers));
     out[10] = numbers.s;
-    Written::Bytes(REFUSAL_BYTES)
+    Ok(REFUSAL_BYTES)
 }
 
 // The subleaf, or FFFFFFFFh for none.

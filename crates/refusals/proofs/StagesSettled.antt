@@ -1,13 +1,10 @@
 -- The answer's verdict is the verdicts of the eleven checks in the order of their ranks, and so refuses exactly at the first fault.
-use Rattle.std.specs.Prelude.{◌≡◌, List, [], ◌∷◌, eqb, get_or}
+use Rattle.std.specs.Prelude.{◌≡◌, List, Err, Ok}
 use Rattle.std.proofs.Math.Path.{refl}
-use Rattle.std.proofs.Common.{sym, ap, ◌∙◌, inl, inr, le_refl, eq-or-lt_of_le, arith, lit<, eqb-true}
+use Rattle.std.proofs.Common.{inl, inr, le_refl, eq-or-lt_of_le, arith}
 use Prim.Native.Nat.{ℕ, zero, suc, ◌≤◌, ◌<◌}
-use Rattle.bits.specs.SearchLaws.{every_at}
 use Rattle.table.specs.declared.Choices.{Choices}
 use Rattle.table.specs.declared.Refusal.{Refusal}
-use Rattle.table.specs.declared.Verdict.{Verdict}
-use Rattle.table.specs.declared.Verdict.TheVariants.{Accepted, Refused}
 use Rattle.table.specs.Refusal.{and_then}
 use Rattle.table.specs.Rows.{Rows}
 use Rattle.checks.specs.TopologyInputs.{inputs_of}
@@ -25,6 +22,7 @@ use Rattle.refusals.specs.RequiredSettled.{required_decides, invlpgb_decides}
 use Rattle.refusals.specs.ExtendedStateSettled.{components_decide, area_decides}
 use Rattle.refusals.specs.TopologySettled.{processor_count_verdict, hyperthreading_verdict, threads_verdict, topology_in_order, mt_lt, processor_count_decides, hyperthreading_decides, threads_decide}
 use Rattle.refusals.specs.StagesSettled.{check_at, check_count, checks, rank_check, rank_unique, then_assoc}
+use Rattle.table.specs.Verdict.{Verdict}
 
 -- ---- the verdict of each check
 
@@ -61,7 +59,7 @@ module _ (chosen : Choices) (s : List ℕ) where
 module _ (chosen : Choices) (s : List ℕ) where
   -- the verdict of the checks whose rank is below n
   stages_below : ℕ → Verdict
-  stages_below zero = Accepted
+  stages_below zero = Ok tt
   stages_below (suc n) = and_then (stages_below n) (stage chosen s (check_at n))
 
   verdict_in_order : verdict_of chosen s ≡ stages_below check_count
@@ -78,8 +76,8 @@ module _ (chosen : Choices) (s : List ℕ) where
 
   -- what a verdict on the checks of rank below n says
   pub data Judged (n : ℕ) (v : Verdict) : Type 0 where
-    accepted : v ≡ Accepted → ((c : Check) (r : Refusal) → rank c < n → Fault chosen s c r → ⊥) → Judged n v
-    refused : (r : Refusal) → v ≡ Refused r → FirstFault chosen s r → Judged n v
+    accepted : v ≡ Ok tt → ((c : Check) (r : Refusal) → rank c < n → Fault chosen s c r → ⊥) → Judged n v
+    refused : (r : Refusal) → v ≡ Err r → FirstFault chosen s r → Judged n v
 
   -- one check more, after a verdict u on those of rank below n
   judged_step : (n : ℕ) (u v : Verdict) → n < check_count → Judged n u → Settles (Fault chosen s (check_at n)) v

@@ -1,5 +1,5 @@
 -- The conditions of document 01's table "Where each check stands", each stated by itself, with those of document 02 that building gives.
-use Rattle.std.specs.Prelude.{◌≡◌, true, false, List, ◌⊎◌, ◌≢◌, ℕ, ◌+◌, ◌*◌, ◌/◌, ◌%◌, ◌^◌, ◌≤◌, ◌<◌, eqb, length, get_or}
+use Rattle.std.specs.Prelude.{◌≡◌, true, false, List, ◌⊎◌, ◌≢◌, ℕ, ◌+◌, ◌*◌, ◌/◌, ◌%◌, ◌^◌, ◌≤◌, ◌<◌, eqb, length, get_or, Some}
 use Rattle.bits.specs.Choice.{pick}
 use Rattle.bits.specs.Bits.{bit}
 use Rattle.x86defs.specs.Functions.{ExtendedStateEnumeration}
@@ -8,7 +8,6 @@ use Rattle.topology.specs.declared.TopologyError.TheVariants.{Hyperthreading, Pr
 use Rattle.topology.specs.Topology.{Inputs}
 use Rattle.masking.specs.Place
 use Rattle.table.specs.declared.Choices.{Choices}
-use Rattle.table.specs.declared.Subleaf.TheVariants.{Some}
 use Rattle.table.specs.declared.Refusal.{Refusal}
 use Rattle.table.specs.declared.Refusal.TheVariants.{PagesLength, PageCount, MissingRequiredResult, InvlpgbUnavailable, SaveAreaOverflow, TopologyInconsistent, UnknownEdition, ReservedBytes}
 use Rattle.table.specs.Edition.{editions}

@@ -1,9 +1,8 @@
 -- Demand 1: one table or one of the refusals, each under exactly its condition, and a refused write changes no lent byte. "Demand 1's list takes
 -- in this [15] and any later number that building gives" (document 02, P7).
-use Rattle.std.specs.Prelude.{◌≡◌, List, ◌↔◌, ℕ, ◌<◌}
+use Rattle.std.specs.Prelude.{◌≡◌, List, ◌↔◌, ℕ, ◌<◌, Err, Ok}
 use Rattle.table.specs.declared.Choices.{Choices}
 use Rattle.table.specs.declared.Refusal.{Refusal}
-use Rattle.table.specs.declared.Verdict.TheVariants.{Accepted, Refused}
 use Rattle.table.specs.Table.{empty_table}
 use Rattle.build.specs.Build.{answer}
 use Rattle.buffer.specs.WritesExactly.{FrontExactly}
@@ -19,9 +18,9 @@ pub record FirstFault (chosen : Choices) (s : List ℕ) (r : Refusal) : Type 0 w
 
 -- building
 pub record BuildsExactly (chosen : Choices) (s : List ℕ) : Type 0 where
-  pub accepted : ((answer chosen s).verdict ≡ Accepted) ↔ ((c : Check) (r : Refusal) → Fault chosen s c r → ⊥)
-  pub refused : (r : Refusal) → ((answer chosen s).verdict ≡ Refused r) ↔ FirstFault chosen s r
-  pub empty : (r : Refusal) → (answer chosen s).verdict ≡ Refused r → (answer chosen s).table ≡ empty_table
+  pub accepted : ((answer chosen s).verdict ≡ Ok tt) ↔ ((c : Check) (r : Refusal) → Fault chosen s c r → ⊥)
+  pub refused : (r : Refusal) → ((answer chosen s).verdict ≡ Err r) ↔ FirstFault chosen s r
+  pub empty : (r : Refusal) → (answer chosen s).verdict ≡ Err r → (answer chosen s).table ≡ empty_table
 
 -- the image that building gives
 abbrev pub image_of : Choices → List ℕ → List ℕ

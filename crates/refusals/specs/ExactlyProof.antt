@@ -1,27 +1,20 @@
 -- The proof of demand 1's statements: the verdict is that of the first check that fails (StagesSettled.antt).
-use Rattle.std.specs.Prelude.{◌≡◌, refl, Bool, true, false, ◌||◌, List, ℕ, eqb, ltb}
-use Rattle.std.proofs.Common.{ap, ◌∙◌}
-use Rattle.bits.specs.ChoiceLaws.{never_both, impossible}
+use Rattle.std.specs.Prelude.{◌≡◌, Bool, true, ◌||◌, List, ℕ, eqb, ltb, Err}
+use Rattle.std.proofs.Common.{ap}
 use Rattle.table.specs.declared.Choices.{Choices}
 use Rattle.table.specs.declared.Refusal.{Refusal}
-use Rattle.table.specs.declared.Refusal.TheVariants.{BufferTooShort}
-use Rattle.table.specs.declared.Verdict.{Verdict}
-use Rattle.table.specs.declared.Verdict.TheVariants.{Accepted, Refused}
 use Rattle.table.specs.Refusal.{details}
 use Rattle.table.specs.Table.{empty_table}
 use Rattle.finish.specs.RowsBuilt.{table_for}
 use Rattle.build.specs.Build.{rows_for, answer}
-use Rattle.buffer.specs.WritesExactlyProof.{front_exactly}
-use Rattle.image.specs.Write.{write}
 use Rattle.refusals.specs.Conditions.{Check, Fault}
 use Rattle.refusals.specs.Conditions.Check.{edition, length_of_pages, page_counts, reserved_bytes, required_leaves, invlpgb, components, save_area, processor_count, hyperthreading, threads_per_unit}
-use Rattle.refusals.specs.Exactly.{FirstFault, BuildsExactly, WritesExactly, image_of}
-use Rattle.refusals.specs.StagesSettled.{check_count, rank_lt}
+use Rattle.table.specs.Verdict.{Verdict}
 
 -- ---- building
 
 -- a refused table is empty
-pub refused_empty : (chosen : Choices) (s : List ℕ) (r : Refusal) → (answer chosen s).verdict ≡ Refused r → (answer chosen s).table ≡ empty_table
+pub refused_empty : (chosen : Choices) (s : List ℕ) (r : Refusal) → (answer chosen s).verdict ≡ Err r → (answer chosen s).table ≡ empty_table
 unfolding answer
 refused_empty chosen s r e = ap (λ (v : Verdict). table_for chosen.edition v (rows_for chosen s)) e
 

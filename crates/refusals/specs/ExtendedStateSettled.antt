@@ -1,5 +1,5 @@
 -- Check 3 on the D subleaves, and check 5: the verdicts on the needed subleaves and on the save area decide their conditions.
-use Rattle.std.specs.Prelude.{◌≡◌, refl, Bool, true, false, ◌&&◌, ◌↔◌, ℕ, zero, suc, ◌+◌, ◌^◌, ◌≤◌, ◌<◌, max, ltb, leb}
+use Rattle.std.specs.Prelude.{◌≡◌, refl, Bool, true, false, ◌&&◌, ◌↔◌, ℕ, zero, suc, ◌^◌, ◌≤◌, ◌<◌, ltb, leb, None, Some}
 use Rattle.std.proofs.Common.{inl, inr, le_trans, eq-or-lt_of_le, arith, ltb-true, ltb-false, leb-true, leb-false, le-leb}
 use Rattle.bits.specs.Choice.{pick}
 use Rattle.bits.specs.ChoiceLaws.{never_both, and_left, and_right, if_fails}
@@ -9,7 +9,6 @@ use Rattle.bits.specs.BitsLaws.{has_bit, bit_has}
 use Rattle.masking.specs.Place
 use Rattle.table.specs.declared.Refusal.TheVariants.{SaveAreaOverflow}
 use Rattle.table.specs.Rows.{Rows}
-use Rattle.checks.specs.declared.Size.TheVariants.{Bytes, TooLarge}
 use Rattle.checks.specs.ExtendedState.{xfem, combined_mask, supplied, sum_at, grown, area_below, save_area, size_of}
 use Rattle.checks.specs.Checks.{missing_component, components_of, components_verdict, size_verdict, area_verdict}
 use Rattle.refusals.specs.Conditions.{Lacking, ComponentFault, AreaFault}
@@ -94,7 +93,7 @@ unfolding area_verdict size_of
 area_decides m = go (ltb (save_area m (xfem m)) (2 ^ 32)) refl
   where
     go : (b : Bool) → ltb (save_area m (xfem m)) (2 ^ 32) ≡ b
-        → Settles (λ q. AreaFault m × (q ≡ SaveAreaOverflow)) (size_verdict (pick b (Bytes (save_area m (xfem m))) TooLarge))
+        → Settles (λ q. AreaFault m × (q ≡ SaveAreaOverflow)) (size_verdict (pick b (Some (save_area m (xfem m))) None))
     go true e =
         never
         (λ f.

@@ -1,10 +1,9 @@
 -- That the elements are bytes is needed: the definitions read lists of any numbers, and of a list with a larger one 17 can name a leaf that eight
 -- hexadecimal digits do not hold. No slice of bytes is such a list.
-use Rattle.std.specs.Prelude.{◌≡◌, refl, List, [], ◌∷◌, ◌++◌, ℕ, ◌^◌, replicate}
+use Rattle.std.specs.Prelude.{◌≡◌, refl, List, [], ◌∷◌, ◌++◌, ℕ, ◌^◌, replicate, Err}
 use Rattle.std.proofs.Common.{arith}
 use Rattle.x86defs.specs.Functions.{function}
 use Rattle.table.specs.declared.Refusal.TheVariants.{ReservedBytes}
-use Rattle.table.specs.declared.Verdict.TheVariants.{Refused}
 use Rattle.build.specs.Build.{answer}
 use Rattle.page_sets.specs.PageSets.{page}
 use Rattle.page_sets.specs.Evaluation.{first_edition, evaluated}
@@ -14,7 +13,7 @@ use Rattle.refusals.specs.Lined.{Lined}
 abbrev pub not_bytes : List ℕ
 not_bytes = page 1 ((2 ^ 32 ∷ replicate 46 0) ++ (1 ∷ []))
 
-pub not_bytes_refused : (answer first_edition not_bytes).verdict ≡ Refused (ReservedBytes (function (2 ^ 32)))
+pub not_bytes_refused : (answer first_edition not_bytes).verdict ≡ Err (ReservedBytes (function (2 ^ 32)))
 unfolding evaluated
 not_bytes_refused = refl
 

@@ -1,27 +1,25 @@
 -- Examples: three refused page sets, each with the bytes of its line. Reading such a line gives the refusal back.
-use Rattle.std.specs.Prelude.{◌≡◌, refl, true, List, [], ◌∷◌, ℕ}
+use Rattle.std.specs.Prelude.{◌≡◌, refl, true, List, [], ◌∷◌, ℕ, Err, Ok, Some}
 use Rattle.std.proofs.Common.{ap}
 use Rattle.bits.specs.Lists.{sum_to}
 use Rattle.lines.specs.Digits.{digits, width}
 use Rattle.x86defs.specs.Functions.{ExtendedStateEnumeration}
-use Rattle.pages.specs.Bytes.{are_bytes, bytes_at}
+use Rattle.pages.specs.Bytes.{are_bytes}
 use Rattle.topology.specs.declared.TopologyError.TheVariants.{ProcessorCount, ThreadsPerUnit}
-use Rattle.table.specs.declared.Subleaf.TheVariants.{Some}
 use Rattle.table.specs.declared.Refusal.TheVariants.{MissingRequiredResult, TopologyInconsistent}
-use Rattle.table.specs.declared.Verdict.{Verdict}
-use Rattle.table.specs.declared.Verdict.TheVariants.{Accepted, Refused}
 use Rattle.build.specs.Build.{answer}
 use Rattle.page_sets.specs.PageSets.{entry, with_first, server_without_d12}
 use Rattle.page_sets.specs.PassLaws.{verdict_passed}
 use Rattle.page_sets.specs.Evaluation.{first_edition, passed}
 use Rattle.lines.specs.NumbersInUse.{rows, names}
 use Rattle.lines.specs.Line.{fields, line}
-use Rattle.refusals.specs.Lined.{told_of, Lined}
+use Rattle.refusals.specs.Lined.{told_of}
+use Rattle.table.specs.Verdict.{Verdict}
 
 -- the line of a verdict that refuses
 abbrev pub line_of : Verdict → List ℕ
-line_of Accepted = []
-line_of (Refused r) = line (told_of r)
+line_of (Ok _) = []
+line_of (Err r) = line (told_of r)
 
 -- s = 1, and one processor: 7
 unfoldable pub size_one : List ℕ
@@ -31,15 +29,15 @@ size_one = with_first (entry 0x80000008 0 0x3030 0x111ED21F 0x1000 0x10007)
 unfoldable pub two_threads : List ℕ
 two_threads = with_first (entry 0x8000001E 0 0 0x100 0 0)
 
-without_refused : (answer first_edition server_without_d12).verdict ≡ Refused (MissingRequiredResult ExtendedStateEnumeration (Some 12))
+without_refused : (answer first_edition server_without_d12).verdict ≡ Err (MissingRequiredResult ExtendedStateEnumeration (Some 12))
 unfolding passed server_without_d12
 without_refused = verdict_passed first_edition server_without_d12
 
-size_refused : (answer first_edition size_one).verdict ≡ Refused (TopologyInconsistent (ProcessorCount 1))
+size_refused : (answer first_edition size_one).verdict ≡ Err (TopologyInconsistent (ProcessorCount 1))
 unfolding passed size_one
 size_refused = verdict_passed first_edition size_one
 
-pub threads_refused : (answer first_edition two_threads).verdict ≡ Refused (TopologyInconsistent ThreadsPerUnit)
+pub threads_refused : (answer first_edition two_threads).verdict ≡ Err (TopologyInconsistent ThreadsPerUnit)
 unfolding passed two_threads
 threads_refused = verdict_passed first_edition two_threads
 

@@ -1,11 +1,10 @@
 -- Check 17: the verdict on the reserved bytes decides its condition.
-use Rattle.std.specs.Prelude.{◌≡◌, refl, false, List, ℕ, ◌+◌}
+use Rattle.std.specs.Prelude.{◌≡◌, refl, false, List, ℕ, ◌+◌, Err}
 use Rattle.std.proofs.Common.{sym, ◌∙◌}
 use Rattle.std.proofs.Math.Path.{ap}
 use Rattle.std.proofs.Math.Bool.{not-eq-not}
 use Rattle.bits.specs.ChoiceLaws.{never_both}
 use Rattle.pages.specs.Layout.{entry_at, entry_start}
-use Rattle.pages.specs.declared.reserved.Reserved.TheVariants.{Nonzero}
 use Rattle.pages.specs.Reserved.{reserved_at, reserved_of}
 use Rattle.pages.specs.ZerosLaws.{zero_byte, nonzero_byte, zero_bytes}
 use Rattle.pages.specs.ReservedLaws.{FirstUnclean, Cleanness, clean_at, unclean_named}
@@ -47,7 +46,7 @@ module _ (s : List ℕ) where
   -- there is one first at most, so one leaf that is named
   same_leaf : (p q i j : ℕ) → FirstUnclean s p q → FirstUnclean s i j → (entry_at s i j).leaf ≡ (entry_at s p q).leaf
   same_leaf p q i j u v =
-      let e : Nonzero (entry_at s i j).leaf ≡ Nonzero (entry_at s p q).leaf = sym (unclean_named s i j v) ∙ unclean_named s p q u in cc
+      let e : Err (entry_at s i j).leaf ≡ Err (entry_at s p q).leaf = sym (unclean_named s i j v) ∙ unclean_named s p q u in cc
 
   abbrev Condition : Refusal → Type 0
   Condition r = (p : ℕ) × (q : ℕ) × ReservedFault s p q × (r ≡ ReservedBytes (entry_at s p q).leaf)

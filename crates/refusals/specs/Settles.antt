@@ -1,20 +1,19 @@
 -- What it is for a verdict to decide a condition: it accepts where the condition never holds, and else refuses with the one refusal that
 -- the condition gives. Laws for the two shapes of a check: a test with one refusal, and the lowest number that fails a test.
-use Rattle.std.specs.Prelude.{◌≡◌, refl, Bool, ◌↔◌, ℕ}
+use Rattle.std.specs.Prelude.{◌≡◌, refl, Bool, ◌↔◌, ℕ, Err, Ok}
 use Rattle.std.proofs.Common.{sym, ap, ◌∙◌}
 use Rattle.bits.specs.ChoiceLaws.{never_both}
 use Rattle.bits.specs.Search.{Failing, lowest}
 use Rattle.bits.specs.Search.Failing.{at, none}
 use Rattle.bits.specs.SearchLaws.{Lowest, lowest_none, lowest_at, lowest_unique}
 use Rattle.table.specs.declared.Refusal.{Refusal}
-use Rattle.table.specs.declared.Verdict.{Verdict}
-use Rattle.table.specs.declared.Verdict.TheVariants.{Accepted, Refused}
 use Rattle.checks.specs.Checks.{refuse_at}
+use Rattle.table.specs.Verdict.{Verdict}
 
 -- F r: the condition holds, and its refusal is r
 pub data Settles (F : Refusal → Type 0) (v : Verdict) : Type 0 where
-  passes : v ≡ Accepted → ((r : Refusal) → F r → ⊥) → Settles F v
-  refuses : (r : Refusal) → v ≡ Refused r → F r → ((q : Refusal) → F q → q ≡ r) → Settles F v
+  passes : v ≡ Ok tt → ((r : Refusal) → F r → ⊥) → Settles F v
+  refuses : (r : Refusal) → v ≡ Err r → F r → ((q : Refusal) → F q → q ≡ r) → Settles F v
 
 -- a decided condition gives one refusal at most
 pub decided_unique : {F : Refusal → Type 0} {v : Verdict} → Settles F v → (q r : Refusal) → F q → F r → q ≡ r
@@ -23,10 +22,10 @@ decided_unique (refuses p e h one) q r f g = one q f ∙ sym (one r g)
 
 -- a condition that has one refusal, whatever makes it hold
 module _ {C : Type 0} {r : Refusal} where
-  pub never : (C → ⊥) → Settles (λ q. C × (q ≡ r)) Accepted
+  pub never : (C → ⊥) → Settles (λ q. C × (q ≡ r)) (Ok tt)
   never n = passes refl (λ q f. n f.0)
 
-  pub holds : C → Settles (λ q. C × (q ≡ r)) (Refused r)
+  pub holds : C → Settles (λ q. C × (q ≡ r)) (Err r)
   holds c = refuses r refl (c, refl) (λ q f. f.1)
 
 -- a condition on a number, which names it in its refusal, where it says that this is the lowest that fails a test

@@ -1,29 +1,13 @@
 -- The answer's verdict is the verdicts of the eleven checks in the order of their ranks, and so refuses exactly at the first fault.
-use Rattle.std.specs.Prelude.{◌≡◌, List, [], ◌∷◌, eqb, get_or}
+use Rattle.std.specs.Prelude.{◌≡◌, List, [], ◌∷◌, eqb, get_or, Err, Ok}
 use Rattle.std.proofs.Math.Path.{refl}
-use Rattle.std.proofs.Common.{sym, ap, ◌∙◌, inl, inr, le_refl, eq-or-lt_of_le, arith, lit<, eqb-true}
-use Prim.Native.Nat.{ℕ, zero, suc, ◌≤◌, ◌<◌}
+use Rattle.std.proofs.Common.{sym, ap, ◌∙◌, lit<, eqb-true}
+use Prim.Native.Nat.{ℕ, ◌<◌}
 use Rattle.bits.specs.SearchLaws.{every_at}
-use Rattle.table.specs.declared.Choices.{Choices}
-use Rattle.table.specs.declared.Refusal.{Refusal}
-use Rattle.table.specs.declared.Verdict.{Verdict}
-use Rattle.table.specs.declared.Verdict.TheVariants.{Accepted, Refused}
 use Rattle.table.specs.Refusal.{and_then}
-use Rattle.table.specs.Rows.{Rows}
-use Rattle.checks.specs.TopologyInputs.{inputs_of}
-use Rattle.checks.specs.Checks.{required_verdict, invlpgb_verdict, components_verdict, area_verdict, rows_verdict}
-use Rattle.build.specs.Build.{rows_for, edition_verdict, verdict_of, answer}
-use Rattle.collect.specs.Lawful.{length_verdict, counts_verdict, reserved_verdict, lawful_verdict}
-use Rattle.refusals.specs.Conditions.{Check, rank, Fault, processors_said}
+use Rattle.refusals.specs.Conditions.{Check, rank}
 use Rattle.refusals.specs.Conditions.Check.{edition, length_of_pages, page_counts, reserved_bytes, required_leaves, invlpgb, components, save_area, processor_count, hyperthreading, threads_per_unit}
-use Rattle.refusals.specs.Exactly.{FirstFault}
-use Rattle.refusals.specs.Settles.{Settles, decided_unique}
-use Rattle.refusals.specs.Settles.Settles.{passes, refuses}
-use Rattle.refusals.specs.PagesSettled.{edition_decides, length_decides, counts_decide}
-use Rattle.refusals.specs.ReservedSettled.{reserved_decides}
-use Rattle.refusals.specs.RequiredSettled.{required_decides, invlpgb_decides}
-use Rattle.refusals.specs.ExtendedStateSettled.{components_decide, area_decides}
-use Rattle.refusals.specs.TopologySettled.{processor_count_verdict, hyperthreading_verdict, threads_verdict, topology_in_order, mt_lt, processor_count_decides, hyperthreading_decides, threads_decide}
+use Rattle.table.specs.Verdict.{Verdict}
 
 -- ---- the check of each rank
 
@@ -76,5 +60,5 @@ rank_unique c d e = sym (check_rank c).1 ∙ ap check_at e ∙ (check_rank d).1
 -- ---- the checks in order
 
 pub then_assoc : (u v w : Verdict) → and_then (and_then u v) w ≡ and_then u (and_then v w)
-then_assoc Accepted v w = refl
-then_assoc (Refused r) v w = refl
+then_assoc (Ok _) v w = refl
+then_assoc (Err r) v w = refl

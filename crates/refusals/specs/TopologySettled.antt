@@ -1,5 +1,5 @@
 -- Checks 6 to 8: the verdict on the topology is three verdicts in order, 7, 6 and 8, and each decides its condition.
-use Rattle.std.specs.Prelude.{◌≡◌, Bool, not, ◌&&◌, ◌||◌, ℕ, ◌+◌, ◌^◌, ◌≤◌, ◌<◌}
+use Rattle.std.specs.Prelude.{◌≡◌, Bool, not, ◌&&◌, ◌||◌, ℕ, ◌+◌, ◌^◌, ◌≤◌, ◌<◌, Err, Ok}
 use Rattle.std.proofs.Math.Path.{refl}
 use Rattle.std.proofs.Math.Bool.{true, false}
 use Rattle.std.proofs.Math.Logic.{inl, inr}
@@ -9,10 +9,8 @@ use Rattle.std.proofs.lemmas.Bool.{eqb-false}
 use Rattle.bits.specs.Choice.{pick}
 use Rattle.bits.specs.BitsLaws.{bit_lt}
 use Rattle.topology.specs.declared.TopologyError.TheVariants.{Hyperthreading, ProcessorCount, ThreadsPerUnit}
-use Rattle.topology.specs.declared.Topology.TheVariants.{Processors, Inconsistent}
 use Rattle.topology.specs.Topology.{Inputs, topology_of, threads_in}
 use Rattle.table.specs.declared.Refusal.TheVariants.{TopologyInconsistent}
-use Rattle.table.specs.declared.Verdict.{Verdict}
 use Rattle.table.specs.Refusal.{and_then}
 use Rattle.table.specs.Rows.{Rows}
 use Rattle.checks.specs.TopologyInputs.{inputs_of}
@@ -21,6 +19,7 @@ use Rattle.refusals.specs.Conditions.{ProcessorCountFault, HyperthreadingFault, 
 use Rattle.refusals.specs.Conditions.ProcessorCountFault.{legacy, too_many, not_all}
 use Rattle.refusals.specs.Conditions.HyperthreadingFault.{many_cores, many_processors, unsaid}
 use Rattle.refusals.specs.Settles.{Settles, never, holds}
+use Rattle.table.specs.Verdict.{Verdict}
 
 -- ---- the three verdicts, with the tests of `topology_of`
 
@@ -48,7 +47,7 @@ unfolding threads_in threads_verdict
 threads_verdict_lem v t = go (ltb 1 t || leb v t)
   where
     go : (b : Bool)
-        → topology_refusal (pick b (Inconsistent ThreadsPerUnit) (Processors v)) ≡ refuse_unless (not b) (TopologyInconsistent ThreadsPerUnit)
+        → topology_refusal (pick b (Err ThreadsPerUnit) (Ok v)) ≡ refuse_unless (not b) (TopologyInconsistent ThreadsPerUnit)
     go true = refl
     go false = refl
 
@@ -58,10 +57,10 @@ module _ (s t x y z : ℕ) where
       → topology_refusal
       (pick none
       (pick single
-      (pick lone (threads_in x t) (Inconsistent (Hyperthreading s)))
-      (pick same (threads_in y t) (Inconsistent (ProcessorCount s))))
+      (pick lone (threads_in x t) (Err (Hyperthreading s)))
+      (pick same (threads_in y t) (Err (ProcessorCount s))))
       (pick few
-      (pick all (pick said (threads_in z t) (Inconsistent (Hyperthreading s))) (Inconsistent (ProcessorCount s)))
+      (pick all (pick said (threads_in z t) (Err (Hyperthreading s))) (Err (ProcessorCount s)))
       (threads_in z t)))
       ≡ and_then (refuse_unless (pick none (pick single true same) (pick few all true)) (TopologyInconsistent (ProcessorCount s)))
       (and_then (refuse_unless (pick none (pick single lone true) (pick few said true)) (TopologyInconsistent (Hyperthreading s)))

@@ -1,22 +1,10 @@
 -- The computed test of 19 says what its words say.
-use Rattle.std.specs.Prelude.{◌≡◌, Bool, ℕ, zero, suc, ◌≤◌, ◌<◌}
-use Rattle.std.proofs.Math.Path.{refl}
-use Rattle.std.proofs.Common.{sym, arith, eqb-true, eq-eqb}
-use Rattle.std.proofs.Math.Bool.{true, false}
-use Rattle.bits.specs.Choice.{pick}
-use Rattle.bits.specs.ChoiceLaws.{and_both, if_holds}
-use Rattle.bits.specs.Search.{every}
-use Rattle.bits.specs.SearchLaws.{every_at}
-use Rattle.bits.specs.Bits.{bit}
+use Rattle.std.specs.Prelude.{◌≡◌, ℕ}
 use Rattle.x86defs.specs.declared.CpuidResult.{CpuidResult}
-use Rattle.masking.specs.Kept.{places}
 use Rattle.table.specs.Rows.{Rows}
-use Rattle.finish.specs.Kinds.{Kind, Kinds, Registers, kinds_at}
-use Rattle.finish.specs.Kinds.Kind.{feature, feature_but28, area, freed, other}
-use Rattle.finish.specs.RegisterTestLaws.{registers_hold, registers_tested}
+use Rattle.finish.specs.Kinds.{Kinds, Registers, kinds_at}
 use Rattle.register_masks.specs.Join.{pool}
-use Rattle.register_masks.specs.Alike.{Alike, alike_test, registers_alike, all_have, alike_to, all_alike, AlikeAt, AllAlike}
-use Rattle.register_masks.specs.RegisterRunLaws.{all_at, all_of}
+use Rattle.register_masks.specs.Alike.{Alike, registers_alike}
 use Rattle.register_masks.specs.JoinedEntryLaws.{registers_refl, registers_both}
 use Rattle.register_masks.proofs.PoolLaws.{like_first}
 use Rattle.register_masks.specs.AlikeLaws.{registers_test, same_truth, test_registers}

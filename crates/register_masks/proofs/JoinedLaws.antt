@@ -1,10 +1,9 @@
 -- One server more. Two accepted row sets joined are accepted, whether 19 is due or not; on rows and combined mask the join is the and, and on
 -- feature registers too where the entries are alike else.
-use Rattle.std.specs.Prelude.{◌≡◌, Bool, ◌&&◌, ℕ, ◌+◌, ◌≤◌, ◌<◌, ◌^◌, ltb}
+use Rattle.std.specs.Prelude.{◌≡◌, Bool, ◌&&◌, ℕ, ◌+◌, ◌≤◌, ◌<◌, Err, Ok}
 use Rattle.std.proofs.Math.Path.{refl, ap, subst}
-use Rattle.std.proofs.Common.{sym, ap₂, ◌∙◌, arith, ltb-true, lt-ltb}
+use Rattle.std.proofs.Common.{sym, ap₂, ◌∙◌, arith}
 use Rattle.std.proofs.Math.Bool.{true, false}
-use Rattle.std.specs.Int.Bits.{bit_and}
 use Rattle.bits.specs.Choice.{pick}
 use Rattle.bits.specs.ChoiceLaws.{never_both, and_both, and_implied, pick_true}
 use Rattle.bits.specs.Search.{Failing}
@@ -17,23 +16,21 @@ use Rattle.topology.specs.Topology.{Inputs, topology_of}
 use Rattle.masking.specs.Kept.{places, kept_leaves, slot}
 use Rattle.masking.specs.Place
 use Rattle.table.specs.declared.Refusal.TheVariants.{InvlpgbUnavailable}
-use Rattle.table.specs.declared.Verdict.TheVariants.{Accepted, Refused}
 use Rattle.table.specs.Rows.{Rows}
-use Rattle.checks.specs.declared.Size.TheVariants.{Bytes, TooLarge}
-use Rattle.checks.specs.ExtendedState.{xfem, xss, combined_mask, supplied, sum_at, save_area, size_of}
+use Rattle.checks.specs.ExtendedState.{xfem, xss, combined_mask, supplied, sum_at, save_area}
 use Rattle.checks.specs.ExtendedStateLaws.{area_mono}
 use Rattle.checks.specs.TopologyInputs.{inputs_of}
-use Rattle.checks.specs.Checks.{refuse_at, missing_component, size_verdict, required_verdict, invlpgb_verdict, components_of, components_verdict, area_verdict, topology_verdict, topology_refusal, rows_verdict}
+use Rattle.checks.specs.Checks.{refuse_at, missing_component, required_verdict, invlpgb_verdict, components_of, components_verdict, area_verdict, topology_verdict, topology_refusal, rows_verdict}
 use Rattle.checks.specs.ChecksLaws.{AllPass, all_pass, required_present, present_required, component_present, demanded, then_skips}
-use Rattle.finish.specs.Finish.{Needed, Rule, rule_at, enabled_by, settings, finished, unless_no_xss}
+use Rattle.finish.specs.Finish.{Rule, rule_at, enabled_by, settings, finished, unless_no_xss}
 use Rattle.finish.specs.Finish.Needed.{extended_state1}
 use Rattle.finish.specs.Finish.Rule.{made, needed, component}
 use Rattle.finish.specs.Kinds.{Kinds, Registers, register_kinds, kinds_at, from_entry}
 use Rattle.finish.specs.RuleKinds.{kinds_of, kinds_at_lem, component_kinds}
 use Rattle.finish.specs.FeatureLaws.{both_enable}
-use Rattle.finish.specs.MeetLaws.{meet_rows, meet_results, MaskedState, FeaturesMeet, xfem_meet, xss_meet, enabled_meet, mask_meet}
+use Rattle.finish.specs.MeetLaws.{meet_rows, MaskedState, FeaturesMeet}
 use Rattle.finish.proofs.MeetLaws.{finish_meet_at}
-use Rattle.finish.specs.PlaceLaws.{always, position, always_required, component_rule, Sort, sort}
+use Rattle.finish.specs.PlaceLaws.{always, position, always_required, Sort, sort}
 use Rattle.finish.specs.PlaceLaws.Sort.{made as made_here, required, subleaf}
 use Rattle.finish.specs.RemainsLaws.{finished_present}
 use Rattle.finish.proofs.RemainsLaws.{finished_result, made_remains, always_remains, component_finished}
@@ -45,7 +42,7 @@ use Rattle.register_masks.specs.JoinedEntryLaws.{keeps_28}
 use Rattle.register_masks.proofs.JoinedEntryLaws.{results_joined}
 use Rattle.register_masks.specs.JoinedLaws.{enabled_with_lem, mask_with, smaller_passes, xfem_with, xss_with}
 
-module _ (a b : Rows) (okA : rows_verdict a ≡ Accepted) (okB : rows_verdict b ≡ Accepted) where
+module _ (a b : Rows) (okA : rows_verdict a ≡ Ok tt) (okB : rows_verdict b ≡ Ok tt) where
   pass_a : AllPass a
   pass_a = all_pass a okA
 
@@ -59,20 +56,20 @@ module _ (a b : Rows) (okA : rows_verdict a ≡ Accepted) (okB : rows_verdict b 
   unfolding combined_mask
   mask_first = within_or xfem_first xss_first
 
-  required_ok : required_verdict (with_server a b) ≡ Accepted
+  required_ok : required_verdict (with_server a b) ≡ Ok tt
   unfolding with_server
   required_ok = present_required (with_server a b) (required_present a pass_a.required)
 
-  invlpgb_ok : invlpgb_verdict (with_server a b) ≡ Accepted
+  invlpgb_ok : invlpgb_verdict (with_server a b) ≡ Ok tt
   unfolding invlpgb_verdict with_server kinds_at register_kinds slot kept_leaves
   invlpgb_ok =
-      pick_true Accepted (Refused InvlpgbUnavailable)
+      pick_true (Ok tt) (Err InvlpgbUnavailable)
       (has_and 3 (a Place.extended_address_space_sizes).result.ebx (b Place.extended_address_space_sizes).result.ebx
       ∙ and_both (demanded (has 3 (a Place.extended_address_space_sizes).result.ebx) InvlpgbUnavailable pass_a.invlpgb)
       (demanded (has 3 (b Place.extended_address_space_sizes).result.ebx) InvlpgbUnavailable (all_pass b okB).invlpgb))
 
   -- a needed subleaf is needed by the first, which has it
-  components_ok : components_verdict (with_server a b) ≡ Accepted
+  components_ok : components_verdict (with_server a b) ≡ Ok tt
   unfolding components_verdict components_of with_server
   components_ok =
       ap (λ (x : Failing). refuse_at x missing_component)
@@ -93,7 +90,7 @@ module _ (a b : Rows) (okA : rows_verdict a ≡ Accepted) (okB : rows_verdict b 
   area_first : save_area (with_server a b) (xfem (with_server a b)) ≤ save_area a (xfem a)
   area_first = area_mono (with_server a b) a 64 xfem_first (λ k l u h. sums_first k l u)
 
-  area_ok : area_verdict (with_server a b) ≡ Accepted
+  area_ok : area_verdict (with_server a b) ≡ Ok tt
   unfolding area_verdict
   area_ok = smaller_passes area_first pass_a.area
 
@@ -101,11 +98,11 @@ module _ (a b : Rows) (okA : rows_verdict a ≡ Accepted) (okB : rows_verdict b 
   unfolding inputs_of with_server kinds_at register_kinds slot kept_leaves
   inputs_first = cc (keeps_28 (a Place.version_and_features).result.edx (b Place.version_and_features).result.edx)
 
-  topology_ok : topology_verdict (with_server a b) ≡ Accepted
+  topology_ok : topology_verdict (with_server a b) ≡ Ok tt
   unfolding topology_verdict
   topology_ok = ap (λ (i : Inputs). topology_refusal (topology_of i)) inputs_first ∙ pass_a.topology
 
-  pub with_accepted : rows_verdict (with_server a b) ≡ Accepted
+  pub with_accepted : rows_verdict (with_server a b) ≡ Ok tt
   unfolding rows_verdict
   with_accepted = then_skips required_ok ∙ then_skips invlpgb_ok ∙ then_skips components_ok ∙ then_skips area_ok ∙ topology_ok
 
@@ -115,7 +112,7 @@ module _ (edition : ℕ) where
   made_in : (m : Rows) (i : ℕ) → i < places → from_entry (rule_at i) ≡ false → (finished edition m i).present ≡ true
   made_in m i l e = finished_present edition m i ∙ made_remains (settings edition m) (λ j. (m j).present) i l e
 
-  pub required_in : (m : Rows) → rows_verdict m ≡ Accepted → (i : ℕ) → i < places → always (rule_at i) ≡ true → (finished edition m i).present ≡ true
+  pub required_in : (m : Rows) → rows_verdict m ≡ Ok tt → (i : ℕ) → i < places → always (rule_at i) ≡ true → (finished edition m i).present ≡ true
   required_in m ok i l e =
       finished_present edition m i
       ∙ always_remains (settings edition m) (λ j. (m j).present) i l e
@@ -123,13 +120,13 @@ module _ (edition : ℕ) where
       (required_present m (all_pass m ok).required (position i) (always_required i l e).0)
 
   -- a Dh subleaf from 2 up: by its bit of the combined mask alone
-  component_in : (m : Rows) → rows_verdict m ≡ Accepted → (k : ℕ) → 2 ≤ k → k < 64
+  component_in : (m : Rows) → rows_verdict m ≡ Ok tt → (k : ℕ) → 2 ≤ k → k < 64
       → (finished edition m (Place.extended_state k)).present ≡ has k (combined_mask m)
   component_in m ok k l u =
       component_finished edition m k l u ∙ and_implied (has k (combined_mask m)) _ (component_present m (all_pass m ok).components k l u)
 
   -- the rows that both tables have
-  pub present_with : (a b : Rows) → rows_verdict a ≡ Accepted → rows_verdict b ≡ Accepted → MaskedState a → MaskedState b → (i : ℕ) → i < places
+  pub present_with : (a b : Rows) → rows_verdict a ≡ Ok tt → rows_verdict b ≡ Ok tt → MaskedState a → MaskedState b → (i : ℕ) → i < places
       → (finished edition (with_server a b) i).present ≡ ((finished edition a i).present && (finished edition b i).present)
   present_with a b p q ma mb i l = go (sort i l)
     where
@@ -167,7 +164,7 @@ module _ (edition : ℕ) where
       go (component k) e = record { eax = tt; ebx = tt; ecx = tt; edx = tt }
 
   -- the and of both tables', where the entries are alike else
-  pub features_with : (a b : Rows) → rows_verdict a ≡ Accepted → rows_verdict b ≡ Accepted → (i : ℕ) → i < places
+  pub features_with : (a b : Rows) → rows_verdict a ≡ Ok tt → rows_verdict b ≡ Ok tt → (i : ℕ) → i < places
       → (always (rule_at i) ≡ true → Registers Alike (kinds_at i) (a i).result (b i).result)
       → FeaturesMeet (kinds_at i) (finished edition (with_server a b) i).result (finished edition a i).result (finished edition b i).result
   unfolding with_server meet_rows settings

@@ -1,31 +1,23 @@
 -- A pool of servers 0 to n, each accepted by itself: the pool is accepted, 19 due or not; its rows are those that all tables have; where 19
 -- is not due its feature registers are the and of the servers', the greatest lower bound.
-use Rattle.std.specs.Prelude.{◌≡◌, Bool, true, ◌&&◌}
+use Rattle.std.specs.Prelude.{◌≡◌, Bool, true, ◌&&◌, Ok}
 use Rattle.std.proofs.Math.Path.{refl, ap}
-use Rattle.std.proofs.Common.{sym, ◌∙◌, le_refl, arith}
+use Rattle.std.proofs.Common.{sym, ◌∙◌, le_refl}
 use Prim.Native.Nat.{ℕ, zero, suc, ◌≤◌, ◌<◌}
-use Rattle.std.specs.Int.Bits.{bit_and}
-use Rattle.bits.specs.Bits.{Within}
-use Rattle.bits.specs.BitsLaws.{within_eq, within_trans}
 use Rattle.x86defs.specs.declared.CpuidResult.{CpuidResult}
 use Rattle.masking.specs.Kept.{places, kept_leaves, slot}
 use Rattle.masking.specs.Place
-use Rattle.table.specs.declared.Verdict.TheVariants.{Accepted}
 use Rattle.table.specs.Rows.{Rows}
-use Rattle.checks.specs.ExtendedState.{combined_mask}
 use Rattle.checks.specs.Checks.{rows_verdict}
 use Rattle.finish.specs.Finish.{rule_at, finished}
-use Rattle.finish.specs.Kinds.{Kind, Kinds, Registers, register_kinds, kinds_at}
-use Rattle.finish.specs.Kinds.Kind.{feature, feature_but28, area, freed, other}
-use Rattle.finish.specs.MeetLaws.{MaskedState, FeatureMeet}
+use Rattle.finish.specs.Kinds.{Registers, register_kinds, kinds_at}
 use Rattle.finish.specs.PlaceLaws.{always}
 use Rattle.finish.specs.XsavesLaws.{XsavesEdx}
-use Rattle.register_masks.specs.Join.{with_server, pool, and_to, all_to}
+use Rattle.register_masks.specs.Join.{with_server, pool, all_to}
 use Rattle.register_masks.specs.Alike.{Alike, AlikeAt, AllAlike, all_have}
-use Rattle.register_masks.specs.Features.{FeatureIs, FeaturesAre, FeatureWithin}
-use Rattle.register_masks.specs.RegisterRunLaws.{and_to_ext, all_at, all_of, and_to_within, and_to_greatest}
+use Rattle.register_masks.specs.Features.{FeaturesAre, FeatureWithin}
+use Rattle.register_masks.specs.RegisterRunLaws.{all_at, all_of}
 use Rattle.register_masks.specs.JoinedEntryLaws.{registers_refl, registers_both}
-use Rattle.register_masks.specs.JoinedLaws.{mask_with, masked_with}
 use Rattle.register_masks.proofs.JoinedLaws.{with_accepted, required_in, present_with, features_with}
 use Rattle.register_masks.specs.PoolLaws.{Servers, fewer}
 use Rattle.register_masks.proofs.JoinedEntryLaws.{registers_pooled}
@@ -33,7 +25,7 @@ use Rattle.register_masks.specs.PoolLaws.{Servers, feature_first, feature_next, 
 
 -- ---- accepted, and its mask, 19 or not
 
-pub pool_accepted : (f : ℕ → Rows) (n : ℕ) → Servers f n → rows_verdict (pool f n) ≡ Accepted
+pub pool_accepted : (f : ℕ → Rows) (n : ℕ) → Servers f n → rows_verdict (pool f n) ≡ Ok tt
 unfolding pool
 pool_accepted f zero s = s.accepted 0 (le_refl 0)
 pool_accepted f (suc n) s = with_accepted (pool f n) (f (suc n)) (pool_accepted f n (fewer f n s)) (s.accepted (suc n) (le_refl (suc n)))

@@ -1,5 +1,5 @@
 -- The computed test of 19 says what its words say.
-use Rattle.std.specs.Prelude.{◌≡◌, Bool, ℕ, zero, suc, ◌≤◌, ◌<◌}
+use Rattle.std.specs.Prelude.{◌≡◌, Bool, ℕ, zero, suc, ◌<◌}
 use Rattle.std.proofs.Math.Path.{refl}
 use Rattle.std.proofs.Common.{sym, arith, eqb-true, eq-eqb}
 use Rattle.std.proofs.Math.Bool.{true, false}
@@ -14,10 +14,8 @@ use Rattle.table.specs.Rows.{Rows}
 use Rattle.finish.specs.Kinds.{Kind, Kinds, Registers, kinds_at}
 use Rattle.finish.specs.Kinds.Kind.{feature, feature_but28, area, freed, other}
 use Rattle.finish.specs.RegisterTestLaws.{registers_hold, registers_tested}
-use Rattle.register_masks.specs.Join.{pool}
 use Rattle.register_masks.specs.Alike.{Alike, alike_test, registers_alike, all_have, alike_to, all_alike, AlikeAt, AllAlike}
 use Rattle.register_masks.specs.RegisterRunLaws.{all_at, all_of}
-use Rattle.register_masks.specs.JoinedEntryLaws.{registers_refl, registers_both}
 
 test_alike : (k : Kind) (a b : ℕ) → alike_test k a b ≡ true → Alike k a b
 test_alike feature a b e = tt

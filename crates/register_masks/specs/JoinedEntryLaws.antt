@@ -13,8 +13,8 @@ use Rattle.bits.proofs.BitsLaws.{none_from}
 use Rattle.x86defs.specs.declared.CpuidResult.{CpuidResult}
 use Rattle.finish.specs.Kinds.{Kind, Kinds, Registers}
 use Rattle.finish.specs.Kinds.Kind.{feature, feature_but28, area, freed, other}
-use Rattle.finish.specs.MeetLaws.{meet, meet_results}
-use Rattle.register_masks.specs.Join.{joined_register, pooled_results}
+use Rattle.finish.specs.MeetLaws.{meet}
+use Rattle.register_masks.specs.Join.{joined_register}
 use Rattle.register_masks.specs.Alike.{Alike}
 
 -- ---- bit 28

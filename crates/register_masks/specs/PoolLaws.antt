@@ -1,35 +1,28 @@
 -- A pool of servers 0 to n, each accepted by itself: the pool is accepted, 19 due or not; its rows are those that all tables have; where 19
 -- is not due its feature registers are the and of the servers', the greatest lower bound.
-use Rattle.std.specs.Prelude.{◌≡◌, Bool, true, ◌&&◌}
+use Rattle.std.specs.Prelude.{◌≡◌, Ok}
 use Rattle.std.proofs.Math.Path.{refl, ap}
 use Rattle.std.proofs.Common.{sym, ◌∙◌, le_refl, arith}
-use Prim.Native.Nat.{ℕ, zero, suc, ◌≤◌, ◌<◌}
+use Prim.Native.Nat.{ℕ, zero, suc, ◌≤◌}
 use Rattle.std.specs.Int.Bits.{bit_and}
 use Rattle.bits.specs.Bits.{Within}
 use Rattle.bits.specs.BitsLaws.{within_eq, within_trans}
 use Rattle.x86defs.specs.declared.CpuidResult.{CpuidResult}
-use Rattle.masking.specs.Kept.{places, kept_leaves, slot}
-use Rattle.masking.specs.Place
-use Rattle.table.specs.declared.Verdict.TheVariants.{Accepted}
 use Rattle.table.specs.Rows.{Rows}
 use Rattle.checks.specs.ExtendedState.{combined_mask}
 use Rattle.checks.specs.Checks.{rows_verdict}
-use Rattle.finish.specs.Finish.{rule_at, finished}
-use Rattle.finish.specs.Kinds.{Kind, Kinds, Registers, register_kinds, kinds_at}
+use Rattle.finish.specs.Kinds.{Kind, Kinds}
 use Rattle.finish.specs.Kinds.Kind.{feature, feature_but28, area, freed, other}
 use Rattle.finish.specs.MeetLaws.{MaskedState, FeatureMeet}
-use Rattle.finish.specs.PlaceLaws.{always}
-use Rattle.finish.specs.XsavesLaws.{XsavesEdx}
-use Rattle.register_masks.specs.Join.{with_server, pool, and_to, all_to}
-use Rattle.register_masks.specs.Alike.{Alike, AlikeAt, AllAlike, all_have}
+use Rattle.register_masks.specs.Join.{pool, and_to}
+use Rattle.register_masks.specs.Alike.{AlikeAt}
 use Rattle.register_masks.specs.Features.{FeatureIs, FeaturesAre, FeatureWithin}
-use Rattle.register_masks.specs.RegisterRunLaws.{and_to_ext, all_at, all_of, and_to_within, and_to_greatest}
-use Rattle.register_masks.specs.JoinedEntryLaws.{registers_refl, registers_both}
+use Rattle.register_masks.specs.RegisterRunLaws.{and_to_ext, and_to_within, and_to_greatest}
 use Rattle.register_masks.specs.JoinedLaws.{mask_with, masked_with}
 
 -- what is asked of each server's masked first entries
 pub record Servers (f : ℕ → Rows) (n : ℕ) : Type 0 where
-  pub accepted : (k : ℕ) → k ≤ n → rows_verdict (f k) ≡ Accepted
+  pub accepted : (k : ℕ) → k ≤ n → rows_verdict (f k) ≡ Ok tt
   pub masked : (k : ℕ) → k ≤ n → MaskedState (f k)
 
 pub fewer : (f : ℕ → Rows) (n : ℕ) → Servers f (suc n) → Servers f n

@@ -1,5 +1,5 @@
 -- Laws of a join by and over servers 0 to n.
-use Rattle.std.specs.Prelude.{◌≡◌, refl, Bool, true, ◌&&◌, ℕ, zero, suc, ◌≤◌}
+use Rattle.std.specs.Prelude.{◌≡◌, Bool, true, ◌&&◌, ℕ, zero, suc, ◌≤◌}
 use Rattle.std.proofs.Common.{ap, ap₂, ◌∙◌, inl, inr, le_refl, eq-or-lt_of_le, arith}
 use Rattle.std.specs.Int.Bits.{bit_and}
 use Rattle.bits.specs.ChoiceLaws.{and_left, and_right, and_both}

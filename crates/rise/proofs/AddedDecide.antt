@@ -1,18 +1,12 @@
 -- Added entries by computation, so that a pair of page sets can be shown to be one. Entries whose 48 bytes are equal are equal in what is read.
-use Rattle.std.specs.Prelude.{◌≡◌, refl, Bool, true, false, ◌&&◌, List, ℕ, ◌+◌, ◌-◌, ◌*◌, ◌≤◌, ◌<◌, eqb, ltb, leb, get_or, take, drop}
-use Rattle.std.proofs.Common.{sym, ap, ◌∙◌, arith, get_or-take, get_or-drop, eqb-true, ltb-true, leb-true, lt-ltb}
+use Rattle.std.specs.Prelude.{◌≡◌, refl, Bool, true, false, ◌&&◌, List, ℕ, ◌+◌, ◌*◌, ◌<◌, eqb, leb}
+use Rattle.std.proofs.Common.{ap, arith, eqb-true, leb-true}
 use Rattle.bits.specs.Choice.{pick}
-use Rattle.bits.specs.ChoiceLaws.{and_left, and_right, if_holds}
-use Rattle.bits.specs.Search.{every}
+use Rattle.bits.specs.ChoiceLaws.{and_left, and_right}
 use Rattle.bits.specs.SearchLaws.{every_at}
-use Rattle.bits.specs.Lists.{tabulate}
 use Rattle.bits.specs.ListsLaws.{tabulate_at}
-use Rattle.x86defs.specs.Functions.{function, cpuid_result}
-use Rattle.pages.specs.Layout.{page_size, entry_size, entries_at, word_at, pages_in, count_of, entry_at}
-use Rattle.table.specs.declared.Verdict.{Verdict}
-use Rattle.table.specs.declared.Verdict.TheVariants.{Accepted}
-use Rattle.collect.specs.Lawful.{lawful_verdict}
-use Rattle.rise.specs.Added.{LastWithEntries, CountAfter, Added}
+use Rattle.pages.specs.Layout.{page_size, entry_size, entries_at, pages_in, count_of}
+use Rattle.rise.specs.Added.{CountAfter, Added}
 use Rattle.rise.specs.Added.CountAfter.{same, raised}
 use Rattle.rise.specs.AddedDecide.{Figures, SameBytes, count_test, entry_bytes, entry_same, figures_of, figures_wanted, is_last, is_last_lem, page_bytes_lem, page_test}
 

@@ -1,5 +1,5 @@
 -- The proof that added entries change no answer: the entries before are a beginning, so every row is kept, and the rows decide.
-use Rattle.std.specs.Prelude.{◌≡◌, Bool, List, ℕ, ◌<◌}
+use Rattle.std.specs.Prelude.{◌≡◌, Bool, List, ℕ, ◌<◌, Err, Ok}
 use Rattle.std.proofs.Math.Path.{refl, ap}
 use Rattle.std.proofs.Common.{sym, ◌∙◌, subst}
 use Rattle.std.proofs.Math.Bool.{true, false}
@@ -11,8 +11,6 @@ use Rattle.memory.specs.Origin.{is_made_here, origin_of, origin_number}
 use Rattle.memory.specs.Origin.Origin.{neither, made_here}
 use Rattle.collect.specs.FirstEntryOrigin.{stands_at}
 use Rattle.table.specs.declared.Choices.{Choices}
-use Rattle.table.specs.declared.Verdict.{Verdict}
-use Rattle.table.specs.declared.Verdict.TheVariants.{Accepted, Refused}
 use Rattle.table.specs.Refusal.{and_then}
 use Rattle.table.specs.Rows.{Row}
 use Rattle.table.specs.Table.{row_in}
@@ -35,9 +33,10 @@ use Rattle.rise.proofs.BeginningLaws.{counted_begin}
 use Rattle.rise.specs.KeepsLaws.{Keeps, rows_kept}
 use Rattle.rise.specs.CoveredLaws.{edition_found, lawful_found}
 use Rattle.rise.proofs.KeptRowsLaws.{built_same}
+use Rattle.table.specs.Verdict.{Verdict}
 
 module _ (chosen : Choices) (s u : List ℕ) (added : Added s u) (covered : Covered (answer chosen s).verdict) where
-  known_edition_lem : edition_verdict chosen.edition ≡ Accepted
+  known_edition_lem : edition_verdict chosen.edition ≡ Ok tt
   unfolding answer verdict_of
   known_edition_lem = edition_found chosen.edition (and_then (lawful_verdict s) (rows_verdict (rows_for chosen s))) covered
 
@@ -45,7 +44,7 @@ module _ (chosen : Choices) (s u : List ℕ) (added : Added s u) (covered : Cove
   unfolding answer verdict_of
   pages_covered = rw known_edition_lem at covered
 
-  pub lawful_before : lawful_verdict s ≡ Accepted
+  pub lawful_before : lawful_verdict s ≡ Ok tt
   lawful_before = lawful_found s (rows_verdict (rows_for chosen s)) pages_covered
 
   pub rows_stay : Keeps (rows_for chosen s) (rows_for chosen u)
@@ -62,7 +61,7 @@ module _ (chosen : Choices) (s u : List ℕ) (added : Added s u) (covered : Cove
   verdict_same = ap (λ (b : RowsBuilt). b.verdict) rows_same
 
   -- a row of an accepted table had its entry before, and that is still the first
-  origin_same : (answer chosen s).verdict ≡ Accepted → (i : ℕ) → i < places
+  origin_same : (answer chosen s).verdict ≡ Ok tt → (i : ℕ) → i < places
       → origin_of (row_in (answer chosen s).table i).present i (stands_at i (counted u)) ≡ origin_at chosen s i
   unfolding origin_of
   origin_same e i l = go (row_in (answer chosen s).table i).present refl (is_made_here i) refl
@@ -75,14 +74,14 @@ module _ (chosen : Choices) (s u : List ℕ) (added : Added s u) (covered : Cove
           let b = counted_begin s u added in
           ap (stands_at i) b.whole ∙ stands_begins i (counted s) b.more (entry_there chosen s e i l p q)
 
-  accepted_origins : (answer chosen s).verdict ≡ Accepted → (answer chosen u).origins ≡ (answer chosen s).origins
+  accepted_origins : (answer chosen s).verdict ≡ Ok tt → (answer chosen u).origins ≡ (answer chosen s).origins
   unfolding answer origins_in
   accepted_origins e =
       ap (λ (b : RowsBuilt). origins_in b.table u) rows_same ∙ tabulate_ext places _ _ (λ i l. ap origin_number (origin_same e i l))
 
   origins_same : (v : Verdict) → (answer chosen s).verdict ≡ v → (answer chosen u).origins ≡ (answer chosen s).origins
-  origins_same Accepted e = accepted_origins e
-  origins_same (Refused r) e = refused_has_none chosen u r (verdict_same ∙ e) ∙ sym (refused_has_none chosen s r e)
+  origins_same (Ok _) e = accepted_origins e
+  origins_same (Err r) e = refused_has_none chosen u r (verdict_same ∙ e) ∙ sym (refused_has_none chosen s r e)
 
   answer_same : answer chosen u ≡ answer chosen s
   answer_same = λ k. record {
@@ -96,7 +95,7 @@ added_same = answer_same
 
 -- ---- an accepted page set rises to itself with entries added, and back
 
-module _ (chosen : Choices) (s u : List ℕ) (added : Added s u) (accepted : (answer chosen s).verdict ≡ Accepted) where
+module _ (chosen : Choices) (s u : List ℕ) (added : Added s u) (accepted : (answer chosen s).verdict ≡ Ok tt) where
   covered : Covered (answer chosen s).verdict
   covered = rw accepted tt
 

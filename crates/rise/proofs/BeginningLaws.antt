@@ -1,12 +1,9 @@
 -- The entries of a page set are a beginning of its entries with others added.
-use Rattle.std.specs.Prelude.{◌≡◌, Bool, List, [], ◌∷◌, ◌++◌}
+use Rattle.std.specs.Prelude.{◌≡◌, List, [], ◌++◌}
 use Rattle.std.proofs.Math.Path.{refl}
 use Rattle.std.proofs.Common.{sym, ap, ap₂, ◌∙◌, append_assoc, append-nil, arith}
-use Prim.Native.Nat.{ℕ, zero, suc, ◌+◌, ◌-◌, ◌≤◌, ◌<◌}
-use Rattle.bits.specs.Choice.{pick}
-use Rattle.bits.specs.Lists.{keep_if}
-use Rattle.bits.specs.ListsLaws.{keep_append}
-use Rattle.pages.specs.Layout.{Entry, pages_in, count_of, entry_at}
+use Prim.Native.Nat.{ℕ, zero, suc, ◌+◌, ◌-◌}
+use Rattle.pages.specs.Layout.{pages_in, count_of}
 use Rattle.pages.specs.Entries.{on_page, on_pages, entries, counts, counted}
 use Rattle.rise.specs.Added.{CountAfter, Added}
 use Rattle.rise.specs.Added.CountAfter.{same, raised}

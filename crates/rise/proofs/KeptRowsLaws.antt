@@ -1,11 +1,9 @@
 -- Rows that keep every row of others have the same answer, once no required or needed row was missing.
-use Rattle.std.specs.Prelude.{◌≡◌, Bool, ℕ, ◌+◌, ◌≤◌, ◌<◌, ltb}
+use Rattle.std.specs.Prelude.{◌≡◌, Bool, ℕ, ◌+◌, ◌≤◌, ◌<◌, ltb, Err, Ok}
 use Rattle.std.proofs.Math.Path.{refl, ap, subst, fun_ext}
 use Rattle.std.proofs.Common.{sym, ◌∙◌, le_antisymm, arith, lit<, ltb-true, ltb-false}
 use Rattle.std.proofs.Math.Bool.{true, false}
-use Rattle.std.specs.Int.Bits.{bit_or}
 use Rattle.bits.specs.Choice.{pick}
-use Rattle.bits.specs.ChoiceLaws.{never_both}
 use Rattle.bits.specs.Search.{Failing}
 use Rattle.bits.specs.SearchLaws.{lowest_all}
 use Rattle.bits.specs.Bits.{has}
@@ -14,8 +12,6 @@ use Rattle.masking.specs.Kept.{places}
 use Rattle.masking.specs.Place
 use Rattle.topology.specs.Topology.{topology_of, processors, thread_level, core_level}
 use Rattle.table.specs.declared.CpuidResults.{CpuidResults}
-use Rattle.table.specs.declared.Verdict.{Verdict}
-use Rattle.table.specs.declared.Verdict.TheVariants.{Accepted, Refused}
 use Rattle.table.specs.Rows.{Row, Rows}
 use Rattle.table.specs.Table.{table_of}
 use Rattle.checks.specs.Required.{place_required}
@@ -25,8 +21,6 @@ use Rattle.checks.specs.TopologyInputs.{inputs_of}
 use Rattle.checks.specs.Checks.{refuse_at, missing_component, required_verdict, invlpgb_verdict, components_of, components_verdict, area_verdict, topology_verdict, rows_verdict}
 use Rattle.checks.specs.ChecksLaws.{all_pass, required_present, present_required, component_present}
 use Rattle.finish.specs.Finish.{Rule, Settings, rule_at, enabled_by, ymm_clears, settings, finish_row, finished}
-use Rattle.finish.specs.Finish.Rule.{made as madeRule, needed, component}
-use Rattle.finish.specs.Kinds.{from_entry}
 use Rattle.finish.specs.PlaceLaws.{always, required_place, position, always_required, component_rule, Sort, sort}
 use Rattle.finish.specs.PlaceLaws.Sort.{made, required, subleaf}
 use Rattle.finish.specs.RowsBuilt.{table_for, built_from}
@@ -35,16 +29,17 @@ use Rattle.rise.specs.Added.{Covered}
 use Rattle.rise.specs.KeepsLaws.{Keeps}
 use Rattle.rise.specs.CoveredLaws.{required_found, components_found, then_same}
 use Rattle.rise.specs.KeptRowsLaws.{made_same, unused_same}
+use Rattle.table.specs.Verdict.{Verdict}
 
 -- ---- rows B that keep those of A
 
-module _ (A B : Rows) (keeps : Keeps A B) (found : required_verdict A ≡ Accepted) where
+module _ (A B : Rows) (keeps : Keeps A B) (found : required_verdict A ≡ Ok tt) where
   required_kept : (i : ℕ) → i < places → always (rule_at i) ≡ true → B i ≡ A i
   required_kept i l e =
       let q = always_required i l e in
       keeps.kept i (subst (λ (n : ℕ). (A n).present ≡ true) q.1 (required_present A found (position i) q.0))
 
-  required_same : required_verdict B ≡ Accepted
+  required_same : required_verdict B ≡ Ok tt
   required_same =
       present_required B (λ j l.
       ap (λ (r : Row). r.present) (required_kept (place_required j) (required_place j l).0 (required_place j l).1) ∙ required_present A found j l)
@@ -82,7 +77,7 @@ module _ (A B : Rows) (keeps : Keeps A B) (found : required_verdict A ≡ Accept
   topology_same = rw inputs_same
 
   -- where no needed subleaf was missing either
-  module _ (supplies : components_verdict A ≡ Accepted) where
+  module _ (supplies : components_verdict A ≡ Ok tt) where
     component_kept : (k : ℕ) → 2 ≤ k → k < 64 → has k (combined_mask A) ≡ true → B (Place.extended_state k) ≡ A (Place.extended_state k)
     component_kept k l u h = keeps.kept (Place.extended_state k) (component_present A supplies k l u h)
 
@@ -93,7 +88,7 @@ module _ (A B : Rows) (keeps : Keeps A B) (found : required_verdict A ≡ Accept
         go true e = ap (λ (r : Row). r.present) (component_kept k l u e) ∙ component_present A supplies k l u e
         go false e = refl
 
-    components_same : components_verdict B ≡ Accepted
+    components_same : components_verdict B ≡ Ok tt
     unfolding components_verdict components_of
     components_same =
         ap (λ (f : Failing). refuse_at f missing_component) (lowest_all (supplied B (combined_mask B)) 2 62 (λ k l u. supplied_same k l (omega arith)))
@@ -163,13 +158,13 @@ module _ (A B : Rows) (keeps : Keeps A B) (found : required_verdict A ≡ Accept
 -- ---- the whole answer
 
 module _ (A B : Rows) (keeps : Keeps A B) (covered : Covered (rows_verdict A)) where
-  found : required_verdict A ≡ Accepted
+  found : required_verdict A ≡ Ok tt
   unfolding rows_verdict
   found = required_found A (from_invlpgb A) covered
 
   from_components_lem : Covered (from_components A) → from_components B ≡ from_components A
   from_components_lem c =
-      let supplies : components_verdict A ≡ Accepted = components_found A (from_area A) c in
+      let supplies : components_verdict A ≡ (Ok tt) = components_found A (from_area A) c in
       rw (components_same A B keeps found supplies, supplies, area_verdict_same A B keeps found supplies, topology_same A B keeps found)
 
   pub verdict_same : rows_verdict B ≡ rows_verdict A
@@ -180,8 +175,8 @@ module _ (A B : Rows) (keeps : Keeps A B) (covered : Covered (rows_verdict A)) w
 
   -- the table of an accepted one, under edition n; a refused one is empty
   table_for_lem : (n : ℕ) (v : Verdict) → rows_verdict A ≡ v → table_for n v B ≡ table_for n v A
-  table_for_lem n Accepted e = table_same A B keeps (all_pass A e).required (all_pass A e).components n
-  table_for_lem n (Refused r) e = refl
+  table_for_lem n (Ok _) e = table_same A B keeps (all_pass A e).required (all_pass A e).components n
+  table_for_lem n (Err r) e = refl
 
   pub built_same : (n : ℕ) → built_from n B ≡ built_from n A
   unfolding built_from

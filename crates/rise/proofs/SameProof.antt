@@ -1,24 +1,18 @@
 -- Two servers that rise to each other have the same answer, except for origins (`SameFigures`, Same.antt), and each accepted one rises to itself.
 use Rattle.std.specs.Prelude.{◌≡◌, refl, Bool, true, false, List, ℕ, ◌<◌}
-use Rattle.std.proofs.Common.{sym, ap, ◌∙◌, arith}
-use Rattle.bits.specs.Choice.{pick}
+use Rattle.std.proofs.Common.{sym, ap, ◌∙◌}
 use Rattle.bits.specs.ChoiceLaws.{never_both}
-use Rattle.bits.specs.BitsLaws.{within_refl, within_antisym}
-use Rattle.x86defs.specs.declared.CpuidResult.{CpuidResult}
+use Rattle.bits.specs.BitsLaws.{within_antisym}
 use Rattle.masking.specs.Kept.{places}
 use Rattle.table.specs.declared.Choices.{Choices}
-use Rattle.table.specs.declared.Verdict.TheVariants.{Accepted}
-use Rattle.table.specs.Rows.{Row, Rows, row, vacant}
+use Rattle.table.specs.Rows.{Row, Rows}
 use Rattle.checks.specs.ExtendedState.{combined_mask}
-use Rattle.finish.specs.Finish.{rule_at, settings, finish, remains, finished}
-use Rattle.finish.specs.Kinds.{Kind, Kinds, EntryAtLeast, TableAtLeast, Registers, kinds_at}
-use Rattle.finish.specs.Kinds.Kind.{feature, feature_but28, area, freed, other}
-use Rattle.finish.proofs.RemainsLaws.{finished_entry}
+use Rattle.finish.specs.Finish.{finished}
 use Rattle.table.specs.Table.{row_in}
 use Rattle.table.specs.TableLaws.{table_ext}
 use Rattle.build.specs.Build.{rows_for, answer}
 use Rattle.rise.specs.Rise.{RiseHypothesis, TableRises}
-use Rattle.rise.specs.RiseProof.{answer_table, answer_row, answer_mask, accepted_lawful}
+use Rattle.rise.specs.RiseProof.{answer_table, answer_row, answer_mask}
 use Rattle.rise.proofs.RiseProof.{demand_3}
 use Rattle.rise.specs.Same.{SameFigures}
 use Rattle.rise.specs.SameProof.{finished_absent, registers_same}

@@ -1,8 +1,7 @@
 -- P7's statements on the two editions, carried from rows to answers.
-use Rattle.std.specs.Prelude.{◌≡◌, Bool, true, false, List, ℕ, ◌<◌, eqb}
+use Rattle.std.specs.Prelude.{◌≡◌, Bool, List, ℕ, ◌<◌, Err, Ok}
 use Rattle.std.proofs.Math.Path.{refl, ap}
 use Rattle.std.proofs.Common.{sym, ap₂, ◌∙◌, lit<}
-use Rattle.bits.specs.Choice.{pick}
 use Rattle.bits.specs.Bits.{has}
 use Rattle.bits.specs.Lists.{one}
 use Rattle.bits.specs.ListsLaws.{tabulate_ext, sum_ext}
@@ -12,11 +11,9 @@ use Rattle.masking.specs.Kept.{places}
 use Rattle.masking.specs.Place
 use Rattle.table.specs.declared.Choices.{Choices}
 use Rattle.table.specs.declared.CpuidResults.{CpuidResults}
-use Rattle.table.specs.declared.Verdict.{Verdict}
-use Rattle.table.specs.declared.Verdict.TheVariants.{Accepted, Refused}
 use Rattle.table.specs.Rows.{Row, Rows}
 use Rattle.table.specs.Table.{row_in, count_rows}
-use Rattle.table.specs.Edition.{f16c, xop_and_fma4, known_edition}
+use Rattle.table.specs.Edition.{known_edition}
 use Rattle.checks.specs.ExtendedState.{xfem}
 use Rattle.memory.specs.Origin.{origin_of, origin_number}
 use Rattle.collect.specs.FirstEntryOrigin.{stands_at}
@@ -27,10 +24,11 @@ use Rattle.rise.specs.Rise.{with_edition}
 use Rattle.rise.specs.RiseProof.{answer_table, answer_row, answer_mask}
 use Rattle.rise.specs.BuiltLaws.{always_finished, result_at, built_xfem}
 use Rattle.rise.specs.LocatedProof.{refused_has_none}
-use Rattle.rise.specs.Second.{clear_ecx, second_row, has_ymm_state, SecondTable, SecondEdition, FirstEdition}
+use Rattle.rise.specs.Second.{second_row, has_ymm_state, SecondTable, SecondEdition, FirstEdition}
 use Rattle.rise.specs.SecondLaws.{extended_first}
 use Rattle.rise.proofs.SecondLaws.{finished_second}
 use Rattle.rise.specs.SecondProof.{second_present}
+use Rattle.table.specs.Verdict.{Verdict}
 
 module _ (chosen : Choices) (s : List ℕ) where
   abbrev one_of : Choices
@@ -43,11 +41,11 @@ module _ (chosen : Choices) (s : List ℕ) where
   unfolding answer verdict_of edition_verdict known_edition
   verdicts = refl
 
-  module _ (e : (answer one_of s).verdict ≡ Accepted) where
+  module _ (e : (answer one_of s).verdict ≡ Ok tt) where
     abbrev m : Rows
     m = rows_for chosen s
 
-    accepted : (answer two_of s).verdict ≡ Accepted
+    accepted : (answer two_of s).verdict ≡ Ok tt
     accepted = verdicts ∙ e
 
     state : has 2 (xfem m) ≡ has_ymm_state (answer one_of s).table
@@ -87,8 +85,8 @@ module _ (chosen : Choices) (s : List ℕ) where
     accepted_origins = tabulate_ext places _ _ (λ i l. ap origin_number (origins_at i l))
 
   origins : (v : Verdict) → (answer one_of s).verdict ≡ v → (answer two_of s).origins ≡ (answer one_of s).origins
-  origins Accepted e = accepted_origins e
-  origins (Refused r) e = refused_has_none two_of s r (verdicts ∙ e) ∙ sym (refused_has_none one_of s r e)
+  origins (Ok _) e = accepted_origins e
+  origins (Err r) e = refused_has_none two_of s r (verdicts ∙ e) ∙ sym (refused_has_none one_of s r e)
 
   pub second_edition : SecondEdition chosen s
   second_edition = record { verdict = verdicts; table = tables; origins = origins (answer one_of s).verdict refl }

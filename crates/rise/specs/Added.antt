@@ -1,15 +1,14 @@
 -- Document 02, P9: "Let a page set be accepted or refused by 4 to 8; add counted entries after its last one, or further pages at the end, with
 -- lawful counts and without raising the count of any but the last page that had entries. The answer must be the same, rows, mask and details.
 -- Neither 1, 2 nor 3 is covered, since a missing leaf may arrive."
-use Rattle.std.specs.Prelude.{◌≡◌, List, ℕ, ◌≤◌, ◌<◌}
+use Rattle.std.specs.Prelude.{◌≡◌, List, ℕ, ◌≤◌, ◌<◌, Err, Ok}
 use Rattle.pages.specs.Layout.{pages_in, count_of, entry_at}
 use Rattle.table.specs.declared.Choices.{Choices}
-use Rattle.table.specs.declared.Verdict.{Verdict}
-use Rattle.table.specs.declared.Verdict.TheVariants.{Accepted, Refused}
 use Rattle.table.specs.Refusal.{details}
 use Rattle.collect.specs.Lawful.{lawful_verdict}
 use Rattle.build.specs.Build.{answer}
 use Rattle.rise.specs.Rise.{RiseHypothesis}
+use Rattle.table.specs.Verdict.{Verdict}
 
 -- "the last page that had entries" is page p: entries stand on it, and on none of the pages after it
 pub record LastWithEntries (s : List ℕ) (p : ℕ) : Type 0 where
@@ -24,7 +23,7 @@ pub data CountAfter (s u : List ℕ) (p : ℕ) : Type 0 where
 -- u is s with entries added
 pub record Added (s u : List ℕ) : Type 0 where
   -- "with lawful counts": neither 1 nor 2 applies to u; nor does 17, as "the pages of P9 .. must be clean" (P10)
-  pub lawful : lawful_verdict u ≡ Accepted
+  pub lawful : lawful_verdict u ≡ Ok tt
   -- the pages of s, "or further pages at the end"
   pub pages : pages_in s ≤ pages_in u
   pub counts : (p : ℕ) → p < pages_in s → CountAfter s u p
@@ -33,8 +32,8 @@ pub record Added (s u : List ℕ) : Type 0 where
 
 -- "accepted or refused by 4 to 8"
 abbrev pub Covered : Verdict → Type 0
-Covered Accepted = Unit
-Covered (Refused r) = (4 ≤ (details r).number) × ((details r).number ≤ 8)
+Covered (Ok _) = Unit
+Covered (Err r) = (4 ≤ (details r).number) × ((details r).number ≤ 8)
 
 -- "The answer must be the same, rows, mask and details": the verdict with its details, and the whole table
 abbrev pub AddedChangesNothing : Type 0
@@ -43,4 +42,4 @@ AddedChangesNothing = (chosen : Choices) (s u : List ℕ) → Added s u → Cove
 -- so a guest may move from an accepted server to the same one with entries added, and back (demand 3's hypothesis)
 abbrev pub AddedRisesBothWays : Type 0
 AddedRisesBothWays =
-    (chosen : Choices) (s u : List ℕ) → Added s u → (answer chosen s).verdict ≡ Accepted → RiseHypothesis chosen s u × RiseHypothesis chosen u s
+    (chosen : Choices) (s u : List ℕ) → Added s u → (answer chosen s).verdict ≡ Ok tt → RiseHypothesis chosen s u × RiseHypothesis chosen u s

@@ -1,19 +1,16 @@
 -- Added entries by computation, so that a pair of page sets can be shown to be one. Entries whose 48 bytes are equal are equal in what is read.
-use Rattle.std.specs.Prelude.{◌≡◌, refl, Bool, true, false, ◌&&◌, List, ℕ, ◌+◌, ◌-◌, ◌*◌, ◌≤◌, ◌<◌, eqb, ltb, leb, get_or, take, drop}
-use Rattle.std.proofs.Common.{sym, ap, ◌∙◌, arith, get_or-take, get_or-drop, eqb-true, ltb-true, leb-true, lt-ltb}
+use Rattle.std.specs.Prelude.{◌≡◌, Bool, true, ◌&&◌, List, ℕ, ◌+◌, ◌-◌, ◌*◌, ◌≤◌, ◌<◌, eqb, ltb, leb, get_or, take, drop, Ok}
+use Rattle.std.proofs.Common.{sym, ap, ◌∙◌, arith, get_or-take, get_or-drop, eqb-true, ltb-true, lt-ltb}
 use Rattle.bits.specs.Choice.{pick}
 use Rattle.bits.specs.ChoiceLaws.{and_left, and_right, if_holds}
 use Rattle.bits.specs.Search.{every}
 use Rattle.bits.specs.SearchLaws.{every_at}
 use Rattle.bits.specs.Lists.{tabulate}
-use Rattle.bits.specs.ListsLaws.{tabulate_at}
 use Rattle.x86defs.specs.Functions.{function, cpuid_result}
 use Rattle.pages.specs.Layout.{page_size, entry_size, entries_at, word_at, pages_in, count_of, entry_at}
-use Rattle.table.specs.declared.Verdict.{Verdict}
-use Rattle.table.specs.declared.Verdict.TheVariants.{Accepted}
 use Rattle.collect.specs.Lawful.{lawful_verdict}
-use Rattle.rise.specs.Added.{LastWithEntries, CountAfter, Added}
-use Rattle.rise.specs.Added.CountAfter.{same, raised}
+use Rattle.rise.specs.Added.{LastWithEntries}
+use Rattle.table.specs.Verdict.{Verdict}
 
 abbrev pub is_last : List ℕ → ℕ → Bool
 is_last s p = ltb 0 (count_of s p) && every (λ q. pick (ltb p q) (eqb (count_of s q) 0) true) (pages_in s)
@@ -92,4 +89,4 @@ abbrev pub figures_of : List ℕ → List ℕ → Figures
 figures_of s u = (lawful_verdict u, page_test s u, bytes_of_entries s u)
 
 abbrev pub figures_wanted : List ℕ → Figures
-figures_wanted s = (Accepted, true, bytes_of_entries s s)
+figures_wanted s = ((Ok tt), true, bytes_of_entries s s)

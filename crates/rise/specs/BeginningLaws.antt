@@ -1,15 +1,12 @@
 -- The entries of a page set are a beginning of its entries with others added.
 use Rattle.std.specs.Prelude.{◌≡◌, Bool, List, [], ◌∷◌, ◌++◌}
 use Rattle.std.proofs.Math.Path.{refl}
-use Rattle.std.proofs.Common.{sym, ap, ap₂, ◌∙◌, append_assoc, append-nil, arith}
-use Prim.Native.Nat.{ℕ, zero, suc, ◌+◌, ◌-◌, ◌≤◌, ◌<◌}
-use Rattle.bits.specs.Choice.{pick}
+use Rattle.std.proofs.Common.{ap, ap₂, ◌∙◌, arith}
+use Prim.Native.Nat.{ℕ, zero, suc, ◌+◌, ◌≤◌, ◌<◌}
 use Rattle.bits.specs.Lists.{keep_if}
 use Rattle.bits.specs.ListsLaws.{keep_append}
-use Rattle.pages.specs.Layout.{Entry, pages_in, count_of, entry_at}
-use Rattle.pages.specs.Entries.{on_page, on_pages, entries, counts, counted}
-use Rattle.rise.specs.Added.{CountAfter, Added}
-use Rattle.rise.specs.Added.CountAfter.{same, raised}
+use Rattle.pages.specs.Layout.{Entry, count_of, entry_at}
+use Rattle.pages.specs.Entries.{on_page, on_pages}
 
 -- xs is a beginning of ys: more follows
 pub record Begins {ℓ} {A : Type ℓ} (xs ys : List A) : Type ℓ where

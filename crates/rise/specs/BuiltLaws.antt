@@ -1,6 +1,6 @@
 -- What an accepted page set's table has of its own: its XFEM, XSS and combined mask are those of the entries that it was made of, and the
 -- save area fits 32 bits.
-use Rattle.std.specs.Prelude.{◌≡◌, Bool, true, false, ◌&&◌, List, ℕ, ◌^◌, ◌<◌}
+use Rattle.std.specs.Prelude.{◌≡◌, true, ◌&&◌, List, ℕ, ◌^◌, ◌<◌, None, Ok, Option, Some}
 use Rattle.std.proofs.Math.Path.{refl, ap, ap₂}
 use Rattle.std.proofs.Common.{◌∙◌, subst, arith, lit<}
 use Rattle.std.specs.Int.Bits.{bit_or}
@@ -12,30 +12,26 @@ use Rattle.masking.specs.Kept.{places}
 use Rattle.masking.specs.Place
 use Rattle.table.specs.declared.Choices.{Choices}
 use Rattle.table.specs.declared.CpuidResults.{CpuidResults}
-use Rattle.table.specs.declared.Verdict.TheVariants.{Accepted}
 use Rattle.table.specs.Rows.{Row, Rows}
 use Rattle.table.specs.Table.{row_in, rows_of_table}
-use Rattle.checks.specs.declared.Size.{Size}
-use Rattle.checks.specs.declared.Size.TheVariants.{Bytes, TooLarge}
 use Rattle.checks.specs.ExtendedState.{xfem, xss, combined_mask, save_area, size_of}
 use Rattle.checks.specs.SaveAreaLaws.{size_bytes}
 use Rattle.checks.specs.Checks.{size_verdict, area_verdict}
 use Rattle.checks.specs.ExtendedStateLaws.{xsaves_ecx}
-use Rattle.checks.specs.ChecksLaws.{AllPass, all_pass, required_present, then_right}
+use Rattle.checks.specs.ChecksLaws.{AllPass, all_pass, required_present}
 use Rattle.finish.specs.Finish.{rule_at, settings, enabled_by, finish, finished, unless_no_xss}
 use Rattle.finish.specs.PlaceLaws.{always, position, always_required}
 use Rattle.finish.specs.RemainsLaws.{finished_present}
 use Rattle.finish.proofs.RemainsLaws.{finished_result, always_remains}
-use Rattle.build.specs.Build.{rows_for, verdict_of, answer}
-use Rattle.collect.specs.Lawful.{lawful_verdict}
+use Rattle.build.specs.Build.{rows_for, answer}
 use Rattle.rise.specs.RiseProof.{answer_row, accepted_rows}
 
 -- a size that passes the check fits 32 bits
-size_fits : (n : ℕ) (z : Size) → z ≡ size_of n → size_verdict z ≡ Accepted → n < 2 ^ 32
-size_fits n (Bytes k) e f = let h = size_bytes n k e in omega (arith, h.0, h.1)
-size_fits n TooLarge e f = absurd (let z : ◌≡◌ {A = ℕ} 0 1 = cc in omega arith)
+size_fits : (n : ℕ) (z : Option ℕ) → z ≡ size_of n → size_verdict z ≡ Ok tt → n < 2 ^ 32
+size_fits n (Some k) e f = let h = size_bytes n k e in omega (arith, h.0, h.1)
+size_fits n None e f = absurd (let z : ◌≡◌ {A = ℕ} 0 1 = cc in omega arith)
 
-module _ (chosen : Choices) (s : List ℕ) (e : (answer chosen s).verdict ≡ Accepted) where
+module _ (chosen : Choices) (s : List ℕ) (e : (answer chosen s).verdict ≡ Ok tt) where
   abbrev m : Rows
   m = rows_for chosen s
 

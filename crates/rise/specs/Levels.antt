@@ -1,10 +1,9 @@
 -- B.0 and B.1 of any accepted table, whatever s: document 01, "B.0 becomes EAX 1 or 0 (SMT on, off), EBX 2 or 1, ECX 100h, EDX 0. B.1 becomes EAX the
 -- shift, EBX v, ECX 201h, EDX 0", and document 02, P5: "The shift in B.1 becomes the least k with 2^k at least v". v by document 01 again, from the
 -- five inputs: 1 or lps where s is 0, else 2^s.
-use Rattle.std.specs.Prelude.{◌≡◌, true, ◌≢◌, ℕ, ◌+◌, ◌^◌, ◌≤◌, ◌<◌}
+use Rattle.std.specs.Prelude.{◌≡◌, true, ◌≢◌, ℕ, ◌+◌, ◌^◌, ◌≤◌, ◌<◌, Ok}
 use Rattle.x86defs.specs.Functions.{cpuid_result}
-use Rattle.topology.specs.declared.Topology.TheVariants.{Processors}
-use Rattle.topology.specs.Topology.{Inputs, topology_of, processors, thread_level, core_level}
+use Rattle.topology.specs.Topology.{Inputs, topology_of}
 use Rattle.topology.specs.TopologyLaws.{LeastShift}
 use Rattle.masking.specs.Place
 use Rattle.table.specs.declared.CpuidResults.{CpuidResults}
@@ -24,7 +23,7 @@ pub record GivenBy (i : Inputs) (v : ℕ) : Type 0 where
 -- B.0 and B.1 of a table, by five inputs. `LeastShift v k`: 2^k is at least v, and no lower power of two is.
 pub record AcceptedLevels (i : Inputs) (t : CpuidResults) : Type 0 where
   pub v : ℕ
-  pub processors : topology_of i ≡ Processors v
+  pub processors : topology_of i ≡ Ok v
   pub given : GivenBy i v
   pub fits : v < 2 ^ 32
   pub threads_present : (row_in t Place.thread_level).present ≡ true

@@ -1,12 +1,11 @@
 -- Document 02, P11, "Where a row came from": what an origin says of the pages, and which rows have which. The numbers that an answer holds are tied
 -- to the bytes here: an origin is proved, not recorded.
-use Rattle.std.specs.Prelude.{◌≡◌, true, false, List, [], ◌∷◌, ◌++◌, ◌↔◌, ℕ, ◌<◌, get_or, replicate}
+use Rattle.std.specs.Prelude.{◌≡◌, true, false, List, [], ◌∷◌, ◌++◌, ◌↔◌, ℕ, ◌<◌, get_or, replicate, Err, Ok}
 use Rattle.pages.specs.Layout.{Entry, entry_at, pages_in, count_of}
 use Rattle.pages.specs.Entries.{counted}
 use Rattle.masking.specs.Kept.{places}
 use Rattle.table.specs.declared.Choices.{Choices}
 use Rattle.table.specs.declared.Refusal.{Refusal}
-use Rattle.table.specs.declared.Verdict.TheVariants.{Accepted, Refused}
 use Rattle.table.specs.Rows.{row}
 use Rattle.table.specs.Table.{row_in}
 use Rattle.memory.specs.Origin.{is_made_here, origin_read, origin_told}
@@ -37,7 +36,7 @@ pub record ComesFrom (chosen : Choices) (s : List ℕ) (i p q : ℕ) : Type 0 wh
       ≡ row (finish (settings chosen.edition (rows_for chosen s)) (rule_at i) (masked_at chosen.secure_avic i (entry_at s p q).registers))
 
 abbrev pub RowsComeFrom : Type 0
-RowsComeFrom = (chosen : Choices) (s : List ℕ) → (answer chosen s).verdict ≡ Accepted → (i p q : ℕ) → i < places
+RowsComeFrom = (chosen : Choices) (s : List ℕ) → (answer chosen s).verdict ≡ Ok tt → (i p q : ℕ) → i < places
     → origin_at chosen s i ≡ entry p q → ComesFrom chosen s i p q
 
 -- of the rows of an accepted table: 0, 80000000h, B.0 and B.1 are made here, every other one comes from an entry, and a row that is not there from
@@ -49,8 +48,8 @@ pub record Origins (chosen : Choices) (s : List ℕ) (i : ℕ) : Type 0 where
   pub told : origin_read (get_or (answer chosen s).origins i 0) ≡ origin_told (origin_at chosen s i)
 
 abbrev pub RowsHaveOrigins : Type 0
-RowsHaveOrigins = (chosen : Choices) (s : List ℕ) → (answer chosen s).verdict ≡ Accepted → (i : ℕ) → i < places → Origins chosen s i
+RowsHaveOrigins = (chosen : Choices) (s : List ℕ) → (answer chosen s).verdict ≡ Ok tt → (i : ℕ) → i < places → Origins chosen s i
 
 -- "a refused table has none"
 abbrev pub RefusedHasNone : Type 0
-RefusedHasNone = (chosen : Choices) (s : List ℕ) (r : Refusal) → (answer chosen s).verdict ≡ Refused r → (answer chosen s).origins ≡ replicate places 0
+RefusedHasNone = (chosen : Choices) (s : List ℕ) (r : Refusal) → (answer chosen s).verdict ≡ Err r → (answer chosen s).origins ≡ replicate places 0

@@ -1,41 +1,23 @@
 -- The proofs of `RowsComeFrom`, `RowsHaveOrigins` and `RefusedHasNone`.
-use Rattle.std.specs.Prelude.{◌≡◌, Bool, not, ◌||◌, List, ◌∷◌, ◌++◌, ℕ, ◌<◌, get_or}
+use Rattle.std.specs.Prelude.{◌≡◌, Bool, not, ◌||◌, ℕ, ◌<◌}
 use Rattle.std.proofs.Math.Path.{refl}
-use Rattle.std.proofs.Common.{sym, ap, ◌∙◌, subst, arith}
+use Rattle.std.proofs.Common.{sym, ap, ◌∙◌}
 use Rattle.std.proofs.Math.Bool.{true, false}
 use Rattle.bits.specs.Choice.{pick}
-use Rattle.bits.specs.ChoiceLaws.{never_both, pick_true, pick_false}
+use Rattle.bits.specs.ChoiceLaws.{pick_false}
 use Rattle.bits.specs.Lists.{tabulate}
-use Rattle.bits.specs.ListsLaws.{tabulate_at, get_d_tabulate}
-use Rattle.x86defs.specs.declared.CpuidResult.{CpuidResult}
-use Rattle.pages.specs.Layout.{Entry, entry_at, pages_in, count_of}
-use Rattle.pages.specs.LayoutLaws.{counts_fit_at}
-use Rattle.pages.specs.Entries.{counted}
+use Rattle.bits.specs.ListsLaws.{tabulate_at}
 use Rattle.masking.specs.Kept.{places}
-use Rattle.table.specs.declared.Choices.{Choices}
-use Rattle.table.specs.declared.Verdict.{Verdict}
-use Rattle.table.specs.declared.Verdict.TheVariants.{Accepted}
-use Rattle.table.specs.Rows.{Row, Rows, row, vacant}
-use Rattle.table.specs.Table.{row_in}
-use Rattle.memory.specs.Origin.{Origin, is_made_here, origin_of, origin_number, origin_read, origin_told}
+use Rattle.memory.specs.Origin.{Origin, is_made_here}
 use Rattle.memory.specs.Origin.Origin.{neither, made_here, not_known, entry}
-use Rattle.memory.specs.OriginLaws.{entry_read, neither_read, made_read}
-use Rattle.collect.specs.FirstEntries.{place_of_entry, first_at, masked_at, mask_row}
-use Rattle.collect.specs.FirstEntryOrigin.{stands_at}
-use Rattle.collect.specs.FirstEntriesLaws.{row_of_place_lem}
-use Rattle.finish.specs.Finish.{rule_at, settings, finish, finished}
+use Rattle.finish.specs.Finish.{rule_at}
 use Rattle.finish.specs.Kinds.{from_entry}
 use Rattle.finish.specs.PlaceLaws.{always}
-use Rattle.finish.specs.RemainsLaws.{finished_present}
-use Rattle.finish.proofs.RemainsLaws.{finished_result, made_remains, finished_entry}
 use Rattle.finish.specs.RowsBuilt.{table_for}
-use Rattle.build.specs.Build.{rows_for, verdict_of, origins_in, answer, origin_at}
+use Rattle.build.specs.Build.{rows_for, origins_in, answer}
 use Rattle.build.specs.BuildLaws.{no_origins_lem}
-use Rattle.collect.proofs.LawfulLaws.{lawful_counts}
-use Rattle.rise.specs.RiseProof.{answer_row, accepted_lawful}
-use Rattle.rise.specs.BuiltLaws.{always_finished}
-use Rattle.rise.specs.Located.{FirstCounted, ComesFrom, RowsComeFrom, Origins, RowsHaveOrigins, RefusedHasNone}
-use Rattle.rise.specs.StandsLaws.{First, first_of, Stands, counted_stands}
+use Rattle.rise.specs.Located.{RefusedHasNone}
+use Rattle.table.specs.Verdict.{Verdict}
 
 -- ---- places: each row that is not made here comes from an entry, and those made here are always there
 

@@ -3,7 +3,6 @@
 -- Of tables the same: `TableRises` is a preorder, and tables that rise to each other have the same rows and mask.
 use Rattle.std.specs.Prelude.{◌≡◌, true, false, ℕ, ◌<◌, replicate}
 use Rattle.x86defs.specs.declared.CpuidResult.{CpuidResult}
-use Rattle.x86defs.specs.Functions.{cpuid_result}
 use Rattle.masking.specs.Kept.{places}
 use Rattle.table.specs.declared.CpuidResults.{CpuidResults}
 use Rattle.table.specs.Table.{row_in}

@@ -1,5 +1,5 @@
 -- Rises compose, each accepted server and each table rises to itself, and two tables rise to each other exactly where they have the same rows.
-use Rattle.std.specs.Prelude.{◌≡◌, refl, Bool, true, false, List, ◌⊎◌, ℕ, ◌<◌}
+use Rattle.std.specs.Prelude.{◌≡◌, refl, Bool, true, false, ℕ, ◌<◌}
 use Rattle.std.proofs.Common.{sym, ap, ◌∙◌, inl, inr, ⊎_elim, le_refl, le_trans, arith}
 use Rattle.std.proofs.lemmas.List.{get_or-replicate}
 use Rattle.bits.specs.ChoiceLaws.{never_both}
@@ -9,15 +9,12 @@ use Rattle.bits.proofs.BitsLaws.{has_mono}
 use Rattle.x86defs.specs.declared.CpuidResult.{CpuidResult}
 use Rattle.x86defs.specs.Functions.{cpuid_result}
 use Rattle.masking.specs.Kept.{places}
-use Rattle.table.specs.declared.Choices.{Choices}
 use Rattle.table.specs.declared.CpuidResults.{CpuidResults}
 use Rattle.finish.specs.Kinds.{Kind, Kinds, EntryAtLeast, TableAtLeast, Registers, kinds_at}
 use Rattle.finish.specs.Kinds.Kind.{feature, feature_but28, area, freed, other}
 use Rattle.table.specs.Rows.{Row}
 use Rattle.table.specs.Table.{row_in}
-use Rattle.build.specs.Built.{SameButOrigins}
-use Rattle.build.specs.Build.{answer}
-use Rattle.rise.specs.Rise.{RiseHypothesis, Further, TableRises}
+use Rattle.rise.specs.Rise.{Further, TableRises}
 use Rattle.rise.specs.SameProof.{registers_same}
 use Rattle.rise.specs.Preorder.{SameRows, without_rows}
 

@@ -6,9 +6,8 @@
 -- needs has no counted entry, by refusal 3, or else a size overflows, by 5; and if accepted its table has every row of A's, beyond these
 -- only the 0xD subleaves of its further mask bits, at least A's bits in every feature register, a save area no smaller, and every other
 -- register of A's rows equal, as document 01 compares them."
-use Rattle.std.specs.Prelude.{◌≡◌, Bool, true, false, List, ◌⊎◌, ℕ, ◌≤◌, ◌<◌}
+use Rattle.std.specs.Prelude.{◌≡◌, Bool, true, false, List, ◌⊎◌, ℕ, ◌≤◌, ◌<◌, Err, Ok, Some}
 use Rattle.bits.specs.Bits.{has, Within}
-use Rattle.x86defs.specs.declared.CpuidResult.{CpuidResult}
 use Rattle.x86defs.specs.Functions.{ExtendedStateEnumeration}
 use Rattle.pages.specs.Entries.{counted}
 use Rattle.masking.specs.Masks.{apply_mask}
@@ -16,10 +15,7 @@ use Rattle.masking.specs.Kept.{places, masks_at}
 use Rattle.masking.specs.Place
 use Rattle.table.specs.declared.Choices.{Choices}
 use Rattle.table.specs.declared.CpuidResults.{CpuidResults}
-use Rattle.table.specs.declared.Subleaf.TheVariants.{Some}
 use Rattle.table.specs.declared.Refusal.TheVariants.{MissingRequiredResult, SaveAreaOverflow}
-use Rattle.table.specs.declared.Verdict.{Verdict}
-use Rattle.table.specs.declared.Verdict.TheVariants.{Accepted, Refused}
 use Rattle.table.specs.Rows.{Row, Rows}
 use Rattle.finish.specs.Finish.{rule_at}
 use Rattle.finish.specs.Kinds.{EntryAtLeast, TableAtLeast, Registers, kinds_at, from_entry}
@@ -28,6 +24,7 @@ use Rattle.collect.specs.FirstEntries.{first_at}
 use Rattle.build.specs.Build.{rows_for, answer}
 use Rattle.collect.specs.Lawful.{lawful_verdict}
 use Rattle.refusals.specs.Conditions.{Lacking, ComponentFault, AreaFault}
+use Rattle.table.specs.Verdict.{Verdict}
 
 -- B has a row at place i, and its registers compare with A's
 pub record EntryRises (i : ℕ) (a b : Row) : Type 0 where
@@ -36,8 +33,8 @@ pub record EntryRises (i : ℕ) (a b : Row) : Type 0 where
 
 -- "for every row of A's table but 0 and 80000000h": entries are compared as masked, D.0.EAX with its bits 0 and 1 set
 pub record RiseHypothesis (chosen : Choices) (a b : List ℕ) : Type 0 where
-  pub accepted : (answer chosen a).verdict ≡ Accepted
-  pub lawful : lawful_verdict b ≡ Accepted
+  pub accepted : (answer chosen a).verdict ≡ Ok tt
+  pub lawful : lawful_verdict b ≡ Ok tt
   pub entries : (i : ℕ) → i < places → from_entry (rule_at i) ≡ true → (row_in (answer chosen a).table i).present ≡ true
       → EntryRises i (rows_for chosen a i) (rows_for chosen b i)
 
@@ -47,18 +44,18 @@ pub record FirstEntryRises (avic : Bool) (i : ℕ) (a b : Row) : Type 0 where
   pub registers : Registers EntryAtLeast (kinds_at i) (apply_mask (masks_at avic i) a.result) (apply_mask (masks_at avic i) b.result)
 
 pub record HypothesisByTheLetter (chosen : Choices) (a b : List ℕ) : Type 0 where
-  pub accepted : (answer chosen a).verdict ≡ Accepted
-  pub lawful : lawful_verdict b ≡ Accepted
+  pub accepted : (answer chosen a).verdict ≡ Ok tt
+  pub lawful : lawful_verdict b ≡ Ok tt
   pub entries : (i : ℕ) → i < places → from_entry (rule_at i) ≡ true → (row_in (answer chosen a).table i).present ≡ true
       → FirstEntryRises chosen.secure_avic i (first_at i (counted a)) (first_at i (counted b))
 
 -- exactly one of three outcomes, each with its refusal or acceptance
 pub data Outcome (m : Rows) (v : Verdict) : Type 0 where
   -- refusal 3 names the lowest needed subleaf without an entry
-  missing : (k : ℕ) → ComponentFault m k → v ≡ Refused (MissingRequiredResult ExtendedStateEnumeration (Some k)) → Outcome m v
+  missing : (k : ℕ) → ComponentFault m k → v ≡ Err (MissingRequiredResult ExtendedStateEnumeration (Some k)) → Outcome m v
   -- 5 is given where none is missing and a sum is too large
-  overflow : ((k : ℕ) → Lacking m k → ⊥) → AreaFault m → v ≡ Refused SaveAreaOverflow → Outcome m v
-  accepted : ((k : ℕ) → Lacking m k → ⊥) → (AreaFault m → ⊥) → v ≡ Accepted → Outcome m v
+  overflow : ((k : ℕ) → Lacking m k → ⊥) → AreaFault m → v ≡ Err SaveAreaOverflow → Outcome m v
+  accepted : ((k : ℕ) → Lacking m k → ⊥) → (AreaFault m → ⊥) → v ≡ Ok tt → Outcome m v
 
 -- a subleaf of Dh that b's mask has and a's does not
 pub record Further (a b : CpuidResults) (i : ℕ) : Type 0 where
@@ -80,7 +77,7 @@ pub record TableRises (a b : CpuidResults) : Type 0 where
 -- from A under one choice to B under another
 pub record RiseTo (chosen other : Choices) (a b : List ℕ) : Type 0 where
   pub outcome : Outcome (rows_for other b) (answer other b).verdict
-  pub table : (answer other b).verdict ≡ Accepted → TableRises (answer chosen a).table (answer other b).table
+  pub table : (answer other b).verdict ≡ Ok tt → TableRises (answer chosen a).table (answer other b).table
 
 abbrev pub RiseConclusion : Choices → List ℕ → List ℕ → Type 0
 RiseConclusion chosen a b = RiseTo chosen chosen a b

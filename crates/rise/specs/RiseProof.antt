@@ -1,32 +1,26 @@
 -- Demand 3 over page bytes: the rise of masked first entries, carried to the answers.
-use Rattle.std.specs.Prelude.{◌≡◌, refl, Bool, true, false, List, ◌⊎◌, ℕ, ◌<◌, eqb, get_or}
+use Rattle.std.specs.Prelude.{◌≡◌, refl, Bool, true, false, List, ◌⊎◌, ℕ, ◌<◌, eqb, Ok}
 use Rattle.std.proofs.Common.{sym, ap, ◌∙◌, subst, subst₂, inl, inr, ⊎_elim, eqb-true}
 use Rattle.std.specs.Int.Bits.{and_zero_r}
 use Rattle.bits.specs.Choice.{pick}
 use Rattle.bits.specs.ChoiceLaws.{never_both, pick_true, pick_false}
-use Rattle.bits.specs.ListsLaws.{get_d_tabulate}
-use Rattle.bits.specs.Bits.{bit, has, Within}
+use Rattle.bits.specs.Bits.{has, Within}
 use Rattle.bits.specs.BitsLaws.{bit_has, within_or, within_refl}
 use Rattle.x86defs.specs.declared.CpuidResult.{CpuidResult}
-use Rattle.x86defs.specs.Functions.{cpuid_result}
 use Rattle.pages.specs.Entries.{counted}
 use Rattle.masking.specs.Masks.{apply_mask, extended_state1}
 use Rattle.masking.specs.Kept.{places, kept_leaves, slot, masks_at}
 use Rattle.masking.specs.Place
 use Rattle.table.specs.declared.Choices.{Choices}
 use Rattle.table.specs.declared.Refusal.TheVariants.{SaveAreaOverflow}
-use Rattle.table.specs.declared.Verdict.{Verdict}
-use Rattle.table.specs.declared.Verdict.TheVariants.{Accepted}
 use Rattle.table.specs.Refusal.{and_then}
-use Rattle.table.specs.Edition.{known_edition}
 use Rattle.table.specs.Rows.{Row, Rows, row, vacant}
 use Rattle.checks.specs.ExtendedState.{combined_mask}
 use Rattle.finish.specs.Finish.{ymm_clears, rule_at, finished}
-use Rattle.finish.specs.FeatureLaws.{ClearsFewer, clears_same, second_to_first}
+use Rattle.finish.specs.FeatureLaws.{ClearsFewer}
 use Rattle.finish.proofs.RemainsLaws.{finished_entry}
 use Rattle.finish.specs.XsavesLaws.{XsavesEdx}
 use Rattle.finish.specs.Kinds.{EntryAtLeast, TableAtLeast, Registers, register_kinds, kinds_at, from_entry}
-use Rattle.finish.specs.Kinds.Kind.{area, other}
 use Rattle.checks.specs.Checks.{missing_component, components_verdict, area_verdict, rows_verdict}
 use Rattle.checks.specs.ChecksLaws.{component_present, then_left, then_right, then_skips}
 use Rattle.finish.specs.RowsBuilt.{table_for}
@@ -40,35 +34,36 @@ use Rattle.refusals.specs.Conditions.{Lacking, ComponentFault, AreaFault}
 use Rattle.refusals.specs.Settles.{Settles}
 use Rattle.refusals.specs.Settles.Settles.{passes, refuses}
 use Rattle.refusals.specs.ExtendedStateSettled.{components_decide, area_decides}
-use Rattle.rise.specs.Rise.{EntryRises, FirstEntryRises, RiseHypothesis, HypothesisByTheLetter, Outcome, Further, TableRises, RiseTo, Demand3, Demand3ByTheLetter, with_edition, SecondToFirst}
+use Rattle.rise.specs.Rise.{EntryRises, FirstEntryRises, RiseHypothesis, HypothesisByTheLetter, Outcome, Further, TableRises, RiseTo, with_edition}
 use Rattle.rise.specs.Rise.Outcome.{missing, overflow, accepted}
 use Rattle.rise.specs.RowsRise.{present_rises, registers_rise_lem, others_further, mask_rises, verdict_rises}
+use Rattle.table.specs.Verdict.{Verdict}
 
 -- ---- the answer of an accepted page set
 
-pub answer_table : (chosen : Choices) (s : List ℕ) → (answer chosen s).verdict ≡ Accepted
+pub answer_table : (chosen : Choices) (s : List ℕ) → (answer chosen s).verdict ≡ Ok tt
     → (answer chosen s).table ≡ table_of (finished chosen.edition (rows_for chosen s)) (combined_mask (rows_for chosen s))
 unfolding answer
 answer_table chosen s e = ap (λ (v : Verdict). table_for chosen.edition v (rows_for chosen s)) e
 
-pub accepted_rows : (chosen : Choices) (s : List ℕ) → (answer chosen s).verdict ≡ Accepted → rows_verdict (rows_for chosen s) ≡ Accepted
+pub accepted_rows : (chosen : Choices) (s : List ℕ) → (answer chosen s).verdict ≡ Ok tt → rows_verdict (rows_for chosen s) ≡ Ok tt
 unfolding answer verdict_of
 accepted_rows chosen s e = then_right (lawful_verdict s) _ (then_right (edition_verdict chosen.edition) _ e)
 
 -- its edition is 1 or 2, and its pages are lawful
-pub accepted_edition : (chosen : Choices) (s : List ℕ) → (answer chosen s).verdict ≡ Accepted → edition_verdict chosen.edition ≡ Accepted
+pub accepted_edition : (chosen : Choices) (s : List ℕ) → (answer chosen s).verdict ≡ Ok tt → edition_verdict chosen.edition ≡ Ok tt
 unfolding answer verdict_of
 accepted_edition chosen s e = then_left (edition_verdict chosen.edition) _ e
 
-pub accepted_lawful : (chosen : Choices) (s : List ℕ) → (answer chosen s).verdict ≡ Accepted → lawful_verdict s ≡ Accepted
+pub accepted_lawful : (chosen : Choices) (s : List ℕ) → (answer chosen s).verdict ≡ Ok tt → lawful_verdict s ≡ Ok tt
 unfolding answer verdict_of
 accepted_lawful chosen s e = then_left (lawful_verdict s) _ (then_right (edition_verdict chosen.edition) _ e)
 
-pub answer_row : (chosen : Choices) (s : List ℕ) → (answer chosen s).verdict ≡ Accepted → (i : ℕ) → i < places
+pub answer_row : (chosen : Choices) (s : List ℕ) → (answer chosen s).verdict ≡ Ok tt → (i : ℕ) → i < places
     → row_in (answer chosen s).table i ≡ finished chosen.edition (rows_for chosen s) i
 answer_row chosen s e i l = ap (λ t. row_in t i) (answer_table chosen s e) ∙ table_row (finished chosen.edition (rows_for chosen s)) (combined_mask (rows_for chosen s)) i l
 
-pub answer_mask : (chosen : Choices) (s : List ℕ) → (answer chosen s).verdict ≡ Accepted
+pub answer_mask : (chosen : Choices) (s : List ℕ) → (answer chosen s).verdict ≡ Ok tt
     → (answer chosen s).table.max_extended_state ≡ combined_mask (rows_for chosen s)
 answer_mask chosen s e = ap (λ t. t.max_extended_state) (answer_table chosen s e)
 
@@ -91,7 +86,7 @@ xsaves_edx avic s = mask_row_edx avic (Place.extended_state 1) (first_at (Place.
 
 -- ---- what the checks of the extended state say
 
-none_lacking : (m : Rows) → components_verdict m ≡ Accepted → (k : ℕ) → Lacking m k → ⊥
+none_lacking : (m : Rows) → components_verdict m ≡ Ok tt → (k : ℕ) → Lacking m k → ⊥
 none_lacking m e k l =
     never_both (component_present m e k l.from l.below (bit_has k (combined_mask m) l.needed)) l.absent
 
@@ -106,7 +101,7 @@ outcome_of m = go (components_decide m) (area_decides m)
 
 -- ---- demand 3, with B under edition n
 
-module _ (chosen : Choices) (n : ℕ) (known : edition_verdict n ≡ Accepted) (fewer : ClearsFewer (ymm_clears chosen.edition) (ymm_clears n))
+module _ (chosen : Choices) (n : ℕ) (known : edition_verdict n ≡ Ok tt) (fewer : ClearsFewer (ymm_clears chosen.edition) (ymm_clears n))
     (a b : List ℕ) (rises : RiseHypothesis chosen a b) where
   abbrev choice_b : Choices
   choice_b = with_edition chosen n
@@ -115,7 +110,7 @@ module _ (chosen : Choices) (n : ℕ) (known : edition_verdict n ≡ Accepted) (
       → EntryRises i (rows_for chosen a i) (rows_for choice_b b i)
   entries_ab i l f p = rises.entries i l f (ap (λ (r : Row). r.present) (answer_row chosen a rises.accepted i l) ∙ p)
 
-  rows_a : rows_verdict (rows_for chosen a) ≡ Accepted
+  rows_a : rows_verdict (rows_for chosen a) ≡ Ok tt
   rows_a = accepted_rows chosen a rises.accepted
 
   verdict_b : (answer choice_b b).verdict ≡ and_then (components_verdict (rows_for choice_b b)) (area_verdict (rows_for choice_b b))
@@ -126,7 +121,7 @@ module _ (chosen : Choices) (n : ℕ) (known : edition_verdict n ≡ Accepted) (
       ∙ verdict_rises chosen.edition n fewer (rows_for chosen a) (rows_for choice_b b) (xsaves_edx chosen.secure_avic a) (xsaves_edx chosen.secure_avic b) rows_a entries_ab
 
   -- the rows of both answers are the finished rows
-  module _ (e : (answer choice_b b).verdict ≡ Accepted) where
+  module _ (e : (answer choice_b b).verdict ≡ Ok tt) where
     row_a : (i : ℕ) → i < places → row_in (answer chosen a).table i ≡ finished chosen.edition (rows_for chosen a) i
     row_a = answer_row chosen a rises.accepted
 

@@ -1,5 +1,5 @@
 -- The rise, of masked first entries: from an accepted A and entries of B that compare with A's.
-use Rattle.std.specs.Prelude.{◌≡◌, refl, Bool, true, false, ◌⊎◌, ℕ, ◌+◌, ◌≤◌, ◌<◌}
+use Rattle.std.specs.Prelude.{◌≡◌, refl, Bool, true, false, ◌⊎◌, ℕ, ◌+◌, ◌≤◌, ◌<◌, Err, Ok}
 use Rattle.std.proofs.Common.{sym, ap₂, ◌∙◌, subst, inl, inr, arith, lit<}
 use Rattle.std.proofs.Math.Path.{ap}
 use Rattle.bits.specs.ChoiceLaws.{and_left, and_both, pick_true}
@@ -10,22 +10,20 @@ use Rattle.topology.specs.Topology.{Inputs, topology_of}
 use Rattle.masking.specs.Kept.{places, kept_leaves, slot}
 use Rattle.masking.specs.Place
 use Rattle.table.specs.declared.Refusal.TheVariants.{InvlpgbUnavailable}
-use Rattle.table.specs.declared.Verdict.{Verdict}
-use Rattle.table.specs.declared.Verdict.TheVariants.{Accepted, Refused}
 use Rattle.table.specs.Refusal.{and_then}
-use Rattle.table.specs.Rows.{Row, Rows, row}
+use Rattle.table.specs.Rows.{Rows}
 use Rattle.checks.specs.Required.{place_required}
-use Rattle.checks.specs.ExtendedState.{xfem, xss, combined_mask, sum_at, save_area}
+use Rattle.checks.specs.ExtendedState.{xfem, xss, combined_mask, sum_at}
 use Rattle.checks.specs.ExtendedStateLaws.{area_mono, xss_mono, in_combined}
 use Rattle.checks.specs.TopologyInputs.{inputs_of}
-use Rattle.finish.specs.Finish.{Settings, ymm_clears, rule_at, enabled_by, settings, remains, finished}
+use Rattle.finish.specs.Finish.{ymm_clears, rule_at, enabled_by, settings, remains, finished}
 use Rattle.finish.specs.FeatureLaws.{ClearsFewer}
 use Rattle.finish.specs.Kinds.{Kinds, kinds, EntryAtLeast, TableAtLeast, Registers, register_kinds, kinds_at, from_entry}
 use Rattle.finish.specs.Kinds.Kind.{other}
 use Rattle.finish.specs.RuleKinds.{kinds_of, kinds_at_lem, component_kinds}
 use Rattle.finish.specs.XsavesLaws.{XsavesEdx}
 use Rattle.finish.proofs.XsavesLaws.{xsaves_at}
-use Rattle.checks.specs.Checks.{invlpgb_verdict, components_verdict, area_verdict, topology_verdict, topology_refusal, rows_verdict, refuse_unless}
+use Rattle.checks.specs.Checks.{invlpgb_verdict, components_verdict, area_verdict, topology_verdict, topology_refusal, rows_verdict}
 use Rattle.checks.specs.ChecksLaws.{AllPass, all_pass, required_present, present_required, component_present, demanded, then_accepted, then_skips}
 use Rattle.finish.specs.PlaceLaws.{always, always_from_entry, required_place, position, always_required, component_rule, Sort, sort}
 use Rattle.finish.specs.RemainsLaws.{finished_present}
@@ -36,7 +34,7 @@ use Rattle.rise.specs.RuleLaws.{SettingsRise, finish_rises, remains_rises}
 
 -- ---- the theorem on rows, A's under edition nA and B's under nB, which clears no bit that nA leaves: the same edition, or from 2 to 1
 
-module _ (nA nB : ℕ) (fewer : ClearsFewer (ymm_clears nA) (ymm_clears nB)) (A B : Rows) (zeroA : XsavesEdx A) (zeroB : XsavesEdx B) (accepted : rows_verdict A ≡ Accepted)
+module _ (nA nB : ℕ) (fewer : ClearsFewer (ymm_clears nA) (ymm_clears nB)) (A B : Rows) (zeroA : XsavesEdx A) (zeroB : XsavesEdx B) (accepted : rows_verdict A ≡ Ok tt)
     (entries : (i : ℕ) → i < places → from_entry (rule_at i) ≡ true → (finished nA A i).present ≡ true → EntryRises i (A i) (B i)) where
   pass : AllPass A
   pass = all_pass A accepted
@@ -152,13 +150,13 @@ module _ (nA nB : ℕ) (fewer : ClearsFewer (ymm_clears nA) (ymm_clears nB)) (A 
   unfolding combined_mask
   mask_rises = within_or xfem_rises xss_rises
 
-  invlpgb_b : invlpgb_verdict B ≡ Accepted
+  invlpgb_b : invlpgb_verdict B ≡ Ok tt
   unfolding invlpgb_verdict
   invlpgb_b =
-      pick_true Accepted (Refused InvlpgbUnavailable)
+      pick_true (Ok tt) (Err InvlpgbUnavailable)
       (has_mono 3 (at Place.extended_address_space_sizes (lit< tt) refl).ebx (demanded _ InvlpgbUnavailable pass.invlpgb))
 
-  topology_b : topology_verdict B ≡ Accepted
+  topology_b : topology_verdict B ≡ Ok tt
   unfolding topology_verdict
   topology_b = ap (λ (i : Inputs). topology_refusal (topology_of i)) (sym same_inputs) ∙ pass.topology
 

@@ -8,7 +8,7 @@ use Rattle.bits.specs.Bits.{has, Within}
 use Rattle.bits.specs.BitsLaws.{within_or, within_of_and, and_of_within, within_trans}
 use Rattle.bits.proofs.BitsLaws.{has_mono}
 use Rattle.x86defs.specs.declared.CpuidResult.{CpuidResult}
-use Rattle.finish.specs.Finish.{Made, Needed, Rule, Enabled, Settings, make_row, change_row, finish, remains, unless_no_xss, address_sizes_ebx, version_ecx, features_ebx, features_ecx, features_edx, extended_version_ecx, extended_version_edx}
+use Rattle.finish.specs.Finish.{Needed, Rule, Enabled, Settings, change_row, finish, remains, unless_no_xss, address_sizes_ebx, version_ecx, features_ebx, features_ecx, features_edx, extended_version_ecx, extended_version_edx}
 use Rattle.finish.specs.Finish.Needed.{version_and_features, extended_features, thread_level_row, core_level_row, extended_state0, extended_state1, extended_version_and_features, extended_address_space_sizes, untouched}
 use Rattle.finish.specs.Finish.Rule.{made, needed, component}
 use Rattle.finish.specs.Kinds.{Kind, Kinds, kinds, EntryAtLeast, TableAtLeast, Registers, from_entry}

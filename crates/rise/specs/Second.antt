@@ -1,6 +1,6 @@
 -- Document 02, P7: "Edition 2 also clears 1.ECX bit 29 and 80000001h.ECX bits 11 (XOP) and 16 (FMA4) when XFEM lacks bit 2." So edition 2 refuses
 -- what edition 1 refuses, and its table is edition 1's without these three bits.
-use Rattle.std.specs.Prelude.{◌≡◌, Bool, List, ℕ, ◌<◌, eqb}
+use Rattle.std.specs.Prelude.{◌≡◌, Bool, List, ℕ, ◌<◌, eqb, Ok}
 use Rattle.bits.specs.Choice.{pick}
 use Rattle.bits.specs.Bits.{has, clear_unless}
 use Rattle.x86defs.specs.Functions.{cpuid_result}
@@ -8,7 +8,6 @@ use Rattle.masking.specs.Kept.{places}
 use Rattle.masking.specs.Place
 use Rattle.table.specs.declared.Choices.{Choices}
 use Rattle.table.specs.declared.CpuidResults.{CpuidResults}
-use Rattle.table.specs.declared.Verdict.TheVariants.{Accepted}
 use Rattle.table.specs.Edition.{f16c, xop_and_fma4}
 use Rattle.table.specs.Rows.{Row}
 use Rattle.table.specs.Table.{row_in}
@@ -40,13 +39,13 @@ pub record SecondTable (a b : CpuidResults) : Type 0 where
 -- the answers of both editions to any page bytes
 pub record SecondEdition (chosen : Choices) (s : List ℕ) : Type 0 where
   pub verdict : (answer (with_edition chosen 2) s).verdict ≡ (answer (with_edition chosen 1) s).verdict
-  pub table : (answer (with_edition chosen 1) s).verdict ≡ Accepted
+  pub table : (answer (with_edition chosen 1) s).verdict ≡ Ok tt
       → SecondTable (answer (with_edition chosen 1) s).table (answer (with_edition chosen 2) s).table
   -- document 02, P11: after P8 the origin is "carried over unchanged"
   pub origins : (answer (with_edition chosen 2) s).origins ≡ (answer (with_edition chosen 1) s).origins
 
 -- Edition 1 is document 01's rule: it clears nothing in 80000001h.ECX, whose masked first entry stands.
 abbrev pub FirstEdition : Type 0
-FirstEdition = (chosen : Choices) (s : List ℕ) → (answer (with_edition chosen 1) s).verdict ≡ Accepted
+FirstEdition = (chosen : Choices) (s : List ℕ) → (answer (with_edition chosen 1) s).verdict ≡ Ok tt
     → (row_in (answer (with_edition chosen 1) s).table Place.extended_version_and_features).result.ecx
     ≡ (rows_for chosen s Place.extended_version_and_features).result.ecx

@@ -1,13 +1,13 @@
 -- Finished under edition 2, rows are those of edition 1 without the three bits: bit by bit in the two registers, by computation elsewhere.
 use Rattle.std.specs.Prelude.{◌≡◌, Bool, ◌||◌, ℕ, ◌-◌, ◌^◌, ◌<◌}
-use Rattle.std.proofs.Math.Path.{refl, ap₂, subst}
-use Rattle.std.proofs.Common.{sym, ap, ◌∙◌, arith, mod-eq_of_lt, eqb-true}
+use Rattle.std.proofs.Math.Path.{refl}
+use Rattle.std.proofs.Common.{sym, ap, ◌∙◌, arith, mod-eq_of_lt}
 use Rattle.std.proofs.Math.Bool.{true, false}
-use Rattle.std.specs.Int.Bits.{bit_and, bit_or, and_zero_l}
+use Rattle.std.specs.Int.Bits.{bit_and, bit_or}
 use Rattle.std.proofs.lemmas.Nat.{and_mask}
 use Rattle.std.proofs.Math.Dec.{eqb}
 use Rattle.bits.specs.Choice.{pick}
-use Rattle.bits.specs.ChoiceLaws.{pick_true, pick_false}
+use Rattle.bits.specs.ChoiceLaws.{pick_false}
 use Rattle.bits.specs.Lists.{tabulate}
 use Rattle.bits.specs.ListsLaws.{tabulate_at}
 use Rattle.bits.specs.Bits.{bit, has, mask_of, clear, clear_unless, Within}
@@ -17,11 +17,9 @@ use Rattle.x86defs.specs.Functions.{cpuid_result}
 use Rattle.masking.specs.Kept.{places}
 use Rattle.masking.specs.Place
 use Rattle.table.specs.Edition.{f16c, xop_and_fma4, joined_from, bits_between}
-use Rattle.table.specs.Rows.{Row, Rows, row, vacant}
-use Rattle.checks.specs.ExtendedState.{xfem}
-use Rattle.finish.specs.Finish.{Enabled, Rule, edition1, ymm_clears, rule_at, enabled_by, settings, version_ecx, features_ebx, features_ecx, extended_version_ecx, has_ymm, finish, remains, finished, hypervisor_present}
+use Rattle.table.specs.Rows.{Rows}
+use Rattle.finish.specs.Finish.{Enabled, Rule, edition1, ymm_clears, rule_at, settings, version_ecx, features_ebx, features_ecx, extended_version_ecx, has_ymm, finish, remains, hypervisor_present}
 use Rattle.finish.specs.Finish.Rule.{made, needed, component}
-use Rattle.rise.specs.Second.{clear_ecx, second_row}
 
 -- ---- the two registers, where state is missing
 

@@ -7,9 +7,8 @@ use Rattle.bits.specs.ChoiceLaws.{never_both}
 use Rattle.bits.specs.Lists.{keep_if}
 use Rattle.pages.specs.Layout.{Entry, entry_at, pages_in, count_of}
 use Rattle.pages.specs.Entries.{on_page, on_pages, entries, counts, counted}
-use Rattle.table.specs.Rows.{Row, row}
-use Rattle.memory.specs.Origin.{Origin}
-use Rattle.memory.specs.Origin.Origin.{neither, made_here, entry}
+use Rattle.table.specs.Rows.{row}
+use Rattle.memory.specs.Origin.Origin.{neither, entry}
 use Rattle.collect.specs.FirstEntries.{place_of_entry, first_at}
 use Rattle.collect.specs.FirstEntryOrigin.{stands_at}
 use Rattle.rise.specs.Located.{Elsewhere}

@@ -1,5 +1,5 @@
 -- The proof of `ReadsExactly` and of `ReadMakes`: each test of the definition holds if and only if its condition does.
-use Rattle.std.specs.Prelude.{◌≡◌, Bool, not, ◌&&◌, ◌||◌, List, [], ◌∷◌, ◌++◌, ◌↔◌, eqb, ltb}
+use Rattle.std.specs.Prelude.{◌≡◌, Bool, not, ◌&&◌, ◌||◌, List, [], ◌∷◌, ◌++◌, ◌↔◌, eqb, ltb, Ok}
 use Rattle.std.proofs.Math.Path.{refl}
 use Rattle.std.proofs.Common.{sym, ap, ◌∙◌, arith}
 use Rattle.std.proofs.Math.Bool.{true, false}
@@ -11,7 +11,6 @@ use Rattle.bits.specs.ChoiceLaws.{never_both, and_left, and_right, and_both, imp
 use Rattle.bits.specs.Lists.{tabulate}
 use Rattle.table.specs.declared.Refusal.{Refusal}
 use Rattle.table.specs.declared.Refusal.TheVariants.{ListLength, ListRows, ListFields, BufferTooShort}
-use Rattle.buffer.specs.declared.Written.TheVariants.{Bytes, Refused}
 use Rattle.buffer.specs.Front.{write_front}
 use Rattle.kvm_list.specs.Words.{low_word}
 use Rattle.kvm_list.specs.WordsLaws.{cut_small}
@@ -60,7 +59,7 @@ module _ (l : List ℕ) (bytes : AreBytes l) where
   unfolding rows_listed
   rows_small = fit_tabulate (row_at l) row_small (row_count l)
 
-  pub read_makes : (buffer : List ℕ) → (read_list l buffer).answer ≡ Bytes 8192 → ReadMakes l buffer
+  pub read_makes : (buffer : List ℕ) → (read_list l buffer).answer ≡ Ok 8192 → ReadMakes l buffer
   read_makes buffer e =
       let x = reads_exactly l buffer in
       let g = ((x.read 8192).0 e).2 in

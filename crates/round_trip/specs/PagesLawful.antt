@@ -1,11 +1,10 @@
 -- The two pages made of rows are lawful: their length and counts, and zero in the reserved bytes of every entry.
-use Rattle.std.specs.Prelude.{◌≡◌, refl, true, List, [], ◌∷◌, ◌++◌, ℕ, zero, suc, ◌+◌, ◌*◌, ◌≤◌, ◌<◌, length, get_or}
+use Rattle.std.specs.Prelude.{◌≡◌, refl, true, List, [], ◌∷◌, ◌++◌, ℕ, zero, suc, ◌+◌, ◌*◌, ◌≤◌, ◌<◌, length, get_or, Ok}
 use Rattle.std.proofs.Common.{sym, ap, ◌∙◌, arith}
 use Rattle.pages.specs.Layout.{word_at, count_of, pages_in, most_entries}
 use Rattle.pages.specs.Reserved.{is_clean_at, all_clean}
 use Rattle.pages.specs.ZerosLaws.{zeros_of_words}
 use Rattle.pages.specs.ReservedLaws.{all_clean_lem}
-use Rattle.table.specs.declared.Verdict.TheVariants.{Accepted}
 use Rattle.collect.specs.Lawful.{lawful_verdict}
 use Rattle.collect.proofs.LawfulLaws.{clean_lawful}
 use Rattle.kvm_list.specs.Words.{bytes_of_words, low_word}
@@ -57,5 +56,5 @@ module _ (rs : List ListRow) (fit : AllFit rs) (few-0 : length (rows_on0 rs) ≤
   pages_clean : all_clean (pages_of rs) ≡ true
   pages_clean = rw (whole rs fit few-0 few-1) (made_clean (rows_on0 rs) (rows_on1 rs) (fits_0 rs fit few-0 few-1) (fits_1 rs fit few-0 few-1) few-0 few-1)
 
-  pub pages_lawful : lawful_verdict (pages_of rs) ≡ Accepted
+  pub pages_lawful : lawful_verdict (pages_of rs) ≡ Ok tt
   pages_lawful = clean_lawful (pages_of rs) (pages_length rs fit few-0 few-1) (pages_counts rs fit few-0 few-1) pages_clean

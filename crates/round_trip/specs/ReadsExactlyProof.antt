@@ -1,5 +1,5 @@
 -- The proof of `ReadsExactly` and of `ReadMakes`: each test of the definition holds if and only if its condition does.
-use Rattle.std.specs.Prelude.{◌≡◌, Bool, not, ◌&&◌, ◌||◌, List, [], ◌∷◌, ◌++◌, ◌↔◌, eqb, ltb}
+use Rattle.std.specs.Prelude.{◌≡◌, Bool, not, ◌&&◌, ◌||◌, List, [], ◌∷◌, ◌++◌, ◌↔◌, eqb, ltb, Err, Ok}
 use Rattle.std.proofs.Math.Path.{refl}
 use Rattle.std.proofs.Common.{sym, ap, ◌∙◌, arith}
 use Rattle.std.proofs.Math.Bool.{true, false}
@@ -11,7 +11,6 @@ use Rattle.bits.specs.ChoiceLaws.{never_both, and_left, and_right, and_both, imp
 use Rattle.bits.specs.Lists.{tabulate}
 use Rattle.table.specs.declared.Refusal.{Refusal}
 use Rattle.table.specs.declared.Refusal.TheVariants.{ListLength, ListRows, ListFields, BufferTooShort}
-use Rattle.buffer.specs.declared.Written.TheVariants.{Bytes, Refused}
 use Rattle.buffer.specs.Front.{write_front}
 use Rattle.kvm_list.specs.Words.{low_word}
 use Rattle.kvm_list.specs.WordsLaws.{cut_small}
@@ -103,7 +102,7 @@ module _ (l buffer : List ℕ) where
           → (b : Bool) → leb (length s) (length buffer) ≡ b → ReadsExactly l buffer
       room h f g e₁ e₂ e₃ true e =
           let two : length s ≡ 8192 = pages_length (rows_listed l) g.0 g.1 in
-          let w : read_list l buffer ≡ record { answer = Bytes 8192; buffer = s ++ drop 8192 buffer } = rw (e₁, e₂, e₃, e, two) in
+          let w : read_list l buffer ≡ record { answer = Ok 8192; buffer = s ++ drop 8192 buffer } = rw (e₁, e₂, e₃, e, two) in
           let fits : 8192 ≤ length buffer = omega (arith, leb-true (length s) (length buffer) e, two) in
           record {
             refused_10 = (λ p. impossible (cc), λ p. absurd (p h));
@@ -116,7 +115,7 @@ module _ (l buffer : List ℕ) where
           }
       room h f g e₁ e₂ e₃ false e =
           let two : length s ≡ 8192 = pages_length (rows_listed l) g.0 g.1 in
-          let w : read_list l buffer ≡ record { answer = Refused BufferTooShort; buffer = buffer } = rw (e₁, e₂, e₃, e) in
+          let w : read_list l buffer ≡ record { answer = Err BufferTooShort; buffer = buffer } = rw (e₁, e₂, e₃, e) in
           let over : length buffer < 8192 = omega (arith, leb-false (length s) (length buffer) e, two) in
           record {
             refused_10 = (λ p. impossible (cc), λ p. absurd (p h));
@@ -132,7 +131,7 @@ module _ (l buffer : List ℕ) where
           → ReadsExactly l buffer
       many h f e₁ e₂ true e = room h f (rows_hold l e) e₁ e₂ e (leb (length s) (length buffer)) refl
       many h f e₁ e₂ false e =
-          let w : read_list l buffer ≡ record { answer = Refused ListRows; buffer = buffer } = rw (e₁, e₂, e) in
+          let w : read_list l buffer ≡ record { answer = Err ListRows; buffer = buffer } = rw (e₁, e₂, e) in
           record {
             refused_10 = (λ p. impossible (cc), λ p. absurd (p h));
             refused_12 = (λ p. impossible (cc), λ p. absurd (p.1 f));
@@ -146,7 +145,7 @@ module _ (l buffer : List ℕ) where
       fields : LengthHolds l → bad_list_length l ≡ false → (b : Bool) → fields_lawful l ≡ b → ReadsExactly l buffer
       fields h e₁ true e = many h (fields_hold l e) e₁ e (rows_fit (rows_listed l)) refl
       fields h e₁ false e =
-          let w : read_list l buffer ≡ record { answer = Refused ListFields; buffer = buffer } = rw (e₁, e) in
+          let w : read_list l buffer ≡ record { answer = Err ListFields; buffer = buffer } = rw (e₁, e) in
           record {
             refused_10 = (λ p. impossible (cc), λ p. absurd (p h));
             refused_12 = (λ p. (h, fields_fail l e), λ p. cc);
@@ -160,7 +159,7 @@ module _ (l buffer : List ℕ) where
       bad : (b : Bool) → bad_list_length l ≡ b → ReadsExactly l buffer
       bad false e = fields (length_holds l e) e (fields_lawful l) refl
       bad true e =
-          let w : read_list l buffer ≡ record { answer = Refused ListLength; buffer = buffer } = rw e in
+          let w : read_list l buffer ≡ record { answer = Err ListLength; buffer = buffer } = rw e in
           record {
             refused_10 = (λ p. length_fails l e, λ p. cc);
             refused_12 = (λ p. impossible (cc), λ p. absurd (length_fails l e p.0));

@@ -1,10 +1,8 @@
 -- Document 02, P2: "exporting, importing and building again with the same secure-AVIC choice returns the same table and combined mask".
-use Rattle.std.specs.Prelude.{◌≡◌, List, ℕ, ◌+◌, ◌*◌, ◌≤◌, length, take}
+use Rattle.std.specs.Prelude.{◌≡◌, List, ℕ, ◌+◌, ◌*◌, ◌≤◌, length, take, Ok}
 use Rattle.table.specs.declared.Choices.{Choices}
-use Rattle.table.specs.declared.Verdict.TheVariants.{Accepted}
 use Rattle.build.specs.Built.{SameButOrigins}
 use Rattle.build.specs.Build.{answer}
-use Rattle.buffer.specs.declared.Written.TheVariants.{Bytes}
 use Rattle.buffer.specs.WritesExactly.{FrontExactly}
 use Rattle.kvm_import.specs.Import.{read_list}
 use Rattle.kvm_export.specs.Export.{list_of, write_list}
@@ -23,16 +21,16 @@ imported chosen s buffer pages = take 8192 (read_list (exported chosen s buffer)
 -- both succeed, and what is built of the pages is the same except for origins, which are those of the pages last read: verdict, rows, count and
 -- combined mask
 pub record Returns (chosen : Choices) (s buffer pages : List ℕ) : Type 0 where
-  pub written : (write_list chosen s buffer).answer ≡ Bytes (list_length chosen s)
-  pub read : (read_list (exported chosen s buffer) pages).answer ≡ Bytes 8192
+  pub written : (write_list chosen s buffer).answer ≡ Ok (list_length chosen s)
+  pub read : (read_list (exported chosen s buffer) pages).answer ≡ Ok 8192
   pub same : SameButOrigins (answer chosen (imported chosen s buffer pages)) (answer chosen s)
 
 abbrev pub RoundTrip : Type 0
-RoundTrip = (chosen : Choices) (s : List ℕ) → (answer chosen s).verdict ≡ Accepted → (buffer pages : List ℕ) → list_length chosen s ≤ length buffer
+RoundTrip = (chosen : Choices) (s : List ℕ) → (answer chosen s).verdict ≡ Ok tt → (buffer pages : List ℕ) → list_length chosen s ≤ length buffer
     → 8192 ≤ length pages
     → Returns chosen s buffer pages
 
 -- writing: building's refusals first, then 9 exactly where the buffer is shorter than the list; an accepted table's list has 8 + 40 × rows bytes
 pub record ListWritesExactly (chosen : Choices) (s buffer : List ℕ) : Type 0 where
   pub answers : FrontExactly (answer chosen s).verdict (list_of (answer chosen s).table) buffer (write_list chosen s buffer)
-  pub size : (answer chosen s).verdict ≡ Accepted → length (list_of (answer chosen s).table) ≡ list_length chosen s
+  pub size : (answer chosen s).verdict ≡ Ok tt → length (list_of (answer chosen s).table) ≡ list_length chosen s

@@ -1,5 +1,5 @@
 -- The round trip: from the list's bytes to the two pages' first entries, and from these to the same table.
-use Rattle.std.specs.Prelude.{◌≡◌, Bool, List, [], ◌∷◌, ◌++◌, ℕ, suc, ◌+◌, ◌*◌, ◌≤◌, ◌<◌, leb, get_or, take, drop}
+use Rattle.std.specs.Prelude.{◌≡◌, Bool, List, [], ◌∷◌, ◌++◌, ℕ, suc, ◌+◌, ◌*◌, ◌≤◌, ◌<◌, leb, get_or, take, drop, Ok}
 use Rattle.std.proofs.Math.Path.{refl, ap, fun_ext}
 use Rattle.std.proofs.Common.{sym, ◌∙◌, zero-add, arith}
 use Rattle.std.proofs.Math.Bool.{true, false}
@@ -13,8 +13,6 @@ use Rattle.pages.specs.Entries.{counted}
 use Rattle.masking.specs.Kept.{places}
 use Rattle.table.specs.declared.Choices.{Choices}
 use Rattle.table.specs.declared.CpuidResults.{CpuidResults}
-use Rattle.table.specs.declared.Verdict.{Verdict}
-use Rattle.table.specs.declared.Verdict.TheVariants.{Accepted}
 use Rattle.table.specs.Rows.{Row, Rows, vacant}
 use Rattle.table.specs.Table.{table_of, count_rows, row_in, rows_of_table as table_rows}
 use Rattle.checks.specs.Checks.{rows_verdict}
@@ -24,7 +22,6 @@ use Rattle.finish.specs.RowsBuilt.{built_from}
 use Rattle.build.specs.Built.{without_origins, SameButOrigins}
 use Rattle.build.specs.Build.{rows_for, answer}
 use Rattle.build.proofs.BuildLaws.{answer_of_rows}
-use Rattle.buffer.specs.declared.Written.TheVariants.{Bytes}
 use Rattle.buffer.specs.Front.{AfterWrite, write_front}
 use Rattle.buffer.specs.WritesExactlyProof.{front_exactly}
 use Rattle.image.specs.ImagePieces.{rows_among}
@@ -45,6 +42,7 @@ use Rattle.round_trip.specs.PagesRead.{AllFit, pages_first}
 use Rattle.round_trip.specs.PagesLawful.{pages_lawful}
 use Rattle.round_trip.specs.TableRows.{fit_cut, first_in_table, masked_stands}
 use Rattle.round_trip.specs.RoundTrip.{list_length, exported, imported as importedOf, Returns, RoundTrip, ListWritesExactly}
+use Rattle.table.specs.Verdict.{Verdict}
 
 -- ---- the pages of any table's list
 
@@ -78,7 +76,7 @@ again_ext avic a b e = fun_ext (λ i. go i (ltb i places) refl)
 -- over lent buffers
 module _ (t : CpuidResults) where
   read_table : (pages : List ℕ) → 8192 ≤ length pages → read_list
-      (list_of t) pages ≡ record { answer = Bytes 8192; buffer = imported t ++ drop 8192 pages }
+      (list_of t) pages ≡ record { answer = Ok 8192; buffer = imported t ++ drop 8192 pages }
   unfolding read_list write_front
   read_table pages h =
       let n : length (imported t) ≡ 8192 = two_pages (list_rows_read t) (fit_0 t) (fit_1 t) in
@@ -99,7 +97,7 @@ list_size m x =
     (λ i l. ap (λ (k : ℕ). one (get_or t.present k false)) (zero-add i) ∙ ap one (get_d_tabulate places (λ j. (m j).present) i false l)) in
     export_length t ∙ omega (arith, count_rows_lem t, n)
 
-answer_size : (chosen : Choices) (s : List ℕ) → (answer chosen s).verdict ≡ Accepted → length (list_of (answer chosen s).table) ≡ list_length chosen s
+answer_size : (chosen : Choices) (s : List ℕ) → (answer chosen s).verdict ≡ Ok tt → length (list_of (answer chosen s).table) ≡ list_length chosen s
 answer_size chosen s e = rw (answer_table chosen s e) (list_size _ _)
 
 pub list_writes_exactly : (chosen : Choices) (s buffer : List ℕ) → ListWritesExactly chosen s buffer
@@ -111,7 +109,7 @@ list_writes_exactly chosen s buffer = record {
 
 -- ---- the theorem
 
-same_answer_lem : (chosen : Choices) (s : List ℕ) → (answer chosen s).verdict ≡ Accepted → SameButOrigins (answer chosen (imported (answer chosen s).table)) (answer chosen s)
+same_answer_lem : (chosen : Choices) (s : List ℕ) → (answer chosen s).verdict ≡ Ok tt → SameButOrigins (answer chosen (imported (answer chosen s).table)) (answer chosen s)
 same_answer_lem chosen s e =
     let t : CpuidResults = (answer chosen s).table in
     answer_of_rows chosen (imported t) (accepted_edition chosen s e) (pages_lawful (list_rows_read t) (fit t) (fit_0 t) (fit_1 t))
@@ -124,10 +122,10 @@ round_trip chosen s e buffer pages h k =
     let t : CpuidResults = (answer chosen s).table in
     let x = list_writes_exactly chosen s buffer in
     let n : length (list_of t) ≡ list_length chosen s = x.size e in
-    let w : (write_list chosen s buffer).answer ≡ Bytes (list_length chosen s) = (x.answers.written (list_length chosen s)).1 (e, sym n, h) in
+    let w : (write_list chosen s buffer).answer ≡ Ok (list_length chosen s) = (x.answers.written (list_length chosen s)).1 (e, sym n, h) in
     let b : (write_list chosen s buffer).buffer ≡ list_of t ++ drop (list_length chosen s) buffer = x.answers.beyond (list_length chosen s) w in
     let f : exported chosen s buffer ≡ list_of t = rw (b, ← n) (take_front (list_of t) _) in
-    let r : read_list (exported chosen s buffer) pages ≡ record { answer = Bytes 8192; buffer = imported t ++ drop 8192 pages } =
+    let r : read_list (exported chosen s buffer) pages ≡ record { answer = Ok 8192; buffer = imported t ++ drop 8192 pages } =
     ap (λ (l : List ℕ). read_list l pages) f ∙ read_table t pages k in
     let two : length (imported t) ≡ 8192 = two_pages (list_rows_read t) (fit_0 t) (fit_1 t) in
     let g : importedOf chosen s buffer pages ≡ imported t =

@@ -1,5 +1,5 @@
 -- Finishing is idempotent: the rows of an accepted table, read again under the same masks, are accepted and give the same table.
-use Rattle.std.specs.Prelude.{◌≡◌, Bool, true, false, ◌&&◌, ℕ, ◌+◌, ◌^◌, ◌≤◌, ◌<◌, eqb, ltb}
+use Rattle.std.specs.Prelude.{◌≡◌, Bool, true, false, ◌&&◌, ℕ, ◌+◌, ◌^◌, ◌≤◌, ◌<◌, eqb, ltb, Ok}
 use Rattle.std.proofs.Math.Path.{refl, ap}
 use Rattle.std.proofs.Common.{sym, ap₂, ◌∙◌, subst, arith, le_antisymm, lit<, lt-ltb}
 use Rattle.std.specs.Int.Bits.{bit_and}
@@ -20,8 +20,6 @@ use Rattle.masking.specs.Kept.{places, kept_leaves, slot, masks_at}
 use Rattle.masking.specs.Place
 use Rattle.table.specs.TableLaws.{table_ext}
 use Rattle.table.specs.declared.Refusal.TheVariants.{InvlpgbUnavailable, SaveAreaOverflow}
-use Rattle.table.specs.declared.Verdict.{Verdict}
-use Rattle.table.specs.declared.Verdict.TheVariants.{Accepted, Refused}
 use Rattle.table.specs.Rows.{Row, Rows, row, vacant}
 use Rattle.checks.specs.Required.{place_required, required_count}
 use Rattle.checks.specs.ExtendedState.{xfem, xss, combined_mask, supplied, sum_at, save_area}
@@ -40,6 +38,7 @@ use Rattle.finish.specs.RowsBuilt.{table_for, built_from}
 use Rattle.collect.specs.FirstEntries.{masked_at, mask_row}
 use Rattle.round_trip.specs.Again.{read_again, again, MaskedAgain}
 use Rattle.round_trip.specs.RuleAgain.{is_sizes, sizes_bit_3, has_of_bit, finish_again, remains_again}
+use Rattle.table.specs.Verdict.{Verdict}
 
 -- ---- a row, whatever the settings
 
@@ -114,7 +113,7 @@ module _ (edition : ℕ) (avic : Bool) (m : Rows) (masked : MaskedAgain avic m) 
 
   -- ---- of accepted rows
 
-  module _ (accepted : rows_verdict m ≡ Accepted) where
+  module _ (accepted : rows_verdict m ≡ Ok tt) where
     pass : AllPass m
     pass = all_pass m accepted
 
@@ -226,7 +225,7 @@ module _ (edition : ℕ) (avic : Bool) (m : Rows) (masked : MaskedAgain avic m) 
         ∙ bit_and_lem 3 (address_sizes_ebx (m Place.extended_address_space_sizes).result.ebx) (masks_at avic Place.extended_address_space_sizes).ebx
         ∙ (let x : ℕ = (m Place.extended_address_space_sizes).result.ebx in omega (arith, sizes_bit_3 x, keeps_3 avic, bit_lt 3 x)))
 
-    invlpgb_again : invlpgb_verdict n ≡ Accepted
+    invlpgb_again : invlpgb_verdict n ≡ Ok tt
     unfolding invlpgb_verdict
     invlpgb_again = rw invlpgb_bit pass.invlpgb
 
@@ -237,20 +236,20 @@ module _ (edition : ℕ) (avic : Bool) (m : Rows) (masked : MaskedAgain avic m) 
         go true e = ap (λ (r : Row). r.present) (component_row k l u e)
         go false e = refl
 
-    components_again : components_verdict n ≡ Accepted
+    components_again : components_verdict n ≡ Ok tt
     unfolding components_verdict components_of
     components_again = ap (λ (f : Failing). refuse_at f missing_component) (lowest_all (supplied n (combined_mask n)) 2 62
         (λ k l u. supplied_again k l (omega arith)))
 
-    area_verdict_again : area_verdict n ≡ Accepted
+    area_verdict_again : area_verdict n ≡ Ok tt
     unfolding area_verdict
     area_verdict_again = rw area_again pass.area
 
-    topology_again : topology_verdict n ≡ Accepted
+    topology_again : topology_verdict n ≡ Ok tt
     unfolding topology_verdict
     topology_again = rw inputs_again pass.topology
 
-    pub verdict_again : rows_verdict n ≡ Accepted
+    pub verdict_again : rows_verdict n ≡ Ok tt
     unfolding rows_verdict
     verdict_again =
         then_skips (present_required n required_again)
@@ -264,4 +263,4 @@ module _ (edition : ℕ) (avic : Bool) (m : Rows) (masked : MaskedAgain avic m) 
     unfolding built_from
     built_again =
         rw (verdict_again, accepted)
-        (ap (λ (t : CpuidResults). record { verdict = Accepted; table = t }) (table_ext row_again mask_again))
+        (ap (λ (t : CpuidResults). record { verdict = (Ok tt); table = t }) (table_ext row_again mask_again))

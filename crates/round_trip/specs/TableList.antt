@@ -1,5 +1,5 @@
 -- A table's list is read: its rows, each word cut to 32 bits, and none of the refusals 10, 12 and 11.
-use Rattle.std.specs.Prelude.{◌≡◌, refl, Bool, false, List, ◌∷◌, map, ℕ, zero, suc, ◌+◌, ◌*◌, ◌≤◌, ◌<◌, leb, length}
+use Rattle.std.specs.Prelude.{◌≡◌, refl, Bool, false, List, ◌∷◌, map, ℕ, zero, suc, ◌+◌, ◌*◌, ◌≤◌, ◌<◌, leb, length, Ok}
 use Rattle.std.proofs.Common.{sym, ◌∙◌, arith}
 use Rattle.std.proofs.Math.Path.{ap}
 use Rattle.std.proofs.Math.Bool.{true, not}
@@ -12,7 +12,6 @@ use Rattle.x86defs.specs.Functions.{function, same_function, ExtendedStateEnumer
 use Rattle.pages.specs.Layout.{most_entries}
 use Rattle.masking.specs.Kept.{kept_leaves, slot, places, leaf_at, indexed_at}
 use Rattle.table.specs.declared.CpuidResults.{CpuidResults}
-use Rattle.table.specs.declared.Verdict.TheVariants.{Accepted}
 use Rattle.table.specs.Table.{row_in}
 use Rattle.kvm_list.specs.Words.{low_word}
 use Rattle.kvm_list.specs.Format.{ListRow, row_count, rows_listed, list_bytes}
@@ -113,7 +112,7 @@ module _ (t : CpuidResults) where
   unfolding fields_lawful list_of list_rows
   good_fields = rw (list_zero (list_rows t) small, list_rows_lem (list_rows t) small) (lawful_from t 0 places)
 
-  pub list_accepted : list_verdict (list_of t) ≡ Accepted
+  pub list_accepted : list_verdict (list_of t) ≡ Ok tt
   unfolding list_verdict rows_fit
   list_accepted =
       rw (

@@ -1,5 +1,5 @@
 -- Memory finished by stores: subleaves dropped, four origins, ten rows. It holds the definition's table, since every required row is there.
-use Rattle.std.specs.Prelude.{◌≡◌, refl, Bool, true, ◌&&◌, List, ℕ, ◌-◌, ◌<◌, ltb, leb, length}
+use Rattle.std.specs.Prelude.{◌≡◌, refl, Bool, true, ◌&&◌, List, ℕ, ◌-◌, ◌<◌, ltb, leb, length, Ok}
 use Rattle.std.proofs.Math.Path.{sym, ap}
 use Rattle.std.proofs.Common.{◌∙◌, ltb-true}
 use Rattle.std.proofs.Math.Bool.{false}
@@ -13,7 +13,6 @@ use Rattle.x86defs.specs.declared.CpuidResult.{CpuidResult}
 use Rattle.x86defs.specs.Functions.{cpuid_result}
 use Rattle.masking.specs.Kept.{places}
 use Rattle.masking.specs.Place
-use Rattle.table.specs.declared.Verdict.TheVariants.{Accepted}
 use Rattle.table.specs.Rows.{Rows, row, vacant}
 use Rattle.table.specs.Table.{table_of}
 use Rattle.memory.specs.Origin.{is_made_here, finished_origins}
@@ -69,7 +68,7 @@ stored_origins : (c : Settings) (o : ℕ → ℕ)
 unfolding tabulate is_made_here
 stored_origins c o = refl
 
-module _ (n : ℕ) (w o : List ℕ) (h : required_verdict (rows_in w o) ≡ Accepted) where
+module _ (n : ℕ) (w o : List ℕ) (h : required_verdict (rows_in w o) ≡ Ok tt) where
   abbrev m : Rows
   m = rows_in w o
 

@@ -1,6 +1,6 @@
 -- What memory that holds a finished table tells: its rows are the finished ones, a row is there where its origin is not 0, and the combined mask is
 -- that of its rows D.0 and D.1. So neither flags nor count nor mask need memory of their own.
-use Rattle.std.specs.Prelude.{◌≡◌, refl, Bool, true, ◌&&◌, ℕ, ◌<◌}
+use Rattle.std.specs.Prelude.{◌≡◌, refl, Bool, true, ◌&&◌, ℕ, ◌<◌, Ok}
 use Rattle.std.proofs.Common.{sym, ◌∙◌, arith}
 use Rattle.std.proofs.Math.Path.{ap, ap₂}
 use Rattle.std.proofs.Math.Bool.{false}
@@ -8,7 +8,7 @@ use mathlib.Core.List.{List}
 use Rattle.std.specs.Int.Bits.{bit_or}
 use Rattle.std.proofs.Math.ListN.{get_or}
 use Rattle.bits.specs.Choice.{pick}
-use Rattle.bits.specs.ChoiceLaws.{never_both, if_holds, pick_twice}
+use Rattle.bits.specs.ChoiceLaws.{never_both, pick_twice}
 use Rattle.bits.specs.Bits.{has}
 use Rattle.bits.specs.Search.{every}
 use Rattle.bits.specs.SearchLaws.{every_at}
@@ -17,8 +17,7 @@ use Rattle.x86defs.specs.declared.CpuidResult.{CpuidResult}
 use Rattle.x86defs.specs.Functions.{cpuid_result}
 use Rattle.masking.specs.Kept.{places}
 use Rattle.masking.specs.Place
-use Rattle.table.specs.declared.Verdict.TheVariants.{Accepted}
-use Rattle.table.specs.Rows.{Row, Rows}
+use Rattle.table.specs.Rows.{Rows}
 use Rattle.table.specs.Table.{table_of, row_in}
 use Rattle.table.specs.TableLaws.{table_ext}
 use Rattle.memory.specs.Origin.{is_made_here, finished_origins}
@@ -80,7 +79,7 @@ module _ (n : ℕ) (w o : List ℕ) {x : ℕ} {v q : List ℕ} (h : Holds (table
   pub held_row : (i : ℕ) → i < places → rows_in v q i ≡ finished n m i
   held_row i l = λ t. record { present = held_present i l t; result = held_result i l t }
 
-  module _ (r : required_verdict m ≡ Accepted) where
+  module _ (r : required_verdict m ≡ Ok tt) where
     -- a required row has its rule's registers
     needed_row : (i : ℕ) → i < places → always (rule_at i) ≡ true → row_of v i ≡ finish (settings n m) (rule_at i) (m i).result
     needed_row i l e =

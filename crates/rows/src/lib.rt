@@ -20,7 +20,7 @@ use finish::features::{
 };
 use masking::{PLACES, place};
 use memory::origins::{MADE_HERE, NONE};
-use memory::{REGISTERS, is_there, lengths_known, put_row, row_at};
+use memory::{REGISTERS, is_there, put_row, row_at};
 use table::Verdict;
 use topology::{core_level, thread_level};
 use x86defs::{CpuidResult, threads_per_compute_unit};
@@ -70,6 +70,7 @@ fn drop_subleaves(registers: &mut [u32; REGISTERS], origins: &mut [u64; PLACES],
 {
     let mut k: usize = 2;
     let mut rest = mask & FROM_2;
+    // kept as a while: the step is not one but the place of the next set bit
     while rest != 0 {
         let subleaf = u64::trailing_zeros(rest) as usize;
         let origin = origins[place::EXTENDED_STATE_0 + subleaf];
@@ -96,10 +97,8 @@ fn drop_origins(origins: &mut [u64; PLACES], from: usize, to: usize)
     requires { (from ≤ to) × (to ≤ 64) × (length origins.old ≡ 88) }
     ensures { origins.new ≡ empty_origins (to - from) from origins.old }
 {
-    let mut k = from;
-    while k < to {
+    for k in from..to {
         origins[place::EXTENDED_STATE_0 + k] = NONE;
-        k += 1;
     }
 }
 
@@ -107,10 +106,8 @@ fn drop_rows(registers: &mut [u32; REGISTERS], from: usize, to: usize)
     requires { (from ≤ to) × (to ≤ 64) }
     ensures { registers.new ≡ empty_rows (to - from) from registers.old }
 {
-    let mut k = from;
-    while k < to {
+    for k in from..to {
         put_row(registers, place::EXTENDED_STATE_0 + k, no_registers());
-        k += 1;
     }
 }
 
@@ -120,16 +117,13 @@ pub fn finish(
     registers: &mut [u32; REGISTERS],
     origins: &mut [u64; PLACES],
     edition: u32,
-    mask: u64,
-    size: u32,
-    processors: u32,
+    checked: Checked,
 )
-    requires { (mask ≡ combined_mask (rows_in registers.old origins.old)) × Ready (rows_in registers.old origins.old) size processors }
+    requires { (checked.mask ≡ combined_mask (rows_in registers.old origins.old)) × Ready (rows_in registers.old origins.old) checked.size checked.processors }
     ensures { Holds (table_of (finished edition (rows_in registers.old origins.old))
         (combined_mask (rows_in registers.old origins.old))) origins.old registers.new origins.new }
 {
-    lengths_known(registers, origins);
-    drop_subleaves(registers, origins, mask);
+    drop_subleaves(registers, origins, checked.mask);
     let y = YmmClears::of(edition);
     let subleaf0 = row_at(registers, place::EXTENDED_STATE_0);
     let subleaf1 = row_at(registers, place::EXTENDED_STATE_1);
@@ -164,12 +158,12 @@ pub fn finish(
         place::THREAD_LEVEL,
         thread_level(threads_per_compute_unit(topology.ebx)),
     );
-    put_row(registers, place::CORE_LEVEL, core_level(processors));
+    put_row(registers, place::CORE_LEVEL, core_level(checked.processors));
     put_row(
         registers,
         place::EXTENDED_STATE_0,
         CpuidResult {
-            ecx: size,
+            ecx: checked.size,
             ..subleaf0
         },
     );
@@ -204,12 +198,7 @@ pub fn finish_rows(
     ensures { Tried (built_from edition (rows_in registers.old origins.old)) registers.old origins.old result
         registers.new origins.new }
 {
-    let checked = check_rows(registers, origins);
-    match checked {
-        Checked::Ready(mask, size, processors) => {
-            finish(registers, origins, edition, mask, size, processors);
-            Verdict::Accepted
-        }
-        Checked::Refused(r) => Verdict::Refused(r),
-    }
+    let checked = check_rows(registers, origins)?;
+    finish(registers, origins, edition, checked);
+    Ok(())
 }

@@ -1,5 +1,5 @@
 -- What holds of the definition: the padding and the length's field are the standard's, and the digests of three messages are the published ones.
-use Rattle.std.specs.Prelude.{◌≡◌, ℕ, zero, suc, ◌+◌, ◌-◌, ◌*◌, ◌/◌, ◌%◌, ◌^◌, ◌<◌, Bool, true, false, ◌&&◌, List, [], ◌∷◌, ◌++◌, length, ◌==◌, refl}
+use Rattle.std.specs.Prelude.{◌≡◌, ℕ, zero, suc, ◌+◌, ◌-◌, ◌*◌, ◌/◌, ◌%◌, ◌^◌, ◌<◌, Bool, true, false, ◌&&◌, List, [], ◌∷◌, length, ◌==◌, refl}
 use Rattle.std.proofs.Common.{ap₂, ◌∙◌, pow-suc, mul_comm, mul_assoc, add-mul, add_assoc, arith, length-append, eqb-true}
 use Rattle.std.proofs.Math.Arith.{mod-mul}
 use Rattle.sha256.specs.Block.{Σ₀, Σ₁, σ₀, σ₁, constants, word_at, words, next_word, with_next, schedule, turn, turns, added, compress}

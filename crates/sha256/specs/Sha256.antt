@@ -1,5 +1,5 @@
 -- SHA-256, from FIPS 180-4, whose section numbers stand at each part. A message is a list of bytes.
-use Rattle.std.specs.Prelude.{ℕ, zero, suc, ◌+◌, ◌-◌, ◌*◌, ◌/◌, ◌%◌, ◌^◌, List, [], ◌∷◌, ◌++◌, length, replicate}
+use Rattle.std.specs.Prelude.{ℕ, zero, suc, ◌-◌, ◌*◌, ◌/◌, ◌%◌, ◌^◌, List, [], ◌∷◌, ◌++◌, length, replicate}
 use Rattle.sha256.specs.declared.block.State.{State}
 use Rattle.sha256.specs.Block.{words, compress}
 

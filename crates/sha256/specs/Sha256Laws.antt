@@ -1,32 +1,22 @@
 -- Laws of SHA-256's definition, one for each step of the code.
+use Rattle.std.specs.Int.{bytes_high_first}
 use Rattle.std.specs.Prelude.{◌≡◌, ℕ, zero, suc, ◌+◌, ◌-◌, ◌*◌, ◌/◌, ◌%◌, ◌^◌, ◌<◌, ◌≤◌, List, [], ◌∷◌, ◌++◌, length, take, drop, set, replicate, slice_index, slice_set, refl}
-use Rattle.std.proofs.Common.{sym, ap₂, ◌∙◌, append_assoc, add-one, arith}
+use Rattle.std.proofs.Common.{sym, ap₂, ◌∙◌, append_assoc, add-one, div-one, arith}
 use Rattle.std.proofs.Math.Path.{ap}
-use Rattle.std.proofs.Math.Numerals.{add-two, add-three, add-four, add_five, add_six, add_seven}
 use Rattle.std.proofs.Math.ListN.{length-append, length-drop, get_or-append}
-use Rattle.std.proofs.lemmas.List.{length-replicate, replicate-append-replicate}
-use lib.Seq.{sets, take-suc, take_all, take-length, get_or-drop, set_at, drop_at, sets-eq, take-append_seam, drop-append-add, drop-append-le}
+use Rattle.std.proofs.lemmas.List.{drop-replicate, length-replicate, replicate-append-replicate}
+use borrow.Rule.Slice.PartMut.{put_mid}
+use lib.Seq.{take_all, get_or-drop, set_at, drop_at, take-append_seam, drop-append-le}
 use Rattle.sha256.specs.Block.{words, compress}
 use Rattle.sha256.specs.BlockLaws.{words_same}
 use Rattle.sha256.specs.Sha256.{big_endian, padding, padded, hashed, digest_of, sha256}
 
 -- ---- what is left of the message, padded
 
-pub copy_next : (rest : List ℕ) (i : ℕ) → i < length rest → i < 128
-    → slice_set (take i rest ++ replicate (128 - i) 0) i (slice_index rest i) ≡ take (i + 1) rest ++ replicate (128 - (i + 1)) 0
-copy_next rest i h l =
-    let n : 128 - i ≡ suc (128 - (i + 1)) = omega arith in
-    let z : List ℕ = replicate (128 - (i + 1)) 0 in
-    rw n
-    (set_at (take i rest) 0 z (slice_index rest i) i (lib.Seq.length-take-le i rest (omega arith))
-    ∙ sym (lib.Seq.append_snoc (take i rest) (slice_index rest i) z)
-    ∙ rw (add-one, take-suc rest i 0 h))
-
-sets_seam : (p q s vs : List ℕ) → length q ≡ length vs → sets (p ++ (q ++ s)) (length p) vs ≡ p ++ (vs ++ s)
-sets_seam p q s vs e =
-    sets-eq vs (p ++ (q ++ s)) (length p) (omega (arith, length-append p (q ++ s), length-append q s))
-    ∙ ap₂ (λ (x y : List ℕ). x ++ vs ++ y) (take-append_seam p (q ++ s)) (drop-append-add p (q ++ s) (length vs) ∙ drop_at q s (length vs) e)
-    ∙ append_assoc p vs s
+-- a part of a list behind p, replaced by as many elements
+put_seam : (p q s vs : List ℕ) (k : ℕ) → length q ≡ k → put_mid (length p) k (p ++ (q ++ s)) vs ≡ p ++ (vs ++ s)
+put_seam p q s vs k e =
+    ap₂ (λ (x y : List ℕ). x ++ (vs ++ y)) (take-append_seam p (q ++ s)) (ap (drop k) (drop_at p (q ++ s) (length p) refl) ∙ drop_at q s k e)
 
 length_big_endian : (n x : ℕ) → length (big_endian n x) ≡ n
 unfolding big_endian
@@ -39,63 +29,46 @@ length_padding n =
     let z = (119 - n % 64) % 64 in
     omega (arith, length-append {A = ℕ} (replicate z 0) (big_endian 8 (8 * n)), length-replicate {A = ℕ} z 0, length_big_endian 8 (8 * n))
 
--- the length's eight bytes, of the length in bits as it is cut to 64
-module _ (n : ℕ) where
-  kept_7 : n * 2 ^ 3 % 2 ^ 64 / 2 ^ 56 % 256 ≡ 8 * n / 256 ^ 7 % 256
-  kept_7 = omega arith
-
-  kept_6 : n * 2 ^ 3 % 2 ^ 64 / 2 ^ 48 % 256 ≡ 8 * n / 256 ^ 6 % 256
-  kept_6 = omega arith
-
-  kept_5 : n * 2 ^ 3 % 2 ^ 64 / 2 ^ 40 % 256 ≡ 8 * n / 256 ^ 5 % 256
-  kept_5 = omega arith
-
-  kept_4 : n * 2 ^ 3 % 2 ^ 64 / 2 ^ 32 % 256 ≡ 8 * n / 256 ^ 4 % 256
-  kept_4 = omega arith
-
-  kept_3 : n * 2 ^ 3 % 2 ^ 64 / 2 ^ 24 % 256 ≡ 8 * n / 256 ^ 3 % 256
-  kept_3 = omega arith
-
-  kept_2 : n * 2 ^ 3 % 2 ^ 64 / 2 ^ 16 % 256 ≡ 8 * n / 256 ^ 2 % 256
-  kept_2 = omega arith
-
-  kept_1 : n * 2 ^ 3 % 2 ^ 64 / 2 ^ 8 % 256 ≡ 8 * n / 256 ^ 1 % 256
-  kept_1 = omega arith
-
-  kept_0 : n * 2 ^ 3 % 2 ^ 64 / 2 ^ 0 % 256 ≡ 8 * n / 256 ^ 0 % 256
-  kept_0 = omega arith
-
-pub length_stored : (l : List ℕ) (at n a b c d e f g h : ℕ)
-    → a ≡ n * 2 ^ 3 % 2 ^ 64 / 2 ^ 56 % 256 → b ≡ n * 2 ^ 3 % 2 ^ 64 / 2 ^ 48 % 256
-    → c ≡ n * 2 ^ 3 % 2 ^ 64 / 2 ^ 40 % 256 → d ≡ n * 2 ^ 3 % 2 ^ 64 / 2 ^ 32 % 256
-    → e ≡ n * 2 ^ 3 % 2 ^ 64 / 2 ^ 24 % 256 → f ≡ n * 2 ^ 3 % 2 ^ 64 / 2 ^ 16 % 256
-    → g ≡ n * 2 ^ 3 % 2 ^ 64 / 2 ^ 8 % 256 → h ≡ n * 2 ^ 3 % 2 ^ 64 / 2 ^ 0 % 256
-    → slice_set (slice_set (slice_set (slice_set (slice_set (slice_set (slice_set (slice_set l at a) (at + 1) b) (at + 2) c) (at + 3) d) (at + 4) e) (at + 5) f) (at + 6) g) (at + 7) h
-    ≡ sets l at (big_endian 8 (8 * n))
+-- the big-endian bytes of the library, of which the lowest is not divided
+pub bytes_as : (k x : ℕ) → bytes_high_first k x ≡ big_endian k x
 unfolding big_endian
-length_stored l at n a b c d e f g h pa pb pc pd pe pf pg ph =
-    rw (
-      add-one,
-      add-two,
-      add-three,
-      add-four,
-      add_five,
-      add_six,
-      add_seven,
-      pa ∙ kept_7 n,
-      pb ∙ kept_6 n,
-      pc ∙ kept_5 n,
-      pd ∙ kept_4 n,
-      pe ∙ kept_3 n,
-      pf ∙ kept_2 n,
-      pg ∙ kept_1 n,
-      ph ∙ kept_0 n,
-    )
+bytes_as zero x = refl
+bytes_as (suc zero) x = rw (div-one x)
+bytes_as (suc (suc k)) x = ap (λ (l : List ℕ). x / 256 ^ suc k % 256 ∷ l) (bytes_as (suc k) x)
 
-tail_stored : (rest vs : List ℕ) (z b : ℕ) → length vs ≡ 8
-    → sets (slice_set (rest ++ replicate (suc (z + (8 + b))) 0) (length rest) 128) (length rest + 1 + z) vs
+-- the length's eight bytes, of the length in bits as it is cut to 64
+pub length_cut : (n : ℕ) → big_endian 8 (n * 2 ^ 3 % 2 ^ 64) ≡ big_endian 8 (8 * n)
+unfolding big_endian
+length_cut n = rw (kept_7, kept_6, kept_5, kept_4, kept_3, kept_2, kept_1, kept_0)
+  where
+    kept_7 : n * 2 ^ 3 % 2 ^ 64 / 256 ^ 7 % 256 ≡ 8 * n / 256 ^ 7 % 256
+    kept_7 = omega arith
+
+    kept_6 : n * 2 ^ 3 % 2 ^ 64 / 256 ^ 6 % 256 ≡ 8 * n / 256 ^ 6 % 256
+    kept_6 = omega arith
+
+    kept_5 : n * 2 ^ 3 % 2 ^ 64 / 256 ^ 5 % 256 ≡ 8 * n / 256 ^ 5 % 256
+    kept_5 = omega arith
+
+    kept_4 : n * 2 ^ 3 % 2 ^ 64 / 256 ^ 4 % 256 ≡ 8 * n / 256 ^ 4 % 256
+    kept_4 = omega arith
+
+    kept_3 : n * 2 ^ 3 % 2 ^ 64 / 256 ^ 3 % 256 ≡ 8 * n / 256 ^ 3 % 256
+    kept_3 = omega arith
+
+    kept_2 : n * 2 ^ 3 % 2 ^ 64 / 256 ^ 2 % 256 ≡ 8 * n / 256 ^ 2 % 256
+    kept_2 = omega arith
+
+    kept_1 : n * 2 ^ 3 % 2 ^ 64 / 256 ^ 1 % 256 ≡ 8 * n / 256 ^ 1 % 256
+    kept_1 = omega arith
+
+    kept_0 : n * 2 ^ 3 % 2 ^ 64 / 256 ^ 0 % 256 ≡ 8 * n / 256 ^ 0 % 256
+    kept_0 = omega arith
+
+tail_stored : (rest vs : List ℕ) (z b : ℕ)
+    → put_mid (length rest + 1 + z) 8 (slice_set (rest ++ replicate (suc (z + (8 + b))) 0) (length rest) 128) vs
     ≡ rest ++ (128 ∷ (replicate z 0 ++ vs)) ++ replicate b 0
-tail_stored rest vs z b e =
+tail_stored rest vs z b =
     let p : List ℕ = (rest ++ (128 ∷ [])) ++ replicate z 0 in
     let split : ◌≡◌ {A = List ℕ} (replicate (z + (8 + b)) 0) (replicate z 0 ++ (replicate 8 0 ++ replicate b 0)) =
     sym (replicate-append-replicate z (8 + b) 0) ∙ ap (λ (l : List ℕ). replicate z 0 ++ l) (sym (replicate-append-replicate 8 b 0))
@@ -106,20 +79,19 @@ tail_stored rest vs z b e =
     let n : length rest + 1 + z ≡ length p =
     omega (arith, length-append (rest ++ (128 ∷ [])) (replicate z 0), length-append rest (128 ∷ []), length-replicate {A = ℕ} z 0)
     in
-    rw (mark, n) (sets_seam p (replicate 8 0) (replicate b 0) vs (sym e) ∙ simp append_assoc)
+    rw (mark, n) (put_seam p (replicate 8 0) (replicate b 0) vs 8 refl ∙ simp append_assoc)
 
-pub tail_padded : (rest : List ℕ) (n i at : ℕ) → length rest ≡ n % 64 → length rest ≤ i → i ≤ length rest → at ≡ i + 1 + (119 - n % 64) % 64
-    → at + 8 ≤ 128
-    → sets (slice_set (take i rest ++ replicate (128 - i) 0) i 128) at (big_endian 8 (8 * n))
+-- the rest, the mark behind it, and the length's bytes at an index, in 128 zeros
+pub tail_padded : (rest vs : List ℕ) (n at k : ℕ) → length rest ≡ n % 64 → at ≡ length rest + 1 + (119 - n % 64) % 64 → at + 8 ≤ 128 → k ≡ 8
+    → vs ≡ big_endian 8 (8 * n)
+    → put_mid at k (slice_set (rest ++ drop (length rest) (replicate 128 0)) (length rest) 128) vs
     ≡ rest ++ padding n ++ replicate (128 - (length rest + length (padding n))) 0
 unfolding padding
-tail_padded rest n i at e h k q l =
+tail_padded rest vs n at k e q l ek is =
     let z : ℕ = (119 - n % 64) % 64 in
     let b : ℕ = 128 - (length rest + length (padding n)) in
-    let ei : i ≡ length rest = omega arith in
     let en : 128 - length rest ≡ suc (z + (8 + b)) = omega (arith, length_padding n) in
-    let ea : at ≡ length rest + 1 + z = omega arith in
-    rw (ea, ei, take-length rest, en) (tail_stored rest (big_endian 8 (8 * n)) z b (length_big_endian 8 (8 * n)))
+    rw (is, ek, q, drop-replicate {X = ℕ} (length rest) 128 0, en) (tail_stored rest (big_endian 8 (8 * n)) z b)
 
 -- ---- blocks of the padded message
 

@@ -1,6 +1,6 @@
 // One block of SHA-256 (FIPS 180-4, 6.2.2): the next hash value, from a hash value and the 64 bytes of a block.
-ghost use Rattle.std.specs.Prelude.{◌≡◌, ◌+◌, ◌-◌, ◌*◌, ◌/◌, ◌%◌, ◌^◌, ◌<◌, ◌≤◌, length};
-ghost use Rattle.sha256.specs.Block.{◌⊞◌, rotr, ch, maj, Σ₀, Σ₁, σ₀, σ₁, word_at, words, turn, turns, added, compress};
+ghost use Rattle.std.specs.Prelude.{◌≡◌, ◌+◌, ◌≤◌, length};
+ghost use Rattle.sha256.specs.Block.{◌⊞◌, ch, maj, Σ₀, Σ₁, σ₀, σ₁, word_at, words, turn, turns, added, compress};
 
 // A hash value, and the eight working variables.
 #[derive(Clone, Copy)]
@@ -88,15 +88,11 @@ pub fn block_at(p: State, bytes: &[u8], at: usize) -> State
     ensures { result ≡ compress p (words bytes.now at 16) }
 {
     let mut w = [0u32; 64];
-    let mut t = 0;
-    while t < 16 {
+    for t in 0..16 {
         w[t] = word_at(bytes, at + 4 * t);
-        t += 1;
     }
-    let mut i = 0;
-    while i < 48 {
+    for i in 0..48 {
         w[16 + i] = next_word(w[i], w[i + 1], w[i + 9], w[i + 14]);
-        i += 1;
     }
     let s = turned(p, &w);
     sum_of(s, p)
@@ -107,33 +103,25 @@ fn word_at(bytes: &[u8], at: usize) -> u32
     requires { at + 4 ≤ length bytes.now }
     ensures { result ≡ word_at bytes.now at }
 {
-    ((wide(bytes[at]) * 256 + wide(bytes[at + 1])) * 256 + wide(bytes[at + 2])) * 256
-        + wide(bytes[at + 3])
-}
-
-fn wide(b: u8) -> u32
-    ensures { (result ≡ b) × (result < 256) }
-{
-    b as u32
+    u32::from_be_bytes([bytes[at], bytes[at + 1], bytes[at + 2], bytes[at + 3]])
 }
 
 fn next_word(w16: u32, w15: u32, w7: u32, w2: u32) -> u32
     ensures { result ≡ σ₁ w2 ⊞ w7 ⊞ σ₀ w15 ⊞ w16 }
 {
-    plus(plus(plus(small_1(w2), w7), small_0(w15)), w16)
+    small_1(w2)
+        .wrapping_add(w7)
+        .wrapping_add(small_0(w15))
+        .wrapping_add(w16)
 }
 
 // The 64 turns.
 fn turned(p: State, w: &[u32; 64]) -> State
     ensures { result ≡ turns p w.now 64 }
 {
-    let k = K;
     let mut s = p;
-    let mut t = 0;
-    while t < 64 {
-        let next = turn(s, k[t], w[t]);
-        s = next;
-        t += 1;
+    for t in 0..64 {
+        s = turn(s, K[t], w[t]);
     }
     s
 }
@@ -141,17 +129,19 @@ fn turned(p: State, w: &[u32; 64]) -> State
 fn turn(s: State, k: u32, w: u32) -> State
     ensures { result ≡ turn s k w }
 {
-    let t1 = plus(
-        plus(plus(plus(s.h, big_1(s.e)), choice(s.e, s.f, s.g)), k),
-        w,
-    );
-    let t2 = plus(big_0(s.a), majority(s.a, s.b, s.c));
+    let t1 = s
+        .h
+        .wrapping_add(big_1(s.e))
+        .wrapping_add(choice(s.e, s.f, s.g))
+        .wrapping_add(k)
+        .wrapping_add(w);
+    let t2 = big_0(s.a).wrapping_add(majority(s.a, s.b, s.c));
     State {
-        a: plus(t1, t2),
+        a: t1.wrapping_add(t2),
         b: s.a,
         c: s.b,
         d: s.c,
-        e: plus(s.d, t1),
+        e: s.d.wrapping_add(t1),
         f: s.e,
         g: s.f,
         h: s.g,
@@ -162,28 +152,15 @@ fn sum_of(s: State, p: State) -> State
     ensures { result ≡ added s p }
 {
     State {
-        a: plus(s.a, p.a),
-        b: plus(s.b, p.b),
-        c: plus(s.c, p.c),
-        d: plus(s.d, p.d),
-        e: plus(s.e, p.e),
-        f: plus(s.f, p.f),
-        g: plus(s.g, p.g),
-        h: plus(s.h, p.h),
+        a: s.a.wrapping_add(p.a),
+        b: s.b.wrapping_add(p.b),
+        c: s.c.wrapping_add(p.c),
+        d: s.d.wrapping_add(p.d),
+        e: s.e.wrapping_add(p.e),
+        f: s.f.wrapping_add(p.f),
+        g: s.g.wrapping_add(p.g),
+        h: s.h.wrapping_add(p.h),
     }
-}
-
-fn plus(x: u32, y: u32) -> u32
-    ensures { result ≡ x ⊞ y }
-{
-    std::num::wrapping_add_u32(x, y)
-}
-
-fn rotr(n: u32, x: u32) -> u32
-    requires { (0 < n) × (n < 32) }
-    ensures { result ≡ rotr n x }
-{
-    (x >> n) | (x << (32 - n))
 }
 
 fn choice(x: u32, y: u32, z: u32) -> u32
@@ -201,23 +178,23 @@ fn majority(x: u32, y: u32, z: u32) -> u32
 fn big_0(x: u32) -> u32
     ensures { result ≡ Σ₀ x }
 {
-    rotr(2, x) ^ rotr(13, x) ^ rotr(22, x)
+    x.rotate_right(2) ^ x.rotate_right(13) ^ x.rotate_right(22)
 }
 
 fn big_1(x: u32) -> u32
     ensures { result ≡ Σ₁ x }
 {
-    rotr(6, x) ^ rotr(11, x) ^ rotr(25, x)
+    x.rotate_right(6) ^ x.rotate_right(11) ^ x.rotate_right(25)
 }
 
 fn small_0(x: u32) -> u32
     ensures { result ≡ σ₀ x }
 {
-    rotr(7, x) ^ rotr(18, x) ^ (x >> 3)
+    x.rotate_right(7) ^ x.rotate_right(18) ^ (x >> 3)
 }
 
 fn small_1(x: u32) -> u32
     ensures { result ≡ σ₁ x }
 {
-    rotr(17, x) ^ rotr(19, x) ^ (x >> 10)
+    x.rotate_right(17) ^ x.rotate_right(19) ^ (x >> 10)
 }

@@ -1,8 +1,7 @@
 -- A lookup in a pool's table, as the exported function gives it.
-use Rattle.std.specs.Prelude.{◌≡◌, Bool, List, ℕ}
+use Rattle.std.specs.Prelude.{◌≡◌, Bool, List, ℕ, Option}
 use Rattle.std.proofs.Common.{sym, ap, ◌∙◌}
 use Rattle.table.specs.declared.CpuidResults.{CpuidResults}
-use Rattle.table.specs.declared.Subleaf.{Subleaf}
 use Rattle.memory.specs.Held.{held_in, mask_held, mask_held_lem}
 use Rattle.pool.specs.declared.Pooled.{Pooled}
 use Rattle.pool.specs.declared.PoolVerdict.{PoolVerdict}
@@ -12,7 +11,7 @@ use Rattle.answers.specs.declared.SnpCpuidFound.{SnpCpuidFound}
 use Rattle.answers.specs.Answers.{found_at}
 
 -- the row of the pool's table, with its origin
-abbrev pub pooled_found : Pooled → ℕ → Subleaf → Bool → SnpCpuidFound
+abbrev pub pooled_found : Pooled → ℕ → Option ℕ → Bool → SnpCpuidFound
 pooled_found p leaf subleaf enforce = found_at p.table p.origins leaf subleaf enforce
 
 -- the memory w, o holds the pool's table, and where its rows came from

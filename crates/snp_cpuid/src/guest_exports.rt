@@ -5,10 +5,7 @@ ghost use Rattle.table.specs.Numbers.{subleaf_of};
 ghost use Rattle.answers.specs.Answers.{choices_of, processor_of, written_numbers};
 ghost use Rattle.snp_cpuid.specs.GuestExports.{guest_numbers, guest_found};
 
-use answers::{
-    SnpCpuidBuilt, SnpCpuidFound, SnpCpuidWritten, found_at, processor, table_numbers,
-    written_numbers,
-};
+use answers::{SnpCpuidBuilt, SnpCpuidFound, SnpCpuidWritten, found_at, processor, table_numbers};
 use masking::PLACES;
 use memory::REGISTERS;
 use table::{Choices, subleaf_of};
@@ -59,7 +56,7 @@ pub fn snp_cpuid_guest_lookup(
     };
     let mut registers: [u32; REGISTERS] = [0; REGISTERS];
     let mut origins: [u64; PLACES] = [0; PLACES];
-    guest::from_pages::guest_pages(pages, choices, v, &mut registers, &mut origins);
+    let _ = guest::from_pages::guest_pages(pages, choices, v, &mut registers, &mut origins);
     let named = subleaf_of(has_subleaf, subleaf);
     found_at(&registers, &origins, leaf, named, enforce_subleaf)
 }
@@ -83,5 +80,5 @@ pub fn snp_cpuid_write_guest_image(
         secure_avic,
         edition,
     };
-    written_numbers(guest::from_pages::write_guest_image(pages, choices, v, out))
+    SnpCpuidWritten::from(guest::from_pages::write_guest_image(pages, choices, v, out))
 }

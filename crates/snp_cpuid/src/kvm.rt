@@ -4,7 +4,7 @@ ghost use Rattle.kvm_import.specs.Import.{read_list};
 ghost use Rattle.kvm_export.specs.Export.{write_list};
 ghost use Rattle.answers.specs.Answers.{choices_of, written_numbers};
 
-use answers::{SnpCpuidWritten, written_numbers};
+use answers::SnpCpuidWritten;
 use table::Choices;
 
 // Builds, and writes the table's struct kvm_cpuid2 at the front of `out`.
@@ -21,7 +21,7 @@ pub fn snp_cpuid_write_kvm(
         secure_avic,
         edition,
     };
-    written_numbers(kvm_export::write_list(pages, choices, out))
+    SnpCpuidWritten::from(kvm_export::write_list(pages, choices, out))
 }
 
 // Reads a struct kvm_cpuid2 into two pages at the front of `out`.
@@ -29,5 +29,5 @@ pub fn snp_cpuid_read_kvm(list: &[u8], out: &mut [u8]) -> SnpCpuidWritten
     ensures value { result ≡ written_numbers (read_list list.now out.old).answer }
     ensures out_after { out.new ≡ (read_list list.now out.old).buffer }
 {
-    written_numbers(kvm_import::read_list(list, out))
+    SnpCpuidWritten::from(kvm_import::read_list(list, out))
 }

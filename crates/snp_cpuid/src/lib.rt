@@ -11,10 +11,10 @@ ghost use Rattle.answers.specs.Answers.{choices_of, built_numbers, written_numbe
 ghost use Rattle.answers.specs.ComparedAnswers.{compared_numbers};
 ghost use Rattle.snp_cpuid.specs.Exports.{found_in, first_numbers};
 
-use answers::comparison::{SnpCpuidCompared, compared_numbers};
+use answers::comparison::SnpCpuidCompared;
 use answers::{
     SnpCpuidBuilt, SnpCpuidFirst, SnpCpuidFound, SnpCpuidWritten, built_table_numbers,
-    first_numbers, found_at, written_numbers,
+    first_numbers, found_at,
 };
 use build::build_into;
 use masking::PLACES;
@@ -64,7 +64,7 @@ pub fn snp_cpuid_lookup(
     };
     let mut registers: [u32; REGISTERS] = [0; REGISTERS];
     let mut origins: [u64; PLACES] = [0; PLACES];
-    build_into(pages, choices, &mut registers, &mut origins);
+    let _ = build_into(pages, choices, &mut registers, &mut origins);
     let named = subleaf_of(has_subleaf, subleaf);
     found_at(&registers, &origins, leaf, named, enforce_subleaf)
 }
@@ -92,7 +92,7 @@ pub fn snp_cpuid_write_image(
         secure_avic,
         edition,
     };
-    written_numbers(image::from_pages::write_image(pages, choices, out))
+    SnpCpuidWritten::from(image::from_pages::write_image(pages, choices, out))
 }
 
 // Whether a guest of the server with pages `a` may move to the one with pages `b`, or the first thing in the way.
@@ -103,5 +103,5 @@ pub fn snp_cpuid_compare(a: &[u8], b: &[u8], secure_avic: bool, edition: u32) ->
         secure_avic,
         edition,
     };
-    compared_numbers(compare::compare(a, b, choices))
+    SnpCpuidCompared::from(compare::compare(a, b, choices))
 }

@@ -4,9 +4,7 @@ ghost use Rattle.lines.specs.WriteLine.{write_line};
 ghost use Rattle.lines.specs.ReadLine.{read_line};
 ghost use Rattle.answers.specs.LineAnswers.{details_given, line_written_numbers, line_read_numbers};
 
-use answers::line::{
-    SnpCpuidLineRead, SnpCpuidLineWritten, line_read_numbers, line_written_numbers,
-};
+use answers::line::{SnpCpuidLineRead, SnpCpuidLineWritten};
 use lines::bytes::LineDetails;
 use table::subleaf_of;
 
@@ -29,12 +27,12 @@ pub fn snp_cpuid_write_line(
         subleaf: named,
         s,
     };
-    line_written_numbers(lines::write_line(d, out))
+    SnpCpuidLineWritten::from(lines::write_line(d, out))
 }
 
 // The refusal whose line the bytes are, the whole of them.
 pub fn snp_cpuid_read_line(line: &[u8]) -> SnpCpuidLineRead
     ensures { result ≡ line_read_numbers (read_line line.now) }
 {
-    line_read_numbers(lines::read_line(line))
+    SnpCpuidLineRead::from(lines::read_line(line))
 }

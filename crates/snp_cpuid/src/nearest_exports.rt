@@ -4,7 +4,7 @@ ghost use Rattle.nearest.specs.Nearest.{nearest};
 ghost use Rattle.answers.specs.Answers.{choices_of};
 ghost use Rattle.answers.specs.NearestAnswers.{nearest_numbers};
 
-use answers::nearest_bit::{SnpCpuidNearest, nearest_numbers};
+use answers::nearest_bit::SnpCpuidNearest;
 use table::Choices;
 
 // The first result bit whose flip changes the answer of building.
@@ -15,5 +15,5 @@ pub fn snp_cpuid_nearest(pages: &[u8], secure_avic: bool, edition: u32) -> SnpCp
         secure_avic,
         edition,
     };
-    nearest_numbers(nearest::nearest_bit(pages, choices))
+    SnpCpuidNearest::from(nearest::nearest_bit(pages, choices))
 }

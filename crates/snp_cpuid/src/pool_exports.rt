@@ -8,7 +8,7 @@ ghost use Rattle.answers.specs.PoolAnswers.{pooled_numbers};
 ghost use Rattle.snp_cpuid.specs.PoolExports.{pooled_found, PooledIn};
 
 use answers::pool_answer::{SnpCpuidPooled, pooled_numbers};
-use answers::{SnpCpuidFound, SnpCpuidWritten, found_at, written_numbers};
+use answers::{SnpCpuidFound, SnpCpuidWritten, found_at};
 use masking::PLACES;
 use memory::{REGISTERS, combined_mask, row_count};
 use pool::pool_into;
@@ -105,5 +105,5 @@ pub fn snp_cpuid_write_pool_image(
         secure_avic,
         edition,
     };
-    written_numbers(write_pool_image(pages, lengths, choices, out))
+    SnpCpuidWritten::from(write_pool_image(pages, lengths, choices, out))
 }

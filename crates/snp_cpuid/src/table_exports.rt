@@ -21,11 +21,11 @@ ghost use Rattle.answers.specs.Answers.{choices_of, processor_of, counts_of, rea
 ghost use Rattle.answers.specs.ComparedAnswers.{tables_compared_numbers};
 ghost use Rattle.snp_cpuid.specs.GuestExports.{guest_numbers, GuestIn};
 
-use answers::comparison::{SnpCpuidTablesCompared, tables_compared_numbers};
+use answers::comparison::SnpCpuidTablesCompared;
 use answers::{
     SnpCpuidBuilt, SnpCpuidCounts, SnpCpuidFound, SnpCpuidGuestFound, SnpCpuidRead, SnpCpuidState,
-    SnpCpuidWritten, built_table_numbers, found_at, found_numbers, guest_found_numbers, processor,
-    read_numbers, state_numbers, table_counts, table_numbers, written_numbers,
+    SnpCpuidWritten, built_table_numbers, found_at, processor, read_numbers, table_counts,
+    table_numbers,
 };
 use build::build_into;
 use compare::tables::compare_tables;
@@ -33,6 +33,7 @@ use guest::{find_kept, guest_find, guest_table};
 use guest_state::state_in_use;
 use masking::PLACES;
 use memory::{REGISTERS, clear};
+use table::numbers::AnswerNumbers;
 use table::{Choices, subleaf_of};
 use x86defs::CpuidFunction;
 
@@ -101,7 +102,7 @@ pub fn snp_cpuid_table_guest_find(
 {
     let v = processor(x2apic, xcr0, xss, osxsave);
     let named = subleaf_of(has_subleaf, subleaf);
-    guest_found_numbers(guest_find(
+    SnpCpuidGuestFound::from(guest_find(
         registers,
         origins,
         v,
@@ -120,7 +121,7 @@ pub fn snp_cpuid_table_state(
 ) -> SnpCpuidState
     ensures { result ≡ state_numbers (in_use (read_rows false registers.now origins.now) xcr0 xss) }
 {
-    state_numbers(state_in_use(registers, origins, false, xcr0, xss))
+    SnpCpuidState::from(state_in_use(registers, origins, false, xcr0, xss))
 }
 
 // What the guest of a processor reads where its state was accepted before: one row, with the compacted size that the caller kept.
@@ -141,7 +142,7 @@ pub fn snp_cpuid_table_guest_find_kept(
 {
     let v = processor(x2apic, xcr0, xss, osxsave);
     let named = subleaf_of(has_subleaf, subleaf);
-    found_numbers(find_kept(
+    SnpCpuidFound::from(find_kept(
         registers,
         origins,
         v,
@@ -178,7 +179,7 @@ pub fn snp_cpuid_table_write_image(
     ensures value { result ≡ written_numbers (write_front (image (held_in registers.now origins.now)) out.old).answer }
     ensures out_after { out.new ≡ (write_front (image (held_in registers.now origins.now)) out.old).buffer }
 {
-    written_numbers(image::write::write_table(registers, origins, out))
+    SnpCpuidWritten::from(image::write::write_table(registers, origins, out))
 }
 
 // Writes a table's struct kvm_cpuid2 at the front of `out`.
@@ -190,7 +191,7 @@ pub fn snp_cpuid_table_write_kvm(
     ensures value { result ≡ written_numbers (write_front (list_of (held_in registers.now origins.now)) out.old).answer }
     ensures out_after { out.new ≡ (write_front (list_of (held_in registers.now origins.now)) out.old).buffer }
 {
-    written_numbers(kvm_export::write_table(registers, origins, out))
+    SnpCpuidWritten::from(kvm_export::write_table(registers, origins, out))
 }
 
 // Takes a table from one edition of the AVX rule to another, in place: 0, or 13 to 16 and the table as it was. Origins are only read.
@@ -206,7 +207,7 @@ pub fn snp_cpuid_table_carry(
     ensures carried_in { CarriedIn (carry (held_in registers.old origins.now) from to xcr0 xss) (carry (held_in registers.old origins.now) from to xcr0 xss).verdict registers.old origins.now registers.new }
 {
     let verdict = carry::carry(registers, origins, from, to, xcr0, xss);
-    let numbers = table::numbers::answer_numbers(verdict);
+    let numbers = AnswerNumbers::from(verdict);
     numbers.number as u32
 }
 
@@ -219,7 +220,7 @@ pub fn snp_cpuid_table_compare(
 ) -> SnpCpuidTablesCompared
     ensures { result ≡ tables_compared_numbers (compared_tables (held_in a_registers.now a_origins.now) (held_in b_registers.now b_origins.now)) }
 {
-    tables_compared_numbers(compare_tables(a_registers, a_origins, b_registers, b_origins))
+    SnpCpuidTablesCompared::from(compare_tables(a_registers, a_origins, b_registers, b_origins))
 }
 
 // How many rows a table has, and its combined mask.

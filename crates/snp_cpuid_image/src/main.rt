@@ -24,6 +24,7 @@ fn read_full<R: Read>(input: &mut R, buf: &mut [u8]) -> io::Result<usize>
     ensures { IfOk result (λ n. n ≤ length buf.new) }
 {
     let mut done = 0;
+    // kept as a while: one read may give fewer bytes than there is room, and the library's methods fail at an early end or need a `Vec`
     while done < buf.len() {
         let n = input.read(&mut buf[done..])?;
         if n == 0 {

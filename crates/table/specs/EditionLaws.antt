@@ -1,10 +1,8 @@
 -- The bits of editions: more of them where more editions are asked for, and all of them bits of a 32-bit register.
-use Rattle.std.specs.Prelude.{◌≡◌, refl, Bool, true, false, ◌&&◌, ℕ, suc, ◌-◌, ◌^◌, ◌≤◌, ◌<◌, ltb, leb}
-use Rattle.std.proofs.Common.{sym, ap, ◌∙◌, arith, lit<, leb-true, le-leb}
+use Rattle.std.specs.Prelude.{◌≡◌, refl, Bool, true, false, ◌&&◌, ℕ, suc, ◌^◌, ◌≤◌, ◌<◌, ltb, leb}
+use Rattle.std.proofs.Common.{arith, lit<, leb-true, le-leb}
 use mathlib.Core.List.{List, [], ◌∷◌}
 use Rattle.bits.specs.ChoiceLaws.{never_both, and_left, and_right}
-use Rattle.bits.specs.Search.{every}
-use Rattle.bits.specs.SearchLaws.{every_at}
 use Rattle.bits.specs.Bits.{mask_of, Within}
 use Rattle.bits.specs.BitsLaws.{within_refl, within_trans, within_le, within_or, or_within_left}
 use Rattle.table.specs.declared.edition.EditionBits.{EditionBits}

@@ -1,3 +1,4 @@
+pub mod Verdict
 pub mod Refusal
 pub mod RefusalLaws
 pub mod Edition

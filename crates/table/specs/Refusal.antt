@@ -1,21 +1,18 @@
 -- Document 01, "Where each check stands": the number of each refusal, and the leaf, subleaf and s that it carries; those not named
 -- are 0 or none. Numbers from 10 up are document 02's.
-use Rattle.std.specs.Prelude.{[], ◌∷◌, ℕ, get_or}
+use Rattle.std.specs.Prelude.{[], ◌∷◌, ℕ, get_or, Err, None, Ok, Option}
 use Rattle.x86defs.specs.Functions.{function}
 use Rattle.topology.specs.declared.TopologyError.{TopologyError}
 use Rattle.topology.specs.declared.TopologyError.TheVariants.{Hyperthreading, ProcessorCount, ThreadsPerUnit}
-use Rattle.table.specs.declared.Subleaf.{Subleaf}
-use Rattle.table.specs.declared.Subleaf.TheVariants.{None}
 use Rattle.table.specs.declared.Refusal.{Refusal}
 use Rattle.table.specs.declared.Refusal.TheVariants.{PagesLength, PageCount, MissingRequiredResult, InvlpgbUnavailable, SaveAreaOverflow, TopologyInconsistent, BufferTooShort, ListLength, ListRows, ListFields, StateBeyondTable, CompactSizeTooLarge, UnknownEdition, EditionBack, ReservedBytes, PoolSets, PoolDiffers, NothingDecides}
-use Rattle.table.specs.declared.Verdict.{Verdict}
-use Rattle.table.specs.declared.Verdict.TheVariants.{Accepted, Refused}
+use Rattle.table.specs.Verdict.{Verdict}
 
 -- what a refusal tells
 pub record Details : Type 0 where
   pub number : ℕ
   pub leaf : ℕ
-  pub subleaf : Subleaf
+  pub subleaf : Option ℕ
   pub s : ℕ
 
 abbrev alone : ℕ → Details
@@ -79,5 +76,5 @@ refusal_with d =
 
 -- the first check that fails decides
 abbrev pub and_then : Verdict → Verdict → Verdict
-and_then Accepted v = v
-and_then (Refused r) v = Refused r
+and_then (Ok _) v = v
+and_then (Err r) v = Err r

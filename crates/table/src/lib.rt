@@ -3,6 +3,7 @@
 
 ghost use Rattle.std.specs.Prelude.{◌≡◌};
 ghost use Rattle.table.specs.Numbers.{subleaf_of};
+ghost use Rattle.table.specs.declared.Refusal.TheVariants.{TopologyInconsistent};
 
 use masking::PLACES;
 use topology::TopologyError;
@@ -18,21 +19,11 @@ pub struct Choices {
     pub edition: u32,
 }
 
-// A subleaf, where a leaf has them.
-#[derive(Clone, Copy)]
-pub enum Subleaf {
-    None,
-    Some(u32),
-}
-
 // The subleaf that is named, or none.
-pub fn subleaf_of(named: bool, number: u32) -> Subleaf
+pub fn subleaf_of(named: bool, number: u32) -> Option<u32>
     ensures { result ≡ subleaf_of named number }
 {
-    if named {
-        return Subleaf::Some(number);
-    }
-    Subleaf::None
+    named.then_some(number)
 }
 
 // Why no table is given, or no answer from one. specs/Refusal.antt has the number and the details of each.
@@ -40,7 +31,7 @@ pub fn subleaf_of(named: bool, number: u32) -> Subleaf
 pub enum Refusal {
     PagesLength,
     PageCount,
-    MissingRequiredResult(CpuidFunction, Subleaf),
+    MissingRequiredResult(CpuidFunction, Option<u32>),
     InvlpgbUnavailable,
     SaveAreaOverflow,
     TopologyInconsistent(TopologyError),
@@ -58,11 +49,16 @@ pub enum Refusal {
     NothingDecides,
 }
 
-#[derive(Clone, Copy)]
-pub enum Verdict {
-    Accepted,
-    Refused(Refusal),
+impl From<TopologyError> for Refusal {
+    ghost from_gives = { λ e result. result ≡ TopologyInconsistent e };
+
+    fn from(e: TopologyError) -> Self {
+        Refusal::TopologyInconsistent(e)
+    }
 }
+
+// Accepted, or refused by the first check that fails.
+pub type Verdict = Result<(), Refusal>;
 
 // A table: which of the 88 places have a row, the rows' registers, how many rows there are, and the combined mask.
 #[derive(Clone, Copy)]

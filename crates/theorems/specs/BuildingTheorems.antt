@@ -1,16 +1,13 @@
 -- Building: any page bytes end in one table or one refusal, each under exactly its condition.
 -- `answer chosen s` is the answer of the definition (crates/build/specs/Build.antt) to the page bytes s under what the caller chooses.
-use Rattle.std.specs.Prelude.{◌≡◌, refl, Bool, true, false, List, [], ◌∷◌, map, ℕ, ◌+◌, ◌*◌, ◌≤◌, ◌<◌, eqb, length, get_or}
+use Rattle.std.specs.Prelude.{◌≡◌, refl, Bool, true, false, List, [], ◌∷◌, map, ℕ, ◌+◌, ◌*◌, ◌≤◌, ◌<◌, eqb, length, get_or, Err, None, Ok, Option, Some}
 use Rattle.std.proofs.Common.{eqb-true}
 use Rattle.x86defs.specs.Functions.{function, cpuid_result, VersionAndFeatures, ExtendedStateEnumeration}
 use Rattle.x86defs.specs.declared.CpuidFunction.{CpuidFunction}
 use Rattle.table.specs.declared.Choices.{Choices}
-use Rattle.table.specs.declared.Subleaf.{Subleaf}
-use Rattle.table.specs.declared.Subleaf.TheVariants.{None, Some}
 use Rattle.table.specs.declared.Refusal.{Refusal}
 use Rattle.table.specs.declared.Refusal.TheVariants.{ReservedBytes, PagesLength, MissingRequiredResult, SaveAreaOverflow}
 use Rattle.table.specs.declared.CpuidResults.{CpuidResults}
-use Rattle.table.specs.declared.Verdict.TheVariants.{Accepted, Refused}
 use Rattle.bits.specs.Lists.{keep_if}
 use Rattle.bits.specs.SearchLaws.{every_at}
 use Rattle.pages.specs.declared.CpuidPageIndex.{CpuidPageIndex}
@@ -20,11 +17,9 @@ use Rattle.pages.specs.Entries.{entries, counted}
 use Rattle.pages.specs.Parsed.{parsed, counts_read}
 use Rattle.pages.specs.Walk.{first_index}
 use Rattle.build.specs.Build.{answer}
-use Rattle.pages.specs.declared.reader.Read.TheVariants.{Entry as ReadEntry}
 use Rattle.pages.specs.Read.{read_at, given}
 use Rattle.pages.specs.ReadLaws.{read_entry}
 use Rattle.pages.proofs.ReadLaws.{reader_gives, reader_gives_counted, reader_gives_clean}
-use Rattle.lookup.specs.declared.LeafResult.TheVariants.{None as Nothing}
 use Rattle.lookup.specs.Lookup.{lookup}
 use Rattle.lookup.proofs.LookupLaws.{empty_finds_nothing}
 use Rattle.image.specs.Image.{image}
@@ -62,8 +57,8 @@ pub each_write_exactly : (chosen : Choices) (s buffer : List ℕ) → WritesExac
 each_write_exactly = writes_exactly
 
 -- a refused table has no row to find, whatever is asked. crates/lookup/specs/Lookup.antt
-pub refused_finds_nothing : (chosen : Choices) (s : List ℕ) (r : Refusal) → (answer chosen s).verdict ≡ Refused r
-    → (leaf : CpuidFunction) (sub : Subleaf) (enforce : Bool) → lookup (answer chosen s).table leaf sub enforce ≡ Nothing
+pub refused_finds_nothing : (chosen : Choices) (s : List ℕ) (r : Refusal) → (answer chosen s).verdict ≡ Err r
+    → (leaf : CpuidFunction) (sub : Option ℕ) (enforce : Bool) → lookup (answer chosen s).table leaf sub enforce ≡ None
 refused_finds_nothing chosen s r e leaf sub enforce = rw ((builds_exactly chosen s).empty r e) (empty_finds_nothing leaf sub enforce)
 
 -- ---- P10, reserved bytes of an entry. crates/pages/specs/Reserved.antt: `all_clean` says that the eight reserved bytes of every entry below its
@@ -72,7 +67,7 @@ refused_finds_nothing chosen s r e leaf sub enforce = rw ((builds_exactly chosen
 
 -- "The reader promises from now on, with each entry, that these bytes are zero": what it gives as an entry is the one that stands there, by document
 -- 01's offsets, and its eight bytes from 40 on are zero. crates/pages/specs/ReadLaws.antt; `read_at` is what `pages::reader::take` promises
-pub each_entry_read_is_clean : (s : List ℕ) (i : CpuidPageIndex) (e : ParsedCpuidEntry) → ReadEntry e ≡ read_at s i
+pub each_entry_read_is_clean : (s : List ℕ) (i : CpuidPageIndex) (e : ParsedCpuidEntry) → Ok e ≡ read_at s i
     → (e ≡ parsed (entry s i.page_index i.function_index))
     × ((k : ℕ) → k < 8 → get_or s (4096 * i.page_index + 16 + 48 * i.function_index + 40 + k) 0 ≡ 0)
 unfolding entry_at eight_zeros
@@ -83,7 +78,7 @@ each_entry_read_is_clean s i e r = ((read_entry s i r).0, λ k l. eqb-true _ _ (
 
 -- server A's first entry as it is read: leaf 1
 pub a_first_entry_read : read_at server_a (record { page_index = 0; function_index = 0 })
-    ≡ ReadEntry (record { page = 0; leaf = function 1; subleaf = 0; result = cpuid_result 0xA00F11 0x10000 0x3ED83203 0x178BFBFF })
+    ≡ Ok (record { page = 0; leaf = function 1; subleaf = 0; result = cpuid_result 0xA00F11 0x10000 0x3ED83203 0x178BFBFF })
 unfolding read_at server_a entry_at eight_zeros
 a_first_entry_read = refl
 
@@ -97,16 +92,16 @@ reader_gives_clean_entries = reader_gives_clean
 pub a_clean : all_clean server_a ≡ true
 a_clean = Unclean.server_a_clean
 
-pub unclean_filtered : (answer first_edition (Unclean.with_unclean 23)).verdict ≡ Refused (ReservedBytes (function 0x40000000))
+pub unclean_filtered : (answer first_edition (Unclean.with_unclean 23)).verdict ≡ Err (ReservedBytes (function 0x40000000))
 unclean_filtered = Unclean.filtered_refused
 
 pub unclean_compared : compared first_edition server_a (Unclean.with_unclean 23) ≡ UnlawfulB (ReservedBytes (function 0x40000000))
 unclean_compared = Unclean.a_to_unclean
 
-pub unclean_unused : (answer first_edition (Unclean.with_unclean 22)).verdict ≡ Accepted
+pub unclean_unused : (answer first_edition (Unclean.with_unclean 22)).verdict ≡ Ok tt
 unclean_unused = Unclean.unused_accepted
 
-pub unclean_before_missing : (answer first_edition Unclean.two_unclean).verdict ≡ Refused (ReservedBytes (function 0xD))
+pub unclean_before_missing : (answer first_edition Unclean.two_unclean).verdict ≡ Err (ReservedBytes (function 0xD))
 unclean_before_missing = Unclean.two_refused
 
 -- ---- The page reader in the source's form. crates/pages/specs/Read.antt.
@@ -120,17 +115,17 @@ reader_in_order s n l = (reader_gives s n l, reader_gives_counted s n l)
 -- ---- Counts. crates/counts/specs/Counts.antt.
 
 -- 26 rows and one for each combined bit from 2 up, at most 32; an image of 582 bytes and 25 for each such bit
-pub counts : (chosen : Choices) (s : List ℕ) → (answer chosen s).verdict ≡ Accepted → Counted chosen s
+pub counts : (chosen : Choices) (s : List ℕ) → (answer chosen s).verdict ≡ Ok tt → Counted chosen s
 counts = rows_counted
 
-pub at_most_32_rows : (chosen : Choices) (s : List ℕ) → (answer chosen s).verdict ≡ Accepted → (answer chosen s).table.row_count ≤ 32
+pub at_most_32_rows : (chosen : Choices) (s : List ℕ) → (answer chosen s).verdict ≡ Ok tt → (answer chosen s).table.row_count ≤ 32
 at_most_32_rows = rows_at_most
 
-pub at_most_732_bytes : (chosen : Choices) (s : List ℕ) → (answer chosen s).verdict ≡ Accepted → length (image (answer chosen s).table) ≤ 732
+pub at_most_732_bytes : (chosen : Choices) (s : List ℕ) → (answer chosen s).verdict ≡ Ok tt → length (image (answer chosen s).table) ≤ 732
 at_most_732_bytes = bytes_at_most
 
 -- page 1 is missing, and with it Dh
-pub single_page_never_accepted : (chosen : Choices) (s : List ℕ) → length s ≡ 4096 → (answer chosen s).verdict ≡ Accepted → ⊥
+pub single_page_never_accepted : (chosen : Choices) (s : List ℕ) → length s ≡ 4096 → (answer chosen s).verdict ≡ Ok tt → ⊥
 single_page_never_accepted = single_page_refused
 
 -- ---- P1: leaves in rising order. crates/table/specs/Order.antt, crates/images/specs/Images.antt.
@@ -149,14 +144,14 @@ images_tell_tables = equal_images
 pub a_whole_set : length server_a ≡ 8192
 a_whole_set = Computed.server_a_length
 
-pub a_accepted : (answer first_edition server_a).verdict ≡ Accepted
+pub a_accepted : (answer first_edition server_a).verdict ≡ Ok tt
 a_accepted = Computed.server_a_accepted
 
 -- B meets the hypothesis with more features, and is accepted with a larger mask
 pub b_rises : RiseHypothesis first_edition server_a server_b
 b_rises = Computed.server_b_rises
 
-pub b_accepted : (answer first_edition server_b).verdict ≡ Accepted
+pub b_accepted : (answer first_edition server_b).verdict ≡ Ok tt
 b_accepted = Computed.server_b_accepted
 
 pub b_richer : (answer first_edition server_a).table.max_extended_state ∷ (answer first_edition server_b).table.max_extended_state ∷ [] ≡ 0x7 ∷ 0x18E7 ∷ []
@@ -166,13 +161,13 @@ b_richer = Computed.masks
 pub without_d12_rises : RiseHypothesis first_edition server_a server_without_d12
 without_d12_rises = Computed.without_rises
 
-pub without_d12_refused : (answer first_edition server_without_d12).verdict ≡ Refused (MissingRequiredResult ExtendedStateEnumeration (Some 12))
+pub without_d12_refused : (answer first_edition server_without_d12).verdict ≡ Err (MissingRequiredResult ExtendedStateEnumeration (Some 12))
 without_d12_refused = Computed.without_refused
 
 pub large_d6_rises : RiseHypothesis first_edition server_a server_with_large_d6
 large_d6_rises = Computed.large_rises
 
-pub large_d6_refused : (answer first_edition server_with_large_d6).verdict ≡ Refused SaveAreaOverflow
+pub large_d6_refused : (answer first_edition server_with_large_d6).verdict ≡ Err SaveAreaOverflow
 large_d6_refused = Computed.large_refused
 
 -- a comparison that says yes, and one for each way to say no

@@ -2,7 +2,6 @@
 use Rattle.std.specs.Prelude.{◌≡◌, List, ℕ}
 use Rattle.std.proofs.Common.{ap}
 use Rattle.table.specs.declared.Choices.{Choices}
-use Rattle.table.specs.declared.Verdict.{Verdict}
 use Rattle.build.specs.Build.{answer}
 use Rattle.rise.specs.Rise.{RiseHypothesis}
 use Rattle.rise.specs.SameProof.{rises_itself}
@@ -12,6 +11,7 @@ use Rattle.table.specs.Numbers.{numbers_of}
 use Rattle.theorems.specs.Exported.{compare_answer}
 use Rattle.theorems.specs.ExportedProof.{exports_compare, verdict_numbered}
 use Rattle.theorems.specs.CompareOrder.{CompareOrder}
+use Rattle.table.specs.Verdict.{Verdict}
 
 pub compare_order : (chosen : Choices) → CompareOrder chosen
 compare_order chosen = record {

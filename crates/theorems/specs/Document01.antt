@@ -3,7 +3,7 @@
 -- crates/letter/specs/Paper.antt quotes the sentences in order and says each in the paper's own figures; here is that the answers are these, for any
 -- page bytes s and any choices. `answer` (crates/build/specs/Build.antt), `write`, `image`, `lookup` and `output` are what the contracts promise of
 -- the code: of how they are defined nothing has to be believed, since the equations below determine them.
-use Rattle.std.specs.Prelude.{◌≡◌, refl, Bool, false, not, ◌&&◌, ◌||◌, List, [], ◌∷◌, map, ◌↔◌, ℕ, ◌+◌, ◌*◌, ◌^◌, ◌≤◌, ◌<◌, length}
+use Rattle.std.specs.Prelude.{◌≡◌, refl, Bool, false, not, ◌&&◌, ◌||◌, List, [], ◌∷◌, map, ◌↔◌, ℕ, ◌+◌, ◌*◌, ◌^◌, ◌≤◌, ◌<◌, length, Err, None, Ok, Option, Some}
 use Rattle.std.proofs.Common.{sym, ap, ◌∙◌}
 use Rattle.bits.specs.Choice.{pick}
 use Rattle.bits.specs.Lists.{tabulate, keep_if}
@@ -16,13 +16,10 @@ use Rattle.masking.specs.Kept.{leaf_at, masks_at}
 use Rattle.masking.specs.Place.{made_here}
 use Rattle.topology.specs.Topology.{Inputs, inputs}
 use Rattle.topology.specs.declared.TopologyError.TheVariants.{ThreadsPerUnit}
-use Rattle.table.specs.declared.Subleaf.{Subleaf}
-use Rattle.table.specs.declared.Subleaf.TheVariants.{None, Some}
 use Rattle.table.specs.declared.Choices.{Choices}
 use Rattle.table.specs.declared.CpuidResults.{CpuidResults}
 use Rattle.table.specs.declared.Refusal.{Refusal}
 use Rattle.table.specs.declared.Refusal.TheVariants.{MissingRequiredResult, TopologyInconsistent}
-use Rattle.table.specs.declared.Verdict.TheVariants.{Accepted, Refused}
 use Rattle.table.specs.Refusal.{details}
 use Rattle.table.specs.Rows.{Row, vacant}
 use Rattle.table.specs.Table.{row_in}
@@ -63,7 +60,7 @@ pub entries_by_the_letter : (s : List ℕ) → (Entries.entries s ≡ read_entri
 entries_by_the_letter s = (Counted.entries_same s, Counted.counted_same s)
 
 -- "So a single page is never accepted."
-pub single_page_by_the_letter : (chosen : Choices) (s : List ℕ) → length s ≡ 4096 → verdict chosen s ≡ Accepted → ⊥
+pub single_page_by_the_letter : (chosen : Choices) (s : List ℕ) → length s ≡ 4096 → verdict chosen s ≡ Ok tt → ⊥
 single_page_by_the_letter chosen s n e = single_page_refused chosen s n (verdict_by_figures chosen s ∙ e)
 
 -- ======== "Corners of mod.rs", "Corners of masking.rs", "Where each check stands"
@@ -77,28 +74,28 @@ pub table_by_the_letter : (chosen : Choices) (s : List ℕ) → (answer chosen s
 table_by_the_letter = Lookups.table_by_the_letter
 
 -- the same register by register: the equations of an accepted page set's table hold of its table and of no other
-pub table_determined : (chosen : Choices) (s : List ℕ) → (answer chosen s).verdict ≡ Accepted
+pub table_determined : (chosen : Choices) (s : List ℕ) → (answer chosen s).verdict ≡ Ok tt
     → (t : CpuidResults) → Equations chosen s t ↔ (t ≡ (answer chosen s).table)
 table_determined = Determined.determined
 
 -- each row under its leaf and subleaf: `told` lists what stands at the 88 places, each with its leaf and subleaf. crates/letter/specs/ImageProof.antt
-pub rows_by_the_letter : (chosen : Choices) (s : List ℕ) → (answer chosen s).verdict ≡ Accepted → told (row_in (answer chosen s).table) ≡ lines_of chosen s
+pub rows_by_the_letter : (chosen : Choices) (s : List ℕ) → (answer chosen s).verdict ≡ Ok tt → told (row_in (answer chosen s).table) ≡ lines_of chosen s
 rows_by_the_letter = ImagesLaws.rows_by_figures
 
 -- "All others are filtered.": what the entries of another leaf or subleaf hold, or that there are some, changes no row and no verdict
-pub others_filtered : (n : ℕ) (avic : Bool) (e : ℕ → Subleaf → CpuidResult) (f : ℕ → Subleaf → Row)
+pub others_filtered : (n : ℕ) (avic : Bool) (e : ℕ → Option ℕ → CpuidResult) (f : ℕ → Option ℕ → Row)
     → (lines n avic (λ l k. pick (is_kept l k) (e l k) (cpuid_result 0 0 0 0)) ≡ lines n avic e)
     × (rows_verdict avic (λ l k. pick (is_kept l k) (f l k) vacant) ≡ rows_verdict avic f)
 others_filtered n avic e f = (Registers.rows_filtered n avic e, Registers.verdict_filtered avic f)
 
 -- "after masking only bits 0, 1, 2, 5, 6, 7, 11, 12 can be set"
-pub combined_bits : (chosen : Choices) (s : List ℕ) → (answer chosen s).verdict ≡ Accepted
+pub combined_bits : (chosen : Choices) (s : List ℕ) → (answer chosen s).verdict ≡ Ok tt
     → Within (combined_of chosen s) (2 ^ 0 + 2 ^ 1 + 2 ^ 2 + 2 ^ 5 + 2 ^ 6 + 2 ^ 7 + 2 ^ 11 + 2 ^ 12)
 combined_bits = Counts.bits_said
 
 -- "An accepted table has 17 rows without subleaf, 9 with, and one for each combined bit from 2 up: 26 to 32.": 17 and 9 are always there, 62 more are
 -- D.2 to D.63; `further_bits` counts the combined bits from 2 up
-pub rows_17_and_9 : (n : ℕ) (avic : Bool) (e : ℕ → Subleaf → CpuidResult)
+pub rows_17_and_9 : (n : ℕ) (avic : Bool) (e : ℕ → Option ℕ → CpuidResult)
     → count_from 0 (λ l. without l.subleaf && l.row.present) (lines n avic e)
     ∷ count_from 0 (λ l. not (without l.subleaf || from_d2 l.leaf l.subleaf) && l.row.present) (lines n avic e)
     ∷ count_from 0 (λ l. from_d2 l.leaf l.subleaf) (lines n avic e)
@@ -106,7 +103,7 @@ pub rows_17_and_9 : (n : ℕ) (avic : Bool) (e : ℕ → Subleaf → CpuidResult
     ≡ 17 ∷ 9 ∷ 62 ∷ []
 rows_17_and_9 = Registers.rows_with_and_without
 
-pub rows_26_to_32 : (chosen : Choices) (s : List ℕ) → (answer chosen s).verdict ≡ Accepted
+pub rows_26_to_32 : (chosen : Choices) (s : List ℕ) → (answer chosen s).verdict ≡ Ok tt
     → ((answer chosen s).table.row_count ≡ 26 + further_bits (combined_of chosen s)) × ((answer chosen s).table.row_count ≤ 32)
 rows_26_to_32 chosen s e = (Counts.rows_said chosen s e, rows_at_most chosen s e)
 
@@ -126,7 +123,7 @@ lawful_by_the_letter = lawful_same
 
 -- "B's own XFEM, XSS and combined mask are what the rules above make of its masked first entries D.0 and D.1, also where B is refused.": of any page
 -- bytes that have an entry for every required leaf
-pub own_masks_by_the_letter : (avic : Bool) (s : List ℕ) → first_missing avic (first (counted s)) required ≡ Accepted
+pub own_masks_by_the_letter : (avic : Bool) (s : List ℕ) → first_missing avic (first (counted s)) required ≡ Ok tt
     → (xfemIn (rows_of avic s) ≡ xfem (masked avic (entry_of s))) × (combined_mask (rows_of avic s) ≡ combined (masked avic (entry_of s)))
 own_masks_by_the_letter = own_masks
 
@@ -163,16 +160,16 @@ tables_compared a b = refl
 
 -- ======== "Image and lookup"
 
-pub image_by_the_letter : (chosen : Choices) (s : List ℕ) → (answer chosen s).verdict ≡ Accepted → image (answer chosen s).table ≡ written (lines_of chosen s)
+pub image_by_the_letter : (chosen : Choices) (s : List ℕ) → (answer chosen s).verdict ≡ Ok tt → image (answer chosen s).table ≡ written (lines_of chosen s)
 image_by_the_letter = ImagesLaws.image_by_figures
 
 -- "Length 582 + 25 for each combined bit from 2 up"
-pub length_by_the_letter : (chosen : Choices) (s : List ℕ) → (answer chosen s).verdict ≡ Accepted
+pub length_by_the_letter : (chosen : Choices) (s : List ℕ) → (answer chosen s).verdict ≡ Ok tt
     → length (image (answer chosen s).table) ≡ 582 + 25 * further_bits (combined_of chosen s)
 length_by_the_letter = Counts.length_said
 
 -- any leaf, any subleaf or none, enforcing or not, of any page bytes
-pub lookup_by_the_letter : (chosen : Choices) (s : List ℕ) (l : ℕ) (k : Subleaf) (enforce : Bool)
+pub lookup_by_the_letter : (chosen : Choices) (s : List ℕ) (l : ℕ) (k : Option ℕ) (enforce : Bool)
     → lookup (answer chosen s).table (function l) k enforce ≡ find_after (verdict chosen s) (lines_of chosen s) l k enforce
 lookup_by_the_letter = Lookups.lookup_by_the_letter
 
@@ -204,16 +201,16 @@ pub topology_rows :
     ∷ inputs 15 0 0 0 0
     ∷ inputs 0 0 1 1 1
     ∷ [])
-    ≡ Accepted
+    ≡ Ok tt
     ∷ hyperthreading 0
-    ∷ Accepted
+    ∷ (Ok tt)
     ∷ processor_count 0
-    ∷ Accepted
+    ∷ (Ok tt)
     ∷ processor_count 7
     ∷ hyperthreading 7
-    ∷ Accepted
-    ∷ Accepted
-    ∷ Refused (TopologyInconsistent ThreadsPerUnit)
+    ∷ (Ok tt)
+    ∷ (Ok tt)
+    ∷ Err (TopologyInconsistent ThreadsPerUnit)
     ∷ []
 unfolding topology
 topology_rows = refl
@@ -229,14 +226,14 @@ level_figures = refl
 
 -- server A is accepted; its rows 0, 1, 7.0, D.0 and 80000008h in figures, and no row 80000000h under an enforced subleaf.
 -- crates/examples/specs/RowsOfA.antt
-pub a_by_the_letter : verdict first_edition server_a ≡ Accepted
+pub a_by_the_letter : verdict first_edition server_a ≡ Ok tt
 a_by_the_letter = sym (verdict_by_figures first_edition server_a) ∙ Computed.server_a_accepted
 
 pub a_rows_by_the_letter : RowsOfA.asked (find (lines_of first_edition server_a)) ≡ RowsOfA.figures
 a_rows_by_the_letter = RowsOfA.by_the_letter
 
 -- one that 3 refuses for D.12: no row is found, and the program's bytes
-pub without_d12_by_the_letter : verdict first_edition server_without_d12 ≡ Refused (MissingRequiredResult (function 0xD) (Some 12))
+pub without_d12_by_the_letter : verdict first_edition server_without_d12 ≡ Err (MissingRequiredResult (function 0xD) (Some 12))
 without_d12_by_the_letter = sym (verdict_by_figures first_edition server_without_d12) ∙ Computed.without_refused
 
 pub without_d12_bytes : program server_without_d12 ≡ 3 ∷ 3 ∷ 0xD ∷ 0 ∷ 0 ∷ 0 ∷ 12 ∷ 0 ∷ 0 ∷ 0 ∷ 0 ∷ []

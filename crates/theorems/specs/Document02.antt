@@ -18,7 +18,7 @@
 --   P12  2 to 16 servers                              `each_pool_answer_exactly` (PoolTheorems); how registers are joined and held equal, below
 --   P13  page, entry, register, bit from 0            below, with the byte that is flipped
 --   P14  1,019, 511 and 508, 5,095 bytes              `topologies_1019`, `topologies_5095_bytes` (TopologyTheorems); which inputs are accepted, below
-use Rattle.std.specs.Prelude.{◌≡◌, refl, Bool, true, false, ◌&&◌, ◌||◌, List, [], ◌∷◌, ◌++◌, map, ℕ, zero, suc, ◌+◌, ◌*◌, ◌/◌, ◌%◌, ◌^◌, max, eqb, leb, get_or, set}
+use Rattle.std.specs.Prelude.{◌≡◌, refl, Bool, true, false, ◌&&◌, ◌||◌, List, [], ◌∷◌, ◌++◌, map, ℕ, zero, suc, ◌+◌, ◌*◌, ◌/◌, ◌%◌, ◌^◌, max, eqb, leb, get_or, set, None, Some}
 use Rattle.std.proofs.Common.{ap, ◌∙◌}
 use Rattle.std.specs.Int.Bits.{bit_and, bit_or, bit_xor}
 use Rattle.bits.specs.Choice.{pick}
@@ -32,7 +32,6 @@ use Rattle.nearest.specs.Flips.{flip, flipped, flips_of}
 use Rattle.masking.specs.Kept.{slot, kept_leaves, leaf_at}
 use Rattle.masking.specs.Place
 use Rattle.topology.specs.Topology.{Inputs, topology_of}
-use Rattle.table.specs.declared.Subleaf.TheVariants.{None, Some}
 use Rattle.table.specs.Rows.{Rows}
 use Rattle.checks.specs.Checks.{topology_refusal}
 use Rattle.checks.specs.ExtendedState.{xfem, xss, area_below, save_area}

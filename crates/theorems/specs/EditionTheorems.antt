@@ -1,11 +1,10 @@
 -- The two editions of the AVX rule, and a running table taken from one to the other.
 -- `answer chosen s` is the answer of the definition (crates/build/specs/Build.antt) to the page bytes s under what the caller chooses.
-use Rattle.std.specs.Prelude.{◌≡◌, List, [], ◌∷◌, ℕ, ◌+◌, ◌^◌}
+use Rattle.std.specs.Prelude.{◌≡◌, List, [], ◌∷◌, ℕ, ◌+◌, ◌^◌, Err, Ok}
 use Rattle.table.specs.declared.Choices.{Choices}
 use Rattle.table.specs.declared.Refusal.TheVariants.{UnknownEdition, EditionBack, StateBeyondTable}
 use Rattle.table.specs.declared.CpuidResults.{CpuidResults}
 use Rattle.table.specs.Table.{empty_table}
-use Rattle.table.specs.declared.Verdict.TheVariants.{Accepted, Refused}
 use Rattle.build.specs.Build.{answer, under_edition}
 use Rattle.rise.specs.Rise.{RiseTo, TableRises, SecondToFirst}
 use Rattle.rise.proofs.RiseProof.{second_to_first_rises}
@@ -56,7 +55,7 @@ rise_from_2_to_1 = second_to_first_rises
 
 -- Examples: a server without YMM state whose entries have the three bits, its 1.ECX and 80000001h.ECX under each edition, the rise from 2 to
 -- 1, and none from 1 to 2. crates/examples/specs/WithoutYmm.antt
-pub without_ymm_accepted : (answer (under_edition 2) WithoutYmm.without_ymm).verdict ≡ Accepted
+pub without_ymm_accepted : (answer (under_edition 2) WithoutYmm.without_ymm).verdict ≡ Ok tt
 without_ymm_accepted = WithoutYmm.second_accepted
 
 pub without_ymm_1 : WithoutYmm.figures first_edition ≡ 0xAED82203 ∷ 0x4109F3 ∷ []
@@ -71,7 +70,7 @@ without_ymm_2_to_1 = WithoutYmm.from_second
 pub no_rise_from_1_to_2 : TableRises (answer first_edition WithoutYmm.without_ymm).table (answer (under_edition 2) WithoutYmm.without_ymm).table → ⊥
 no_rise_from_1_to_2 = WithoutYmm.not_from_first
 
-pub no_such_edition : (answer (under_edition 3) []).verdict ≡ Refused UnknownEdition
+pub no_such_edition : (answer (under_edition 3) []).verdict ≡ Err UnknownEdition
 no_such_edition = WithoutYmm.unknown_refused
 
 -- ---- P8, moving a live guest to edition 2. crates/carry/specs/Carry.antt has the table that is carried and the answers,
@@ -117,22 +116,22 @@ only_images_are_read = ReadBackLaws.only_images_read
 
 -- Examples: the server without YMM state moved, with its 1.ECX and 80000001h.ECX; a processor beyond it; 16 and 15.
 -- crates/examples/specs/WithoutYmmMoved.antt
-pub without_ymm_moved : (carry Moved.running 1 2 3 0).verdict ≡ Accepted
+pub without_ymm_moved : (carry Moved.running 1 2 3 0).verdict ≡ Ok tt
 without_ymm_moved = Moved.moved
 
 pub without_ymm_moved_figures : Moved.figures (carry Moved.running 1 2 3 0).table ≡ 0x8ED82203 ∷ 0x4001F3 ∷ []
 without_ymm_moved_figures = Moved.moved_figures
 
-pub without_ymm_beyond : (carry Moved.running 1 2 7 0).verdict ≡ Refused StateBeyondTable
+pub without_ymm_beyond : (carry Moved.running 1 2 7 0).verdict ≡ Err StateBeyondTable
 without_ymm_beyond = Moved.beyond
 
-pub no_way_back : (carry empty_table 2 1 0 0).verdict ≡ Refused EditionBack
+pub no_way_back : (carry empty_table 2 1 0 0).verdict ≡ Err EditionBack
 no_way_back = Moved.goes_back
 
-pub no_such_edition_to_carry : (carry empty_table 3 1 0 0).verdict ≡ Refused UnknownEdition
+pub no_such_edition_to_carry : (carry empty_table 3 1 0 0).verdict ≡ Err UnknownEdition
 no_such_edition_to_carry = Moved.no_such
 
 -- absent rows read as zeros: a table without a row and one with D.0 alone, whose other registers are all ones. 13; 13 for a bit of XSS; given.
 -- crates/carry/specs/AbsentRows.antt
-pub absent_rows_as_zeros : AbsentRows.verdicts ≡ Refused StateBeyondTable ∷ Refused StateBeyondTable ∷ Accepted ∷ []
+pub absent_rows_as_zeros : AbsentRows.verdicts ≡ Err StateBeyondTable ∷ Err StateBeyondTable ∷ (Ok tt) ∷ []
 absent_rows_as_zeros = AbsentRows.absent_as_zeros

@@ -1,14 +1,12 @@
 -- Demand 3 of what the exported functions return: snp_cpuid_build and snp_cpuid_lookup give `built_numbers` and `found_in` of the
 -- definition's answers (crates/snp_cpuid/src/lib.rt), and these rise from A to B. Left out is snp_cpuid_write_image: what it returns and
 -- writes is the image of the same table, by its contract and `each_write_exactly`.
-use Rattle.std.specs.Prelude.{◌≡◌, Bool, List, ◌⊎◌, ℕ}
+use Rattle.std.specs.Prelude.{◌≡◌, Bool, List, ◌⊎◌, ℕ, Ok, Option}
 use Rattle.bits.specs.Bits.{Within}
 use Rattle.x86defs.specs.declared.CpuidFunction.{CpuidFunction}
 use Rattle.x86defs.specs.declared.CpuidResult.{CpuidResult}
 use Rattle.x86defs.specs.Functions.{cpuid_result}
 use Rattle.table.specs.declared.Choices.{Choices}
-use Rattle.table.specs.declared.Subleaf.{Subleaf}
-use Rattle.table.specs.declared.Verdict.TheVariants.{Accepted}
 use Rattle.table.specs.Rows.{Rows}
 use Rattle.finish.specs.Kinds.{TableAtLeast, Registers, kinds_at}
 use Rattle.build.specs.Build.{rows_for, answer, origin_at}
@@ -28,7 +26,7 @@ use Rattle.memory.specs.Origin.{origin_told}
 abbrev pub built : Choices → List ℕ → SnpCpuidBuilt
 built chosen s = built_numbers (answer chosen s)
 
-abbrev pub found : Choices → List ℕ → CpuidFunction → Subleaf → Bool → SnpCpuidFound
+abbrev pub found : Choices → List ℕ → CpuidFunction → Option ℕ → Bool → SnpCpuidFound
 found chosen s leaf subleaf enforce = found_in (answer chosen s) leaf.0 subleaf enforce
 
 abbrev pub registers_of : SnpCpuidFound → CpuidResult
@@ -56,12 +54,12 @@ pub record ExportsRise (chosen : Choices) (a b : List ℕ) : Type 0 where
   pub answers : BuiltRises (rows_for chosen b) (built chosen b)
   -- where B is accepted: at least A's mask, and whatever is found in A's table is found in B's with registers that compare
   pub mask : (built chosen b).number ≡ 0 → Within (built chosen a).max_extended_state (built chosen b).max_extended_state
-  pub rows : (built chosen b).number ≡ 0 → (leaf : CpuidFunction) (subleaf : Subleaf) (enforce : Bool) → (found chosen a leaf subleaf enforce).found ≡ 1
+  pub rows : (built chosen b).number ≡ 0 → (leaf : CpuidFunction) (subleaf : Option ℕ) (enforce : Bool) → (found chosen a leaf subleaf enforce).found ≡ 1
       → ((found chosen b leaf subleaf enforce).found ≡ 1)
       × Registers TableAtLeast (kinds_at (place_asked leaf subleaf enforce)) (registers_of (found chosen a leaf subleaf enforce))
       (registers_of (found chosen b leaf subleaf enforce))
   -- beyond these only: what is found in B's table and not in A's is a Dh subleaf from 2 up that B's mask has and A's has not
-  pub others : (built chosen b).number ≡ 0 → (leaf : CpuidFunction) (subleaf : Subleaf) (enforce : Bool) → (found chosen b leaf subleaf enforce).found ≡ 1
+  pub others : (built chosen b).number ≡ 0 → (leaf : CpuidFunction) (subleaf : Option ℕ) (enforce : Bool) → (found chosen b leaf subleaf enforce).found ≡ 1
       → ((found chosen a leaf subleaf enforce).found ≡ 1) ⊎ Further (answer chosen a).table (answer chosen b).table (place_asked leaf subleaf enforce)
 
 abbrev pub compare_answer : Choices → List ℕ → List ℕ → ℕ
@@ -75,6 +73,6 @@ abbrev pub origin_found : SnpCpuidFound → OriginRead
 origin_found f = record { origin = f.origin; page = f.page; position = f.entry }
 
 abbrev pub FoundOrigins : Type 0
-FoundOrigins = (chosen : Choices) (s : List ℕ) (leaf : CpuidFunction) (subleaf : Subleaf) (enforce : Bool) → (answer chosen s).verdict ≡ Accepted
+FoundOrigins = (chosen : Choices) (s : List ℕ) (leaf : CpuidFunction) (subleaf : Option ℕ) (enforce : Bool) → (answer chosen s).verdict ≡ Ok tt
     → (found chosen s leaf subleaf enforce).found ≡ 1
     → origin_found (found chosen s leaf subleaf enforce) ≡ origin_told (origin_at chosen s (place_asked leaf subleaf enforce))

@@ -1,5 +1,5 @@
 -- What the exported functions return rises from A to B, and their comparison and origins are as Exported.antt says.
-use Rattle.std.specs.Prelude.{◌≡◌, refl, Bool, true, false, List, ◌⊎◌, ℕ, ◌≤◌, ◌<◌, length}
+use Rattle.std.specs.Prelude.{◌≡◌, refl, Bool, true, false, List, ◌⊎◌, ℕ, ◌≤◌, ◌<◌, length, Err, Ok, Option}
 use Rattle.std.proofs.Common.{sym, ap, ◌∙◌, subst, subst₂, inl, inr, le_of_eq, arith}
 use Rattle.std.proofs.lemmas.List.{length-replicate}
 use Rattle.bits.specs.ListsLaws.{length_tabulate}
@@ -7,10 +7,7 @@ use Rattle.x86defs.specs.declared.CpuidFunction.{CpuidFunction}
 use Rattle.x86defs.specs.Functions.{cpuid_result}
 use Rattle.masking.specs.Kept.{places}
 use Rattle.table.specs.declared.Choices.{Choices}
-use Rattle.table.specs.declared.Subleaf.{Subleaf}
 use Rattle.table.proofs.RefusalLaws.{refusal_numbered}
-use Rattle.table.specs.declared.Verdict.{Verdict}
-use Rattle.table.specs.declared.Verdict.TheVariants.{Accepted, Refused}
 use Rattle.table.specs.Rows.{Row}
 use Rattle.finish.specs.Kinds.{TableAtLeast, Registers, kinds_at}
 use Rattle.table.specs.Table.{row_in}
@@ -35,13 +32,14 @@ use Rattle.rise.proofs.LocatedProof.{rows_have_origins}
 use Rattle.theorems.specs.Looked.{looked_present, looked_inside, looked_at, looked_found}
 use Rattle.theorems.specs.Exported.{built, found, registers_of, BuiltRises, ExportsRise, ExportsCompare, origin_found, FoundOrigins}
 use Rattle.theorems.specs.Exported.BuiltRises.{refused_3, refused_5, accepted_0}
+use Rattle.table.specs.Verdict.{Verdict}
 
 -- ---- the proof
 
 -- an answer with number 0 is accepted
-pub verdict_numbered : (v : Verdict) → (numbers_of v).number ≡ 0 → v ≡ Accepted
-verdict_numbered Accepted e = refl
-verdict_numbered (Refused r) e = absurd (refusal_numbered r e)
+pub verdict_numbered : (v : Verdict) → (numbers_of v).number ≡ 0 → v ≡ Ok tt
+verdict_numbered (Ok _) e = refl
+verdict_numbered (Err r) e = absurd (refusal_numbered r e)
 
 -- a table has 88 places
 pub table_whole : (chosen : Choices) (s : List ℕ) → length (answer chosen s).table.present ≤ places
@@ -49,8 +47,8 @@ unfolding answer
 table_whole chosen s = go (Rattle.build.specs.Build.verdict_of chosen s)
   where
     go : (v : Verdict) → length (table_for chosen.edition v (rows_for chosen s)).present ≤ places
-    go Accepted = le_of_eq (length_tabulate places _)
-    go (Refused r) = le_of_eq (length-replicate places false)
+    go (Ok _) = le_of_eq (length_tabulate places _)
+    go (Err r) = le_of_eq (length-replicate places false)
 
 rise_answers : (chosen : Choices) (b : List ℕ) → Outcome (rows_for chosen b) (answer chosen b).verdict → BuiltRises (rows_for chosen b) (built chosen b)
 rise_answers chosen b (missing k f e) = refused_3 k f (rw ((builds_exactly chosen b).empty _ e, e))
@@ -58,7 +56,7 @@ rise_answers chosen b (overflow n f e) = refused_5 n f (rw ((builds_exactly chos
 rise_answers chosen b (accepted n f e) = accepted_0 n f (rw e)
 
 -- what is found in a page set's table, from what is found in any (Looked.antt)
-module _ (chosen : Choices) (s : List ℕ) (leaf : CpuidFunction) (subleaf : Subleaf) (enforce : Bool) where
+module _ (chosen : Choices) (s : List ℕ) (leaf : CpuidFunction) (subleaf : Option ℕ) (enforce : Bool) where
   abbrev asked : Row
   asked = row_in (answer chosen s).table (place_asked leaf subleaf enforce)
 
@@ -79,7 +77,7 @@ module _ (chosen : Choices) (a b : List ℕ) (rises : RiseHypothesis chosen a b)
   risen : RiseConclusion chosen a b
   risen = demand_3 chosen a b rises
 
-  rows_found : TableRises (answer chosen a).table (answer chosen b).table → (leaf : CpuidFunction) (subleaf : Subleaf) (enforce : Bool)
+  rows_found : TableRises (answer chosen a).table (answer chosen b).table → (leaf : CpuidFunction) (subleaf : Option ℕ) (enforce : Bool)
       → (found chosen a leaf subleaf enforce).found ≡ 1
       → ((found chosen b leaf subleaf enforce).found ≡ 1)
       × Registers TableAtLeast (kinds_at (place_asked leaf subleaf enforce)) (registers_of (found chosen a leaf subleaf enforce))
@@ -94,7 +92,7 @@ module _ (chosen : Choices) (a b : List ℕ) (rises : RiseHypothesis chosen a b)
             (sym (found_numbers chosen a leaf subleaf enforce pa)) (sym (found_numbers chosen b leaf subleaf enforce pb)) (t.registers i l pa),
       )
 
-  others_found : TableRises (answer chosen a).table (answer chosen b).table → (leaf : CpuidFunction) (subleaf : Subleaf) (enforce : Bool)
+  others_found : TableRises (answer chosen a).table (answer chosen b).table → (leaf : CpuidFunction) (subleaf : Option ℕ) (enforce : Bool)
       → (found chosen b leaf subleaf enforce).found ≡ 1
       → ((found chosen a leaf subleaf enforce).found ≡ 1) ⊎ Further (answer chosen a).table (answer chosen b).table (place_asked leaf subleaf enforce)
   others_found t leaf subleaf enforce e =

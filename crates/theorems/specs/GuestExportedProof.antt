@@ -1,5 +1,5 @@
 -- What the exported functions return of a guest's table rises from A to B, and has the table's origins, as GuestExported.antt says.
-use Rattle.std.specs.Prelude.{◌≡◌, refl, Bool, true, false, List, ◌⊎◌, ℕ, ◌≤◌, ◌<◌, length}
+use Rattle.std.specs.Prelude.{◌≡◌, refl, Bool, true, false, List, ◌⊎◌, ℕ, ◌≤◌, ◌<◌, length, Err, Ok, Option}
 use Rattle.std.proofs.Common.{sym, ap, ◌∙◌, subst₂, inl, inr, le_of_eq}
 use Rattle.std.proofs.lemmas.List.{length-replicate, get_or-replicate}
 use Rattle.bits.specs.ChoiceLaws.{never_both, impossible}
@@ -8,9 +8,6 @@ use Rattle.masking.specs.Kept.{places}
 use Rattle.masking.specs.Place
 use Rattle.table.specs.declared.Choices.{Choices}
 use Rattle.table.specs.declared.CpuidResults.{CpuidResults}
-use Rattle.table.specs.declared.Subleaf.{Subleaf}
-use Rattle.table.specs.declared.Verdict.{Verdict}
-use Rattle.table.specs.declared.Verdict.TheVariants.{Accepted, Refused}
 use Rattle.table.specs.Table.{row_in}
 use Rattle.finish.specs.Kinds.{TableAtLeast, Registers, kinds_at}
 use Rattle.build.specs.Build.{rows_for, answer, origin_at}
@@ -32,6 +29,7 @@ use Rattle.theorems.specs.ExportedProof.{verdict_numbered, table_whole}
 use Rattle.theorems.specs.Looked.{looked_present, looked_inside, looked_at, looked_found}
 use Rattle.theorems.specs.GuestExported.{guest_built, seen, GuestBuiltRises, GuestExportsRise, GuestOrigins}
 use Rattle.theorems.specs.GuestExported.GuestBuiltRises.{refused_3, refused_5, refused_14, given_0}
+use Rattle.table.specs.Verdict.{Verdict}
 
 -- ---- the proof
 
@@ -40,10 +38,10 @@ guest_whole : (chosen : Choices) (s : List ℕ) (v : Processor) → length (gues
 guest_whole chosen s v = go (guest_pages chosen s v).verdict refl
   where
     go : (w : Verdict) → (guest_pages chosen s v).verdict ≡ w → length (guest_pages chosen s v).table.present ≤ places
-    go Accepted e = rw ((guest_exactly chosen s v).table e) (table_whole chosen s)
-    go (Refused r) e = rw ((guest_exactly chosen s v).empty r e) (le_of_eq (length-replicate places false))
+    go (Ok _) e = rw ((guest_exactly chosen s v).table e) (table_whole chosen s)
+    go (Err r) e = rw ((guest_exactly chosen s v).empty r e) (le_of_eq (length-replicate places false))
 
-module _ (chosen : Choices) (a b : List ℕ) (v : Processor) (rises : RiseHypothesis chosen a b) (isGiven : (guest_pages chosen a v).verdict ≡ Accepted) where
+module _ (chosen : Choices) (a b : List ℕ) (v : Processor) (rises : RiseHypothesis chosen a b) (isGiven : (guest_pages chosen a v).verdict ≡ Ok tt) where
   abbrev ta : CpuidResults
   ta = (guest_pages chosen a v).table
 
@@ -63,7 +61,7 @@ module _ (chosen : Choices) (a b : List ℕ) (v : Processor) (rises : RiseHypoth
   tables : (guest_built chosen b v).number ≡ 0 → GuestTableRises ta tb
   tables n = go risen
     where
-      is_accepted : (guest_pages chosen b v).verdict ≡ Accepted
+      is_accepted : (guest_pages chosen b v).verdict ≡ Ok tt
       is_accepted = verdict_numbered (guest_pages chosen b v).verdict n
 
       go : GuestRisen (rows_for chosen b) ta (guest_pages chosen b v) → GuestTableRises ta tb
@@ -72,7 +70,7 @@ module _ (chosen : Choices) (a b : List ℕ) (v : Processor) (rises : RiseHypoth
       go (too_large m f c e) = impossible (cc)
       go (given m f e t) = t
 
-  module _ (n : (guest_built chosen b v).number ≡ 0) (leaf : CpuidFunction) (subleaf : Subleaf) (enforce : Bool) where
+  module _ (n : (guest_built chosen b v).number ≡ 0) (leaf : CpuidFunction) (subleaf : Option ℕ) (enforce : Bool) where
     abbrev i : ℕ
     i = place_asked leaf subleaf enforce
 
@@ -127,9 +125,9 @@ guest_origins chosen s v leaf subleaf enforce e = go (guest_pages chosen s v).ve
 
     go : (w : Verdict) → (guest_pages chosen s v).verdict ≡ w
         → origin_found (seen chosen s v leaf subleaf enforce) ≡ origin_told (origin_at chosen s (place_asked leaf subleaf enforce))
-    go (Refused r) f =
+    go (Err r) f =
         absurd (never_both p (ap (λ (u : CpuidResults). (row_in u (place_asked leaf subleaf enforce)).present) ((guest_exactly chosen s v).empty r f)
         ∙ get_or-replicate places (place_asked leaf subleaf enforce) false false l))
-    go Accepted f =
+    go (Ok _) f =
         ap origin_found (looked_at (guest_pages chosen s v).table (guest_whole chosen s v) (answer chosen s).origins leaf subleaf enforce p)
         ∙ (rows_have_origins chosen s ((guest_exactly chosen s v).given.0 f).0 (place_asked leaf subleaf enforce) l).told

@@ -1,6 +1,6 @@
 -- What one processor's guest sees.
 -- `answer chosen s` is the answer of the definition (crates/build/specs/Build.antt) to the page bytes s under what the caller chooses.
-use Rattle.std.specs.Prelude.{◌≡◌, true, false, List, [], ◌∷◌, ℕ, ◌<◌, ◌^◌}
+use Rattle.std.specs.Prelude.{◌≡◌, true, false, List, [], ◌∷◌, ℕ, ◌<◌, ◌^◌, Err, Ok}
 use Rattle.x86defs.specs.Functions.{cpuid_result}
 use Rattle.table.specs.declared.Choices.{Choices}
 use Rattle.table.specs.declared.Refusal.TheVariants.{SaveAreaOverflow, StateBeyondTable, CompactSizeTooLarge}
@@ -8,7 +8,6 @@ use Rattle.table.specs.declared.CpuidResults.{CpuidResults}
 use Rattle.table.specs.Rows.{Rows}
 use Rattle.table.specs.Table.{row_in, rows_of_table}
 use Rattle.checks.specs.ExtendedState.{save_area}
-use Rattle.table.specs.declared.Verdict.TheVariants.{Accepted, Refused}
 use Rattle.masking.specs.Kept.{places}
 use Rattle.masking.specs.Place
 use Rattle.build.specs.Build.{answer}
@@ -71,8 +70,8 @@ pub no_other_register_differs : (t : CpuidResults) (v : Processor) → SeenExact
 no_other_register_differs = seen_exactly
 
 -- D.0.EBX of a table that building accepted never overflows: it is the size itself
-pub guest_size_never_overflows : (chosen : Choices) (s : List ℕ) (v : Processor) → (answer chosen s).verdict ≡ Accepted
-    → (guest_pages chosen s v).verdict ≡ Accepted
+pub guest_size_never_overflows : (chosen : Choices) (s : List ℕ) (v : Processor) → (answer chosen s).verdict ≡ Ok tt
+    → (guest_pages chosen s v).verdict ≡ Ok tt
     → (save_area (rows_of_table (answer chosen s).table) v.xcr0 < 2 ^ 32)
     × ((row_in (guest_pages chosen s v).table (Place.extended_state 0)).result.ebx ≡ save_area (rows_of_table (answer chosen s).table) v.xcr0)
 guest_size_never_overflows chosen s v a g = (GuestRiseProof.never_overflows chosen s v a g, GuestRiseProof.area_seen chosen s v a g)
@@ -83,9 +82,9 @@ pub guest_rise : GuestRise
 guest_rise = GuestRiseProof.guest_rise
 
 -- where A's D.1.EAX has either bit: given, and the tables rise as in demand 3, D.0.EBX and D.1.EBX equal among the rest
-pub guest_rise_whole : (chosen : Choices) (a b : List ℕ) (v : Processor) → RiseHypothesis chosen a b → (answer chosen b).verdict ≡ Accepted
-    → (guest_pages chosen a v).verdict ≡ Accepted → compacts_in (answer chosen a).table ≡ true
-    → ((guest_pages chosen b v).verdict ≡ Accepted) × TableRises (guest_pages chosen a v).table (guest_pages chosen b v).table
+pub guest_rise_whole : (chosen : Choices) (a b : List ℕ) (v : Processor) → RiseHypothesis chosen a b → (answer chosen b).verdict ≡ Ok tt
+    → (guest_pages chosen a v).verdict ≡ Ok tt → compacts_in (answer chosen a).table ≡ true
+    → ((guest_pages chosen b v).verdict ≡ Ok tt) × TableRises (guest_pages chosen a v).table (guest_pages chosen b v).table
 guest_rise_whole = GuestRiseProof.guest_rise_whole
 
 -- The whole of it, B refused or given: by 3 or 5 as in demand 3, by 14 only where A's D.1.EAX has neither bit, or given and risen; never by 13.
@@ -100,7 +99,7 @@ pub guest_tables_compose : (t u v : CpuidResults) → GuestTableRises t u → Gu
 guest_tables_compose = guest_rises_compose
 
 -- the same of what the exported guest functions return, for the same servers. crates/theorems/specs/GuestExported.antt
-pub guest_rise_of_exports : (chosen : Choices) (a b : List ℕ) (v : Processor) → RiseHypothesis chosen a b → (guest_pages chosen a v).verdict ≡ Accepted
+pub guest_rise_of_exports : (chosen : Choices) (a b : List ℕ) (v : Processor) → RiseHypothesis chosen a b → (guest_pages chosen a v).verdict ≡ Ok tt
     → GuestExportsRise chosen a b v
 guest_rise_of_exports = guest_exports_rise
 
@@ -115,11 +114,11 @@ pub guest_of_a_row_1 : (row_in (guest_pages first_edition server_a Views.view_a)
 guest_of_a_row_1 = Views.a_version
 
 -- 13, by a bit above 31
-pub guest_of_a_beyond : (guest_pages first_edition server_a (processor 0 0x100000007 0 true)).verdict ≡ Refused StateBeyondTable
+pub guest_of_a_beyond : (guest_pages first_edition server_a (processor 0 0x100000007 0 true)).verdict ≡ Err StateBeyondTable
 guest_of_a_beyond = Views.a_beyond
 
 -- bit 1 of XCR0 is not asked
-pub guest_of_a_without_sse : (guest_pages first_edition server_a (processor 0 0x1 0 false)).verdict ≡ Accepted
+pub guest_of_a_without_sse : (guest_pages first_edition server_a (processor 0 0x1 0 false)).verdict ≡ Ok tt
 guest_of_a_without_sse = Views.a_without_sse
 
 -- building first: 5, of a processor that 13 would refuse
@@ -145,7 +144,7 @@ exception_rises = Exception.plain_to_compacting
 pub exception_given : figures (guest_pages first_edition Exception.plain Views.view_a).table ≡ 0x45010000 ∷ 0xBED83203 ∷ 0x12345 ∷ 0x12345 ∷ 0xFFFFFFFF ∷ 0 ∷ []
 exception_given = Exception.plain_figures
 
-pub exception_refused : (guest_pages first_edition Exception.compacting Views.view_a).verdict ≡ Refused CompactSizeTooLarge
+pub exception_refused : (guest_pages first_edition Exception.compacting Views.view_a).verdict ≡ Err CompactSizeTooLarge
 exception_refused = Exception.compacting_refused
 
 pub exception_outcome : GuestOutcome (guest_pages first_edition Exception.plain Views.view_a).table (guest_pages first_edition Exception.compacting Views.view_a)

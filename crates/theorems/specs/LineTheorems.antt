@@ -1,17 +1,13 @@
 -- Refusals as lines of ASCII.
 -- `answer chosen s` is the answer of the definition (crates/build/specs/Build.antt) to the page bytes s under what the caller chooses.
-use Rattle.std.specs.Prelude.{◌≡◌, ◌↔◌, true, List, [], ◌∷◌, ◌++◌, ℕ, ◌+◌, ◌≤◌, length, take}
-use Rattle.table.specs.declared.Subleaf.TheVariants.{None, Some}
+use Rattle.std.specs.Prelude.{◌≡◌, ◌↔◌, true, List, [], ◌∷◌, ◌++◌, ℕ, ◌+◌, ◌≤◌, length, take, Err, None, Ok, Some}
 use Rattle.table.specs.declared.Refusal.{Refusal}
 use Rattle.table.specs.declared.Refusal.TheVariants.{BufferTooShort}
 use Rattle.build.specs.Build.{answer}
 use Rattle.table.specs.Refusal.{details}
-use Rattle.buffer.specs.declared.Written.TheVariants.{Bytes, Refused as NotWritten}
 use Rattle.lines.specs.declared.bytes.LineDetails.{LineDetails}
 use Rattle.lines.specs.Line.{LineFits, most_s, writable, line}
 use Rattle.lines.proofs.LineLaws.{at_most_22}
-use Rattle.lines.specs.declared.LineWritten.TheVariants.{Line as Answered, NoSuchLine as NoLineWritten}
-use Rattle.lines.specs.declared.LineRead.TheVariants.{Line as Says, NoSuchLine as SaysNothing}
 use Rattle.lines.specs.WriteLine.{leaves, write_line}
 use Rattle.lines.specs.ReadLine.{read_line}
 use Rattle.lines.proofs.LinePromises as Lines
@@ -34,15 +30,15 @@ use Rattle.page_sets.specs.Evaluation.{first_edition}
 -- set, and s has 8 bits.
 
 -- reading what was written gives it back: of every line, and of what the writer left at the front of any lent buffer
-pub line_read_back : (d : LineDetails) → LineFits d → writable d ≡ true → read_line (line d) ≡ Says d
+pub line_read_back : (d : LineDetails) → LineFits d → writable d ≡ true → read_line (line d) ≡ Some d
 line_read_back = Lines.read_written
 
 pub write_read_back : (d : LineDetails) (buffer left : List ℕ) (n : ℕ)
-    → LineFits d → write_line d buffer ≡ leaves (Answered (Bytes n)) left → read_line (take n left) ≡ Says d
+    → LineFits d → write_line d buffer ≡ leaves (Some (Ok n)) left → read_line (take n left) ≡ Some d
 write_read_back = Lines.write_then_read
 
 -- what is read is what would be written: the reader takes nothing else
-pub only_lines_read : (l : List ℕ) (d : LineDetails) → read_line l ≡ Says d → LineOf l d
+pub only_lines_read : (l : List ℕ) (d : LineDetails) → read_line l ≡ Some d → LineOf l d
 only_lines_read = Lines.only_written_read
 
 -- different refusals, details included, give different lines
@@ -111,16 +107,16 @@ pub line_of_8 : RefusedLines.line_of (answer first_edition RefusedLines.two_thre
 line_of_8 = RefusedLines.line_of_8
 
 -- no line: 01 and a newline
-pub leading_zero_no_line : read_line (48 ∷ 49 ∷ 10 ∷ []) ≡ SaysNothing
+pub leading_zero_no_line : read_line (48 ∷ 49 ∷ 10 ∷ []) ≡ None
 leading_zero_no_line = ComputedLines.leading_zero
 
 -- without room for the line: 9; "no such line" comes before it, for a leaf that 1 does not name
-pub one_short : write_line (told 1 0 None 0) (7 ∷ []) ≡ leaves (Answered (NotWritten BufferTooShort)) (7 ∷ [])
+pub one_short : write_line (told 1 0 None 0) (7 ∷ []) ≡ leaves (Some (Err BufferTooShort)) (7 ∷ [])
 one_short = ComputedLines.one_short
 
-pub one_with_leaf : write_line (told 1 0xD None 0) (7 ∷ []) ≡ leaves NoLineWritten (7 ∷ [])
+pub one_with_leaf : write_line (told 1 0xD None 0) (7 ∷ []) ≡ leaves None (7 ∷ [])
 one_with_leaf = ComputedLines.one_with_leaf
 
 -- and for an s that 8 does not name
-pub eight_with_s : write_line (told 8 0 None 3) (9 ∷ 9 ∷ 9 ∷ 9 ∷ []) ≡ leaves NoLineWritten (9 ∷ 9 ∷ 9 ∷ 9 ∷ [])
+pub eight_with_s : write_line (told 8 0 None 3) (9 ∷ 9 ∷ 9 ∷ 9 ∷ []) ≡ leaves None (9 ∷ 9 ∷ 9 ∷ 9 ∷ [])
 eight_with_s = ComputedLines.eight_with_s

@@ -1,6 +1,6 @@
 -- Lists for and from KVM.
 -- `answer chosen s` is the answer of the definition (crates/build/specs/Build.antt) to the page bytes s under what the caller chooses.
-use Rattle.std.specs.Prelude.{◌≡◌, List, [], ◌∷◌, ◌++◌, ℕ, ◌+◌, ◌≤◌, length, replicate, take, drop}
+use Rattle.std.specs.Prelude.{◌≡◌, List, [], ◌∷◌, ◌++◌, ℕ, ◌+◌, ◌≤◌, length, replicate, take, drop, Err, Ok}
 use Rattle.x86defs.specs.Functions.{cpuid_result}
 use Rattle.table.specs.declared.Choices.{Choices}
 use Rattle.table.specs.declared.Refusal.TheVariants.{BufferTooShort, ListLength, ListRows, ListFields}
@@ -8,7 +8,6 @@ use Rattle.table.specs.declared.CpuidResults.{CpuidResults}
 use Rattle.bits.specs.Lists.{tabulate}
 use Rattle.pages.specs.Bytes.{AreBytes}
 use Rattle.build.specs.Build.{answer}
-use Rattle.buffer.specs.declared.Written.TheVariants.{Bytes, Refused as NotWritten}
 use Rattle.kvm_list.specs.Words.{bytes_of_words}
 use Rattle.kvm_list.specs.Format.{list_bytes}
 use Rattle.kvm_import.specs.TwoRows as TwoRows
@@ -36,7 +35,7 @@ pub kvm_round_trip : RoundTrip
 kvm_round_trip = round_trip
 
 -- the counted entries of the two pages are the list's rows, each where it counts, in list order; no byte is left open
-pub kvm_read_makes : (l : List ℕ) → AreBytes l → (buffer : List ℕ) → (read_list l buffer).answer ≡ Bytes 8192 → ReadMakes l buffer
+pub kvm_read_makes : (l : List ℕ) → AreBytes l → (buffer : List ℕ) → (read_list l buffer).answer ≡ Ok 8192 → ReadMakes l buffer
 kvm_read_makes = read_makes
 
 -- writing: building's refusals, then 9 exactly where the buffer is shorter than 8 + 40 × rows; a refused write changes no lent byte
@@ -59,19 +58,19 @@ pub a_listed : take 48 (list_of (answer first_edition server_a).table)
     ≡ bytes_of_words (27 ∷ 0 ∷ 0 ∷ 0 ∷ 0 ∷ 0xD ∷ 0x68747541 ∷ 0x444D4163 ∷ 0x69746E65 ∷ 0 ∷ 0 ∷ 0 ∷ [])
 a_listed = KvmLists.server_a_list
 
-pub count_not_wrapped : (read_list (bytes_of_words (0xFFFFFFFF ∷ 0 ∷ [])) []).answer ≡ NotWritten ListLength
+pub count_not_wrapped : (read_list (bytes_of_words (0xFFFFFFFF ∷ 0 ∷ [])) []).answer ≡ Err ListLength
 count_not_wrapped = KvmLists.wrapped_count
 
-pub head_word_read : (read_list (bytes_of_words (0 ∷ 1 ∷ [])) []).answer ≡ NotWritten ListFields
+pub head_word_read : (read_list (bytes_of_words (0 ∷ 1 ∷ [])) []).answer ≡ Err ListFields
 head_word_read = KvmLists.head_not_zero
 
-pub too_many_rows : (read_list (list_bytes (replicate 65 (plain_row 5 0 0 (cpuid_result 0 0 0 0)))) []).answer ≡ NotWritten ListRows
+pub too_many_rows : (read_list (list_bytes (replicate 65 (plain_row 5 0 0 (cpuid_result 0 0 0 0)))) []).answer ≡ Err ListRows
 too_many_rows = KvmLists.sixty_five
 
-pub nothing_lent : (read_list (bytes_of_words (0 ∷ 0 ∷ [])) []).answer ≡ NotWritten BufferTooShort
+pub nothing_lent : (read_list (bytes_of_words (0 ∷ 0 ∷ [])) []).answer ≡ Err BufferTooShort
 nothing_lent = KvmLists.nothing_lent
 
-pub an_empty_list : (read_list (bytes_of_words (0 ∷ 0 ∷ [])) (replicate 8192 0xA5)).answer ≡ Bytes 8192
+pub an_empty_list : (read_list (bytes_of_words (0 ∷ 0 ∷ [])) (replicate 8192 0xA5)).answer ≡ Ok 8192
 an_empty_list = KvmLists.empty_list
 
 -- flag 1 where the row has a subleaf, else flag and index 0, over the 88 places: 7.0, Bh and Dh, then 8000001Dh, have subleaves.
@@ -91,5 +90,5 @@ row_of_d_2_listed = KvmBytes.row_of_d_2
 
 -- a list of two rows given as bytes, and every byte of its two pages. crates/kvm_import/specs/TwoRows.antt
 pub two_rows_read : (buffer : List ℕ) → 8192 ≤ length buffer
-    → read_list TwoRows.two_rows buffer ≡ record { answer = Bytes 8192; buffer = (TwoRows.page0 ++ TwoRows.page1) ++ drop 8192 buffer }
+    → read_list TwoRows.two_rows buffer ≡ record { answer = Ok 8192; buffer = (TwoRows.page0 ++ TwoRows.page1) ++ drop 8192 buffer }
 two_rows_read = KvmBytes.two_rows_read

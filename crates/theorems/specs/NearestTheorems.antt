@@ -1,7 +1,7 @@
 -- The theorems page, P13: the nearest bit that matters. crates/nearest/specs/Flips.antt has the flips of a page set in order and the flipped pages,
 -- crates/nearest/specs/Changes.antt and SameVerdict.antt what it is for a flip to change the answer, crates/nearest/specs/Nearest.antt the answer.
 -- `nearest::nearest_bit` promises `nearest`, for any bytes.
-use Rattle.std.specs.Prelude.{◌≡◌, false, List, [], ◌∷◌, ◌++◌, ◌↔◌, ◌≢◌, ℕ, ◌<◌, replicate}
+use Rattle.std.specs.Prelude.{◌≡◌, false, List, [], ◌∷◌, ◌++◌, ◌↔◌, ◌≢◌, ℕ, ◌<◌, replicate, Err, Ok, Some}
 use Rattle.x86defs.specs.Functions.{function, cpuid_result, ExtendedStateEnumeration}
 use Rattle.pages.specs.Bytes.{AreBytes}
 use Rattle.pages.specs.Layout.{entry_at}
@@ -9,16 +9,13 @@ use Rattle.masking.specs.Masks.{apply_mask}
 use Rattle.masking.specs.Kept.{masks_at}
 use Rattle.masking.specs.Place
 use Rattle.table.specs.declared.Choices.{Choices}
-use Rattle.table.specs.declared.Subleaf.TheVariants.{Some}
 use Rattle.table.specs.declared.Refusal.TheVariants.{PagesLength, PageCount, MissingRequiredResult, InvlpgbUnavailable, UnknownEdition, ReservedBytes, NothingDecides}
-use Rattle.table.specs.declared.Verdict.TheVariants.{Refused}
 use Rattle.build.specs.Build.{under_edition, answer}
 use Rattle.nearest.specs.declared.flips.Flip.{Flip}
 use Rattle.nearest.specs.Flips.{flip}
 use Rattle.nearest.specs.FlipOrder.{some_flips, flips_are}
 use Rattle.nearest.specs.OneBit.{one_bit}
 use Rattle.nearest.specs.Changes.{changes}
-use Rattle.nearest.specs.declared.Nearest.TheVariants.{Bit, NoBit}
 use Rattle.nearest.specs.Nearest.{nearest}
 use Rattle.nearest_exactly.specs.NearestExactly.{NearestExactly, TwentyExactly}
 use Rattle.nearest_exactly.proofs.NearestExactlyProof as Exactly
@@ -45,7 +42,7 @@ pub twenty_exactly : (chosen : Choices) (s : List ℕ) → TwentyExactly chosen 
 twenty_exactly = Twenty.twenty_exactly
 
 -- of pages that building refuses by 4 it is INVLPGB's own, 80000008h.EBX bit 3. crates/nearest_exactly/specs/WithoutInvlpgb.antt
-pub refused_by_4 : (chosen : Choices) (s : List ℕ) → AreBytes s → (answer chosen s).verdict ≡ Refused InvlpgbUnavailable
+pub refused_by_4 : (chosen : Choices) (s : List ℕ) → AreBytes s → (answer chosen s).verdict ≡ Err InvlpgbUnavailable
     → InvlpgbNearest chosen s
 refused_by_4 = Invlpgb.refused_by_4
 
@@ -70,41 +67,41 @@ only_inside_masks = Outside.outside_masks
 
 -- ---- Examples. crates/examples/specs/NearestBits.antt has a page set for each answer, byte by byte.
 
-pub no_edition : nearest (under_edition 3) [] ≡ NoBit UnknownEdition
+pub no_edition : nearest (under_edition 3) [] ≡ Err UnknownEdition
 no_edition = Bits.no_edition
 
-pub no_pages : nearest first_edition [] ≡ NoBit PagesLength
+pub no_pages : nearest first_edition [] ≡ Err PagesLength
 no_pages = Bits.no_pages
 
-pub large_count : nearest first_edition (page 65 []) ≡ NoBit PageCount
+pub large_count : nearest first_edition (page 65 []) ≡ Err PageCount
 large_count = Bits.large_count
 
-pub unclean_entry : nearest first_edition (page 1 (word 0x40000000 ++ replicate 43 0 ++ (1 ∷ []))) ≡ NoBit (ReservedBytes (function 0x40000000))
+pub unclean_entry : nearest first_edition (page 1 (word 0x40000000 ++ replicate 43 0 ++ (1 ∷ []))) ≡ Err (ReservedBytes (function 0x40000000))
 unclean_entry = Bits.unclean_entry
 
-pub a_nearest : nearest first_edition server_a ≡ Bit (flip 0 0 0 0)
+pub a_nearest : nearest first_edition server_a ≡ Ok (flip 0 0 0 0)
 a_nearest = Bits.server_a_nearest
 
 -- a later page, and a later entry: what stands before is filtered, or Dh on page 0. crates/examples/specs/NearestOnLaterPage.antt
-pub later_page_decides : nearest first_edition Later.page_set ≡ Bit (flip 1 0 0 0)
+pub later_page_decides : nearest first_edition Later.page_set ≡ Ok (flip 1 0 0 0)
 later_page_decides = Later.page_decides
 
-pub later_entry_decides : nearest first_edition Later.entry_set ≡ Bit (flip 0 1 0 0)
+pub later_entry_decides : nearest first_edition Later.entry_set ≡ Ok (flip 0 1 0 0)
 later_entry_decides = Later.entry_decides
 
 -- leaf 1 is missing, and none of the 128 bits of the one entry decides
-pub only_leaf_5 : nearest first_edition only_leaf5 ≡ NoBit NothingDecides
+pub only_leaf_5 : nearest first_edition only_leaf5 ≡ Err NothingDecides
 only_leaf_5 = Bits.only_leaf5_nearest
 
 -- 3 for D.2, which is in neither list, is not 20
-pub without_d2_refused : (answer first_edition without_d2).verdict ≡ Refused (MissingRequiredResult ExtendedStateEnumeration (Some 2))
+pub without_d2_refused : (answer first_edition without_d2).verdict ≡ Err (MissingRequiredResult ExtendedStateEnumeration (Some 2))
 without_d2_refused = Bits.without_d2_refused_lem
 
-pub without_d2_decided : nearest first_edition without_d2 ≢ NoBit NothingDecides
+pub without_d2_decided : nearest first_edition without_d2 ≢ Err NothingDecides
 without_d2_decided = Bits.without_d2_nearest
 
 -- a server without INVLPGB
-pub no_invlpgb_refused : (answer first_edition no_invlpgb).verdict ≡ Refused InvlpgbUnavailable
+pub no_invlpgb_refused : (answer first_edition no_invlpgb).verdict ≡ Err InvlpgbUnavailable
 no_invlpgb_refused = Bits.no_invlpgb_refused_lem
 
 pub no_invlpgb_nearest : InvlpgbNearest first_edition no_invlpgb

@@ -1,9 +1,8 @@
 -- Where each row came from.
 -- `answer chosen s` is the answer of the definition (crates/build/specs/Build.antt) to the page bytes s under what the caller chooses.
-use Rattle.std.specs.Prelude.{◌≡◌, List, ℕ, ◌<◌, replicate}
+use Rattle.std.specs.Prelude.{◌≡◌, List, ℕ, ◌<◌, replicate, Err, Ok}
 use Rattle.table.specs.declared.Choices.{Choices}
 use Rattle.table.specs.declared.Refusal.{Refusal}
-use Rattle.table.specs.declared.Verdict.TheVariants.{Accepted, Refused}
 use Rattle.pages.specs.Entries.{counted}
 use Rattle.masking.specs.Kept.{places}
 use Rattle.masking.specs.Place
@@ -29,17 +28,17 @@ use Rattle.page_sets.specs.Evaluation.{first_edition}
 -- `SameButOrigins`; P9's answers are the same with origins, and those of P7's two editions have the same origins, so that carrying (P8) leaves them.
 
 -- a row with an origin on a page: the entry there is the first counted one of its leaf and subleaf, and masking and finishing it gives the row
-pub each_row_comes_from_its_entry : (chosen : Choices) (s : List ℕ) → (answer chosen s).verdict ≡ Accepted → (i p q : ℕ) → i < places
+pub each_row_comes_from_its_entry : (chosen : Choices) (s : List ℕ) → (answer chosen s).verdict ≡ Ok tt → (i p q : ℕ) → i < places
     → origin_at chosen s i ≡ entry p q → ComesFrom chosen s i p q
 each_row_comes_from_its_entry = rows_come_from
 
 -- 0, 80000000h, B.0 and B.1 are made here, a row that is not there has no origin, every other has an entry; and the numbers that an answer holds say
 -- it
-pub each_row_has_its_origin : (chosen : Choices) (s : List ℕ) → (answer chosen s).verdict ≡ Accepted → (i : ℕ) → i < places → Origins chosen s i
+pub each_row_has_its_origin : (chosen : Choices) (s : List ℕ) → (answer chosen s).verdict ≡ Ok tt → (i : ℕ) → i < places → Origins chosen s i
 each_row_has_its_origin = rows_have_origins
 
 -- a refused table has none
-pub refused_has_no_origins : (chosen : Choices) (s : List ℕ) (r : Refusal) → (answer chosen s).verdict ≡ Refused r
+pub refused_has_no_origins : (chosen : Choices) (s : List ℕ) (r : Refusal) → (answer chosen s).verdict ≡ Err r
     → (answer chosen s).origins ≡ replicate places 0
 refused_has_no_origins = refused_has_none
 

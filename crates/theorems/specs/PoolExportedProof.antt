@@ -1,5 +1,5 @@
 -- The exported lookup in a pool's table tells the first server's origins, as PoolExported.antt says.
-use Rattle.std.specs.Prelude.{◌≡◌, refl, true, false, List, ℕ, ◌≤◌, ◌<◌, length}
+use Rattle.std.specs.Prelude.{◌≡◌, refl, true, false, List, ℕ, ◌≤◌, ◌<◌, length, Err, Ok}
 use Rattle.std.proofs.Common.{ap, ◌∙◌, le_of_eq, arith}
 use Rattle.std.proofs.lemmas.List.{length-replicate, get_or-replicate}
 use Rattle.bits.specs.ChoiceLaws.{never_both}
@@ -7,8 +7,6 @@ use Rattle.bits.specs.ListsLaws.{length_tabulate}
 use Rattle.masking.specs.Kept.{places}
 use Rattle.table.specs.declared.Choices.{Choices}
 use Rattle.table.specs.declared.CpuidResults.{CpuidResults}
-use Rattle.table.specs.declared.Verdict.{Verdict}
-use Rattle.table.specs.declared.Verdict.TheVariants.{Accepted, Refused}
 use Rattle.table.specs.Table.{row_in}
 use Rattle.finish.specs.RowsBuilt.{table_for}
 use Rattle.lookup.specs.Lookup.{place_asked}
@@ -22,24 +20,25 @@ use Rattle.rise.proofs.LocatedProof.{rows_have_origins}
 use Rattle.theorems.specs.Exported.{origin_found}
 use Rattle.theorems.specs.Looked.{looked_present, looked_inside, looked_at}
 use Rattle.theorems.specs.PoolExported.{PoolOrigins}
+use Rattle.table.specs.Verdict.{Verdict}
 
 pool_whole : (c : Choices) (pages lengths : List ℕ) → length (pool_table c pages lengths).present ≤ places
 unfolding pooled
 pool_whole c pages lengths = go (pool_verdict c pages lengths)
   where
     go : (v : Verdict) → length (table_for c.edition v (pool_rows c pages lengths)).present ≤ places
-    go Accepted = le_of_eq (length_tabulate places _)
-    go (Refused r) = le_of_eq (length-replicate places false)
+    go (Ok _) = le_of_eq (length_tabulate places _)
+    go (Err r) = le_of_eq (length-replicate places false)
 
 -- a pool that is refused has no row
 there_accepted : (c : Choices) (pages lengths : List ℕ) (i : ℕ) → i < places → (row_in (pool_table c pages lengths) i).present ≡ true
-    → (pooled c pages lengths).verdict ≡ Accepted
+    → (pooled c pages lengths).verdict ≡ Ok tt
 unfolding pooled
 there_accepted c pages lengths i l = go (pool_verdict c pages lengths)
   where
-    go : (v : Verdict) → (row_in (table_for c.edition v (pool_rows c pages lengths)) i).present ≡ true → v ≡ Accepted
-    go Accepted p = refl
-    go (Refused r) p = absurd (never_both p (get_or-replicate places i false false l))
+    go : (v : Verdict) → (row_in (table_for c.edition v (pool_rows c pages lengths)) i).present ≡ true → v ≡ Ok tt
+    go (Ok _) p = refl
+    go (Err r) p = absurd (never_both p (get_or-replicate places i false false l))
 
 pub pool_origins : PoolOrigins
 pool_origins c pages lengths leaf subleaf enforce e =

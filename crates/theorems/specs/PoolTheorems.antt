@@ -1,9 +1,8 @@
 -- One table for a pool of servers.
 -- `answer chosen s` is the answer of the definition (crates/build/specs/Build.antt) to the page bytes s under what the caller chooses.
-use Rattle.std.specs.Prelude.{◌≡◌, List, [], ◌∷◌, ◌++◌, ℕ, ◌+◌}
+use Rattle.std.specs.Prelude.{◌≡◌, List, [], ◌∷◌, ◌++◌, ℕ, ◌+◌, Err, Ok}
 use Rattle.table.specs.declared.Choices.{Choices}
 use Rattle.table.specs.declared.Refusal.TheVariants.{PoolSets, PoolDiffers, UnknownEdition, PagesLength}
-use Rattle.table.specs.declared.Verdict.TheVariants.{Accepted, Refused}
 use Rattle.build.specs.Build.{answer, under_edition}
 use Rattle.image.specs.Image.{image}
 use Rattle.rise.specs.Rise.{TableRises}
@@ -41,16 +40,16 @@ each_pool_answer_exactly = pool_exactly
 
 -- an accepted pool's rows, Dh subleaves among them, are those that all tables have; its feature registers and combined mask are the and of the
 -- servers'; its table rises to every server's; a row's origin is the first server's. crates/pool_laws/specs/PoolRight.antt
-pub a_pool_is_the_and : (chosen : Choices) (pages lengths : List ℕ) → (pooled chosen pages lengths).verdict ≡ Accepted → PoolRight chosen pages lengths
+pub a_pool_is_the_and : (chosen : Choices) (pages lengths : List ℕ) → (pooled chosen pages lengths).verdict ≡ Ok tt → PoolRight chosen pages lengths
 a_pool_is_the_and = pool_right
 
 -- any table whose feature bits and mask every server has is within the pool's table
-pub a_pool_is_the_greatest : (chosen : Choices) (pages lengths : List ℕ) → (pooled chosen pages lengths).verdict ≡ Accepted → Greatest chosen pages lengths
+pub a_pool_is_the_greatest : (chosen : Choices) (pages lengths : List ℕ) → (pooled chosen pages lengths).verdict ≡ Ok tt → Greatest chosen pages lengths
 a_pool_is_the_greatest = greatest
 
 -- the same by the letter: bit 28 of 1.EDX, which is no feature, is asked of no table and said of none. Neither form follows from the other.
 -- crates/pool_laws/specs/ByTheLetter.antt; `a_has_none_beyond_by_the_letter` below meets it
-pub a_pool_is_the_greatest_by_the_letter : (chosen : Choices) (pages lengths : List ℕ) → (pooled chosen pages lengths).verdict ≡ Accepted
+pub a_pool_is_the_greatest_by_the_letter : (chosen : Choices) (pages lengths : List ℕ) → (pooled chosen pages lengths).verdict ≡ Ok tt
     → GreatestByTheLetter chosen pages lengths
 a_pool_is_the_greatest_by_the_letter = greatest_by_the_letter
 
@@ -81,25 +80,25 @@ each_pool_write_exactly = pool_writes_exactly
 pub pool_of_a_and_w : PoolRight first_edition (server_a ++ server_w) Pools.two
 pool_of_a_and_w = PoolInstances.of_a_and_w
 
-pub one_alone_is_no_pool : (pooled (under_edition 3) server_a (8192 ∷ [])).verdict ≡ Refused PoolSets
+pub one_alone_is_no_pool : (pooled (under_edition 3) server_a (8192 ∷ [])).verdict ≡ Err PoolSets
 one_alone_is_no_pool = Pools.one_alone
 
-pub lengths_do_not_wrap : (pooled first_edition (server_a ++ server_w) (0xFFFFFFFFFFFFFFFF ∷ 16385 ∷ [])).verdict ≡ Refused PoolSets
+pub lengths_do_not_wrap : (pooled first_edition (server_a ++ server_w) (0xFFFFFFFFFFFFFFFF ∷ 16385 ∷ [])).verdict ≡ Err PoolSets
 lengths_do_not_wrap = Pools.wraps
 
-pub no_such_edition_in_a_pool : (pooled (under_edition 3) server_a (8192 ∷ 0 ∷ [])).verdict ≡ Refused UnknownEdition
+pub no_such_edition_in_a_pool : (pooled (under_edition 3) server_a (8192 ∷ 0 ∷ [])).verdict ≡ Err UnknownEdition
 no_such_edition_in_a_pool = Pools.unknown
 
 pub the_second_by_itself : ServerFault first_edition server_a (8192 ∷ 0 ∷ []) 1 PagesLength
 the_second_by_itself = PoolInstances.of_own
 
-pub bit_28_is_no_feature : (pooled first_edition (server_a ++ Bit28.server_m) Pools.two).verdict ≡ Refused PoolDiffers
+pub bit_28_is_no_feature : (pooled first_edition (server_a ++ Bit28.server_m) Pools.two).verdict ≡ Err PoolDiffers
 bit_28_is_no_feature = Bit28.a_and_m
 
 pub d_2_differs : DifferFault first_edition (server_a ++ Differ.server_d) Pools.two
 d_2_differs = PoolInstances.of_a_and_d
 
-pub a_third_server_lifts_it : (pooled first_edition (server_a ++ Differ.server_d ++ server_w) Differ.three).verdict ≡ Accepted
+pub a_third_server_lifts_it : (pooled first_edition (server_a ++ Differ.server_d ++ server_w) Differ.three).verdict ≡ Ok tt
 a_third_server_lifts_it = Differ.a_and_d_and_w
 
 pub a_server_more_adds_nothing :

@@ -1,14 +1,12 @@
 -- The rise from server A to server B, and what added entries change.
 -- `answer chosen s` is the answer of the definition (crates/build/specs/Build.antt) to the page bytes s under what the caller chooses.
-use Rattle.std.specs.Prelude.{◌≡◌, ◌↔◌, List, ◌++◌, ℕ, ◌+◌}
+use Rattle.std.specs.Prelude.{◌≡◌, ◌↔◌, List, ◌++◌, ℕ, ◌+◌, Err, Ok, Some}
 use Rattle.x86defs.specs.Functions.{cpuid_result, ExtendedStateEnumeration}
 use Rattle.x86defs.specs.declared.CpuidResult.{CpuidResult}
 use Rattle.table.specs.declared.Choices.{Choices}
-use Rattle.table.specs.declared.Subleaf.TheVariants.{Some}
 use Rattle.table.specs.declared.Refusal.TheVariants.{MissingRequiredResult, TopologyInconsistent}
 use Rattle.table.specs.declared.CpuidResults.{CpuidResults}
 use Rattle.table.specs.Table.{row_in}
-use Rattle.table.specs.declared.Verdict.TheVariants.{Accepted, Refused}
 use Rattle.pages.specs.Entries.{entries}
 use Rattle.build.specs.Built.{SameButOrigins}
 use Rattle.build.specs.Build.{answer}
@@ -55,7 +53,7 @@ pub same_figures_both_ways : (chosen : Choices) (a b : List ℕ) → RiseHypothe
 same_figures_both_ways = same_figures
 
 -- and each accepted server rises to itself
-pub each_rises_to_itself : (chosen : Choices) (a : List ℕ) → (answer chosen a).verdict ≡ Accepted → RiseHypothesis chosen a a
+pub each_rises_to_itself : (chosen : Choices) (a : List ℕ) → (answer chosen a).verdict ≡ Ok tt → RiseHypothesis chosen a a
 each_rises_to_itself = rises_itself
 
 -- and the moves compose: from A to B and from B to C is from A to C. So the hypothesis is a preorder of the accepted servers, and those that rise to
@@ -108,7 +106,7 @@ pub added_entries_follow : (s u : List ℕ) → Added s u → (more : List Entry
 added_entries_follow s u added = ((entries_begin s u added).more, (entries_begin s u added).whole)
 
 -- an accepted server and the same one with entries added rise to each other
-pub added_entries_rise_both_ways : (chosen : Choices) (s u : List ℕ) → Added s u → (answer chosen s).verdict ≡ Accepted
+pub added_entries_rise_both_ways : (chosen : Choices) (s u : List ℕ) → Added s u → (answer chosen s).verdict ≡ Ok tt
     → RiseHypothesis chosen s u × RiseHypothesis chosen u s
 added_entries_rise_both_ways = added_rises
 
@@ -120,11 +118,11 @@ pub a_with_a_page : Added server_a Spare.with_page × (answer first_edition Spar
 a_with_a_page = (Spare.page_added, Spare.page_same)
 
 -- refused by 8, and the same with an entry added
-pub threads_with_an_entry : ((answer first_edition Spare.two_threads).verdict ≡ Refused (TopologyInconsistent ThreadsPerUnit))
+pub threads_with_an_entry : ((answer first_edition Spare.two_threads).verdict ≡ Err (TopologyInconsistent ThreadsPerUnit))
     × Added Spare.two_threads Spare.one_thread_later × (answer first_edition Spare.one_thread_later ≡ answer first_edition Spare.two_threads)
 threads_with_an_entry = (Spare.threads_refused, Spare.threads_added, Spare.threads_same_lem)
 
 -- 3 is not covered: server A without D.2 is refused, and server A is this with an entry added
-pub missing_leaf_arrives : ((answer first_edition Spare.without_d2).verdict ≡ Refused (MissingRequiredResult ExtendedStateEnumeration (Some 2)))
-    × Added Spare.without_d2 server_a × ((answer first_edition server_a).verdict ≡ Accepted)
+pub missing_leaf_arrives : ((answer first_edition Spare.without_d2).verdict ≡ Err (MissingRequiredResult ExtendedStateEnumeration (Some 2)))
+    × Added Spare.without_d2 server_a × ((answer first_edition server_a).verdict ≡ Ok tt)
 missing_leaf_arrives = (Spare.without_refused, Spare.without_added, Computed.server_a_accepted)

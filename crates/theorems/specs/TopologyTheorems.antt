@@ -1,12 +1,10 @@
 -- The topology: the least shift, and every topology up to size seven that is accepted.
 -- `answer chosen s` is the answer of the definition (crates/build/specs/Build.antt) to the page bytes s under what the caller chooses.
-use Rattle.std.specs.Prelude.{◌≡◌, List, [], ◌∷◌, ℕ, ◌≤◌, ◌<◌, ◌^◌, length}
+use Rattle.std.specs.Prelude.{◌≡◌, List, [], ◌∷◌, ℕ, ◌≤◌, ◌<◌, ◌^◌, length, Err, Ok}
 use Rattle.x86defs.specs.Functions.{cpuid_result}
 use Rattle.table.specs.declared.Choices.{Choices}
 use Rattle.table.specs.declared.Refusal.TheVariants.{TopologyInconsistent}
 use Rattle.checks.specs.TopologyInputs.{inputs_of}
-use Rattle.table.specs.declared.Verdict.TheVariants.{Accepted, Refused}
-use Rattle.topology.specs.declared.Topology.TheVariants.{Processors}
 use Rattle.topology.specs.Topology.{Inputs, inputs, topology_of, shift_of}
 use Rattle.topology.specs.TopologyLaws.{LeastShift, shift_least}
 use Rattle.topology.specs.ShiftChange.{HighestBit, ShiftChange}
@@ -36,7 +34,7 @@ shift_is_least = shift_least
 
 -- of an accepted topology it is the place of the highest one bit of v, but where v comes from the legacy method and is no power of two: there
 -- it is one more
-pub shift_changed_only_there : (i : Inputs) (v p : ℕ) → i.lps < 256 → i.s < 16 → topology_of i ≡ Processors v → HighestBit v p → ShiftChange i v p
+pub shift_changed_only_there : (i : Inputs) (v p : ℕ) → i.lps < 256 → i.s < 16 → topology_of i ≡ Ok v → HighestBit v p → ShiftChange i v p
 shift_changed_only_there = shift_changes
 
 -- both happen: three processors, and 128
@@ -60,7 +58,7 @@ topologies_5095_bytes = list_bytes_lem
 
 -- 9 exactly where the buffer is shorter, and then every lent byte is as it was; else the list is at its front, and the bytes beyond it are as
 -- they were
-pub each_topologies_write_exactly : (buffer : List ℕ) → FrontExactly Accepted (inputs_bytes accepted_inputs) buffer (write_topologies buffer)
+pub each_topologies_write_exactly : (buffer : List ℕ) → FrontExactly (Ok tt) (inputs_bytes accepted_inputs) buffer (write_topologies buffer)
 each_topologies_write_exactly = topologies-write-exactly
 
 -- a page set with s up to 7 is accepted if and only if no check before the topology's refuses it and its inputs are listed; its table's B.0 and B.1
@@ -71,25 +69,25 @@ building_accepts_the_listed = builds_listed
 -- Examples: whole page sets with three processors and with 128, each with its inputs, which are listed, and its B.0 and B.1; nc = 255 with
 -- s = 0 is refused by 7 and not listed. crates/examples/specs/TopologyExamples.antt
 pub three_processors_listed : (inputs_for first_edition Topologies.three_processors ≡ inputs 0 2 3 1 1)
-    × ((answer first_edition Topologies.three_processors).verdict ≡ Accepted)
+    × ((answer first_edition Topologies.three_processors).verdict ≡ Ok tt)
     × In (inputs 0 2 3 1 1) accepted_inputs
     × (Topologies.levels_of Topologies.three_processors ≡ cpuid_result 1 2 0x100 0 ∷ cpuid_result 2 3 0x201 0 ∷ [])
 three_processors_listed = (Topologies.three_inputs, Topologies.three_accepted, Topologies.three_listed, Topologies.three_levels)
 
 pub largest_listed : (inputs_for first_edition Topologies.largest_server ≡ inputs 7 127 128 1 1)
-    × ((answer first_edition Topologies.largest_server).verdict ≡ Accepted)
+    × ((answer first_edition Topologies.largest_server).verdict ≡ Ok tt)
     × In (inputs 7 127 128 1 1) accepted_inputs
     × (Topologies.levels_of Topologies.largest_server ≡ cpuid_result 1 2 0x100 0 ∷ cpuid_result 7 128 0x201 0 ∷ [])
 largest_listed = (Topologies.largest_inputs, Topologies.largest_accepted, Topologies.largest_listed, Topologies.largest_levels)
 
 pub nc_255_not_listed : (inputs_for first_edition Topologies.wrapped_server ≡ inputs 0 255 0 1 0)
-    × ((answer first_edition Topologies.wrapped_server).verdict ≡ Refused (TopologyInconsistent (ProcessorCount 0)))
+    × ((answer first_edition Topologies.wrapped_server).verdict ≡ Err (TopologyInconsistent (ProcessorCount 0)))
     × (In (inputs 0 255 0 1 0) accepted_inputs → ⊥)
 nc_255_not_listed = (Topologies.wrapped_inputs, Topologies.wrapped_refused, Topologies.wrapped_unlisted)
 
 -- of any accepted table, whatever s: B.0 and B.1 by the five inputs. v is 1, lps = nc + 1 or 2^s, EBX of B.1 is v and EAX the least k with 2^k at
 -- least v. crates/rise/specs/Levels.antt
-pub any_levels : (chosen : Choices) (s : List ℕ) → (answer chosen s).verdict ≡ Accepted
+pub any_levels : (chosen : Choices) (s : List ℕ) → (answer chosen s).verdict ≡ Ok tt
     → AcceptedLevels (inputs_of (rows_for chosen s)) (answer chosen s).table
 any_levels = accepted_levels
 

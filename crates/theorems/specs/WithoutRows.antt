@@ -1,7 +1,7 @@
 -- A kept table without rows. Building, pooling, a guest's view and the reading of bytes that are no image leave one where they refuse: every word of
 -- the caller's memory is 0. The functions over a kept table no longer know the refusal. Here is what each of them then gives, in the numbers of
 -- include/snp_cpuid.h; KeptTableTheorems.antt has what they give where building accepted.
-use Rattle.std.specs.Prelude.{◌≡◌, refl, Bool, true, false, List, [], ◌∷◌, ◌++◌, ℕ, ◌≤◌, ltb, length, get_or, drop, replicate}
+use Rattle.std.specs.Prelude.{◌≡◌, refl, Bool, true, false, List, [], ◌∷◌, ◌++◌, ℕ, ◌≤◌, ltb, length, get_or, drop, replicate, Err, None, Ok, Option}
 use Rattle.std.proofs.Common.{sym, ap, ap₂, ◌∙◌, le_of_eq, arith, le-leb, ltb-true, ltb-false}
 use Rattle.std.proofs.lemmas.List.{length-replicate, get_or-replicate}
 use Rattle.std.proofs.Math.ListN.{get_or-eq_default}
@@ -15,10 +15,6 @@ use Rattle.table.specs.declared.Choices.{Choices}
 use Rattle.table.specs.declared.CpuidResults.{CpuidResults}
 use Rattle.table.specs.declared.Refusal.{Refusal}
 use Rattle.table.specs.declared.Refusal.TheVariants.{PagesLength, StateBeyondTable}
-use Rattle.table.specs.declared.Subleaf.{Subleaf}
-use Rattle.table.specs.declared.Subleaf.TheVariants.{None}
-use Rattle.table.specs.declared.Verdict.{Verdict}
-use Rattle.table.specs.declared.Verdict.TheVariants.{Accepted, Refused}
 use Rattle.table.specs.Edition.{known_edition}
 use Rattle.table.specs.Numbers.{numbers_of}
 use Rattle.table.specs.Rows.{Rows}
@@ -33,11 +29,8 @@ use Rattle.refusals.proofs.ExactlyProof.{builds_exactly}
 use Rattle.sha256.specs.Sha256.{sha256}
 use Rattle.sha256.specs.Facts as Facts
 use Rattle.fingerprint.specs.Fingerprint.{fingerprint}
-use Rattle.lookup.specs.declared.LeafResult.{LeafResult}
-use Rattle.lookup.specs.declared.LeafResult.TheVariants.{None as Nothing}
 use Rattle.lookup.specs.Lookup.{lookup, lookup_origin, place_asked, found, with_origin}
 use Rattle.lookup.proofs.LookupLaws.{lookup_at, empty_finds_nothing}
-use Rattle.buffer.specs.declared.Written.TheVariants.{Bytes}
 use Rattle.buffer.specs.Front.{write_front}
 use Rattle.image.specs.Image.{image_in, image}
 use Rattle.image_read.specs.ReadImage.{read_image, is_image, left, after_row, row_read, begins, opens}
@@ -61,6 +54,8 @@ use Rattle.snp_cpuid.specs.GuestExports.{guest_numbers}
 use Rattle.page_sets.specs.Evaluation.{first_edition}
 use Rattle.letter.proofs.VerdictProof.{verdict_by_figures}
 use Rattle.letter.proofs.TableProof.{table_by_figures}
+use Rattle.table.specs.Verdict.{Verdict}
+use Rattle.x86defs.specs.declared.CpuidResult.{CpuidResult}
 
 -- the 352 registers and 88 origins of such a table
 abbrev pub no_registers : List ℕ
@@ -78,7 +73,7 @@ layout_empty : layout (λ i. (row_in empty_table i).result) ≡ no_registers
 unfolding layout tabulate
 layout_empty = refl
 
-pub refused_leaves_no_rows : (chosen : Choices) (s w o : List ℕ) (r : Refusal) → (answer chosen s).verdict ≡ Refused r → TableIn (answer chosen s) w o
+pub refused_leaves_no_rows : (chosen : Choices) (s w o : List ℕ) (r : Refusal) → (answer chosen s).verdict ≡ Err r → TableIn (answer chosen s) w o
     → (w ≡ no_registers) × (o ≡ no_origins) × (held_in w o ≡ no_rows)
 unfolding answer
 refused_leaves_no_rows chosen s w o r e k =
@@ -89,7 +84,7 @@ refused_leaves_no_rows chosen s w o r e k =
     )
 
 -- an example: no bytes at all are refused by 1, and this memory is what building leaves
-pub no_bytes_refused : (answer first_edition []).verdict ≡ Refused PagesLength
+pub no_bytes_refused : (answer first_edition []).verdict ≡ Err PagesLength
 no_bytes_refused = verdict_by_figures first_edition []
 
 pub no_bytes_leave_no_rows : TableIn (answer first_edition []) no_registers no_origins
@@ -114,34 +109,34 @@ none_there i = go (ltb i places) refl
         let past : length (replicate places false) ≤ i = omega (arith, length-replicate places false, ltb-false i places e) in
         get_or-eq_default (replicate places false) false past
 
-pub no_rows_find_nothing : (leaf : ℕ) (subleaf : Subleaf) (enforce : Bool) → found_at no_rows no_origins leaf subleaf enforce
+pub no_rows_find_nothing : (leaf : ℕ) (subleaf : Option ℕ) (enforce : Bool) → found_at no_rows no_origins leaf subleaf enforce
     ≡ record { found = 0; eax = 0; ebx = 0; ecx = 0; edx = 0; origin = 0; page = 0; entry = 0 }
 no_rows_find_nothing leaf subleaf enforce =
     ap (λ (t : CpuidResults). found_at t no_origins leaf subleaf enforce) cleared_held
-    ∙ ap (λ (x : LeafResult). found_given x (lookup_origin no_origins (function leaf) subleaf enforce)) (empty_finds_nothing (function leaf) subleaf enforce)
+    ∙ ap (λ (x : Option CpuidResult). found_given x (lookup_origin no_origins (function leaf) subleaf enforce)) (empty_finds_nothing (function leaf) subleaf enforce)
 
 -- nor with a size that a caller kept
-pub no_rows_find_nothing_kept : (v : Processor) (size leaf : ℕ) (subleaf : Subleaf) (enforce : Bool)
+pub no_rows_find_nothing_kept : (v : Processor) (size leaf : ℕ) (subleaf : Option ℕ) (enforce : Bool)
     → found_numbers (found (table_with no_rows v size) no_origins (function leaf) subleaf enforce)
     ≡ record { found = 0; eax = 0; ebx = 0; ecx = 0; edx = 0; origin = 0; page = 0; entry = 0 }
 no_rows_find_nothing_kept v size leaf subleaf enforce =
     ap (λ (t : CpuidResults). found_numbers (found (table_with t v size) no_origins (function leaf) subleaf enforce)) cleared_held
-    ∙ ap (λ (x : LeafResult). found_numbers (with_origin x (lookup_origin no_origins (function leaf) subleaf enforce))) none
+    ∙ ap (λ (x : Option CpuidResult). found_numbers (with_origin x (lookup_origin no_origins (function leaf) subleaf enforce))) none
   where
-    none : lookup (table_with empty_table v size) (function leaf) subleaf enforce ≡ Nothing
+    none : lookup (table_with empty_table v size) (function leaf) subleaf enforce ≡ None
     none =
         sym (lookup_at (table_with empty_table v size) (le_of_eq (length-replicate places false)) (function leaf) subleaf enforce _ refl)
         ∙ pick_false _ _ (none_there (place_asked (function leaf) subleaf enforce))
 
 -- no state is given, whatever XCR0 and XSS: 13
-state_refused : (m : Rows) (x s : ℕ) → xfem m ≡ 0 → state_verdict m x s ≡ Refused StateBeyondTable
+state_refused : (m : Rows) (x s : ℕ) → xfem m ≡ 0 → state_verdict m x s ≡ Err StateBeyondTable
 unfolding bit
 state_refused m x s e = go (state_answers m x s)
   where
     none : bit 0 (xfem m) ≡ 0
     none = ap (bit 0) e
 
-    go : StateAnswers m x s (state_verdict m x s) → state_verdict m x s ≡ Refused StateBeyondTable
+    go : StateAnswers m x s (state_verdict m x s) → state_verdict m x s ≡ Err StateBeyondTable
     go (beyond f q) = q
     go (large h f q) = absurd (omega (arith, h.x87, h.user.at 0, none))
     go (given h f q) = absurd (omega (arith, h.x87, h.user.at 0, none))
@@ -152,7 +147,7 @@ no_rows_give_no_state xcr0 xss =
     let m : Rows = read_rows false no_registers no_origins in
     ap (λ (w : Verdict). state_numbers (in_use_by w (compact_register m xcr0 xss))) (state_refused m xcr0 xss refl)
 
-pub no_rows_for_a_guest : (v : Processor) (leaf : ℕ) (subleaf : Subleaf) (enforce : Bool)
+pub no_rows_for_a_guest : (v : Processor) (leaf : ℕ) (subleaf : Option ℕ) (enforce : Bool)
     → guest_found_numbers (found_in (guest_answer no_rows v) no_origins (function leaf) subleaf enforce)
     ≡ record { number = 13; found = 0; eax = 0; ebx = 0; ecx = 0; edx = 0; origin = 0; page = 0; entry = 0 }
 unfolding guest_answer xfem
@@ -196,7 +191,7 @@ list_empty : list_of no_rows ≡ replicate 8 0
 list_empty = ap list_of cleared_held ∙ listed
 
 pub no_rows_listed : (buffer : List ℕ) → 8 ≤ length buffer
-    → write_front (list_of no_rows) buffer ≡ record { answer = Bytes 8; buffer = (0 ∷ 0 ∷ 0 ∷ 0 ∷ 0 ∷ 0 ∷ 0 ∷ 0 ∷ []) ++ drop 8 buffer }
+    → write_front (list_of no_rows) buffer ≡ record { answer = Ok 8; buffer = (0 ∷ 0 ∷ 0 ∷ 0 ∷ 0 ∷ 0 ∷ 0 ∷ 0 ∷ []) ++ drop 8 buffer }
 unfolding write_front
 no_rows_listed buffer l = rw (list_empty, le-leb 8 (length buffer) l) refl
 
@@ -224,7 +219,7 @@ no_rows_carried xcr0 xss =
     numbers f = (numbers_of (f 1 2)).number ∷ (numbers_of (f 1 1)).number ∷ (numbers_of (f 2 2)).number ∷ []
 
 -- compared with itself yes; an accepted table has a row 0 beyond it, and it lacks the row 0 of an accepted table
-pub no_rows_compared : (chosen : Choices) (s : List ℕ) → (answer chosen s).verdict ≡ Accepted
+pub no_rows_compared : (chosen : Choices) (s : List ℕ) → (answer chosen s).verdict ≡ Ok tt
     → (compared_tables no_rows no_rows ≡ Rises)
     × (compared_tables no_rows (answer chosen s).table ≡ Beyond (function 0) None)
     × (compared_tables (answer chosen s).table no_rows ≡ NoRow (function 0) None)

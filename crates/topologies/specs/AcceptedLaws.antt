@@ -1,5 +1,5 @@
 -- Which inputs up to s = 7 are accepted, from the topology's own definition: three kinds.
-use Rattle.std.specs.Prelude.{◌≡◌, Bool, ◌&&◌, ◌||◌, ℕ, ◌+◌, ◌^◌, ◌≤◌, ◌<◌, ltb}
+use Rattle.std.specs.Prelude.{◌≡◌, Bool, ◌&&◌, ◌||◌, ℕ, ◌+◌, ◌^◌, ◌≤◌, ◌<◌, ltb, Err, Ok, Result}
 use Rattle.std.proofs.Math.Path.{refl}
 use Rattle.std.proofs.Common.{sym, ◌∙◌, arith}
 use Rattle.std.proofs.Math.Bool.{true, false}
@@ -10,10 +10,9 @@ use borrow.Author.Tests.{eqb-true, eqb-false, ltb-false, leb-true, leb-false, eq
 use Rattle.bits.specs.Choice.{pick}
 use Rattle.bits.specs.ChoiceLaws.{and_left, and_right}
 use Rattle.topology.specs.declared.TopologyError.TheVariants.{Hyperthreading, ProcessorCount, ThreadsPerUnit}
-use Rattle.topology.specs.declared.Topology.{Topology}
-use Rattle.topology.specs.declared.Topology.TheVariants.{Processors, Inconsistent}
 use Rattle.topology.specs.Topology.{inputs, threads_in, topology_of}
 use Rattle.topologies.specs.Topologies.{consistent, accepts}
+use Rattle.topology.specs.declared.TopologyError.{TopologyError}
 
 -- one processor, said by mt = 0; v said by lps; v = 2^s
 pub data LawfulInputs (s nc lps mt t : ℕ) : Type 0 where
@@ -25,7 +24,7 @@ threads_fit : (v t : ℕ) → consistent (threads_in v t) ≡ true → (t < 2) �
 unfolding threads_in
 threads_fit v t e = go (ltb 1 t) (leb v t) refl refl e
   where
-    go : (a b : Bool) → ltb 1 t ≡ a → leb v t ≡ b → consistent (pick (a || b) (Inconsistent ThreadsPerUnit) (Processors v)) ≡ true
+    go : (a b : Bool) → ltb 1 t ≡ a → leb v t ≡ b → consistent (pick (a || b) (Err ThreadsPerUnit) (Ok v)) ≡ true
         → (t < 2) × (t < v)
     go true b p q f = absurd (false≢true f)
     go false true p q f = absurd (false≢true f)
@@ -36,7 +35,7 @@ unfolding threads_in
 threads_taken v t l h = rw (le-ltb 1 t (omega arith), lt-leb v t h)
 
 -- an accepted choice whose other side is refused
-chosen : (b : Bool) (x y : Topology) → consistent y ≡ false → consistent (pick b x y) ≡ true → (b ≡ true) × (consistent x ≡ true)
+chosen : (b : Bool) (x y : Result ℕ TopologyError) → consistent y ≡ false → consistent (pick b x y) ≡ true → (b ≡ true) × (consistent x ≡ true)
 chosen true x y e f = (refl, f)
 chosen false x y e f = absurd (false≢true (sym e ∙ f))
 
@@ -49,12 +48,12 @@ module _ (s nc lps mt t : ℕ) where
           → consistent
           (pick a
           (pick b
-          (pick (eqb nc 0 && leb lps 1) (threads_in 1 t) (Inconsistent (Hyperthreading s)))
-          (pick (eqb lps (nc + 1)) (threads_in lps t) (Inconsistent (ProcessorCount s))))
+          (pick (eqb nc 0 && leb lps 1) (threads_in 1 t) (Err (Hyperthreading s)))
+          (pick (eqb lps (nc + 1)) (threads_in lps t) (Err (ProcessorCount s))))
           (pick (ltb s 8)
           (pick (leb (nc + 1) (2 ^ s) && eqb lps (2 ^ s))
-          (pick (eqb mt 1) (threads_in (2 ^ s) t) (Inconsistent (Hyperthreading s)))
-          (Inconsistent (ProcessorCount s)))
+          (pick (eqb mt 1) (threads_in (2 ^ s) t) (Err (Hyperthreading s)))
+          (Err (ProcessorCount s)))
           (threads_in (2 ^ s) t))) ≡ true
           → LawfulInputs s nc lps mt t
       go true true p q f =

@@ -78,9 +78,6 @@ unfolding accepted_at
 none_law s nc h n =
     gather_none 256 _ (λ lps u. gather_none 2 _ (λ mt v. gather_none 256 _ (λ t w. left_out s nc lps mt t h (n lps mt t u))))
 
-pub zero_size : (s nc : ℕ) → s ≡ 0 → accepted_at s nc ≡ accepted_at 0 nc
-zero_size s nc e = rw e
-
 -- ---- s = 0 and nc = 0: lps 0 or 1 and mt = 0, or lps 1 and mt = 1; there is no second thread
 
 alone_only : (lps mt t : ℕ) → LawfulInputs 0 0 lps mt t → (lps < 2) × (t ≡ 0) × (lps ≡ 0 → mt ≡ 0)

@@ -1,17 +1,16 @@
 -- Document 02, P14: "all accepted inputs (s, nc, lps, mt, t) with s from 0 to 7, ordered by s, nc, lps, mt, t in turn, five bytes each". nc, lps and
 -- t are fields of eight bits and mt is one bit (document 01, "Corners of snp.rs"); an input is accepted where the topology's own definition gives a
 -- number of processors. crates/topology_list/specs/Listed.antt says what P14 asks of the list, and that no other list has it.
-use Rattle.std.specs.Prelude.{Bool, true, false, List, [], ◌∷◌, ◌++◌, ℕ}
+use Rattle.std.specs.Prelude.{Bool, true, false, List, [], ◌∷◌, ◌++◌, ℕ, Err, Ok, Result}
 use Rattle.bits.specs.Choice.{pick}
-use Rattle.topology.specs.declared.Topology.{Topology}
-use Rattle.topology.specs.declared.Topology.TheVariants.{Processors, Inconsistent}
 use Rattle.topology.specs.Topology.{Inputs, inputs, topology_of}
 use Rattle.buffer.specs.Front.{AfterWrite, write_front}
 use Rattle.topologies.specs.Gather.{gather}
+use Rattle.topology.specs.declared.TopologyError.{TopologyError}
 
-abbrev pub consistent : Topology → Bool
-consistent (Processors v) = true
-consistent (Inconsistent e) = false
+abbrev pub consistent : Result ℕ TopologyError → Bool
+consistent (Ok v) = true
+consistent (Err e) = false
 
 unfoldable pub accepts : Inputs → Bool
 accepts i = consistent (topology_of i)

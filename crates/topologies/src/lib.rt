@@ -24,9 +24,9 @@ pub fn write_topologies(out: &mut [u8]) -> Written
     ensures { (result ≡ (write_topologies out.old).answer) × (out.new ≡ (write_topologies out.old).buffer) }
 {
     if out.len() < LIST_BYTES {
-        return Written::Refused(Refusal::BufferTooShort);
+        return Err(Refusal::BufferTooShort);
     }
-    Written::Bytes(put_all(out))
+    Ok(put_all(out))
 }
 
 // The sizes one after another.
@@ -35,10 +35,8 @@ fn put_all(out: &mut [u8]) -> usize
     ensures { Wrote out.old 0 accepted_inputs out.new result }
 {
     let mut at = 0;
-    let mut s = 0;
-    while s < SIZES {
+    for s in 0..SIZES {
         at = put_size(out, at, s);
-        s += 1;
     }
     at
 }
@@ -49,10 +47,8 @@ fn put_size(out: &mut [u8], first: usize, s: u32) -> usize
     ensures { Wrote out.old first (accepted_of s) out.new result }
 {
     let mut at = first;
-    let mut nc = 0;
-    while nc < FIELD {
+    for nc in 0..FIELD {
         at = put_inputs(out, at, s, nc);
-        nc += 1;
     }
     at
 }
@@ -105,10 +101,7 @@ fn put(out: &mut [u8], at: usize, s: u32, nc: u32, lps: u32, mt: u32, t: u32) ->
     requires { (s < 256) × (nc < 256) × (lps < 256) × (mt < 256) × (t < 256) × (at + 5 ≤ length out.old) }
     ensures { Wrote out.old at (single s nc lps mt t) out.new result }
 {
-    out[at] = s as u8;
-    out[at + 1] = nc as u8;
-    out[at + 2] = lps as u8;
-    out[at + 3] = mt as u8;
-    out[at + 4] = t as u8;
-    at + 5
+    let end = at + 5;
+    out[at..end].copy_from_slice(&[s as u8, nc as u8, lps as u8, mt as u8, t as u8]);
+    end
 }

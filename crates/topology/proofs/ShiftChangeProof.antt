@@ -1,19 +1,16 @@
 -- The least shift differs from the place of the highest one bit exactly as ShiftChange.antt says.
-use Rattle.std.specs.Prelude.{◌≡◌, refl, Bool, true, false, ◌&&◌, ◌||◌, [], ◌∷◌, ◌≢◌, ℕ, suc, ◌+◌, ◌*◌, ◌^◌, ◌≤◌, ◌<◌, eqb, ltb, leb}
-use Rattle.std.proofs.Common.{ap, ◌∙◌, subst, pow-suc, arith, pow_pos, pow_mono, eqb-true, ltb-true, ltb-false}
+use Rattle.std.specs.Prelude.{◌≡◌, refl, Bool, true, false, ◌≢◌, ℕ, ◌^◌, ◌≤◌, ◌<◌, eqb, Ok}
+use Rattle.std.proofs.Common.{ap, arith, pow_pos, eqb-true}
 use Rattle.std.proofs.lemmas.Bool.{eqb-false}
-use Rattle.bits.specs.Choice.{pick}
-use Rattle.topology.specs.declared.TopologyError.TheVariants.{Hyperthreading, ProcessorCount, ThreadsPerUnit}
-use Rattle.topology.specs.declared.Topology.TheVariants.{Processors, Inconsistent}
-use Rattle.topology.specs.Topology.{Inputs, threads_in, topology_of, processors, least_power, shift_of}
-use Rattle.topology.specs.TopologyLaws.{LeastShift, shift_least, processors_fit}
+use Rattle.topology.specs.Topology.{Inputs, topology_of, processors}
+use Rattle.topology.specs.TopologyLaws.{processors_fit}
 use Rattle.topology.specs.ShiftChange.{HighestBit, ShiftChange, Legacy}
 use Rattle.topology.specs.ShiftChange.ShiftChange.{same, more}
 use Rattle.topology.specs.ShiftChangeProof.{no_power, shift_of_other, shift_of_power}
 
 -- ---- the statement
 
-pub shift_changes : (i : Inputs) (v p : ℕ) → i.lps < 256 → i.s < 16 → topology_of i ≡ Processors v → HighestBit v p → ShiftChange i v p
+pub shift_changes : (i : Inputs) (v p : ℕ) → i.lps < 256 → i.s < 16 → topology_of i ≡ Ok v → HighestBit v p → ShiftChange i v p
 shift_changes i v p l s e b = go (eqb v (2 ^ p)) refl
   where
     some : 0 < v

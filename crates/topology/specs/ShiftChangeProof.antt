@@ -1,14 +1,13 @@
 -- The least shift differs from the place of the highest one bit exactly as ShiftChange.antt says.
-use Rattle.std.specs.Prelude.{◌≡◌, refl, Bool, true, false, ◌&&◌, ◌||◌, [], ◌∷◌, ◌≢◌, ℕ, suc, ◌+◌, ◌*◌, ◌^◌, ◌≤◌, ◌<◌, eqb, ltb, leb}
+use Rattle.std.specs.Prelude.{◌≡◌, refl, Bool, true, false, ◌&&◌, ◌||◌, [], ◌∷◌, ◌≢◌, ℕ, suc, ◌+◌, ◌*◌, ◌^◌, ◌≤◌, ◌<◌, eqb, ltb, leb, Err, Ok}
 use Rattle.std.proofs.Common.{ap, ◌∙◌, subst, pow-suc, arith, pow_pos, pow_mono, eqb-true, ltb-true, ltb-false}
 use Rattle.std.proofs.lemmas.Bool.{eqb-false}
 use Rattle.bits.specs.Choice.{pick}
+use Rattle.topology.specs.declared.TopologyError.{TopologyError}
 use Rattle.topology.specs.declared.TopologyError.TheVariants.{Hyperthreading, ProcessorCount, ThreadsPerUnit}
-use Rattle.topology.specs.declared.Topology.TheVariants.{Processors, Inconsistent}
-use Rattle.topology.specs.Topology.{Inputs, threads_in, topology_of, processors, least_power, shift_of}
-use Rattle.topology.specs.TopologyLaws.{LeastShift, shift_least, processors_fit}
-use Rattle.topology.specs.ShiftChange.{HighestBit, ShiftChange, Legacy}
-use Rattle.topology.specs.ShiftChange.ShiftChange.{same, more}
+use Rattle.topology.specs.Topology.{Inputs, threads_in, topology_of, least_power, shift_of}
+use Rattle.topology.specs.TopologyLaws.{LeastShift, shift_least}
+use Rattle.topology.specs.ShiftChange.{HighestBit, Legacy}
 
 -- ---- the least shift is known by what holds of it
 
@@ -42,11 +41,11 @@ shift_of_other v p z h b n =
 
 -- ---- where a v that is no power of two comes from
 
-threads_said : (u t v : ℕ) → threads_in u t ≡ Processors v → v ≡ u
+threads_said : (u t v : ℕ) → threads_in u t ≡ Ok v → v ≡ u
 unfolding threads_in
 threads_said u t v = go (ltb 1 t || leb u t)
   where
-    go : (b : Bool) → pick b (Inconsistent ThreadsPerUnit) (Processors u) ≡ Processors v → v ≡ u
+    go : (b : Bool) → pick b (Err ThreadsPerUnit) (Ok u) ≡ Ok v → v ≡ u
     go true e = let z : ◌≡◌ {A = ℕ} 0 1 = cc in absurd (omega arith)
     go false e = cc
 
@@ -63,7 +62,7 @@ power_place s p b = go (ltb s p) (ltb p s) refl refl
         let q : s ≡ p = omega (arith, ltb-false s p e, ltb-false p s f) in
         ap (λ (n : ℕ). 2 ^ n) q
 
-pub no_power : (i : Inputs) (v p : ℕ) → topology_of i ≡ Processors v → HighestBit v p → v ≢ 2 ^ p → Legacy i v
+pub no_power : (i : Inputs) (v p : ℕ) → topology_of i ≡ Ok v → HighestBit v p → v ≢ 2 ^ p → Legacy i v
 unfolding topology_of
 no_power i v p e b n =
     go (eqb i.s 0) (eqb i.mt 0) (eqb i.nc 0 && leb i.lps 1) (eqb i.lps (i.nc + 1)) (ltb i.s 8)
@@ -75,13 +74,13 @@ no_power i v p e b n =
     one : v ≡ 1 → Legacy i v
     one q = absurd (n (q ∙ power_place 0 p (subst (λ (x : ℕ). HighestBit x p) q b)))
 
-    refused : {A : Type 0} {r : _} → Inconsistent r ≡ Processors v → A
+    refused : {A : Type 0} {r : TopologyError} → Err r ≡ Ok v → A
     refused q = let z : ◌≡◌ {A = ℕ} 0 1 = cc in absurd (omega arith)
 
     go : (a m c d f g h : Bool) → eqb i.s 0 ≡ a → eqb i.mt 0 ≡ m
-        → pick a (pick m (pick c (threads_in 1 i.t) (Inconsistent (Hyperthreading i.s))) (pick d (threads_in i.lps i.t) (Inconsistent (ProcessorCount i.s))))
-        (pick f (pick g (pick h (threads_in (2 ^ i.s) i.t) (Inconsistent (Hyperthreading i.s))) (Inconsistent (ProcessorCount i.s))) (threads_in (2 ^ i.s) i.t))
-        ≡ Processors v
+        → pick a (pick m (pick c (threads_in 1 i.t) (Err (Hyperthreading i.s))) (pick d (threads_in i.lps i.t) (Err (ProcessorCount i.s))))
+        (pick f (pick g (pick h (threads_in (2 ^ i.s) i.t) (Err (Hyperthreading i.s))) (Err (ProcessorCount i.s))) (threads_in (2 ^ i.s) i.t))
+        ≡ Ok v
         → Legacy i v
     go true true true d f g h x y q = one (threads_said 1 i.t v q)
     go true true false d f g h x y q = refused q

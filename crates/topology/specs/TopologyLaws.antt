@@ -1,27 +1,26 @@
 -- Laws of the topology: one for each return of the code, the shift by leading zeros, and a power of two by a shift.
-use Rattle.std.specs.Prelude.{◌≡◌, refl, Bool, true, false, ◌&&◌, ◌||◌, ◌≢◌, ℕ, zero, suc, ◌+◌, ◌-◌, ◌*◌, ◌%◌, ◌^◌, ◌≤◌, ◌<◌, eqb, ltb, leb}
+use Rattle.std.specs.Prelude.{◌≡◌, refl, Bool, true, false, ◌&&◌, ◌||◌, ◌≢◌, ℕ, zero, suc, ◌+◌, ◌-◌, ◌*◌, ◌%◌, ◌^◌, ◌≤◌, ◌<◌, eqb, ltb, leb, Err, Ok, Result}
 use Rattle.std.proofs.Common.{sym, ◌∙◌, subst, inl, inr, eq-or-lt_of_le, one-mul, pow-suc, arith, lit<, pow_mono, shl_exact}
 use Rattle.std.specs.Int.Count.{count_leading_zeros}
 use Rattle.std.proofs.lemmas.Nat.{leading_length}
 use Rattle.bits.specs.Choice.{pick}
 use borrow.Author.Tests.{eq-eqb, ne_eqb, lt-ltb, le-ltb, le-leb, lt-leb}
 use Rattle.topology.specs.declared.TopologyError.TheVariants.{Hyperthreading, ProcessorCount, ThreadsPerUnit}
-use Rattle.topology.specs.declared.Topology.{Topology}
-use Rattle.topology.specs.declared.Topology.TheVariants.{Processors, Inconsistent}
 use Rattle.topology.specs.Topology.{Inputs, inputs, threads_in, topology_of, processors, least_power, shift_of}
+use Rattle.topology.specs.declared.TopologyError.{TopologyError}
 
 -- ---- the last check
 
 module _ (v t : ℕ) where
-  pub threads_above_one : 1 < t → Inconsistent ThreadsPerUnit ≡ threads_in v t
+  pub threads_above_one : 1 < t → Err ThreadsPerUnit ≡ threads_in v t
   unfolding threads_in
   threads_above_one h = rw (lt-ltb 1 t h)
 
-  pub threads_too_many : t ≤ 1 → v ≤ t → Inconsistent ThreadsPerUnit ≡ threads_in v t
+  pub threads_too_many : t ≤ 1 → v ≤ t → Err ThreadsPerUnit ≡ threads_in v t
   unfolding threads_in
   threads_too_many h l = rw (le-ltb 1 t h, le-leb v t l)
 
-  pub threads_fit : t ≤ 1 → t < v → Processors v ≡ threads_in v t
+  pub threads_fit : t ≤ 1 → t < v → Ok v ≡ threads_in v t
   unfolding threads_in
   threads_fit h l = rw (le-ltb 1 t h, lt-leb v t l)
 
@@ -29,37 +28,37 @@ module _ (v t : ℕ) where
 
 module _ (s nc lps mt t : ℕ) where
   module _ (zero_size : s ≡ 0) where
-    pub one_agrees : {r : Topology} → mt ≡ 0 → (eqb nc 0 && leb lps 1) ≡ true → r ≡ threads_in 1 t → r ≡ topology_of (inputs s nc lps mt t)
+    pub one_agrees : {r : Result ℕ TopologyError} → mt ≡ 0 → (eqb nc 0 && leb lps 1) ≡ true → r ≡ threads_in 1 t → r ≡ topology_of (inputs s nc lps mt t)
     unfolding topology_of
     one_agrees m a e = e ∙ rw (eq-eqb s 0 zero_size, eq-eqb mt 0 m, a)
 
-    pub one_differs : mt ≡ 0 → (eqb nc 0 && leb lps 1) ≡ false → Inconsistent (Hyperthreading s) ≡ topology_of (inputs s nc lps mt t)
+    pub one_differs : mt ≡ 0 → (eqb nc 0 && leb lps 1) ≡ false → Err (Hyperthreading s) ≡ topology_of (inputs s nc lps mt t)
     unfolding topology_of
     one_differs m a = rw (eq-eqb s 0 zero_size, eq-eqb mt 0 m, a)
 
-    pub legacy_agrees : {r : Topology} → mt ≢ 0 → lps ≡ nc + 1 → r ≡ threads_in lps t → r ≡ topology_of (inputs s nc lps mt t)
+    pub legacy_agrees : {r : Result ℕ TopologyError} → mt ≢ 0 → lps ≡ nc + 1 → r ≡ threads_in lps t → r ≡ topology_of (inputs s nc lps mt t)
     unfolding topology_of
     legacy_agrees m a e = e ∙ rw (eq-eqb s 0 zero_size, ne_eqb mt 0 m, eq-eqb lps (nc + 1) a)
 
-    pub legacy_differs : mt ≢ 0 → lps ≢ nc + 1 → Inconsistent (ProcessorCount s) ≡ topology_of (inputs s nc lps mt t)
+    pub legacy_differs : mt ≢ 0 → lps ≢ nc + 1 → Err (ProcessorCount s) ≡ topology_of (inputs s nc lps mt t)
     unfolding topology_of
     legacy_differs m a = rw (eq-eqb s 0 zero_size, ne_eqb mt 0 m, ne_eqb lps (nc + 1) a)
 
   module _ {v : ℕ} (power : v ≡ 2 ^ s) (size : s ≢ 0) where
-    pub counts_agree : {r : Topology} → s < 8 → (leb (nc + 1) v && eqb lps v) ≡ true → mt ≡ 1 → r ≡ threads_in v t
+    pub counts_agree : {r : Result ℕ TopologyError} → s < 8 → (leb (nc + 1) v && eqb lps v) ≡ true → mt ≡ 1 → r ≡ threads_in v t
         → r ≡ topology_of (inputs s nc lps mt t)
     unfolding topology_of
     counts_agree h a m e = e ∙ rw (ne_eqb s 0 size, lt-ltb s 8 h, ← power, a, eq-eqb mt 1 m)
 
-    pub threads_unsaid : s < 8 → (leb (nc + 1) v && eqb lps v) ≡ true → mt ≢ 1 → Inconsistent (Hyperthreading s) ≡ topology_of (inputs s nc lps mt t)
+    pub threads_unsaid : s < 8 → (leb (nc + 1) v && eqb lps v) ≡ true → mt ≢ 1 → Err (Hyperthreading s) ≡ topology_of (inputs s nc lps mt t)
     unfolding topology_of
     threads_unsaid h a m = rw (ne_eqb s 0 size, lt-ltb s 8 h, ← power, a, ne_eqb mt 1 m)
 
-    pub counts_differ : s < 8 → (leb (nc + 1) v && eqb lps v) ≡ false → Inconsistent (ProcessorCount s) ≡ topology_of (inputs s nc lps mt t)
+    pub counts_differ : s < 8 → (leb (nc + 1) v && eqb lps v) ≡ false → Err (ProcessorCount s) ≡ topology_of (inputs s nc lps mt t)
     unfolding topology_of
     counts_differ h a = rw (ne_eqb s 0 size, lt-ltb s 8 h, ← power, a)
 
-    pub size_decides : {r : Topology} → 8 ≤ s → r ≡ threads_in v t → r ≡ topology_of (inputs s nc lps mt t)
+    pub size_decides : {r : Result ℕ TopologyError} → 8 ≤ s → r ≡ threads_in v t → r ≡ topology_of (inputs s nc lps mt t)
     unfolding topology_of
     size_decides h e = e ∙ rw (ne_eqb s 0 size, le-ltb s 8 h, ← power)
 
@@ -119,7 +118,7 @@ threads_processors : (v t : ℕ) → v < 2 ^ 32 → processors (threads_in v t) 
 unfolding threads_in
 threads_processors v t h = go (ltb 1 t || leb v t)
   where
-    go : (b : Bool) → processors (pick b (Inconsistent ThreadsPerUnit) (Processors v)) < 2 ^ 32
+    go : (b : Bool) → processors (pick b (Err ThreadsPerUnit) (Ok v)) < 2 ^ 32
     go true = lit< tt
     go false = h
 
@@ -135,8 +134,8 @@ processors_fit i l s =
 
     go : (a b c d e f g : Bool)
         → processors
-        (pick a (pick b (pick c (threads_in 1 i.t) (Inconsistent (Hyperthreading i.s))) (pick d (threads_in i.lps i.t) (Inconsistent (ProcessorCount i.s))))
-        (pick e (pick f (pick g (threads_in (2 ^ i.s) i.t) (Inconsistent (Hyperthreading i.s))) (Inconsistent (ProcessorCount i.s))) (threads_in (2 ^ i.s) i.t)))
+        (pick a (pick b (pick c (threads_in 1 i.t) (Err (Hyperthreading i.s))) (pick d (threads_in i.lps i.t) (Err (ProcessorCount i.s))))
+        (pick e (pick f (pick g (threads_in (2 ^ i.s) i.t) (Err (Hyperthreading i.s))) (Err (ProcessorCount i.s))) (threads_in (2 ^ i.s) i.t)))
         < 2 ^ 32
     go true true true d e f g = threads_processors 1 i.t (lit< tt)
     go true true false d e f g = lit< tt

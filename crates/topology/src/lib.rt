@@ -15,16 +15,9 @@ pub enum TopologyError {
     ThreadsPerUnit,
 }
 
-// The number of logical processors in a socket (v), or a reason to refuse.
-#[derive(Clone, Copy)]
-pub enum Topology {
-    Processors(u32),
-    Inconsistent(TopologyError),
-}
-
-// The topology from s = 80000008h.ECX bits 12-15, nc = its bits 0-7, lps = 1.EBX bits 16-23, mt = 1.EDX bit 28, t = 8000001Eh.EBX bits
-// 8-15. The numbers are wider than their fields, so nc + 1 is 256 where it is.
-pub fn extended_topology(s: u32, nc: u32, lps: u32, mt: u32, t: u32) -> Topology
+// The number of logical processors in a socket (v), or a reason to refuse, from s = 80000008h.ECX bits 12-15, nc = its bits 0-7, lps = 1.EBX bits
+// 16-23, mt = 1.EDX bit 28, t = 8000001Eh.EBX bits 8-15. The numbers are wider than their fields, so nc + 1 is 256 where it is.
+pub fn extended_topology(s: u32, nc: u32, lps: u32, mt: u32, t: u32) -> Result<u32, TopologyError>
     requires { (s < 16) × (nc < 256) }
     ensures { result ≡ topology_of (inputs s nc lps mt t) }
 {
@@ -34,12 +27,12 @@ pub fn extended_topology(s: u32, nc: u32, lps: u32, mt: u32, t: u32) -> Topology
             if one_processor(nc, lps) {
                 return threads_in(1, t);
             }
-            return Topology::Inconsistent(TopologyError::Hyperthreading(size));
+            return Err(TopologyError::Hyperthreading(size));
         }
         if lps == nc + 1 {
             return threads_in(lps, t);
         }
-        return Topology::Inconsistent(TopologyError::ProcessorCount(size));
+        return Err(TopologyError::ProcessorCount(size));
     }
     let v = 1 << s;
     if s < 8 {
@@ -47,9 +40,9 @@ pub fn extended_topology(s: u32, nc: u32, lps: u32, mt: u32, t: u32) -> Topology
             if mt == 1 {
                 return threads_in(v, t);
             }
-            return Topology::Inconsistent(TopologyError::Hyperthreading(size));
+            return Err(TopologyError::Hyperthreading(size));
         }
-        return Topology::Inconsistent(TopologyError::ProcessorCount(size));
+        return Err(TopologyError::ProcessorCount(size));
     }
     threads_in(v, t)
 }
@@ -70,16 +63,16 @@ fn counts_agree(nc: u32, lps: u32, v: u32) -> bool
 }
 
 // The last check: t above 1, or at least v, is inconsistent.
-fn threads_in(v: u32, t: u32) -> Topology
+fn threads_in(v: u32, t: u32) -> Result<u32, TopologyError>
     ensures { result ≡ threads_in v t }
 {
     if 1 < t {
-        return Topology::Inconsistent(TopologyError::ThreadsPerUnit);
+        return Err(TopologyError::ThreadsPerUnit);
     }
     if v <= t {
-        return Topology::Inconsistent(TopologyError::ThreadsPerUnit);
+        return Err(TopologyError::ThreadsPerUnit);
     }
-    Topology::Processors(v)
+    Ok(v)
 }
 
 // How many bits number v processors: the least k with 2^k at least v; 0 where v is 0. The leading zeros of v - 1 give it.

@@ -1,18 +1,14 @@
 -- Building accepts what is listed, and makes B.0 and B.1 of it.
-use Rattle.std.specs.Prelude.{◌≡◌, refl, true, List, ℕ, ◌<◌}
+use Rattle.std.specs.Prelude.{◌≡◌, refl, true, List, ℕ, ◌<◌, Ok}
 use Rattle.std.proofs.Math.Path.{sym}
 use Rattle.std.proofs.Common.{ap, ◌∙◌, arith, lit<}
 use Rattle.std.proofs.lemmas.Bool.{false≢true}
 use Rattle.bits.specs.ChoiceLaws.{pick_true}
 use Rattle.bits.specs.BitsLaws.{field_lt, bit_lt}
-use Rattle.topology.specs.declared.Topology.{Topology}
-use Rattle.topology.specs.declared.Topology.TheVariants.{Processors, Inconsistent}
 use Rattle.topology.specs.Topology.{topology_of, processors}
 use Rattle.masking.specs.Kept.{places}
 use Rattle.masking.specs.Place
 use Rattle.table.specs.declared.Choices.{Choices}
-use Rattle.table.specs.declared.Verdict.{Verdict}
-use Rattle.table.specs.declared.Verdict.TheVariants.{Accepted, Refused}
 use Rattle.table.specs.Refusal.{and_then}
 use Rattle.table.specs.Rows.{Rows, row}
 use Rattle.table.specs.Table.{row_in}
@@ -30,29 +26,30 @@ use Rattle.topology_list.specs.Listed.{In, FieldsFit}
 use Rattle.topology_list.proofs.ListedProof.{determined}
 use Rattle.topology_list.specs.Builds.{inputs_for, before_topology, Levels, BuildsListed}
 use Rattle.topology_list.specs.BuildsProof.{accepts_verdict, fits, given, then_joins, verdict_accepts}
+use Rattle.table.specs.Verdict.{Verdict}
 
 module _ (chosen : Choices) (s : List ℕ) where
   in_order_lem : (answer chosen s).verdict ≡ and_then (before_topology chosen s) (topology_verdict (rows_for chosen s))
   unfolding answer verdict_of rows_verdict
   in_order_lem = sym (simp then_joins)
 
-  passed : topology_verdict (rows_for chosen s) ≡ Accepted → accepts (inputs_for chosen s) ≡ true
+  passed : topology_verdict (rows_for chosen s) ≡ Ok tt → accepts (inputs_for chosen s) ≡ true
   unfolding topology_verdict accepts
   passed e = verdict_accepts (topology_of (inputs_for chosen s)) e
 
-  passes : accepts (inputs_for chosen s) ≡ true → topology_verdict (rows_for chosen s) ≡ Accepted
+  passes : accepts (inputs_for chosen s) ≡ true → topology_verdict (rows_for chosen s) ≡ Ok tt
   unfolding topology_verdict accepts
   passes e = accepts_verdict (topology_of (inputs_for chosen s)) e
 
   -- a row of a required leaf, which is there
-  required_row : (e : (answer chosen s).verdict ≡ Accepted) (i : ℕ) → i < places → always (rule_at i) ≡ true
+  required_row : (e : (answer chosen s).verdict ≡ Ok tt) (i : ℕ) → i < places → always (rule_at i) ≡ true
       → row_in (answer chosen s).table i ≡ row (finish (settings chosen.edition (rows_for chosen s)) (rule_at i) (rows_for chosen s i).result)
   unfolding finished
   required_row e i l a =
       answer_row chosen s e i l
       ∙ pick_true _ _ (sym (finished_present chosen.edition (rows_for chosen s) i) ∙ always_finished chosen s e i l a)
 
-  levels : (answer chosen s).verdict ≡ Accepted → In (inputs_for chosen s) accepted_inputs → Levels (inputs_for chosen s) (answer chosen s).table
+  levels : (answer chosen s).verdict ≡ Ok tt → In (inputs_for chosen s) accepted_inputs → Levels (inputs_for chosen s) (answer chosen s).table
   unfolding accepts settings
   levels e p = record {
     v = processors (topology_of (inputs_for chosen s));

@@ -34,13 +34,6 @@ struct Command {
     edition: u32,
 }
 
-// What follows a command: the next, on a page set of so many bytes, or the end.
-#[derive(Clone, Copy)]
-enum Step {
-    Next(usize),
-    End,
-}
-
 // A read or a write that fails ends the run with its error.
 fn main(rt: HostRuntime) -> io::Result<()> {
     let mut set = [0u8; LONGEST_SET];
@@ -51,7 +44,7 @@ fn main(rt: HostRuntime) -> io::Result<()> {
 fn run<R: Read, W: Write>(input: &mut R, output: &mut W, set: &mut [u8]) -> io::Result<()> {
     let mut length: usize = 0;
     for _ in 0..u32::MAX {
-        let Step::Next(n) = next_command(input, output, set, length)? else {
+        let Some(n) = next_command(input, output, set, length)? else {
             return Ok(());
         };
         length = n;
@@ -59,22 +52,20 @@ fn run<R: Read, W: Write>(input: &mut R, output: &mut W, set: &mut [u8]) -> io::
     Ok(())
 }
 
-// Reads a command and does it. The input ends between two commands, else it is malformed.
+// Reads a command and does it: how many bytes the page set has then, or `None` if the run ends. The input ends between two commands, else it is
+// malformed.
 fn next_command<R: Read, W: Write>(
     input: &mut R,
     output: &mut W,
     set: &mut [u8],
     length: usize,
-) -> io::Result<Step> {
+) -> io::Result<Option<usize>> {
     let mut head = [0u8; COMMAND_SIZE];
-    let got = read_full(input, &mut head)?;
-    if got == COMMAND_SIZE {
-        return execute(input, output, parse(&head), set, length);
+    match read_full(input, &mut head)? {
+        COMMAND_SIZE => execute(input, output, parse(&head), set, length),
+        0 => Ok(None),
+        _ => bad_vector(output),
     }
-    if got == 0 {
-        return Ok(Step::End);
-    }
-    bad_vector(output)
 }
 
 // Reads until `buf` is full or the input ends, and tells how many bytes it put at the start of `buf`.
@@ -82,6 +73,7 @@ fn read_full<R: Read>(input: &mut R, buf: &mut [u8]) -> io::Result<usize>
     ensures { IfOk result (λ n. n ≤ length buf.new) }
 {
     let mut done = 0;
+    // kept as a while: one read may give fewer bytes than there is room, and the library's methods fail at an early end or need a `Vec`
     while done < buf.len() {
         let n = input.read(&mut buf[done..])?;
         if n == 0 {
@@ -112,28 +104,33 @@ fn execute<R: Read, W: Write>(
     command: Command,
     set: &mut [u8],
     length: usize,
-) -> io::Result<Step> {
-    let kind = command.kind;
-    if kind == b'n' {
-        return Ok(Step::Next(command.a as usize));
+) -> io::Result<Option<usize>> {
+    match command.kind {
+        b'n' => Ok(Some(command.a as usize)),
+        b'd' => patch(
+            input,
+            output,
+            set,
+            command.a as usize,
+            command.b as usize,
+            length,
+        ),
+        _ => {
+            let Some(pages) = set.get(..length) else {
+                return bad_vector(output);
+            };
+            if answer(output, command, pages)? {
+                return Ok(Some(length));
+            }
+            bad_vector(output)
+        }
     }
-    if kind == b'd' {
-        let from = command.a as usize;
-        return patch(input, output, set, from, command.b as usize, length);
-    }
-    if length > set.len() {
-        return bad_vector(output);
-    }
-    if answer(output, command, front(set, length))? {
-        return Ok(Step::Next(length));
-    }
-    bad_vector(output)
 }
 
 // Says that a command is malformed, and ends the run.
-fn bad_vector<W: Write>(output: &mut W) -> io::Result<Step> {
+fn bad_vector<W: Write>(output: &mut W) -> io::Result<Option<usize>> {
     output.write_all(b"bad vector\n")?;
-    Ok(Step::End)
+    Ok(None)
 }
 
 // Reads `count` bytes into the page set.
@@ -144,7 +141,7 @@ fn patch<R: Read, W: Write>(
     from: usize,
     count: usize,
     length: usize,
-) -> io::Result<Step> {
+) -> io::Result<Option<usize>> {
     if from > set.len() {
         return bad_vector(output);
     }
@@ -155,7 +152,7 @@ fn patch<R: Read, W: Write>(
     if read_full(input, &mut set[from..end])? != count {
         return bad_vector(output);
     }
-    Ok(Step::Next(length))
+    Ok(Some(length))
 }
 
 // Calls the library and prints its answer; false where the command makes no sense.
@@ -301,24 +298,15 @@ fn print_refusal<W: Write>(
     print_number(output, s as u64)
 }
 
-// A space and 16 hexadecimal digits, of which the lowest is found first.
+// A space and 16 hexadecimal digits.
 fn print_number<W: Write>(output: &mut W, x: u64) -> io::Result<()> {
-    let mut text = [b' '; 17];
-    let mut rest = x;
-    let mut i: usize = 16;
-    while i > 0 {
-        text[i] = hex_digit((rest % 16) as u8);
-        rest /= 16;
-        i -= 1;
-    }
-    output.write_all(&text)
+    write!(output, " {x:016x}")
 }
 
 // Two digits for each byte.
 fn print_bytes<W: Write>(output: &mut W, bytes: &[u8]) -> io::Result<()> {
     for byte in bytes {
-        print(output, hex_digit(*byte / 16))?;
-        print(output, hex_digit(*byte % 16))?;
+        write!(output, "{byte:02x}")?;
     }
     Ok(())
 }
@@ -326,23 +314,4 @@ fn print_bytes<W: Write>(output: &mut W, bytes: &[u8]) -> io::Result<()> {
 // One character.
 fn print<W: Write>(output: &mut W, text: u8) -> io::Result<()> {
     output.write_all(&[text])
-}
-
-// The first `n` bytes, or all where there are fewer.
-fn front(bytes: &[u8], n: usize) -> &[u8] {
-    if n < bytes.len() {
-        return &bytes[..n];
-    }
-    bytes
-}
-
-// The digit of a number below 16.
-fn hex_digit(x: u8) -> u8 {
-    if x < 10 {
-        return b'0' + x;
-    }
-    if x < 16 {
-        return b'a' - 10 + x;
-    }
-    b'?'
 }

@@ -17,11 +17,11 @@ ghost use Rattle.x86defs.specs.ExtendedSevFeaturesEax.ExtendedSevFeaturesEax.{ts
 pub mod leaf;
 
 // A leaf, the value of EAX going in. A subleaf is a plain u32, so one is never taken for the other.
-#[derive(Clone, Copy)]
+#[derive(Clone, Copy, PartialEq, Eq)]
 pub struct CpuidFunction(pub u32);
 
 // The four registers that come out.
-#[derive(Clone, Copy)]
+#[derive(Clone, Copy, PartialEq, Eq)]
 pub struct CpuidResult {
     pub eax: u32,
     pub ebx: u32,

@@ -3,4 +3,4 @@ use borrow.Author.Rules.{rules}
 use Rattle.answers.proofs.first_numbers.Goals as goal
 
 pub returns : goal.returns
-returns c = rw (c.answer_numbers-numbers.ensures, c.read_origin-read.ensures)
+returns c = rw (c.from-numbers.ensures, c.read_origin-read.ensures)

@@ -9,7 +9,7 @@ use Rattle.answers.proofs.found_at.Goals as goal
 
 pub returns : goal.returns
 returns c =
-    c.found_numbers.ensures
+    c.from.ensures
     ∙ ap found_numbers c.find.ensures
     ∙ given_located (lookup (held_in c.args.registers.now c.args.origins.now) (function c.args.leaf) c.args.subleaf c.args.enforce_subleaf)
     (lookup_origin c.args.origins.now (function c.args.leaf) c.args.subleaf c.args.enforce_subleaf)

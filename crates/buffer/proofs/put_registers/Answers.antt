@@ -1,6 +1,5 @@
 -- `buffer::put_registers` meets its contract: four words one after another.
 use mathlib.Core.Path.{◌∙◌}
-use borrow.Author.Rules.{rules}
 use Rattle.buffer.specs.FrontLaws.{registers_sets}
 use Rattle.buffer.proofs.put_registers.Goals as goal
 

@@ -1,20 +1,9 @@
--- `buffer::put_word` meets its contract: its four stores are the stores of the word's bytes one after another.
-use native.Mathlib.Numerals.{towards_suc}
-use native.Mathlib.Omega.{arith}
-use borrow.Author.Rules.{rules}
-use lib.ListN.{length-set}
+-- `buffer::put_word` meets its contract: the word's bytes are copied over four others.
+use Rattle.std.proofs.Common.{◌∙◌, refl}
 use Rattle.buffer.specs.Front.{word_bytes}
+use Rattle.buffer.specs.FrontLaws.{part_sets}
 use Rattle.buffer.proofs.put_word.Goals as goal
 
 pub returns : goal.returns
 unfolding word_bytes
-returns c = simp towards_suc
-
-pub bounds-out-at-2 : goal.bounds-out-at-2
-bounds-out-at-2 c = simp length-set (omega arith)
-
-pub bounds-out-at-3 : goal.bounds-out-at-3
-bounds-out-at-3 c = simp length-set (omega arith)
-
-pub bounds-out-at-4 : goal.bounds-out-at-4
-bounds-out-at-4 c = simp length-set (omega arith)
+returns c = part_sets _ _ _ _ _ (c.copy_from_slice.ensures.after ∙ c.to_le_bytes.ensures) refl c.requires

@@ -1,5 +1,4 @@
 -- `build::rows_into` meets its contract: by whether the edition is known.
-use borrow.Author.Rules.{rules}
 use mathlib.Core.Path.{sym, ◌∙◌}
 use Rattle.build.specs.InMemoryLaws.{front_unknown, front_walked}
 use Rattle.build.proofs.rows_into.Goals as goal

@@ -1,5 +1,4 @@
 -- `carry::clear_bits` meets its contract: its two stores are those of the definition.
-use borrow.Author.Rules.{rules}
 use mathlib.Core.Path.{ap, ◌∙◌}
 use Rattle.bits.specs.Choice.{pick}
 use Rattle.x86defs.specs.declared.CpuidResult.{CpuidResult}
@@ -9,7 +8,7 @@ use Rattle.carry.proofs.clear_bits.Goals as goal
 
 pub returns : goal.returns
 returns c =
-    stored c.args.registers.now c.args.origins.now c.lengths_known.ensures.0 c.args.bits c.args.keep c.is_there.ensures c.is_there-2.ensures
+    stored c.args.registers.now c.args.origins.now c.told-registers c.args.bits c.args.keep c.is_there.ensures c.is_there-2.ensures
     (c.clear_ecx-cleared.ensures
     ∙ ap (λ (q : CpuidResult). pick c.is_there.result (without_bits c.args.keep c.args.bits.version_ecx q) q) c.row_at-version.ensures)
     (c.clear_ecx-cleared-2.ensures

@@ -1,5 +1,4 @@
 -- `carry::clear_ecx` meets its contract.
-use borrow.Author.Rules.{rules}
 use Rattle.carry.proofs.clear_ecx.Goals as goal
 
 pub returns-then-present : goal.returns-then-present

@@ -1,5 +1,4 @@
 -- `validate_invlpgb` meets its contract: the test is the definition's.
-use borrow.Author.Rules.{rules}
 use Rattle.checks.proofs.validate_invlpgb.Goals as goal
 
 pub returns-then-invlpgb : goal.returns-then-invlpgb

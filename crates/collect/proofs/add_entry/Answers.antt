@@ -1,5 +1,4 @@
 -- `collect::add_entry` meets its contract: a new row, a row that was there, or an entry that adds none.
-use borrow.Author.Rules.{rules}
 use Rattle.collect.specs.FullLaws.{row_there}
 use Rattle.collect.proofs.WalkingLaws.{walking_passed, added_new}
 use Rattle.collect.proofs.add_entry.Goals as goal

@@ -2,16 +2,15 @@
 -- to position 0 leaves it, so a turn of the outer one ends on a later page.
 use borrow.Author.Rules.{rules}
 use native.Mathlib.Omega.{arith}
-use mathlib.Core.Path.{◌≡◌, refl, sym, ap, ◌∙◌}
-use Prim.Native.Nat.{◌-◌, ◌^◌, ◌<◌}
+use Prim.Native.Nat.{◌^◌, ◌<◌}
 use lib.ListN.{length}
-use Rattle.pages.specs.Layout.{pages_in, count_of}
-use Rattle.pages.specs.Walk.{incremented, rest}
 use Rattle.pages.specs.WalkLaws.{turn}
+use Rattle.collect.specs.FirstEntryOriginLaws.{number_fits}
+use mathlib.Core.Path.{refl, sym, ◌∙◌}
+use Rattle.pages.specs.Walk.{incremented}
 use Rattle.pages.specs.ReadLaws.{read_entry}
 use Rattle.bits.specs.Bits.{bit, has}
 use Rattle.masking.specs.Kept.{kept_leaves, slot}
-use Rattle.collect.specs.FirstEntryOriginLaws.{number_fits}
 use Rattle.collect.specs.Full.{leaf_number}
 use Rattle.collect.specs.FullLaws.{none_kept}
 use Rattle.collect.specs.WalkingLaws.{Walking, AtEntry}
@@ -23,17 +22,6 @@ pub loop-index-init : goal.loop-index-init
 unfolding none_kept leaf_number slot kept_leaves has bit
 loop-index-init c = let z = c.requires.1 in rw (c.start-index.ensures, z.0, z.1) (walking_first _ _ refl)
 
-pub count_of-count-requires : goal.count_of-count-requires
-count_of-count-requires c = rw c.page_count-n.ensures at c.loop-index-test.true
-
-pub loop-entry-init : goal.loop-entry-init
-loop-entry-init c = (c.loop-index.invariant, refl)
-
-pub take-read-requires : goal.take-read-requires
-take-read-requires c =
-    let h : c.loop-entry.index.page_index < _ = rw (c.page_count-n.ensures, ← c.loop-entry.invariant.1) at c.loop-index-test.true in
-    record { lawful = c.requires.0; inside = record { page = h; position = (turn _ _ c.loop-entry.invariant.0.valid h).below } }
-
 -- the page of the inner loop is one of the pages
 pub entry_number-origin-requires : goal.entry_number-origin-requires
 entry_number-origin-requires c =
@@ -43,9 +31,9 @@ entry_number-origin-requires c =
 
 -- a turn at an entry that is clean, once it is added
 at_entry : (c : After-add_entry-after) → AtEntry c.args.pages.now c.loop-entry.registers c.loop-entry.origins c.loop-entry.full
-    c.loop-entry.index c.in-Entry.entry
+    c.loop-entry.index c.in-Ok.entry
 at_entry c =
-    let read = read_entry _ _ (sym c.in-Entry.is ∙ c.take-read.ensures) in
+    let read = read_entry _ _ (sym c.in-Ok.is ∙ c.take-read.ensures) in
     record {
       walking = c.loop-entry.invariant.0;
       inside = rw (c.page_count-n.ensures, ← c.loop-entry.invariant.1) at c.loop-index-test.true;
@@ -57,14 +45,6 @@ walks : (c : After-add_entry-after)
     → Walking c.args.pages.now c.add_entry-after.new.registers c.add_entry-after.new.origins c.add_entry-after.result
     (incremented c.args.pages.now c.loop-entry.index)
 walks c = c.add_entry-after.ensures.turned (at_entry c) c.entry_number-origin.ensures
-
-pub step-next-requires : goal.step-next-requires
-step-next-requires c =
-    let h : c.loop-entry.index.page_index < _ = rw (c.page_count-n.ensures, ← c.loop-entry.invariant.1) at c.loop-index-test.true in
-    record {
-      inside = record { page = h; position = (turn _ _ c.loop-entry.invariant.0.valid h).below };
-      count = c.count_of-count.ensures ∙ ap (count_of c.args.pages.now) (sym c.loop-entry.invariant.1);
-    }
 
 -- a step to position 0 leaves the page
 pub loop-index-smaller : goal.loop-index-smaller
@@ -84,10 +64,10 @@ loop-entry-preserved c =
     let a = (goal.at.loop-entry-preserved c).After-add_entry-after in
     rw c.step-next.ensures (walks a, walking_stays (at_entry a) (rw c.step-next.ensures at c.if-index-eq0.false) ∙ c.loop-entry.invariant.1)
 
-pub returns-in-Unclean : goal.returns-in-Unclean
-returns-in-Unclean c =
+pub returns-in-Err : goal.returns-in-Err
+returns-in-Err c =
     walking_stops _ _ _ _ _ c.loop-entry.invariant.0 (rw (c.page_count-n.ensures, ← c.loop-entry.invariant.1) at c.loop-index-test.true)
-    (sym c.in-Unclean.is ∙ c.take-read.ensures)
+    (sym c.in-Err.is ∙ c.take-read.ensures)
 
 pub returns : goal.returns
 returns c = walking_last _ _ _ _ _ c.loop-index.invariant (rw c.page_count-n.ensures at c.loop-index-test.false)

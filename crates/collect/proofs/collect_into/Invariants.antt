@@ -1,21 +1,11 @@
 -- `collect::collect_into` meets its contract: before each turn the entries that are left give what all give. The inner loop keeps to one page: a step
 -- to position 0 leaves it, so a turn of the outer one ends on a later page.
-use borrow.Author.Rules.{rules}
-use native.Mathlib.Omega.{arith}
-use mathlib.Core.Path.{◌≡◌, refl, sym, ap, ◌∙◌}
-use Prim.Native.Nat.{◌-◌, ◌^◌, ◌<◌}
+use mathlib.Core.Path.{◌≡◌}
+use Prim.Native.Nat.{◌-◌}
 use lib.ListN.{length}
-use Rattle.pages.specs.Layout.{pages_in, count_of}
-use Rattle.pages.specs.Walk.{incremented, rest}
-use Rattle.pages.specs.WalkLaws.{turn}
-use Rattle.pages.specs.ReadLaws.{read_entry}
-use Rattle.bits.specs.Bits.{bit, has}
-use Rattle.masking.specs.Kept.{kept_leaves, slot}
-use Rattle.collect.specs.FirstEntryOriginLaws.{number_fits}
-use Rattle.collect.specs.Full.{leaf_number}
-use Rattle.collect.specs.FullLaws.{none_kept}
-use Rattle.collect.specs.WalkingLaws.{Walking, AtEntry}
-use Rattle.collect.proofs.WalkingLaws.{walking_first, walking_last, walking_stops, walking_falls, walking_leaves, walking_stays}
+use Rattle.pages.specs.Layout.{pages_in}
+use Rattle.pages.specs.Walk.{rest}
+use Rattle.collect.specs.WalkingLaws.{Walking}
 use Rattle.collect.proofs.collect_into.Given as goal
 
 abbrev pub invariant-loop-entry : goal.invariant-loop-entry

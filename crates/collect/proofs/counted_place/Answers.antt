@@ -1,5 +1,4 @@
 -- `collect::counted_place` meets its contract: leaf Dh on page 1, Dh elsewhere, any other leaf.
-use borrow.Author.Rules.{rules}
 use Rattle.collect.specs.CollectLaws.{counted_dh, uncounted_dh, counted_other}
 use Rattle.collect.proofs.counted_place.Goals as goal
 

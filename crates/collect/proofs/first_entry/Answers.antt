@@ -1,12 +1,10 @@
 -- `collect::first_entry` meets its contract: the pages are not lawful, or what was collected is read at the place.
-use mathlib.Core.Path.{sym, ◌∙◌}
-use borrow.Author.Rules.{rules}
 use Rattle.collect.specs.FirstEntryLaws.{first_unlawful, first_found, first_none}
 use Rattle.collect.proofs.first_entry.Goals as goal
 
-pub returns-in-Refused : goal.returns-in-Refused
-returns-in-Refused c =
-    first_unlawful _ _ _ c.walk_pages-lawful.ensures.verdict c.in-Refused.is
+pub returns-in-Err : goal.returns-in-Err
+returns-in-Err c =
+    first_unlawful _ _ _ c.walk_pages-lawful.ensures.verdict c.in-Err.is
 
 pub returns-then-place-lt-PLACES : goal.returns-then-place-lt-PLACES
 returns-then-place-lt-PLACES c =

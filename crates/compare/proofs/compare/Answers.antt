@@ -1,7 +1,5 @@
 -- `compare::compare` meets its contract: one return a case of the comparison.
-use borrow.Author.Rules.{rules}
 use mathlib.Core.Path.{◌≡◌, sym, ◌∙◌}
-use Rattle.table.specs.declared.Verdict.TheVariants.{Accepted}
 use Rattle.memory.specs.Memory.{rows_in}
 use Rattle.build.specs.Build.{rows_for, answer}
 use Rattle.build.proofs.BuildLaws.{front_refused}
@@ -14,24 +12,25 @@ use Rattle.compare.proofs.CompareLaws.{refused_a, lawful_b, unlawful_b, rows_com
 use Rattle.compare.proofs.DecidesProof.{decided}
 use Rattle.compare.proofs.compare.Goals as goal
 use Rattle.compare.proofs.compare.Goals.{After-compare_rows, In_default-lawful, In_default-verdict}
+use Rattle.std.specs.Prelude.{Ok}
 
-pub returns-in-Refused : goal.returns-in-Refused
-returns-in-Refused c = let both = decided _ _ _ (refused_a _ _ _ (front_refused _ _ (sym c.rows_into-front.ensures.verdict ∙ c.in-Refused.is))) in record { value = both.0; decides = both.1 }
+pub returns-in-Err : goal.returns-in-Err
+returns-in-Err c = let both = decided _ _ _ (refused_a _ _ _ (front_refused _ _ (sym c.rows_into-front.ensures.verdict ∙ c.in-Err.is))) in record { value = both.0; decides = both.1 }
 
-pub returns-in-Refused-verdict : goal.returns-in-Refused-verdict
-returns-in-Refused-verdict c = let both = decided _ _ _
+pub returns-in-Err-verdict : goal.returns-in-Err-verdict
+returns-in-Err-verdict c = let both = decided _ _ _
     (refused_a _ _ _
-    (finished_verdict _ _ _ _ c.rows_into-front.ensures c.in_default.is c.finish_rows-verdict.ensures ∙ c.in-Refused-verdict.is)) in record { value = both.0; decides = both.1 }
+    (finished_verdict _ _ _ _ c.rows_into-front.ensures c.in_default.is c.finish_rows-verdict.ensures ∙ c.in-Err-verdict.is)) in record { value = both.0; decides = both.1 }
 
 -- where A is accepted
 accepted : (c : In_default-verdict)
-    → (answer c.args.choices c.args.a.now).verdict ≡ Accepted
+    → (answer c.args.choices c.args.a.now).verdict ≡ Ok tt
 accepted c =
     finished_verdict _ _ _ _ c.rows_into-front.ensures c.in_default.is c.finish_rows-verdict.ensures ∙ c.in_default-verdict.is
 
-pub returns-in-Refused-lawful : goal.returns-in-Refused-lawful
-returns-in-Refused-lawful c = let both = decided _ _ _
-    (unlawful_b _ _ _ (accepted (goal.at.returns-in-Refused-lawful c).In_default-verdict) (lawful_b _ _ _ (accepted (goal.at.returns-in-Refused-lawful c).In_default-verdict) c.rows_into-lawful.ensures.verdict ∙ c.in-Refused-lawful.is)) in record { value = both.0; decides = both.1 }
+pub returns-in-Err-lawful : goal.returns-in-Err-lawful
+returns-in-Err-lawful c = let both = decided _ _ _
+    (unlawful_b _ _ _ (accepted (goal.at.returns-in-Err-lawful c).In_default-verdict) (lawful_b _ _ _ (accepted (goal.at.returns-in-Err-lawful c).In_default-verdict) c.rows_into-lawful.ensures.verdict ∙ c.in-Err-lawful.is)) in record { value = both.0; decides = both.1 }
 
 rows-of-b : (e : In_default-lawful) → rows_in e.rows_into-lawful.new.registers e.rows_into-lawful.new.origins
     ≡ rows_for e.args.choices e.args.b.now

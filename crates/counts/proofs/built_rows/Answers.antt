@@ -7,13 +7,13 @@ use Rattle.image.specs.ComponentsLaws.{ones_few}
 use Rattle.counts.specs.BuiltRows.{built_rows, components_ones}
 use Rattle.counts.proofs.built_rows.Goals as goal
 
-pub returns-in-Accepted : goal.returns-in-Accepted
+pub returns-in-Ok : goal.returns-in-Ok
 unfolding built_rows
-returns-in-Accepted c = rw c.in-Accepted.is (ap (λ (n : ℕ). 26 + n) (components_ones _ (search rules)))
+returns-in-Ok c = rw c.in-Ok.is (ap (λ (n : ℕ). 26 + n) (components_ones _ (search rules)))
 
-pub returns-in-Refused : goal.returns-in-Refused
+pub returns-in-Err : goal.returns-in-Err
 unfolding built_rows
-returns-in-Refused c = rw c.in-Refused.is refl
+returns-in-Err c = rw c.in-Err.is refl
 
 pub overflow_cast-result : goal.overflow_cast-result
 overflow_cast-result c = record { fits = omega (arith, ones_few c.args.mask (search rules)) }

@@ -1,8 +1,7 @@
 -- `fingerprint::fingerprint` meets its contract: the image stands whole at the front of the array, and its bytes are hashed.
 use mathlib.Core.Path.{refl, ◌∙◌}
 use native.Mathlib.Omega.{arith}
-use lib.ListN.{length-take, length-replicate}
-use borrow.Author.Rules.{rules}
+use lib.ListN.{length-take}
 use Rattle.memory.specs.Held.{held_in}
 use Rattle.fingerprint.specs.FingerprintLaws.{digest_of_image, image_fits, array_kept, image_in_front}
 use Rattle.fingerprint.proofs.fingerprint.Goals as goal

@@ -1,5 +1,4 @@
 -- `guest::find_kept` meets its contract: the row of the place that is asked for.
-use borrow.Author.Rules.{rules}
 use Prim.Native.Nat.{ℕ}
 use Rattle.lookup.specs.Lookup.{place_asked}
 use Rattle.lookup.specs.AskedLaws.{asked_is_place}

@@ -1,5 +1,4 @@
 -- `guest::put_seen` meets its contract: its five stores are those of the definition.
-use borrow.Author.Rules.{rules}
 use lib.Dec.{lit<}
 use Rattle.guest.specs.Guest.{version_seen, level_seen, size_seen}
 use Rattle.memory.specs.MemoryLaws.{put_rowed, rowed}
@@ -18,4 +17,4 @@ returns c =
     (put_rowed 6 c.see_size-seen.result (lit< tt) c.put_row-4.ensures
     (put_rowed 5 c.see_level-seen-2.result (lit< tt) c.put_row-3.ensures
     (put_rowed 4 c.see_level-seen.result (lit< tt) c.put_row-2.ensures
-    (put_rowed 1 c.see_version-seen.result (lit< tt) c.put_row.ensures (rowed c.args.registers.now c.lengths_known.ensures.0))))))
+    (put_rowed 1 c.see_version-seen.result (lit< tt) c.put_row.ensures (rowed c.args.registers.now c.told-registers))))))

@@ -1,5 +1,4 @@
 -- `guest::see_level` meets its contract: the register of a row that is there.
-use borrow.Author.Rules.{rules}
 use Rattle.guest.proofs.see_level.Goals as goal
 
 pub returns-then-present : goal.returns-then-present

@@ -1,5 +1,4 @@
 -- `guest::see_osxsave` meets its contract: its test is that of the definition.
-use borrow.Author.Rules.{rules}
 use mathlib.Core.Path.{sym, ap, ◌∙◌}
 use mathlib.Core.Bool.{Bool, ◌&&◌}
 use Rattle.bits.specs.Bits.{clear}

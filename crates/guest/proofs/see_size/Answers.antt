@@ -1,5 +1,4 @@
 -- `guest::see_size` meets its contract: the register of a row that is there.
-use borrow.Author.Rules.{rules}
 use Rattle.guest.proofs.see_size.Goals as goal
 
 pub returns-then-present : goal.returns-then-present

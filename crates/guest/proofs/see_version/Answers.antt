@@ -1,5 +1,4 @@
 -- `guest::see_version` meets its contract: EBX by masks and a shift, ECX by its own function.
-use borrow.Author.Rules.{rules}
 use Rattle.guest.specs.Guest.{number_seen}
 use Rattle.guest.specs.GuestLaws.{version_ebx}
 use Rattle.guest.proofs.see_version.Goals as goal

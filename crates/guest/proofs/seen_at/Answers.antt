@@ -1,5 +1,4 @@
 -- `guest::seen_at` meets its contract: each of the five places by its rule, any other as it is.
-use borrow.Author.Rules.{rules}
 use Prim.Native.Nat.{ℕ}
 use native.Mathlib.Omega.{arith}
 use Rattle.guest_state.specs.State.{save_register}

@@ -1,5 +1,4 @@
 -- `guest_state::compact_register` meets its contract: the size where either bit is set, else 0.
-use borrow.Author.Rules.{rules}
 use mathlib.Core.Path.{◌≡◌, sym, ap, ap₂, ◌∙◌}
 use mathlib.Core.Bool.{◌||◌}
 use Rattle.bits.specs.ChoiceLaws.{pick_true, pick_false}

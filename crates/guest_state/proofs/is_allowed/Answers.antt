@@ -1,5 +1,4 @@
 -- `guest_state::is_allowed` meets its contract: the three tests are those of the definition.
-use borrow.Author.Rules.{rules}
 use Rattle.guest_state.specs.State.{allowed}
 use Rattle.guest_state.proofs.is_allowed.Goals as goal
 

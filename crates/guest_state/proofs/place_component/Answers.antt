@@ -1,5 +1,4 @@
 -- `guest_state::place_component` meets its contract: a start raised, or one as it is; each sum is small.
-use borrow.Author.Rules.{rules}
 use native.Mathlib.Omega.{arith}
 use mathlib.Core.Path.{sym, ◌∙◌}
 use Rattle.guest_state.specs.CompactLaws.{placed_raised, placed_packed}

@@ -1,5 +1,4 @@
 -- `guest_state::state_in_use` meets its contract: 13 where a state is not allowed, 14 where the size passes 32 bits, else the size.
-use borrow.Author.Rules.{rules}
 use mathlib.Core.Path.{◌≡◌, ap, ap₂, ◌∙◌}
 use Prim.Native.Nat.{ℕ}
 use native.Mathlib.Omega.{arith}

@@ -1,5 +1,4 @@
 -- `image_read::read_image` meets its contract: the rows found, and whether bytes are left over.
-use borrow.Author.Rules.{rules}
 use Rattle.image_read.specs.ReadingLaws.{read_whole, read_over}
 use Rattle.image_read.specs.ReadHeld.{read_held}
 use Rattle.image_read.proofs.read_image.Goals as goal

@@ -2,7 +2,6 @@
 use mathlib.Core.Path.{sym, ap, ◌∙◌}
 use Prim.Native.Nat.{ℕ}
 use native.Mathlib.Omega.{arith}
-use borrow.Author.Rules.{rules}
 use lib.Dec.{eqb}
 use Rattle.image_read.specs.BeginsLaws.{opens_long, run_indexed, run_shut, run_whole}
 use Rattle.image_read.proofs.row_begins.Goals as goal

@@ -2,7 +2,6 @@
 use mathlib.Core.Path.{sym, ap, ◌∙◌}
 use Prim.Native.Nat.{ℕ}
 use native.Mathlib.Omega.{arith}
-use borrow.Author.Rules.{rules}
 use lib.Dec.{eqb}
 use Rattle.image_read.specs.BeginsLaws.{opens_short, opens_other, opens_kind}
 use Rattle.image_read.proofs.row_opens.Goals as goal

@@ -2,7 +2,6 @@
 use mathlib.Core.List.{[]}
 use native.Mathlib.Omega.{arith}
 use Rattle.kvm_export.specs.RunRowLaws.{run_indexed, run_whole, run_absent, run_length}
-use borrow.Author.Rules.{rules}
 use Rattle.kvm_export.proofs.put_place.Goals as goal
 
 pub put_row-requires : goal.put_row-requires

@@ -1,6 +1,5 @@
 -- `kvm_export::put_row` meets its contract: five stores, each after the one before.
 use Rattle.kvm_export.specs.RunRowLaws.{row_done}
-use borrow.Author.Rules.{rules}
 use Rattle.kvm_export.proofs.put_row.Goals as goal
 
 pub returns : goal.returns

@@ -5,7 +5,6 @@ use native.Mathlib.Omega.{arith}
 use lib.ListN.{length}
 use Rattle.table.specs.declared.CpuidResults.{CpuidResults}
 use Rattle.memory.specs.Held.{held_in}
-use Rattle.buffer.specs.declared.Written.TheVariants.{Bytes}
 use Rattle.buffer.specs.FrontLaws.{front_short, front_whole}
 use Rattle.kvm_export.specs.Export.{list_of}
 use Rattle.kvm_export.specs.ExportPieces.{rows_left}
@@ -13,6 +12,7 @@ use Rattle.kvm_export.proofs.ExportListLaws.{list_size, rows_size, list_done}
 use borrow.Author.Rules.{rules}
 use Rattle.kvm_export.proofs.write_table.Goals as goal
 use Rattle.kvm_export.proofs.write_table.Goals.{Start}
+use Rattle.std.specs.Prelude.{Ok}
 
 abbrev held : Start → CpuidResults
 held c = held_in c.args.registers.now c.args.origins.now
@@ -29,7 +29,7 @@ put_rows-requires c =
 pub returns : goal.returns
 returns c =
     rw (front_whole (list_of (held (goal.at.returns c).Start)) c.args.out.now (omega (arith, list_size (held (goal.at.returns c).Start) c.rows_among-n.ensures.0))) (
-      ap Bytes (list_size (held (goal.at.returns c).Start) c.rows_among-n.ensures.0),
+      ap Ok (list_size (held (goal.at.returns c).Start) c.rows_among-n.ensures.0),
       list_done (held (goal.at.returns c).Start) _ c.rows_among-n.ensures.0
           c.put_word.ensures
           c.put_word-2.ensures

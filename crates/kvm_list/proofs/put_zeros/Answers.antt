@@ -1,23 +1,17 @@
--- `kvm_list::put_zeros` meets its contract. The invariant: the zeros that are left, stored from `i` on, come to the same.
-use mathlib.Core.Path.{◌≡◌, refl, sym, ◌∙◌}
-use Prim.Native.Nat.{◌-◌, ◌≤◌}
-use native.Mathlib.Omega.{arith}
-use borrow.Author.Rules.{rules}
-use lib.ListN.{length, replicate, length-set}
-use lib.Seq.{sets}
-use Rattle.kvm_list.specs.StoresLaws.{clear_more, clear_none}
+-- `kvm_list::put_zeros` meets its contract: the stretch is filled with zeros.
+use Rattle.std.proofs.Common.{◌≡◌, refl, ◌-◌, ◌≤◌, length, replicate, ℕ, ◌+◌, List, take, drop, append_assoc, arith, length-drop}
+use Rattle.std.proofs.lemmas.List.{drop-drop, length-take-le, length-replicate}
+use Rattle.std.proofs.lemmas.List.Edits.{sets, sets-eq}
+use borrow.Rule.Slice.PartMut.{put_mid}
 use Rattle.kvm_list.proofs.put_zeros.Goals as goal
 
-pub loop-i-init : goal.loop-i-init
-loop-i-init c = (search rules, refl, refl)
-
-pub loop-i-preserved : goal.loop-i-preserved
-loop-i-preserved c =
-    let l = c.loop-i in
-    (omega arith, simp length-set l.invariant.1, clear_more l.out l.i _ (omega arith) ∙ l.invariant.2)
+-- what is stored in a stretch as long as itself
+mid_sets : (a k : ℕ) (xs ys : List ℕ) → length ys ≡ k → a + k ≤ length xs → put_mid a k xs ys ≡ sets xs a ys
+mid_sets a k xs ys e h = rw (sets-eq ys xs a (omega (arith, e)), drop-drop, append_assoc, e) refl
 
 pub returns : goal.returns
-returns c = let l = c.loop-i in sym (clear_none l.out l.i _ (omega arith)) ∙ l.invariant.2
-
-pub shape_of-out : goal.shape_of-out
-shape_of-out c = c.loop-i.invariant.1
+returns c =
+    let a = c.args in
+    let n : ℕ = a.end - a.from in
+    let whole : length (take n (drop a.from a.out.now)) ≡ n = length-take-le n (drop a.from a.out.now) (omega (arith, length-drop a.from a.out.now)) in
+    rw (c.fill.ensures.after (λ y e. e), whole) (mid_sets a.from n a.out.now (replicate n 0) (length-replicate n 0) (omega arith))

@@ -1,5 +1,4 @@
 -- `is_writable` meets its contract: the four tests of the definition.
-use borrow.Author.Rules.{rules}
 use Rattle.lines.specs.Line.{writable}
 use Rattle.lines.proofs.is_writable.Goals as goal
 

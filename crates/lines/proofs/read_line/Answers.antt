@@ -3,7 +3,6 @@ use mathlib.Core.Path.{sym, ap, ◌∙◌}
 use native.Mathlib.Omega.{arith}
 use lib.ListN.{length, replicate, length-take}
 use lib.Seq.{length-sets}
-use borrow.Author.Rules.{rules}
 use Rattle.bits.specs.ChoiceLaws.{never_both}
 use Rattle.lines.specs.Line.{line}
 use Rattle.lines.proofs.LineLaws.{at_most_22}
@@ -36,8 +35,8 @@ returns-then-same c =
     (sym c.is_writable.ensures ∙ c.if-is_writable.true)
     (sym whole ∙ c.same.ensures.0 c.if-same.true)
 
-pub returns-then-is_writable : goal.returns-then-is_writable
-returns-then-is_writable c =
+pub returns-else-same : goal.returns-else-same
+returns-else-same c =
     let g = c.guess_details-d in
     let put = c.put_line-n.ensures in
     let whole = front (line g.result) (replicate 22 0) put.1 put.0 (omega (arith, put.0, at_most_22 g.result)) in
@@ -47,6 +46,6 @@ returns-then-is_writable c =
     (sym c.is_writable.ensures ∙ c.if-is_writable.true)
     (λ q. never_both (c.same.ensures.1 (whole ∙ q)) c.if-same.false)
 
-pub returns : goal.returns
-returns c =
+pub returns-else-is_writable : goal.returns-else-is_writable
+returns-else-is_writable c =
     read_none c.args.line.now c.guess_details-d.ensures (sym c.is_writable.ensures ∙ c.if-is_writable.false)

@@ -6,7 +6,6 @@ ghost use Rattle.lines.specs.Line.{leaf_field, subleaf_field, s_field, spaced, f
 use crate::bytes::LineDetails;
 use crate::bytes::names::names_of;
 use crate::digits::{put_decimal, put_digits};
-use table::Subleaf;
 
 // Stores the line at the front of bytes that have room for it. Gives its length.
 pub fn put_line(d: LineDetails, out: &mut [u8]) -> usize
@@ -45,14 +44,14 @@ fn put_leaf(out: &mut [u8], at: usize, named: bool, leaf: u32) -> usize
 }
 
 // A subleaf, where it is named and there is one.
-fn put_subleaf(out: &mut [u8], at: usize, named: bool, subleaf: Subleaf) -> usize
+fn put_subleaf(out: &mut [u8], at: usize, named: bool, subleaf: Option<u32>) -> usize
     requires { at + length (subleaf_field named subleaf) ≤ length out.old }
     ensures { (result ≡ at + length (subleaf_field named subleaf)) × (out.new ≡ sets out.old at (subleaf_field named subleaf)) }
 {
     if named {
         return match subleaf {
-            Subleaf::None => at,
-            Subleaf::Some(k) => put_spaced(out, at, k),
+            None => at,
+            Some(k) => put_spaced(out, at, k),
         };
     }
     at

@@ -1,8 +1,6 @@
 -- `lookup::place_asked` meets its contract: each way through it is one case of `place_asked`.
-use borrow.Author.Rules.{rules}
 use mathlib.Core.Path.{◌≡◌, refl, ap, ◌∙◌}
 use mathlib.Core.Bool.{false}
-use mathlib.Core.Logic.{inl, inr}
 use Rattle.bits.specs.ChoiceLaws.{pick_false}
 use Rattle.lookup.specs.Lookup.{with_subleaves, place_alone, place_asked, at_place}
 use Rattle.lookup.specs.AskedLaws.{spans_fit, within_span, without_span}

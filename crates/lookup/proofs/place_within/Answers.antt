@@ -1,5 +1,4 @@
 -- `lookup::place_within` meets its contract: each branch is one case of the choice.
-use borrow.Author.Rules.{rules}
 use mathlib.Core.Path.{refl}
 use native.Mathlib.Omega.{arith}
 use borrow.Author.Tests.{lt-ltb, le-ltb}

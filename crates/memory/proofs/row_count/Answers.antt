@@ -1,26 +1,18 @@
 -- `memory::row_count` meets its contract: the count is that of the places passed.
-use borrow.Author.Rules.{rules}
-use mathlib.Core.Path.{◌≡◌}
-use Prim.Native.Nat.{◌≤◌, ◌-◌}
-use native.Mathlib.Omega.{arith}
-use Rattle.memory.specs.Held.{count_to, count_starts, byte_le, count_next, count_ends}
+use Rattle.std.proofs.Common.{◌≡◌, arith, rules}
+use Rattle.memory.specs.Held.{count_starts, byte_le, count_next, count_ends}
 use Rattle.memory.proofs.row_count.Goals as goal
 
-pub loop-i-init : goal.loop-i-init
-loop-i-init c = (search rules, search rules, count_starts c.args.origins.now)
+pub loop-origin-init : goal.loop-origin-init
+loop-origin-init c = (search rules, count_starts c.args.origins.now)
 
-pub returns : goal.returns
-returns c = λ w. let q : c.loop-i.i ≡ 88 = omega arith in count_ends w c.args.origins.now (rw q at c.loop-i.invariant.2)
-
-pub overflow_add-count : goal.overflow_add-count
-overflow_add-count c = omega (arith, byte_le c.is_there.result)
-
-pub loop-i-preserved : goal.loop-i-preserved
-loop-i-preserved c = (
-  search rules,
+pub loop-origin-preserved : goal.loop-origin-preserved
+loop-origin-preserved c = (
   omega (arith, byte_le c.is_there.result),
-  count_next c.args.origins.now c.loop-i.i c.loop-i.invariant.2 c.is_there.ensures,
+  count_next c.args.origins.now c.loop-origin.origin-index c.loop-origin.invariant.1 c.is_there.ensures,
 )
 
-pub overflow_cast-count : goal.overflow_cast-count
-overflow_cast-count c = tt
+pub returns : goal.returns
+returns c = λ w.
+    let all : c.loop-origin.origin-index ≡ 88 = omega arith in
+    count_ends w c.args.origins.now (rw all at c.loop-origin.invariant.1)

@@ -4,16 +4,19 @@ use Rattle.build.proofs.BuildLaws.{front_known, front_lawful}
 use Rattle.build.specs.InMemoryLaws.{rows_held}
 use Rattle.nearest.specs.NearestFrontLaws.{front_refuses, searched}
 use Rattle.nearest.proofs.nearest_bit.Goals as goal
+use Rattle.std.proofs.lemmas.Result.{err_from_is_err_and}
 
-pub returns-in-Refused : goal.returns-in-Refused
-returns-in-Refused c =
-    sym (front_refuses _ _ (sym c.rows_into-front.ensures.verdict ∙ c.in-Refused.is))
+pub returns-in_err-rows_into : goal.returns-in_err-rows_into
+returns-in_err-rows_into c =
+    let p = err_from_is_err_and c.from_residual.result c.from_residual.ensures.1 in
+    rw (p.1, p.2)
+    (sym (front_refuses _ _ (sym c.rows_into.ensures.verdict ∙ c.in_err-rows_into.was)))
 
 pub search_flips-requires : goal.search_flips-requires
 search_flips-requires c =
-    let front = sym c.rows_into-front.ensures.verdict ∙ c.in_default.is in
-    (front_known c.args.choices _ front, front_lawful c.args.choices _ front, rows_held c.args.choices _ _ _ c.rows_into-front.ensures c.in_default.is)
+    let front = sym c.rows_into.ensures.verdict ∙ c.in_ok-rows_into.was in
+    (front_known c.args.choices _ front, front_lawful c.args.choices _ front, rows_held c.args.choices _ _ _ c.rows_into.ensures c.in_ok-rows_into.was)
 
 pub returns : goal.returns
 returns c =
-    c.search_flips.ensures ∙ sym (searched _ _ (sym c.rows_into-front.ensures.verdict ∙ c.in_default.is))
+    c.search_flips.ensures ∙ sym (searched _ _ (sym c.rows_into.ensures.verdict ∙ c.in_ok-rows_into.was))

@@ -1,6 +1,5 @@
 -- `nearest::search_flips` meets its contract: before each turn the first flip of the entries left is the first of all.
 use borrow.Author.Rules.{rules}
-use native.Mathlib.Omega.{arith}
 use mathlib.Core.Path.{sym, ◌∙◌}
 use Prim.Native.Nat.{ℕ, ◌<◌}
 use lib.ListN.{get_or}
@@ -8,7 +7,7 @@ use Rattle.pages.specs.Walk.{Inside}
 use Rattle.pages.specs.WalkLaws.{turn}
 use Rattle.collect.proofs.LawfulLaws.{lawful_counts}
 use Rattle.nearest.specs.Nearest.{chosen}
-use Rattle.nearest.specs.NearestSearchLaws.{searching_first, searching_last, position_fits, AtEntry}
+use Rattle.nearest.specs.NearestSearchLaws.{searching_first, searching_last, AtEntry}
 use Rattle.nearest.proofs.NearestSearchLaws.{entry_falls, entry_present, entry_seen, entry_not_kept, entry_none, entry_decides, no_unclean}
 use Rattle.nearest.proofs.search_flips.Goals as goal
 use Rattle.nearest.proofs.search_flips.Goals.{After-counted_place-place, In-loop-index, then-place-lt-PLACES+then-seen-place, then-place-lt-PLACES+else-seen-place+in_default, else-place-lt-PLACES}
@@ -27,14 +26,14 @@ take-read-requires c = record { lawful = lawful_counts _ c.requires.1; inside = 
 
 -- a turn at an entry, once its place is known
 at_entry : (c : After-counted_place-place)
-    → AtEntry (chosen c.args.secure_avic c.args.edition) c.args.pages.now c.loop-index.seen c.loop-index.index c.in-Entry.entry c.counted_place-place.result
+    → AtEntry (chosen c.args.secure_avic c.args.edition) c.args.pages.now c.loop-index.seen c.loop-index.index c.in-Ok.entry c.counted_place-place.result
 at_entry c =
     record {
       known = c.requires.0;
       lawful = c.requires.1;
       searching = c.loop-index.invariant;
       inside = rw c.page_count-n.ensures at c.loop-index-test.true;
-      read = sym c.in-Entry.is ∙ c.take-read.ensures;
+      read = sym c.in-Ok.is ∙ c.take-read.ensures;
       stored = c.counted_place-place.ensures;
     }
 
@@ -51,16 +50,12 @@ first_bit-bit-requires c =
     )
 
 -- an entry stands among the first 64
-pub overflow_cast-position : goal.overflow_cast-position
-overflow_cast-position c =
-    let a = at_entry (goal.at.overflow_cast-position c).After-counted_place-place in
-    record { fits = omega (arith, position_fits _ _ a.lawful a.searching.valid a.inside) }
 
-pub returns-in-Number : goal.returns-in-Number
-returns-in-Number c =
-    let p = (goal.at.returns-in-Number c).After-counted_place-place in
+pub returns-in-Some : goal.returns-in-Some
+returns-in-Some c =
+    let p = (goal.at.returns-in-Some c).After-counted_place-place in
     entry_decides (at_entry p) (bytes p) c.if-place-lt-PLACES.true c.if-seen-place.false c.requires.2
-    c.kept_leaves-kept.ensures c.mask_row-row.ensures.value c.first_bit-bit.ensures c.in-Number.is
+    c.kept_leaves-kept.ensures c.mask_row-row.ensures.value c.first_bit-bit.ensures c.in-Some.is
 
 -- what the three ways through a turn leave: a place that was seen, one that is seen now, or no place
 pub loop-index-preserved : goal.loop-index-preserved
@@ -75,19 +70,13 @@ loop-index-preserved c =
       | else-place-lt-PLACES w ↦ rw w.seen-is (entry_not_kept (at_entry p) (bytes p) w.if-place-lt-PLACES.false)
     ])
 
-pub returns-in-Unclean : goal.returns-in-Unclean
-returns-in-Unclean c =
-    absurd (no_unclean c.requires.1 c.loop-index.invariant (inside (goal.at.returns-in-Unclean c).In-loop-index).page
-    (sym c.in-Unclean.is ∙ c.take-read.ensures))
+pub returns-in-Err : goal.returns-in-Err
+returns-in-Err c =
+    absurd (no_unclean c.requires.1 c.loop-index.invariant (inside (goal.at.returns-in-Err c).In-loop-index).page
+    (sym c.in-Err.is ∙ c.take-read.ensures))
 
 pub returns : goal.returns
 returns c = searching_last _ _ _ _ c.loop-index.invariant (rw c.page_count-n.ensures at c.loop-index-test.false)
-
-pub count_of-count-requires : goal.count_of-count-requires
-count_of-count-requires c = (inside (goal.at.count_of-count-requires c).In-loop-index).page
-
-pub step-next-requires : goal.step-next-requires
-step-next-requires c = record { inside = inside (goal.at.step-next-requires c).In-loop-index; count = c.count_of-count.ensures }
 
 pub loop-index-smaller : goal.loop-index-smaller
 loop-index-smaller c = rw c.step-next.ensures (entry_falls (at_entry (goal.at.loop-index-smaller c).After-counted_place-place))

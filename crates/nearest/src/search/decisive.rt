@@ -16,22 +16,16 @@ use crate::search::irrelevant::{Unflipped, is_irrelevant, verdict_of};
 use crate::search::{same_result, same_verdict};
 use masking::PLACES;
 use masking::masks::KeptLeaf;
-use memory::{REGISTERS, lengths_known, put_row, row_at};
+use memory::{REGISTERS, put_row, row_at};
 use rows::checked::{Checked, checks_from_invlpgb};
 use rows::finish;
-use table::Verdict;
+use table::Refusal;
 use x86defs::CpuidResult;
 
 const BITS: u32 = 128;
 
-// The first of an entry's 128 result bits that decides, by number: 32 times the register, and the bit.
-#[derive(Clone, Copy)]
-pub enum Decisive {
-    Number(u32),
-    NoNumber,
-}
-
-// The first of an entry's bits that decides at its row; none is tried where no row there would change the answer. The rows are copied once, and each
+// The first of an entry's 128 result bits that decides at its row, by number: 32 times the register, and the bit. None is tried if no row there would
+// change the answer. The rows are copied once, and each
 // flip overwrites the row of the flip before.
 pub fn first_bit(
     registers: &[u32; REGISTERS],
@@ -41,28 +35,24 @@ pub fn first_bit(
     kept: KeptLeaf,
     place: usize,
     x: CpuidResult,
-) -> Decisive
+) -> Option<u32>
     requires { (place < places) × ((rows_in registers.now origins.now place).present ≡ true)
         × (found ≡ unflipped_in (rows_in registers.now origins.now)) }
     ensures { result ≡ first_bit edition (rows_in registers.now origins.now) kept place x }
 {
     if is_irrelevant(found, place) {
-        return Decisive::NoNumber;
+        return None;
     }
-    lengths_known(registers, origins);
     let checked = found.checked;
     let mut tried = *registers;
-    let mut n = 0;
-    while n < BITS {
+    for n in 0..BITS {
         let row = collect::masked_at(kept, place, flip_bit(x, n));
         put_row(&mut tried, place, row);
-        if keeps_answer(registers, origins, edition, checked, &tried, place) {
-            n += 1;
-        } else {
-            return Decisive::Number(n);
+        if !keeps_answer(registers, origins, edition, checked, &tried, place) {
+            return Some(n);
         }
     }
-    Decisive::NoNumber
+    None
 }
 
 // Whether other rows, which differ at one place at most, have the same answer. The row that was there changes nothing. Else the verdict decides, and
@@ -71,7 +61,7 @@ fn keeps_answer(
     registers: &[u32; REGISTERS],
     origins: &[u64; PLACES],
     edition: u32,
-    found: Checked,
+    found: Result<Checked, Refusal>,
     tried: &[u32; REGISTERS],
     place: usize,
 ) -> bool
@@ -85,22 +75,14 @@ fn keeps_answer(
     }
     let checked = checks_from_invlpgb(tried, origins);
     match checked {
-        Checked::Refused(r) => same_verdict(Verdict::Refused(r), verdict_of(found)),
-        Checked::Ready(mask, size, processors) => {
-            let Checked::Ready(mask_before, size_before, processors_before) = found else {
+        Err(r) => same_verdict(Err(r), verdict_of(found)),
+        Ok(checked) => {
+            let Ok(before) = found else {
                 return false;
             };
             same_result(
-                finished_row(tried, origins, edition, mask, size, processors, place),
-                finished_row(
-                    registers,
-                    origins,
-                    edition,
-                    mask_before,
-                    size_before,
-                    processors_before,
-                    place,
-                ),
+                finished_row(tried, origins, edition, checked, place),
+                finished_row(registers, origins, edition, before, place),
             )
         }
     }
@@ -111,24 +93,15 @@ fn finished_row(
     registers: &[u32; REGISTERS],
     origins: &[u64; PLACES],
     edition: u32,
-    mask: u64,
-    size: u32,
-    processors: u32,
+    checked: Checked,
     place: usize,
 ) -> CpuidResult
-    requires { (place < places) × (mask ≡ combined_mask (rows_in registers.now origins.now))
-        × Ready (rows_in registers.now origins.now) size processors }
+    requires { (place < places) × (checked.mask ≡ combined_mask (rows_in registers.now origins.now))
+        × Ready (rows_in registers.now origins.now) checked.size checked.processors }
     ensures { result ≡ (finished edition (rows_in registers.now origins.now) place).result }
 {
     let mut rows = *registers;
     let mut rows_origins = *origins;
-    finish(
-        &mut rows,
-        &mut rows_origins,
-        edition,
-        mask,
-        size,
-        processors,
-    );
+    finish(&mut rows, &mut rows_origins, edition, checked);
     row_at(&rows, place)
 }

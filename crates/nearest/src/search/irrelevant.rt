@@ -8,7 +8,7 @@ use checks::validate_invlpgb;
 use masking::{PLACES, place};
 use memory::{REGISTERS, combined_mask, row_at};
 use rows::checked::{Checked, check_rows, validate_required};
-use table::Verdict;
+use table::{Refusal, Verdict};
 
 // What the checks find in the rows of a page set before any flip, once for all its entries: whether a required leaf is missing, whether INVLPGB is
 // clear, the combined mask, and what all checks answer.
@@ -17,7 +17,7 @@ pub struct Unflipped {
     pub missing: bool,
     pub clear: bool,
     pub mask: u64,
-    pub checked: Checked,
+    pub checked: Result<Checked, Refusal>,
 }
 
 pub fn check_unflipped(registers: &[u32; REGISTERS], origins: &[u64; PLACES]) -> Unflipped
@@ -35,10 +35,7 @@ pub fn check_unflipped(registers: &[u32; REGISTERS], origins: &[u64; PLACES]) ->
 fn is_refused(verdict: Verdict) -> bool
     ensures { result ≡ refuses verdict }
 {
-    match verdict {
-        Verdict::Accepted => false,
-        Verdict::Refused(_r) => true,
-    }
+    verdict.is_err()
 }
 
 // Whether no row at a place would change the answer to the rows.
@@ -56,13 +53,11 @@ pub fn is_irrelevant(found: Unflipped, place: usize) -> bool
 }
 
 // The verdict of the checks.
-pub fn verdict_of(checked: Checked) -> Verdict
+pub fn verdict_of(checked: Result<Checked, Refusal>) -> Verdict
     ensures { result ≡ verdict_of checked }
 {
-    match checked {
-        Checked::Ready(_mask, _size, _processors) => Verdict::Accepted,
-        Checked::Refused(r) => Verdict::Refused(r),
-    }
+    checked?;
+    Ok(())
 }
 
 // The same once the required leaves are there and INVLPGB is set: D subleaves that the combined mask lacks, B.0 and B.1, and of a refused set each

@@ -1,12 +1,12 @@
--- `pages::bad_length` meets its contract: each return is one of the two cases of `bad_length`.
-use borrow.Author.Tests.{eq-eqb, ne_eqb}
+-- `pages::bad_length` meets its contract: each branch is one of the two cases of `bad_length`.
+use Rattle.std.proofs.Common.{sym, ◌∙◌}
 use Rattle.pages.specs.Layout.{bad_length}
 use Rattle.pages.proofs.bad_length.Goals as goal
 
-pub returns-then-pages-eq0 : goal.returns-then-pages-eq0
+pub returns-then-is_empty : goal.returns-then-is_empty
 unfolding bad_length
-returns-then-pages-eq0 c = rw (eq-eqb _ 0 c.if-pages-eq0.true)
+returns-then-is_empty c = rw (c.if-is_empty.true, sym c.is_empty.ensures ∙ c.if-is_empty.true)
 
-pub returns : goal.returns
+pub returns-else-is_empty : goal.returns-else-is_empty
 unfolding bad_length
-returns c = rw (ne_eqb _ 0 c.if-pages-eq0.false)
+returns-else-is_empty c = rw (sym c.is_empty.ensures ∙ c.if-is_empty.false)

@@ -68,6 +68,7 @@ fn skip_empty(pages: &[u8], page: usize) -> CpuidPageIndex
 {
     let end = PAGE_SIZE * page_count(pages);
     let mut at = page;
+    // kept as a while: tried as a range over page numbers and misses the bar of speed, 49 instructions more for the shipped set
     while PAGE_SIZE * at < end {
         if count_of(pages, at) != 0 {
             return CpuidPageIndex {

@@ -1,12 +1,8 @@
 -- `pool::pool_into` meets its contract: the servers of lawful sets, or 18.
-use borrow.Author.Rules.{rules}
 use mathlib.Core.Path.{sym, ◌∙◌}
 use Rattle.pool.specs.PoolIn.{pool_in}
 use Rattle.pool.proofs.PooledLaws.{pooled_sets}
 use Rattle.pool.proofs.pool_into.Goals as goal
-
-pub pool_servers-requires : goal.pool_servers-requires
-pool_servers-requires c = sym c.sets_fit.ensures ∙ c.if-sets_fit.true
 
 pub returns : goal.returns
 returns c =

@@ -1,8 +1,6 @@
 -- `pool::pool_servers` meets its contract: one return a case of the answer.
-use borrow.Author.Rules.{rules}
 use mathlib.Core.Path.{◌≡◌}
 use native.Mathlib.Omega.{arith}
-use Rattle.table.specs.declared.Verdict.{Verdict}
 use Rattle.pool.specs.SetsLaws.{start_first}
 use Rattle.pool.proofs.SetsLaws.{first_set, at_least_two, set_ends}
 use Rattle.pool.specs.Servers.{server_verdict}
@@ -11,6 +9,7 @@ use Rattle.pool.specs.PoolIn.{pool_in}
 use Rattle.pool.proofs.PooledLaws.{pooled_first, pooled_server, pooled_differs, pooled_accepted}
 use Rattle.pool.proofs.pool_servers.Goals as goal
 use Rattle.pool.proofs.pool_servers.Goals.{After-server_into-first}
+use Rattle.table.specs.Verdict.{Verdict}
 
 pub bounds-lengths-0 : goal.bounds-lengths-0
 bounds-lengths-0 c = omega (arith, at_least_two c.args.pages.now c.args.lengths.now c.requires)
@@ -25,9 +24,9 @@ first-verdict : (r : After-server_into-first) {v : Verdict} → r.server_into-fi
 first-verdict r e =
     part_verdict r.args.choices r.args.pages.now r.args.lengths.now 0 (first_set r.args.pages.now r.args.lengths.now) r.server_into-first.ensures e
 
-pub returns-in-Refused : goal.returns-in-Refused
-returns-in-Refused c =
-    pool_in (pooled_first c.args.choices c.args.pages.now c.args.lengths.now c.requires (first-verdict (goal.at.returns-in-Refused c).After-server_into-first c.in-Refused.is)) c.refuse.ensures
+pub returns-in-Err : goal.returns-in-Err
+returns-in-Err c =
+    pool_in (pooled_first c.args.choices c.args.pages.now c.args.lengths.now c.requires (first-verdict (goal.at.returns-in-Err c).After-server_into-first c.in-Err.is)) c.refuse.ensures
 
 pub join_rest-joined-requires : goal.join_rest-joined-requires
 join_rest-joined-requires c = (
@@ -37,11 +36,11 @@ join_rest-joined-requires c = (
       c.in_default.is,
 )
 
-pub returns-in-Refused-verdict : goal.returns-in-Refused-verdict
-returns-in-Refused-verdict c =
+pub returns-in-Err-verdict : goal.returns-in-Err-verdict
+returns-in-Err-verdict c =
     pool_in
-    (pooled_server c.args.choices c.args.pages.now c.args.lengths.now c.requires c.join_rest-joined.ensures c.in-Refused-verdict.is)
-    c.refuse-in-Refused-verdict.ensures
+    (pooled_server c.args.choices c.args.pages.now c.args.lengths.now c.requires c.join_rest-joined.ensures c.in-Err-verdict.is)
+    c.refuse-in-Err-verdict.ensures
 
 pub returns-then-all_alike : goal.returns-then-all_alike
 returns-then-all_alike c =

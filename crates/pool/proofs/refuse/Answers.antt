@@ -1,5 +1,4 @@
 -- `pool::refuse` meets its contract: cleared memory is the refused pool's.
-use borrow.Author.Rules.{rules}
 use Rattle.pool.specs.PoolIn.{refused_in}
 use Rattle.pool.proofs.refuse.Goals as goal
 

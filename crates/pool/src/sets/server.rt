@@ -18,14 +18,11 @@ pub fn server_into(
     ensures { ServerIn choices pages.now result registers.new origins.new }
 {
     clear(registers, origins);
-    let front = rows_into(pages, choices, registers, origins);
-    if let Verdict::Refused(r) = front {
-        return Verdict::Refused(r);
-    }
+    rows_into(pages, choices, registers, origins)?;
     let checked = check_rows(registers, origins);
-    if let Checked::Refused(r) = checked {
+    if let Err(r) = checked {
         clear(registers, origins);
-        return Verdict::Refused(r);
+        return Err(r);
     }
-    Verdict::Accepted
+    Ok(())
 }

@@ -2,7 +2,6 @@
 use mathlib.Core.Path.{sym, ap}
 use Rattle.buffer.specs.Front.{AfterWrite}
 use Rattle.buffer.specs.FrontLaws.{front_short, front_whole}
-use borrow.Author.Rules.{rules}
 use Rattle.program.proofs.put_too_long.Goals as goal
 
 pub returns-then-out-lt1 : goal.returns-then-out-lt1

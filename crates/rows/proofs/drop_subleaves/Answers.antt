@@ -1,13 +1,12 @@
 -- `drop_subleaves` meets its contract: a turn takes the lowest subleaf that is left of the mask, and drops what stands before it where it stays.
 use borrow.Author.Rules.{rules}
 use mathlib.Core.Path.{◌≡◌, refl, ◌∙◌}
-use mathlib.Core.Logic.{inl, inr}
 use Prim.Native.Nat.{◌<◌}
 use native.Mathlib.Omega.{arith}
 use lib.Count.{count_trailing_zeros}
 use lib.ListN.{length}
-use Rattle.checks.specs.LowestLaws.{left_starts, left_falls}
-use Rattle.rows.specs.DropLaws.{Running, running_starts, taken, running_from, running_stays, running_goes, running_ends, dropping_ends}
+use Rattle.checks.specs.LowestLaws.{left_starts}
+use Rattle.rows.specs.DropLaws.{running_starts, taken, running_from, running_stays, running_goes, running_ends, dropping_ends}
 use Rattle.rows.proofs.drop_subleaves.Goals as goal
 use Rattle.rows.proofs.drop_subleaves.Goals.{At-loop-rest, In-loop-rest, then-is_there, else-is_there}
 
@@ -37,32 +36,7 @@ loop-rest-preserved c =
           rw (w.k-is, w.registers-is, w.origins-is) (running_goes _ _ _ d o n c.is_there.ensures w.if-is_there.false)
     ]
 
-pub drop_run-requires-2 : goal.drop_run-requires-2
-drop_run-requires-2 c =
-    let d = c.loop-rest.invariant in (omega (arith, d.upto, d.high), omega arith, size (goal.at.drop_run-requires-2 c).At-loop-rest)
-
 pub returns : goal.returns
 returns c =
     let o = c.requires.1 in
     dropping_ends _ _ _ 64 refl o (running_ends _ _ _ c.loop-rest.invariant o c.loop-rest-test.false c.drop_run-2.ensures.0 c.drop_run-2.ensures.1)
-
-pub overflow_cast-subleaf : goal.overflow_cast-subleaf
-overflow_cast-subleaf c = omega (arith, inside (goal.at.overflow_cast-subleaf c).In-loop-rest)
-
-pub overflow_add-origin : goal.overflow_add-origin
-overflow_add-origin c = omega (arith, inside (goal.at.overflow_add-origin c).In-loop-rest)
-
-pub offset_bounds-origins-subleaf : goal.offset_bounds-origins-subleaf
-offset_bounds-origins-subleaf c = omega (arith, inside (goal.at.offset_bounds-origins-subleaf c).In-loop-rest)
-
-pub bounds-origins-subleaf : goal.bounds-origins-subleaf
-bounds-origins-subleaf c = omega (arith, inside (goal.at.bounds-origins-subleaf c).In-loop-rest)
-
-pub overflow_add-k : goal.overflow_add-k
-overflow_add-k c = omega (arith, inside (goal.at.overflow_add-k c).In-loop-rest)
-
-pub overflow_sub-rest : goal.overflow_sub-rest
-overflow_sub-rest c = omega (arith, c.loop-rest-test.true)
-
-pub loop-rest-smaller : goal.loop-rest-smaller
-loop-rest-smaller c = left_falls _ c.loop-rest-test.true

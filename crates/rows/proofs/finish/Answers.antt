@@ -1,5 +1,4 @@
 -- `finish` meets its contract: its stores are those of the definition's rows, one by one.
-use borrow.Author.Rules.{rules}
 use native.Mathlib.Omega.{arith}
 use mathlib.Core.Path.{refl, ap, ◌∙◌}
 use Rattle.x86defs.specs.declared.CpuidResult.{CpuidResult}
@@ -22,14 +21,11 @@ use Rattle.memory.specs.MemoryLaws.{put_rowed}
 use Rattle.rows.specs.FinishedLaws.{dropped_rowed, dropped_read, finished_memory}
 use Rattle.rows.proofs.finish.Goals as goal
 
-pub drop_subleaves-requires : goal.drop_subleaves-requires
-drop_subleaves-requires c = c.lengths_known.ensures
-
 pub returns : goal.returns
 unfolding AmdMaximum ExtendedAmdMaximum inputs_of
 returns c =
     let w = c.args.registers.now in let o = c.args.origins.now in
-    let s = settings_with (clears_with c.of-y.result) (enabled_with c.new-e.result) c.args.size (inputs_of (rows_in w o)).t c.args.processors in
+    let s = settings_with (clears_with c.of-y.result) (enabled_with c.new-e.result) c.args.checked.size (inputs_of (rows_in w o)).t c.args.checked.processors in
     let d₀ = c.row_at-subleaf0.result in
     let dropped = c.drop_subleaves.ensures in
     let d₀-was = dropped_read dropped (Place.extended_state 0) refl refl c.row_at-subleaf0.ensures in
@@ -44,14 +40,14 @@ returns c =
     (put_rowed Place.extended_version_and_features c.extended_version_and_features.result (omega arith) c.put_row-9.ensures
     (put_rowed Place.extended_max_function c.vendor_and_max_function-2.result (omega arith) c.put_row-8.ensures
     (put_rowed (Place.extended_state 1) c.extended_state_1.result (omega arith) c.put_row-7.ensures
-    (put_rowed (Place.extended_state 0) (cpuid_result d₀.eax d₀.ebx c.args.size d₀.edx) (omega arith) c.put_row-6.ensures
+    (put_rowed (Place.extended_state 0) (cpuid_result d₀.eax d₀.ebx c.args.checked.size d₀.edx) (omega arith) c.put_row-6.ensures
     (put_rowed Place.core_level c.core_level.result (omega arith) c.put_row-5.ensures
     (put_rowed Place.thread_level c.thread_level.result (omega arith) c.put_row-4.ensures
     (put_rowed Place.extended_features c.extended_features.result (omega arith) c.put_row-3.ensures
     (put_rowed Place.version_and_features c.version_and_features.result (omega arith) c.put_row-2.ensures
     (put_rowed Place.vendor_and_max_function c.vendor_and_max_function.result (omega arith) c.put_row.ensures
     (dropped_rowed dropped)))))))))))
-    (stores s (row_of w) (tabulate places (kept_row w o c.args.mask))
+    (stores s (row_of w) (tabulate places (kept_row w o c.args.checked.mask))
     c.vendor_and_max_function.ensures
     (c.version_and_features.ensures ∙ ap (change_row s Needed.version_and_features) (dropped_read dropped Place.version_and_features refl refl c.row_at-version.ensures))
     (c.extended_features.ensures ∙ ap (change_row s Needed.extended_features) (dropped_read dropped Place.extended_features refl refl c.row_at-features.ensures))

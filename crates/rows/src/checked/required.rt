@@ -41,26 +41,21 @@ const REQUIRED_PLACES: [u8; 24] = [
 // The refusal of a table without a row at a place.
 fn missing_at(place: usize) -> Verdict
     requires { place < places }
-    ensures { result ≡ Verdict.Refused (missing_at place) }
+    ensures { result ≡ Err (missing_at place) }
 {
     let subleaf = subleaf_of(masking::indexed_at(place), masking::subleaf_at(place));
-    Verdict::Refused(Refusal::MissingRequiredResult(masking::leaf_at(place), subleaf))
+    Err(Refusal::MissingRequiredResult(masking::leaf_at(place), subleaf))
 }
 
 // The first required leaf, in list order, that has no row.
 pub fn validate_required(origins: &[u64; PLACES]) -> Verdict
     ensures { result ≡ required_verdict (present_in origins.now) }
 {
-    let required = REQUIRED_PLACES;
-    let mut j: usize = 0;
-    while j < 24 {
-        let place = required[j] as usize;
-        let origin = origins[place];
-        if is_there(origin) {
-            j += 1;
-        } else {
+    for required in REQUIRED_PLACES {
+        let place = required as usize;
+        if !is_there(origins[place]) {
             return missing_at(place);
         }
     }
-    Verdict::Accepted
+    Ok(())
 }

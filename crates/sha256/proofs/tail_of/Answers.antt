@@ -1,26 +1,16 @@
--- `sha256::tail_of` meets its contract: the rest is copied, then the mark, then the length at the end of the first block or the second. The loop's
--- invariant: the bytes passed stand in front of zeros.
-use Rattle.std.proofs.Common.{◌≡◌, ◌+◌, ◌-◌, ◌≤◌, ◌++◌, length, take, replicate, refl, ◌∙◌, arith, rules}
-use Rattle.sha256.specs.Sha256Laws.{copy_next, tail_padded}
+-- `sha256::tail_of` meets its contract: the rest is copied, then the mark, then the length at the end of the first block or the second.
+use Rattle.std.proofs.Common.{◌≡◌, ◌+◌, ◌-◌, ◌%◌, length, ◌∙◌, arith}
+use Rattle.sha256.specs.Sha256Laws.{tail_padded}
 use Rattle.sha256.proofs.tail_of.Goals as goal
+use Rattle.sha256.proofs.tail_of.Goals.{then-used-lt56, else-used-lt56}
 
-pub loop-i-init : goal.loop-i-init
-loop-i-init c = (omega arith, refl)
-
-pub loop-i-preserved : goal.loop-i-preserved
-loop-i-preserved c =
-    let l = c.loop-i in
-    let a = c.args in
-    (omega arith, rw l.invariant.1 (copy_next a.rest.now l.i (omega arith) (omega arith)))
-
-pub returns-then-i-lt56 : goal.returns-then-i-lt56
-returns-then-i-lt56 c =
-    let l = c.loop-i in
-    c.with_length.ensures
-    ∙ rw l.invariant.1 (tail_padded c.args.rest.now c.args.n l.i 56 c.requires (omega arith) (omega arith) (omega arith) (omega arith))
-
-pub returns-else-i-lt56 : goal.returns-else-i-lt56
-returns-else-i-lt56 c =
-    let l = c.loop-i in
-    c.with_length-else-i-lt56.ensures
-    ∙ rw l.invariant.1 (tail_padded c.args.rest.now c.args.n l.i 120 c.requires (omega arith) (omega arith) (omega arith) (omega arith))
+pub returns : goal.returns
+returns c =
+    let rest = c.args.rest.now in
+    let n = c.args.n in
+    let at = c.if-used-lt56.at in
+    let place : at ≡ length rest + 1 + (119 - n % 64) % 64 =
+    elim c.if-used-lt56.branch [ then-used-lt56 w ↦ omega arith | else-used-lt56 w ↦ omega arith ]
+    in
+    let stored = c.copy_from_slice-2.ensures.after ∙ c.length_field.ensures in
+    rw c.copy_from_slice.ensures.after (tail_padded rest _ n at (at + 8 - at) c.requires place (omega arith) (omega arith) stored)

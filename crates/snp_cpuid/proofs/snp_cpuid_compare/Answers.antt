@@ -6,4 +6,4 @@ use Rattle.snp_cpuid.proofs.snp_cpuid_compare.Goals as goal
 
 pub returns : goal.returns
 returns c =
-    c.compared_numbers.ensures ∙ ap compared_numbers c.compare.ensures.value
+    c.from.ensures ∙ ap compared_numbers c.compare.ensures.value

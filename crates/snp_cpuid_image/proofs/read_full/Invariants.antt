@@ -1,9 +1,9 @@
--- `read_full` fills the buffer from its start: the buffer keeps its length, and the next byte's place is within it. The measure is the room left.
-use Rattle.std.proofs.Common.{◌≡◌, length, ◌-◌, ◌≤◌}
+-- `read_full` fills the buffer from its start: the next byte's place is within it. The measure is the room left.
+use Rattle.std.proofs.Common.{length, ◌-◌, ◌≤◌}
 use Rattle.snp_cpuid_image.proofs.read_full.Given as goal
 
 abbrev pub invariant-loop-done : goal.invariant-loop-done
-invariant-loop-done g l = (length l.buf ≡ length l.initial.buf) × (l.done ≤ length l.buf)
+invariant-loop-done g l = l.done ≤ length l.buf
 
 abbrev pub decreases-loop-done : goal.decreases-loop-done
 decreases-loop-done g l = length l.initial.buf - l.done

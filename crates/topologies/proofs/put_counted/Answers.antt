@@ -1,6 +1,5 @@
 -- `topologies::put_counted` meets its contract: one input, and a second one where v is above 1.
 use native.Mathlib.Omega.{arith}
-use borrow.Author.Rules.{rules}
 use Rattle.topologies.specs.ShortLaws.{counted_two, counted_one}
 use Rattle.topologies.specs.CountLaws.{single_length, two_length, some_length}
 use Rattle.topologies.specs.TopologyWriteLaws.{wrote_as, wrote_join}

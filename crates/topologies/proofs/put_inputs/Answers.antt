@@ -1,22 +1,12 @@
 -- `topologies::put_inputs` meets its contract: one law a return.
 use mathlib.Core.Path.{ap}
 use native.Mathlib.Omega.{arith}
-use borrow.Author.Rules.{rules}
 use lib.ListN.{length}
 use lib.Pow.{pow_mono}
 use Rattle.topology.specs.TopologyLaws.{one_shifted}
-use Rattle.topologies.specs.ShortLaws.{zero_size, at_sized, at_beyond}
+use Rattle.topologies.specs.ShortLaws.{at_sized, at_beyond}
 use Rattle.topologies.specs.TopologyWriteLaws.{wrote_none, wrote_as}
 use Rattle.topologies.proofs.put_inputs.Goals as goal
-
-pub put_legacy-requires : goal.put_legacy-requires
-put_legacy-requires c =
-    (c.requires.1, omega (arith, ap length (zero_size c.args.s c.args.nc c.if-s-eq0.true)))
-
-pub returns-then-s-eq0 : goal.returns-then-s-eq0
-returns-then-s-eq0 c =
-    let a = c.args in
-    wrote_as (zero_size a.s a.nc c.if-s-eq0.true) c.put_legacy.ensures
 
 pub put_counted-requires : goal.put_counted-requires
 put_counted-requires c =

@@ -1,7 +1,6 @@
 -- `topologies::put_legacy` meets its contract: one law a return.
 use mathlib.Core.Path.{ap}
 use native.Mathlib.Omega.{arith}
-use borrow.Author.Rules.{rules}
 use lib.ListN.{length}
 use Rattle.topologies.specs.ShortLaws.{zero_as, at_legacy, at_last}
 use Rattle.topologies.specs.CountLaws.{single_length, zero_length}

@@ -1,5 +1,4 @@
 -- `extended_state::max_xss` meets its contract: the two tests are those of the definition.
-use borrow.Author.Rules.{rules}
 use Rattle.checks.proofs.extended_state.max_xss.Goals as goal
 
 pub returns-then-xsave_c-xsave_s : goal.returns-then-xsave_c-xsave_s

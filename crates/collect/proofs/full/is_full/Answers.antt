@@ -1,5 +1,4 @@
 -- `collect::full::is_full` meets its contract: by the places of leaves Bh and 8000001Dh, and for any other leaf by its one place.
-use borrow.Author.Rules.{rules}
 use mathlib.Core.Path.{refl}
 use mathlib.Core.Bool.{false≢true}
 use Rattle.masking.specs.Kept.{kept_leaves, slot}
@@ -20,9 +19,6 @@ returns-in-11 c = record { full = λ e k h. run_full _ _ 0xB 4 2 c.in-11.is refl
 
 pub returns-in-13 : goal.returns-in-13
 returns-in-13 c = record { full = λ e. absurd (false≢true e) }
-
-pub returns-else-two_rows : goal.returns-else-two_rows
-returns-else-two_rows c = record { full = λ e. absurd (false≢true e) }
 
 pub returns-in_default : goal.returns-in_default
 returns-in_default c = record { full = λ e k h. let n = c.in_default.in_default-own.rest in one_place_full _ _ k n.0.0.1 n.0.1 n.1 h }

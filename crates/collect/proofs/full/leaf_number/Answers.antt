@@ -1,5 +1,4 @@
 -- `collect::full::leaf_number` meets its contract, by the laws of a leaf's number.
-use borrow.Author.Rules.{rules}
 use Rattle.collect.specs.FullLaws.{number_lt, number_32}
 use Rattle.collect.proofs.full.leaf_number.Goals as goal
 

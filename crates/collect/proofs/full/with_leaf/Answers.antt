@@ -1,11 +1,6 @@
 -- `collect::full::with_leaf` meets its contract: a leaf that is full comes with its bit, by the law `leaves_with`.
-use borrow.Author.Rules.{rules}
-use Rattle.collect.specs.FullLaws.{number_lt, number_64}
 use Rattle.collect.proofs.FullLaws.{number_bit, leaves_with}
 use Rattle.collect.proofs.full.with_leaf.Goals as goal
-
-pub overflow_shl-result : goal.overflow_shl-result
-overflow_shl-result c = rw (number_64 c.args.leaf) (number_lt c.args.leaf)
 
 pub returns-then-is_full : goal.returns-then-is_full
 returns-then-is_full c =

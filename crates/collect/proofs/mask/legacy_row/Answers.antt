@@ -1,5 +1,4 @@
 -- `collect::mask::legacy_row` meets its contract: with a row and without.
-use borrow.Author.Rules.{rules}
 use Rattle.bits.specs.Bits.{mask_of}
 use Rattle.collect.specs.FirstEntries.{legacy_features}
 use Rattle.collect.proofs.mask.legacy_row.Goals as goal
@@ -7,6 +6,3 @@ use Rattle.collect.proofs.mask.legacy_row.Goals as goal
 pub returns-then-there : goal.returns-then-there
 unfolding legacy_features mask_of
 returns-then-there c = rw c.if-there.true
-
-pub returns : goal.returns
-returns c = rw c.if-there.false

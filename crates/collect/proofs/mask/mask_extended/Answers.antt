@@ -1,7 +1,6 @@
 -- `collect::mask::mask_extended` meets its contract: one place after the other.
 use mathlib.Core.Path.{refl}
 use lib.Dec.{lit<}
-use borrow.Author.Rules.{rules}
 use Rattle.masking.specs.Kept.{kept_leaves}
 use Rattle.masking.specs.MaskTable.{row_of_place}
 use Rattle.collect.proofs.MaskLaws.{masked_none, masked_next}

@@ -1,5 +1,4 @@
 -- `compare::tables::compare_tables` meets its contract: the rows in memory are those of the tables.
-use borrow.Author.Rules.{rules}
 use Rattle.compare.proofs.RowsComparedLaws.{held_compared}
 use Rattle.compare.proofs.TablesDecideProof.{decided}
 use Rattle.compare.proofs.tables.compare_tables.Goals as goal

@@ -1,5 +1,4 @@
 -- `finish::features::extended_features` meets its contract: the code's masks are the definition's figures.
-use borrow.Author.Rules.{rules}
 use Rattle.bits.specs.Bits.{mask_of}
 use Rattle.finish.specs.Finish.{features_ebx, features_ecx, features_edx, avx512_features_ebx, avx512_features_ecx, avx512_features_edx, cet_ss, rd_pid}
 use Rattle.finish.proofs.features.extended_features.Goals as goal

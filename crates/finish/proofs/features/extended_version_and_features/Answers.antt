@@ -1,5 +1,4 @@
 -- `finish::features::extended_version_and_features` meets its contract: the code's masks are the definition's figures.
-use borrow.Author.Rules.{rules}
 use Rattle.bits.specs.Bits.{mask_of}
 use Rattle.finish.specs.Finish.{extended_version_ecx, extended_version_edx, rdtscp}
 use Rattle.finish.proofs.features.extended_version_and_features.Goals as goal

@@ -1,5 +1,4 @@
 -- `finish::features::version_and_features` meets its contract: the code's masks are the definition's figures.
-use borrow.Author.Rules.{rules}
 use Rattle.bits.specs.Bits.{mask_of}
 use Rattle.finish.specs.Finish.{version_ecx, hypervisor_present}
 use Rattle.finish.proofs.features.version_and_features.Goals as goal

@@ -1,11 +1,5 @@
 -- `image::write::put_components` meets its contract: a turn writes the row of the lowest component that is left.
-use borrow.Author.Rules.{rules}
-use Prim.Native.Nat.{◌+◌, ◌≤◌, ◌<◌}
-use native.Mathlib.Omega.{arith}
-use lib.Count.{count_trailing_zeros}
-use lib.ListN.{length}
-use Rattle.checks.specs.LowestLaws.{left_starts, left_falls}
-use Rattle.image.specs.PutLaws.{Putting, putting_starts, putting_taken, putting_room, putting_next, putting_ends}
+use Rattle.image.specs.PutLaws.{Putting}
 use Rattle.image.proofs.write.put_components.Given as goal
 
 abbrev pub invariant-loop-rest : goal.invariant-loop-rest

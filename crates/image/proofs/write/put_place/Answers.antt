@@ -2,7 +2,6 @@
 use mathlib.Core.Path.{ap}
 use Prim.Native.Nat.{◌+◌}
 use native.Mathlib.Omega.{arith}
-use borrow.Author.Rules.{rules}
 use lib.ListN.{length}
 use Rattle.x86defs.specs.Functions.{function}
 use Rattle.image.specs.PiecesLaws.{run_indexed, run_whole, run_absent, indexed_length, whole_length}

@@ -141,6 +141,3 @@ pub returns : goal.returns
 returns c =
     let t = held (start11 (goal.at.returns c).After-put_run) in
     onward_all (rows_from t) _ _ _ _ _ _ (rows_none t) (reached11 (goal.at.returns c).After-put_run) ∙ ap (sets _ 0) (rows_all t)
-
-pub shape_of-out : goal.shape_of-out
-shape_of-out c = (reached11 (goal.at.shape_of-out c).After-put_run).kept

@@ -1,24 +1,15 @@
 -- `image::write::put_run` meets its contract. The invariant: writing went on from the run's first place to its k-th.
 use mathlib.Core.Path.{◌≡◌}
 use mathlib.Core.List.{List, ◌++◌}
-use Prim.Native.Nat.{ℕ, ◌+◌, ◌-◌, ◌≤◌}
+use Prim.Native.Nat.{ℕ, ◌+◌}
 use native.Mathlib.Omega.{arith}
-use borrow.Author.Rules.{rules}
 use Rattle.masking.specs.RunLaws.{run_end, run_leaf_lem}
 use Rattle.memory.specs.Held.{held_in}
-use Rattle.buffer.specs.OnwardLaws.{Onward, onward_none, onward_join, piece_room, onward_piece}
+use Rattle.buffer.specs.OnwardLaws.{onward_join, piece_room, onward_piece}
 use Rattle.image.specs.ImagePieces.{rows_from, run_row}
 use Rattle.image.specs.PutLaws.{run_more}
 use Rattle.image.proofs.write.put_run.Goals as goal
 use Rattle.image.proofs.write.put_run.Goals.{After-is_there}
-
-pub loop-k-init : goal.loop-k-init
-loop-k-init c =
-    let first : c.args.run.first + 0 ≡ c.args.run.first = omega arith in
-    (omega arith, rw first (onward_none _ _ _ _))
-
-pub overflow_cast-place : goal.overflow_cast-place
-overflow_cast-place c = record { fits = omega (arith, run_end _ c.requires.0) }
 
 pub overflow_add-place : goal.overflow_add-place
 overflow_add-place c = record { fits = omega (arith, run_end _ c.requires.0) }
@@ -51,8 +42,8 @@ put_place-at-requires c = (
   omega (
     arith,
     piece_room (left (goal.at.put_place-at-requires c).After-is_there) (row (goal.at.put_place-at-requires c).After-is_there) (c.args.run.first + c.loop-k.k) (written (goal.at.put_place-at-requires c).After-is_there),
-    c.loop-k.invariant.1.room,
-    c.loop-k.invariant.1.kept,
+    c.loop-k.invariant.room,
+    c.loop-k.invariant.kept,
     c.requires.1,
   ),
 )
@@ -62,12 +53,4 @@ loop-k-preserved c =
     let i : ℕ = c.args.run.first + c.loop-k.k in
     let next : c.args.run.first + (c.loop-k.k + 1) ≡ i + 1 = omega arith in
     let further = onward_piece (left (goal.at.loop-k-preserved c).After-is_there) (row (goal.at.loop-k-preserved c).After-is_there) i (written (goal.at.loop-k-preserved c).After-is_there) c.loop-k.out c.put_place-at.new.out c.loop-k.at c.put_place-at.ensures.1 in
-    (omega arith, rw next (onward_join _ c.loop-k.invariant.1 (rw c.put_place-at.ensures.0 further)))
-
-pub shape_of-out : goal.shape_of-out
-shape_of-out c = c.loop-k.invariant.1.kept
-
-pub returns : goal.returns
-returns c =
-    let all : c.loop-k.k ≡ c.args.run.count = omega arith in
-    rw (← all) c.loop-k.invariant.1
+    rw next (onward_join _ c.loop-k.invariant (rw c.put_place-at.ensures.0 further))

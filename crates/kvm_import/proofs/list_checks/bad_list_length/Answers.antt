@@ -4,7 +4,6 @@ use native.Mathlib.Omega.{arith}
 use lib.ListN.{length}
 use borrow.Author.Tests.{lt-ltb, le-ltb}
 use Rattle.kvm_import.specs.ListChecks.{bad_list_length}
-use borrow.Author.Rules.{rules}
 use Rattle.kvm_import.proofs.list_checks.bad_list_length.Goals as goal
 
 pub returns-then-list-lt-HEAD_SIZE : goal.returns-then-list-lt-HEAD_SIZE

@@ -1,6 +1,5 @@
 -- `kvm_import::list_checks::is_extended_state` meets its contract: the row's first word against leaf Dh.
 use Rattle.kvm_import.specs.ListRowLaws.{row_page}
-use borrow.Author.Rules.{rules}
 use Rattle.kvm_import.proofs.list_checks.is_extended_state.Goals as goal
 
 pub returns : goal.returns

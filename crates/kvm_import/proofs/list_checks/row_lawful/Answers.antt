@@ -1,6 +1,5 @@
 -- `kvm_import::list_checks::row_lawful` meets its contract: the flag and the three padding words, in order.
 use Rattle.kvm_import.specs.ListRowLaws.{lawful_1, lawful_2, lawful_3, lawful_4}
-use borrow.Author.Rules.{rules}
 use Rattle.kvm_import.proofs.list_checks.row_lawful.Goals as goal
 
 pub returns-then-word_at-gt1 : goal.returns-then-word_at-gt1

@@ -1,6 +1,5 @@
 -- `kvm_import::list_pages::put_count` meets its contract: the count, then twelve zeros.
 use Rattle.kvm_import.specs.PagesLaws.{count_done}
-use borrow.Author.Rules.{rules}
 use Rattle.kvm_import.proofs.list_pages.put_count.Goals as goal
 
 pub returns : goal.returns

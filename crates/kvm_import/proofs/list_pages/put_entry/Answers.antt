@@ -1,6 +1,5 @@
 -- `kvm_import::list_pages::put_entry` meets its contract: five stores, each after the one before.
 use Rattle.kvm_import.proofs.ListEntriesLaws.{entry_done}
-use borrow.Author.Rules.{rules}
 use Rattle.kvm_import.proofs.list_pages.put_entry.Goals as goal
 
 pub returns : goal.returns

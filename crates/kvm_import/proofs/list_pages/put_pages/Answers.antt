@@ -1,7 +1,6 @@
 -- `kvm_import::list_pages::put_pages` meets its contract: the stores on page 0 and those on page 1, each page's one after another.
 use native.Mathlib.Omega.{arith}
 use Rattle.kvm_import.proofs.PagesLaws.{pages_done}
-use borrow.Author.Rules.{rules}
 use Rattle.kvm_import.proofs.list_pages.put_pages.Goals as goal
 
 pub returns : goal.returns

@@ -1,6 +1,5 @@
 -- `lines::digits::put_decimal` meets its contract: as many digits as the number has.
 use native.Mathlib.Omega.{arith}
-use borrow.Author.Rules.{rules}
 use Rattle.lines.specs.Digits.{width}
 use Rattle.lines.specs.DigitsLaws.{length_digits}
 use Rattle.lines.proofs.digits.put_decimal.Goals as goal

@@ -1,5 +1,4 @@
 -- `guess::guess_details` meets its contract: one field after another, each where the number names it.
-use borrow.Author.Rules.{rules}
 use Rattle.lines.specs.ReadLine.{guess}
 use Rattle.lines.proofs.guess.guess_details.Goals as goal
 

@@ -2,40 +2,23 @@
 use mathlib.Core.Path.{refl, ◌∙◌}
 use Prim.Native.Nat.{◌+◌, ◌-◌, min, zero-le}
 use native.Mathlib.Omega.{arith}
-use borrow.Author.Rules.{rules}
 use Rattle.bits.specs.Lists.{tabulate}
 use Rattle.masking.specs.Kept.{kept_leaves}
 use Rattle.masking.specs.MaskTable.{row_of_place}
 use Rattle.masking.specs.RunLaws.{on_run}
 use Rattle.masking.proofs.masks.mask_row.Goals as goal
 
-pub row_from-requires : goal.row_from-requires
-unfolding row_of_place kept_leaves tabulate
-row_from-requires c = search rules
-
 pub returns-then-place-lt-EXTENDED_STATE_0 : goal.returns-then-place-lt-EXTENDED_STATE_0
 unfolding row_of_place kept_leaves tabulate
 returns-then-place-lt-EXTENDED_STATE_0 c = record { value = c.row_from.ensures ∙ on_run (λ i. min (0 + (i - 0)) 4) row_of_place zero-le c.if-place-lt-EXTENDED_STATE_0.true refl; small = omega (arith, c.row_from.ensures) }
-
-pub row_from-requires-then-place-lt-EXTENDED_MAX_FUNCTION : goal.row_from-requires-then-place-lt-EXTENDED_MAX_FUNCTION
-unfolding row_of_place kept_leaves tabulate
-row_from-requires-then-place-lt-EXTENDED_MAX_FUNCTION c = search rules
 
 pub returns-then-place-lt-EXTENDED_MAX_FUNCTION : goal.returns-then-place-lt-EXTENDED_MAX_FUNCTION
 unfolding row_of_place kept_leaves tabulate
 returns-then-place-lt-EXTENDED_MAX_FUNCTION c = record { value = c.row_from-then-place-lt-EXTENDED_MAX_FUNCTION.ensures ∙ on_run (λ i. min (5 + (i - 6)) 7) row_of_place c.if-place-lt-EXTENDED_STATE_0.false c.if-place-lt-EXTENDED_MAX_FUNCTION.true refl; small = omega (arith, c.row_from-then-place-lt-EXTENDED_MAX_FUNCTION.ensures) }
 
-pub row_from-requires-then-place-lt-PROCESSOR_TOPOLOGY_DEFINITION : goal.row_from-requires-then-place-lt-PROCESSOR_TOPOLOGY_DEFINITION
-unfolding row_of_place kept_leaves tabulate
-row_from-requires-then-place-lt-PROCESSOR_TOPOLOGY_DEFINITION c = search rules
-
 pub returns-then-place-lt-PROCESSOR_TOPOLOGY_DEFINITION : goal.returns-then-place-lt-PROCESSOR_TOPOLOGY_DEFINITION
 unfolding row_of_place kept_leaves tabulate
 returns-then-place-lt-PROCESSOR_TOPOLOGY_DEFINITION c = record { value = c.row_from-then-place-lt-PROCESSOR_TOPOLOGY_DEFINITION.ensures ∙ on_run (λ i. min (8 + (i - 70)) 20) row_of_place c.if-place-lt-EXTENDED_MAX_FUNCTION.false c.if-place-lt-PROCESSOR_TOPOLOGY_DEFINITION.true refl; small = omega (arith, c.row_from-then-place-lt-PROCESSOR_TOPOLOGY_DEFINITION.ensures) }
-
-pub row_from-requires-2 : goal.row_from-requires-2
-unfolding row_of_place kept_leaves tabulate
-row_from-requires-2 c = search rules
 
 pub returns : goal.returns
 unfolding row_of_place kept_leaves tabulate

@@ -1,5 +1,4 @@
 -- `memory::origins::read_origin` meets its contract: below 4 a number is its case, and less 4 it is 0; from 4 on it is an entry's.
-use borrow.Author.Rules.{rules}
 use mathlib.Core.Path.{◌≡◌, refl}
 use mathlib.Core.Bool.{Bool, true, false}
 use Prim.Native.Nat.{ℕ, ◌-◌, ◌/◌, ◌%◌}

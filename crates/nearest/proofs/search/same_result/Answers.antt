@@ -1,22 +1,7 @@
--- `nearest::search::same_result` meets its contract: each return is one case of the and.
-use borrow.Author.Tests.{eq-eqb, ne_eqb}
+-- `nearest::search::same_result` meets its contract: the derived comparison is the definition's, field by field.
 use Rattle.nearest.specs.SameVerdict.{same_result}
 use Rattle.nearest.proofs.search.same_result.Goals as goal
 
-pub returns-then-a-b : goal.returns-then-a-b
-unfolding same_result
-returns-then-a-b c = rw (ne_eqb _ _ c.if-a-b.true)
-
-pub returns-then-a-b-2 : goal.returns-then-a-b-2
-unfolding same_result
-returns-then-a-b-2 c = rw (eq-eqb _ _ c.if-a-b.false, ne_eqb _ _ c.if-a-b-2.true)
-
-pub returns-then-a-b-3 : goal.returns-then-a-b-3
-unfolding same_result
-returns-then-a-b-3 c =
-    rw (eq-eqb _ _ c.if-a-b.false, eq-eqb _ _ c.if-a-b-2.false, ne_eqb _ _ c.if-a-b-3.true)
-
 pub returns : goal.returns
 unfolding same_result
-returns c =
-    rw (eq-eqb _ _ c.if-a-b.false, eq-eqb _ _ c.if-a-b-2.false, eq-eqb _ _ c.if-a-b-3.false)
+returns c = c.eq.ensures

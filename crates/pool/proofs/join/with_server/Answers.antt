@@ -1,29 +1,22 @@
 -- `with_server` meets its contract: below the place that the loop has come to, rows are joined and flags are those found.
 use borrow.Author.Rules.{rules}
 use mathlib.Core.Path.{◌≡◌}
-use Prim.Native.Nat.{◌-◌, ◌≤◌}
 use native.Mathlib.Omega.{arith}
 use lib.ListN.{length}
-use Rattle.masking.specs.Kept.{places}
 use Rattle.finish.specs.Kinds.{kinds_at}
-use Rattle.pool.specs.CodeLaws.{Joining, joining_starts, joining_next, joining_ends}
+use Rattle.pool.specs.CodeLaws.{joining_next, joining_ends}
 use Rattle.pool.proofs.join.with_server.Goals as goal
 use Rattle.pool.proofs.join.with_server.Goals.{Start}
-
-pub loop-place-init : goal.loop-place-init
-loop-place-init c = (search rules, joining_starts _ _ _ c.requires)
 
 alike-length : (c : Start) → length c.args.alike ≡ 88
 alike-length c = search rules
 
 pub loop-place-preserved : goal.loop-place-preserved
-loop-place-preserved c = (
-  search rules,
-  rw c.put_row.ensures
-      (joining_next _ _ _ c.loop-place.place (search rules) (alike-length (goal.at.loop-place-preserved c).Start) c.loop-place.invariant.1 c.row_at-a.ensures c.row_at-b.ensures
-      (c.same_row.ensures (kinds_at c.loop-place.place) c.masks_at-masks.ensures) (c.join_row.ensures (kinds_at c.loop-place.place) c.masks_at-masks.ensures)),
-)
+loop-place-preserved c =
+    rw c.put_row.ensures
+    (joining_next _ _ _ c.loop-place.place (search rules) (alike-length (goal.at.loop-place-preserved c).Start) c.loop-place.invariant c.row_at-a.ensures c.row_at-b.ensures
+    (c.same_row.ensures (kinds_at c.loop-place.place) c.masks_at-masks.ensures) (c.join_row.ensures (kinds_at c.loop-place.place) c.masks_at-masks.ensures))
 
 pub returns : goal.returns
 returns c =
-    joining_ends _ _ _ c.loop-place.place (omega arith) (alike-length (goal.at.returns c).Start) c.loop-place.invariant.1
+    joining_ends _ _ _ c.loop-place.place (omega arith) (alike-length (goal.at.returns c).Start) c.loop-place.invariant

@@ -1,5 +1,4 @@
 -- `sha256::block::big_0` meets its contract: `Σ₀` of three rotations.
-use Rattle.std.proofs.Common.{rules}
 use Rattle.sha256.specs.Block.{Σ₀}
 use Rattle.sha256.proofs.block.big_0.Goals as goal
 

@@ -1,5 +1,4 @@
 -- `sha256::block::big_1` meets its contract: `Σ₁` of three rotations.
-use Rattle.std.proofs.Common.{rules}
 use Rattle.sha256.specs.Block.{Σ₁}
 use Rattle.sha256.proofs.block.big_1.Goals as goal
 

@@ -1,18 +1,11 @@
 -- `sha256::block::block_at` meets its contract: the first loop reads the block's 16 words, the second makes the 48 others. The invariants: the words
 -- up to here are the schedule's.
-use Rattle.std.proofs.Common.{◌≡◌, ◌+◌, ◌-◌, ◌≤◌, length, take, refl, ◌∙◌, arith, length-set, rules}
-use Rattle.sha256.specs.Block.{words, schedule, compress}
-use Rattle.sha256.specs.BlockLaws.{words_next, schedule_next, schedule_whole}
+use Rattle.std.proofs.Common.{◌≡◌, ◌+◌, length, take}
+use Rattle.sha256.specs.Block.{words, schedule}
 use Rattle.sha256.proofs.block.block_at.Given as goal
 
 abbrev pub invariant-loop-t : goal.invariant-loop-t
-invariant-loop-t l = (l.t ≤ 16) × (length l.w ≡ 64) × (take l.t l.w ≡ words l.bytes l.at l.t)
-
-abbrev pub decreases-loop-t : goal.decreases-loop-t
-decreases-loop-t l = 16 - l.t
+invariant-loop-t l = (length l.w ≡ 64) × (take l.t l.w ≡ words l.bytes l.at l.t)
 
 abbrev pub invariant-loop-i : goal.invariant-loop-i
-invariant-loop-i l = (l.i ≤ 48) × (length l.w ≡ 64) × (take (16 + l.i) l.w ≡ schedule (words l.bytes l.at 16) l.i)
-
-abbrev pub decreases-loop-i : goal.decreases-loop-i
-decreases-loop-i l = 48 - l.i
+invariant-loop-i l = (length l.w ≡ 64) × (take (16 + l.i) l.w ≡ schedule (words l.bytes l.at 16) l.i)

@@ -1,5 +1,4 @@
 -- `sha256::block::small_0` meets its contract: `σ₀` of two rotations and a shift.
-use Rattle.std.proofs.Common.{rules}
 use Rattle.sha256.specs.Block.{σ₀}
 use Rattle.sha256.proofs.block.small_0.Goals as goal
 

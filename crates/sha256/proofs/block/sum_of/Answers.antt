@@ -1,5 +1,4 @@
 -- `sha256::block::sum_of` meets its contract: word by word.
-use Rattle.std.proofs.Common.{rules}
 use Rattle.sha256.specs.Block.{added}
 use Rattle.sha256.proofs.block.sum_of.Goals as goal
 

@@ -1,5 +1,4 @@
 -- `sha256::block::turn` meets its contract: the two temporary words, and the working variables moved on by one.
-use Rattle.std.proofs.Common.{rules}
 use Rattle.sha256.specs.Block.{turn}
 use Rattle.sha256.proofs.block.turn.Goals as goal
 

@@ -5,4 +5,4 @@ use borrow.Author.Rules.{rules}
 use Rattle.snp_cpuid.proofs.guest_exports.snp_cpuid_write_guest_image.Goals as goal
 
 pub returns : goal.returns
-returns c = record { value = rw (← c.processor-v.ensures) (c.written_numbers.ensures ∙ ap written_numbers c.write_guest_image.ensures.value); out_after = rw (← c.processor-v.ensures) (c.write_guest_image.ensures.out_after) }
+returns c = record { value = rw (← c.processor-v.ensures) (c.from.ensures ∙ ap written_numbers c.write_guest_image.ensures.value); out_after = rw (← c.processor-v.ensures) (c.write_guest_image.ensures.out_after) }

@@ -5,4 +5,4 @@ use borrow.Author.Rules.{rules}
 use Rattle.snp_cpuid.proofs.kvm.snp_cpuid_write_kvm.Goals as goal
 
 pub returns : goal.returns
-returns c = record { value = c.written_numbers.ensures ∙ ap written_numbers c.write_list.ensures.value; out_after = c.write_list.ensures.out_after }
+returns c = record { value = c.from.ensures ∙ ap written_numbers c.write_list.ensures.value; out_after = c.write_list.ensures.out_after }

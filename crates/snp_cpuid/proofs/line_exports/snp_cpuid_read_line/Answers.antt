@@ -5,4 +5,4 @@ use Rattle.answers.specs.LineAnswers.{line_read_numbers}
 use Rattle.snp_cpuid.proofs.line_exports.snp_cpuid_read_line.Goals as goal
 
 pub returns : goal.returns
-returns c = c.line_read_numbers.ensures ∙ ap line_read_numbers c.read_line.ensures
+returns c = c.from.ensures ∙ ap line_read_numbers c.read_line.ensures

@@ -5,4 +5,4 @@ use Rattle.answers.specs.LineAnswers.{line_written_numbers}
 use Rattle.snp_cpuid.proofs.line_exports.snp_cpuid_write_line.Goals as goal
 
 pub returns : goal.returns
-returns c = record { value = rw (← c.subleaf_of-named.ensures) (c.line_written_numbers.ensures ∙ ap line_written_numbers c.write_line.ensures.value); out_after = rw (← c.subleaf_of-named.ensures) (c.write_line.ensures.out_after) }
+returns c = record { value = rw (← c.subleaf_of-named.ensures) (c.from.ensures ∙ ap line_written_numbers c.write_line.ensures.value); out_after = rw (← c.subleaf_of-named.ensures) (c.write_line.ensures.out_after) }

@@ -4,4 +4,4 @@ use Rattle.snp_cpuid.proofs.nearest_exports.snp_cpuid_nearest.Goals as goal
 
 pub returns : goal.returns
 returns c =
-    rw (← c.nearest_bit.ensures, c.nearest_numbers.ensures)
+    rw (← c.nearest_bit.ensures, c.from.ensures)

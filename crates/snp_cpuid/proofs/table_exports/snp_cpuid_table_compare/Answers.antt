@@ -5,4 +5,4 @@ use Rattle.answers.specs.ComparedAnswers.{tables_compared_numbers}
 use Rattle.snp_cpuid.proofs.table_exports.snp_cpuid_table_compare.Goals as goal
 
 pub returns : goal.returns
-returns c = c.tables_compared_numbers.ensures ∙ ap tables_compared_numbers c.compare_tables.ensures.value
+returns c = c.from.ensures ∙ ap tables_compared_numbers c.compare_tables.ensures.value

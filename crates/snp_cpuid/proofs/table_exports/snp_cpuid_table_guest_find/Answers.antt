@@ -6,4 +6,4 @@ use Rattle.snp_cpuid.proofs.table_exports.snp_cpuid_table_guest_find.Goals as go
 
 pub returns : goal.returns
 returns c =
-    rw (← c.processor-v.ensures, ← c.subleaf_of-named.ensures) (c.guest_found_numbers.ensures ∙ ap guest_found_numbers c.guest_find.ensures)
+    rw (← c.processor-v.ensures, ← c.subleaf_of-named.ensures) (c.from.ensures ∙ ap guest_found_numbers c.guest_find.ensures)

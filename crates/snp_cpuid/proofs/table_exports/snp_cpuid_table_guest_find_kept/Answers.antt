@@ -6,4 +6,4 @@ use Rattle.snp_cpuid.proofs.table_exports.snp_cpuid_table_guest_find_kept.Goals 
 
 pub returns : goal.returns
 returns c =
-    rw (← c.processor-v.ensures, ← c.subleaf_of-named.ensures) (c.found_numbers.ensures ∙ ap found_numbers c.find_kept.ensures)
+    rw (← c.processor-v.ensures, ← c.subleaf_of-named.ensures) (c.from.ensures ∙ ap found_numbers c.find_kept.ensures)

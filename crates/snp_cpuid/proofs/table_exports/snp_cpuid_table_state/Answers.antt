@@ -5,4 +5,4 @@ use Rattle.answers.specs.Answers.{state_numbers}
 use Rattle.snp_cpuid.proofs.table_exports.snp_cpuid_table_state.Goals as goal
 
 pub returns : goal.returns
-returns c = c.state_numbers.ensures ∙ ap state_numbers c.state_in_use.ensures
+returns c = c.from.ensures ∙ ap state_numbers c.state_in_use.ensures

@@ -5,4 +5,4 @@ use Rattle.answers.specs.Answers.{written_numbers}
 use Rattle.snp_cpuid.proofs.table_exports.snp_cpuid_table_write_kvm.Goals as goal
 
 pub returns : goal.returns
-returns c = record { value = c.written_numbers.ensures ∙ ap written_numbers c.write_table.ensures.0; out_after = c.write_table.ensures.1 }
+returns c = record { value = c.from.ensures ∙ ap written_numbers c.write_table.ensures.0; out_after = c.write_table.ensures.1 }

@@ -1,5 +1,4 @@
 -- `finish::features::Enabled::new` meets its contract.
-use borrow.Author.Rules.{rules}
 use Rattle.finish.proofs.features.Enabled.new.Goals as goal
 
 pub returns : goal.returns

@@ -1,5 +1,4 @@
 -- `finish::features::YmmClears::of` meets its contract: the code's masks are the definition's figures.
-use borrow.Author.Rules.{rules}
 use Rattle.bits.specs.Bits.{mask_of}
 use Rattle.finish.specs.Finish.{ymm_clears, edition1}
 use Rattle.finish.proofs.features.YmmClears.of.Goals as goal

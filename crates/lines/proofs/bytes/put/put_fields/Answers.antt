@@ -3,7 +3,6 @@ use mathlib.Core.Path.{ap}
 use native.Mathlib.Omega.{arith}
 use lib.Seq.{length-sets}
 use lib.ListN.{length}
-use borrow.Author.Rules.{rules}
 use Rattle.lines.specs.Line.{leaf_field, subleaf_field, s_field}
 use Rattle.lines.specs.LineLaws.{fields_named, length_fields, three_sets}
 use Rattle.lines.proofs.bytes.put.put_fields.Goals as goal

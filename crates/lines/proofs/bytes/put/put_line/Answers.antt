@@ -1,9 +1,9 @@
 -- `put::put_line` meets its contract: the number, its details, the newline, one after another.
-use mathlib.Core.Path.{refl, ap, ◌∙◌}
+use mathlib.Core.Path.{refl, ap}
 use mathlib.Core.List.{[], ◌∷◌}
 use native.Mathlib.Omega.{arith}
 use lib.Seq.{length-sets}
-use lib.ListN.{length, length-set}
+use lib.ListN.{length}
 use Rattle.lines.specs.Digits.{decimal}
 use Rattle.lines.specs.Line.{newline, fields, line}
 use Rattle.lines.specs.LineLaws.{length_parts, three_sets}
@@ -36,11 +36,6 @@ overflow_add-result c =
         c.put_fields-end.ensures.0,
       );
     }
-
-pub shape_of-out : goal.shape_of-out
-shape_of-out c =
-    let number = c.put_decimal-at.ensures in
-    simp length-set (ap length c.put_fields-end.ensures.1 ∙ simp length-sets (ap length number.1 ∙ simp length-sets))
 
 pub returns : goal.returns
 unfolding line

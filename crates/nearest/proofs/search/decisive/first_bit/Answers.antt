@@ -28,14 +28,14 @@ returns-then-is_irrelevant c =
     (judged (goal.at.returns-then-is_irrelevant c).After-is_irrelevant ∙ c.if-is_irrelevant.true)
 
 pub loop-n-init : goal.loop-n-init
-loop-n-init c = (omega arith, bit_first _ _ _ _ _, record { size = c.lengths_known.ensures.0; rows = λ x. refl })
+loop-n-init c = (bit_first _ _ _ _ _, record { size = c.told-registers; rows = λ x. refl })
 
 -- a turn, once its row is stored
 stored : (c : After-put_row)
     → rows_in c.put_row.new.registers c.args.origins.now
     ≡ with_row c.args.place c.masked_at-row.result (rows_in c.args.registers.now c.args.origins.now)
 stored c =
-    stored_rows c.args.origins.now c.args.place c.requires.0 c.requires.1 _ c.loop-n.invariant.2 c.put_row.ensures
+    stored_rows c.args.origins.now c.args.place c.requires.0 c.requires.1 _ c.loop-n.invariant.1 c.put_row.ensures
 
 pub keeps_answer-requires : goal.keeps_answer-requires
 unfolding unflipped_in
@@ -59,20 +59,19 @@ found c =
     keeps_found _ _ _ _ _ c.loop-n.n c.flip_bit.ensures c.masked_at-row.ensures
     (c.keeps_answer.ensures
     ∙ ap (λ (q : Rows). same_from c.args.edition q (rows_in c.args.registers.now c.args.origins.now))
-    (stored_rows c.args.origins.now c.args.place c.requires.0 c.requires.1 _ c.loop-n.invariant.2 c.put_row.ensures))
+    (stored_rows c.args.origins.now c.args.place c.requires.0 c.requires.1 _ c.loop-n.invariant.1 c.put_row.ensures))
 
 pub loop-n-preserved : goal.loop-n-preserved
 loop-n-preserved c = (
-  omega arith,
-  c.loop-n.invariant.1
-      ∙ bit_passes _ _ _ _ _ c.loop-n.n (omega arith) (sym (found (goal.at.loop-n-preserved c).After-keeps_answer) ∙ c.if-keeps_answer.true),
-  stored_all_but c.args.origins.now c.args.place c.requires.0 c.requires.1 _ c.loop-n.invariant.2 c.put_row.ensures,
+  c.loop-n.invariant.0
+      ∙ bit_passes _ _ _ _ _ c.loop-n.n (omega arith) (sym (found (goal.at.loop-n-preserved c).After-keeps_answer) ∙ c.if-not-keeps_answer.false),
+  stored_all_but c.args.origins.now c.args.place c.requires.0 c.requires.1 _ c.loop-n.invariant.1 c.put_row.ensures,
 )
 
-pub returns-else-keeps_answer : goal.returns-else-keeps_answer
-returns-else-keeps_answer c =
-    sym (c.loop-n.invariant.1
-    ∙ bit_stops _ _ _ _ _ c.loop-n.n (omega arith) (sym (found (goal.at.returns-else-keeps_answer c).After-keeps_answer) ∙ c.if-keeps_answer.false))
+pub returns-then-not-keeps_answer : goal.returns-then-not-keeps_answer
+returns-then-not-keeps_answer c =
+    sym (c.loop-n.invariant.0
+    ∙ bit_stops _ _ _ _ _ c.loop-n.n (omega arith) (sym (found (goal.at.returns-then-not-keeps_answer c).After-keeps_answer) ∙ c.if-not-keeps_answer.true))
 
 pub returns : goal.returns
-returns c = sym (c.loop-n.invariant.1 ∙ bit_ends _ _ _ _ _ c.loop-n.n c.loop-n-test.false)
+returns c = sym (c.loop-n.invariant.0 ∙ bit_ends _ _ _ _ _ c.loop-n.n c.loop-n-test.false)

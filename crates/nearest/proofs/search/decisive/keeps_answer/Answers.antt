@@ -11,25 +11,25 @@ returns-then-same_result c =
 
 pub returns-in_default : goal.returns-in_default
 returns-in_default c =
-    judged_accepted c.args.edition c.requires.0 c.checks_from_invlpgb-checked.ensures c.requires.1 c.in-Ready.is c.in_default.is
+    judged_accepted c.args.edition c.requires.0 c.checks_from_invlpgb-checked.ensures c.requires.1 c.in-Ok.is c.in_default.is
 
 pub finished_row-requires : goal.finished_row-requires
 finished_row-requires c =
     let r = checked_ready (rows_in c.args.tried.now c.args.origins.now)
-    (judged_ready c.args.edition c.requires.0 c.checks_from_invlpgb-checked.ensures c.requires.1 c.in-Ready.is) in
+    (judged_ready c.args.edition c.requires.0 c.checks_from_invlpgb-checked.ensures c.requires.1 c.in-Ok.is) in
     (c.requires.0.small, r.0, r.1)
 
-pub finished_row-requires-in-Ready : goal.finished_row-requires-in-Ready
-finished_row-requires-in-Ready c =
-    let r = checked_ready (rows_in c.args.registers.now c.args.origins.now) (sym c.in-Ready-found.is ∙ c.requires.1) in
+pub finished_row-requires-in-Ok : goal.finished_row-requires-in-Ok
+finished_row-requires-in-Ok c =
+    let r = checked_ready (rows_in c.args.registers.now c.args.origins.now) (sym c.in-Ok-found.is ∙ c.requires.1) in
     (c.requires.0.small, r.0, r.1)
 
-pub returns-in-Refused : goal.returns-in-Refused
-returns-in-Refused c =
-    judged_refused c.args.edition c.requires.0 c.checks_from_invlpgb-checked.ensures c.requires.1 c.in-Refused.is c.verdict_of.ensures
+pub returns-in-Err : goal.returns-in-Err
+returns-in-Err c =
+    judged_refused c.args.edition c.requires.0 c.checks_from_invlpgb-checked.ensures c.requires.1 c.in-Err.is c.verdict_of.ensures
     c.same_verdict.ensures
 
-pub returns-in-Ready-found : goal.returns-in-Ready-found
-returns-in-Ready-found c =
-    judged_finished c.args.edition c.requires.0 c.checks_from_invlpgb-checked.ensures c.requires.1 c.in-Ready.is c.in-Ready-found.is
-    c.finished_row.ensures c.finished_row-in-Ready.ensures c.same_result-in-Ready.ensures
+pub returns-in-Ok-found : goal.returns-in-Ok-found
+returns-in-Ok-found c =
+    judged_finished c.args.edition c.requires.0 c.checks_from_invlpgb-checked.ensures c.requires.1 c.in-Ok.is c.in-Ok-found.is
+    c.finished_row.ensures c.finished_row-in-Ok.ensures c.same_result-in-Ok.ensures

@@ -1,18 +1,7 @@
 -- `nearest::search::irrelevant::irrelevant_at` meets its contract: one return a case.
-use native.Mathlib.Omega.{arith}
 use mathlib.Core.Path.{sym, ◌∙◌}
-use Rattle.nearest.specs.SearchReturnLaws.{component_from, component_below, at_component, at_level, at_read, at_unread}
+use Rattle.nearest.specs.SearchReturnLaws.{at_component, at_level, at_read, at_unread}
 use Rattle.nearest.proofs.search.irrelevant.irrelevant_at.Goals as goal
-
-pub overflow_sub-place : goal.overflow_sub-place
-overflow_sub-place c = omega (arith, component_from c.args.place c.if-place.true)
-
-pub overflow_cast-place : goal.overflow_cast-place
-overflow_cast-place c = record { fits = omega (arith, component_below c.args.place c.if-place.true) }
-
-pub has_bit64-requires : goal.has_bit64-requires
-has_bit64-requires c =
-    omega (arith, component_from c.args.place c.if-place.true, component_below c.args.place c.if-place.true)
 
 pub returns-then-place : goal.returns-then-place
 returns-then-place c = at_component _ _ _ c.if-place.true c.has_bit64.ensures

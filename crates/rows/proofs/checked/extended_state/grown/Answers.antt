@@ -1,5 +1,4 @@
 -- `extended_state::grown` meets its contract: the sum is too large, grows the area, lies within it, or is not used.
-use borrow.Author.Rules.{rules}
 use native.Mathlib.Omega.{arith}
 use Rattle.checks.specs.SaveAreaLaws.{grown_over, grown_to, grown_within, grown_unused}
 use Rattle.rows.proofs.checked.extended_state.grown.Goals as goal

@@ -1,11 +1,6 @@
 -- `extended_state::process_extended_state_subleaves` meets its contract: a turn takes the lowest subleaf that is left of the mask, and passes it or
 -- stops there.
-use borrow.Author.Rules.{rules}
-use Prim.Native.Nat.{◌<◌}
-use native.Mathlib.Omega.{arith}
-use lib.Count.{count_trailing_zeros}
-use Rattle.checks.specs.LowestLaws.{left_starts, left_falls}
-use Rattle.checks.specs.ScanLaws.{Scanning, scanning_starts, scanning_taken, scanning_next, scanning_stops, scanning_ends}
+use Rattle.checks.specs.ScanLaws.{Scanning}
 use Rattle.rows.specs.Checked.{present_in}
 use Rattle.rows.proofs.checked.extended_state.process_extended_state_subleaves.Given as goal
 

@@ -4,13 +4,11 @@ use borrow.Author.Rules.{rules}
 use mathlib.Core.Path.{sym, ap, ◌∙◌}
 use mathlib.Core.Bool.{true}
 use Prim.Native.Nat.{◌<◌, ◌+◌}
-use native.Mathlib.Omega.{arith}
 use lib.Count.{count_trailing_zeros}
 use Rattle.x86defs.specs.declared.CpuidResult.{CpuidResult}
 use Rattle.checks.specs.ExtendedState.{grown, size_of}
-use Rattle.checks.specs.LowestLaws.{left_starts, left_falls}
-use Rattle.checks.specs.SaveAreaLaws.{Growing, growing_starts, growing_taken, growing_next, growing_overflows, growing_ends}
-use Rattle.rows.specs.Checked.{registers_in}
+use Rattle.checks.specs.LowestLaws.{left_starts}
+use Rattle.checks.specs.SaveAreaLaws.{growing_starts, growing_taken, growing_next, growing_overflows, growing_ends}
 use Rattle.rows.proofs.checked.extended_state.xsave_size.Goals as goal
 use Rattle.rows.proofs.checked.extended_state.xsave_size.Goals.{In-loop-rest}
 
@@ -20,32 +18,18 @@ loop-rest-init c = growing_starts _ _ (left_starts _ (search rules))
 inside : (c : In-loop-rest) → count_trailing_zeros 64 c.loop-rest.rest < 64
 inside c = (growing_taken _ _ c.loop-rest.invariant c.loop-rest-test.true).inside
 
-pub returns-in_default : goal.returns-in_default
-returns-in_default c =
-    growing_overflows _ _ c.loop-rest.invariant c.loop-rest-test.true
-    (sym c.in_default.is ∙ c.grown-size.ensures
-    ∙ ap (λ (q : CpuidResult). size_of (grown c.loop-rest.area true (q.eax + q.ebx))) c.row_at-subleaf.ensures)
+pub returns-in_err-area : goal.returns-in_err-area
+returns-in_err-area c =
+    rw c.from_residual.ensures
+    (growing_overflows _ _ c.loop-rest.invariant c.loop-rest-test.true
+    (sym c.in_err-area.was ∙ c.grown.ensures
+    ∙ ap (λ (q : CpuidResult). size_of (grown c.loop-rest.area true (q.eax + q.ebx))) c.row_at-subleaf.ensures))
 
 pub loop-rest-preserved : goal.loop-rest-preserved
 loop-rest-preserved c =
     growing_next _ _ c.loop-rest.invariant c.loop-rest-test.true
-    (sym c.in-Bytes.is ∙ c.grown-size.ensures
+    (sym c.in_ok-area.was ∙ c.grown.ensures
     ∙ ap (λ (q : CpuidResult). size_of (grown c.loop-rest.area true (q.eax + q.ebx))) c.row_at-subleaf.ensures)
 
 pub returns : goal.returns
 returns c = growing_ends _ _ c.loop-rest.invariant c.loop-rest-test.false
-
-pub overflow_cast-place : goal.overflow_cast-place
-overflow_cast-place c = omega (arith, inside (goal.at.overflow_cast-place c).In-loop-rest)
-
-pub overflow_add-place : goal.overflow_add-place
-overflow_add-place c = omega (arith, inside (goal.at.overflow_add-place c).In-loop-rest)
-
-pub row_at-subleaf-requires : goal.row_at-subleaf-requires
-row_at-subleaf-requires c = omega (arith, inside (goal.at.row_at-subleaf-requires c).In-loop-rest)
-
-pub overflow_sub-rest : goal.overflow_sub-rest
-overflow_sub-rest c = omega (arith, c.loop-rest-test.true)
-
-pub loop-rest-smaller : goal.loop-rest-smaller
-loop-rest-smaller c = left_falls _ c.loop-rest-test.true

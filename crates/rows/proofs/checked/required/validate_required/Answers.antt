@@ -1,53 +1,34 @@
 -- `required::validate_required` meets its contract: the code's places are those of the definition's list, and each turn passes one of them
 -- or stops there.
-use borrow.Author.Rules.{rules}
-use native.Mathlib.Omega.{arith}
-use mathlib.Core.Path.{◌≡◌, refl, sym, ◌∙◌}
-use Prim.Native.Nat.{◌≤◌, ◌-◌}
+use Rattle.std.proofs.Common.{◌∙◌, refl, sym}
 use Rattle.bits.specs.Lists.{tabulate}
 use Rattle.masking.specs.Kept.{kept_leaves, place_of}
 use Rattle.checks.specs.Required.{common_required_leaves, snp_required_leaves, required_at, place_required}
 use Rattle.checks.specs.Checks.{required_verdict}
 use Rattle.checks.specs.ScanLaws.{refuse_from, required_places}
 use Rattle.rows.specs.Checked.{present_in}
-use Rattle.rows.specs.CheckedLaws.{required_from, required_row_place, required_passes, required_stops, required_ends}
+use Rattle.rows.specs.CheckedLaws.{required_passes, required_stops, required_ends}
 use Rattle.rows.proofs.checked.required.validate_required.Goals as goal
 
-pub loop-j-init : goal.loop-j-init
+pub loop-required-init : goal.loop-required-init
 unfolding required_places tabulate required_at place_required common_required_leaves snp_required_leaves place_of kept_leaves required_verdict refuse_from
-loop-j-init c = (search rules, refl, refl)
+loop-required-init c = (refl, refl)
 
-pub overflow_cast-place : goal.overflow_cast-place
-overflow_cast-place c =
-    record { fits = omega (arith, required_row_place (present_in c.args.origins.now) c.loop-j.j c.loop-j.invariant.1 (search rules)) }
-
-pub offset_bounds-origins-place : goal.offset_bounds-origins-place
-offset_bounds-origins-place c =
-    record { fits = omega (arith, required_row_place (present_in c.args.origins.now) c.loop-j.j c.loop-j.invariant.1 (search rules)) }
-
-pub bounds-origins-place : goal.bounds-origins-place
-bounds-origins-place c =
-    required_row_place (present_in c.args.origins.now) c.loop-j.j c.loop-j.invariant.1 (search rules)
-
-pub loop-j-preserved : goal.loop-j-preserved
-loop-j-preserved c = (
-  search rules,
-  c.loop-j.invariant.1,
-  c.loop-j.invariant.2
-      ∙ required_passes (present_in c.args.origins.now) c.loop-j.j c.loop-j.invariant.1 (search rules)
-      (sym c.is_there.ensures ∙ c.if-is_there.true),
+pub loop-required-preserved : goal.loop-required-preserved
+loop-required-preserved c = (
+  c.loop-required.invariant.0,
+  c.loop-required.invariant.1
+      ∙ required_passes (present_in c.args.origins.now) c.loop-required.required-index c.loop-required.invariant.0 c.loop-required-test.true
+      (sym c.is_there.ensures ∙ c.if-not-is_there.false),
 )
 
-pub missing_at-requires : goal.missing_at-requires
-missing_at-requires c =
-    required_row_place (present_in c.args.origins.now) c.loop-j.j c.loop-j.invariant.1 (search rules)
-
-pub returns-else-is_there : goal.returns-else-is_there
-returns-else-is_there c =
+pub returns-then-not-is_there : goal.returns-then-not-is_there
+returns-then-not-is_there c =
     c.missing_at.ensures
-    ∙ required_stops (present_in c.args.origins.now) c.loop-j.j c.loop-j.invariant.1 (search rules)
-    (sym c.is_there.ensures ∙ c.if-is_there.false)
-    ∙ sym c.loop-j.invariant.2
+    ∙ required_stops (present_in c.args.origins.now) c.loop-required.required-index c.loop-required.invariant.0 c.loop-required-test.true
+    (sym c.is_there.ensures ∙ c.if-not-is_there.true)
+    ∙ sym c.loop-required.invariant.1
 
 pub returns : goal.returns
-returns c = required_ends (present_in c.args.origins.now) c.loop-j.j (search rules) ∙ sym c.loop-j.invariant.2
+returns c =
+    required_ends (present_in c.args.origins.now) c.loop-required.required-index c.loop-required-test.false ∙ sym c.loop-required.invariant.1
