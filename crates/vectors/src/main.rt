@@ -23,6 +23,8 @@ const LONGEST_LENT: usize = 1024;
 
 const COMMAND_SIZE: usize = 16;
 
+const DIGITS: [u8; 16] = *b"0123456789abcdef";
+
 #[derive(Clone, Copy)]
 struct Command {
     kind: u8,
@@ -298,15 +300,20 @@ fn print_refusal<W: Write>(
     print_number(output, s as u64)
 }
 
-// A space and 16 hexadecimal digits.
+// A space and 16 hexadecimal digits, in one write: standard output has no buffer, and `write!` writes each piece by itself.
 fn print_number<W: Write>(output: &mut W, x: u64) -> io::Result<()> {
-    write!(output, " {x:016x}")
+    let mut text = [b' '; 17];
+    for k in 0..16 {
+        text[16 - k] = DIGITS[(x >> (4 * k)) as usize % 16];
+    }
+    output.write_all(&text)
 }
 
 // Two digits for each byte.
 fn print_bytes<W: Write>(output: &mut W, bytes: &[u8]) -> io::Result<()> {
     for byte in bytes {
-        write!(output, "{byte:02x}")?;
+        print(output, DIGITS[usize::from(*byte / 16)])?;
+        print(output, DIGITS[usize::from(*byte % 16)])?;
     }
     Ok(())
 }
