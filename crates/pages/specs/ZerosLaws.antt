@@ -1,4 +1,4 @@
--- Eight zeros, byte by byte, as two words, and as the two joined by or.
+-- Eight zeros, byte by byte, as two words, as the two joined by or, and as one number of two words or of eight bytes.
 use Rattle.std.specs.Prelude.{◌≡◌, refl, Bool, true, false, List, ◌≢◌, ℕ, ◌+◌, ◌*◌, ◌<◌, get_or}
 use Rattle.std.proofs.Math.Path.{sym}
 use Rattle.std.proofs.Common.{ap, ◌∙◌, arith, lit<}
@@ -82,3 +82,44 @@ module _ (s : List ℕ) (o : ℕ) where
       go false e =
           ne_eqb (bit_or low high) 0
           (λ z. never_both (zeros_of_words (omega (arith, le_or_l low high)) (omega (arith, le_or_r low high))) e)
+
+  -- the two as one number
+  pub zeros_by_number : eqb (word_at s o + 4294967296 * word_at s (o + 4)) 0 ≡ eight_zeros s o
+  zeros_by_number = go (eight_zeros s o) refl
+    where
+      number : ℕ
+      number = word_at s o + 4294967296 * word_at s (o + 4)
+
+      go : (b : Bool) → eight_zeros s o ≡ b → eqb number 0 ≡ b
+      go true e = let (l, h) = words_of_zeros e in eq-eqb number 0 (omega arith)
+      go false e = ne_eqb number 0 (λ z. never_both (zeros_of_words (omega arith) (omega arith)) e)
+
+  -- the eight bytes as one number, the lowest first
+  pub zeros_by_bytes : {n : ℕ}
+      → n
+      ≡ get_or s o 0 + byte_at s o 1 * 256 + byte_at s o 2 * 65536 + byte_at s o 3 * 16777216 + byte_at s o 4 * 4294967296
+      + byte_at s o 5 * 1099511627776 + byte_at s o 6 * 281474976710656 + byte_at s o 7 * 72057594037927936
+      → eqb n 0 ≡ eight_zeros s o
+  zeros_by_bytes {n} e = go (eight_zeros s o) refl
+    where
+      first : get_or s o 0 ≡ byte_at s o 0
+      first = let z : o ≡ o + 0 = omega arith in ap (λ j. get_or s j 0) z
+
+      go : (b : Bool) → eight_zeros s o ≡ b → eqb n 0 ≡ b
+      go true h =
+          let b : (k : ℕ) → k < 8 → byte_at s o k ≡ 0 = zero_byte s o h in
+          eq-eqb n 0
+          (omega (
+            arith,
+            e,
+            first,
+            b 0 (lit< tt),
+            b 1 (lit< tt),
+            b 2 (lit< tt),
+            b 3 (lit< tt),
+            b 4 (lit< tt),
+            b 5 (lit< tt),
+            b 6 (lit< tt),
+            b 7 (lit< tt),
+          ))
+      go false h = ne_eqb n 0 (λ z. never_both (zeros_of_words (first_word ∙ omega (arith, e, z, first)) (word_of_lem 4 ∙ omega (arith, e, z))) h)

@@ -3,7 +3,7 @@ ghost use Rattle.std.specs.Prelude.{◌≡◌, ◌+◌, ◌≤◌, ◌<◌, leng
 ghost use Rattle.pages.specs.Layout.{pages_in, most_entries};
 ghost use Rattle.pages.specs.Reserved.{eight_zeros, is_clean_at};
 
-use crate::{CpuidPageIndex, ENTRIES_AT, ENTRY_SIZE, PAGE_SIZE, word_at};
+use crate::{CpuidPageIndex, ENTRIES_AT, ENTRY_SIZE, PAGE_SIZE};
 
 const RESERVED: usize = 40;
 
@@ -16,10 +16,20 @@ pub fn clean_at(pages: &[u8], index: CpuidPageIndex) -> bool
     eight_zeros(pages, start + RESERVED)
 }
 
-// Whether the eight bytes at `o` are zero.
+// Whether the eight bytes at `o` are zero, by one number: so the compiler reads them at once.
 fn eight_zeros(pages: &[u8], o: usize) -> bool
     requires { o + 8 ≤ length pages.now }
     ensures { result ≡ eight_zeros pages.now o }
 {
-    (word_at(pages, o) | word_at(pages, o + 4)) == 0
+    let number = u64::from_le_bytes([
+        pages[o],
+        pages[o + 1],
+        pages[o + 2],
+        pages[o + 3],
+        pages[o + 4],
+        pages[o + 5],
+        pages[o + 6],
+        pages[o + 7],
+    ]);
+    number == 0
 }
