@@ -2,7 +2,7 @@
 -- law of the leaves' numbers and places is one computed test over the 88 places.
 use Rattle.std.specs.Prelude.{◌≡◌, refl, Bool, true, false, not, ◌&&◌, ◌||◌, List, ◌≢◌, ℕ, zero, suc, ◌+◌, ◌*◌, ◌/◌, ◌%◌, ◌^◌, ◌≤◌, ◌<◌, eqb, leb, ltb, length, get_or, set}
 use Rattle.std.proofs.Common.{sym, ap, ◌∙◌, subst, mod-lt, zero-lt-suc, arith, eqb-true, leb-true, ltb-true, ltb-false, ne_eqb, eq-eqb}
-use Rattle.std.proofs.lemmas.Bool.{false≢true}
+use Rattle.std.proofs.lemmas.Bool.{false≢true, eqb-false}
 use Rattle.std.specs.Int.Bits.{bit_and}
 use Rattle.std.proofs.lemmas.Nat.{and_mask}
 use Rattle.bits.specs.Choice.{pick}
@@ -17,6 +17,7 @@ use Rattle.masking.specs.Kept.{kept_leaves, places, place_of, slot, leaf_at}
 use Rattle.masking.specs.KeptLaws.{entry_belongs, first_place}
 use Rattle.pages.specs.declared.ParsedCpuidEntry.{ParsedCpuidEntry}
 use Rattle.pages.specs.Parsed.{counts_read}
+use Rattle.memory.specs.Memory.{is_there}
 use Rattle.memory.specs.MemoryLaws.{set_at}
 use Rattle.collect.specs.Collect.{counted_place}
 use Rattle.collect.specs.Full.{leaf_number, Full, FullLeaves, RowsFrom, HasRow, Passed, Asked}
@@ -135,6 +136,19 @@ one_place_full o l k b d c r = record { at = λ j h. subst (λ (i : ℕ). get_or
 
 -- ---- rows as the code finds them
 
+there_nonzero : (x : ℕ) → is_there x ≡ true → x ≢ 0
+there_nonzero x e z = false≢true (sym (ap not (eq-eqb x 0 z)) ∙ e)
+
+pub two_rows_lem : (o : List ℕ) (p : ℕ) → is_there (get_or o p 0) ≡ true → is_there (get_or o (p + 1) 0) ≡ true → RowsFrom o p 2
+two_rows_lem o p e f = record { at = λ i l h. go i (eqb i p) refl l h }
+  where
+    go : (i : ℕ) (b : Bool) → eqb i p ≡ b → p ≤ i → i < p + 2 → get_or o i 0 ≢ 0
+    go i true q l h = subst (λ (j : ℕ). get_or o j 0 ≢ 0) (sym (eqb-true i p q)) (there_nonzero _ e)
+    go i false q l h =
+        let n : i ≢ p = eqb-false i p q in
+        let j : i ≡ p + 1 = omega (arith, n, l, h) in
+        subst (λ (x : ℕ). get_or o x 0 ≢ 0) (sym j) (there_nonzero _ f)
+
 pub rows_join : (o : List ℕ) (p m n : ℕ) → RowsFrom o p m → RowsFrom o (p + m) n → RowsFrom o p (m + n)
 rows_join o p m n a b = record { at = λ i l h. go i (ltb i (p + m)) refl l h }
   where
@@ -160,6 +174,9 @@ module _ {n : ℕ} {e : ParsedCpuidEntry} {o : List ℕ} where
 
   asked_none : (FullLeaves o n → Passed o e) → Asked n e o places
   asked_none p = record { found = λ h. absurd (omega (arith, h)); passed = λ h f. p f }
+
+  pub asked_beyond : places ≤ counted_place e → Asked n e o places
+  asked_beyond h = asked_none (λ f. record { there = λ g. absurd (omega (arith, g, h)) })
 
   pub asked_full : has (leaf_number e.leaf) n ≡ true → Asked n e o places
   asked_full q = asked_none (λ f. record {

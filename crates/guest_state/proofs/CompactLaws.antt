@@ -30,6 +30,9 @@ module _ (m : Rows) (x : ℕ) where
   placing_starts l = record { k = 2; low = omega arith; high = omega arith; area = compact_starts m x; most = omega arith; left = l }
 
   module _ {size rest : ℕ} (p : Placing m x size rest) where
+    pub placing_small : size < 2 ^ 40
+    placing_small = omega (arith, p.most, p.high)
+
     pub placing_taken : ¬ (rest ≡ 0) → Taken x rest p.k (count_trailing_zeros 64 rest)
     placing_taken e = left_taken p.left e
 

@@ -1,6 +1,6 @@
 -- A word of the components that have a row: gathered bit by bit from the memory, and counted by its ones.
 use Rattle.std.specs.Prelude.{◌≡◌, refl, Bool, true, false, List, ℕ, zero, suc, ◌+◌, ◌-◌, ◌*◌, ◌/◌, ◌^◌, ◌≤◌, ◌<◌, get_or}
-use Rattle.std.proofs.Common.{sym, ap, ap₂, ◌∙◌, arith}
+use Rattle.std.proofs.Common.{sym, ap, ap₂, ◌∙◌, arith, pow_mono}
 use mir.Val.{bool_byte}
 use Rattle.std.specs.Int.Count.{ones, ones_step}
 use Rattle.std.proofs.lemmas.Nat.{ones-le}
@@ -26,6 +26,10 @@ one_bit_lem k n = go (has k n) refl
 pub record Gathered (o : List ℕ) (k x : ℕ) : Type 0 where
   pub bits : (j : ℕ) → k + j < 64 → has j x ≡ is_there (get_or o (Place.extended_state (k + j)) 0)
   pub fits : x < 2 ^ (64 - k)
+
+-- there is room for one more bit
+pub gathered_room : {o : List ℕ} {k x : ℕ} → Gathered o k x → 0 < k → x < 2 ^ 63
+gathered_room {o} {k} g h = let l : 64 - k ≤ 63 = omega arith in omega (arith, g.fits, pow_mono l)
 
 module _ (x : ℕ) (b : Bool) where
   last : has 0 (2 * x + bool_byte b) ≡ b

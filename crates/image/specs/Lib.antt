@@ -9,3 +9,4 @@ pub mod PutLaws
 pub mod RowsPresent
 pub mod AcceptedLaws
 pub mod Write
+pub mod RefusedLaws

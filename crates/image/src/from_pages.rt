@@ -13,6 +13,7 @@ use table::{Choices, Verdict};
 const LEAST: usize = 582;
 
 // Builds the table of the given pages and writes its image. Building's refusals come first, and leave the buffer as it was.
+#[tactic(auto, using(crate::specs::RefusedLaws::refused_answer, crate::specs::RefusedLaws::refused_buffer, std::proofs::lemmas::Result::err_from_is_err_and))]
 pub fn write_image(pages: &[u8], choices: Choices, out: &mut [u8]) -> Written
     ensures value { result ≡ (write choices pages.now out.old).answer }
     ensures out_after { out.new ≡ (write choices pages.now out.old).buffer }

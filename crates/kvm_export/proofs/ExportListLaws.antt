@@ -1,10 +1,11 @@
 -- The rows that are left from place i on, how many rows there are, and the whole list.
-use Rattle.std.specs.Prelude.{◌≡◌, Bool, true, List, ◌++◌, ℕ, ◌+◌, ◌-◌, ◌*◌, ◌<◌, length, get_or}
+use Rattle.std.specs.Prelude.{◌≡◌, Bool, true, List, ◌++◌, ℕ, ◌+◌, ◌-◌, ◌*◌, ◌≤◌, ◌<◌, length, get_or}
 use Rattle.std.proofs.Common.{sym, ap, ap₂, ◌∙◌, arith, length-append}
 use Rattle.std.proofs.lemmas.List.Edits.{sets}
 use Rattle.masking.specs.Kept.{places}
 use Rattle.table.specs.declared.CpuidResults.{CpuidResults}
 use Rattle.table.specs.Rows.{Row}
+use Rattle.table.specs.Table.{row_in}
 use Rattle.memory.specs.Memory.{row_of, is_there, rows_in}
 use Rattle.memory.specs.Held.{held_in, whole_row_lem}
 use Rattle.x86defs.specs.declared.CpuidResult.{CpuidResult}
@@ -23,19 +24,23 @@ use Rattle.kvm_export.specs.ExportPieces.{run_row, rows_left}
 use Rattle.kvm_export.proofs.RunRowLaws.{run_row_lem}
 use Rattle.kvm_export.specs.ExportListLaws.{count_from_lem, export_length, list_pieces, rows_more}
 
--- the first of them, by the run in which the place stands, and by the memory that holds the table
-pub run_more : (w o : List ℕ) (g : Run) → lawful_run g ≡ true → (k : ℕ) → k < g.count → {b : Bool} {r : CpuidResult}
+-- the first of them, by the run in which the place stands
+pub run_more : (t : CpuidResults) (g : Run) → lawful_run g ≡ true → (i : ℕ) → g.first ≤ i → i < g.first + g.count
+    → rows_left t i ≡ run_row g (i - g.first) (row_in t i).present (row_in t i).result ++ rows_left t (i + 1)
+run_more t g h i low high = rows_more t i (omega (arith, run_end g h)) ∙ ap (λ (b : List ℕ). b ++ rows_left t (i + 1)) (run_row_lem t g h i low high)
+
+-- the same of a table that memory holds
+pub run_more_held : (w o : List ℕ) (g : Run) → lawful_run g ≡ true → (k : ℕ) → k < g.count → {b : Bool} {r : CpuidResult}
     → b ≡ is_there (get_or o (g.first + k) 0) → r ≡ row_of w (g.first + k)
     → rows_left (held_in w o) (g.first + k) ≡ run_row g k b r ++ rows_left (held_in w o) (g.first + k + 1)
-run_more w o g l k h {b} {r} e f =
+run_more_held w o g l k h {b} {r} e f =
     let t : CpuidResults = held_in w o in
     let i : ℕ = g.first + k in
     let high = run_end g l in
     let back : g.first + k - g.first ≡ k = omega arith in
-    rows_more t i (omega arith)
+    run_more t g l i (omega arith) (omega arith)
     ∙ ap (λ (bytes : List ℕ). bytes ++ rows_left t (i + 1))
-    (run_row_lem t g l i (omega arith) (omega arith)
-    ∙ ap (λ (m : Row). run_row g (i - g.first) m.present m.result) (whole_row_lem (rows_in w o) i (omega arith))
+    (ap (λ (m : Row). run_row g (i - g.first) m.present m.result) (whole_row_lem (rows_in w o) i (omega arith))
     ∙ ap (λ (j : ℕ). run_row g j (is_there (get_or o i 0)) (row_of w i)) back
     ∙ ap₂ (run_row g k) (sym e) (sym f))
 

@@ -1,7 +1,7 @@
 -- The details of a line, as they are read, and as they are after the writer.
-use Rattle.std.specs.Prelude.{◌≡◌, Bool, ◌&&◌, ◌||◌, not, List, [], ◌∷◌, ◌++◌, ℕ, ◌^◌, ◌<◌, eqb, leb, length, drop, None, Option, Some}
+use Rattle.std.specs.Prelude.{◌≡◌, Bool, ◌&&◌, ◌||◌, not, List, [], ◌∷◌, ◌++◌, ℕ, ◌^◌, ◌≤◌, ◌<◌, eqb, leb, length, drop, None, Option, Some}
 use Rattle.std.proofs.Math.Path.{refl}
-use Rattle.std.proofs.Common.{ap, ◌∙◌, arith, drop-cons, eqb-true, eq-eqb, leb-true}
+use Rattle.std.proofs.Common.{ap, ◌∙◌, arith, drop_of_length-le, drop-cons, eqb-true, eq-eqb, leb-true}
 use Rattle.std.proofs.Math.Bool.{true, false}
 use Rattle.bits.specs.Choice.{pick}
 use Rattle.bits.specs.ChoiceLaws.{never_both, and_left, and_right, and_both}
@@ -18,6 +18,9 @@ use Rattle.lines.specs.ReadLine.{field_if, after_if, subleaf_in, subleaf_if, gue
 
 pub subleaf_some : (s : List ℕ) (i : ℕ) → i < length s → Some (field_from 10 0 (drop i s)) ≡ subleaf_in (drop i s)
 subleaf_some s i h = rw (drop-cons s i 0 h)
+
+pub subleaf_none : (s : List ℕ) (i : ℕ) → length s ≤ i → None ≡ subleaf_in (drop i s)
+subleaf_none s i h = rw (drop_of_length-le s h)
 
 -- ---- bytes that are the same
 

@@ -1,5 +1,5 @@
 -- `irrelevant`, one case for each return of the function.
-use Rattle.std.specs.Prelude.{◌≡◌, Bool, not, ℕ, ◌-◌, ◌≤◌, ◌<◌, eqb, leb, Err, Ok}
+use Rattle.std.specs.Prelude.{◌≡◌, Bool, not, ℕ, ◌-◌, ◌≤◌, ◌<◌, eqb, leb, is_err, Err, Ok}
 use Rattle.std.proofs.Math.Path.{refl}
 use Rattle.std.proofs.Math.Bool.{true, false}
 use Rattle.std.proofs.Common.{ltb-true, leb-true}
@@ -15,6 +15,11 @@ use Rattle.rows.specs.Checked.{checked_rows}
 use Rattle.rows.specs.CheckedLaws.{verdict_of_lem}
 use Rattle.nearest.specs.Irrelevant.{refuses, is_component, is_level, is_read, irrelevant_at, irrelevant, unflipped_in, irrelevant_by}
 use Rattle.table.specs.Verdict.{Verdict}
+
+-- whether a verdict is a refusal, as the library says it
+pub refusal_told : (v : Verdict) → is_err v ≡ refuses v
+refusal_told (Ok _) = refl
+refusal_told (Err r) = refl
 
 module _ (m : Rows) (i : ℕ) where
   pub irrelevant_missing : {r : Refusal} → required_verdict m ≡ Err r → true ≡ irrelevant m i

@@ -22,6 +22,7 @@ pub mod flips;
 pub mod search;
 
 // The first single flip of a result bit that changes the table, the refusal or its details; or why none is named.
+#[tactic(auto, using(crate::specs::NearestFrontLaws::front_told, std::proofs::lemmas::Result::err_from_is_err_and))]
 pub fn nearest_bit(pages: &[u8], choices: Choices) -> Result<Flip, Refusal>
     ensures { result ≡ nearest choices pages.now }
 {

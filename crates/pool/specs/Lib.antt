@@ -12,3 +12,4 @@ pub mod PoolIn
 pub mod JoinedRows
 pub mod PooledLaws
 pub mod WritePool
+pub mod RefusedLaws

@@ -10,6 +10,7 @@ use memory::REGISTERS;
 use table::{Choices, Verdict};
 
 // The pool's refusals come first, and leave the buffer as it was.
+#[tactic(auto, using(crate::specs::RefusedLaws::refused_answer, crate::specs::RefusedLaws::refused_buffer, std::proofs::lemmas::Result::err_from_is_err_and))]
 pub fn write_pool_image(pages: &[u8], lengths: &[u64], choices: Choices, out: &mut [u8]) -> Written
     ensures value { result ≡ (write_pool choices pages.now lengths.now out.old).answer }
     ensures out_after { out.new ≡ (write_pool choices pages.now lengths.now out.old).buffer }

@@ -11,6 +11,7 @@ use Rattle.counts.specs.CountsProof.{rows_counted}
 use Rattle.counts.specs.Mask.{components_most}
 use Rattle.program.specs.Output.{longest_input, output_for, output}
 use Rattle.buffer.specs.Written.{Written}
+use Rattle.table.specs.declared.Refusal.{Refusal}
 use Rattle.table.specs.Verdict.{Verdict}
 
 abbrev pub room : ℕ
@@ -39,6 +40,9 @@ module _ (s buffer : List ℕ) (enough : room ≤ length buffer) {a : Written} (
 
   pub put_count : {n : ℕ} → n ≡ result_unwrap_or a 0 → n ≡ length (output s)
   put_count e = e ∙ ap (λ (w : Written). result_unwrap_or w 0) bytes_said
+
+  pub put_never : {r : Refusal} → a ≡ Err r → ⊥
+  put_never e = let z : ◌≡◌ {A = ℕ} 0 1 = cc bytes_said in omega arith
 
 pub put_bytes : (s buffer : List ℕ) {b : List ℕ} {n : ℕ} → room ≤ length buffer → b ≡ (write_front (output s) buffer).buffer → n ≡ length (output s)
     → b ≡ output s ++ drop n buffer

@@ -1,13 +1,13 @@
 -- The answer in memory: checked rows are ready to be finished, and memory of zeros holds the empty table.
 use Rattle.std.proofs.Math.Path.{◌≡◌, refl, ap}
 use Rattle.std.proofs.Common.{sym, ap₂, ◌∙◌, subst, arith}
-use Rattle.std.specs.Prelude.{List, ℕ, replicate, Err, Ok}
+use Rattle.std.specs.Prelude.{List, ℕ, replicate, Err, Ok, Result}
 use Rattle.bits.specs.Lists.{tabulate}
 use Rattle.table.specs.declared.Refusal.{Refusal}
 use Rattle.table.specs.Rows.{Rows}
 use Rattle.table.specs.Table.{empty_table}
 use Rattle.memory.specs.Origin.{finished_origins}
-use Rattle.memory.specs.Memory.{layout}
+use Rattle.memory.specs.Memory.{layout, rows_in}
 use Rattle.memory.specs.Held.{held_in, cleared_held}
 use Rattle.checks.specs.ExtendedState.{xfem, combined_mask, save_area}
 use Rattle.checks.specs.TopologyInputs.{inputs_of}
@@ -71,6 +71,11 @@ answered n m v {found} {w} {o} e h k = record {
 pub tried_refused : (n : ℕ) (m : Rows) (r : Refusal) (w o : List ℕ) → rows_verdict m ≡ Err r → Tried (built_from n m) w o (Err r) w o
 unfolding built_from
 tried_refused n m r w o e = record { verdict = sym e; accepted = λ a. absurd (let z : ◌≡◌ {A = ℕ} 0 1 = cc in omega arith); refused = λ _ _. (refl, refl) }
+
+-- the same of rows that the code has checked
+pub checked_stays : (n : ℕ) (w o : List ℕ) {r : Refusal} {x : Result Checked Refusal} → x ≡ checked_rows (rows_in w o) → x ≡ Err r
+    → Tried (built_from n (rows_in w o)) w o (Err r) w o
+checked_stays n w o e f = tried_refused n (rows_in w o) _ w o (checked_refuses (rows_in w o) (sym f ∙ e))
 
 -- and what they accept
 pub tried_accepted : (n : ℕ) (m : Rows) {w₀ found w o : List ℕ} → Answered (built_from n m) found (Ok tt) w o → Tried (built_from n m) w₀ found (Ok tt) w o

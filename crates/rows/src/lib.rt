@@ -190,6 +190,7 @@ pub fn finish(
 }
 
 // The checks, then the table: accepted with the table in memory, or refused with the memory as it was.
+#[tactic(auto, using(crate::specs::AnsweredLaws::checked_stays, std::proofs::lemmas::Result::err_from_is_err_and))]
 pub fn finish_rows(
     registers: &mut [u32; REGISTERS],
     origins: &mut [u64; PLACES],

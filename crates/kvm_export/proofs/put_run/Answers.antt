@@ -7,7 +7,7 @@ use Rattle.masking.specs.RunLaws.{run_end, run_leaf_lem}
 use Rattle.memory.specs.Held.{held_in}
 use Rattle.buffer.specs.OnwardLaws.{onward_join, piece_room, onward_piece}
 use Rattle.kvm_export.specs.ExportPieces.{rows_left, run_row}
-use Rattle.kvm_export.proofs.ExportListLaws.{run_more}
+use Rattle.kvm_export.proofs.ExportListLaws.{run_more_held}
 use Rattle.kvm_export.proofs.put_run.Goals as goal
 use Rattle.kvm_export.proofs.put_run.Goals.{After-is_there}
 
@@ -33,7 +33,7 @@ row c = run_row c.args.run c.loop-k.k c.is_there.result c.row_at-r.result
 written : (c : After-is_there)
     → left c (c.args.run.first + c.loop-k.k) ≡ row c ++ left c (c.args.run.first + c.loop-k.k + 1)
 written c =
-    run_more c.args.registers.now c.args.origins.now c.args.run c.requires.0 c.loop-k.k (omega arith)
+    run_more_held c.args.registers.now c.args.origins.now c.args.run c.requires.0 c.loop-k.k (omega arith)
     c.is_there.ensures c.row_at-r.ensures
 
 pub put_place-at-requires : goal.put_place-at-requires

@@ -2,15 +2,8 @@
 use mathlib.Core.Path.{sym, ◌∙◌}
 use Rattle.build.proofs.BuildLaws.{front_known, front_lawful}
 use Rattle.build.specs.InMemoryLaws.{rows_held}
-use Rattle.nearest.specs.NearestFrontLaws.{front_refuses, searched}
+use Rattle.nearest.specs.NearestFrontLaws.{searched}
 use Rattle.nearest.proofs.nearest_bit.Goals as goal
-use Rattle.std.proofs.lemmas.Result.{err_from_is_err_and}
-
-pub returns-in_err-rows_into : goal.returns-in_err-rows_into
-returns-in_err-rows_into c =
-    let p = err_from_is_err_and c.from_residual.result c.from_residual.ensures.1 in
-    rw (p.1, p.2)
-    (sym (front_refuses _ _ (sym c.rows_into.ensures.verdict ∙ c.in_err-rows_into.was)))
 
 pub search_flips-requires : goal.search_flips-requires
 search_flips-requires c =

@@ -32,6 +32,7 @@ pub fn check_unflipped(registers: &[u32; REGISTERS], origins: &[u64; PLACES]) ->
     }
 }
 
+#[tactic(auto, using(crate::specs::SearchReturnLaws::refusal_told))]
 fn is_refused(verdict: Verdict) -> bool
     ensures { result ≡ refuses verdict }
 {

@@ -1,10 +1,9 @@
 -- `finish_rows` meets its contract: what the checks leave is finished, what they refuse stays.
 use mathlib.Core.Path.{sym, ◌∙◌}
 use Rattle.memory.specs.Memory.{rows_in}
-use Rattle.rows.specs.AnsweredLaws.{checked_accepts, checked_ready, checked_refuses, answered, tried_accepted, tried_refused}
+use Rattle.rows.specs.AnsweredLaws.{checked_accepts, checked_ready, answered, tried_accepted}
 use Rattle.rows.specs.HeldLaws.{held_table}
 use Rattle.rows.proofs.finish_rows.Goals as goal
-use Rattle.std.proofs.lemmas.Result.{err_from_is_err_and}
 use Rattle.std.specs.Prelude.{Ok}
 
 pub finish-requires : goal.finish-requires
@@ -17,9 +16,3 @@ returns c =
     let ready = sym c.in_ok-checked.was ∙ c.check_rows.ensures in
     tried_accepted n m
     (answered n m (Ok tt) (checked_accepts m ready) c.finish.ensures (held_table n w o c.finish.ensures (checked_ready m ready).1.required))
-
-pub returns-in_err-checked : goal.returns-in_err-checked
-returns-in_err-checked c =
-    let m = rows_in c.args.registers.now c.args.origins.now in
-    let p = err_from_is_err_and c.from_residual.result c.from_residual.ensures.1 in
-    rw (p.1, p.2) (tried_refused c.args.edition m _ _ _ (checked_refuses m (sym c.in_err-checked.was ∙ c.check_rows.ensures)))

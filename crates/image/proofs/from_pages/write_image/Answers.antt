@@ -2,20 +2,12 @@
 -- which components have a row, and how many bytes the image has.
 use mathlib.Core.Path.{ap, ◌∙◌}
 use Rattle.buffer.specs.Front.{AfterWrite}
-use Rattle.buffer.specs.VerdictLaws.{verdict_refused, verdict_accepted}
+use Rattle.buffer.specs.VerdictLaws.{verdict_accepted}
 use Rattle.image.specs.Image.{image}
 use Rattle.image.specs.Write.{write}
 use Rattle.image.specs.AcceptedLaws.{accepted_components, accepted_length}
 use borrow.Author.Rules.{rules}
 use Rattle.image.proofs.from_pages.write_image.Goals as goal
-use Rattle.std.proofs.lemmas.Result.{err_from_is_err_and}
-
-pub returns-in_err-build_into : goal.returns-in_err-build_into
-unfolding write
-returns-in_err-build_into c =
-    let p = err_from_is_err_and c.from_residual.result c.from_residual.ensures.1 in
-    let a = c.args in
-    let e = verdict_refused _ a.out.now c.build_into.ensures.verdict c.in_err-build_into.was in record { value = rw (p.1, p.2) (ap (λ (o : AfterWrite). o.answer) e); out_after = ap (λ (o : AfterWrite). o.buffer) e }
 
 pub write_rows-requires : goal.write_rows-requires
 write_rows-requires c =

@@ -1,17 +1,10 @@
 -- `pool::write::write_pool_image` meets its contract: the pool's refusal, or its table's image written.
 use mathlib.Core.Path.{ap, ◌∙◌}
 use Rattle.buffer.specs.Front.{AfterWrite}
-use Rattle.buffer.specs.VerdictLaws.{verdict_refused, verdict_accepted}
+use Rattle.buffer.specs.VerdictLaws.{verdict_accepted}
 use Rattle.image.specs.Image.{image}
 use Rattle.pool.specs.WritePool.{write_pool}
 use Rattle.pool.proofs.write.write_pool_image.Goals as goal
-use Rattle.std.proofs.lemmas.Result.{err_from_is_err_and}
-
-pub returns-in_err-pooled : goal.returns-in_err-pooled
-unfolding write_pool
-returns-in_err-pooled c =
-    let p = err_from_is_err_and c.from_residual.result c.from_residual.ensures.1 in
-    let e = verdict_refused _ c.args.out.now c.pool_into-pooled.ensures.verdict c.in_err-pooled.was in record { value = rw (p.1, p.2) (ap (λ (o : AfterWrite). o.answer) e); out_after = ap (λ (o : AfterWrite). o.buffer) e }
 
 pub returns : goal.returns
 unfolding write_pool
