@@ -10,7 +10,7 @@ that no longer fits the shape of the code would also come of an edit that change
 
 A file may hold several edits, each under a comment that opens with its name and with a line `at: FILE` or `at: FILE DECLARATION`: one check then
 tries them all. Such an edit must be refused at a fact of its own, in the file of the crate that it names or in that declaration of it, and no two of
-them name one place. Of a source file the declaration is a function that has no proof file, or TYPE::METHOD.
+them name one place. Of a source file the declaration is a function, or TYPE::METHOD, whose fact needs no answer of ours.
 """
 from collections import Counter
 from concurrent.futures import ThreadPoolExecutor

@@ -12,9 +12,9 @@ Read are the comments of the .rt, .antt and .edit files under crates/, and READM
   other names  with an underscore, and in backticks those with a hyphen or a capital too: a name that a crate defines or brings in, a crate, a file of
                specs/, or a word of the code beside the crates
 
-A word in capitals, * and .. in a path stand for any name (crates/NAME/must-fail/LABEL.edit); there must be one such path. Five documents name what is
-gone: docs/CHANGES.md and docs/HISTORY.md tell what has moved away, docs/PORT.md and docs/DESIGN-PASS.md what had another spelling or form, and only
-their links are checked; docs/DECISIONS.md tells what was not chosen, and its other names are not checked.
+A word in capitals, * and .. in a path stand for any name (crates/NAME/must-fail/LABEL.edit); there must be one such path. Six documents name what is
+gone: docs/CHANGES.md and docs/HISTORY.md tell what has moved away, docs/PORT.md, docs/DESIGN-PASS.md and docs/LOOK-BACK.md what had another spelling
+or form, and only their links are checked; docs/DECISIONS.md tells what was not chosen, and its other names are not checked.
 
 Each thing that is not there is a line FILE:LINE: what. The last line counts the documents and the names that are there, and the exit status is 0 only
 where none is missing.
@@ -28,7 +28,7 @@ import sys
 ROOT = Path(__file__).resolve().parents[2]
 TOP = 'crates|docs|tests|rust|include|differential|bench|install|examples'
 INSIDE = 'specs|src|proofs|must-fail'
-LINKS_ONLY = {'docs/CHANGES.md', 'docs/HISTORY.md', 'docs/PORT.md', 'docs/DESIGN-PASS.md'}
+LINKS_ONLY = {'docs/CHANGES.md', 'docs/HISTORY.md', 'docs/PORT.md', 'docs/DESIGN-PASS.md', 'docs/LOOK-BACK.md'}
 NO_OTHER_NAMES = {'docs/DECISIONS.md'}
 # a name that stands for any; names of Rust's library and of Linux
 ELSEWHERE = {'Name', 'HashMap', 'kernel_fpu_begin'}
